@@ -1,0 +1,10 @@
+pub mod Calls
+pub mod Keys
+pub mod KeyLaws
+pub mod Editing
+pub mod Cells
+pub mod Drawing
+pub mod Endings
+pub mod Session
+pub mod Opened
+pub mod Turns

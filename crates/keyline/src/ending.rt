@@ -1,0 +1,75 @@
+//! How a session ends.
+
+ghost use Rattle.std.specs.Prelude.{◌≡◌};
+ghost use Rattle.keyline.specs.Endings.{status_of, text_of};
+
+use std::alloc::AllocError;
+
+/// The one way in which a session ended.
+#[derive(Clone, Copy, Debug, PartialEq, Eq)]
+pub enum Ending {
+    /// The input ended, or a key ended it on an empty line.
+    Eof,
+    /// A command interrupted the session.
+    Interrupted,
+    /// A character was asked for where the bytes hold none (RFC 3629).
+    NotUtf8,
+    /// Pasted text stood where no command asks for it.
+    PasteOutOfPlace,
+    /// The source of key bytes failed.
+    Reader,
+    /// The display failed.
+    Display,
+    /// The sink of accepted lines failed.
+    Lines,
+    /// The sink of the history text failed, or a loaded text is not UTF-8.
+    HistoryText,
+    /// A helper failed.
+    Helper,
+    /// A handler of a binding failed.
+    Handler,
+    /// A growth of memory was refused.
+    Memory,
+}
+
+impl Ending {
+    /// The exit status of a program that ends with its session: 0 for the end of input, else 1.
+    pub fn status(self) -> u8
+        ensures { result ≡ status_of self }
+    {
+        match self {
+            Ending::Eof => 0,
+            _ => 1,
+        }
+    }
+
+    /// The ending in words.
+    pub fn text(self) -> &'static str
+        ensures { result.now ≡ text_of self }
+    {
+        match self {
+            Ending::Eof => "EOF",
+            Ending::Interrupted => "Interrupted",
+            Ending::NotUtf8 => "input is not UTF-8",
+            Ending::PasteOutOfPlace => "paste out of place",
+            Ending::Reader => "input failed",
+            Ending::Display => "display failed",
+            Ending::Lines => "line output failed",
+            Ending::HistoryText => "history text failed",
+            Ending::Helper => "helper failed",
+            Ending::Handler => "handler failed",
+            Ending::Memory => "out of memory",
+        }
+    }
+}
+
+impl From<AllocError> for Ending {
+    ghost use Rattle.std.specs.Prelude.{◌≡◌};
+    ghost use Rattle.keyline.specs.declared.ending.Ending.{Ending};
+
+    ghost from_gives = { λ _ ending. ending ≡ Ending.Memory };
+
+    fn from(_: AllocError) -> Ending {
+        Ending::Memory
+    }
+}

@@ -1,0 +1,13 @@
+//! Laws of the definitions: each is the contract of a function that does nothing.
+
+ghost use Rattle.keyline.specs.KeyLaws.{WholeKeysMeanTheirCommands, BytesAreKeys};
+
+/// Bytes that are read as whole keys mean the same commands whatever follows, so it never matters how they are cut.
+pub fn whole_keys()
+    ensures { WholeKeysMeanTheirCommands }
+{}
+
+/// Every input is whole keys, one after the other, and behind them at most a part of one.
+pub fn every_input()
+    ensures { BytesAreKeys }
+{}

@@ -1,0 +1,20 @@
+-- The bytes gathered in one turn go from the front of the rest to the end of what was taken.
+use Rattle.std.proofs.Common.{◌≡◌, ◌++◌, ◌∙◌, ℕ, List, sym, ap, take, drop, take-append-drop, append_assoc}
+use Rattle.std.proofs.lemmas.List.{take_rest}
+use Rattle.line_config.proofs.adapters.WriteSink.gather_all.Goals as goal
+
+pub loop-rest-preserved : goal.loop-rest-preserved
+loop-rest-preserved g c =
+    let so_far = c.loop-rest.invariant in
+    let n = c.in_ok-count.count in
+    let rest = c.loop-rest.rest.now in
+    let parts : so_far.0 ++ rest ≡ so_far.0 ++ take n rest ++ drop n rest =
+    ap (λ (t : List ℕ). so_far.0 ++ t) (sym (take-append-drop n rest)) ∙ sym (append_assoc so_far.0 (take n rest) (drop n rest)) in
+    rw (take_rest rest n) (
+      so_far.0 ++ take n rest,
+      so_far.1 ∙ parts,
+      λ known. (
+        c.in_ok-count.ensures.told (so_far.2 known).0,
+        c.in_ok-count.ensures.ok (so_far.2 known).0 ∙ ap (λ (t : List ℕ). t ++ take n rest) (so_far.2 known).1 ∙ append_assoc _ so_far.0 (take n rest),
+      ),
+    )

@@ -1,0 +1,4 @@
+pub mod Adapters
+pub mod Buffer
+pub mod Device
+pub mod Known

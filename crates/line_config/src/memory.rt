@@ -1,0 +1,140 @@
+//! Devices over memory.
+ghost use Rattle.std.specs.Prelude.{◌≡◌, List, [], ℕ, true, false, length, IsTrue};
+ghost use Rattle.line_config.specs.declared.device.Last.{Last};
+ghost use Rattle.line_config.specs.declared.device.Last.TheVariants.{End, Failed};
+
+use crate::device::{DeviceFailed, Last, Sink, Source};
+use std::alloc::Global;
+
+/// A source over a slice. Its bytes are told, and it is steady.
+#[derive(Drop)]
+pub struct SliceSource<'a> {
+    bytes: &'a [u8],
+    last: Last,
+    failed: bool,
+    pub ghost spent: { IsTrue failed → bytes.now ≡ [] },
+    pub ghost fails: { IsTrue failed → last ≡ Failed },
+}
+
+impl<'a> SliceSource<'a> {
+    /// The bytes, and behind them the end. It never fails.
+    pub fn new(bytes: &'a [u8]) -> Self
+        ensures coming { ⟦<SliceSource<'a> as Source>⟧.coming result ≡ bytes.entry.now }
+        ensures last { ⟦<SliceSource<'a> as Source>⟧.last result ≡ End }
+        ensures fresh { ⟦<SliceSource<'a> as Source>⟧.has_failed result ≡ false }
+    {
+        SliceSource {
+            bytes,
+            last: Last::End,
+            failed: false,
+        }
+    }
+
+    /// The bytes, and behind them a failure.
+    pub fn failing_after(bytes: &'a [u8]) -> Self
+        ensures coming { ⟦<SliceSource<'a> as Source>⟧.coming result ≡ bytes.entry.now }
+        ensures last { ⟦<SliceSource<'a> as Source>⟧.last result ≡ Failed }
+        ensures fresh { ⟦<SliceSource<'a> as Source>⟧.has_failed result ≡ false }
+    {
+        SliceSource {
+            bytes,
+            last: Last::Failed,
+            failed: false,
+        }
+    }
+}
+
+impl<'a> Source for SliceSource<'a> {
+    ghost told = { λ _. true };
+
+    ghost coming = { λ s. s.bytes.now };
+
+    ghost last = { λ s. s.last };
+
+    ghost bound = { λ s. length s.bytes.now };
+
+    ghost has_failed = { λ s. s.failed };
+
+    ghost steady = { λ _. true };
+
+    fn next_byte(&mut self) -> Result<Option<u8>, DeviceFailed> {
+        if let Some((first, rest)) = self.bytes.split_first() {
+            self.bytes = rest;
+            return Ok(Some(*first));
+        }
+        match self.last {
+            Last::End => Ok(None),
+            Last::Failed => {
+                self.failed = true;
+                Err(DeviceFailed)
+            }
+        }
+    }
+
+    fn failed(&self) -> bool {
+        self.failed
+    }
+}
+
+/// A sink that keeps what it takes in memory. A growth that is refused is its failure, for good;
+/// what it held then stays.
+#[derive(Drop)]
+pub struct VecSink {
+    bytes: Vec<u8>,
+    failed: bool,
+}
+
+impl VecSink {
+    /// An empty sink.
+    pub fn new(alloc: Global) -> Self
+        ensures empty { ⟦<VecSink as Sink>⟧.held result ≡ [] }
+        ensures fresh { ⟦<VecSink as Sink>⟧.has_failed result ≡ false }
+    {
+        VecSink {
+            bytes: Vec::new(alloc),
+            failed: false,
+        }
+    }
+
+    /// What was written so far.
+    pub fn bytes(&self) -> &[u8]
+        ensures { result.now ≡ ⟦<VecSink as Sink>⟧.held self.now }
+    {
+        &self.bytes
+    }
+
+    /// What was written so far.
+    pub fn into_bytes(self) -> Vec<u8>
+        ensures { result.items ≡ ⟦<VecSink as Sink>⟧.held self }
+    {
+        self.bytes
+    }
+}
+
+impl Sink for VecSink {
+    ghost told = { λ _. true };
+
+    ghost held = { λ s. s.bytes.items };
+
+    ghost has_failed = { λ s. s.failed };
+
+    fn write(&mut self, bytes: &[u8]) -> Result<(), DeviceFailed> {
+        if self.failed || self.bytes.extend_from_slice(bytes).is_err() {
+            self.failed = true;
+            return Err(DeviceFailed);
+        }
+        Ok(())
+    }
+
+    fn flush(&mut self) -> Result<(), DeviceFailed> {
+        if self.failed {
+            Err(DeviceFailed)
+        } else {
+            Ok(())
+        }
+    }
+
+    fn failed(&self) -> bool {
+        self.failed
+    }
+}

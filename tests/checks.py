@@ -1,0 +1,122 @@
+"""What the tests of processes share: the two paths, the bytes of drawings, and a count of what passed."""
+import os
+import select
+import subprocess
+import sys
+import time
+import traceback
+
+TOP = os.path.dirname(os.path.dirname(os.path.realpath(__file__)))
+SCRIPT = os.path.join(TOP, "keyline")
+PROGRAM = os.path.join(TOP, "build", "keyline")
+
+# A run that takes so many seconds hangs. No test is decided by a clock otherwise.
+HUNG = 120
+
+LEFT = b"\x1b[D"
+RIGHT = b"\x1b[C"
+CTRL_D = b"\x04"
+BACKSPACE = b"\x7f"
+ENTER = b"\r"
+NEW_ROW = b"\r\n"
+
+
+def drawing(text, back=0):
+    """A full drawing of a line that fits into one row, the cursor `back` columns before the line's end."""
+    shown = b"\r\x1b[J\x1b[m> \x1b[m" + text + b"\x1b[m\x1b[m"
+    return shown + (b"\x1b[%dD" % back if back else b"")
+
+
+class Failed(Exception):
+    """A test found something else than it expects."""
+
+
+def same(what, found, expected):
+    if found != expected:
+        raise Failed(f"{what}: expected {expected!r}, found {found!r}")
+
+
+class Incoming:
+    """The bytes that come from a file descriptor, compared as they come."""
+
+    def __init__(self, descriptor):
+        self.descriptor = descriptor
+        self.held = b""
+
+    def more(self, deadline):
+        """Reads once; False at the end."""
+        ready, _, _ = select.select([self.descriptor], [], [], max(0, deadline - time.monotonic()))
+        if not ready:
+            raise Failed(f"hung, with {self.held!r} come and not yet expected")
+        try:
+            read = os.read(self.descriptor, 65536)
+        except OSError:  # a terminal that nobody holds any more
+            read = b""
+        self.held += read
+        return read != b""
+
+    def expect(self, expected):
+        """Waits for these bytes, and for no others before them."""
+        deadline = time.monotonic() + HUNG
+        while len(self.held) < len(expected) and expected.startswith(self.held):
+            if not self.more(deadline):
+                break
+        same("what came", self.held[: len(expected)], expected)
+        self.held = self.held[len(expected) :]
+
+    def expect_end(self, expected=b""):
+        """Waits for these bytes and then the end."""
+        deadline = time.monotonic() + HUNG
+        while self.more(deadline):
+            pass
+        same("what came until the end", self.held, expected)
+
+
+class Running:
+    """The program with a pipe at each standard stream."""
+
+    def __init__(self, command):
+        pipe = subprocess.PIPE
+        self.process = subprocess.Popen(command, stdin=pipe, stdout=pipe, stderr=pipe, bufsize=0)
+        self.lines = Incoming(self.process.stdout.fileno())
+        self.display = Incoming(self.process.stderr.fileno())
+
+    def type(self, keys):
+        self.process.stdin.write(keys)
+
+    def end_of_input(self):
+        self.process.stdin.close()
+
+    def expect_status(self, status):
+        same("status", self.process.wait(timeout=HUNG), status)
+
+    def __enter__(self):
+        return self
+
+    def __exit__(self, *_):
+        if self.process.poll() is None:
+            self.process.kill()
+            self.process.wait()
+        for stream in (self.process.stdin, self.process.stdout, self.process.stderr):
+            try:
+                stream.close()
+            except BrokenPipeError:
+                pass
+
+
+def run_all(tests):
+    """Runs each test, says what failed, and closes with the count."""
+    passed = 0
+    for test in tests:
+        name = test.__name__.replace("_", " ")
+        try:
+            test()
+        except Exception as fault:
+            expected = isinstance(fault, (Failed, subprocess.TimeoutExpired))
+            print(f"FAILED {name}: {fault if expected else traceback.format_exc()}", flush=True)
+        else:
+            passed += 1
+            print(f"passed {name}", flush=True)
+    failed = len(tests) - passed
+    print(f"{passed} passed, {failed} failed", flush=True)
+    sys.exit(1 if failed else 0)

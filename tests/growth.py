@@ -1,0 +1,103 @@
+#!/usr/bin/env python3
+"""The built program with its growths refused in turn. Run it by ./test, or alone once ./keyline has built the program.
+
+A session is run once for each call that asks the C library for memory, and that call is refused. Such a run ends with
+status 1 and the words for it; what it wrote before is the beginning of what a run with ample memory writes. The count
+ends with the first run that meets no refusal, which must be as if nothing stood in its way.
+"""
+import os
+import subprocess
+import tempfile
+
+from checks import HUNG, NEW_ROW, PROGRAM, TOP, Failed, drawing, run_all, same
+
+SHIM = os.path.join(TOP, "build", "refuse_growth.so")
+WORDS = b"keyline: out of memory\n"
+MOST = 10000
+
+
+class Session:
+    """The keys that type these lines, and what a whole run on them writes."""
+
+    def __init__(self, *lines):
+        self.keys = b"".join(line + b"\r" for line in lines)
+        self.lines = [line + b"\n" for line in lines]
+        # The display's parts in order: drawings and row breaks, and before which of them a line was accepted.
+        self.parts = [drawing(b"")]
+        self.breaks = []
+        for line in lines:
+            self.parts += [drawing(line[: end + 1]) for end in range(len(line))]
+            self.breaks.append(len(self.parts))
+            self.parts += [NEW_ROW, drawing(b"")]
+        self.parts.append(NEW_ROW)
+
+    def check_whole(self, ran):
+        same("lines", ran.stdout, b"".join(self.lines))
+        same("display", ran.stderr, b"".join(self.parts))
+        same("status", ran.returncode, 0)
+
+    def check_refused(self, ran):
+        same("status", ran.returncode, 1)
+        same("the end of standard error", ran.stderr[-len(WORDS) :], WORDS)
+        display = ran.stderr[: -len(WORDS)]
+        begun = [b"".join(self.parts[:count]) for count in range(len(self.parts) + 1)]
+        if display not in begun:
+            raise Failed(f"the display is no beginning of the whole one, by parts: {display!r}")
+        sent = begun.index(display)
+        # A line is written after its row break, and before the next line's first drawing.
+        at_least = sum(at + 2 <= sent for at in self.breaks)
+        at_most = sum(at + 1 <= sent for at in self.breaks)
+        if ran.stdout not in [b"".join(self.lines[:count]) for count in range(at_least, at_most + 1)]:
+            raise Failed(f"between {at_least} and {at_most} lines are to be written, not {ran.stdout!r}")
+
+    def refuse_each(self):
+        with tempfile.TemporaryDirectory() as folder:
+            report = os.path.join(folder, "refused")
+            for number in range(1, MOST):
+                told = {"LD_PRELOAD": SHIM, "REFUSE_GROWTH": str(number), "REFUSE_GROWTH_REPORT": report}
+                ran = subprocess.run([PROGRAM], input=self.keys, capture_output=True, timeout=HUNG, env=told)
+                try:
+                    if not os.path.exists(report):
+                        self.check_whole(ran)
+                        break
+                    self.check_refused(ran)
+                except Failed as fault:
+                    raise Failed(f"call {number}: {fault}") from fault
+                os.remove(report)
+            else:
+                raise Failed(f"{MOST} calls, and no end")
+        print(f"calls refused in turn: {number - 1}", flush=True)
+        same("whether any call was met", number > 1, True)
+
+
+def the_shim_compiles():
+    os.makedirs(os.path.dirname(SHIM), exist_ok=True)
+    source = os.path.join(TOP, "tests", "refuse_growth.c")
+    words = ["gcc", "-O2", "-Wall", "-Wextra", "-shared", "-fPIC", "-o", SHIM, source]
+    try:
+        made = subprocess.run(words, capture_output=True, timeout=HUNG)
+    except FileNotFoundError:
+        raise Failed("gcc is not on PATH") from None
+    same("what gcc says", made.stdout + made.stderr, b"")
+    same("its status", made.returncode, 0)
+
+
+def two_short_lines():
+    Session(b"ab", b"cd").refuse_each()
+
+
+def a_line_that_grows_again_and_again():
+    Session(b"0123456789" * 7, b"ab").refuse_each()
+
+
+def three_lines_and_an_empty_one():
+    Session(b"x" * 20, b"", b"y" * 40, b"z" * 60).refuse_each()
+
+
+if __name__ == "__main__":
+    run_all([
+        the_shim_compiles,
+        two_short_lines,
+        a_line_that_grows_again_and_again,
+        three_lines_and_an_empty_one,
+    ])
