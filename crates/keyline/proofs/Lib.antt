@@ -1,4 +1,5 @@
 mod Rows
+pub mod LineLemmas
 pub mod Told
 pub mod KeyLemmas
 pub mod DrawnLemmas

@@ -12,7 +12,7 @@ use Rattle.keyline.specs.Turns.{Goes, Ends, Finishes, Stops}
 use Rattle.keyline.specs.declared.command.Command.{Command}
 use Rattle.keyline.specs.declared.editor.Editor.{Editor}
 use Rattle.keyline.specs.declared.ending.Ending.{Ending}
-use Rattle.keyline.specs.declared.ending.Ending.TheVariants.{Reader, Display, Lines}
+use Rattle.keyline.specs.declared.ending.Ending.TheVariants.{Reader, Lines}
 use Rattle.keyline.specs.declared.line.Outcome.{Outcome}
 use Rattle.keyline.specs.declared.line.Outcome.TheVariants.{Same, Changed, Accepted, Ended}
 use Rattle.keyline.proofs.Told.{Takes-none, Takes-then, Gives-then}
@@ -268,9 +268,6 @@ not_reader ending display lines cause is =
     let at_reader : FaultHasCause Reader false display lines = rw is at cause in
     let wrong : false ≡ true = at_reader.0 in
     cc
-
-pub other_than_display : (ending : Ending) → ending ≡ Display → ending ≡ Reader → ⊥
-other_than_display ending is_display is_reader = cc
 
 module _ {S D L : Type 0} (told : S → Bool) (coming : S → List ℕ) (steady : S → Bool) (last : S → Last)
     (shows : D → Bool) (shown : D → List ℕ) (writes : L → Bool) (written : L → List ℕ) where

@@ -2,6 +2,7 @@ pub mod Calls
 pub mod Keys
 pub mod KeyLaws
 pub mod Editing
+pub mod PlainLine
 pub mod Cells
 pub mod Drawing
 pub mod Endings

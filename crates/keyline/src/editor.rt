@@ -16,12 +16,10 @@ use crate::line::{Line, Outcome};
 use crate::page::{Page, send_move};
 use crate::position::Position;
 use line_config::{DeviceFailed, Sink, Source};
-use std::alloc::Global;
 
 /// A session at work: its devices, and the line that is edited.
 pub(crate) struct Editor<S, D, L> {
     pub page: Page,
-    pub alloc: Global,
     pub line: Line,
     pub source: S,
     pub display: D,
@@ -48,12 +46,13 @@ impl<S: Source, D: Sink, L: Sink> Editor<S, D, L> {
         requires { D.has_failed self.old.display ≡ false }
         ensures shown { OnOk result (Takes D.told D.held self.old.display self.new.display (full_drawing self.old.page 0 empty_line)) }
         ensures works { OnOk result (D.has_failed self.new.display ≡ false) }
-        ensures fails { IfErr result (λ e. (e ≡ Ending.Display) × (D.has_failed self.new.display ≡ true)) }
-        ensures line { self.new.line ≡ empty_line }
+        ensures fails { IfErr result (λ ending. FaultHasCause ending false (D.has_failed self.new.display) false) }
+        ensures line { OnOk result (self.new.line ≡ empty_line) }
         ensures kept { self.new ≡ record self.old { line = self.new.line; display = self.new.display } }
     {
-        self.line = Line::new(self.alloc);
-        self.draw(0)
+        self.line.clear()?;
+        self.draw(0)?;
+        Ok(())
     }
 
     /// Moves the display's cursor to the end of the line's drawing, and on to a new row.

@@ -3,7 +3,7 @@
 ghost use Rattle.std.specs.Prelude.{◌≡◌};
 ghost use Rattle.keyline.specs.Endings.{status_of, text_of};
 
-use std::alloc::AllocError;
+use line_buffer::OutOfMemory;
 
 /// The one way in which a session ended.
 #[derive(Clone, Copy, Debug, PartialEq, Eq)]
@@ -63,13 +63,13 @@ impl Ending {
     }
 }
 
-impl From<AllocError> for Ending {
+impl From<OutOfMemory> for Ending {
     ghost use Rattle.std.specs.Prelude.{◌≡◌};
     ghost use Rattle.keyline.specs.declared.ending.Ending.{Ending};
 
     ghost from_gives = { λ _ ending. ending ≡ Ending.Memory };
 
-    fn from(_: AllocError) -> Ending {
+    fn from(_: OutOfMemory) -> Ending {
         Ending::Memory
     }
 }

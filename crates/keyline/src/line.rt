@@ -1,11 +1,12 @@
-//! The line that is edited.
+//! The line that is edited: a `LineBuffer` whose text is printable ASCII.
 
-ghost use Rattle.std.specs.Prelude.{◌≡◌, IfOk, OnErr, ◌≤◌, ◌<◌, ◌^◌, length};
+ghost use Rattle.std.specs.Prelude.{◌≡◌, IfOk, OnErr, ◌≤◌, ◌<◌, ◌^◌, length, if◌then◌else◌};
 ghost use Rattle.keyline.specs.Editing.{empty_line, effect_of};
 ghost use Rattle.keyline.specs.Keys.{IsTyped};
 
 use crate::command::Command;
-use std::alloc::{AllocError, Global};
+use line_buffer::{LineBuffer, MAX_LINE, Movement, NoListener, OutOfMemory};
+use std::alloc::Global;
 use std::marker::Model;
 
 /// What becomes of a line by a command.
@@ -24,42 +25,43 @@ pub enum Outcome {
 /// A text of printable ASCII and the cursor's place in it.
 #[derive(Drop)]
 pub(crate) struct Line {
-    text: String,
-    place: usize,
+    alloc: Global,
+    buffer: LineBuffer,
 }
 
 impl Model for Line {
-    ghost use Rattle.std.specs.Prelude.{◌≤◌, string_bytes, string_len, IsAscii};
     ghost use Rattle.keyline.specs.Editing.{Edited};
+    ghost use Rattle.keyline.specs.PlainLine.{edited, IsPlainLine};
 
     ghost Value = { Edited };
 
-    ghost view = { λ line. record { text = string_bytes line.text; place = line.place } };
+    ghost view = { λ line. edited line.buffer };
 
-    ghost invariant = { λ line. (line.place ≤ string_len line.text) × IsAscii (string_bytes line.text) };
+    ghost invariant = { λ line. IsPlainLine line.buffer };
 }
 
 impl Line {
-    pub fn new(alloc: Global) -> Line
-        ensures { result ≡ empty_line }
+    /// An empty line.
+    pub fn new(alloc: Global) -> Result<Line, OutOfMemory>
+        ensures { IfOk result (λ line. line ≡ empty_line) }
     {
-        Line {
-            text: String::new(alloc),
-            place: 0,
-        }
+        Ok(Line {
+            alloc,
+            buffer: LineBuffer::with_capacity(alloc, MAX_LINE)?.can_growth(true),
+        })
     }
 
     pub fn text(&self) -> &str
         ensures { result.now ≡ self.now.text }
     {
-        self.text.as_str()
+        self.buffer.as_str()
     }
 
     pub fn len(&self) -> usize
         ensures same { result ≡ length self.now.text }
         ensures small { result < 2 ^ 63 }
     {
-        self.text.as_str().len()
+        self.text().len()
     }
 
     pub fn place(&self) -> usize
@@ -67,41 +69,56 @@ impl Line {
         ensures within { result ≤ length self.now.text }
         ensures small { result < 2 ^ 63 }
     {
-        let _text = self.text.as_str();
-        self.place
+        let _text = self.text();
+        self.buffer.pos()
     }
 
-    pub fn apply(&mut self, command: Command) -> Result<Outcome, AllocError>
+    /// Empties the line.
+    pub fn clear(&mut self) -> Result<(), OutOfMemory>
+        ensures { IfOk result (λ _. self.new ≡ empty_line) }
+    {
+        self.buffer.move_buffer_start();
+        self.buffer.kill_buffer(self.alloc, &mut NoListener)?;
+        Ok(())
+    }
+
+    pub fn apply(&mut self, command: Command) -> Result<Outcome, OutOfMemory>
         requires { IsTyped command }
         ensures ok { IfOk result (λ outcome. effect_of command self.old ≡ record { outcome = outcome; line = self.new }) }
         ensures err { OnErr result (self.new ≡ self.old) }
     {
         match command {
             Command::Insert(character) => {
-                self.text.insert(self.place, character)?;
-                self.place += 1;
+                let _at_end = self
+                    .buffer
+                    .insert(self.alloc, character, 1, &mut NoListener)?;
                 Ok(Outcome::Changed)
             }
             Command::Accept => Ok(Outcome::Accepted),
-            Command::Backspace if self.place > 0 => {
-                self.place -= 1;
-                let _removed = self.text.remove(self.place);
-                Ok(Outcome::Changed)
+            Command::Backspace => {
+                let changed = self.buffer.backspace(self.alloc, 1, &mut NoListener)?;
+                Ok(changed_if(changed))
             }
-            Command::DeleteOrEnd if self.text.is_empty() => Ok(Outcome::Ended),
-            Command::DeleteOrEnd if self.place < self.text.len() => {
-                let _removed = self.text.remove(self.place);
-                Ok(Outcome::Changed)
+            Command::DeleteOrEnd if self.buffer.is_empty() => Ok(Outcome::Ended),
+            Command::DeleteOrEnd => {
+                let changed = self
+                    .buffer
+                    .kill(self.alloc, &Movement::ForwardChar(1), &mut NoListener)?;
+                Ok(changed_if(changed))
             }
-            Command::Left if self.place > 0 => {
-                self.place -= 1;
-                Ok(Outcome::Changed)
-            }
-            Command::Right if self.place < self.text.len() => {
-                self.place += 1;
-                Ok(Outcome::Changed)
-            }
-            _ => Ok(Outcome::Same),
+            Command::Left => Ok(changed_if(self.buffer.move_backward(1))),
+            Command::Right => Ok(changed_if(self.buffer.move_forward(1))),
+            Command::Ignore => Ok(Outcome::Same),
         }
+    }
+}
+
+fn changed_if(changed: bool) -> Outcome
+    ensures { result ≡ (if changed then Outcome.Changed else Outcome.Same) }
+{
+    if changed {
+        Outcome::Changed
+    } else {
+        Outcome::Same
     }
 }

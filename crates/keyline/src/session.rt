@@ -11,6 +11,7 @@ use crate::editor::Editor;
 use crate::ending::Ending;
 use crate::line::Line;
 use crate::page::Page;
+use line_buffer::OutOfMemory;
 use line_config::{Sink, Source};
 use std::alloc::{AllocError, Global};
 use std::marker::Model;
@@ -19,7 +20,7 @@ use std::marker::Model;
 #[derive(Drop)]
 pub struct Session<S: Source, D: Sink, L: Sink> {
     page: Page,
-    alloc: Global,
+    line: Line,
     source: S,
     display: D,
     lines: L,
@@ -41,6 +42,17 @@ impl<S: Source, D: Sink, L: Sink> Model for Session<S, D, L> {
 pub enum OpenError {
     /// A growth of memory was refused.
     Memory,
+}
+
+impl From<OutOfMemory> for OpenError {
+    ghost use Rattle.std.specs.Prelude.{◌≡◌};
+    ghost use Rattle.keyline.specs.declared.session.OpenError.{OpenError};
+
+    ghost from_gives = { λ _ error. error ≡ OpenError.Memory };
+
+    fn from(_: OutOfMemory) -> OpenError {
+        OpenError::Memory
+    }
 }
 
 impl From<AllocError> for OpenError {
@@ -90,7 +102,7 @@ impl<S: Source, D: Sink, L: Sink> Session<S, D, L> {
     {
         Ok(Session {
             page: Page::new(alloc, prompt, columns)?,
-            alloc,
+            line: Line::new(alloc)?,
             source,
             display,
             lines,
@@ -112,15 +124,14 @@ impl<S: Source, D: Sink, L: Sink> Session<S, D, L> {
     {
         let Session {
             page,
-            alloc,
+            line,
             source,
             display,
             lines,
         } = self;
         let mut editor = Editor {
             page,
-            alloc,
-            line: Line::new(alloc),
+            line,
             source,
             display,
             lines,
@@ -128,7 +139,6 @@ impl<S: Source, D: Sink, L: Sink> Session<S, D, L> {
         let ending = editor.edit();
         let Editor {
             page: _,
-            alloc: _,
             line: _,
             source,
             display,

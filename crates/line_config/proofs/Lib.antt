@@ -1,2 +1,3 @@
-pub mod KnownLemmas
 pub mod BufferLemmas
+pub mod KnownLemmas
+pub mod Lent

@@ -1,8 +1,8 @@
 //! Devices over std's readers and writers, each with a fixed array.
-ghost use Rattle.std.specs.Prelude.{◌≡◌, ◌++◌, ◌+◌, ◌-◌, ◌^◌, ◌≤◌, ◌<◌, ℕ, List, [], false, option_to_list, length, take, is_err, IsErr, IsTrue, Ok, None, IfOk, IfSome, OnOk, OnErr};
+ghost use Rattle.std.specs.Prelude.{◌≡◌, ◌++◌, ◌-◌, ◌^◌, ◌≤◌, ◌<◌, [], false, option_to_list, length, take, is_err, IsErr, IsTrue, Ok, None, IfOk, IfSome, OnOk, OnErr};
 ghost use Rattle.line_config.specs.Device.{AppendsSome};
-ghost use Rattle.line_config.specs.Known.{is_known, known_bytes};
-ghost use Rattle.line_config.specs.Buffer.{items};
+ghost use Rattle.line_config.specs.Known.{known_bytes};
+ghost use Rattle.line_config.specs.Buffer.{bytes_in};
 ghost use Rattle.line_config.specs.declared.device.Last.TheVariants.{End};
 
 use crate::buffer::Buffer;
@@ -53,7 +53,7 @@ impl<R: Read> ReadSource<R> {
     /// The reader, and the bytes that were read of it and are not given yet.
     pub fn into_parts(self) -> (R, Buffer<READ_SIZE>)
         ensures reader { result.0 ≡ reader_of self }
-        ensures unread { items result.1 ≡ unread_of self }
+        ensures unread { bytes_in result.1 ≡ unread_of self }
     {
         (self.reader, self.unread)
     }
@@ -144,7 +144,7 @@ impl<W: Write> WriteSink<W> {
     /// The writer, and the bytes that were taken and are not sent to it yet.
     pub fn into_parts(self) -> (W, Buffer<WRITE_SIZE>)
         ensures writer { result.0 ≡ writer_of self }
-        ensures unsent { items result.1 ≡ unsent_of self }
+        ensures unsent { bytes_in result.1 ≡ unsent_of self }
     {
         (self.writer, self.unsent)
     }

@@ -1,5 +1,5 @@
 //! The fixed array of an adapter: what it holds stands between two places in it.
-ghost use Rattle.std.specs.Prelude.{◌≡◌, IsTrue, ℕ, ◌+◌, ◌-◌, ◌≤◌, ◌<◌, List, [], ◌∷◌, ◌++◌, length, drop, take, min, option_to_list, MatchResult, OnOk, OnErr, IfOk, IsNone, ◌↔◌};
+ghost use Rattle.std.specs.Prelude.{◌≡◌, IsTrue, ◌+◌, ◌-◌, ◌≤◌, ◌<◌, [], ◌++◌, length, take, min, option_to_list, OnOk, OnErr, IsNone, ◌↔◌};
 ghost use Rattle.line_config.specs.Known.{is_known, known_bytes};
 
 use crate::device::DeviceFailed;
@@ -17,11 +17,11 @@ pub struct Buffer<const N: usize> {
 }
 
 impl<const N: usize> Buffer<N> {
-    ghost use Rattle.line_config.specs.Buffer.{items, room};
+    ghost use Rattle.line_config.specs.Buffer.{bytes_in, room_in};
 
     pub(crate) fn new() -> Self
-        ensures empty { items result ≡ [] }
-        ensures room { room result ≡ N }
+        ensures empty { bytes_in result ≡ [] }
+        ensures room { room_in result ≡ N }
     {
         Buffer {
             bytes: [0; N],
@@ -32,7 +32,7 @@ impl<const N: usize> Buffer<N> {
 
     /// The bytes that it holds.
     pub fn as_slice(&self) -> &[u8]
-        ensures { result.now ≡ items self.now }
+        ensures { result.now ≡ bytes_in self.now }
     {
         let all = &self.bytes[..];
         &all[self.start..self.end]
@@ -40,21 +40,21 @@ impl<const N: usize> Buffer<N> {
 
     /// Whether it holds none.
     pub fn is_empty(&self) -> bool
-        ensures { IsTrue result ↔ (items self.now ≡ []) }
+        ensures { IsTrue result ↔ (bytes_in self.now ≡ []) }
     {
         self.start == self.end
     }
 
     pub(crate) fn is_full(&self) -> bool
-        ensures { IsTrue result ↔ (room self.now ≡ 0) }
+        ensures { IsTrue result ↔ (room_in self.now ≡ 0) }
     {
         self.end == N
     }
 
     /// Gives the first byte that it holds.
     pub(crate) fn next_byte(&mut self) -> Option<u8>
-        ensures byte { items self.old ≡ option_to_list result ++ items self.new }
-        ensures none { IsNone result ↔ (items self.old ≡ []) }
+        ensures byte { bytes_in self.old ≡ option_to_list result ++ bytes_in self.new }
+        ensures none { IsNone result ↔ (bytes_in self.old ≡ []) }
     {
         let first = *self.as_slice().first()?;
         self.start += 1;
@@ -63,12 +63,12 @@ impl<const N: usize> Buffer<N> {
 
     /// Takes what one read gives.
     pub(crate) fn fill_from<R: Read>(&mut self, reader: &mut R) -> Result<(), DeviceFailed>
-        requires { items self.old ≡ [] }
+        requires { bytes_in self.old ≡ [] }
         ensures known { IsTrue (is_known (R.remaining reader.old)) → IsTrue (is_known (R.remaining reader.new)) }
         ensures bytes { IsTrue (is_known (R.remaining reader.old))
-            → known_bytes (R.remaining reader.old) ≡ items self.new ++ known_bytes (R.remaining reader.new) }
-        ensures end { OnOk result (items self.new ≡ [] → 0 < N → known_bytes (R.remaining reader.new) ≡ []) }
-        ensures err { OnErr result (items self.new ≡ []) }
+            → known_bytes (R.remaining reader.old) ≡ bytes_in self.new ++ known_bytes (R.remaining reader.new) }
+        ensures end { OnOk result (bytes_in self.new ≡ [] → 0 < N → known_bytes (R.remaining reader.new) ≡ []) }
+        ensures err { OnErr result (bytes_in self.new ≡ []) }
     {
         self.start = 0;
         self.end = 0;
@@ -78,9 +78,9 @@ impl<const N: usize> Buffer<N> {
 
     /// Takes as many of the bytes as there is room for behind those that it holds.
     pub(crate) fn append(&mut self, bytes: &[u8]) -> usize
-        ensures bytes { items self.new ≡ items self.old ++ take result bytes.now }
+        ensures bytes { bytes_in self.new ≡ bytes_in self.old ++ take result bytes.now }
         ensures bound { result ≤ length bytes.now }
-        ensures some { 0 < room self.old → 0 < length bytes.now → 0 < result }
+        ensures some { 0 < room_in self.old → 0 < length bytes.now → 0 < result }
     {
         let end = self.end;
         let count = bytes.len().min(N - end);
@@ -94,9 +94,9 @@ impl<const N: usize> Buffer<N> {
     pub(crate) fn send_to<W: Write>(&mut self, writer: &mut W) -> Result<(), DeviceFailed>
         ensures known { IsTrue (is_known (W.contents writer.old)) → IsTrue (is_known (W.contents writer.new)) }
         ensures bytes { IsTrue (is_known (W.contents writer.old))
-            → known_bytes (W.contents writer.new) ++ items self.new ≡ known_bytes (W.contents writer.old) ++ items self.old }
-        ensures sent { OnOk result (items self.new ≡ []) }
-        ensures room { OnOk result (room self.new ≡ N) }
+            → known_bytes (W.contents writer.new) ++ bytes_in self.new ≡ known_bytes (W.contents writer.old) ++ bytes_in self.old }
+        ensures sent { OnOk result (bytes_in self.new ≡ []) }
+        ensures room { OnOk result (room_in self.new ≡ N) }
     {
         while self.start < self.end {
             let count = write_retrying(writer, self.as_slice())?;

@@ -1,13 +1,24 @@
-//! What every part of the line editor shares: its devices.
+//! What every part of the line editor shares: its settings, its refusals, and the devices that bytes
+//! come from and go to.
 #![tactic(auto)]
 
 pub mod adapters;
 pub mod buffer;
+pub mod builder;
+pub mod config;
+pub mod configurer;
 pub mod device;
+pub mod errors;
 pub mod memory;
 mod retry;
+pub mod settings;
 
 pub use adapters::{ReadSource, WriteSink};
 pub use buffer::Buffer;
+pub use builder::Builder;
+pub use config::Config;
+pub use configurer::Configurer;
 pub use device::{DeviceFailed, Last, Sink, Source};
+pub use errors::{HookFault, ReadlineError};
 pub use memory::{SliceSource, VecSink};
+pub use settings::{Behavior, BellStyle, ColorMode, CompletionType, EditMode, HistoryDuplicates};

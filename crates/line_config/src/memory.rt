@@ -1,5 +1,5 @@
 //! Devices over memory.
-ghost use Rattle.std.specs.Prelude.{◌≡◌, List, [], ℕ, true, false, length, IsTrue};
+ghost use Rattle.std.specs.Prelude.{◌≡◌, ◌++◌, ◌+◌, ◌<◌, [], true, false, is_err, length, vec_capacity, vec_len, IsErr, IsTrue, OnErr, OnOk};
 ghost use Rattle.line_config.specs.declared.device.Last.{Last};
 ghost use Rattle.line_config.specs.declared.device.Last.TheVariants.{End, Failed};
 
@@ -118,7 +118,16 @@ impl Sink for VecSink {
 
     ghost has_failed = { λ s. s.failed };
 
-    fn write(&mut self, bytes: &[u8]) -> Result<(), DeviceFailed> {
+    fn write(&mut self, bytes: &[u8]) -> Result<(), DeviceFailed>
+        ensures ok { OnOk result (self.new.bytes.items ≡ self.old.bytes.items ++ bytes.now) }
+        ensures err { OnErr result (self.new.bytes.items ≡ self.old.bytes.items) }
+        ensures failure { self.new.failed ≡ is_err result }
+        ensures for_good { IsTrue self.old.failed → IsErr result }
+
+        // It fails for the first time only where it has to grow, and that is refused.
+        ensures refused { OnErr result (self.old.failed ≡ false
+            → vec_capacity self.old.bytes < vec_len self.old.bytes + length bytes.now) }
+    {
         if self.failed || self.bytes.extend_from_slice(bytes).is_err() {
             self.failed = true;
             return Err(DeviceFailed);
@@ -126,7 +135,10 @@ impl Sink for VecSink {
         Ok(())
     }
 
-    fn flush(&mut self) -> Result<(), DeviceFailed> {
+    fn flush(&mut self) -> Result<(), DeviceFailed>
+        ensures failed { is_err result ≡ self.old.failed }
+        ensures same { self.new ≡ self.old }
+    {
         if self.failed {
             Err(DeviceFailed)
         } else {

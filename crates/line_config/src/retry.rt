@@ -3,7 +3,7 @@
 //! An interrupted call has read or written nothing, so it is no failure of the device: a terminal
 //! whose window is resized, or a job that is stopped and continued, interrupts a call in this way.
 //! Every other error is a failure.
-ghost use Rattle.std.specs.Prelude.{◌≡◌, ◌++◌, ℕ, ◌<◌, ◌≤◌, [], length, take, IsTrue, OnErr, IfOk};
+ghost use Rattle.std.specs.Prelude.{◌≡◌, ◌++◌, ◌<◌, ◌≤◌, [], length, take, IsTrue, OnErr, IfOk};
 ghost use Rattle.line_config.specs.Known.{is_known, known_bytes};
 
 use crate::device::DeviceFailed;

@@ -1,6 +1,6 @@
 -- Each way out of a turn, by the lemma of its name.
 use Rattle.std.proofs.lemmas.Result.{err_from_is_err_and}
-use Rattle.keyline.proofs.TurnLemmas.{stops_reading, ends_reading, ends_by_key, stops_obeying, stops_beginning, goes_accepting, not_reader, other_than_display}
+use Rattle.keyline.proofs.TurnLemmas.{stops_reading, ends_reading, ends_by_key, stops_obeying, stops_beginning, goes_accepting, not_reader}
 use Rattle.keyline.proofs.editor.Editor.turn.Goals as goal
 
 pub returns-in_err-command-clause-stops : goal.returns-in_err-command-clause-stops
@@ -40,7 +40,7 @@ returns-in_err-begin-in-Accepted-clause-stops g c =
     rw (p.1, p.2)
     (stops_beginning g.S.Source.told g.S.Source.coming g.S.Source.steady g.S.Source.last g.D.Sink.told g.D.Sink.held g.L.Sink.told g.L.Sink.held
     c.in_err-begin-in-Accepted.field-0.0 c.args.self.now c.next.new.self c.obey.new.self c.begin.new.self taken.0 c.in-Some.command
-    next.kept obey.kept begin.kept taken.1 taken.2 (other_than_display _ begin.fails.0)
+    next.kept obey.kept begin.kept taken.1 taken.2 (not_reader _ _ _ begin.fails)
     (rw c.in-Accepted.is at obey.outcome) (rw c.in-Accepted.is at obey.written))
 
 pub returns-in_ok-begin-in-Accepted-clause-goes : goal.returns-in_ok-begin-in-Accepted-clause-goes

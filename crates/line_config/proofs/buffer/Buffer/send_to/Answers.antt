@@ -1,7 +1,7 @@
 -- What one write takes goes from the front of what is held.
 use Rattle.std.proofs.Common.{◌≤◌, ◌+◌, ℕ, arith, length, take-append-drop, append_assoc}
 use Rattle.std.proofs.lemmas.List.{length-take, length-drop}
-use Rattle.line_config.specs.Buffer.{items}
+use Rattle.line_config.specs.Buffer.{bytes_in}
 use Rattle.line_config.proofs.BufferLemmas.{slice_range-later}
 use Rattle.line_config.proofs.buffer.Buffer.send_to.Goals as goal
 
@@ -9,7 +9,7 @@ pub loop-self-preserved : goal.loop-self-preserved
 loop-self-preserved g c known =
     let w = c.loop-self.self in
     let n = c.in_ok-count.count in
-    let all = items w in
+    let all = bytes_in w in
     let bound : n ≤ length all = rw (← c.as_slice.ensures) c.in_ok-count.ensures.bound in
     let inside : w.start + n ≤ w.end = omega (arith, bound, length-take {A = ℕ}, length-drop {A = ℕ}) in
     let so_far = c.loop-self.invariant known in

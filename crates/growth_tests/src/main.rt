@@ -1,0 +1,196 @@
+//! Each edit of a line, with a listener that makes the events it is told on a text of its own. A row for each edit says
+//! whether it was done or refused, and whether line and listener have the same text and settings then. `tests/growth.py`
+//! runs this with each growth of memory refused in turn.
+#![tactic(auto)]
+
+mod shadow;
+
+use line_buffer::{
+    At, CharSearch, LineBuffer, Movement, NoListener, OutOfMemory, Word, WordAction,
+};
+use shadow::Shadow;
+use std::alloc::Global;
+use std::io;
+
+const TEXT: &str = "one tw\u{E9} (three)\nfour \u{6F22}\u{5B57} six\n  seven";
+
+/// A place inside the second row.
+const PLACE: usize = 22;
+
+const LONG: &str =
+    "a long text that takes more room than a line of this length has left, so that it must grow";
+
+/// One edit of a line.
+#[derive(Clone, Copy)]
+enum Edit {
+    Update,
+    Insert,
+    InsertMany,
+    Yank,
+    YankPop,
+    Delete,
+    Backspace,
+    KillLine,
+    KillBuffer,
+    DiscardLine,
+    DiscardBuffer,
+    TransposeChars,
+    DeletePrevWord,
+    DeleteWord,
+    DeleteTo,
+    EditWord,
+    TransposeWords,
+    KillWhole,
+    Indent,
+    Dedent,
+}
+
+const EDITS: [(Edit, &str); 20] = [
+    (Edit::Update, "update"),
+    (Edit::Insert, "insert"),
+    (Edit::InsertMany, "insert many"),
+    (Edit::Yank, "yank"),
+    (Edit::YankPop, "yank_pop"),
+    (Edit::Delete, "delete"),
+    (Edit::Backspace, "backspace"),
+    (Edit::KillLine, "kill_line"),
+    (Edit::KillBuffer, "kill_buffer"),
+    (Edit::DiscardLine, "discard_line"),
+    (Edit::DiscardBuffer, "discard_buffer"),
+    (Edit::TransposeChars, "transpose_chars"),
+    (Edit::DeletePrevWord, "delete_prev_word"),
+    (Edit::DeleteWord, "delete_word"),
+    (Edit::DeleteTo, "delete_to"),
+    (Edit::EditWord, "edit_word"),
+    (Edit::TransposeWords, "transpose_words"),
+    (Edit::KillWhole, "kill"),
+    (Edit::Indent, "indent"),
+    (Edit::Dedent, "dedent"),
+];
+
+fn change(
+    alloc: Global,
+    edit: Edit,
+    line: &mut LineBuffer,
+    shadow: &mut Shadow,
+) -> Result<(), OutOfMemory> {
+    match edit {
+        Edit::Update => line.update(alloc, LONG, 4, shadow)?,
+        Edit::Insert => {
+            let _ = line.insert(alloc, '\u{E9}', 1, shadow)?;
+        }
+        Edit::InsertMany => {
+            let _ = line.insert(alloc, '\u{6F22}', 90, shadow)?;
+        }
+        Edit::Yank => {
+            let _ = line.yank(alloc, LONG, 2, shadow)?;
+        }
+        Edit::YankPop => {
+            let _ = line.yank_pop(alloc, 0, LONG, shadow)?;
+        }
+        _ => return take_away(alloc, edit, line, shadow),
+    }
+    Ok(())
+}
+
+fn take_away(
+    alloc: Global,
+    edit: Edit,
+    line: &mut LineBuffer,
+    shadow: &mut Shadow,
+) -> Result<(), OutOfMemory> {
+    match edit {
+        Edit::Delete => {
+            let _ = line.delete(alloc, 2, shadow)?;
+        }
+        Edit::Backspace => {
+            let _ = line.backspace(alloc, 2, shadow)?;
+        }
+        Edit::KillLine => {
+            let _ = line.kill_line(alloc, shadow)?;
+        }
+        Edit::KillBuffer => {
+            let _ = line.kill_buffer(alloc, shadow)?;
+        }
+        Edit::DiscardLine => {
+            let _ = line.discard_line(alloc, shadow)?;
+        }
+        Edit::DiscardBuffer => {
+            let _ = line.discard_buffer(alloc, shadow)?;
+        }
+        Edit::DeletePrevWord => {
+            let _ = line.delete_prev_word(alloc, Word::Emacs, 1, shadow)?;
+        }
+        Edit::DeleteWord => {
+            let _ = line.delete_word(alloc, At::AfterEnd, Word::Emacs, 1, shadow)?;
+        }
+        Edit::DeleteTo => {
+            let _ = line.delete_to(alloc, CharSearch::Forward('s'), 1, shadow)?;
+        }
+        _ => return exchange(alloc, edit, line, shadow),
+    }
+    Ok(())
+}
+
+fn exchange(
+    alloc: Global,
+    edit: Edit,
+    line: &mut LineBuffer,
+    shadow: &mut Shadow,
+) -> Result<(), OutOfMemory> {
+    match edit {
+        Edit::TransposeChars => {
+            let _ = line.transpose_chars(alloc, shadow)?;
+        }
+        Edit::EditWord => {
+            let _ = line.edit_word(alloc, WordAction::Uppercase, shadow)?;
+        }
+        Edit::TransposeWords => {
+            let _ = line.transpose_words(alloc, 1, shadow)?;
+        }
+        Edit::Indent => {
+            let _ = line.indent(alloc, &Movement::WholeBuffer, 40, false, shadow)?;
+        }
+        Edit::Dedent => {
+            let _ = line.indent(alloc, &Movement::WholeBuffer, 2, true, shadow)?;
+        }
+        _ => {
+            let _ = line.kill(alloc, &Movement::WholeBuffer, shadow)?;
+        }
+    }
+    Ok(())
+}
+
+/// A line of the text with its cursor at the place, and leave to grow.
+fn start(alloc: Global) -> Result<LineBuffer, OutOfMemory> {
+    let mut line = LineBuffer::with_capacity(alloc, TEXT.len())?.can_growth(true);
+    line.insert_str(alloc, 0, TEXT, &mut NoListener)?;
+    if line.as_str().is_char_boundary(PLACE) {
+        line.set_pos(PLACE);
+    }
+    Ok(line)
+}
+
+fn check(rt: &impl Print, alloc: Global, edit: Edit, name: &str) -> io::Result<()> {
+    let (Ok(mut line), Ok(mut shadow)) = (start(alloc), Shadow::new(alloc, TEXT)) else {
+        return println!(rt; "{name}: not begun");
+    };
+    let word = match change(alloc, edit, &mut line, &mut shadow) {
+        Ok(()) => "done",
+        Err(OutOfMemory) => "refused",
+    };
+    let cursor = line.as_str().is_char_boundary(line.pos());
+    let verdict = if shadow.agrees(line.as_str()) && cursor {
+        ""
+    } else {
+        ", WRONG"
+    };
+    println!(rt; "{name}: {word}{verdict}")
+}
+
+fn main(rt: HostRuntime) -> io::Result<()> {
+    for (edit, name) in EDITS {
+        check(&rt, rt.alloc(), edit, name)?;
+    }
+    Ok(())
+}

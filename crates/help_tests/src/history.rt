@@ -1,0 +1,287 @@
+//! Histories: worked rows, texts of every kind, and devices that fail at each byte in turn.
+
+use line_config::{Config, DeviceFailed, ReadlineError, Sink, SliceSource, VecSink};
+use line_help::{
+    Context, FileHistory, Hint, Hinter, History, HistoryHinter, MemHistory, SearchDirection,
+};
+use std::alloc::Global;
+use std::test::Fail;
+
+/// The rows of a history, a bar behind each entry.
+fn shown(rt: &impl AllocGlobal, history: &FileHistory) -> Result<String, Fail> {
+    let mut text = String::new(rt.alloc());
+    for entry in history {
+        text.push_str(entry.as_str())?;
+        text.push('|')?;
+    }
+    Ok(text)
+}
+
+fn with_lines(alloc: Global, lines: &[&str]) -> Result<FileHistory, Fail> {
+    let mut history = FileHistory::new(alloc);
+    for line in lines {
+        history.add(alloc, line)?;
+    }
+    Ok(history)
+}
+
+fn saved(rt: &impl AllocGlobal, history: &mut FileHistory) -> Result<VecSink, Fail> {
+    let mut sink = VecSink::new(rt.alloc());
+    history.save_to(&mut sink)?;
+    Ok(sink)
+}
+
+#[test]
+fn texts_that_are_loaded(rt: HostRuntime) -> Result<(), Fail> {
+    let rows: [(&[u8], &str, bool); 12] = [
+        (b"#V2\na\\nb\nc\\\\d\ne\\x\n", "a\nb|c\\d|e\\x|", true),
+        (b"a\\nb\n", "a\\nb|", false),
+        (b"", "", false),
+        (b"#V2\n", "", true),
+        (b"#V2", "", true),
+        (b"#V2\r\nx\r\n\r\ny\r", "x|y\r|", true),
+        (b"\n#V2\na\n", "#V2|a|", false),
+        (b"#V2\n\n\na\n", "a|", true),
+        (b"#V2\na\na\nb\n", "a|b|", false),
+        (b"#V2\na\\", "a\\|", true),
+        (b"#V2\n\\n\\\\n\\q\n\\\\\\n\n", "\\n\\\\n\\q|\\\n|", true),
+        (b"a\r\r\nb", "a\r|b|", false),
+    ];
+    for (text, entries, whole) in rows {
+        let mut history = FileHistory::new(rt.alloc());
+        let answer = history.load_from(rt.alloc(), &mut SliceSource::new(text));
+        assert!(rt; answer == Ok(whole));
+        assert_eq!(rt; shown(&rt, &history)?.as_str(), entries);
+        let rest = saved(&rt, &mut history)?;
+        assert!(rt; rest.bytes().is_empty());
+    }
+    Ok(())
+}
+
+#[test]
+fn texts_that_are_refused(rt: HostRuntime) -> Result<(), Fail> {
+    let rows: [(&[u8], &str, &[u8]); 3] = [
+        (b"\xff\na\n", "", b""),
+        (b"#V2\na\n\xc3\nb\n", "a|", b"#V2\na\n"),
+        (b"#V2\na\nb\n\xe2\x82", "a|b|", b"#V2\na\nb\n"),
+    ];
+    for (text, entries, new) in rows {
+        let mut history = FileHistory::new(rt.alloc());
+        let answer = history.load_from(rt.alloc(), &mut SliceSource::new(text));
+        assert!(rt; answer == Err(ReadlineError::HistoryText));
+        assert_eq!(rt; shown(&rt, &history)?.as_str(), entries);
+        assert_eq!(rt; saved(&rt, &mut history)?.bytes(), new);
+    }
+    Ok(())
+}
+
+#[test]
+fn sources_that_fail_at_each_byte(rt: HostRuntime) -> Result<(), Fail> {
+    let text = b"#V2\na\\nb\nc\nd";
+    let rows = [
+        "", "", "", "", "", "", "", "", "", "a\nb|", "a\nb|", "a\nb|c|", "a\nb|c|",
+    ];
+    for (count, entries) in rows.iter().enumerate() {
+        let part = &text[..count.min(text.len())];
+        let mut history = FileHistory::new(rt.alloc());
+        let answer = history.load_from(rt.alloc(), &mut SliceSource::failing_after(part));
+        assert!(rt; answer == Err(ReadlineError::Reader), "after {count} bytes");
+        assert_eq!(rt; shown(&rt, &history)?.as_str(), *entries);
+    }
+    Ok(())
+}
+
+/// A sink that takes so many calls and then fails.
+#[derive(Drop)]
+struct Few {
+    left: usize,
+    failed: bool,
+}
+
+impl Sink for Few {
+    ghost use Rattle.std.specs.Prelude.{false, []};
+
+    ghost told = { λ s. false };
+
+    ghost held = { λ s. [] };
+
+    ghost has_failed = { λ s. s.failed };
+
+    fn write(&mut self, _bytes: &[u8]) -> Result<(), DeviceFailed> {
+        self.flush()
+    }
+
+    fn flush(&mut self) -> Result<(), DeviceFailed> {
+        if self.failed || self.left == 0 {
+            self.failed = true;
+            return Err(DeviceFailed);
+        }
+        self.left -= 1;
+        Ok(())
+    }
+
+    fn failed(&self) -> bool {
+        self.failed
+    }
+}
+
+#[test]
+fn sinks_that_fail_at_each_call(rt: HostRuntime) -> Result<(), Fail> {
+    let mut history = with_lines(rt.alloc(), &["a\\", "b"])?;
+    let mut refused = 0usize;
+    for left in 0..20 {
+        let mut sink = Few {
+            left,
+            failed: false,
+        };
+        if history.save_to(&mut sink).is_ok() {
+            break;
+        }
+        refused = refused.saturating_add(1);
+        assert!(rt; sink.failed());
+        let mut sink = Few {
+            left: left.min(4),
+            failed: false,
+        };
+        assert!(rt; history.append_to(&mut sink) == Err(ReadlineError::HistoryText));
+    }
+    assert_eq!(rt; refused, 7);
+    assert!(rt;
+        saved(&rt, &mut history)?.bytes().is_empty(),
+        "a save that passed leaves nothing new"
+    );
+    Ok(())
+}
+
+#[test]
+fn saving_and_appending(rt: HostRuntime) -> Result<(), Fail> {
+    let alloc = rt.alloc();
+    let mut history = with_lines(alloc, &["x\\y"])?;
+    assert_eq!(rt;
+        saved(&rt, &mut history)?.bytes(),
+        b"#V2\nx\\\\y\n".as_slice()
+    );
+    assert!(rt; saved(&rt, &mut history)?.bytes().is_empty());
+    history.add(alloc, "z")?;
+    let mut sink = VecSink::new(alloc);
+    history.append_to(&mut sink)?;
+    assert_eq!(rt; sink.bytes(), b"z\n".as_slice());
+    history.append_to(&mut sink)?;
+    assert_eq!(rt; sink.bytes(), b"z\n".as_slice());
+    history.add(alloc, "new")?;
+    history.clear();
+    assert!(rt; history.is_empty() && saved(&rt, &mut history)?.bytes().is_empty());
+    Ok(())
+}
+
+#[test]
+fn lines_that_are_added(rt: HostRuntime) -> Result<(), Fail> {
+    let alloc = rt.alloc();
+    let mut history = MemHistory::with_config(alloc, &Config::default());
+    history.ignore_space(true);
+    let rows = [
+        ("line2", true),
+        ("line2", false),
+        ("", false),
+        (" line3", false),
+        ("\u{3000}line3", false),
+        ("line3", true),
+        ("line2", true),
+    ];
+    for (line, added) in rows {
+        assert!(rt; history.add(alloc, line) == Ok(added), "{line:?}");
+    }
+    history.ignore_dups(false);
+    assert!(rt; history.add_owned(alloc, String::from_str(alloc, "line2")?) == Ok(true));
+    assert_eq!(rt; history.len(), 4);
+    assert!(rt; history.iter().count() == 4);
+    history.set_max_len(2);
+    history.ignore_space(false);
+    assert!(rt; history.add(alloc, " a") == Ok(true));
+    assert_eq!(rt; history.len(), 2);
+    if history.len() == 2 {
+        assert_eq!(rt; history[0].as_str(), "line2");
+        assert_eq!(rt; history[1].as_str(), " a");
+    }
+    history.set_max_len(0);
+    assert!(rt; history.is_empty());
+    assert!(rt; history.add(alloc, "b") == Ok(false));
+    history.set_max_len(1);
+    assert!(rt; history.add(alloc, "b") == Ok(true) && history.add(alloc, "c") == Ok(true));
+    assert!(rt;
+        history
+            .get(0, SearchDirection::Forward)
+            .is_some_and(|found| found.entry == "c")
+    );
+    assert!(rt; history.get(1, SearchDirection::Forward).is_none());
+    history.clear();
+    assert!(rt; history.is_empty());
+    Ok(())
+}
+
+#[test]
+fn searches(rt: HostRuntime) -> Result<(), Fail> {
+    use SearchDirection::{Forward, Reverse};
+    let mut history = with_lines(rt.alloc(), &["line1", "line2", "line3"])?;
+    let rows = [
+        ("line", 1, Reverse, Some((1, 0))),
+        ("none", 1, Reverse, None),
+        ("", 1, Reverse, None),
+        ("line", 3, Reverse, None),
+        ("1", 2, Reverse, Some((0, 4))),
+        ("3", 0, Forward, Some((2, 4))),
+        ("1", 1, Forward, None),
+    ];
+    for (term, start, direction, want) in rows {
+        let found = history.search(term, start, direction);
+        let found = found.map(|hit| (hit.idx, hit.pos));
+        assert!(rt; found == want, "{term:?} from {start}");
+    }
+    let found = history
+        .starts_with("line", 2, Reverse)
+        .map(|hit| (hit.idx, hit.pos));
+    assert!(rt; found == Some((2, 4)));
+    assert!(rt; history.starts_with("ine", 2, Reverse).is_none());
+    history.set_max_len(1);
+    assert_eq!(rt; shown(&rt, &history)?.as_str(), "line3|");
+    assert_eq!(rt;
+        saved(&rt, &mut history)?.bytes(),
+        b"#V2\nline3\n".as_slice()
+    );
+    Ok(())
+}
+
+#[test]
+fn hints(rt: HostRuntime) -> Result<(), Fail> {
+    let alloc = rt.alloc();
+    let history = with_lines(alloc, &["hello world"])?;
+    let mut context = Context::new(&history);
+    assert_eq!(rt; context.history_index(), 1);
+    let rows = [
+        ("hello", 5, Some(" world")),
+        ("hello world", 11, None),
+        ("hello", 4, None),
+        ("", 0, None),
+        ("help", 4, None),
+    ];
+    for (line, pos, want) in rows {
+        let hint = match HistoryHinter::new().hint(alloc, line, pos, &context) {
+            Ok(hint) => hint,
+            Err(_) => None,
+        };
+        assert_eq!(rt; hint.is_some(), want.is_some(), "{line:?}");
+        if let (Some(hint), Some(want)) = (hint, want) {
+            assert_eq!(rt; hint.display(), want);
+            assert!(rt; hint.completion() == Some(want));
+        }
+        assert!(rt;
+            ().hint(alloc, line, pos, &context)
+                .is_ok_and(|hint| hint.is_none())
+        );
+    }
+    if !context.history().is_empty() {
+        context.set_history_index(0);
+    }
+    assert_eq!(rt; context.history_index(), 0);
+    Ok(())
+}

@@ -1,0 +1,5 @@
+//! Tests that cross crates: histories and their texts.
+#![tactic(auto)]
+
+#[cfg(test)]
+mod history;

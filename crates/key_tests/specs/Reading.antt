@@ -1,0 +1,34 @@
+-- What the readers and lines of the tests mean.
+use Rattle.std.specs.Prelude.{◌≡◌, [], ◌∷◌, ◌++◌, false, None, map, is_some}
+use Rattle.line_keys.specs.Coming.{Coming}
+use Rattle.line_keys.specs.Refreshing.{Shown, Ask}
+use Rattle.line_keys.specs.Refreshing as ask
+use Rattle.key_tests.specs.Typing.{coming_after, coming_unless}
+use Rattle.key_tests.specs.declared.keys.KeyList.{KeyList}
+use Rattle.key_tests.specs.declared.refresher.Request.{Request}
+use Rattle.key_tests.specs.declared.refresher.Request.TheVariants.{Line, Message, Prompt, DoingInsert, DoneInserting}
+use Rattle.key_tests.specs.declared.refresher.PlainLine.{PlainLine}
+
+abbrev pub coming_of : KeyList → Coming
+coming_of r = coming_unless r.refused (coming_after r.typed.now r.cut r.after)
+
+-- ---- lines
+
+abbrev pub request_made : Request → Ask
+request_made Line = ask.Line
+request_made (Message text kind) = ask.Message text kind
+request_made (Prompt prompt) = ask.Prompted prompt
+request_made DoingInsert = ask.DoingInsert
+request_made DoneInserting = ask.DoneInserting
+
+abbrev pub shown_of : PlainLine → Shown
+shown_of l = record { line = l.text; place = l.pos; hinted = is_some l.hint; completion = l.hint; last_insert = l.inserted }
+
+-- one more request is kept
+abbrev pub MakesRequest : PlainLine → Ask → PlainLine → Type 0
+MakesRequest before a after = map request_made after.requests.items ≡ map request_made before.requests.items ++ (a ∷ [])
+
+-- a message takes the hint's place
+abbrev pub shown_after : Shown → Ask → Shown
+shown_after s (ask.Message text kind) = record s { hinted = false; completion = None }
+shown_after s a = s

@@ -1,0 +1,123 @@
+-- The whitespace at the front of a row.
+use Rattle.std.proofs.Common.{◌≡◌, ℕ, zero, suc, ◌+◌, ◌-◌, ◌<◌, ◌≤◌, Bool, true, false, List, [], ◌∷◌, ◌++◌, length, take, drop, refl, sym, ap, ◌∙◌, subst, arith, append_assoc, cond, not, ◌==◌}
+use Rattle.std.specs.Prelude.{IsUtf8, IsCharBoundary, take_while, chars, encode_utf8, encode_utf8_all}
+use Rattle.std.specs.Char.{is_whitespace}
+use Rattle.std.specs.List.{prefix_len, onto_first}
+use Rattle.std.proofs.lemmas.List.{append-nil, length-drop, drop-drop, length-append}
+use Rattle.std.proofs.lemmas.Str.{chars_past_char, chars-nil, IsCharBoundary-from_drop, IsUtf8-past_char}
+use Rattle.std.proofs.Math.Seq.{take-add, take-append_seam, drop-append_seam}
+use Rattle.line_buffer.specs.Indent.{leading, rows_of}
+use Rattle.line_buffer.specs.Rows.{is_in_row}
+
+leading_empty : (n : ℕ) (bs : List ℕ) → bs ≡ [] → leading n bs ≡ []
+leading_empty n bs e = ap (leading n) e ∙ ap (λ cs. encode_utf8_all (take n (take_while is_whitespace cs))) chars-nil ∙ by_count n
+  where
+    by_count : (n : ℕ) → encode_utf8_all (take n []) ≡ []
+    by_count zero = refl
+    by_count (suc n) = refl
+
+take_while_first : (c : ℕ) (cs : List ℕ) (b : Bool) → is_whitespace c ≡ b → take_while is_whitespace (c ∷ cs) ≡ cond b (c ∷ take_while is_whitespace cs) []
+take_while_first c cs true e = ap (λ b. take (cond b (1 + prefix_len is_whitespace cs) 0) (c ∷ cs)) e ∙ ap (λ k. take k (c ∷ cs)) (let k : 1 + prefix_len is_whitespace cs ≡ suc (prefix_len is_whitespace cs) = omega arith in k)
+take_while_first c cs false e = ap (λ b. take (cond b (1 + prefix_len is_whitespace cs) 0) (c ∷ cs)) e
+
+leading_first : (n c : ℕ) (bs rest : List ℕ) → IsUtf8 bs → bs ≡ encode_utf8 c ++ rest
+    → leading n bs ≡ encode_utf8_all (take n (cond (is_whitespace c) (c ∷ take_while is_whitespace (chars rest)) []))
+leading_first n c bs rest u e = ap (λ cs. encode_utf8_all (take n (take_while is_whitespace cs))) (chars_past_char bs rest c u e)
+    ∙ ap (λ cs. encode_utf8_all (take n cs)) (take_while_first c (chars rest) (is_whitespace c) refl)
+
+leading_more : (n c : ℕ) (bs rest : List ℕ) → IsUtf8 bs → bs ≡ encode_utf8 c ++ rest → is_whitespace c ≡ true → 0 < n → leading n bs ≡ encode_utf8 c ++ leading (n - 1) rest
+leading_more zero c bs rest u e w some = absurd (omega arith)
+leading_more (suc n) c bs rest u e w some =
+    leading_first (suc n) c bs rest u e ∙ ap (λ b. encode_utf8_all (take (suc n) (cond b (c ∷ take_while is_whitespace (chars rest)) []))) w
+    ∙ ap (λ k. encode_utf8 c ++ leading k rest) (let k : n ≡ suc n - 1 = omega arith in k)
+
+leading_none : (n c : ℕ) (bs rest : List ℕ) → IsUtf8 bs → bs ≡ encode_utf8 c ++ rest → is_whitespace c ≡ false → leading n bs ≡ []
+leading_none n c bs rest u e w =
+    leading_first n c bs rest u e ∙ ap (λ b. encode_utf8_all (take n (cond b (c ∷ take_while is_whitespace (chars rest)) []))) w ∙ by_count n
+  where
+    by_count : (n : ℕ) → encode_utf8_all (take n []) ≡ []
+    by_count zero = refl
+    by_count (suc n) = refl
+
+-- the walk over a row stands at a place, with the rest of the row and so many characters still to take
+pub record Walks (row : List ℕ) (count at : ℕ) (rest : List ℕ) (missing : ℕ) : Type 0 where
+  pub utf8 : IsUtf8 rest
+  pub inside : at ≤ length row
+  pub behind : drop at row ≡ rest
+  pub so_far : leading count row ≡ take at row ++ leading missing rest
+
+pub walks_init : (row : List ℕ) (count at : ℕ) (rest : List ℕ) → IsUtf8 row → at ≡ 0 → rest ≡ row → Walks row count at rest count
+walks_init row count at rest u e r = record {
+  utf8 = subst IsUtf8 (sym r) u;
+  inside = omega (arith, e);
+  behind = rw e (sym r);
+  so_far = rw e (ap (leading count) (sym r));
+}
+
+module _ (row : List ℕ) (count at : ℕ) (rest : List ℕ) (missing : ℕ) (w : Walks row count at rest missing) where
+  pub walks_more : (i onward c : ℕ) (later : List ℕ) → (i ≡ at) × (rest ≡ encode_utf8 c ++ later) × (onward ≡ at + length (encode_utf8 c)) → is_whitespace c ≡ true → 0 < missing
+      → Walks row count onward later (missing - 1)
+  walks_more i onward c later h white some = record {
+    utf8 = IsUtf8-past_char rest later c w.utf8 h.1;
+    inside = omega (arith, h.2, w.inside, long, longer);
+    behind = ap (λ k. drop k row) h.2 ∙ passed;
+    so_far = w.so_far ∙ ap (λ xs. take at row ++ xs) (leading_more missing c rest later w.utf8 h.1 white some) ∙ sym (append_assoc (take at row) (encode_utf8 c) (leading (missing - 1) later))
+        ∙ ap (λ xs. xs ++ leading (missing - 1) later) (sym taken) ∙ ap (λ k. take k row ++ leading (missing - 1) later) (sym h.2);
+  }
+    where
+      whole : drop at row ≡ encode_utf8 c ++ later
+      whole = w.behind ∙ h.1
+
+      long : length (drop at row) ≡ length (encode_utf8 c ++ later)
+      long = ap length whole
+
+      longer : length row - at ≡ length (encode_utf8 c) + length later
+      longer = sym (length-drop at row) ∙ long ∙ length-append (encode_utf8 c) later
+
+      passed : drop (at + length (encode_utf8 c)) row ≡ later
+      passed = sym (drop-drop (length (encode_utf8 c)) at row) ∙ ap (drop (length (encode_utf8 c))) whole ∙ drop-append_seam (encode_utf8 c) later
+
+      taken : take (at + length (encode_utf8 c)) row ≡ take at row ++ encode_utf8 c
+      taken = take-add at (length (encode_utf8 c)) row ∙ ap (λ xs. take at row ++ take (length (encode_utf8 c)) xs) whole ∙ ap (λ xs. take at row ++ xs) (take-append_seam (encode_utf8 c) later)
+
+  ended : leading missing rest ≡ [] → take at row ≡ leading count row
+  ended e = sym (w.so_far ∙ ap (λ xs. take at row ++ xs) e ∙ append-nil (take at row))
+
+  pub walks_spent : (i : ℕ) → i ≡ at → missing ≡ 0 → take i row ≡ leading count row
+  walks_spent i e none = ap (λ k. take k row) e ∙ ended (ap (λ n. leading n rest) none)
+
+  pub walks_stopped : (i c : ℕ) (later : List ℕ) → i ≡ at → rest ≡ encode_utf8 c ++ later → is_whitespace c ≡ false → take i row ≡ leading count row
+  walks_stopped i c later e came white = ap (λ k. take k row) e ∙ ended (leading_none missing c rest later w.utf8 came white)
+
+  pub walks_ended : rest ≡ [] → take (length row) row ≡ leading count row
+  walks_ended none = ap (λ k. take k row) same ∙ ended (leading_empty missing rest none)
+    where
+      same : length row ≡ at
+      same = omega (arith, ap length (w.behind ∙ none), length-drop at row, w.inside)
+
+  pub walks_boundary : (i : ℕ) → i ≡ at → IsCharBoundary row i
+  walks_boundary i e = subst (IsCharBoundary row) (sym e) (IsCharBoundary-from_drop row at w.inside (subst IsUtf8 (sym w.behind) w.utf8))
+
+-- the rows of a text, the first one taken off
+pub rows_last : (xs : List ℕ) → prefix_len is_in_row xs ≡ length xs → rows_of xs ≡ xs ∷ []
+rows_last [] e = refl
+rows_last (x ∷ xs) e = by_test (x == 10) refl e (rows_last xs)
+  where
+    by_test : (b : Bool) → (x == 10) ≡ b → cond (not b) (1 + prefix_len is_in_row xs) 0 ≡ length (x ∷ xs) → (prefix_len is_in_row xs ≡ length xs → rows_of xs ≡ xs ∷ []) → rows_of (x ∷ xs) ≡ (x ∷ xs) ∷ []
+    by_test true t e rest = absurd (omega (arith, e))
+    by_test false t e rest = ap (λ b. cond b ([] ∷ rows_of xs) (onto_first x (rows_of xs))) t ∙ ap (onto_first x) (rest (omega (arith, e)))
+
+pub rows_more : (xs : List ℕ) → prefix_len is_in_row xs < length xs → rows_of xs ≡ take (prefix_len is_in_row xs) xs ∷ rows_of (drop (prefix_len is_in_row xs + 1) xs)
+rows_more [] h = absurd (omega (arith, h))
+rows_more (x ∷ xs) h = by_test (x == 10) refl h (rows_more xs)
+  where
+    n : ℕ
+    n = prefix_len is_in_row xs
+
+    by_test : (b : Bool) → (x == 10) ≡ b → cond (not b) (1 + n) 0 < length (x ∷ xs) → (n < length xs → rows_of xs ≡ take n xs ∷ rows_of (drop (n + 1) xs))
+        → rows_of (x ∷ xs) ≡ take (cond (not (x == 10)) (1 + n) 0) (x ∷ xs) ∷ rows_of (drop (cond (not (x == 10)) (1 + n) 0 + 1) (x ∷ xs))
+    by_test true t h rest = ap (λ b. cond b ([] ∷ rows_of xs) (onto_first x (rows_of xs))) t ∙ ap (λ b. take (cond (not b) (1 + n) 0) (x ∷ xs) ∷ rows_of (drop (cond (not b) (1 + n) 0 + 1) (x ∷ xs))) (sym t)
+    by_test false t h rest =
+        ap (λ b. cond b ([] ∷ rows_of xs) (onto_first x (rows_of xs))) t ∙ ap (onto_first x) (rest (omega (arith, h)))
+        ∙ ap (λ k. take (suc n) (x ∷ xs) ∷ rows_of (drop k (x ∷ xs))) (let k : suc (n + 1) ≡ (1 + n) + 1 = omega arith in k)
+        ∙ ap (λ k. take k (x ∷ xs) ∷ rows_of (drop ((1 + n) + 1) (x ∷ xs))) (let k : suc n ≡ 1 + n = omega arith in k) ∙ ap (λ b. take (cond (not b) (1 + n) 0) (x ∷ xs) ∷ rows_of (drop (cond (not b) (1 + n) 0 + 1) (x ∷ xs))) (sym t)

@@ -1,0 +1,69 @@
+-- Where a text may be cut, and texts of several copies.
+use Rattle.std.proofs.Common.{◌≡◌, ℕ, zero, suc, ◌+◌, ◌-◌, ◌*◌, ◌^◌, ◌<◌, ◌≤◌, Bool, true, false, List, [], length, take, refl, sym, ap, ◌∙◌, subst, arith}
+use Rattle.std.specs.Prelude.{IsTrue, ◌↔◌, IsUtf8, IsCharBoundary, min}
+use Rattle.std.specs.List.{replace_range, repeat}
+use Rattle.std.proofs.lemmas.List.{length-append, length-take-le, get_or-take, append-nil, drop_all}
+use native.Mathlib.Decide.{dec_le}
+use Rattle.std.proofs.lemmas.Bool.Decides.{nat_tests}
+use Rattle.std.proofs.lemmas.Str.{IsCharBoundary-start, IsCharBoundary-end}
+use Rattle.line_buffer.specs.Insertions.{last_cut, is_inside_char, has_room, insertion_by, insertion_of}
+use Rattle.line_buffer.specs.Line.{Line}
+use Rattle.line_buffer.specs.Replay.{insertion}
+
+inside : (text : List ℕ) (n : ℕ) → n ≤ length text → (IsCharBoundary text n → ⊥) → is_inside_char text n ≡ true
+inside text n le never = grind (arith, nat_tests)
+
+not_inside : (text : List ℕ) (n : ℕ) → IsCharBoundary text n → is_inside_char text n ≡ false
+not_inside text n b = grind (arith, nat_tests)
+
+last_cut_here : (text : List ℕ) (n : ℕ) → IsCharBoundary text n → last_cut text n ≡ n
+unfolding last_cut
+last_cut_here text zero b = refl
+last_cut_here text (suc n) b = rw (not_inside text (suc n) b) refl
+
+last_cut_back : (text : List ℕ) (n : ℕ) → IsUtf8 text → n ≤ length text → (IsCharBoundary text n → ⊥) → (1 ≤ n) × (last_cut text (n - 1) ≡ last_cut text n)
+unfolding last_cut
+last_cut_back text zero u le never = absurd (never (IsCharBoundary-start text u))
+last_cut_back text (suc n) u le never = (omega arith, (let e : suc n - 1 ≡ n = omega arith in ap (last_cut text) e) ∙ (rw (inside text (suc n) le never) refl))
+
+-- a turn of the search for a cut, and its end
+pub not_cut : (text : List ℕ) (n : ℕ) (r : Bool) → (IsTrue r ↔ IsCharBoundary text n) → r ≡ false → IsUtf8 text → n ≤ length text → (1 ≤ n) × (last_cut text (n - 1) ≡ last_cut text n)
+not_cut text n r test is u le = last_cut_back text n u le (λ b. cc ((subst (λ v. IsTrue v ↔ IsCharBoundary text n) is test).1 b))
+
+pub is_cut : (text : List ℕ) (n : ℕ) (r : Bool) → (IsTrue r ↔ IsCharBoundary text n) → r ≡ true → last_cut text n ≡ n
+is_cut text n r test is = last_cut_here text n ((subst (λ v. IsTrue v ↔ IsCharBoundary text n) is test).0 refl)
+
+-- a cursor of the text, or the end of what is kept of it
+pub cursor_of_part : (text : List ℕ) (n pos : ℕ) → IsCharBoundary text n → IsCharBoundary text pos → IsCharBoundary (take n text) (min pos (length (take n text)))
+cursor_of_part text n pos b p = elim (dec_le pos n) [
+  | yes le ↦ subst (IsCharBoundary (take n text)) (let e : pos ≡ min pos (length (take n text)) = omega (arith, le, long) in e)
+      (omega (arith, le, long), λ l h. let here = get_or-take n text pos 0 (omega (arith, l, long)) in omega (arith, here, h, p.1 (omega (arith, l, long, b.0)) (omega (arith, here, h))))
+  | no more ↦ subst (IsCharBoundary (take n text)) (let e : length (take n text) ≡ min pos (length (take n text)) = omega (arith, more, long) in e) (IsCharBoundary-end (take n text))
+]
+  where
+    long : length (take n text) ≡ n
+    long = length-take-le n text b.0
+
+pub cursor_of_whole : (text : List ℕ) (pos : ℕ) → IsCharBoundary text pos → IsCharBoundary text (min pos (length text))
+cursor_of_whole text pos p = subst (IsCharBoundary text) (let e : pos ≡ min pos (length text) = omega (arith, p.0) in e) p
+
+-- the text without all of it
+pub emptied : (text : List ℕ) (n : ℕ) → n ≡ length text → replace_range text 0 n [] ≡ []
+emptied text n e = drop_all n text (omega (arith, e))
+
+length-repeat : (n : ℕ) (xs : List ℕ) → length (repeat n xs) ≡ n * length xs
+length-repeat zero xs = omega arith
+length-repeat (suc n) xs = length-append xs (repeat n xs) ∙ ap (λ k. length xs + k) (length-repeat n xs) ∙ (let e : length xs + n * length xs ≡ suc n * length xs = grind arith in e)
+
+-- more bytes than any number of them
+pub too_long : (l : Line) (count m : ℕ) → l.limit < 2 ^ 64 → (m < 2 ^ 64 → ⊥) → m ≡ count → l.growth ≡ has_room count l
+too_long l count m small large e = let far : l.limit < count = grind (arith, small, large, e) in grind (arith, nat_tests, far)
+
+-- the bytes of n copies, counted by the code
+pub copies_length : (xs : List ℕ) (n m : ℕ) → m ≡ n → length xs * m ≡ length (repeat n xs)
+copies_length xs n m e = let long = length-repeat n xs in grind (arith, e, long)
+
+-- one copy is the text itself
+pub one_insertion : (text : List ℕ) (n : ℕ) (l : Line) → n ≡ 1 → insertion_by (insertion l.place text) text l ≡ insertion_of text n l
+one_insertion text n l e =
+    ap (λ added. insertion_by (insertion l.place added) added l) (let same : text ≡ repeat n text = rw e (sym (append-nil text)) in same)

@@ -1,0 +1,15 @@
+-- The newline at the end of a row.
+use Rattle.std.proofs.Common.{◌≡◌, ℕ, ◌+◌, ◌<◌, ◌≤◌, List, length, get_or, drop, sym, ◌∙◌, inl, inr, arith}
+use Rattle.std.specs.Prelude.{IsUtf8, IsCharBoundary}
+use Rattle.std.specs.List.{prefix_len}
+use Rattle.std.proofs.lemmas.List.{get_or-drop, length-drop}
+use Rattle.std.proofs.lemmas.Str.{IsCharBoundary-after_ascii}
+use Rattle.line_buffer.specs.Rows.{row_end, is_in_row}
+use Rattle.line_buffer.proofs.RowLemmas.{prefix_len-stops}
+
+-- the place behind it is one between characters
+pub after_row : (text : List ℕ) (at end : ℕ) → end ≡ row_end text at → IsUtf8 text → at ≤ length text → end < length text → IsCharBoundary text (end + 1)
+after_row text at end is u le more = elim (prefix_len-stops (drop at text)) [
+  | inl e ↦ absurd (omega (arith, is, e, length-drop at text))
+  | inr h ↦ IsCharBoundary-after_ascii text end u more (let here : get_or text end 0 ≡ 10 = rw is (sym (get_or-drop at text (prefix_len is_in_row (drop at text)) 0) ∙ h.1) in omega (arith, here))
+]

@@ -1,0 +1,138 @@
+-- Calls of several events: what they make of a listener and of a text, and what is left where one is refused.
+use Rattle.std.proofs.Common.{◌≡◌, Bool, false, ℕ, ◌+◌, ◌-◌, arith, take, drop, List, [], ◌∷◌, ◌++◌, ◌⊎◌, inl, inr, refl, sym, subst, ap, ◌∙◌, append_assoc}
+use Rattle.std.specs.Prelude.{if◌then◌else◌, Result, Ok, Err, OnErr, IsUtf8, IsCharBoundary}
+use Rattle.std.specs.List.{replace_range, insert_slice}
+use Rattle.line_buffer.specs.Event.{Event}
+use Rattle.line_buffer.specs.Event.Event.{StartKilling, StopKilling}
+use Rattle.line_buffer.specs.Replay.{Swaps, Replays, ReplaysAll, TakesAll, Reports, StopsAmong}
+
+module _ {S : Type 0} (takes : S → Event → S → Type 0) where
+  TakesAll-append : (es fs : List Event) (s t u : S) → TakesAll takes s es t → TakesAll takes t fs u → TakesAll takes s (es ++ fs) u
+  TakesAll-append [] fs s t u e h = subst (λ x. TakesAll takes x fs u) e h
+  TakesAll-append (e ∷ es) fs s t u h k = (h.0, h.1, TakesAll-append es fs h.0 t u h.2 k)
+
+ReplaysAll-append : (es fs : List Event) (a b c : List ℕ) → ReplaysAll es a b → ReplaysAll fs b c → ReplaysAll (es ++ fs) a c
+ReplaysAll-append [] fs a b c e h = subst (λ x. ReplaysAll fs x c) e h
+ReplaysAll-append (e ∷ es) fs a b c h k = (h.0, h.1, ReplaysAll-append es fs h.0 b c h.2 k)
+
+-- nothing told, nothing changed
+pub reports_nothing : {S : Type 0} (takes : S → Event → S → Type 0) (s : S) (a : List ℕ) → Reports takes [] s s a a
+reports_nothing takes s a = record { told = refl; replays = refl }
+
+pub reports_one : {S : Type 0} (takes : S → Event → S → Type 0) (e : Event) (s t : S) (a b : List ℕ) → takes s e t → Replays e a b → Reports takes (e ∷ []) s t a b
+reports_one takes e s t a b h k = record { told = (t, h, refl); replays = (b, k, refl) }
+
+-- one call after the other
+pub reports_then : {S : Type 0} {takes : S → Event → S → Type 0} {es fs : List Event} {s t u : S} {a b c : List ℕ} → Reports takes es s t a b → Reports takes fs t u b c
+    → Reports takes (es ++ fs) s u a c
+reports_then {S} {takes} {es} {fs} {s} {t} {u} {a} {b} {c} x y = record {
+  told = TakesAll-append takes es fs s t u x.told y.told;
+  replays = ReplaysAll-append es fs a b c x.replays y.replays;
+}
+
+-- the first event was refused, or no memory was found for it
+pub stops_at_once : {S : Type 0} (takes refuses : S → Event → S → Type 0) (events : List Event) (e : Event) (s t : S) (a b : List ℕ) → (t ≡ s) ⊎ refuses s e t → b ≡ a
+    → StopsAmong takes refuses events s t a b
+stops_at_once takes refuses events e s t a b h same = record {
+  done = [];
+  rest = events;
+  split = refl;
+  between = s;
+  reported = record { told = refl; replays = same };
+  left = t;
+  stopped = elim h as (λ _. (t ≡ s) ⊎ ((e : Event) × refuses s e t)) [ inl x ↦ inl x | inr x ↦ inr (e, x) ];
+  closing = [];
+  closed = reports_nothing takes t b;
+}
+
+-- no memory was found before anything was told
+pub stops_for_memory : {S : Type 0} (takes refuses : S → Event → S → Type 0) (events : List Event) (s : S) (a b : List ℕ) → b ≡ a → StopsAmong takes refuses events s s a b
+stops_for_memory takes refuses events s a b same = record {
+  done = [];
+  rest = events;
+  split = refl;
+  between = s;
+  reported = record { told = refl; replays = same };
+  left = s;
+  stopped = inl refl;
+  closing = [];
+  closed = reports_nothing takes s b;
+}
+
+-- the same where the answer is an error that was converted
+pub stops_at_once_on : {S T E : Type 0} (r : Result T E) (takes refuses : S → Event → S → Type 0) (events : List Event) (e : Event) (s t : S) (a b : List ℕ) → (t ≡ s) ⊎ refuses s e t → b ≡ a
+    → OnErr r (StopsAmong takes refuses events s t a b)
+stops_at_once_on r takes refuses events e s t a b h same =
+    elim r as (λ r. OnErr r (StopsAmong takes refuses events s t a b)) [ Ok x ↦ tt | Err x ↦ stops_at_once takes refuses events e s t a b h same ]
+
+-- a call was refused after another was made
+pub stops_later : {S : Type 0} {takes refuses : S → Event → S → Type 0} {es fs : List Event} {s t u : S} {a b c : List ℕ} → Reports takes es s t a b
+    → StopsAmong takes refuses fs t u b c → StopsAmong takes refuses (es ++ fs) s u a c
+stops_later {S} {takes} {refuses} {es} {fs} {s} {t} {u} {a} {b} {c} x y = record {
+  done = es ++ y.done;
+  rest = y.rest;
+  split = ap (λ zs. es ++ zs) y.split ∙ sym (append_assoc es y.done y.rest);
+  between = y.between;
+  reported = reports_then x y.reported;
+  left = y.left;
+  stopped = y.stopped;
+  closing = y.closing;
+  closed = y.closed;
+}
+
+-- what closes a refused call was told too
+pub stops_closed : {S : Type 0} {takes refuses : S → Event → S → Type 0} {es more : List Event} {s t u : S} {a b : List ℕ} → StopsAmong takes refuses es s t a b
+    → Reports takes more t u b b → StopsAmong takes refuses es s u a b
+stops_closed {S} {takes} {refuses} {es} {more} {s} {t} {u} {a} {b} x y = record {
+  done = x.done;
+  rest = x.rest;
+  split = x.split;
+  between = x.between;
+  reported = x.reported;
+  left = x.left;
+  stopped = x.stopped;
+  closing = x.closing ++ more;
+  closed = reports_then x.closed y;
+}
+
+-- events that don't come any more change nothing of what is said of those before
+pub stops_before : {S : Type 0} {takes refuses : S → Event → S → Type 0} {es : List Event} (more : List Event) {s t : S} {a b : List ℕ} → StopsAmong takes refuses es s t a b
+    → StopsAmong takes refuses (es ++ more) s t a b
+stops_before {S} {takes} {refuses} {es} more {s} {t} {a} {b} x = record {
+  done = x.done;
+  rest = x.rest ++ more;
+  split = ap (λ zs. zs ++ more) x.split ∙ append_assoc x.done x.rest more;
+  between = x.between;
+  reported = x.reported;
+  left = x.left;
+  stopped = x.stopped;
+  closing = x.closing;
+  closed = x.closed;
+}
+
+-- the same of no memory
+pub stops_for_memory_on : {S T E : Type 0} (r : Result T E) (takes refuses : S → Event → S → Type 0) (events : List Event) (s : S) (a b : List ℕ) → b ≡ a → OnErr r (StopsAmong takes refuses events s s a b)
+stops_for_memory_on r takes refuses events s a b same =
+    elim r as (λ r. OnErr r (StopsAmong takes refuses events s s a b)) [ Ok x ↦ tt | Err x ↦ stops_for_memory takes refuses events s a b same ]
+
+-- a refused kill is closed as one that was made
+pub stops_killing : {S T E : Type 0} (r : Result T E) (takes refuses : S → Event → S → Type 0) (es : List Event) (plain : Bool) (s begun left t : S) (a b : List ℕ) → plain ≡ false
+    → takes s StartKilling begun → OnErr r (StopsAmong takes refuses es begun left a b) → takes left StopKilling t
+    → OnErr r (StopsAmong takes refuses (if plain then es else StartKilling ∷ (es ++ (StopKilling ∷ []))) s t a b)
+stops_killing {S} {T} {E} r takes refuses es plain s begun left t a b e start stopped stop =
+    subst (λ v. OnErr r (StopsAmong takes refuses (if v then es else StartKilling ∷ (es ++ (StopKilling ∷ []))) s t a b)) (sym e)
+    (on_err r _ _ (λ x. stops_closed (stops_later (reports_one takes StartKilling s begun a a start refl) (stops_before (StopKilling ∷ []) x)) (reports_one takes StopKilling left t b b stop refl)) stopped)
+  where
+    on_err : (r : Result T E) (P Q : Type 0) → (P → Q) → OnErr r P → OnErr r Q
+    on_err (Ok x) P Q f h = tt
+    on_err (Err x) P Q f h = f h
+
+-- a text put in
+pub swaps_insertion : (at : ℕ) (added before after : List ℕ) → IsCharBoundary before at → IsUtf8 added → after ≡ insert_slice before at added → Swaps at [] added before after
+swaps_insertion at added before after b u e = record {
+  start = b;
+  end = subst (IsCharBoundary before) (let k : at ≡ at + 0 = omega arith in k) b;
+  stands = ap (λ n. take n (drop at before)) (let k : (at + 0) - at ≡ 0 = omega arith in k);
+  text = u;
+  becomes = e ∙ ap (λ n. replace_range before at n added) (let k : at ≡ at + 0 = omega arith in k);
+}

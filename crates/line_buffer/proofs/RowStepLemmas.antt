@@ -1,0 +1,167 @@
+-- The walk over the rows that are moved: what was told so far, and what is still to come.
+use Rattle.std.proofs.Common.{◌≡◌, ℕ, ◌+◌, ◌-◌, ◌<◌, ◌≤◌, Bool, List, [], ◌∷◌, ◌++◌, ◌⊎◌, inl, inr, length, get_or, take, drop, refl, sym, ap, ◌∙◌, subst, arith, append_assoc}
+use Rattle.std.specs.Prelude.{Result, Ok, Err, OnErr, IsUtf8, IsCharBoundary, slice_range}
+use Rattle.std.specs.List.{prefix_len}
+use Rattle.std.proofs.lemmas.List.{length-drop, drop-drop, drop-take, take-take, take_all, get_or-take, get_or-drop}
+use Rattle.std.proofs.lemmas.List.Edits.{length-between}
+use Rattle.std.proofs.lemmas.Str.{IsCharBoundary-from_drop, IsCharBoundary-after_ascii, IsUtf8-drop}
+use Rattle.line_buffer.specs.Event.{Event}
+use Rattle.line_buffer.specs.Indent.{rows_of, row_event, row_len, row_events}
+use Rattle.line_buffer.specs.Line.{Line}
+use Rattle.line_buffer.specs.Replay.{Replays, Reports, StopsAmong}
+use Rattle.line_buffer.specs.Replayed.{carried_line, carried_all}
+use Rattle.line_buffer.specs.Rows.{is_in_row}
+use Rattle.line_buffer.specs.Settings.{SameSettings}
+use Rattle.line_buffer.proofs.IndentLemmas.{rows_last, rows_more}
+use Rattle.line_buffer.proofs.ReplayLemmas.{reports_one, reports_then, reports_nothing, stops_later, stops_at_once}
+use Rattle.line_buffer.proofs.RowLemmas.{prefix_len-stops}
+
+carried_all-append : (es fs : List Event) (l : Line) → carried_all (es ++ fs) l ≡ carried_all fs (carried_all es l)
+unfolding carried_all
+carried_all-append [] fs l = refl
+carried_all-append (e ∷ es) fs l = carried_all-append es fs (carried_line e l)
+
+carried_all-one : (e : Event) (l : Line) → carried_all (e ∷ []) l ≡ carried_line e l
+unfolding carried_all
+carried_all-one e l = refl
+
+row_events-first : (margin : List ℕ) (dedent : Bool) (at : ℕ) (row : List ℕ) (rows : List (List ℕ))
+    → row_events margin dedent at (row ∷ rows) ≡ row_event margin dedent at row ∷ row_events margin dedent (at + row_len margin dedent row + 1) rows
+unfolding row_events
+row_events-first margin dedent at row rows = refl
+
+row_events-none : (margin : List ℕ) (dedent : Bool) (at : ℕ) → row_events margin dedent at [] ≡ []
+unfolding row_events
+row_events-none margin dedent at = refl
+
+-- of the events `all` those before the row at a place were told, and led from one line to the other
+pub record RowsTold {S : Type 0} (takes : S → Event → S → Type 0) (margin : List ℕ) (dedent : Bool) (all : List Event) (s t : S) (l m : Line) (at last : ℕ) : Type 0 where
+  pub done : List Event
+  pub split : all ≡ done ++ row_events margin dedent at (rows_of (slice_range m.text at last))
+  pub reported : Reports takes done s t l.text m.text
+  pub line : m ≡ carried_all done l
+  pub order : at ≤ last
+  pub start : IsCharBoundary m.text at
+  pub end : IsCharBoundary m.text last
+  pub settings : SameSettings l m
+
+pub rows_told_init : {S : Type 0} (takes : S → Event → S → Type 0) (margin : List ℕ) (dedent : Bool) (s : S) (l : Line) (at last : ℕ) → at ≤ last → IsCharBoundary l.text at → IsCharBoundary l.text last
+    → RowsTold takes margin dedent (row_events margin dedent at (rows_of (slice_range l.text at last))) s s l l at last
+unfolding carried_all
+rows_told_init takes margin dedent s l at last o b e = record {
+  done = [];
+  split = refl;
+  reported = reports_nothing takes s l.text;
+  line = refl;
+  order = o;
+  start = b;
+  end = e;
+  settings = record { growth = refl; limit = refl };
+}
+
+module _ {S : Type 0} (takes refuses : S → Event → S → Type 0) (margin : List ℕ) (dedent : Bool) (all : List Event) (s t : S) (l m : Line) (at last : ℕ)
+    (w : RowsTold takes margin dedent all s t l m at last) (end : ℕ) (ends : end ≡ at + prefix_len is_in_row (slice_range m.text at last)) where
+  abbrev rows : List ℕ
+  rows = slice_range m.text at last
+
+  abbrev width : ℕ
+  width = prefix_len is_in_row rows
+
+  abbrev row : List ℕ
+  row = slice_range m.text at end
+
+  size : length rows ≡ last - at
+  size = length-between m.text at last w.end.0
+
+  short : width ≤ length rows
+  short = elim (prefix_len-stops rows) [ inl e ↦ omega (arith, e) | inr h ↦ omega (arith, h.0) ]
+
+  row_is : take width rows ≡ row
+  row_is = take-take width (last - at) (drop at m.text) (omega (arith, short, size)) ∙ ap (λ k. take k (drop at m.text)) (let k : width ≡ end - at = omega (arith, ends) in k)
+
+  -- the row was refused, or no memory was found for it
+  pub row_stops : {T E : Type 0} (r : Result T E) (u : S) (n : Line) (e : Event) → (u ≡ t) ⊎ refuses t e u → n ≡ m → OnErr r (StopsAmong takes refuses all s u l.text n.text)
+  row_stops {T} {E} r u n e h same =
+      elim r as (λ r. OnErr r (StopsAmong takes refuses all s u l.text n.text)) [
+        | Ok x ↦ tt
+        | Err x ↦ subst (λ es. StopsAmong takes refuses es s u l.text n.text) (sym w.split)
+            (stops_later w.reported (stops_at_once takes refuses _ e t u m.text n.text h (ap (λ l. l.text) same)))
+      ]
+
+  module _ (u : S) (n : Line) (changed : ℕ) (told : takes t (row_event margin dedent at row) u) (replays : Replays (row_event margin dedent at row) m.text n.text)
+      (line : n ≡ carried_line (row_event margin dedent at row) m) (answer : changed ≡ at + row_len margin dedent row) where
+    abbrev more : List Event
+    more = w.done ++ (row_event margin dedent at row ∷ [])
+
+    reports_more : Reports takes more s u l.text n.text
+    reports_more = reports_then w.reported (reports_one takes (row_event margin dedent at row) t u m.text n.text told replays)
+
+    line_more : n ≡ carried_all more l
+    line_more =
+        line ∙ ap (carried_line (row_event margin dedent at row)) w.line ∙ sym (carried_all-one (row_event margin dedent at row) (carried_all w.done l))
+        ∙ sym (carried_all-append w.done (row_event margin dedent at row ∷ []) l)
+
+    pub settings_more : SameSettings l n
+    settings_more = record { growth = ap (λ x. x.growth) line ∙ w.settings.growth; limit = ap (λ x. x.limit) line ∙ w.settings.limit }
+
+    -- it was the last one
+    pub rows_told_all : end ≡ last → Reports takes all s u l.text n.text × (n ≡ carried_all all l)
+    rows_told_all e = (subst (λ es. Reports takes es s u l.text n.text) (sym whole) reports_more, line_more ∙ ap (λ es. carried_all es l) (sym whole))
+      where
+        none_after : width ≡ length rows
+        none_after = omega (arith, e, ends, size, w.order)
+
+        whole : all ≡ more
+        whole =
+            w.split ∙ ap (λ rs. w.done ++ row_events margin dedent at rs) (rows_last rows none_after)
+            ∙ ap (λ es. w.done ++ es) (row_events-first margin dedent at rows [] ∙ ap (λ es. row_event margin dedent at rows ∷ es) (row_events-none margin dedent (at + row_len margin dedent rows + 1)))
+            ∙ ap (λ r. w.done ++ (row_event margin dedent at r ∷ [])) (sym (take_all width rows (omega (arith, none_after))) ∙ row_is)
+
+    -- more rows follow
+    pub rows_told_more : end < last → IsUtf8 m.text → changed ≤ length n.text → drop changed n.text ≡ drop end m.text
+        → RowsTold takes margin dedent all s u l n (changed + 1) ((last - end) + changed)
+    rows_told_more less utf8 inside rest = record {
+      done = more;
+      split = split;
+      reported = reports_more;
+      line = line_more;
+      order = omega (arith, less);
+      start = IsCharBoundary-from_drop n.text (changed + 1) (omega (arith, longer, less, w.end.0, inside)) (subst IsUtf8 (sym behind_next) (IsUtf8-drop m.text (end + 1) utf8 next));
+      end = IsCharBoundary-from_drop n.text ((last - end) + changed) (omega (arith, longer, less, w.end.0, inside)) (subst IsUtf8 (sym behind_last) (IsUtf8-drop m.text last utf8 w.end));
+      settings = settings_more;
+    }
+      where
+        longer : length n.text - changed ≡ length m.text - end
+        longer = sym (length-drop changed n.text) ∙ ap length rest ∙ length-drop end m.text
+
+        newline : get_or m.text end 0 ≡ 10
+        newline = elim (prefix_len-stops rows) [
+          | inl e ↦ absurd (omega (arith, e, ends, size, less, w.order))
+          | inr h ↦ rw ends (sym (get_or-drop at m.text width 0) ∙ sym (get_or-take (last - at) (drop at m.text) width 0 (omega (arith, h.0, size))) ∙ h.1)
+        ]
+
+        next : IsCharBoundary m.text (end + 1)
+        next = IsCharBoundary-after_ascii m.text end utf8 (omega (arith, less, w.end.0)) (omega (arith, newline))
+
+        behind_next : drop (changed + 1) n.text ≡ drop (end + 1) m.text
+        behind_next = sym (drop-drop 1 changed n.text) ∙ ap (drop 1) rest ∙ drop-drop 1 end m.text
+
+        behind_last : drop ((last - end) + changed) n.text ≡ drop last m.text
+        behind_last =
+            ap (λ k. drop k n.text) (let k : (last - end) + changed ≡ changed + (last - end) = omega arith in k) ∙ sym (drop-drop (last - end) changed n.text) ∙ ap (drop (last - end)) rest
+            ∙ drop-drop (last - end) end m.text ∙ ap (λ k. drop k m.text) (let k : end + (last - end) ≡ last = omega (arith, less) in k)
+
+        remaining : drop (width + 1) rows ≡ slice_range n.text (changed + 1) ((last - end) + changed)
+        remaining =
+            ap (λ k. drop (width + 1) (take k (drop at m.text))) (let k : last - at ≡ (width + 1) + (last - (end + 1)) = omega (arith, ends, less, w.order) in k)
+            ∙ drop-take (width + 1) (last - (end + 1)) (drop at m.text) ∙ ap (take (last - (end + 1))) (drop-drop (width + 1) at m.text ∙ ap (λ k. drop k m.text) (let k : at + (width + 1) ≡ end + 1 = omega (arith, ends) in k))
+            ∙ ap (take (last - (end + 1))) (sym behind_next) ∙ ap (λ k. take k (drop (changed + 1) n.text)) (let k : last - (end + 1) ≡ ((last - end) + changed) - (changed + 1) = omega (arith, less) in k)
+
+        split : all ≡ more ++ row_events margin dedent (changed + 1) (rows_of (slice_range n.text (changed + 1) ((last - end) + changed)))
+        split =
+            w.split ∙ ap (λ rs. w.done ++ row_events margin dedent at rs) (rows_more rows (omega (arith, ends, size, less)))
+            ∙ ap (λ es. w.done ++ es) (row_events-first margin dedent at (take width rows) (rows_of (drop (width + 1) rows)))
+            ∙ ap (λ r. w.done ++ (row_event margin dedent at r ∷ row_events margin dedent (at + row_len margin dedent r + 1) (rows_of (drop (width + 1) rows)))) row_is
+            ∙ ap (λ k. w.done ++ (row_event margin dedent at row ∷ row_events margin dedent (k + 1) (rows_of (drop (width + 1) rows)))) (sym answer)
+            ∙ ap (λ xs. w.done ++ (row_event margin dedent at row ∷ row_events margin dedent (changed + 1) (rows_of xs))) remaining
+            ∙ sym (append_assoc w.done (row_event margin dedent at row ∷ []) _)

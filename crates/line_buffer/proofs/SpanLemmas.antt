@@ -1,0 +1,270 @@
+-- What a movement names is a part of the text between characters: a fact of the definitions.
+use Rattle.std.proofs.Common.{◌≡◌, ℕ, suc, ◌+◌, ◌-◌, ◌<◌, ◌≤◌, ◌==◌, Bool, true, false, cond, List, [], ◌∷◌, length, map, reverse, take, drop, get_or, Option, None, Some, refl, sym, ap, ◌∙◌, subst, ◌⊎◌, inl, inr, arith, nat_lt}
+use Rattle.std.specs.Prelude.{IsUtf8, IsCharBoundary, IfSome, All, option_map, unwrap_or, filter, encode_utf8, if◌then◌else◌}
+use Rattle.std.specs.List.{prefix_len, enumerate_from}
+use Rattle.std.proofs.lemmas.Bool.Decides.{nat_tests}
+use Rattle.std.proofs.lemmas.List.{length-drop, length-take-le, length-reverse, drop-drop, get_or-drop, get_or-take, get_or-reverse}
+use Rattle.std.proofs.lemmas.List.Elements.{All-take, All-map, All-cons, All-drop}
+use Rattle.std.proofs.lemmas.Str.{IsUtf8-take, IsUtf8-drop, IsCharBoundary-start, IsCharBoundary-end, IsCharBoundary-from_rest, IsCharBoundary-after_ascii, IsCharBoundary-before_ascii}
+use Rattle.line_buffer.specs.declared.range.Span.{Span}
+use Rattle.line_buffer.specs.declared.types.CharSearch.{CharSearch}
+use Rattle.line_buffer.specs.declared.types.Direction.TheVariants.{Forward}
+use Rattle.line_buffer.specs.declared.types.CharSearch.TheVariants.{Forward as Onto, ForwardBefore, Backward as BackOnto, BackwardAfter}
+use Rattle.line_buffer.specs.declared.types.At.{At}
+use Rattle.line_buffer.specs.declared.types.Word.{Word}
+use Rattle.line_buffer.specs.declared.types.Movement.{Movement}
+use Rattle.line_buffer.specs.declared.types.Movement.TheVariants.{WholeLine, BeginningOfLine, EndOfLine, BackwardWord, ForwardWord, ViCharSearch, ViFirstPrint, BackwardChar, ForwardChar, LineUp, LineDown, WholeBuffer, BeginningOfBuffer, EndOfBuffer}
+use Rattle.line_buffer.specs.Clusters.{clusters, cluster_ends, cluster_starts_back, nth_or_last, place_forward, place_backward, IsPart}
+use Rattle.line_buffer.specs.Hits.{hit_forward, hit_backward, past_cluster, hits}
+use Rattle.line_buffer.specs.Line.{Line, text_before, text_after, moved_to, replaced}
+use Rattle.line_buffer.specs.Replay.{replacement}
+use Rattle.line_buffer.specs.Replayed.{replayed_all}
+use Rattle.line_buffer.specs.Transpositions.{between_clusters, clusters_at, transposes_chars, exchanged, transpose_chars_events, transpose_chars_line}
+use Rattle.line_buffer.specs.Range.{deletion_events, deletion_line, kill_events, kill_line, IsSpanOf, up_to_cursor, from_cursor, around_cursor, to_row_end, from_row_start, search_range, range_of}
+use Rattle.line_buffer.specs.Rows.{is_in_row, row_start, row_end}
+use Rattle.line_buffer.specs.RowRanges.{behind_newlines, row_starts, starts_above, starts_below, row_close}
+use Rattle.line_buffer.specs.Words.{prev_word, next_word, stops_back, stops_forward}
+use Rattle.line_buffer.proofs.ChainLemmas.{All-last_or, All-reverse}
+use Rattle.line_buffer.proofs.HitLemmas.{part-of_hit, part-of_hit_back}
+use Rattle.line_buffer.proofs.PartLemmas.{All-IsPartAt, part_before, part_behind}
+use Rattle.line_buffer.proofs.RangeLemmas.{after_row}
+use Rattle.line_buffer.proofs.ReplayedLemmas.{replayed_all-none, replayed_all-one, replayed_replacement, deletion_replayed, kill_replayed}
+use Rattle.line_buffer.proofs.RowLemmas.{prefix_len-stops, row_start-boundary, row_end-boundary}
+use Rattle.line_buffer.proofs.StopLemmas.{All-stops_back, All-stops_forward, nth-boundary}
+
+weaker : {A : Type 0} (P Q : A → Type 0) (o : Option A) → ((x : A) → P x → Q x) → IfSome o P → IfSome o Q
+weaker P Q None f h = tt
+weaker P Q (Some x) f h = f x h
+
+mapped : {A B : Type 0} (f : A → B) (P : B → Type 0) (o : Option A) → IfSome o (λ x. P (f x)) → IfSome (option_map f o) P
+mapped f P None h = tt
+mapped f P (Some x) h = h
+
+-- a place between characters before the cursor, or after it
+abbrev pub IsEarlier : Line → ℕ → Type 0
+IsEarlier l i = IsCharBoundary l.text i × (i ≤ l.place)
+
+abbrev pub IsLater : Line → ℕ → Type 0
+IsLater l i = IsCharBoundary l.text i × (l.place ≤ i)
+
+module _ (l : Line) (u : IsUtf8 l.text) (b : IsCharBoundary l.text l.place) where
+  earlier : (i : ℕ) → IsCharBoundary (text_before l) i → IsEarlier l i
+  earlier i h =
+      let p = part_before l.text l.place i 0 b (record { start = h; end = subst (IsCharBoundary (text_before l)) (let k : i ≡ i + 0 = omega arith in k) h }) in
+      (p.0.start, omega (arith, p.1))
+
+  later : (i : ℕ) → IsCharBoundary (text_after l) i → IsLater l (l.place + i)
+  later i h = (IsCharBoundary-from_rest l.text l.place i b.0 h, omega arith)
+
+  pub prev_word-earlier : (word : Word) (n : ℕ) → IfSome (prev_word word n l) (IsEarlier l)
+  prev_word-earlier word n =
+      weaker (IsCharBoundary (text_before l)) (IsEarlier l) (prev_word word n l) earlier
+      (nth-boundary (text_before l) n (stops_back word (text_before l)) (prev_word word n l) (All-stops_back word (text_before l) (IsUtf8-take l.text l.place u b)) refl)
+
+  pub next_word-later : (at : At) (word : Word) (n : ℕ) → IfSome (next_word at word n l) (IsLater l)
+  next_word-later at word n =
+      let stops = stops_forward at word (text_after l) in
+      mapped (λ i. l.place + i) (IsLater l) (nth_or_last n stops)
+      (weaker (IsCharBoundary (text_after l)) (λ i. IsLater l (l.place + i)) (nth_or_last n stops) later
+      (nth-boundary (text_after l) n stops (nth_or_last n stops) (All-stops_forward at word (text_after l) (IsUtf8-drop l.text l.place u b)) refl))
+
+  pub place_backward-earlier : (n : ℕ) → IfSome (place_backward n l) (IsEarlier l)
+  place_backward-earlier n =
+      weaker (IsCharBoundary (text_before l)) (IsEarlier l) (place_backward n l) earlier
+      (All-last_or (IsCharBoundary (text_before l)) (take n (cluster_starts_back (text_before l))) (All-take (IsCharBoundary (text_before l)) n (cluster_starts_back (text_before l))
+      (All-map (IsCharBoundary (text_before l)) (λ x. x.0) (reverse (clusters (text_before l)))
+      (All-reverse (λ x. IsCharBoundary (text_before l) x.0) (clusters (text_before l)) (λ k d h. (All-IsPartAt (text_before l) (IsUtf8-take l.text l.place u b) k d h).start)))))
+
+  pub place_forward-later : (n : ℕ) → IfSome (place_forward n l) (IsLater l)
+  place_forward-later n =
+      mapped (λ e. l.place + e) (IsLater l) (nth_or_last n (cluster_ends (text_after l)))
+      (weaker (IsCharBoundary (text_after l)) (λ i. IsLater l (l.place + i)) (nth_or_last n (cluster_ends (text_after l))) later
+      (All-last_or (IsCharBoundary (text_after l)) (take n (cluster_ends (text_after l))) (All-take (IsCharBoundary (text_after l)) n (cluster_ends (text_after l))
+      (All-map (IsCharBoundary (text_after l)) (λ x. x.0 + length x.1) (clusters (text_after l)) (λ k d h. (All-IsPartAt (text_after l) (IsUtf8-drop l.text l.place u b) k d h).end)))))
+
+  back_span : (o : Option ℕ) → IfSome o (IsEarlier l) → IfSome (option_map (λ i. up_to_cursor i l) o) (IsSpanOf l.text)
+  back_span o h = mapped (λ i. up_to_cursor i l) (IsSpanOf l.text) o (weaker (IsEarlier l) (λ i. IsSpanOf l.text (up_to_cursor i l)) o (λ i e. record { order = e.1; start = e.0; end = b }) h)
+
+  on_span : (o : Option ℕ) → IfSome o (IsLater l) → IfSome (option_map (λ i. from_cursor i l) o) (IsSpanOf l.text)
+  on_span o h = mapped (λ i. from_cursor i l) (IsSpanOf l.text) o (weaker (IsLater l) (λ i. IsSpanOf l.text (from_cursor i l)) o (λ i e. record { order = e.1; start = b; end = e.0 }) h)
+
+  past-later : IsLater l (past_cluster l)
+  past-later = by_place (place_forward 1 l) (place_forward-later 1)
+    where
+      by_place : (o : Option ℕ) → IfSome o (IsLater l) → IsLater l (unwrap_or o l.place)
+      by_place None h = (b, omega arith)
+      by_place (Some i) h = h
+
+  hit_forward-part : (c n : ℕ) → IfSome (hit_forward c n l) (λ i. IsPart l.text i (length (encode_utf8 c)) × (l.place ≤ i))
+  hit_forward-part c n =
+      let past = past_cluster l in
+      let found = nth_or_last n (hits c (drop past l.text)) in
+      mapped (λ i. past + i) (λ i. IsPart l.text i (length (encode_utf8 c)) × (l.place ≤ i)) found
+      (weaker (λ i. IsPart (drop past l.text) i (length (encode_utf8 c))) (λ i. IsPart l.text (past + i) (length (encode_utf8 c)) × (l.place ≤ past + i)) found
+      (λ i h. (part_behind l.text past i (length (encode_utf8 c)) past-later.0.0 h, omega (arith, past-later.1)))
+      (part-of_hit c (drop past l.text) n found (IsUtf8-drop l.text past u past-later.0) refl))
+
+  hit_backward-part : (c n : ℕ) → IfSome (hit_backward c n l) (λ i. IsPart l.text i (length (encode_utf8 c)) × (i + length (encode_utf8 c) ≤ l.place))
+  hit_backward-part c n =
+      weaker (λ i. IsPart (text_before l) i (length (encode_utf8 c))) (λ i. IsPart l.text i (length (encode_utf8 c)) × (i + length (encode_utf8 c) ≤ l.place)) (hit_backward c n l)
+      (λ i h. part_before l.text l.place i (length (encode_utf8 c)) b h)
+      (part-of_hit_back c (text_before l) n (hit_backward c n l) (IsUtf8-take l.text l.place u b) refl)
+
+  search_spans : (n : ℕ) (to : CharSearch) → IfSome (search_range to n l) (IsSpanOf l.text)
+  search_spans n (Onto c) =
+      mapped (λ i. from_cursor (i + length (encode_utf8 c)) l) (IsSpanOf l.text) (hit_forward c n l)
+      (weaker (λ i. IsPart l.text i (length (encode_utf8 c)) × (l.place ≤ i)) (λ i. IsSpanOf l.text (from_cursor (i + length (encode_utf8 c)) l)) (hit_forward c n l)
+      (λ i h. record { order = omega (arith, h.1); start = b; end = h.0.end }) (hit_forward-part c n))
+  search_spans n (ForwardBefore c) =
+      on_span (hit_forward c n l) (weaker (λ i. IsPart l.text i (length (encode_utf8 c)) × (l.place ≤ i)) (IsLater l) (hit_forward c n l) (λ i h. (h.0.start, h.1)) (hit_forward-part c n))
+  search_spans n (BackOnto c) =
+      back_span (hit_backward c n l)
+      (weaker (λ i. IsPart l.text i (length (encode_utf8 c)) × (i + length (encode_utf8 c) ≤ l.place)) (IsEarlier l) (hit_backward c n l) (λ i h. (h.0.start, omega (arith, h.1))) (hit_backward-part c n))
+  search_spans n (BackwardAfter c) =
+      mapped (λ i. up_to_cursor (i + length (encode_utf8 c)) l) (IsSpanOf l.text) (hit_backward c n l)
+      (weaker (λ i. IsPart l.text i (length (encode_utf8 c)) × (i + length (encode_utf8 c) ≤ l.place)) (λ i. IsSpanOf l.text (up_to_cursor (i + length (encode_utf8 c)) l)) (hit_backward c n l)
+      (λ i h. record { order = h.1; start = h.0.end; end = b }) (hit_backward-part c n))
+
+  -- from a place of the cursor's row to its end, or over the newline there
+  to_row_end-spans : (from : ℕ) → IsCharBoundary l.text from → from ≤ l.place → IfSome (to_row_end from l) (IsSpanOf l.text)
+  to_row_end-spans from start early = by_tests (nat_lt from (row_end l.text l.place)) (nat_lt (row_end l.text l.place) (length l.text)) refl
+    where
+      by_tests : (x y : Bool) → nat_lt (row_end l.text l.place) (length l.text) ≡ y
+          → IfSome (if x then Some (record { from = from; upto = row_end l.text l.place; direction = Forward }) else (if y then Some (record { from = from; upto = row_end l.text l.place + 1; direction = Forward }) else None)) (IsSpanOf l.text)
+      by_tests true y e = record { order = omega (arith, early); start = start; end = row_end-boundary l.text l.place b }
+      by_tests false true e = record { order = omega (arith, early); start = start; end = after_row l.text l.place (row_end l.text l.place) refl u b.0 (grind (arith, nat_tests, e)) }
+      by_tests false false e = tt
+
+  -- at a row's start there is a newline before the cursor, or nothing
+  newline_before : l.place ≤ row_start l.text l.place → 0 < l.place → IsCharBoundary l.text (l.place - 1)
+  newline_before at_start some = elim (prefix_len-stops (reverse (text_before l))) [
+    | inl e ↦ absurd (omega (arith, e, at_start, some, length-reverse (text_before l), length-take-le l.place l.text b.0))
+    | inr h ↦
+        let none : prefix_len is_in_row (reverse (text_before l)) ≡ 0 = omega (arith, at_start, some) in
+        let last : get_or (reverse (text_before l)) 0 0 ≡ 10 = ap (λ k. get_or (reverse (text_before l)) k 0) (sym none) ∙ h.1 in
+        let here : get_or l.text (l.place - 1) 0 ≡ 10 =
+        sym (get_or-take l.place l.text (l.place - 1) 0 (omega (arith, some))) ∙ ap (λ k. get_or (text_before l) k 0) (let k : l.place - 1 ≡ (length (text_before l) - 1) - 0 = omega (arith, length-take-le l.place l.text b.0) in k)
+        ∙ sym (get_or-reverse (text_before l) 0 0 (omega (arith, some, length-take-le l.place l.text b.0))) ∙ last in
+        IsCharBoundary-before_ascii l.text (l.place - 1) (omega (arith, some, b.0)) (omega (arith, here))
+  ]
+
+  from_row_start-spans : IfSome (from_row_start l) (IsSpanOf l.text)
+  from_row_start-spans = by_tests (nat_lt (row_start l.text l.place) l.place) (nat_lt 0 l.place) refl refl
+    where
+      by_tests : (x y : Bool) → nat_lt (row_start l.text l.place) l.place ≡ x → nat_lt 0 l.place ≡ y
+          → IfSome (if x then Some (up_to_cursor (row_start l.text l.place) l) else (if y then Some (up_to_cursor (l.place - 1) l) else None)) (IsSpanOf l.text)
+      by_tests true y e f = record { order = omega arith; start = row_start-boundary l.text l.place u b; end = b }
+      by_tests false true e f = record { order = omega arith; start = newline_before (grind (arith, nat_tests, e)) (grind (arith, nat_tests, f)); end = b }
+      by_tests false false e f = tt
+
+  row_close-boundary : (at : ℕ) → IsCharBoundary l.text at → IsCharBoundary l.text (row_close l.text at)
+  row_close-boundary at h = by_order (prefix_len-stops (drop at l.text))
+    where
+      by_order : (prefix_len is_in_row (drop at l.text) ≡ length (drop at l.text)) ⊎ ((prefix_len is_in_row (drop at l.text) < length (drop at l.text)) × (get_or (drop at l.text) (prefix_len is_in_row (drop at l.text)) 0 ≡ 10))
+          → IsCharBoundary l.text (row_close l.text at)
+      by_order (inl e) = subst (IsCharBoundary l.text) (let k : length l.text ≡ row_close l.text at = omega (arith, e, length-drop at l.text, h.0) in k) (IsCharBoundary-end l.text)
+      by_order (inr e) =
+          subst (IsCharBoundary l.text) (let k : row_end l.text at + 1 ≡ row_close l.text at = omega (arith, e.0, length-drop at l.text, h.0) in k)
+          (after_row l.text at (row_end l.text at) refl u h.0 (omega (arith, e.0, length-drop at l.text)))
+
+  -- behind each newline of what follows on a place
+  All-behind : (from : ℕ) (bs : List ℕ) → from ≤ length l.text → drop from l.text ≡ bs → All (λ i. IsCharBoundary l.text i × (from ≤ i)) (behind_newlines from bs)
+  unfolding behind_newlines
+  All-behind from [] le e = λ k d h. absurd (omega (arith, h))
+  All-behind from (x ∷ bs) le e = by_test (x == 10) refl (All-behind (from + 1) bs (omega (arith, long)) (sym (drop-drop 1 from l.text) ∙ ap (drop 1) e))
+    where
+      long : length l.text - from ≡ suc (length bs)
+      long = sym (length-drop from l.text) ∙ ap length e
+
+      by_test : (t : Bool) → (x == 10) ≡ t → All (λ i. IsCharBoundary l.text i × (from + 1 ≤ i)) (map (λ y. y.0 + 1) (filter (λ y. y.1 == 10) (enumerate_from (from + 1) bs)))
+          → All (λ i. IsCharBoundary l.text i × (from ≤ i)) (map (λ y. y.0 + 1) (cond t ((from, x) ∷ filter (λ y. y.1 == 10) (enumerate_from (from + 1) bs)) (filter (λ y. y.1 == 10) (enumerate_from (from + 1) bs))))
+      by_test true t rest =
+          All-cons (λ i. IsCharBoundary l.text i × (from ≤ i)) (from + 1) _
+          (IsCharBoundary-after_ascii l.text from u (omega (arith, long)) (let here : get_or l.text from 0 ≡ x = ap (λ k. get_or l.text k 0) (let k : from ≡ from + 0 = omega arith in k) ∙ sym (get_or-drop from l.text 0 0) ∙ ap (λ xs. get_or xs 0 0) e in grind (arith, nat_tests, here, t)), omega arith)
+          (λ k d h. ((rest k d h).0, let far = (rest k d h).1 in omega (arith, far)))
+      by_test false t rest = λ k d h. ((rest k d h).0, let far = (rest k d h).1 in omega (arith, far))
+
+module _ (l : Line) (u : IsUtf8 l.text) (b : IsCharBoundary l.text l.place) where
+  All-starts_above : All (IsEarlier l) (starts_above l)
+  All-starts_above =
+      All-drop (IsEarlier l) 1 (reverse (row_starts (text_before l))) (All-reverse (IsEarlier l) (row_starts (text_before l))
+      (All-cons (IsEarlier l) 0 (behind_newlines 0 (text_before l)) (IsCharBoundary-start l.text u, omega arith)
+      (λ k d h. earlier l u b _ (All-behind (record l { text = text_before l; place = 0 }) (IsUtf8-take l.text l.place u b) (IsCharBoundary-start (text_before l) (IsUtf8-take l.text l.place u b)) 0 (text_before l) (omega arith) refl k d h).0)))
+
+  around_span : (from upto : ℕ) → from ≤ upto → IsCharBoundary l.text from → IsCharBoundary l.text upto → IsSpanOf l.text (around_cursor from upto l)
+  around_span from upto o s e = record { order = o; start = s; end = e }
+
+  line_up-spans : (n : ℕ) → IfSome (range_of (LineUp n) l) (IsSpanOf l.text)
+  line_up-spans n = by_start (nth_or_last n (starts_above l)) (All-last_or (IsEarlier l) (take n (starts_above l)) (All-take (IsEarlier l) n (starts_above l) All-starts_above))
+    where
+      by_start : (o : Option ℕ) → IfSome o (IsEarlier l) → IfSome (option_map (λ (r : ℕ × ℕ). around_cursor r.0 r.1 l) (option_map (λ start. (start, row_close l.text l.place)) o)) (IsSpanOf l.text)
+      by_start None h = tt
+      by_start (Some start) h = around_span start (row_close l.text l.place) (omega (arith, h.1, b.0)) h.0 (row_close-boundary l u b l.place b)
+
+  line_down-spans : (n : ℕ) → IfSome (range_of (LineDown n) l) (IsSpanOf l.text)
+  line_down-spans n = by_start (nth_or_last n (starts_below l)) (All-last_or (IsLater l) (take n (starts_below l)) (All-take (IsLater l) n (starts_below l) (All-behind l u b l.place (text_after l) b.0 refl)))
+    where
+      by_start : (o : Option ℕ) → IfSome o (IsLater l) → IfSome (option_map (λ (r : ℕ × ℕ). around_cursor r.0 r.1 l) (option_map (λ start. (row_start l.text l.place, row_close l.text start)) o)) (IsSpanOf l.text)
+      by_start None h = tt
+      by_start (Some start) h = around_span (row_start l.text l.place) (row_close l.text start) (omega (arith, h.1, h.0.0)) (row_start-boundary l.text l.place u b) (row_close-boundary l u b start h.0)
+
+  -- where there is text, a part of it as a whole
+  unless_empty : (t : Bool) (span : Span) → IsSpanOf l.text span → IfSome (if t then None else Some span) (IsSpanOf l.text)
+  unless_empty true span h = tt
+  unless_empty false span h = h
+
+  pub range_spans : (movement : Movement) → IfSome (range_of movement l) (IsSpanOf l.text)
+  range_spans WholeLine = to_row_end-spans l u b (row_start l.text l.place) (row_start-boundary l.text l.place u b) (omega arith)
+  range_spans BeginningOfLine = from_row_start-spans l u b
+  range_spans EndOfLine = to_row_end-spans l u b l.place b (omega arith)
+  range_spans (BackwardWord n word) = back_span l u b (prev_word word n l) (prev_word-earlier l u b word n)
+  range_spans (ForwardWord n at word) = on_span l u b (next_word at word n l) (next_word-later l u b at word n)
+  range_spans (ViCharSearch n to) = search_spans l u b n to
+  range_spans ViFirstPrint = tt
+  range_spans (BackwardChar n) = back_span l u b (place_backward n l) (place_backward-earlier l u b n)
+  range_spans (ForwardChar n) = on_span l u b (place_forward n l) (place_forward-later l u b n)
+  range_spans (LineUp n) = line_up-spans n
+  range_spans (LineDown n) = line_down-spans n
+  range_spans WholeBuffer = unless_empty (length l.text == 0) _ (around_span 0 (length l.text) (omega arith) (IsCharBoundary-start l.text u) (IsCharBoundary-end l.text))
+  range_spans BeginningOfBuffer = unless_empty (l.place == 0) _ (record { order = omega arith; start = IsCharBoundary-start l.text u; end = b })
+  range_spans EndOfBuffer = unless_empty (l.place == length l.text) _ (record { order = b.0; start = b; end = IsCharBoundary-end l.text })
+
+  -- what the kills, and the deletions that aren't kills, tell leads to the text that they leave
+  pub kill_replays : (movement : Movement) → replayed_all (kill_events movement l) l.text ≡ (kill_line movement l).text
+  kill_replays movement = kill_replayed movement l (range_spans movement)
+
+  pub deletion_replays : (movement : Movement) → replayed_all (deletion_events (range_of movement l) l) l.text ≡ (deletion_line (range_of movement l) l).text
+  deletion_replays movement = deletion_replayed (range_of movement l) l (range_spans movement)
+
+  moved_back : (o : Option ℕ) → IfSome o (IsEarlier l) → IsEarlier l (moved_to o l).place
+  moved_back None h = (b, omega arith)
+  moved_back (Some i) h = h
+
+  moved_on : (o : Option ℕ) → IfSome o (IsLater l) → IsLater l (moved_to o l).place
+  moved_on None h = (b, omega arith)
+  moved_on (Some i) h = h
+
+  -- the places of the clusters at the cursor, in their order
+  pub clusters_span : ((clusters_at l).0 ≤ (clusters_at l).2) × ((clusters_at l).2 ≤ length l.text)
+  clusters_span =
+      let first = moved_back (place_backward 1 l) (place_backward-earlier l u b 1) in
+      let last = moved_on (place_forward 1 l) (place_forward-later l u b 1) in
+      (omega (arith, first.1, last.1), last.0.0)
+
+module _ (l : Line) (u : IsUtf8 l.text) (b : IsCharBoundary l.text l.place) where
+  between_span : (t : Bool) → let m : Line = if t then moved_to (place_backward 1 l) l else l in ((clusters_at m).0 ≤ (clusters_at m).2) × ((clusters_at m).2 ≤ length l.text)
+  between_span true =
+      let m : Line = moved_to (place_backward 1 l) l in
+      let s = clusters_span m u (moved_back l u b (place_backward 1 l) (place_backward-earlier l u b 1)).0 in
+      s
+  between_span false = clusters_span l u b
+
+  pub transpose_chars_replays : replayed_all (transpose_chars_events l) l.text ≡ (transpose_chars_line l).text
+  transpose_chars_replays = by_test (transposes_chars l)
+    where
+      by_test : (t : Bool) → replayed_all (if t then replacement (clusters_at (between_clusters l)).0 (clusters_at (between_clusters l)).2 (exchanged (clusters_at (between_clusters l)) l.text) l.text ∷ [] else []) l.text
+          ≡ (if t then replaced (clusters_at (between_clusters l)).0 (clusters_at (between_clusters l)).2 (exchanged (clusters_at (between_clusters l)) l.text) l else l).text
+      by_test true =
+          let s = between_span (l.place == length l.text) in
+          replayed_all-one _ l.text ∙ replayed_replacement l.text _ _ _ s.0 s.1
+      by_test false = replayed_all-none l.text

@@ -1,0 +1,44 @@
+-- Two parts of a text exchanged, the later one first.
+use Rattle.std.proofs.Common.{◌≡◌, ℕ, ◌+◌, ◌-◌, ◌≤◌, List, ◌∷◌, ◌++◌, length, take, drop, sym, ap, ◌∙◌, subst, arith, append_assoc, length-append}
+use Rattle.std.specs.Prelude.{IsUtf8, IsCharBoundary, slice_range}
+use Rattle.std.specs.List.{replace_range}
+use Rattle.std.proofs.lemmas.List.{length-take-le, length-drop, drop-append-le}
+use Rattle.std.proofs.lemmas.Str.{IsUtf8-drop}
+use Rattle.line_buffer.specs.Event.{Event}
+use Rattle.line_buffer.specs.Replay.{Replays, StopsAmong, replacement}
+use Rattle.line_buffer.specs.Transpositions.{Pair}
+use Rattle.line_buffer.proofs.CutLemmas.{at_seam}
+use Rattle.line_buffer.proofs.ReplayLemmas.{reports_one, stops_later}
+
+-- the second exchange was refused
+pub swap_stops : {S : Type 0} (takes refuses : S → Event → S → Type 0) (p : Pair) (text added b : List ℕ) (later : List Event) (s t u : S) (c : List ℕ)
+    → added ≡ slice_range text p.first_start p.first_end
+    → takes s (replacement p.second_start p.second_end added text) t → Replays (replacement p.second_start p.second_end added text) text b → StopsAmong takes refuses later t u b c
+    → StopsAmong takes refuses (replacement p.second_start p.second_end (slice_range text p.first_start p.first_end) text ∷ later) s u text c
+swap_stops takes refuses p text added b later s t u c e told replays stopped =
+    subst (λ x. StopsAmong takes refuses (replacement p.second_start p.second_end x text ∷ later) s u text c) e
+    (stops_later (reports_one takes _ s t text b told replays) stopped)
+
+-- behind both parts there is still the same text
+pub behind_both : (text x y : List ℕ) (a b c d : ℕ) → IsUtf8 text → IsCharBoundary text d → a ≤ b → b ≤ c → c ≤ d → length x ≡ b - a → length y ≡ d - c
+    → IsCharBoundary (replace_range (replace_range text c d x) a b y) d
+behind_both text x y a b c d u e ab bc cd lx ly =
+    at_seam _ ((take a m ++ y) ++ drop b front) (drop d text) d parts long (IsUtf8-drop text d u e)
+  where
+    front : List ℕ
+    front = take c text ++ x
+
+    m : List ℕ
+    m = front ++ drop d text
+
+    size : length front ≡ c + length x
+    size = length-append (take c text) x ∙ ap (λ n. n + length x) (length-take-le c text (omega (arith, cd, e.0)))
+
+    whole : a ≤ length m
+    whole = omega (arith, size, length-append front (drop d text), ab, bc)
+
+    parts : (take a m ++ y) ++ drop b m ≡ ((take a m ++ y) ++ drop b front) ++ drop d text
+    parts = ap (λ xs. (take a m ++ y) ++ xs) (drop-append-le b front (drop d text) (omega (arith, size, bc))) ∙ sym (append_assoc (take a m ++ y) (drop b front) (drop d text))
+
+    long : length ((take a m ++ y) ++ drop b front) ≡ d
+    long = omega (arith, length-append (take a m ++ y) (drop b front), length-append (take a m) y, length-take-le a m whole, length-drop b front, size, lx, ly, ab, bc, cd)

@@ -1,0 +1,231 @@
+-- Sums of columns that stop at the most that a number of columns can be, and the parts of a text between joiners.
+use Rattle.std.proofs.Common.{lit<, ◌≡◌, ℕ, zero, suc, ◌||◌, nat_lt, ◌+◌, ◌<◌, ◌≤◌, ◌==◌, min, Bool, true, false, cond, ◌&&◌, List, [], ◌∷◌, ◌++◌, length, take, drop, Option, None, Some, refl, sym, ap, ◌∙◌, subst, arith, append_assoc, take-append-drop}
+use Rattle.std.specs.Prelude.{chars, encode_utf8, encode_utf8_all, sum_by, IsUtf8, MatchOption, All}
+use Rattle.std.specs.Int.{is_in_range}
+use Rattle.std.specs.List.{fold, slice_split, onto_first, list_all}
+use Rattle.std.specs.Str.{IsAscii, NonePass, NoCharPasses}
+use Rattle.std.specs.Str.Pattern.{FindsChar}
+use Rattle.std.specs.Str.Iter.{split_steps, split_text, split_has_more, split_pattern}
+use Rattle.std.proofs.lemmas.Bool.{and_parts}
+use Rattle.std.proofs.lemmas.Bool.Decides.{nat_tests}
+use Rattle.std.proofs.lemmas.Iterator.{YieldsList}
+use Rattle.std.proofs.lemmas.Iterator.Splits.{YieldsList-from_shown_while}
+use Rattle.std.proofs.lemmas.List.Elements.{All-nil, All-cons}
+use Rattle.std.proofs.lemmas.List.Splits.{slice_split_none, slice_split_at}
+use Rattle.std.proofs.lemmas.List.Sums.{sum_by-cons, sum_by-append}
+use Rattle.std.proofs.lemmas.Str.{chars-encodes, chars_from_encodes, encodes-chars, scalars-chars, cons_from_encodes, len_utf8_bounds, chars-append, chars-IsAscii}
+use lib.Utf8.{scalar, scalars}
+use borrow.Author.Tests.{eq-eqb}
+use Rattle.unicode_width.specs.Kind.{kind}
+use Rattle.unicode_width.specs.Width.{str_width, char_width}
+use Rattle.unicode_width.proofs.Rules.{is_simple, is_simple_kind, str_width-printable, str_width-append_simple}
+use Rattle.line_buffer.specs.declared.layout.GraphemeClusterMode.{GraphemeClusterMode}
+use Rattle.line_buffer.specs.declared.layout.GraphemeClusterMode.TheVariants.{Unicode, WcWidth, NoZwj}
+use Rattle.line_buffer.specs.Width.{char_columns_of, unjoined, columns_of, width_of}
+
+-- ---- sums that stop
+
+stops_from : {A : Type 0} (w : A → ℕ) (a : ℕ) (xs : List A) → a ≤ 65535 → fold (λ t x. min (t + w x) 65535) a xs ≡ min (a + sum_by w xs) 65535
+stops_from w a [] h = omega arith
+stops_from w a (x ∷ xs) h = stops_from w (min (a + w x) 65535) xs (omega arith) ∙ omega (arith, sum_by-cons w x xs)
+
+pub stopped_sum : {A : Type 0} (w : A → ℕ) (xs : List A) → fold (λ t x. min (t + w x) 65535) 0 xs ≡ min (sum_by w xs) 65535
+stopped_sum w xs = stops_from w 0 xs (omega arith) ∙ omega arith
+
+-- where each part stops too
+parts_from : {A : Type 0} (w : A → ℕ) (a : ℕ) (xs : List A) → a ≤ 65535 → fold (λ t x. min (t + min (w x) 65535) 65535) a xs ≡ min (a + sum_by w xs) 65535
+parts_from w a [] h = omega arith
+parts_from w a (x ∷ xs) h = parts_from w (min (a + min (w x) 65535) 65535) xs (omega arith) ∙ omega (arith, sum_by-cons w x xs)
+
+pub stopped_parts : {A : Type 0} (w : A → ℕ) (xs : List A) → fold (λ t x. min (t + min (w x) 65535) 65535) 0 xs ≡ min (sum_by w xs) 65535
+stopped_parts w xs = parts_from w 0 xs (omega arith) ∙ omega arith
+
+-- ---- a text cut at a character
+
+All-from_NonePass : (p : ℕ → Bool) (cs : List ℕ) → NonePass p cs → All (λ c. p c ≡ false) cs
+All-from_NonePass p [] h = All-nil (λ c. p c ≡ false)
+All-from_NonePass p (c ∷ cs) h = All-cons (λ x. p x ≡ false) c cs h.0 (All-from_NonePass p cs h.1)
+
+record Fronted (ds cs : List ℕ) (rest : List ℕ) : Type 0 where
+  back : List ℕ
+  whole : ds ≡ cs ++ back
+  bytes : encode_utf8_all back ≡ rest
+  front_ok : scalars cs ≡ true
+  back_ok : scalars back ≡ true
+
+fronted : (cs ds rest : List ℕ) → scalars ds ≡ true → encode_utf8_all ds ≡ encode_utf8_all cs ++ rest → Fronted ds cs rest
+fronted [] ds rest u e = record { back = ds; whole = refl; bytes = e; front_ok = refl; back_ok = u }
+fronted (c ∷ cs) ds rest u e =
+    let m = cons_from_encodes ds (encode_utf8_all cs ++ rest) c (e ∙ append_assoc (encode_utf8 c) (encode_utf8_all cs) rest) in
+    let parts = and_parts (scalar c) (scalars m.0) (ap scalars (sym m.1) ∙ u) in
+    let k = fronted cs m.0 rest parts.1 m.2 in
+    record {
+      back = k.back;
+      whole = m.1 ∙ ap (λ l. c ∷ l) k.whole;
+      bytes = k.bytes;
+      front_ok = ap (λ b. b && scalars cs) parts.0 ∙ k.front_ok;
+      back_ok = k.back_ok;
+    }
+
+-- the characters before the first c, and the text behind it
+record CutAt (c : ℕ) (w x rest : List ℕ) : Type 0 where
+  whole : chars w ≡ chars x ++ (c ∷ chars rest)
+  none : All (λ d. (d == c) ≡ false) (chars x)
+  utf8 : IsUtf8 rest
+
+cut_at : (c : ℕ) (w x rest : List ℕ) → IsUtf8 w → NoCharPasses (λ d. d == c) x → w ≡ x ++ (encode_utf8 c ++ rest) → CutAt c w x rest
+cut_at c w x rest u h e =
+    let all = fronted h.0 (chars w) (encode_utf8 c ++ rest) (scalars-chars w u) (encodes-chars w u ∙ e ∙ ap (λ t. t ++ (encode_utf8 c ++ rest)) (sym h.1)) in
+    let m = cons_from_encodes all.back rest c all.bytes in
+    let parts = and_parts (scalar c) (scalars m.0) (ap scalars (sym m.1) ∙ all.back_ok) in
+    let front : h.0 ≡ chars x = sym (chars-encodes h.0 all.front_ok) ∙ ap chars h.1 in
+    let back : m.0 ≡ chars rest = sym (chars-encodes m.0 parts.1) ∙ ap chars m.2 in
+    record {
+      whole = all.whole ∙ ap (λ l. h.0 ++ l) (m.1 ∙ ap (λ l. c ∷ l) back) ∙ ap (λ l. l ++ (c ∷ chars rest)) front;
+      none = subst (All (λ d. (d == c) ≡ false)) front (All-from_NonePass (λ d. d == c) h.0 h.2);
+      utf8 = (m.0, (parts.1, m.2));
+    }
+
+part_off : (c : ℕ) (w x rest : List ℕ) (live : Bool) (o : Option (ℕ × ℕ)) → IsUtf8 w → FindsChar c w o
+    → MatchOption o ((x ≡ w) × (live ≡ false)) (λ q. 0 < q.1 → (x ≡ take q.0 w) × (live ≡ true) × (rest ≡ drop q.1 w))
+    → (slice_split (λ d. d == c) (chars w) ≡ chars x ∷ cond live (slice_split (λ d. d == c) (chars rest)) []) × (live ≡ true → IsUtf8 rest)
+part_off c w x rest live None u h is = (
+  slice_split_none (λ d. d == c) (chars w) (subst (All (λ d. (d == c) ≡ false)) (chars_from_encodes h.0 w u h.1) (All-from_NonePass (λ d. d == c) h.0 h.2))
+      ∙ ap (λ t. chars t ∷ []) (sym is.0) ∙ ap (λ b. chars x ∷ cond b (slice_split (λ d. d == c) (chars rest)) []) (sym is.1),
+  λ yes. absurd (no (sym is.1 ∙ yes)),
+)
+  where
+    no : false ≡ true → ⊥
+    no e = cc
+part_off c w x rest live (Some q) u h is =
+    let some : 0 < q.1 = omega (arith, h.1.ends, (len_utf8_bounds c).0) in
+    let found = is some in
+    let whole : w ≡ x ++ (encode_utf8 c ++ rest) = sym (take-append-drop q.0 w) ∙ ap (λ t. t ++ drop q.0 w) (sym found.0) ∙ ap (λ t. x ++ t) (h.1.split ∙ ap (λ t. encode_utf8 c ++ t) (sym found.2)) in
+    let cut = cut_at c w x rest u (subst (NoCharPasses (λ d. d == c)) (sym found.0) h.0) whole in (
+      ap (slice_split (λ d. d == c)) cut.whole ∙ slice_split_at (λ d. d == c) (chars x) c (chars rest) cut.none (eq-eqb c c refl)
+          ∙ ap (λ b. chars x ∷ cond b (slice_split (λ d. d == c) (chars rest)) []) (sym found.1),
+      λ _. cut.utf8,
+    )
+
+-- the parts of a text, as characters; the last three facts are the clauses `text`, `has_more` and `pattern` of `split`
+pub YieldsList-from_split_char : {s : _} (c : ℕ) (bs : List ℕ) → IsUtf8 bs → split_text s ≡ bs → split_has_more s ≡ true → split_pattern s ≡ c
+    → YieldsList (split_steps FindsChar (λ a b. b ≡ a)) (λ x. chars x.now) s (slice_split (λ d. d == c) (chars bs))
+YieldsList-from_split_char {s} c bs u text more pattern =
+    let parts = λ (t : List ℕ). slice_split (λ d. d == c) (chars t) in
+    let shown = λ (t : _). cond (split_has_more t) (parts (split_text t)) [] in
+    subst (YieldsList (split_steps FindsChar (λ a b. b ≡ a)) (λ x. chars x.now) s) (λ i. cond (more i) (parts (text i)) [])
+    (YieldsList-from_shown_while (split_steps FindsChar (λ a b. b ≡ a)) (λ x. chars x.now) shown (λ t. (split_pattern t ≡ c) × (split_has_more t ≡ true → IsUtf8 (split_text t)))
+    (λ t v h k. ap (λ b. length (cond b (parts (split_text t)) [])) (sym k.0))
+    (λ t x v h k.
+    let cut = k.1.1.1 in
+    let off = part_off c (split_text t) x.now (split_text v) (split_has_more v) cut.0 (h.1 (sym k.0)) (subst (λ d. FindsChar d (split_text t) cut.0) h.0 cut.1) cut.2 in (
+      (k.1.0 ∙ h.0, off.1),
+      ap (λ b. cond b (parts (split_text t)) []) (sym k.0) ∙ off.0,
+    ))
+    s (pattern, λ _. subst IsUtf8 (sym text) u))
+
+-- ---- one printable ASCII character more at the end is one column more
+
+printable_simple : (c : ℕ) → is_in_range 0x20 0x7E c ≡ true → list_all is_simple (c ∷ []) ≡ true
+printable_simple c h = ap (λ b. (b || (nat_lt 0xA0 c && is_simple_kind (kind c))) && true) h
+
+printable_width : (c : ℕ) → is_in_range 0x20 0x7E c ≡ true → str_width false (c ∷ []) ≡ 1
+printable_width c h = str_width-printable false (c ∷ []) (ap (λ b. b && true) h)
+
+printable_alone : (c : ℕ) → is_in_range 0x20 0x7E c ≡ true → char_columns_of c ≡ 1
+unfolding char_width
+printable_alone c h = grind (arith, nat_tests)
+
+printable_text : (cs : List ℕ) (c : ℕ) → is_in_range 0x20 0x7E c ≡ true → str_width false (cs ++ c ∷ []) ≡ str_width false cs + 1
+printable_text cs c h = str_width-append_simple false cs (c ∷ []) (printable_simple c h) ∙ ap (λ n. str_width false cs + n) (printable_width c h)
+
+-- of the parts between joiners the last one is longer
+data Longer (c : ℕ) : List (List ℕ) → List (List ℕ) → Type 0 where
+  only : (part : List ℕ) → Longer c (part ∷ []) ((part ++ c ∷ []) ∷ [])
+  later : (part : List ℕ) (rest more : List (List ℕ)) → sum_by (str_width false) more ≡ sum_by (str_width false) rest + 1 → Longer c (part ∷ rest) (part ∷ more)
+
+longer_sum : (c : ℕ) (xs ys : List (List ℕ)) → is_in_range 0x20 0x7E c ≡ true → Longer c xs ys → sum_by (str_width false) ys ≡ sum_by (str_width false) xs + 1
+longer_sum c xs ys h (only part) = omega (arith, sum_by-cons (str_width false) part [], sum_by-cons (str_width false) (part ++ c ∷ []) [], printable_text part c h)
+longer_sum c xs ys h (later part rest more e) = omega (arith, sum_by-cons (str_width false) part rest, sum_by-cons (str_width false) part more, e)
+
+longer_first : (c x : ℕ) (xs ys : List (List ℕ)) → Longer c xs ys → Longer c (onto_first x xs) (onto_first x ys)
+longer_first c x xs ys (only part) = only (x ∷ part)
+longer_first c x xs ys (later part rest more e) = later (x ∷ part) rest more e
+
+longer_parts : (c : ℕ) (cs : List ℕ) → is_in_range 0x20 0x7E c ≡ true → Longer c (unjoined cs) (unjoined (cs ++ c ∷ []))
+longer_parts c [] h = subst (Longer c ([] ∷ [])) (sym (slice_split_none (λ d. d == 0x200D) (c ∷ []) (All-cons (λ d. (d == 0x200D) ≡ false) c [] (not_joiner c h) (All-nil (λ d. (d == 0x200D) ≡ false))))) (only [])
+  where
+    not_joiner : (c : ℕ) → is_in_range 0x20 0x7E c ≡ true → (c == 0x200D) ≡ false
+    not_joiner c h = grind (arith, nat_tests)
+longer_parts c (x ∷ cs) h = by (x == 0x200D) (unjoined cs) (unjoined (cs ++ c ∷ [])) (longer_parts c cs h)
+  where
+    by : (b : Bool) (xs ys : List (List ℕ)) → Longer c xs ys → Longer c (cond b ([] ∷ xs) (onto_first x xs)) (cond b ([] ∷ ys) (onto_first x ys))
+    by true xs ys k = later [] xs ys (longer_sum c xs ys h k)
+    by false xs ys k = longer_first c x xs ys k
+
+columns-printable_end : (mode : GraphemeClusterMode) (cs : List ℕ) (c : ℕ) → is_in_range 0x20 0x7E c ≡ true → columns_of mode (cs ++ c ∷ []) ≡ columns_of mode cs + 1
+columns-printable_end Unicode cs c h = printable_text cs c h
+columns-printable_end WcWidth cs c h = sum_by-append char_columns_of cs (c ∷ []) ∙ omega (arith, sum_by-cons char_columns_of c [], printable_alone c h)
+columns-printable_end NoZwj cs c h = longer_sum c (unjoined cs) (unjoined (cs ++ c ∷ [])) h (longer_parts c cs h)
+
+one_char : (c : ℕ) → is_in_range 0x20 0x7E c ≡ true → chars (c ∷ []) ≡ c ∷ []
+one_char c h = let low : c < 128 = grind (arith, nat_tests) in chars-IsAscii (c ∷ []) (one_ascii c low)
+  where
+    one_ascii : (c : ℕ) → c < 128 → IsAscii (c ∷ [])
+    one_ascii c l zero = l
+    one_ascii c l (suc i) = omega arith
+
+-- a text, by its bytes: in each mode a printable ASCII character at its end has a column
+pub width-printable_end : (mode : GraphemeClusterMode) (text : List ℕ) (c : ℕ) → IsUtf8 text → is_in_range 0x20 0x7E c ≡ true → width_of mode (text ++ c ∷ []) ≡ min (width_of mode text + 1) 65535
+width-printable_end mode text c u h =
+    let n : columns_of mode (chars (text ++ c ∷ [])) ≡ columns_of mode (chars text) + 1 =
+    ap (columns_of mode) (chars-append text (c ∷ []) u ∙ ap (λ l. chars text ++ l) (one_char c h)) ∙ columns-printable_end mode (chars text) c h in
+    omega (arith, n)
+
+-- ---- a text of printable ASCII has as many columns as characters
+
+abbrev pub is_printable_text : List ℕ → Bool
+is_printable_text text = list_all (is_in_range 0x20 0x7E) text
+
+printable_ascii : (text : List ℕ) → is_printable_text text ≡ true → IsAscii text
+printable_ascii [] h i = lit< tt
+printable_ascii (b ∷ bs) h zero = let k = (and_parts (is_in_range 0x20 0x7E b) (is_printable_text bs) h).0 in low b k
+  where
+    low : (b : ℕ) → is_in_range 0x20 0x7E b ≡ true → b < 128
+    low b h = grind (arith, nat_tests)
+printable_ascii (b ∷ bs) h (suc i) = printable_ascii bs (and_parts (is_in_range 0x20 0x7E b) (is_printable_text bs) h).1 i
+
+all_alone : (text : List ℕ) → is_printable_text text ≡ true → sum_by char_columns_of text ≡ length text
+all_alone [] h = refl
+all_alone (b ∷ bs) h =
+    let parts = and_parts (is_in_range 0x20 0x7E b) (is_printable_text bs) h in
+    omega (arith, sum_by-cons char_columns_of b bs, printable_alone b parts.0, all_alone bs parts.1)
+
+not_joiners : (text : List ℕ) → is_printable_text text ≡ true → All (λ d. (d == 0x200D) ≡ false) text
+not_joiners [] h = All-nil (λ d. (d == 0x200D) ≡ false)
+not_joiners (b ∷ bs) h =
+    let parts = and_parts (is_in_range 0x20 0x7E b) (is_printable_text bs) h in
+    All-cons (λ d. (d == 0x200D) ≡ false) b bs (other b parts.0) (not_joiners bs parts.1)
+  where
+    other : (b : ℕ) → is_in_range 0x20 0x7E b ≡ true → (b == 0x200D) ≡ false
+    other b h = grind (arith, nat_tests)
+
+columns-printable : (mode : GraphemeClusterMode) (text : List ℕ) → is_printable_text text ≡ true → columns_of mode text ≡ length text
+columns-printable Unicode text h = str_width-printable false text h
+columns-printable WcWidth text h = all_alone text h
+columns-printable NoZwj text h =
+    ap (sum_by (str_width false)) (slice_split_none (λ d. d == 0x200D) text (not_joiners text h))
+    ∙ omega (arith, sum_by-cons (str_width false) text [], str_width-printable false text h)
+
+pub width-printable : (mode : GraphemeClusterMode) (text : List ℕ) → is_printable_text text ≡ true → width_of mode text ≡ min (length text) 65535
+width-printable mode text h = ap (λ n. min n 65535) (ap (columns_of mode) (chars-IsAscii text (printable_ascii text h)) ∙ columns-printable mode text h)
+
+pub width-plain : (mode : GraphemeClusterMode) (text : List ℕ) → All (λ c. (32 ≤ c) × (c < 127)) text → width_of mode text ≡ min (length text) 65535
+width-plain mode text h = width-printable mode text (by text h)
+  where
+    one : (c : ℕ) → (32 ≤ c) × (c < 127) → is_in_range 0x20 0x7E c ≡ true
+    one c h = let low = h.0 in let high = h.1 in grind (arith, nat_tests)
+
+    by : (text : List ℕ) → All (λ c. (32 ≤ c) × (c < 127)) text → is_printable_text text ≡ true
+    by [] h = refl
+    by (c ∷ cs) h = ap (λ b. b && is_printable_text cs) (one c (h 0 c (omega arith))) ∙ by cs (λ k d l. h (suc k) d (omega (arith, l)))

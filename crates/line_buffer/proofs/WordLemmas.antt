@@ -1,0 +1,96 @@
+-- The edges of words in a list of clusters, taken apart from its front and from its back.
+use Rattle.std.proofs.Common.{◌≡◌, ℕ, suc, ◌-◌, ◌<◌, Bool, true, false, cond, if◌then◌else◌, List, [], ◌∷◌, ◌++◌, map, reverse, Option, None, Some, refl, sym, ap, ◌∙◌, arith}
+use Rattle.std.specs.Prelude.{slice_get, option_to_list}
+use Rattle.std.proofs.lemmas.List.{reverse-append, append-nil, append_assoc, map-append}
+use Rattle.line_buffer.specs.declared.types.At.{At}
+use Rattle.line_buffer.specs.declared.types.At.TheVariants.{Start, BeforeEnd, AfterEnd}
+use Rattle.line_buffer.specs.declared.types.Word.{Word}
+use Rattle.line_buffer.specs.declared.words.Kind.{Kind}
+use Rattle.line_buffer.specs.Words.{kind_of, kinds, starts_between, ends_between, starts_of, ends_of, lasts_of, edges_of, edge_between}
+
+one_more : {A : Type 0} (f : A → ℕ) (b : Bool) (p : A) (rest : List A) → map f (cond b (p ∷ rest) rest) ≡ option_to_list (if b then Some (f p) else None) ++ map f rest
+one_more f true p rest = refl
+one_more f false p rest = refl
+
+pub edges_of-nil : (at : At) → edges_of at [] ≡ []
+unfolding starts_of ends_of lasts_of
+edges_of-nil Start = refl
+edges_of-nil BeforeEnd = refl
+edges_of-nil AfterEnd = refl
+
+pub edges_of-one : (at : At) (x : ℕ × Kind) → edges_of at (x ∷ []) ≡ []
+unfolding starts_of ends_of lasts_of
+edges_of-one Start x = refl
+edges_of-one BeforeEnd x = refl
+edges_of-one AfterEnd x = refl
+
+pub edges_of-cons : (at : At) (x y : ℕ × Kind) (more : List (ℕ × Kind)) → edges_of at (x ∷ (y ∷ more)) ≡ option_to_list (edge_between at x y) ++ edges_of at (y ∷ more)
+unfolding starts_of ends_of lasts_of
+edges_of-cons Start x y more = one_more (λ p. p.1.0) (starts_between x.1 y.1) (x, y) _
+edges_of-cons BeforeEnd x y more = one_more (λ p. p.0.0) (ends_between x.1 y.1) (x, y) _
+edges_of-cons AfterEnd x y more = one_more (λ p. p.1.0) (ends_between x.1 y.1) (x, y) _
+
+-- one cluster more at the end
+pub edges_of-snoc : (at : At) (xs : List (ℕ × Kind)) (x y : ℕ × Kind) → edges_of at (xs ++ x ∷ (y ∷ [])) ≡ edges_of at (xs ++ x ∷ []) ++ option_to_list (edge_between at x y)
+edges_of-snoc at [] x y =
+    edges_of-cons at x y [] ∙ ap (λ zs. option_to_list (edge_between at x y) ++ zs) (edges_of-one at y) ∙ append-nil (option_to_list (edge_between at x y))
+    ∙ ap (λ zs. zs ++ option_to_list (edge_between at x y)) (sym (edges_of-one at x))
+edges_of-snoc at (w ∷ []) x y =
+    edges_of-cons at w x (y ∷ []) ∙ ap (λ zs. option_to_list (edge_between at w x) ++ zs) (edges_of-snoc at [] x y)
+    ∙ sym (append_assoc (option_to_list (edge_between at w x)) (edges_of at (x ∷ [])) (option_to_list (edge_between at x y)))
+    ∙ ap (λ zs. zs ++ option_to_list (edge_between at x y)) (sym (edges_of-cons at w x []))
+edges_of-snoc at (w ∷ (v ∷ xs)) x y =
+    edges_of-cons at w v (xs ++ x ∷ (y ∷ [])) ∙ ap (λ zs. option_to_list (edge_between at w v) ++ zs) (edges_of-snoc at (v ∷ xs) x y)
+    ∙ sym (append_assoc (option_to_list (edge_between at w v)) (edges_of at ((v ∷ xs) ++ x ∷ [])) (option_to_list (edge_between at x y)))
+    ∙ ap (λ zs. zs ++ option_to_list (edge_between at x y)) (sym (edges_of-cons at w v (xs ++ x ∷ [])))
+
+-- the k-th of places of which the first may be missing
+pub get-missed : (rest : List ℕ) (o : Option ℕ) (k : ℕ) → o ≡ None → slice_get (option_to_list o ++ rest) k ≡ slice_get rest k
+get-missed rest o k e = ap (λ t. slice_get (option_to_list t ++ rest) k) e
+
+pub get-found : (place : ℕ) (rest : List ℕ) (o : Option ℕ) (k : ℕ) → o ≡ Some place → k ≡ 0 → slice_get (option_to_list o ++ rest) k ≡ Some place
+get-found place rest o k e z = ap (λ t. slice_get (option_to_list t ++ rest) k) e ∙ ap (slice_get (place ∷ rest)) z
+
+pub get-passed : (place : ℕ) (rest : List ℕ) (o : Option ℕ) (k j : ℕ) → o ≡ Some place → k ≡ suc j → slice_get (option_to_list o ++ rest) k ≡ slice_get rest j
+get-passed place rest o k j e z = ap (λ t. slice_get (option_to_list t ++ rest) k) e ∙ ap (slice_get (place ∷ rest)) z
+
+-- a turn of a search for the n-th place: what was to be found in `all` is found at its first place, or in the rest
+module _ (v : Option ℕ) (all rest : List ℕ) (o : Option ℕ) (split : all ≡ option_to_list o ++ rest) (missing : ℕ) (before : v ≡ slice_get all (missing - 1)) where
+  before_split : v ≡ slice_get (option_to_list o ++ rest) (missing - 1)
+  before_split = before ∙ ap (λ xs. slice_get xs (missing - 1)) split
+
+  pub turn_missed : o ≡ None → v ≡ slice_get rest (missing - 1)
+  turn_missed e = before_split ∙ get-missed rest o (missing - 1) e
+
+  pub turn_found : (place : ℕ) → o ≡ Some place → missing - 1 ≡ 0 → Some place ≡ v
+  turn_found place e z = sym (before_split ∙ get-found place rest o (missing - 1) e z)
+
+  pub turn_passed : (place : ℕ) → o ≡ Some place → 0 < missing - 1 → v ≡ slice_get rest (missing - 1 - 1)
+  turn_passed place e z = before_split ∙ get-passed place rest o (missing - 1) (missing - 1 - 1) e (omega (arith, z))
+
+-- the next cluster of a walk forward, and of one back
+module _ (at : At) (word : Word) (cur : ℕ × Kind) (old new : List (ℕ × List ℕ)) (x : ℕ × List ℕ) (k : Kind) (is : k ≡ kind_of word x.1) where
+  pub forward_split : old ≡ x ∷ new → edges_of at (cur ∷ kinds word old) ≡ option_to_list (edge_between at cur (x.0, k)) ++ edges_of at ((x.0, k) ∷ kinds word new)
+  forward_split came =
+      ap (λ xs. edges_of at (cur ∷ kinds word xs)) came ∙ edges_of-cons at cur (x.0, kind_of word x.1) (kinds word new)
+      ∙ ap (λ q. option_to_list (edge_between at cur (x.0, q)) ++ edges_of at ((x.0, q) ∷ kinds word new)) (sym is)
+
+  pub backward_split : old ≡ new ++ x ∷ [] → reverse (edges_of at (kinds word old ++ cur ∷ [])) ≡ option_to_list (edge_between at (x.0, k) cur) ++ reverse (edges_of at (kinds word new ++ (x.0, k) ∷ []))
+  backward_split came =
+      ap (λ xs. reverse (edges_of at (kinds word xs ++ cur ∷ []))) came
+      ∙ ap (λ xs. reverse (edges_of at xs)) (ap (λ xs. xs ++ cur ∷ []) (map-append (λ y. (y.0, kind_of word y.1)) new (x ∷ [])) ∙ append_assoc (kinds word new) ((x.0, kind_of word x.1) ∷ []) (cur ∷ []))
+      ∙ ap reverse (edges_of-snoc at (kinds word new) (x.0, kind_of word x.1) cur)
+      ∙ reverse-append (edges_of at (kinds word new ++ (x.0, kind_of word x.1) ∷ [])) (option_to_list (edge_between at (x.0, kind_of word x.1) cur))
+      ∙ ap (λ zs. zs ++ reverse (edges_of at (kinds word new ++ (x.0, kind_of word x.1) ∷ []))) (reverse_option (edge_between at (x.0, kind_of word x.1) cur))
+      ∙ ap (λ q. option_to_list (edge_between at (x.0, q) cur) ++ reverse (edges_of at (kinds word new ++ (x.0, q) ∷ []))) (sym is)
+    where
+      reverse_option : (o : Option ℕ) → reverse (option_to_list o) ≡ option_to_list o
+      reverse_option None = refl
+      reverse_option (Some i) = refl
+
+-- nothing is left
+pub none_in_one : (v : Option ℕ) (at : At) (cur : ℕ × Kind) (k : ℕ) → v ≡ slice_get (edges_of at (cur ∷ [])) k → None ≡ v
+none_in_one v at cur k e = sym (e ∙ ap (λ xs. slice_get xs k) (edges_of-one at cur))
+
+pub none_in_one_back : (v : Option ℕ) (at : At) (cur : ℕ × Kind) (k : ℕ) → v ≡ slice_get (reverse (edges_of at (cur ∷ []))) k → None ≡ v
+none_in_one_back v at cur k e = sym (e ∙ ap (λ xs. slice_get (reverse xs) k) (edges_of-one at cur))

@@ -1,0 +1,9 @@
+use Rattle.std.proofs.Common.{rules, subst}
+use Rattle.std.specs.Prelude.{IsCharBoundary}
+use Rattle.std.proofs.lemmas.Str.{IsUtf8-encode}
+use Rattle.line_buffer.proofs.ReplayLemmas.{swaps_insertion}
+use Rattle.line_buffer.proofs.line_buffer.LineBuffer.insert_char.Goals as goal
+
+pub returns-clause-replays : goal.returns-clause-replays
+returns-clause-replays g c =
+    swaps_insertion _ _ _ _ (subst (λ l. IsCharBoundary l.text l.place) c.self.view_is c.self.invariant) (IsUtf8-encode c.args.ch c.ranges.ch.0) (search rules)

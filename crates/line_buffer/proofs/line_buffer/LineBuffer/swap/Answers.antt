@@ -1,0 +1,41 @@
+use Rattle.std.proofs.lemmas.List.Edits.{length-between}
+use Rattle.std.specs.List.{replace_range}
+use Rattle.std.proofs.Common.{length, sym, ap, subst, ◌∙◌, refl, arith}
+use Rattle.std.specs.Prelude.{IsCharBoundary}
+use Rattle.line_buffer.proofs.CutLemmas.{before_replaced}
+use Rattle.line_buffer.proofs.ReplayLemmas.{stops_at_once, stops_at_once_on, stops_for_memory_on}
+use Rattle.line_buffer.proofs.TranspositionLemmas.{swap_stops, behind_both}
+use Rattle.line_buffer.proofs.line_buffer.LineBuffer.swap.Goals as goal
+
+pub returns-in_err-earlier-clause-stopped : goal.returns-in_err-earlier-clause-stopped
+returns-in_err-earlier-clause-stopped g c = stops_for_memory_on _ _ _ _ _ _ _ refl
+
+pub returns-in_err-later-clause-stopped : goal.returns-in_err-later-clause-stopped
+returns-in_err-later-clause-stopped g c = stops_for_memory_on _ _ _ _ _ _ _ refl
+
+pub returns-in_err-replace-clause-stopped : goal.returns-in_err-replace-clause-stopped
+returns-in_err-replace-clause-stopped g c =
+    stops_at_once_on _ _ _ _ _ _ _ _ _ c.in_err-replace.ensures.refused (ap (λ l. l.text) c.in_err-replace.ensures.kept)
+
+pub replace-requires-2-clause-start : goal.replace-requires-2-clause-start
+replace-requires-2-clause-start g c =
+    subst (λ l. IsCharBoundary l.text c.args.first.start) (sym c.in_ok-replace.ensures.line)
+    (before_replaced _ _ _ _ _ (omega arith) c.as_str-text.ensures.utf8 c.as_str.utf8 c.requires.first_start c.requires.second_start c.requires.second_end)
+
+pub replace-requires-2-clause-end : goal.replace-requires-2-clause-end
+replace-requires-2-clause-end g c =
+    subst (λ l. IsCharBoundary l.text c.args.first.end) (sym c.in_ok-replace.ensures.line)
+    (before_replaced _ _ _ _ _ c.requires.apart c.as_str-text.ensures.utf8 c.as_str.utf8 c.requires.first_end c.requires.second_start c.requires.second_end)
+
+pub set_pos-requires : goal.set_pos-requires
+set_pos-requires g c =
+    subst (λ l. IsCharBoundary l.text c.args.second.end) (sym (c.in-Ok.ensures.line))
+    (subst (λ l. IsCharBoundary (replace_range l.text c.args.first.start c.args.first.end c.as_str-2.result.now) c.args.second.end) (sym c.in_ok-replace.ensures.line)
+    (behind_both c.args.self.now.text c.as_str.result.now c.as_str-2.result.now _ _ _ _ c.as_str-text.ensures.utf8 c.requires.second_end c.requires.first c.requires.apart c.requires.second
+    (ap length (c.as_str.ensures.value ∙ c.in_ok-earlier.ensures) ∙ length-between _ _ _ c.requires.first_end.0)
+    (ap length (c.as_str-2.ensures.value ∙ c.in_ok-later.ensures) ∙ length-between _ _ _ c.requires.second_end.0)))
+
+pub returns-clause-stopped : goal.returns-clause-stopped
+returns-clause-stopped g c =
+    swap_stops _ _ _ _ _ _ _ _ _ _ _ (c.as_str.ensures.value ∙ c.in_ok-earlier.ensures) c.in_ok-replace.ensures.told c.in_ok-replace.ensures.replays
+    (stops_at_once _ _ _ _ _ _ _ _ c.in-Err.ensures.refused (ap (λ l. l.text) c.in-Err.ensures.kept))

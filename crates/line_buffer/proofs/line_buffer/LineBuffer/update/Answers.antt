@@ -1,0 +1,28 @@
+use Rattle.std.proofs.Common.{◌≡◌, sym, ap, subst, ◌∙◌, inr}
+use Rattle.std.specs.Prelude.{IsCharBoundary}
+use Rattle.std.specs.List.{insert_slice}
+use Rattle.std.proofs.lemmas.List.{append-nil}
+use Rattle.std.proofs.lemmas.Str.{IsCharBoundary-start}
+use Rattle.line_buffer.proofs.ReplayLemmas.{stops_at_once, stops_at_once_on, stops_later, reports_one}
+use Rattle.line_buffer.proofs.line_buffer.LineBuffer.update.Goals as goal
+
+pub returns-in_err-delete_all-clause-stopped : goal.returns-in_err-delete_all-clause-stopped
+returns-in_err-delete_all-clause-stopped g c =
+    stops_at_once_on _ _ _ _ _ _ _ _ _ (inr c.in_err-delete_all.ensures.refused) (ap (λ l. l.text) c.in_err-delete_all.ensures.kept)
+
+pub insert_str-requires-clause-cursor : goal.insert_str-requires-clause-cursor
+insert_str-requires-clause-cursor g c =
+    subst (λ l. IsCharBoundary (insert_slice l.text 0 c.kept-kept.result.now) l.place) (sym c.in_ok-delete_all.ensures.line)
+    (subst (λ t. IsCharBoundary t 0) (sym (append-nil c.kept-kept.result.now)) (IsCharBoundary-start _ c.kept-kept.ensures.utf8))
+
+pub set_pos-requires : goal.set_pos-requires
+set_pos-requires g c =
+    let same : c.insert_str.new.self.text ≡ c.kept-kept.result.now =
+    ap (λ l. l.text) c.in-Ok.ensures.line ∙ ap (λ l. insert_slice l.text 0 c.kept-kept.result.now) c.in_ok-delete_all.ensures.line
+    ∙ append-nil c.kept-kept.result.now in
+    subst (λ t. IsCharBoundary t c.min.result) (sym same) (subst (IsCharBoundary c.kept-kept.result.now) (sym c.min.ensures) (c.kept-kept.ensures.cursor c.args.pos c.requires))
+
+pub returns-in-Err-clause-stopped : goal.returns-in-Err-clause-stopped
+returns-in-Err-clause-stopped g c =
+    stops_later (reports_one _ _ _ _ _ _ c.in_ok-delete_all.ensures.told c.in_ok-delete_all.ensures.replays)
+    (stops_at_once _ _ _ _ _ _ _ _ c.in-Err.ensures.refused (ap (λ l. l.text) c.in-Err.ensures.kept))

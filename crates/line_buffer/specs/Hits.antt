@@ -1,0 +1,59 @@
+-- The places of a character in a text, and the places that searches for a character take.
+use Rattle.std.specs.Prelude.{ℕ, ◌+◌, ◌==◌, List, [], ◌∷◌, length, map, reverse, filter, take, drop, chars, encode_utf8, Option, None, option_map, unwrap_or}
+use Rattle.std.specs.List.{last_or}
+use Rattle.line_buffer.specs.declared.types.CharSearch.{CharSearch}
+use Rattle.line_buffer.specs.declared.types.CharSearch.TheVariants.{Forward, ForwardBefore, Backward, BackwardAfter}
+use Rattle.line_buffer.specs.Line.{Line, text_before}
+use Rattle.line_buffer.specs.Clusters.{nth_or_last, place_forward}
+
+unfoldable pub chars_placed : ℕ → List ℕ → List (ℕ × ℕ)
+chars_placed at [] = []
+chars_placed at (c ∷ cs) = (at, c) ∷ chars_placed (at + length (encode_utf8 c)) cs
+
+-- the characters of a text, each with the place of its first byte
+abbrev pub placed_chars : List ℕ → List (ℕ × ℕ)
+placed_chars text = chars_placed 0 (chars text)
+
+-- the places of a character in a text that stands at a place
+abbrev pub hits_from : ℕ → ℕ → List ℕ → List ℕ
+hits_from at c text = map (λ x. x.0) (filter (λ x. x.1 == c) (chars_placed at (chars text)))
+
+abbrev pub hits : ℕ → List ℕ → List ℕ
+hits c text = hits_from 0 c text
+
+-- the place of a text's last character
+abbrev pub last_char : List ℕ → ℕ
+last_char text = unwrap_or (option_map (λ x. x.0) (last_or None (placed_chars text))) 0
+
+-- the end of the cluster at the cursor
+abbrev pub past_cluster : Line → ℕ
+past_cluster l = unwrap_or (place_forward 1 l) l.place
+
+-- the n-th place of a character behind the cluster at the cursor
+abbrev pub hit_forward : ℕ → ℕ → Line → Option ℕ
+hit_forward c n l = option_map (λ i. past_cluster l + i) (nth_or_last n (hits c (drop (past_cluster l) l.text)))
+
+-- and before the cursor, the nearest first
+abbrev pub hit_backward : ℕ → ℕ → Line → Option ℕ
+hit_backward c n l = nth_or_last n (reverse (hits c (text_before l)))
+
+-- the character that a search looks for
+abbrev pub searched_char : CharSearch → ℕ
+searched_char (Forward c) = c
+searched_char (ForwardBefore c) = c
+searched_char (Backward c) = c
+searched_char (BackwardAfter c) = c
+
+-- the place of the character that a search finds
+abbrev pub hit : CharSearch → ℕ → Line → Option ℕ
+hit (Forward c) n l = hit_forward c n l
+hit (ForwardBefore c) n l = hit_forward c n l
+hit (Backward c) n l = hit_backward c n l
+hit (BackwardAfter c) n l = hit_backward c n l
+
+-- the place that the cursor takes: the hit's, one character before it, or right behind it
+abbrev pub search_place : CharSearch → ℕ → Line → Option ℕ
+search_place (Forward c) n l = hit_forward c n l
+search_place (ForwardBefore c) n l = option_map (λ i. last_char (take i l.text)) (hit_forward c n l)
+search_place (Backward c) n l = hit_backward c n l
+search_place (BackwardAfter c) n l = option_map (λ i. i + length (encode_utf8 c)) (hit_backward c n l)

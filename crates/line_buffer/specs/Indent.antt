@@ -1,0 +1,60 @@
+-- Rows moved in or out by spaces.
+use Rattle.std.specs.Prelude.{ℕ, ◌+◌, ◌-◌, ◌==◌, Bool, if◌then◌else◌, List, [], ◌∷◌, length, take, take_while, slice_range, chars, encode_utf8_all, unwrap_or}
+use Rattle.std.specs.List.{slice_split, repeat}
+use Rattle.std.specs.Char.{is_whitespace}
+use Rattle.line_buffer.specs.declared.types.Direction.TheVariants.{Forward}
+use Rattle.line_buffer.specs.declared.types.Movement.{Movement}
+use Rattle.line_buffer.specs.declared.types.Movement.TheVariants.{BackwardWord, ForwardWord, LineUp, LineDown, WholeBuffer, BeginningOfBuffer, EndOfBuffer}
+use Rattle.line_buffer.specs.Clusters.{nth_or_last}
+use Rattle.line_buffer.specs.Event.{Event}
+use Rattle.line_buffer.specs.Event.Event.{Delete}
+use Rattle.line_buffer.specs.Line.{Line}
+use Rattle.line_buffer.specs.Replay.{insertion}
+use Rattle.line_buffer.specs.Replayed.{carried_all}
+use Rattle.line_buffer.specs.Rows.{row_start, row_end}
+use Rattle.line_buffer.specs.RowRanges.{starts_above, starts_below}
+use Rattle.line_buffer.specs.Words.{prev_word, next_word}
+
+-- a place in the first row and one in the last row that a movement covers
+abbrev pub covered : Movement → Line → ℕ × ℕ
+covered (BackwardWord n word) l = (unwrap_or (prev_word word n l) l.place, l.place)
+covered (ForwardWord n at word) l = (l.place, unwrap_or (next_word at word n l) l.place)
+covered (LineUp n) l = (unwrap_or (nth_or_last n (starts_above l)) l.place, l.place)
+covered (LineDown n) l = (l.place, unwrap_or (nth_or_last n (starts_below l)) l.place)
+covered WholeBuffer l = (0, length l.text)
+covered BeginningOfBuffer l = (0, l.place)
+covered EndOfBuffer l = (l.place, length l.text)
+covered movement l = (l.place, l.place)
+
+-- the rows of a text, without their newlines
+abbrev pub rows_of : List ℕ → List (List ℕ)
+rows_of text = slice_split (λ byte. byte == 10) text
+
+-- the whitespace at the front of a row, at most so many characters of it
+abbrev pub leading : ℕ → List ℕ → List ℕ
+leading count row = encode_utf8_all (take count (take_while is_whitespace (chars row)))
+
+-- what is told of the row that starts at a place: it gets the margin, or loses at most as many characters
+abbrev pub row_event : List ℕ → Bool → ℕ → List ℕ → Event
+row_event margin dedent at row = if dedent then Delete at (leading (length margin) row) Forward else insertion at margin
+
+-- how long the row is afterwards
+abbrev pub row_len : List ℕ → Bool → List ℕ → ℕ
+row_len margin dedent row = if dedent then length row - length (leading (length margin) row) else length row + length margin
+
+-- one event for each row, the first row first, where that one starts at a place
+unfoldable pub row_events : List ℕ → Bool → ℕ → List (List ℕ) → List Event
+row_events margin dedent at [] = []
+row_events margin dedent at (row ∷ rows) = row_event margin dedent at row ∷ row_events margin dedent (at + row_len margin dedent row + 1) rows
+
+abbrev pub spaces : ℕ → List ℕ
+spaces amount = repeat amount (32 ∷ [])
+
+abbrev pub indent_events : Movement → ℕ → Bool → Line → List Event
+indent_events movement amount dedent l =
+    let first = row_start l.text (covered movement l).0 in
+    let last = row_end l.text (covered movement l).1 in
+    row_events (spaces amount) dedent first (rows_of (slice_range l.text first last))
+
+abbrev pub indent_line : Movement → ℕ → Bool → Line → Line
+indent_line movement amount dedent l = carried_all (indent_events movement amount dedent l) l

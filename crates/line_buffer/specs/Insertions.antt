@@ -1,0 +1,73 @@
+-- Texts that are put in: what is answered, what is told, and the line afterwards.
+use Rattle.std.specs.Prelude.{ℕ, zero, suc, ◌+◌, ◌-◌, ◌==◌, Bool, ◌&&◌, ◌||◌, nat_le, nat_lt, if◌then◌else◌, slice_index, List, [], ◌∷◌, length, take, min, Option, None, Some, encode_utf8}
+use Rattle.std.specs.List.{insert_slice, repeat}
+use Rattle.line_buffer.specs.declared.types.Direction.TheVariants.{Forward}
+use Rattle.line_buffer.specs.Event.{Event}
+use Rattle.line_buffer.specs.Event.Event.{InsertChar}
+use Rattle.line_buffer.specs.Line.{Line, cut_out}
+use Rattle.line_buffer.specs.Replay.{deletion, insertion}
+
+-- the byte at a place goes on with the character before it
+abbrev pub is_inside_char : List ℕ → ℕ → Bool
+is_inside_char text at = nat_lt at (length text) && nat_le 128 (slice_index text at) && nat_lt (slice_index text at) 192
+
+-- the greatest place up to `room` at which the text may be cut
+unfoldable pub last_cut : List ℕ → ℕ → ℕ
+last_cut text zero = 0
+last_cut text (suc n) = if is_inside_char text (suc n) then last_cut text n else suc n
+
+-- so many bytes more may be put in by the calls that look at the limit
+abbrev pub has_room : ℕ → Line → Bool
+has_room count l = l.growth || nat_le (length l.text + count) l.limit
+
+-- the whole text, or the longest beginning in whole characters that the limit lets stand
+abbrev pub kept_text : List ℕ → Line → List ℕ
+kept_text text l = if l.growth || nat_le (length text) l.limit then text else take (last_cut text l.limit) text
+
+abbrev pub update_events : List ℕ → Line → List Event
+update_events text l = deletion 0 (length l.text) Forward l.text ∷ (insertion 0 (kept_text text l) ∷ [])
+
+abbrev pub update_line : List ℕ → ℕ → Line → Line
+update_line text pos l = record l { text = kept_text text l; place = min pos (length (kept_text text l)) }
+
+-- what a call that may find no room answers, what it tells, and the line that it leaves
+pub record Insertion : Type 0 where
+  pub answer : Option Bool
+  pub events : List Event
+  pub line : Line
+
+-- nothing is put in
+abbrev pub no_insertion : Line → Insertion
+no_insertion l = record { answer = None; events = []; line = l }
+
+-- a text put in at the cursor, the cursor behind it
+abbrev pub put_at_cursor : List ℕ → Line → Line
+put_at_cursor added l = record l { text = insert_slice l.text l.place added; place = l.place + length added }
+
+-- where there is room for the text it is put in; the answer is whether that is at the text's end
+abbrev pub insertion_by : Event → List ℕ → Line → Insertion
+insertion_by told added l =
+    if has_room (length added) l then record { answer = Some (l.place == length l.text); events = told ∷ []; line = put_at_cursor added l }
+    else no_insertion l
+
+-- n copies of a text
+abbrev pub insertion_of : List ℕ → ℕ → Line → Insertion
+insertion_of text n l = insertion_by (insertion l.place (repeat n text)) (repeat n text) l
+
+-- n copies of a character
+abbrev pub insert : ℕ → ℕ → Line → Insertion
+insert c n l = if n == 1 then insertion_by (InsertChar l.place c) (encode_utf8 c) l else insertion_of (encode_utf8 c) n l
+
+-- n copies of a text that isn't empty
+abbrev pub yank : List ℕ → ℕ → Line → Insertion
+yank text n l = if length text == 0 then no_insertion l else insertion_of text n l
+
+-- the line without so many bytes before the cursor
+abbrev pub without_before : ℕ → Line → Line
+without_before size l = cut_out (l.place - size) l.place l
+
+-- a text in place of so many bytes before the cursor
+abbrev pub yank_pop : ℕ → List ℕ → Line → Insertion
+yank_pop size text l =
+    let put = yank text 1 (without_before size l) in
+    record put { events = deletion (l.place - size) l.place Forward l.text ∷ put.events }

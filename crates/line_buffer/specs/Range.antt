@@ -1,0 +1,108 @@
+-- The part of a text that a movement names, and what it makes of a line to take that part out.
+use Rattle.std.specs.Prelude.{ℕ, ◌+◌, ◌-◌, ◌≤◌, ◌==◌, nat_lt, Bool, true, false, if◌then◌else◌, List, [], ◌∷◌, ◌++◌, length, slice_range, Option, None, Some, option_map, encode_utf8, IsCharBoundary}
+use Rattle.line_buffer.specs.declared.range.Span.{Span}
+use Rattle.line_buffer.specs.declared.types.CharSearch.{CharSearch}
+use Rattle.line_buffer.specs.declared.types.CharSearch.TheVariants.{Forward as Onto, ForwardBefore, Backward as BackOnto, BackwardAfter}
+use Rattle.line_buffer.specs.declared.types.Direction.TheVariants.{Forward, Backward}
+use Rattle.line_buffer.specs.declared.types.Movement.{Movement}
+use Rattle.line_buffer.specs.declared.types.Movement.TheVariants.{WholeLine, BeginningOfLine, EndOfLine, BackwardWord, ForwardWord, ViCharSearch, ViFirstPrint, BackwardChar, ForwardChar, LineUp, LineDown, WholeBuffer, BeginningOfBuffer, EndOfBuffer}
+use Rattle.line_buffer.specs.Clusters.{place_forward, place_backward}
+use Rattle.line_buffer.specs.Event.{Event}
+use Rattle.line_buffer.specs.Event.Event.{StartKilling, StopKilling}
+use Rattle.line_buffer.specs.Hits.{hit}
+use Rattle.line_buffer.specs.Line.{Line, cut_out}
+use Rattle.line_buffer.specs.Replay.{deletion}
+use Rattle.line_buffer.specs.Rows.{row_start, row_end}
+use Rattle.line_buffer.specs.RowRanges.{rows_up, rows_down}
+use Rattle.line_buffer.specs.Words.{prev_word, next_word}
+
+-- a part of a text between characters
+pub record IsSpanOf (text : List ℕ) (span : Span) : Type 0 where
+  pub order : span.from ≤ span.upto
+  pub start : IsCharBoundary text span.from
+  pub end : IsCharBoundary text span.upto
+
+-- what lies before the cursor from a place on, and after it up to a place
+abbrev pub up_to_cursor : ℕ → Line → Span
+up_to_cursor from l = record { from = from; upto = l.place; direction = Backward }
+
+abbrev pub from_cursor : ℕ → Line → Span
+from_cursor upto l = record { from = l.place; upto = upto; direction = Forward }
+
+-- what may lie on both sides of the cursor goes back where it ends there
+abbrev pub around_cursor : ℕ → ℕ → Line → Span
+around_cursor from upto l = record { from = from; upto = upto; direction = if upto == l.place then Backward else Forward }
+
+-- from a place of the cursor's row to the row's end; at that end the newline, if one is there
+abbrev pub to_row_end : ℕ → Line → Option Span
+to_row_end from l =
+    let upto = row_end l.text l.place in
+    if nat_lt from upto then Some (record { from = from; upto = upto; direction = Forward })
+    else (if nat_lt upto (length l.text) then Some (record { from = from; upto = upto + 1; direction = Forward }) else None)
+
+-- from the row's start to the cursor; at that start the newline before, if one is there
+abbrev pub from_row_start : Line → Option Span
+from_row_start l =
+    let from = row_start l.text l.place in
+    if nat_lt from l.place then Some (up_to_cursor from l)
+    else (if nat_lt 0 l.place then Some (up_to_cursor (l.place - 1) l) else None)
+
+-- as far as a character that is found: with it, or up to it
+abbrev pub search_range : CharSearch → ℕ → Line → Option Span
+search_range (Onto c) n l = option_map (λ i. from_cursor (i + length (encode_utf8 c)) l) (hit (Onto c) n l)
+search_range (ForwardBefore c) n l = option_map (λ i. from_cursor i l) (hit (ForwardBefore c) n l)
+search_range (BackOnto c) n l = option_map (λ i. up_to_cursor i l) (hit (BackOnto c) n l)
+search_range (BackwardAfter c) n l = option_map (λ i. up_to_cursor (i + length (encode_utf8 c)) l) (hit (BackwardAfter c) n l)
+
+abbrev pub range_of : Movement → Line → Option Span
+range_of WholeLine l = to_row_end (row_start l.text l.place) l
+range_of BeginningOfLine l = from_row_start l
+range_of EndOfLine l = to_row_end l.place l
+range_of (BackwardWord n word) l = option_map (λ i. up_to_cursor i l) (prev_word word n l)
+range_of (ForwardWord n at word) l = option_map (λ i. from_cursor i l) (next_word at word n l)
+range_of (ViCharSearch n search) l = search_range search n l
+range_of ViFirstPrint l = None
+range_of (BackwardChar n) l = option_map (λ i. up_to_cursor i l) (place_backward n l)
+range_of (ForwardChar n) l = option_map (λ i. from_cursor i l) (place_forward n l)
+range_of (LineUp n) l = option_map (λ r. around_cursor r.0 r.1 l) (rows_up n l)
+range_of (LineDown n) l = option_map (λ r. around_cursor r.0 r.1 l) (rows_down n l)
+range_of WholeBuffer l = if length l.text == 0 then None else Some (around_cursor 0 (length l.text) l)
+range_of BeginningOfBuffer l = if l.place == 0 then None else Some (up_to_cursor 0 l)
+range_of EndOfBuffer l = if l.place == length l.text then None else Some (from_cursor (length l.text) l)
+
+-- the same but for the newlines at the ends of a row: what is copied
+abbrev pub copied_range : Movement → Line → Option Span
+copied_range WholeLine l =
+    let from = row_start l.text l.place in
+    let upto = row_end l.text l.place in
+    if from == upto then None else Some (record { from = from; upto = upto; direction = Forward })
+copied_range BeginningOfLine l = if row_start l.text l.place == l.place then None else from_row_start l
+copied_range EndOfLine l = if l.place == row_end l.text l.place then None else to_row_end l.place l
+copied_range movement l = range_of movement l
+
+abbrev pub span_text : Span → Line → List ℕ
+span_text span l = slice_range l.text span.from span.upto
+
+-- what is told where a part is taken out, if there is one
+abbrev pub deletion_events : Option Span → Line → List Event
+deletion_events None l = []
+deletion_events (Some span) l = deletion span.from span.upto span.direction l.text ∷ []
+
+-- and the line afterwards
+abbrev pub deletion_line : Option Span → Line → Line
+deletion_line None l = l
+deletion_line (Some span) l = cut_out span.from span.upto l
+
+abbrev pub goes_by_clusters : Movement → Bool
+goes_by_clusters (BackwardChar n) = true
+goes_by_clusters (ForwardChar n) = true
+goes_by_clusters movement = false
+
+-- a kill is told as one, also where it takes nothing, but by clusters it is a deletion
+abbrev pub kill_events : Movement → Line → List Event
+kill_events movement l =
+    let events = deletion_events (range_of movement l) l in
+    if goes_by_clusters movement then events else StartKilling ∷ (events ++ (StopKilling ∷ []))
+
+abbrev pub kill_line : Movement → Line → Line
+kill_line movement l = deletion_line (range_of movement l) l

@@ -1,0 +1,96 @@
+-- Two parts of a text exchanged: the clusters at the cursor, and the words around it.
+use Rattle.std.specs.Prelude.{ℕ, ◌==◌, ◌&&◌, not, nat_lt, nat_le, true, Bool, if◌then◌else◌, List, [], ◌∷◌, ◌++◌, length, slice_range}
+use Rattle.std.specs.List.{replace_range}
+use Rattle.unicode_segmentation.specs.Grapheme.{graphemes}
+use Rattle.line_buffer.specs.declared.types.At.TheVariants.{AfterEnd}
+use Rattle.line_buffer.specs.declared.types.Word.TheVariants.{Emacs}
+use Rattle.line_buffer.specs.Clusters.{place_forward, place_backward}
+use Rattle.line_buffer.specs.Event.{Event}
+use Rattle.line_buffer.specs.Line.{Line, moved_to, replaced}
+use Rattle.line_buffer.specs.Replay.{replacement}
+use Rattle.line_buffer.specs.Words.{prev_word, next_word}
+
+-- the cursor between the two clusters that are exchanged: one cluster back where it stands at the text's end
+abbrev pub between_clusters : Line → Line
+between_clusters l = if l.place == length l.text then moved_to (place_backward 1 l) l else l
+
+-- where the cluster before a place starts, the place, and where the cluster after it ends
+abbrev pub clusters_at : Line → ℕ × ℕ × ℕ
+clusters_at l = ((moved_to (place_backward 1 l) l).place, l.place, (moved_to (place_forward 1 l) l).place)
+
+abbrev pub has_two_clusters : List ℕ → Bool
+has_two_clusters text = nat_lt 1 (length (graphemes true text))
+
+abbrev pub transposes_chars : Line → Bool
+transposes_chars l = not (l.place == 0) && has_two_clusters l.text
+
+-- two neighbouring parts, the later one first
+abbrev pub exchanged : ℕ × ℕ × ℕ → List ℕ → List ℕ
+exchanged parts text = slice_range text parts.1 parts.2 ++ slice_range text parts.0 parts.1
+
+abbrev pub transpose_chars_events : Line → List Event
+transpose_chars_events l =
+    let parts = clusters_at (between_clusters l) in
+    if transposes_chars l then replacement parts.0 parts.2 (exchanged parts l.text) l.text ∷ [] else []
+
+abbrev pub transpose_chars_line : Line → Line
+transpose_chars_line l =
+    let parts = clusters_at (between_clusters l) in
+    if transposes_chars l then replaced parts.0 parts.2 (exchanged parts l.text) l else l
+
+-- the cursor after the n-th later end of a word, and at the n-th earlier start of one
+unfoldable pub after_words : ℕ → Line → Line
+after_words n l = moved_to (next_word AfterEnd Emacs n l) l
+
+unfoldable pub before_words : ℕ → Line → Line
+before_words n l = moved_to (prev_word Emacs n l) l
+
+-- two parts of a text
+pub record Pair : Type 0 where
+  pub first_start : ℕ
+  pub first_end : ℕ
+  pub second_start : ℕ
+  pub second_end : ℕ
+
+abbrev pub second_word : ℕ → Line → Line
+second_word n l = before_words 1 (after_words n l)
+
+abbrev pub first_word : ℕ → Line → Line
+first_word n l = before_words n (second_word n l)
+
+-- the word at or after the cursor, the n-th by its end, and the one n words before it
+abbrev pub words_around : ℕ → Line → Pair
+words_around n l = record {
+  first_start = (first_word n l).place;
+  first_end = (after_words 1 (first_word n l)).place;
+  second_start = (second_word n l).place;
+  second_end = (after_words n l).place;
+}
+
+-- the later part is exchanged first, so that the earlier one still stands where it stood
+abbrev pub swap_events : Pair → List ℕ → List Event
+swap_events p text =
+    let first = slice_range text p.first_start p.first_end in
+    let second = slice_range text p.second_start p.second_end in
+    replacement p.second_start p.second_end first text
+    ∷ (replacement p.first_start p.first_end second (replace_range text p.second_start p.second_end first) ∷ [])
+
+-- the cursor after both
+abbrev pub swap_line : Pair → Line → Line
+swap_line p l =
+    let first = slice_range l.text p.first_start p.first_end in
+    let second = slice_range l.text p.second_start p.second_end in
+    record l { text = replace_range (replace_range l.text p.second_start p.second_end first) p.first_start p.first_end second; place = p.second_end }
+
+abbrev pub are_apart : Pair → Bool
+are_apart p = not (p.first_start == p.second_start) && nat_le p.first_end p.second_start
+
+abbrev pub transposes_words : ℕ → Line → Bool
+transposes_words n l = are_apart (words_around n l)
+
+abbrev pub transpose_words_events : ℕ → Line → List Event
+transpose_words_events n l = if transposes_words n l then swap_events (words_around n l) l.text else []
+
+-- where the words aren't two, the cursor stays after the first
+abbrev pub transpose_words_line : ℕ → Line → Line
+transpose_words_line n l = if transposes_words n l then swap_line (words_around n l) l else after_words 1 (first_word n l)

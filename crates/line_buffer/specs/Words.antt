@@ -1,0 +1,109 @@
+-- Where words start and end, and the places that motions by words take.
+use Rattle.std.specs.Prelude.{ℕ, ◌+◌, ◌==◌, Bool, true, false, not, ◌||◌, if◌then◌else◌, List, [], ◌∷◌, ◌++◌, length, map, reverse, filter, zip, drop, chars, bytes_eq, Option, None, Some, option_map, option_to_list}
+use Rattle.std.specs.List.{list_all, last_or}
+use Rattle.std.specs.Char.{is_whitespace}
+use Rattle.unicode_segmentation.specs.Segments.{is_alphanumeric}
+use Rattle.line_buffer.specs.declared.types.At.{At}
+use Rattle.line_buffer.specs.declared.types.At.TheVariants.{Start, BeforeEnd, AfterEnd}
+use Rattle.line_buffer.specs.declared.types.Word.{Word}
+use Rattle.line_buffer.specs.declared.types.Word.TheVariants.{Big, Emacs, Vi}
+use Rattle.line_buffer.specs.declared.words.Kind.{Kind}
+use Rattle.line_buffer.specs.declared.words.Kind.TheVariants.{Blank, InWord, Other}
+use Rattle.line_buffer.specs.Line.{Line, text_before, text_after}
+use Rattle.line_buffer.specs.Clusters.{clusters, nth_or_last}
+
+-- all its characters are Alphabetic, or numbers of some kind
+abbrev pub is_alphanumeric_cluster : List ℕ → Bool
+is_alphanumeric_cluster cluster = list_all is_alphanumeric (chars cluster)
+
+abbrev pub has_no_whitespace : List ℕ → Bool
+has_no_whitespace cluster = list_all (λ c. not (is_whitespace c)) (chars cluster)
+
+-- what one cluster is: part of a word, blank, or for Vi also part of a run of other clusters
+abbrev pub kind_of : Word → List ℕ → Kind
+kind_of Emacs cluster = if is_alphanumeric_cluster cluster then InWord else Blank
+kind_of Big cluster = if has_no_whitespace cluster then InWord else Blank
+kind_of Vi cluster =
+    if is_alphanumeric_cluster cluster || bytes_eq cluster (95 ∷ []) then InWord
+    else (if has_no_whitespace cluster then Other else Blank)
+
+-- a word starts between clusters of these kinds
+abbrev pub starts_between : Kind → Kind → Bool
+starts_between x Blank = false
+starts_between InWord InWord = false
+starts_between Other Other = false
+starts_between x y = true
+
+-- and one ends where one would start the other way round
+abbrev pub ends_between : Kind → Kind → Bool
+ends_between x y = starts_between y x
+
+-- the clusters of a text by their places and kinds
+abbrev pub kinds : Word → List (ℕ × List ℕ) → List (ℕ × Kind)
+kinds word pieces = map (λ x. (x.0, kind_of word x.1)) pieces
+
+abbrev pub neighbours : {A : Type 0} → List A → List (A × A)
+neighbours xs = zip xs (drop 1 xs)
+
+-- the places at which a word starts behind something else
+unfoldable pub starts_of : List (ℕ × Kind) → List ℕ
+starts_of xs = map (λ p. p.1.0) (filter (λ p. starts_between p.0.1 p.1.1) (neighbours xs))
+
+-- the places at which something else follows on a word
+unfoldable pub ends_of : List (ℕ × Kind) → List ℕ
+ends_of xs = map (λ p. p.1.0) (filter (λ p. ends_between p.0.1 p.1.1) (neighbours xs))
+
+-- the places of the last clusters of these words
+unfoldable pub lasts_of : List (ℕ × Kind) → List ℕ
+lasts_of xs = map (λ p. p.0.0) (filter (λ p. ends_between p.0.1 p.1.1) (neighbours xs))
+
+-- the places at which such a motion can stop inside a text
+abbrev pub edges_of : At → List (ℕ × Kind) → List ℕ
+edges_of Start xs = starts_of xs
+edges_of BeforeEnd xs = lasts_of xs
+edges_of AfterEnd xs = ends_of xs
+
+-- the place between two neighbours, if it can stop there
+abbrev pub edge_between : At → ℕ × Kind → ℕ × Kind → Option ℕ
+edge_between Start x y = if starts_between x.1 y.1 then Some y.0 else None
+edge_between BeforeEnd x y = if ends_between x.1 y.1 then Some x.0 else None
+edge_between AfterEnd x y = if ends_between x.1 y.1 then Some y.0 else None
+
+-- the start of a text and its end, where it isn't empty
+abbrev pub text_start : List ℕ → List ℕ
+text_start text = if length text == 0 then [] else 0 ∷ []
+
+abbrev pub text_end : List ℕ → List ℕ
+text_end text = if length text == 0 then [] else length text ∷ []
+
+-- the place of the last cluster but where it is the first
+abbrev pub later_last : List (ℕ × List ℕ) → List ℕ
+later_last pieces = option_to_list (option_map (λ x. x.0) (last_or None (drop 1 pieces)))
+
+-- where a motion back over a text can stop, nearest first: at each start of a word, and in the end at the text's start
+abbrev pub stops_back : Word → List ℕ → List ℕ
+stops_back word text = reverse (text_start text ++ starts_of (kinds word (clusters text)))
+
+-- where a motion over a text can stop inside it: at each start of a word, after its end, or at its last cluster, but there
+-- never at the text's first cluster; with Emacs the last cluster counts as the end
+abbrev pub inner_stops : At → Word → List ℕ → List ℕ
+inner_stops BeforeEnd Emacs text = ends_of (kinds Emacs (clusters text))
+inner_stops BeforeEnd word text = lasts_of (kinds word (drop 1 (clusters text)))
+inner_stops at word text = edges_of at (kinds word (clusters text))
+
+-- and where it stops in the end
+abbrev pub last_stop : At → Word → List ℕ → List ℕ
+last_stop AfterEnd word text = text_end text
+last_stop at Emacs text = text_end text
+last_stop at word text = later_last (clusters text)
+
+abbrev pub stops_forward : At → Word → List ℕ → List ℕ
+stops_forward at word text = inner_stops at word text ++ last_stop at word text
+
+-- the place of the n-th earlier word
+abbrev pub prev_word : Word → ℕ → Line → Option ℕ
+prev_word word n l = nth_or_last n (stops_back word (text_before l))
+
+-- the place of the n-th later word
+abbrev pub next_word : At → Word → ℕ → Line → Option ℕ
+next_word at word n l = option_map (λ i. l.place + i) (nth_or_last n (stops_forward at word (text_after l)))

@@ -1,0 +1,288 @@
+//! Parts of the text taken out, by the ranges that movements name, and the kills among them.
+
+ghost use Rattle.std.specs.Prelude.{◌≡◌};
+ghost use Rattle.line_buffer.specs.Range as Range;
+
+use crate::line_buffer::{LineBuffer, OutOfMemory};
+use crate::listener::DeleteListener;
+use crate::range::Span;
+use crate::types::{At, CharSearch, Movement, RepeatCount, Word};
+use std::alloc::Global;
+
+/// The movement is one by clusters, which is deleted and not killed.
+fn goes_by_clusters(movement: &Movement) -> bool
+    ensures { result ≡ Range.goes_by_clusters movement.now }
+{
+    matches!(
+        movement,
+        Movement::BackwardChar(_) | Movement::ForwardChar(_)
+    )
+}
+
+impl LineBuffer {
+    ghost use Rattle.std.specs.Prelude.{◌≡◌, ◌≤◌, slice_range, IsCharBoundary, length, is_some, option_map, string_bytes, IfSome, IfOk, OnOk, OnErr};
+    ghost use Rattle.line_buffer.specs.declared.types.Movement.TheVariants.{BeginningOfLine, EndOfLine, BackwardWord, ForwardWord, ViCharSearch, BackwardChar, ForwardChar, BeginningOfBuffer, EndOfBuffer};
+    ghost use Rattle.line_buffer.specs.Range.{IsSpanOf, range_of, copied_range, span_text, deletion_events, deletion_line, kill_events, kill_line};
+    ghost use Rattle.line_buffer.specs.Replay.{Reports, StopsAmong};
+
+    /// Takes a part out, if there is one.
+    fn delete_span<D: DeleteListener>(
+        &mut self,
+        alloc: Global,
+        span: Option<Span>,
+        dl: &mut D,
+    ) -> Result<bool, OutOfMemory>
+        requires { IfSome span (λ s. IsSpanOf self.old.text s) }
+        ensures answer { IfOk result (λ b. b ≡ is_some span) }
+        ensures told { OnOk result (Reports D.takes (deletion_events span self.old) dl.old dl.new self.old.text self.new.text) }
+        ensures line { OnOk result (self.new ≡ deletion_line span self.old) }
+        ensures shrinks { length self.new.text ≤ length self.old.text }
+        ensures stopped { OnErr result (StopsAmong D.takes D.refuses (deletion_events span self.old) dl.old dl.new self.old.text self.new.text) }
+        ensures kept { OnErr result (self.new ≡ self.old) }
+    {
+        let Some(span) = span else {
+            return Ok(false);
+        };
+        match self.delete_directed(alloc, span.from..span.upto, span.direction, dl) {
+            Ok(()) => Ok(true),
+            Err(refusal) => Err(refusal),
+        }
+    }
+
+    /// Takes out what a movement names, without a word of a kill.
+    fn delete_by<D: DeleteListener>(
+        &mut self,
+        alloc: Global,
+        movement: &Movement,
+        dl: &mut D,
+    ) -> Result<bool, OutOfMemory>
+        ensures answer { IfOk result (λ b. b ≡ is_some (range_of movement.now self.old)) }
+        ensures told { OnOk result (Reports D.takes (deletion_events (range_of movement.now self.old) self.old) dl.old dl.new self.old.text self.new.text) }
+        ensures line { OnOk result (self.new ≡ deletion_line (range_of movement.now self.old) self.old) }
+        ensures shrinks { length self.new.text ≤ length self.old.text }
+        ensures stopped { OnErr result (StopsAmong D.takes D.refuses (deletion_events (range_of movement.now self.old) self.old) dl.old dl.new self.old.text self.new.text) }
+        ensures kept { OnErr result (self.new ≡ self.old) }
+    {
+        let span = self.range_of(movement);
+        self.delete_span(alloc, span, dl)
+    }
+
+    /// Takes out the n clusters after the cursor, fewer where fewer stand, and answers them; `None` at the text's end.
+    pub fn delete<D: DeleteListener>(
+        &mut self,
+        alloc: Global,
+        n: RepeatCount,
+        dl: &mut D,
+    ) -> Result<Option<String>, OutOfMemory>
+        ensures answer { IfOk result (λ t. option_map string_bytes t ≡ option_map (λ s. span_text s self.old) (range_of (ForwardChar n) self.old)) }
+        ensures told { OnOk result (Reports D.takes (deletion_events (range_of (ForwardChar n) self.old) self.old) dl.old dl.new self.old.text self.new.text) }
+        ensures line { OnOk result (self.new ≡ deletion_line (range_of (ForwardChar n) self.old) self.old) }
+        ensures shrinks { length self.new.text ≤ length self.old.text }
+        ensures stopped { OnErr result (StopsAmong D.takes D.refuses (deletion_events (range_of (ForwardChar n) self.old) self.old) dl.old dl.new self.old.text self.new.text) }
+        ensures kept { OnErr result (self.new ≡ self.old) }
+    {
+        let span = self.range_of(&Movement::ForwardChar(n));
+        let text = self.copy_span(alloc, span)?;
+        match self.delete_span(alloc, span, dl) {
+            Ok(_) => Ok(text),
+            Err(refusal) => Err(refusal),
+        }
+    }
+
+    /// Takes out the n clusters before the cursor, fewer where fewer stand; false at the text's start.
+    pub fn backspace<D: DeleteListener>(
+        &mut self,
+        alloc: Global,
+        n: RepeatCount,
+        dl: &mut D,
+    ) -> Result<bool, OutOfMemory>
+        ensures answer { IfOk result (λ b. b ≡ is_some (range_of (BackwardChar n) self.old)) }
+        ensures told { OnOk result (Reports D.takes (deletion_events (range_of (BackwardChar n) self.old) self.old) dl.old dl.new self.old.text self.new.text) }
+        ensures line { OnOk result (self.new ≡ deletion_line (range_of (BackwardChar n) self.old) self.old) }
+        ensures shrinks { length self.new.text ≤ length self.old.text }
+        ensures stopped { OnErr result (StopsAmong D.takes D.refuses (deletion_events (range_of (BackwardChar n) self.old) self.old) dl.old dl.new self.old.text self.new.text) }
+        ensures kept { OnErr result (self.new ≡ self.old) }
+    {
+        self.delete_by(alloc, &Movement::BackwardChar(n), dl)
+    }
+
+    /// Takes out the rest of the row, at its end the newline; false at the text's end.
+    pub fn kill_line<D: DeleteListener>(
+        &mut self,
+        alloc: Global,
+        dl: &mut D,
+    ) -> Result<bool, OutOfMemory>
+        ensures answer { IfOk result (λ b. b ≡ is_some (range_of EndOfLine self.old)) }
+        ensures told { OnOk result (Reports D.takes (deletion_events (range_of EndOfLine self.old) self.old) dl.old dl.new self.old.text self.new.text) }
+        ensures line { OnOk result (self.new ≡ deletion_line (range_of EndOfLine self.old) self.old) }
+        ensures shrinks { length self.new.text ≤ length self.old.text }
+        ensures stopped { OnErr result (StopsAmong D.takes D.refuses (deletion_events (range_of EndOfLine self.old) self.old) dl.old dl.new self.old.text self.new.text) }
+        ensures kept { OnErr result (self.new ≡ self.old) }
+    {
+        self.delete_by(alloc, &Movement::EndOfLine, dl)
+    }
+
+    /// Takes out what follows on the cursor; false where nothing does.
+    pub fn kill_buffer<D: DeleteListener>(
+        &mut self,
+        alloc: Global,
+        dl: &mut D,
+    ) -> Result<bool, OutOfMemory>
+        ensures answer { IfOk result (λ b. b ≡ is_some (range_of EndOfBuffer self.old)) }
+        ensures told { OnOk result (Reports D.takes (deletion_events (range_of EndOfBuffer self.old) self.old) dl.old dl.new self.old.text self.new.text) }
+        ensures line { OnOk result (self.new ≡ deletion_line (range_of EndOfBuffer self.old) self.old) }
+        ensures shrinks { length self.new.text ≤ length self.old.text }
+        ensures stopped { OnErr result (StopsAmong D.takes D.refuses (deletion_events (range_of EndOfBuffer self.old) self.old) dl.old dl.new self.old.text self.new.text) }
+        ensures kept { OnErr result (self.new ≡ self.old) }
+    {
+        self.delete_by(alloc, &Movement::EndOfBuffer, dl)
+    }
+
+    /// Takes out the row up to the cursor, at its start the newline before; false at the text's start.
+    pub fn discard_line<D: DeleteListener>(
+        &mut self,
+        alloc: Global,
+        dl: &mut D,
+    ) -> Result<bool, OutOfMemory>
+        ensures answer { IfOk result (λ b. b ≡ is_some (range_of BeginningOfLine self.old)) }
+        ensures told { OnOk result (Reports D.takes (deletion_events (range_of BeginningOfLine self.old) self.old) dl.old dl.new self.old.text self.new.text) }
+        ensures line { OnOk result (self.new ≡ deletion_line (range_of BeginningOfLine self.old) self.old) }
+        ensures shrinks { length self.new.text ≤ length self.old.text }
+        ensures stopped { OnErr result (StopsAmong D.takes D.refuses (deletion_events (range_of BeginningOfLine self.old) self.old) dl.old dl.new self.old.text self.new.text) }
+        ensures kept { OnErr result (self.new ≡ self.old) }
+    {
+        self.delete_by(alloc, &Movement::BeginningOfLine, dl)
+    }
+
+    /// Takes out what stands before the cursor; false where nothing does.
+    pub fn discard_buffer<D: DeleteListener>(
+        &mut self,
+        alloc: Global,
+        dl: &mut D,
+    ) -> Result<bool, OutOfMemory>
+        ensures answer { IfOk result (λ b. b ≡ is_some (range_of BeginningOfBuffer self.old)) }
+        ensures told { OnOk result (Reports D.takes (deletion_events (range_of BeginningOfBuffer self.old) self.old) dl.old dl.new self.old.text self.new.text) }
+        ensures line { OnOk result (self.new ≡ deletion_line (range_of BeginningOfBuffer self.old) self.old) }
+        ensures shrinks { length self.new.text ≤ length self.old.text }
+        ensures stopped { OnErr result (StopsAmong D.takes D.refuses (deletion_events (range_of BeginningOfBuffer self.old) self.old) dl.old dl.new self.old.text self.new.text) }
+        ensures kept { OnErr result (self.new ≡ self.old) }
+    {
+        self.delete_by(alloc, &Movement::BeginningOfBuffer, dl)
+    }
+
+    /// Takes out what lies back to the n-th earlier word; false at the text's start.
+    pub fn delete_prev_word<D: DeleteListener>(
+        &mut self,
+        alloc: Global,
+        word: Word,
+        n: RepeatCount,
+        dl: &mut D,
+    ) -> Result<bool, OutOfMemory>
+        ensures answer { IfOk result (λ b. b ≡ is_some (range_of (BackwardWord n word) self.old)) }
+        ensures told { OnOk result (Reports D.takes (deletion_events (range_of (BackwardWord n word) self.old) self.old) dl.old dl.new self.old.text self.new.text) }
+        ensures line { OnOk result (self.new ≡ deletion_line (range_of (BackwardWord n word) self.old) self.old) }
+        ensures shrinks { length self.new.text ≤ length self.old.text }
+        ensures stopped { OnErr result (StopsAmong D.takes D.refuses (deletion_events (range_of (BackwardWord n word) self.old) self.old) dl.old dl.new self.old.text self.new.text) }
+        ensures kept { OnErr result (self.new ≡ self.old) }
+    {
+        self.delete_by(alloc, &Movement::BackwardWord(n, word), dl)
+    }
+
+    /// Takes out what lies up to the n-th later word; false where there is none.
+    pub fn delete_word<D: DeleteListener>(
+        &mut self,
+        alloc: Global,
+        at: At,
+        word: Word,
+        n: RepeatCount,
+        dl: &mut D,
+    ) -> Result<bool, OutOfMemory>
+        ensures answer { IfOk result (λ b. b ≡ is_some (range_of (ForwardWord n at word) self.old)) }
+        ensures told { OnOk result (Reports D.takes (deletion_events (range_of (ForwardWord n at word) self.old) self.old) dl.old dl.new self.old.text self.new.text) }
+        ensures line { OnOk result (self.new ≡ deletion_line (range_of (ForwardWord n at word) self.old) self.old) }
+        ensures shrinks { length self.new.text ≤ length self.old.text }
+        ensures stopped { OnErr result (StopsAmong D.takes D.refuses (deletion_events (range_of (ForwardWord n at word) self.old) self.old) dl.old dl.new self.old.text self.new.text) }
+        ensures kept { OnErr result (self.new ≡ self.old) }
+    {
+        self.delete_by(alloc, &Movement::ForwardWord(n, at, word), dl)
+    }
+
+    /// Takes out what lies up to the n-th place of a character, by the search with it or without; false where there is none.
+    pub fn delete_to<D: DeleteListener>(
+        &mut self,
+        alloc: Global,
+        search: CharSearch,
+        n: RepeatCount,
+        dl: &mut D,
+    ) -> Result<bool, OutOfMemory>
+        ensures answer { IfOk result (λ b. b ≡ is_some (range_of (ViCharSearch n search) self.old)) }
+        ensures told { OnOk result (Reports D.takes (deletion_events (range_of (ViCharSearch n search) self.old) self.old) dl.old dl.new self.old.text self.new.text) }
+        ensures line { OnOk result (self.new ≡ deletion_line (range_of (ViCharSearch n search) self.old) self.old) }
+        ensures shrinks { length self.new.text ≤ length self.old.text }
+        ensures stopped { OnErr result (StopsAmong D.takes D.refuses (deletion_events (range_of (ViCharSearch n search) self.old) self.old) dl.old dl.new self.old.text self.new.text) }
+        ensures kept { OnErr result (self.new ≡ self.old) }
+    {
+        self.delete_by(alloc, &Movement::ViCharSearch(n, search), dl)
+    }
+
+    /// Takes out what a movement names and tells it as killed text, a movement by clusters as text that was deleted.
+    /// False where it names nothing.
+    pub fn kill<D: DeleteListener>(
+        &mut self,
+        alloc: Global,
+        movement: &Movement,
+        dl: &mut D,
+    ) -> Result<bool, OutOfMemory>
+        ensures answer { IfOk result (λ b. b ≡ is_some (range_of movement.now self.old)) }
+        ensures told { OnOk result (Reports D.takes (kill_events movement.now self.old) dl.old dl.new self.old.text self.new.text) }
+        ensures line { OnOk result (self.new ≡ kill_line movement.now self.old) }
+        ensures shrinks { length self.new.text ≤ length self.old.text }
+        ensures stopped { OnErr result (StopsAmong D.takes D.refuses (kill_events movement.now self.old) dl.old dl.new self.old.text self.new.text) }
+        ensures kept { OnErr result (self.new ≡ self.old) }
+    {
+        if goes_by_clusters(movement) {
+            return self.delete_by(alloc, movement, dl);
+        }
+        dl.start_killing();
+        let killed = self.delete_by(alloc, movement, dl);
+        dl.stop_killing();
+        killed
+    }
+
+    /// A text of its own of what a movement names: of a row without its newline, and of the rest of a row or of what
+    /// stands before the cursor in it `None` where that is nothing.
+    pub fn copy(&self, alloc: Global, movement: &Movement) -> Result<Option<String>, OutOfMemory>
+        ensures { IfOk result (λ t. option_map string_bytes t ≡ option_map (λ s. span_text s self.now) (copied_range movement.now self.now)) }
+    {
+        let span = self.copied_range(movement);
+        self.copy_span(alloc, span)
+    }
+
+    /// A text of its own of a part, if there is one.
+    fn copy_span(&self, alloc: Global, span: Option<Span>) -> Result<Option<String>, OutOfMemory>
+        requires { IfSome span (λ s. IsSpanOf self.now.text s) }
+        ensures { IfOk result (λ t. option_map string_bytes t ≡ option_map (λ s. span_text s self.now) span) }
+    {
+        let Some(span) = span else {
+            return Ok(None);
+        };
+        let text = self.copy_part(alloc, span.from, span.upto)?;
+        Ok(Some(text))
+    }
+
+    /// A text of its own of what stands between two places.
+    pub(crate) fn copy_part(
+        &self,
+        alloc: Global,
+        from: usize,
+        upto: usize,
+    ) -> Result<String, OutOfMemory>
+        requires order { from ≤ upto }
+        requires start { IsCharBoundary self.now.text from }
+        requires end { IsCharBoundary self.now.text upto }
+        ensures { IfOk result (λ t. string_bytes t ≡ slice_range self.now.text from upto) }
+    {
+        let text = String::from_str(alloc, &self.buf[from..upto])?;
+        Ok(text)
+    }
+}

@@ -1,0 +1,112 @@
+//! The changes of one range: each finds its memory, then tells the listener, then changes the text.
+
+use crate::line_buffer::{LineBuffer, OutOfMemory};
+use crate::listener::{ChangeListener, DeleteListener};
+use crate::types::Direction;
+use std::alloc::Global;
+use std::ops::Range;
+
+impl LineBuffer {
+    ghost use Rattle.std.specs.Prelude.{◌≡◌, ◌==◌, ◌≤◌, ◌⊎◌, length, IfOk, OnOk, OnErr, IsCharBoundary};
+    ghost use Rattle.std.specs.List.{insert_slice};
+    ghost use Rattle.line_buffer.specs.Line.{replaced, cut_out, put_in};
+    ghost use Rattle.line_buffer.specs.Replay.{Replays, deletion, insertion, replacement};
+    ghost use Rattle.line_buffer.specs.declared.types.Direction.TheVariants.{Forward};
+
+    /// Puts `text` in place of a range, with the cursor after it. The range, in bytes, begins and ends between characters,
+    /// which `as_str().is_char_boundary` tells.
+    pub fn replace<C: ChangeListener>(
+        &mut self,
+        alloc: Global,
+        range: Range<usize>,
+        text: &str,
+        cl: &mut C,
+    ) -> Result<(), OutOfMemory>
+        requires order { range.start ≤ range.end }
+        requires start { IsCharBoundary self.old.text range.start }
+        requires end { IsCharBoundary self.old.text range.end }
+        ensures told { OnOk result (C.takes cl.old (replacement range.start range.end text.now self.old.text) cl.new) }
+        ensures replays { OnOk result (Replays (replacement range.start range.end text.now self.old.text) self.old.text self.new.text) }
+        ensures line { OnOk result (self.new ≡ replaced range.start range.end text.now self.old) }
+        ensures refused { OnErr result ((cl.new ≡ cl.old) ⊎ C.refuses cl.old (replacement range.start range.end text.now self.old.text) cl.new) }
+        ensures kept { OnErr result (self.new ≡ self.old) }
+    {
+        self.buf.reserve(text.len())?;
+        cl.replace(alloc, range.start, &self.buf[range.start..range.end], text)?;
+        self.buf.replace_range(range.start..range.end, text)?;
+        self.pos = range.start + text.len();
+        Ok(())
+    }
+
+    /// Puts `text` at a place, the cursor keeping its own; true where it was put at the end. The cursor's place must lie
+    /// between two characters of the new text.
+    pub fn insert_str<C: ChangeListener>(
+        &mut self,
+        alloc: Global,
+        idx: usize,
+        text: &str,
+        cl: &mut C,
+    ) -> Result<bool, OutOfMemory>
+        requires at { IsCharBoundary self.old.text idx }
+        requires cursor { IsCharBoundary (insert_slice self.old.text idx text.now) self.old.place }
+        ensures answer { IfOk result (λ at_end. at_end ≡ (idx == length self.old.text)) }
+        ensures told { OnOk result (C.takes cl.old (insertion idx text.now) cl.new) }
+        ensures replays { OnOk result (Replays (insertion idx text.now) self.old.text self.new.text) }
+        ensures line { OnOk result (self.new ≡ put_in idx text.now self.old) }
+        ensures refused { OnErr result ((cl.new ≡ cl.old) ⊎ C.refuses cl.old (insertion idx text.now) cl.new) }
+        ensures kept { OnErr result (self.new ≡ self.old) }
+    {
+        let at_end = idx == self.buf.len();
+        self.buf.reserve(text.len())?;
+        cl.insert_str(alloc, idx, text)?;
+        self.buf.insert_str(idx, text)?;
+        Ok(at_end)
+    }
+
+    /// Takes a range out, with the cursor at its start. The range begins and ends between characters.
+    pub fn delete_range<D: DeleteListener>(
+        &mut self,
+        alloc: Global,
+        range: Range<usize>,
+        dl: &mut D,
+    ) -> Result<(), OutOfMemory>
+        requires order { range.start ≤ range.end }
+        requires start { IsCharBoundary self.old.text range.start }
+        requires end { IsCharBoundary self.old.text range.end }
+        ensures told { OnOk result (D.takes dl.old (deletion range.start range.end Forward self.old.text) dl.new) }
+        ensures replays { OnOk result (Replays (deletion range.start range.end Forward self.old.text) self.old.text self.new.text) }
+        ensures line { OnOk result (self.new ≡ cut_out range.start range.end self.old) }
+        ensures refused { OnErr result (D.refuses dl.old (deletion range.start range.end Forward self.old.text) dl.new) }
+        ensures kept { OnErr result (self.new ≡ self.old) }
+    {
+        self.delete_directed(alloc, range, Direction::Forward, dl)
+    }
+
+    /// `delete_range` with the direction that the listener is told.
+    pub(crate) fn delete_directed<D: DeleteListener>(
+        &mut self,
+        alloc: Global,
+        range: Range<usize>,
+        direction: Direction,
+        dl: &mut D,
+    ) -> Result<(), OutOfMemory>
+        requires order { range.start ≤ range.end }
+        requires start { IsCharBoundary self.old.text range.start }
+        requires end { IsCharBoundary self.old.text range.end }
+        ensures told { OnOk result (D.takes dl.old (deletion range.start range.end direction self.old.text) dl.new) }
+        ensures replays { OnOk result (Replays (deletion range.start range.end direction self.old.text) self.old.text self.new.text) }
+        ensures line { OnOk result (self.new ≡ cut_out range.start range.end self.old) }
+        ensures refused { OnErr result (D.refuses dl.old (deletion range.start range.end direction self.old.text) dl.new) }
+        ensures kept { OnErr result (self.new ≡ self.old) }
+    {
+        dl.delete(
+            alloc,
+            range.start,
+            &self.buf[range.start..range.end],
+            direction,
+        )?;
+        self.buf.replace_range(range.start..range.end, "")?;
+        self.pos = range.start;
+        Ok(())
+    }
+}

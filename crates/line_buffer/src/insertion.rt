@@ -1,0 +1,295 @@
+//! Texts put in at the cursor, and the exchange of the whole text.
+
+ghost use Rattle.std.specs.Prelude.{◌≡◌, ◌≤◌, length, IsCharBoundary};
+ghost use Rattle.line_buffer.specs.Insertions.{last_cut};
+
+use crate::line_buffer::{LineBuffer, OutOfMemory};
+use crate::listener::{ChangeListener, DeleteListener};
+use crate::types::RepeatCount;
+use std::alloc::Global;
+
+/// The greatest place up to `room` at which `text` may be cut.
+fn last_cut(text: &str, room: usize) -> usize
+    requires { room ≤ length text.now }
+    ensures value { result ≡ last_cut text.now room }
+    ensures boundary { IsCharBoundary text.now result }
+{
+    let mut end = room;
+    while !text.is_char_boundary(end) {
+        end -= 1;
+    }
+    end
+}
+
+#[tactic(auto, using(crate::proofs::ReplayLemmas::stops_at_once))]
+impl LineBuffer {
+    ghost use Rattle.std.specs.Prelude.{◌≡◌, ℕ, ◌≤◌, ◌-◌, ◌==◌, ◌⊎◌, [], length, min, IsUtf8, IfOk, OnOk, OnErr, IsCharBoundary, encode_utf8};
+    ghost use Rattle.std.specs.List.{repeat};
+    ghost use Rattle.line_buffer.specs.declared.types.Direction.TheVariants.{Forward};
+    ghost use Rattle.line_buffer.specs.Event.Event.{InsertChar};
+    ghost use Rattle.line_buffer.specs.Insertions.{has_room, kept_text, update_events, update_line, put_at_cursor, insertion_by, insertion_of, without_before, insert, yank, yank_pop};
+    ghost use Rattle.line_buffer.specs.Settings.{SameSettings};
+    ghost use Rattle.line_buffer.specs.Replay.{Replays, Reports, StopsAmong, deletion, insertion};
+
+    /// So many bytes more may be put in by the calls that look at the limit.
+    fn has_room(&self, count: usize) -> bool
+        ensures { result ≡ has_room count self.now }
+    {
+        match self.limit.checked_sub(self.buf.len()) {
+            Some(free) => self.can_growth || count <= free,
+            None => self.can_growth,
+        }
+    }
+
+    /// `has_room` for n copies of a text.
+    fn has_room_for(&self, text: &str, n: RepeatCount) -> bool
+        ensures { result ≡ has_room (length (repeat n text.now)) self.now }
+    {
+        let _limit = self.limit;
+        match text.len().checked_mul(usize::from(n)) {
+            Some(count) => self.has_room(count),
+            None => self.can_growth,
+        }
+    }
+
+    /// The part of `text` that an empty line takes.
+    fn kept<'t>(&self, text: &'t str) -> &'t str
+        ensures value { result.now ≡ kept_text text.now self.now }
+        ensures utf8 { IsUtf8 result.now }
+        ensures cursor { (pos : ℕ) → IsCharBoundary text.now pos → IsCharBoundary result.now (min pos (length result.now)) }
+    {
+        if self.can_growth || text.len() <= self.limit {
+            return text;
+        }
+        &text[..last_cut(text, self.limit)]
+    }
+
+    /// `delete_range` of the whole text.
+    fn delete_all<D: DeleteListener>(
+        &mut self,
+        alloc: Global,
+        dl: &mut D,
+    ) -> Result<(), OutOfMemory>
+        ensures told { OnOk result (D.takes dl.old (deletion 0 (length self.old.text) Forward self.old.text) dl.new) }
+        ensures replays { OnOk result (Replays (deletion 0 (length self.old.text) Forward self.old.text) self.old.text self.new.text) }
+        ensures line { OnOk result (self.new ≡ record self.old { text = []; place = 0 }) }
+        ensures refused { OnErr result (D.refuses dl.old (deletion 0 (length self.old.text) Forward self.old.text) dl.new) }
+        ensures kept { OnErr result (self.new ≡ self.old) }
+    {
+        let _text = self.as_str();
+        let end = self.len();
+        self.delete_range(alloc, 0..end, dl)
+    }
+
+    /// `delete_range` of so many bytes before the cursor.
+    fn delete_before<D: DeleteListener>(
+        &mut self,
+        alloc: Global,
+        count: usize,
+        dl: &mut D,
+    ) -> Result<(), OutOfMemory>
+        requires count { count ≤ self.old.place }
+        requires start { IsCharBoundary self.old.text (self.old.place - count) }
+        ensures told { OnOk result (D.takes dl.old (deletion (self.old.place - count) self.old.place Forward self.old.text) dl.new) }
+        ensures replays { OnOk result (Replays (deletion (self.old.place - count) self.old.place Forward self.old.text) self.old.text self.new.text) }
+        ensures line { OnOk result (self.new ≡ without_before count self.old) }
+        ensures refused { OnErr result (D.refuses dl.old (deletion (self.old.place - count) self.old.place Forward self.old.text) dl.new) }
+        ensures kept { OnErr result (self.new ≡ self.old) }
+    {
+        let end = self.pos();
+        self.delete_range(alloc, end - count..end, dl)
+    }
+
+    /// Exchanges the whole text, with the cursor at `pos` of the new one. Without leave to grow the longest beginning
+    /// that fits into the limit is kept, with the cursor at most at its end.
+    pub fn update<C: ChangeListener>(
+        &mut self,
+        alloc: Global,
+        text: &str,
+        pos: usize,
+        cl: &mut C,
+    ) -> Result<(), OutOfMemory>
+        requires { IsCharBoundary text.now pos }
+        ensures told { OnOk result (Reports C.takes (update_events text.now self.old) cl.old cl.new self.old.text self.new.text) }
+        ensures line { OnOk result (self.new ≡ update_line text.now pos self.old) }
+        ensures stopped { OnErr result (StopsAmong C.takes C.refuses (update_events text.now self.old) cl.old cl.new self.old.text self.new.text) }
+        ensures settings { SameSettings self.old self.new }
+    {
+        let kept = self.kept(text);
+        self.delete_all(alloc, cl)?;
+        match self.insert_str(alloc, 0, kept, cl) {
+            Ok(_) => {
+                self.set_pos(pos.min(kept.len()));
+                Ok(())
+            }
+            Err(refusal) => Err(refusal),
+        }
+    }
+
+    /// `insert_str` at the cursor, which takes the place behind the text.
+    fn insert_at_cursor<C: ChangeListener>(
+        &mut self,
+        alloc: Global,
+        text: &str,
+        cl: &mut C,
+    ) -> Result<bool, OutOfMemory>
+        ensures answer { IfOk result (λ at_end. at_end ≡ (self.old.place == length self.old.text)) }
+        ensures told { OnOk result (C.takes cl.old (insertion self.old.place text.now) cl.new) }
+        ensures replays { OnOk result (Replays (insertion self.old.place text.now) self.old.text self.new.text) }
+        ensures line { OnOk result (self.new ≡ put_at_cursor text.now self.old) }
+        ensures refused { OnErr result ((cl.new ≡ cl.old) ⊎ C.refuses cl.old (insertion self.old.place text.now) cl.new) }
+        ensures kept { OnErr result (self.new ≡ self.old) }
+    {
+        let _text = self.as_str();
+        let at = self.pos();
+        match self.insert_str(alloc, at, text, cl) {
+            Ok(at_end) => {
+                let _longest = self.len();
+                self.set_pos(at + text.len());
+                Ok(at_end)
+            }
+            Err(refusal) => Err(refusal),
+        }
+    }
+
+    /// Puts a character in at the cursor, which takes the place behind it.
+    fn insert_char<C: ChangeListener>(
+        &mut self,
+        alloc: Global,
+        ch: char,
+        cl: &mut C,
+    ) -> Result<(), OutOfMemory>
+        ensures told { OnOk result (C.takes cl.old (InsertChar self.old.place ch) cl.new) }
+        ensures replays { OnOk result (Replays (InsertChar self.old.place ch) self.old.text self.new.text) }
+        ensures line { OnOk result (self.new ≡ put_at_cursor (encode_utf8 ch) self.old) }
+        ensures refused { OnErr result ((cl.new ≡ cl.old) ⊎ C.refuses cl.old (InsertChar self.old.place ch) cl.new) }
+        ensures kept { OnErr result (self.new ≡ self.old) }
+    {
+        self.buf.reserve(ch.len_utf8())?;
+        cl.insert_char(alloc, self.pos, ch)?;
+        self.buf.insert(self.pos, ch)?;
+        self.pos += ch.len_utf8();
+        Ok(())
+    }
+
+    /// Puts a text in at the cursor where there is room for it.
+    fn insert_where_room<C: ChangeListener>(
+        &mut self,
+        alloc: Global,
+        text: &str,
+        cl: &mut C,
+    ) -> Result<Option<bool>, OutOfMemory>
+        ensures answer { IfOk result (λ a. a ≡ (insertion_by (insertion self.old.place text.now) text.now self.old).answer) }
+        ensures told { OnOk result (Reports C.takes (insertion_by (insertion self.old.place text.now) text.now self.old).events cl.old cl.new self.old.text self.new.text) }
+        ensures line { OnOk result (self.new ≡ (insertion_by (insertion self.old.place text.now) text.now self.old).line) }
+        ensures stopped { OnErr result (StopsAmong C.takes C.refuses (insertion_by (insertion self.old.place text.now) text.now self.old).events cl.old cl.new self.old.text self.new.text) }
+        ensures kept { OnErr result (self.new ≡ self.old) }
+    {
+        if !self.has_room(text.len()) {
+            return Ok(None);
+        }
+        match self.insert_at_cursor(alloc, text, cl) {
+            Ok(at_end) => Ok(Some(at_end)),
+            Err(refusal) => Err(refusal),
+        }
+    }
+
+    /// Puts n copies of a text in at the cursor where there is room for them.
+    fn insert_copies<C: ChangeListener>(
+        &mut self,
+        alloc: Global,
+        text: &str,
+        n: RepeatCount,
+        cl: &mut C,
+    ) -> Result<Option<bool>, OutOfMemory>
+        ensures answer { IfOk result (λ a. a ≡ (insertion_of text.now n self.old).answer) }
+        ensures told { OnOk result (Reports C.takes (insertion_of text.now n self.old).events cl.old cl.new self.old.text self.new.text) }
+        ensures line { OnOk result (self.new ≡ (insertion_of text.now n self.old).line) }
+        ensures stopped { OnErr result (StopsAmong C.takes C.refuses (insertion_of text.now n self.old).events cl.old cl.new self.old.text self.new.text) }
+        ensures kept { OnErr result (self.new ≡ self.old) }
+    {
+        if n == 1 {
+            return self.insert_where_room(alloc, text, cl);
+        }
+        if !self.has_room_for(text, n) {
+            return Ok(None);
+        }
+        let Ok(added) = text.repeat(alloc, usize::from(n)) else {
+            return Err(OutOfMemory);
+        };
+        self.insert_where_room(alloc, added.as_str(), cl)
+    }
+
+    /// Puts n copies of a character in at the cursor, which takes the place behind them: whether that was at the text's
+    /// end, or `None` where the line has no leave to grow as far.
+    pub fn insert<C: ChangeListener>(
+        &mut self,
+        alloc: Global,
+        ch: char,
+        n: RepeatCount,
+        cl: &mut C,
+    ) -> Result<Option<bool>, OutOfMemory>
+        ensures answer { IfOk result (λ a. a ≡ (insert ch n self.old).answer) }
+        ensures told { OnOk result (Reports C.takes (insert ch n self.old).events cl.old cl.new self.old.text self.new.text) }
+        ensures line { OnOk result (self.new ≡ (insert ch n self.old).line) }
+        ensures stopped { OnErr result (StopsAmong C.takes C.refuses (insert ch n self.old).events cl.old cl.new self.old.text self.new.text) }
+        ensures kept { OnErr result (self.new ≡ self.old) }
+    {
+        if n != 1 {
+            let mut bytes = [0; 4];
+            return self.insert_copies(alloc, ch.encode_utf8(&mut bytes), n, cl);
+        }
+        if !self.has_room(ch.len_utf8()) {
+            return Ok(None);
+        }
+        let at_end = self.is_cursor_at_end();
+        match self.insert_char(alloc, ch, cl) {
+            Ok(()) => Ok(Some(at_end)),
+            Err(refusal) => Err(refusal),
+        }
+    }
+
+    /// Puts n copies of a text in at the cursor, which takes the place behind them: whether that was at the text's end, or
+    /// `None` where the text is empty or the line has no leave to grow as far.
+    pub fn yank<C: ChangeListener>(
+        &mut self,
+        alloc: Global,
+        text: &str,
+        n: RepeatCount,
+        cl: &mut C,
+    ) -> Result<Option<bool>, OutOfMemory>
+        ensures answer { IfOk result (λ a. a ≡ (yank text.now n self.old).answer) }
+        ensures told { OnOk result (Reports C.takes (yank text.now n self.old).events cl.old cl.new self.old.text self.new.text) }
+        ensures line { OnOk result (self.new ≡ (yank text.now n self.old).line) }
+        ensures stopped { OnErr result (StopsAmong C.takes C.refuses (yank text.now n self.old).events cl.old cl.new self.old.text self.new.text) }
+        ensures kept { OnErr result (self.new ≡ self.old) }
+    {
+        if text.is_empty() {
+            return Ok(None);
+        }
+        self.insert_copies(alloc, text, n, cl)
+    }
+
+    /// `yank` of one text in place of the `yank_size` bytes before the cursor; `None` where only these are taken.
+    pub fn yank_pop<C: ChangeListener>(
+        &mut self,
+        alloc: Global,
+        yank_size: usize,
+        text: &str,
+        cl: &mut C,
+    ) -> Result<Option<bool>, OutOfMemory>
+        requires size { yank_size ≤ self.old.place }
+        requires start { IsCharBoundary self.old.text (self.old.place - yank_size) }
+        ensures answer { IfOk result (λ a. a ≡ (yank_pop yank_size text.now self.old).answer) }
+        ensures told { OnOk result (Reports C.takes (yank_pop yank_size text.now self.old).events cl.old cl.new self.old.text self.new.text) }
+        ensures line { OnOk result (self.new ≡ (yank_pop yank_size text.now self.old).line) }
+        ensures stopped { OnErr result (StopsAmong C.takes C.refuses (yank_pop yank_size text.now self.old).events cl.old cl.new self.old.text self.new.text) }
+        ensures settings { SameSettings self.old self.new }
+    {
+        self.delete_before(alloc, yank_size, cl)?;
+        match self.yank(alloc, text, 1, cl) {
+            Ok(answer) => Ok(answer),
+            Err(refusal) => Err(refusal),
+        }
+    }
+}

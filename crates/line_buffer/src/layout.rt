@@ -1,0 +1,148 @@
+//! Places on the display, counted in cells.
+
+ghost use Rattle.std.specs.Prelude.{◌≡◌, ◌≤◌, min, false, chars, unwrap_or};
+ghost use Rattle.std.specs.Ordering.{as_partial_cmp};
+ghost use Rattle.unicode_width.specs.Width.{str_width};
+ghost use Rattle.line_buffer.specs.Cells.{origin};
+ghost use Rattle.line_buffer.specs.declared.layout.GraphemeClusterMode.TheVariants.{WcWidth, NoZwj};
+ghost use Rattle.line_buffer.specs.Width.{char_columns_of, width_of};
+ghost use Rattle.line_buffer.specs.CellOrder.{reading_order, reading_order_total, reading_order_agrees, reading_order_ties, reading_order_partial};
+
+use std::cmp::Ordering;
+use unicode_width::{UnicodeWidthChar, UnicodeWidthStr};
+
+/// A number of rows or of columns.
+pub type Unit = u16;
+
+/// A cell of the display, both numbers from 0 on.
+#[derive(Clone, Copy, Debug, Default, PartialEq, Eq)]
+pub struct Position {
+    pub col: Unit,
+    pub row: Unit,
+}
+
+impl Ord for Position {
+    ghost cmp = { reading_order };
+
+    ghost total = { reading_order_total };
+
+    ghost matches_partial_cmp = { reading_order_agrees };
+
+    ghost matches_eq = { reading_order_ties };
+
+    /// By rows, and within a row by columns.
+    fn cmp(&self, other: &Position) -> Ordering {
+        self.row.cmp(&other.row).then(self.col.cmp(&other.col))
+    }
+}
+
+impl PartialOrd for Position {
+    ghost partial_cmp = { as_partial_cmp reading_order };
+
+    ghost laws = { reading_order_partial };
+
+    fn partial_cmp(&self, other: &Position) -> Option<Ordering> {
+        Some(self.cmp(other))
+    }
+}
+
+/// How a terminal counts the columns of a grapheme cluster.
+#[derive(Clone, Copy, Debug, PartialEq, Eq)]
+pub enum GraphemeClusterMode {
+    /// By clusters: an emoji sequence takes the columns of one emoji.
+    Unicode,
+    /// By characters, as C's `wcwidth`.
+    WcWidth,
+    /// By clusters, but without joining at a zero width joiner.
+    NoZwj,
+}
+
+/// Joins the emoji before and after it into one.
+const ZERO_WIDTH_JOINER: char = '\u{200D}';
+
+/// The columns of a text by its clusters.
+fn text_columns(text: &str) -> Unit
+    ensures { result ≡ min (str_width false (chars text.now)) 65535 }
+{
+    Unit::try_from(text.width()).unwrap_or(Unit::MAX)
+}
+
+/// The columns of a character by itself.
+fn char_columns(c: char) -> Unit
+    ensures { result ≡ char_columns_of c }
+{
+    match c.width() {
+        Some(columns) => columns as Unit,
+        None => 0,
+    }
+}
+
+/// The columns of the characters of a text, each by itself.
+fn all_chars_columns(text: &str) -> Unit
+    ensures { result ≡ width_of WcWidth text.now }
+{
+    text.chars()
+        .fold(0, |total: Unit, c| total.saturating_add(char_columns(c)))
+}
+
+/// The columns of the parts of a text between joiners, each by itself.
+fn unjoined_columns(text: &str) -> Unit
+    ensures { result ≡ width_of NoZwj text.now }
+{
+    text.split(ZERO_WIDTH_JOINER).fold(
+        0,
+        |total: Unit, part| total.saturating_add(text_columns(part)),
+    )
+}
+
+impl GraphemeClusterMode {
+    /// The number of columns that a text takes, at most 65,535.
+    pub fn width(&self, text: &str) -> Unit
+        ensures { result ≡ width_of self.now text.now }
+    {
+        match self {
+            GraphemeClusterMode::Unicode => text_columns(text),
+            GraphemeClusterMode::WcWidth => all_chars_columns(text),
+            GraphemeClusterMode::NoZwj => unjoined_columns(text),
+        }
+    }
+}
+
+/// Where the parts of a drawn line stand.
+#[derive(Clone, Copy, Debug, PartialEq, Eq)]
+pub struct Layout {
+    pub grapheme_cluster_mode: GraphemeClusterMode,
+    /// Where the prompt ends.
+    pub prompt_size: Position,
+    /// The prompt is the session's own.
+    pub default_prompt: bool,
+    pub cursor: Position,
+    /// Where the whole drawing ends.
+    pub end: Position,
+    /// A hint or a message is drawn after the text.
+    pub has_info: bool,
+}
+
+impl Layout {
+    /// The layout before anything is drawn.
+    pub fn new(grapheme_cluster_mode: GraphemeClusterMode) -> Self
+        ensures { result ≡ record { grapheme_cluster_mode = grapheme_cluster_mode; prompt_size = origin; default_prompt = false; cursor = origin; end = origin; has_info = false } }
+    {
+        let origin = Position { col: 0, row: 0 };
+        Layout {
+            grapheme_cluster_mode,
+            prompt_size: origin,
+            default_prompt: false,
+            cursor: origin,
+            end: origin,
+            has_info: false,
+        }
+    }
+
+    /// The number of columns that a text takes on this display, at most 65,535.
+    pub fn width(&self, text: &str) -> Unit
+        ensures { result ≡ width_of self.now.grapheme_cluster_mode text.now }
+    {
+        self.grapheme_cluster_mode.width(text)
+    }
+}

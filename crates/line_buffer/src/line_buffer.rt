@@ -1,0 +1,166 @@
+//! The text and the place of the cursor in it.
+
+use std::alloc::{AllocError, Global};
+use std::convert::AsStr;
+use std::marker::Model;
+
+/// The number of bytes that a line is given room for at first.
+pub const MAX_LINE: usize = 4096;
+
+/// There was no memory for the change, or for the listener to take it down.
+#[derive(Clone, Copy, Debug, PartialEq, Eq)]
+pub struct OutOfMemory;
+
+impl From<AllocError> for OutOfMemory {
+    fn from(_: AllocError) -> Self {
+        OutOfMemory
+    }
+}
+
+/// A line that is being edited. Places are in bytes, and the cursor stands between two characters.
+#[derive(Debug, Drop)]
+pub struct LineBuffer {
+    pub(crate) buf: String,
+    pub(crate) pos: usize,
+    pub(crate) can_growth: bool,
+    pub(crate) limit: usize,
+}
+
+impl Model for LineBuffer {
+    ghost use Rattle.std.specs.Prelude.{string_bytes, IsCharBoundary};
+    ghost use Rattle.line_buffer.specs.Line.{Line};
+
+    ghost Value = { Line };
+
+    ghost view = { λ b. record { text = string_bytes b.buf; place = b.pos; growth = b.can_growth; limit = b.limit } };
+
+    ghost invariant = { λ b. IsCharBoundary (string_bytes b.buf) b.pos };
+}
+
+impl AsStr for LineBuffer {
+    ghost text = { λ l. l.text };
+
+    fn as_str(&self) -> &str {
+        self.buf.as_str()
+    }
+}
+
+impl LineBuffer {
+    ghost use Rattle.std.specs.Prelude.{◌≡◌, ◌==◌, ◌<◌, ◌^◌, not, [], length, true, false, IfOk, IsUtf8, IsCharBoundary, string_bytes};
+    ghost use Rattle.line_buffer.specs.Line.{Line};
+
+    /// An empty line with room for `capacity` bytes, which may not grow past that until `can_growth` lets it.
+    pub fn with_capacity(alloc: Global, capacity: usize) -> Result<Self, OutOfMemory>
+        ensures { IfOk result (λ l. l ≡ record { text = []; place = 0; growth = false; limit = capacity }) }
+    {
+        let buf = String::with_capacity(alloc, capacity)?;
+        Ok(LineBuffer {
+            buf,
+            pos: 0,
+            can_growth: false,
+            limit: capacity,
+        })
+    }
+
+    /// The line, with leave to grow or without.
+    pub fn can_growth(self, can_growth: bool) -> Self
+        ensures { result ≡ record self { growth = can_growth } }
+    {
+        LineBuffer {
+            buf: self.buf,
+            pos: self.pos,
+            can_growth,
+            limit: self.limit,
+        }
+    }
+
+    /// The same line in memory of its own.
+    pub fn try_clone(&self, alloc: Global) -> Result<Self, OutOfMemory>
+        ensures { IfOk result (λ l. l ≡ self.now) }
+    {
+        let buf = String::from_str(alloc, self.buf.as_str())?;
+        Ok(LineBuffer {
+            buf,
+            pos: self.pos,
+            can_growth: self.can_growth,
+            limit: self.limit,
+        })
+    }
+
+    /// The text.
+    pub fn as_str(&self) -> &str
+        ensures value { result.now ≡ self.now.text }
+        ensures utf8 { IsUtf8 self.now.text }
+    {
+        self.buf.as_str()
+    }
+
+    /// The text, the line being no longer needed.
+    pub fn into_string(self) -> String
+        ensures { string_bytes result ≡ self.text }
+    {
+        self.buf
+    }
+
+    /// The cursor's place.
+    pub fn pos(&self) -> usize
+        ensures value { result ≡ self.now.place }
+        ensures boundary { IsCharBoundary self.now.text self.now.place }
+    {
+        self.pos
+    }
+
+    /// The cursor stands after the whole text.
+    pub fn is_cursor_at_end(&self) -> bool
+        ensures { result ≡ (self.now.place == length self.now.text) }
+    {
+        self.pos == self.buf.len()
+    }
+
+    /// Puts the cursor at a place between two characters, which `as_str().is_char_boundary(pos)` tells.
+    pub fn set_pos(&mut self, pos: usize)
+        requires { IsCharBoundary self.old.text pos }
+        ensures { self.new ≡ record self.old { place = pos } }
+    {
+        self.pos = pos;
+    }
+
+    /// The number of bytes of the text.
+    pub fn len(&self) -> usize
+        ensures { result ≡ length self.now.text }
+    {
+        self.buf.len()
+    }
+
+    /// There is no text.
+    pub fn is_empty(&self) -> bool
+        ensures { result ≡ (length self.now.text == 0) }
+    {
+        self.buf.is_empty()
+    }
+
+    /// Puts the cursor before the whole text; false where it stood there.
+    pub fn move_buffer_start(&mut self) -> bool
+        ensures answer { result ≡ not (self.old.place == 0) }
+        ensures line { self.new ≡ record self.old { place = 0 } }
+    {
+        if self.pos == 0 {
+            return false;
+        }
+        self.set_pos(0);
+        true
+    }
+
+    /// Puts the cursor after the whole text; false where it stood there.
+    pub fn move_buffer_end(&mut self) -> bool
+        ensures answer { result ≡ not (self.old.place == length self.old.text) }
+        ensures line { self.new ≡ record self.old { place = length self.old.text } }
+    {
+        if self.is_cursor_at_end() {
+            return false;
+        }
+        let end = self.len();
+        self.set_pos(end);
+        true
+    }
+}

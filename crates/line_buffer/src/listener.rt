@@ -1,0 +1,110 @@
+//! Who is told of the changes of a text: an undo record, a kill ring.
+
+use crate::line_buffer::OutOfMemory;
+use crate::types::Direction;
+use std::alloc::Global;
+
+/// Told of each deletion, and of when a run of deletions is a kill.
+///
+/// `takes` says what an event makes of the listener, and `refuses` what is left of it where it refuses one.
+pub trait DeleteListener {
+    ghost use Rattle.std.specs.Prelude.{OnOk, OnErr};
+    ghost use Rattle.line_buffer.specs.Event.{Event};
+    ghost use Rattle.line_buffer.specs.Event.Event.{StartKilling, StopKilling, Delete};
+
+    ghost takes: { Self → Event → Self → Type 0 };
+
+    ghost refuses: { Self → Event → Self → Type 0 };
+
+    /// What is deleted from now on is killed text.
+    fn start_killing(&mut self)
+        ensures { takes self.old StartKilling self.new };
+
+    /// `text` is about to leave the byte place `idx`.
+    fn delete(
+        &mut self,
+        alloc: Global,
+        idx: usize,
+        text: &str,
+        direction: Direction,
+    ) -> Result<(), OutOfMemory>
+        ensures ok { OnOk result (takes self.old (Delete idx text.now direction) self.new) }
+        ensures err { OnErr result (refuses self.old (Delete idx text.now direction) self.new) };
+
+    /// What is deleted from now on is no killed text.
+    fn stop_killing(&mut self)
+        ensures { takes self.old StopKilling self.new };
+}
+
+/// Told of every change of a text, each before it is made. Places are in bytes.
+pub trait ChangeListener: DeleteListener {
+    ghost use Rattle.std.specs.Prelude.{OnOk, OnErr};
+    ghost use Rattle.line_buffer.specs.Event.Event.{InsertChar, InsertStr, Replace};
+
+    /// The character `c` is about to be put at `idx`.
+    fn insert_char(&mut self, alloc: Global, idx: usize, c: char) -> Result<(), OutOfMemory>
+        ensures ok { OnOk result (Self.takes self.old (InsertChar idx c) self.new) }
+        ensures err { OnErr result (Self.refuses self.old (InsertChar idx c) self.new) };
+
+    /// The text `text` is about to be put at `idx`.
+    fn insert_str(&mut self, alloc: Global, idx: usize, text: &str) -> Result<(), OutOfMemory>
+        ensures ok { OnOk result (Self.takes self.old (InsertStr idx text.now) self.new) }
+        ensures err { OnErr result (Self.refuses self.old (InsertStr idx text.now) self.new) };
+
+    /// At `idx`, `removed` is about to be replaced by `added`.
+    fn replace(
+        &mut self,
+        alloc: Global,
+        idx: usize,
+        removed: &str,
+        added: &str,
+    ) -> Result<(), OutOfMemory>
+        ensures ok { OnOk result (Self.takes self.old (Replace idx removed.now added.now) self.new) }
+        ensures err { OnErr result (Self.refuses self.old (Replace idx removed.now added.now) self.new) };
+}
+
+/// Listens to nothing, and never refuses.
+#[derive(Clone, Copy, Debug, PartialEq, Eq)]
+pub struct NoListener;
+
+impl DeleteListener for NoListener {
+    ghost use Rattle.std.specs.Prelude.{⊤};
+
+    ghost takes = { λ _ _ _. ⊤ };
+
+    ghost refuses = { λ _ _ _. ⊥ };
+
+    fn start_killing(&mut self) {}
+
+    fn delete(
+        &mut self,
+        _alloc: Global,
+        _idx: usize,
+        _text: &str,
+        _direction: Direction,
+    ) -> Result<(), OutOfMemory> {
+        Ok(())
+    }
+
+    fn stop_killing(&mut self) {}
+}
+
+impl ChangeListener for NoListener {
+    fn insert_char(&mut self, _alloc: Global, _idx: usize, _c: char) -> Result<(), OutOfMemory> {
+        Ok(())
+    }
+
+    fn insert_str(&mut self, _alloc: Global, _idx: usize, _text: &str) -> Result<(), OutOfMemory> {
+        Ok(())
+    }
+
+    fn replace(
+        &mut self,
+        _alloc: Global,
+        _idx: usize,
+        _removed: &str,
+        _added: &str,
+    ) -> Result<(), OutOfMemory> {
+        Ok(())
+    }
+}

@@ -1,0 +1,160 @@
+//! Motions by grapheme clusters, and to the ends of a row.
+//!
+//! Clusters are the extended grapheme clusters of UAX #29, and places are in bytes. The text before the cursor and the text
+//! after it are cut into clusters each by itself. Rows end at newlines.
+
+ghost use Rattle.std.specs.Prelude.{◌≡◌, ◌+◌, ◌<◌, ◌≤◌, ◌==◌, length, reverse, take, not, is_some, chars, IfSome, None, option_map, IsCharBoundary};
+ghost use Rattle.std.specs.List.{last_or, list_all, prefix_len, suffix_len};
+ghost use Rattle.std.specs.Char.{is_whitespace};
+ghost use Rattle.line_buffer.specs.Clusters.{clusters, place_forward, place_backward, IsPart};
+ghost use Rattle.line_buffer.specs.Line.{moved_to, text_after};
+ghost use Rattle.line_buffer.specs.Rows.{row_start, row_end, is_in_row};
+
+use crate::line_buffer::LineBuffer;
+use crate::types::RepeatCount;
+use unicode_segmentation::UnicodeSegmentation;
+
+/// The n-th cluster, or the last where fewer stand, with its place.
+pub(crate) fn nth_cluster(text: &str, n: RepeatCount) -> Option<(usize, &str)>
+    ensures value { option_map (λ p. (p.0, p.1.now)) result ≡ last_or None (take n (clusters text.now)) }
+    ensures part { IfSome result (λ p. IsPart text.now p.0 (length p.1.now)) }
+{
+    text.grapheme_indices(true).take(usize::from(n)).last()
+}
+
+/// The n-th cluster from the end, or the first where fewer stand, with its place.
+pub(crate) fn nth_cluster_back(text: &str, n: RepeatCount) -> Option<(usize, &str)>
+    ensures value { option_map (λ p. (p.0, p.1.now)) result ≡ last_or None (take n (reverse (clusters text.now))) }
+    ensures part { IfSome result (λ p. IsPart text.now p.0 (length p.1.now)) }
+{
+    text.grapheme_indices(true)
+        .rev()
+        .take(usize::from(n))
+        .last()
+}
+
+/// How many bytes at the front lie before the first newline.
+fn row_bytes_after(bytes: &[u8]) -> usize
+    ensures value { result ≡ prefix_len is_in_row bytes.now }
+    ensures bound { result ≤ length bytes.now }
+{
+    bytes.iter().take_while(|byte| **byte != b'\n').count()
+}
+
+/// How many bytes at the end lie behind the last newline.
+fn row_bytes_before(bytes: &[u8]) -> usize
+    ensures value { result ≡ suffix_len is_in_row bytes.now }
+    ensures bound { result ≤ length bytes.now }
+{
+    bytes
+        .iter()
+        .rev()
+        .take_while(|byte| **byte != b'\n')
+        .count()
+}
+
+impl LineBuffer {
+    /// The place after the n-th cluster after the cursor, the text's end where fewer stand.
+    pub fn next_pos(&self, n: RepeatCount) -> Option<usize>
+        ensures value { result ≡ place_forward n self.now }
+        ensures boundary { IfSome result (λ p. IsCharBoundary self.now.text p) }
+        ensures later { IfSome result (λ p. self.now.place ≤ p) }
+    {
+        match nth_cluster(&self.buf[self.pos..], n) {
+            Some((i, cluster)) => Some(self.pos + i + cluster.len()),
+            None => None,
+        }
+    }
+
+    /// The place before the n-th cluster before the cursor, the text's start where fewer stand.
+    pub(crate) fn prev_pos(&self, n: RepeatCount) -> Option<usize>
+        ensures value { result ≡ place_backward n self.now }
+        ensures boundary { IfSome result (λ p. IsCharBoundary self.now.text p) }
+        ensures earlier { IfSome result (λ p. p ≤ self.now.place) }
+    {
+        match nth_cluster_back(&self.buf[..self.pos], n) {
+            Some((i, _)) => Some(i),
+            None => None,
+        }
+    }
+
+    /// Puts the cursor at a place that was found; false where none was.
+    pub(crate) fn move_to_found(&mut self, found: Option<usize>) -> bool
+        requires { IfSome found (λ p. IsCharBoundary self.old.text p) }
+        ensures answer { result ≡ is_some found }
+        ensures line { self.new ≡ moved_to found self.old }
+    {
+        match found {
+            Some(pos) => {
+                self.set_pos(pos);
+                true
+            }
+            None => false,
+        }
+    }
+
+    /// Moves the cursor over n clusters, or to the text's end; false where it doesn't move.
+    pub fn move_forward(&mut self, n: RepeatCount) -> bool
+        ensures answer { result ≡ is_some (place_forward n self.old) }
+        ensures line { self.new ≡ moved_to (place_forward n self.old) self.old }
+    {
+        let found = self.next_pos(n);
+        self.move_to_found(found)
+    }
+
+    /// Moves the cursor back over n clusters, or to the text's start; false where it doesn't move.
+    pub fn move_backward(&mut self, n: RepeatCount) -> bool
+        ensures answer { result ≡ is_some (place_backward n self.old) }
+        ensures line { self.new ≡ moved_to (place_backward n self.old) self.old }
+    {
+        let found = self.prev_pos(n);
+        self.move_to_found(found)
+    }
+
+    /// The start of the cursor's row.
+    pub(crate) fn row_start(&self) -> usize
+        ensures value { result ≡ row_start self.now.text self.now.place }
+        ensures boundary { IsCharBoundary self.now.text result }
+        ensures earlier { result ≤ self.now.place }
+    {
+        self.pos - row_bytes_before(&self.buf.as_bytes()[..self.pos])
+    }
+
+    /// The end of the cursor's row, before its newline.
+    pub(crate) fn row_end(&self) -> usize
+        ensures value { result ≡ row_end self.now.text self.now.place }
+        ensures boundary { IsCharBoundary self.now.text result }
+        ensures later { self.now.place ≤ result }
+    {
+        self.pos + row_bytes_after(&self.buf.as_bytes()[self.pos..])
+    }
+
+    /// Moves the cursor to the start of its row; false where it stands there.
+    pub fn move_home(&mut self) -> bool
+        ensures answer { result ≡ not (row_start self.old.text self.old.place == self.old.place) }
+        ensures line { self.new ≡ record self.old { place = row_start self.old.text self.old.place } }
+    {
+        let start = self.row_start();
+        let moves = start != self.pos;
+        self.set_pos(start);
+        moves
+    }
+
+    /// Moves the cursor to the end of its row; false where it stands there.
+    pub fn move_end(&mut self) -> bool
+        ensures answer { result ≡ not (row_end self.old.text self.old.place == self.old.place) }
+        ensures line { self.new ≡ record self.old { place = row_end self.old.text self.old.place } }
+    {
+        let end = self.row_end();
+        let moves = end != self.pos;
+        self.set_pos(end);
+        moves
+    }
+
+    /// Only whitespace follows on the cursor.
+    pub fn is_end_of_input(&self) -> bool
+        ensures { result ≡ list_all is_whitespace (chars (text_after self.now)) }
+    {
+        self.buf[self.pos..].chars().all(|c| c.is_whitespace())
+    }
+}

@@ -1,0 +1,179 @@
+//! The part of the text that a movement names.
+
+use crate::line_buffer::LineBuffer;
+use crate::types::{CharSearch, Direction, Movement, RepeatCount};
+
+/// A part of the text that is taken out, in byte places, and the way in which it goes.
+#[derive(Clone, Copy, Debug, PartialEq, Eq)]
+pub struct Span {
+    pub from: usize,
+    pub upto: usize,
+    pub direction: Direction,
+}
+
+impl LineBuffer {
+    ghost use Rattle.std.specs.Prelude.{◌≡◌, ◌≤◌, IfSome, IsCharBoundary, option_map};
+    ghost use Rattle.line_buffer.specs.Range.{IsSpanOf, up_to_cursor, from_cursor, around_cursor, to_row_end, from_row_start, search_range, range_of, copied_range};
+
+    /// What lies between an earlier place and the cursor.
+    fn back_to(&self, found: Option<usize>) -> Option<Span>
+        requires earlier { IfSome found (λ i. i ≤ self.now.place) }
+        requires boundary { IfSome found (λ i. IsCharBoundary self.now.text i) }
+        ensures value { result ≡ option_map (λ i. up_to_cursor i self.now) found }
+        ensures span { IfSome result (λ s. IsSpanOf self.now.text s) }
+    {
+        match found {
+            Some(from) => Some(Span {
+                from,
+                upto: self.pos,
+                direction: Direction::Backward,
+            }),
+            None => None,
+        }
+    }
+
+    /// What lies between the cursor and a later place.
+    fn on_to(&self, found: Option<usize>) -> Option<Span>
+        requires later { IfSome found (λ i. self.now.place ≤ i) }
+        requires boundary { IfSome found (λ i. IsCharBoundary self.now.text i) }
+        ensures value { result ≡ option_map (λ i. from_cursor i self.now) found }
+        ensures span { IfSome result (λ s. IsSpanOf self.now.text s) }
+    {
+        match found {
+            Some(upto) => Some(Span {
+                from: self.pos,
+                upto,
+                direction: Direction::Forward,
+            }),
+            None => None,
+        }
+    }
+
+    /// What lies between two places, which goes back where it ends at the cursor.
+    fn around(&self, found: Option<(usize, usize)>) -> Option<Span>
+        requires order { IfSome found (λ r. r.0 ≤ r.1) }
+        requires start { IfSome found (λ r. IsCharBoundary self.now.text r.0) }
+        requires end { IfSome found (λ r. IsCharBoundary self.now.text r.1) }
+        ensures value { result ≡ option_map (λ r. around_cursor r.0 r.1 self.now) found }
+        ensures span { IfSome result (λ s. IsSpanOf self.now.text s) }
+    {
+        match found {
+            Some((from, upto)) => Some(Span {
+                from,
+                upto,
+                direction: if upto == self.pos {
+                    Direction::Backward
+                } else {
+                    Direction::Forward
+                },
+            }),
+            None => None,
+        }
+    }
+
+    /// From a place of the cursor's row to the row's end; at that end the newline, if one is there.
+    fn to_row_end(&self, from: usize) -> Option<Span>
+        requires earlier { from ≤ self.now.place }
+        requires boundary { IsCharBoundary self.now.text from }
+        ensures value { result ≡ to_row_end from self.now }
+        ensures span { IfSome result (λ s. IsSpanOf self.now.text s) }
+    {
+        let _text = self.as_str();
+        let end = self.row_end();
+        let upto = if from < end {
+            end
+        } else if end < self.len() {
+            end + 1
+        } else {
+            return None;
+        };
+        Some(Span {
+            from,
+            upto,
+            direction: Direction::Forward,
+        })
+    }
+
+    /// From the row's start to the cursor; at that start the newline before, if one is there.
+    fn from_row_start(&self) -> Option<Span>
+        ensures value { result ≡ from_row_start self.now }
+        ensures span { IfSome result (λ s. IsSpanOf self.now.text s) }
+    {
+        let start = self.row_start();
+        if start < self.pos {
+            self.back_to(Some(start))
+        } else if self.pos > 0 {
+            self.back_to(Some(self.pos - 1))
+        } else {
+            None
+        }
+    }
+
+    /// As far as a character that is found: with it, or up to it.
+    fn search_range(&self, search: CharSearch, n: RepeatCount) -> Option<Span>
+        ensures value { result ≡ search_range search n self.now }
+        ensures span { IfSome result (λ s. IsSpanOf self.now.text s) }
+    {
+        let _longest = self.len();
+        match search {
+            CharSearch::Forward(c) => match self.hit_forward(c, n) {
+                Some(i) => self.on_to(Some(i + c.len_utf8())),
+                None => None,
+            },
+            CharSearch::ForwardBefore(c) => self.on_to(self.hit_forward(c, n)),
+            CharSearch::Backward(c) => self.back_to(self.hit_backward(c, n)),
+            CharSearch::BackwardAfter(c) => match self.hit_backward(c, n) {
+                Some(i) => self.back_to(Some(i + c.len_utf8())),
+                None => None,
+            },
+        }
+    }
+
+    /// The part of the text that a kill by the movement takes out.
+    pub(crate) fn range_of(&self, movement: &Movement) -> Option<Span>
+        ensures value { result ≡ range_of movement.now self.now }
+        ensures span { IfSome result (λ s. IsSpanOf self.now.text s) }
+    {
+        let _text = self.as_str();
+        let place = self.pos();
+        match movement {
+            Movement::WholeLine => self.to_row_end(self.row_start()),
+            Movement::BeginningOfLine => self.from_row_start(),
+            Movement::EndOfLine => self.to_row_end(place),
+            Movement::BackwardWord(n, word) => self.back_to(self.prev_word_pos(*word, *n)),
+            Movement::ForwardWord(n, at, word) => self.on_to(self.next_word_pos(*at, *word, *n)),
+            Movement::ViCharSearch(n, search) => self.search_range(*search, *n),
+            Movement::ViFirstPrint => None,
+            Movement::BackwardChar(n) => self.back_to(self.prev_pos(*n)),
+            Movement::ForwardChar(n) => self.on_to(self.next_pos(*n)),
+            Movement::LineUp(n) => self.around(self.rows_above(*n)),
+            Movement::LineDown(n) => self.around(self.rows_below(*n)),
+            Movement::WholeBuffer if self.is_empty() => None,
+            Movement::WholeBuffer => self.around(Some((0, self.len()))),
+            Movement::BeginningOfBuffer if place == 0 => None,
+            Movement::BeginningOfBuffer => self.back_to(Some(0)),
+            Movement::EndOfBuffer if self.is_cursor_at_end() => None,
+            Movement::EndOfBuffer => self.on_to(Some(self.len())),
+        }
+    }
+
+    /// The part of the text that a movement copies.
+    pub(crate) fn copied_range(&self, movement: &Movement) -> Option<Span>
+        ensures value { result ≡ copied_range movement.now self.now }
+        ensures span { IfSome result (λ s. IsSpanOf self.now.text s) }
+    {
+        let start = self.row_start();
+        let end = self.row_end();
+        match movement {
+            Movement::WholeLine if start == end => None,
+            Movement::WholeLine => Some(Span {
+                from: start,
+                upto: end,
+                direction: Direction::Forward,
+            }),
+            Movement::BeginningOfLine if start == self.pos() => None,
+            Movement::EndOfLine if self.pos() == end => None,
+            movement => self.range_of(movement),
+        }
+    }
+}

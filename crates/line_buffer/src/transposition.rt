@@ -1,0 +1,187 @@
+//! Clusters and words exchanged with the ones before them.
+
+ghost use Rattle.std.specs.Prelude.{◌≡◌, ◌≤◌, IfOk, IsCharBoundary, string_bytes};
+ghost use Rattle.line_buffer.specs.Transpositions.{has_two_clusters, exchanged};
+
+use crate::line_buffer::{LineBuffer, OutOfMemory};
+use crate::listener::ChangeListener;
+use crate::types::{At, RepeatCount, Word};
+use std::alloc::Global;
+use std::ops::Range;
+use unicode_segmentation::UnicodeSegmentation;
+
+/// The text is more than one cluster.
+fn has_two_clusters(text: &str) -> bool
+    ensures { result ≡ has_two_clusters text.now }
+{
+    let mut clusters = text.graphemes(true);
+    clusters.next();
+    clusters.next().is_some()
+}
+
+/// Two neighbouring parts of a text, the later one first.
+fn exchanged(
+    alloc: Global,
+    text: &str,
+    from: usize,
+    middle: usize,
+    upto: usize,
+) -> Result<String, OutOfMemory>
+    requires first { from ≤ middle }
+    requires second { middle ≤ upto }
+    requires from { IsCharBoundary text.now from }
+    requires middle { IsCharBoundary text.now middle }
+    requires upto { IsCharBoundary text.now upto }
+    ensures { IfOk result (λ t. string_bytes t ≡ exchanged (from, middle, upto) text.now) }
+{
+    let mut made = String::with_capacity(alloc, upto - from)?;
+    made.push_str(&text[middle..upto])?;
+    made.push_str(&text[from..middle])?;
+    Ok(made)
+}
+
+impl LineBuffer {
+    ghost use Rattle.std.specs.Prelude.{◌≡◌, ◌≤◌, length, IfOk, OnOk, OnErr, IsCharBoundary};
+    ghost use Rattle.line_buffer.specs.Settings.{SameSettings};
+    ghost use Rattle.line_buffer.specs.Replay.{Reports, StopsAmong};
+    ghost use Rattle.line_buffer.specs.Transpositions.{between_clusters, clusters_at, transposes_chars, transpose_chars_events, transpose_chars_line, after_words, before_words, words_around, swap_events, swap_line, transposes_words, transpose_words_events, transpose_words_line};
+
+    /// Where the two clusters at the cursor start, meet and end; at the text's end those are the last two.
+    fn clusters_at_cursor(&mut self) -> (usize, usize, usize)
+        ensures value { result ≡ clusters_at (between_clusters self.old) }
+        ensures line { self.new ≡ self.old }
+        ensures first { result.0 ≤ result.1 }
+        ensures second { result.1 ≤ result.2 }
+        ensures from { IsCharBoundary self.old.text result.0 }
+        ensures middle { IsCharBoundary self.old.text result.1 }
+        ensures upto { IsCharBoundary self.old.text result.2 }
+    {
+        let place = self.pos();
+        if self.is_cursor_at_end() {
+            self.move_backward(1);
+        }
+        let middle = self.pos();
+        let from = self.prev_pos(1).unwrap_or(middle);
+        let upto = self.next_pos(1).unwrap_or(middle);
+        self.set_pos(place);
+        (from, middle, upto)
+    }
+
+    /// Puts the cluster at the cursor, at the text's end the last one, before the cluster before it, and the cursor behind
+    /// both. False at the text's start, and where there aren't two clusters.
+    pub fn transpose_chars<C: ChangeListener>(
+        &mut self,
+        alloc: Global,
+        cl: &mut C,
+    ) -> Result<bool, OutOfMemory>
+        ensures answer { IfOk result (λ b. b ≡ transposes_chars self.old) }
+        ensures told { OnOk result (Reports C.takes (transpose_chars_events self.old) cl.old cl.new self.old.text self.new.text) }
+        ensures line { OnOk result (self.new ≡ transpose_chars_line self.old) }
+        ensures stopped { OnErr result (StopsAmong C.takes C.refuses (transpose_chars_events self.old) cl.old cl.new self.old.text self.new.text) }
+        ensures kept { OnErr result (self.new ≡ self.old) }
+        ensures length { length self.new.text ≡ length self.old.text }
+    {
+        if self.pos() == 0 || !has_two_clusters(self.as_str()) {
+            return Ok(false);
+        }
+        let (from, middle, upto) = self.clusters_at_cursor();
+        let swapped = exchanged(alloc, self.as_str(), from, middle, upto)?;
+        match self.replace(alloc, from..upto, swapped.as_str(), cl) {
+            Ok(()) => Ok(true),
+            Err(refusal) => Err(refusal),
+        }
+    }
+
+    /// Moves the cursor to the n-th later end of a word, where there is one, and answers its place.
+    #[tactic(auto, unfolding(crate::specs::Transpositions::after_words))]
+    fn on_by_words(&mut self, n: RepeatCount) -> usize
+        ensures value { result ≡ (after_words n self.old).place }
+        ensures line { self.new ≡ after_words n self.old }
+        ensures same { self.new ≡ record self.old { place = result } }
+        ensures later { self.old.place ≤ result }
+        ensures boundary { IsCharBoundary self.old.text result }
+    {
+        let place = self.pos();
+        let found = self
+            .next_word_pos(At::AfterEnd, Word::Emacs, n)
+            .unwrap_or(place);
+        self.set_pos(found);
+        found
+    }
+
+    /// Moves the cursor to the n-th earlier start of a word, where there is one, and answers its place.
+    #[tactic(auto, unfolding(crate::specs::Transpositions::before_words))]
+    fn back_by_words(&mut self, n: RepeatCount) -> usize
+        ensures value { result ≡ (before_words n self.old).place }
+        ensures line { self.new ≡ before_words n self.old }
+        ensures same { self.new ≡ record self.old { place = result } }
+        ensures earlier { result ≤ self.old.place }
+        ensures boundary { IsCharBoundary self.old.text result }
+    {
+        let place = self.pos();
+        let found = self.prev_word_pos(Word::Emacs, n).unwrap_or(place);
+        self.set_pos(found);
+        found
+    }
+
+    /// Exchanges two parts, the later one first, with the cursor behind both.
+    fn swap<C: ChangeListener>(
+        &mut self,
+        alloc: Global,
+        first: Range<usize>,
+        second: Range<usize>,
+        cl: &mut C,
+    ) -> Result<(), OutOfMemory>
+        requires first { first.start ≤ first.end }
+        requires apart { first.end ≤ second.start }
+        requires second { second.start ≤ second.end }
+        requires first_start { IsCharBoundary self.old.text first.start }
+        requires first_end { IsCharBoundary self.old.text first.end }
+        requires second_start { IsCharBoundary self.old.text second.start }
+        requires second_end { IsCharBoundary self.old.text second.end }
+        ensures told { OnOk result (Reports C.takes (swap_events (record { first_start = first.start; first_end = first.end; second_start = second.start; second_end = second.end }) self.old.text) cl.old cl.new self.old.text self.new.text) }
+        ensures line { OnOk result (self.new ≡ swap_line (record { first_start = first.start; first_end = first.end; second_start = second.start; second_end = second.end }) self.old) }
+        ensures stopped { OnErr result (StopsAmong C.takes C.refuses (swap_events (record { first_start = first.start; first_end = first.end; second_start = second.start; second_end = second.end }) self.old.text) cl.old cl.new self.old.text self.new.text) }
+        ensures settings { SameSettings self.old self.new }
+    {
+        let earlier = self.copy_part(alloc, first.start, first.end)?;
+        let later = self.copy_part(alloc, second.start, second.end)?;
+        let _text = self.as_str();
+        let end = second.end;
+        self.replace(alloc, second, earlier.as_str(), cl)?;
+        match self.replace(alloc, first, later.as_str(), cl) {
+            Ok(()) => {
+                self.set_pos(end);
+                Ok(())
+            }
+            Err(refusal) => Err(refusal),
+        }
+    }
+
+    /// Exchanges the word at the cursor or after it, the n-th by its end, with the one n words before, and puts the cursor
+    /// behind both. Where these aren't two words, false, and the cursor stays after the earlier one.
+    pub fn transpose_words<C: ChangeListener>(
+        &mut self,
+        alloc: Global,
+        n: RepeatCount,
+        cl: &mut C,
+    ) -> Result<bool, OutOfMemory>
+        ensures answer { IfOk result (λ b. b ≡ transposes_words n self.old) }
+        ensures told { OnOk result (Reports C.takes (transpose_words_events n self.old) cl.old cl.new self.old.text self.new.text) }
+        ensures line { OnOk result (self.new ≡ transpose_words_line n self.old) }
+        ensures stopped { OnErr result (StopsAmong C.takes C.refuses (transpose_words_events n self.old) cl.old cl.new self.old.text self.new.text) }
+        ensures settings { SameSettings self.old self.new }
+    {
+        let second_end = self.on_by_words(n);
+        let second_start = self.back_by_words(1);
+        let first_start = self.back_by_words(n);
+        let first_end = self.on_by_words(1);
+        if first_start == second_start || second_start < first_end {
+            return Ok(false);
+        }
+        match self.swap(alloc, first_start..first_end, second_start..second_end, cl) {
+            Ok(()) => Ok(true),
+            Err(refusal) => Err(refusal),
+        }
+    }
+}

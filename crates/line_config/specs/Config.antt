@@ -1,0 +1,46 @@
+-- The settings before any is set, and what two of the calls that set them make of their argument.
+use Rattle.std.specs.Prelude.{ℕ, Bool, true, false, Option, Some, None}
+use Rattle.line_buffer.specs.declared.layout.GraphemeClusterMode.TheVariants.{Unicode}
+use Rattle.line_config.specs.declared.config.Config.{Config}
+use Rattle.line_config.specs.declared.settings.BellStyle.TheVariants.{Audible}
+use Rattle.line_config.specs.declared.settings.HistoryDuplicates.{HistoryDuplicates}
+use Rattle.line_config.specs.declared.settings.HistoryDuplicates.TheVariants.{AlwaysAdd, IgnoreConsecutive}
+use Rattle.line_config.specs.declared.settings.CompletionType.TheVariants.{Circular}
+use Rattle.line_config.specs.declared.settings.EditMode.{EditMode}
+use Rattle.line_config.specs.declared.settings.EditMode.TheVariants.{Emacs, Vi}
+use Rattle.line_config.specs.declared.settings.ColorMode.TheVariants.{Enabled}
+use Rattle.line_config.specs.declared.settings.Behavior.TheVariants.{Stdio}
+
+-- timeouts are in milliseconds, a tab in columns, an indentation in spaces
+abbrev pub default_config : Config
+default_config = record {
+  max_history_size = 100;
+  history_duplicates = IgnoreConsecutive;
+  history_ignore_space = false;
+  completion_type = Circular;
+  completion_show_all_if_ambiguous = false;
+  completion_prompt_limit = 100;
+  keyseq_timeout = None;
+  edit_mode = Emacs;
+  auto_add_history = false;
+  bell_style = Audible;
+  color_mode = Enabled;
+  grapheme_cluster_mode = Unicode;
+  behavior = Stdio;
+  tab_stop = 8;
+  indent_size = 2;
+  check_cursor_position = false;
+  enable_bracketed_paste = true;
+  enable_synchronized_output = true;
+  enable_signals = false;
+}
+
+-- which lines are left out where repeated ones are ignored, or not
+abbrev pub duplicates_of : Bool → HistoryDuplicates
+duplicates_of true = IgnoreConsecutive
+duplicates_of false = AlwaysAdd
+
+-- the timeout of key sequences that is set with a mode
+abbrev pub timeout_of : EditMode → Option ℕ
+timeout_of Emacs = None
+timeout_of Vi = Some 500

@@ -1,0 +1,52 @@
+-- The refusals: their texts, and which of them are faults.
+use Rattle.std.specs.Prelude.{◌≡◌, ℕ, List, Bool, true, false, IsTrue, IsFalse, Result, Ok, Err, codes, ⊤}
+use Rattle.line_config.specs.declared.errors.ReadlineError.{ReadlineError}
+use Rattle.line_config.specs.declared.errors.ReadlineError.TheVariants.{Eof, Interrupted, NotUtf8, PasteOutOfPlace, Reader, Display, Lines, HistoryText, Helper, Handler, Memory}
+
+-- what a refusal's Display writes
+abbrev pub refusal_text : ReadlineError → List ℕ
+refusal_text Eof = codes "EOF"
+refusal_text Interrupted = codes "Interrupted"
+refusal_text NotUtf8 = codes "input is not UTF-8"
+refusal_text PasteOutOfPlace = codes "paste out of place"
+refusal_text Reader = codes "input failed"
+refusal_text Display = codes "display failed"
+refusal_text Lines = codes "line output failed"
+refusal_text HistoryText = codes "history text failed"
+refusal_text Helper = codes "helper failed"
+refusal_text Handler = codes "handler failed"
+refusal_text Memory = codes "out of memory"
+
+-- whether a refusal is a fault: one that no input gives. A reader's failure isn't one here, since a
+-- steady source says where it stands.
+abbrev pub is_fault : ReadlineError → Bool
+is_fault Eof = false
+is_fault Interrupted = false
+is_fault NotUtf8 = false
+is_fault PasteOutOfPlace = false
+is_fault Reader = false
+is_fault Display = true
+is_fault Lines = true
+is_fault HistoryText = true
+is_fault Helper = true
+is_fault Handler = true
+is_fault Memory = true
+
+abbrev pub IsFault : ReadlineError → Type 0
+IsFault refusal = IsTrue (is_fault refusal)
+
+abbrev pub IsMet : ReadlineError → Type 0
+IsMet refusal = IsFalse (is_fault refusal)
+
+-- the input alone gives this result: no fault came
+abbrev pub Met : {X : Type 0} → Result X ReadlineError → Type 0
+Met (Ok x) = ⊤
+Met (Err refusal) = IsMet refusal
+
+-- the same over a source that may be steady or not: where it isn't, its own failure is a fault too
+abbrev pub IsMetBy : Bool → ReadlineError → Type 0
+IsMetBy steady refusal = IsMet refusal × (refusal ≡ Reader → IsTrue steady)
+
+abbrev pub MetBy : {X : Type 0} → Bool → Result X ReadlineError → Type 0
+MetBy steady (Ok x) = ⊤
+MetBy steady (Err refusal) = IsMetBy steady refusal

@@ -1,0 +1,197 @@
+//! Making settings.
+ghost use Rattle.std.specs.Prelude.{◌≡◌, Ok};
+ghost use Rattle.std.proofs.Common.{refl};
+ghost use Rattle.line_config.specs.Config.{default_config, duplicates_of, timeout_of};
+
+use crate::config::Config;
+use crate::configurer::Configurer;
+use crate::errors::ReadlineError;
+use crate::settings::{Behavior, BellStyle, ColorMode, CompletionType, EditMode};
+use line_buffer::GraphemeClusterMode;
+
+/// A builder of settings: each call sets one and gives the builder back.
+#[derive(Clone, Debug, Default, Drop)]
+pub struct Builder {
+    pub(crate) config: Config,
+}
+
+impl Builder {
+    /// The default settings.
+    pub fn new() -> Self
+        ensures { result.config ≡ default_config }
+    {
+        Builder {
+            config: Config::default(),
+        }
+    }
+
+    /// The settings as set.
+    pub fn build(self) -> Config
+        ensures { result ≡ self.config }
+    {
+        self.config
+    }
+
+    /// Sets how many entries a history keeps at most.
+    pub fn max_history_size(mut self, max_size: usize) -> Result<Self, ReadlineError>
+        ensures { result ≡ Ok (record { config = record self.config { max_history_size = max_size } }) }
+    {
+        self.set_max_history_size(max_size)?;
+        Ok(self)
+    }
+
+    /// Sets whether a line that equals the last entry is left out of the history.
+    pub fn history_ignore_dups(mut self, yes: bool) -> Result<Self, ReadlineError>
+        ensures { result ≡ Ok (record { config = record self.config { history_duplicates = duplicates_of yes } }) }
+    {
+        self.set_history_ignore_dups(yes)?;
+        Ok(self)
+    }
+
+    /// Sets whether a line that begins with whitespace is left out of the history.
+    pub fn history_ignore_space(mut self, yes: bool) -> Self
+        ensures { result ≡ record { config = record self.config { history_ignore_space = yes } } }
+    {
+        self.set_history_ignore_space(yes);
+        self
+    }
+
+    /// Sets what becomes of several candidates of a completion. A session keeps it and does nothing
+    /// with it.
+    pub fn completion_type(mut self, completion_type: CompletionType) -> Self
+        ensures { result ≡ record { config = record self.config { completion_type = completion_type } } }
+    {
+        self.set_completion_type(completion_type);
+        self
+    }
+
+    /// Sets whether all candidates are listed at once. A session keeps it and does nothing with it.
+    pub fn completion_show_all_if_ambiguous(mut self, yes: bool) -> Self
+        ensures { result ≡ record { config = record self.config { completion_show_all_if_ambiguous = yes } } }
+    {
+        self.set_completion_show_all_if_ambiguous(yes);
+        self
+    }
+
+    /// Sets how many candidates are listed without asking first. A session keeps it and does
+    /// nothing with it.
+    pub fn completion_prompt_limit(mut self, limit: usize) -> Self
+        ensures { result ≡ record { config = record self.config { completion_prompt_limit = limit } } }
+    {
+        self.set_completion_prompt_limit(limit);
+        self
+    }
+
+    /// Sets how long a key sequence that may go on is waited for, in milliseconds. Without a number
+    /// it is waited for without end. A session keeps it and does nothing with it.
+    pub fn keyseq_timeout(mut self, milliseconds: Option<u16>) -> Self
+        ensures { result ≡ record { config = record self.config { keyseq_timeout = milliseconds } } }
+    {
+        self.set_keyseq_timeout(milliseconds);
+        self
+    }
+
+    /// Sets the keymap, and with it the timeout of key sequences: none for Emacs, 500 milliseconds
+    /// for Vi.
+    pub fn edit_mode(mut self, edit_mode: EditMode) -> Self
+        ensures { result ≡ record { config = record self.config { edit_mode = edit_mode; keyseq_timeout = timeout_of edit_mode } } }
+    {
+        self.set_edit_mode(edit_mode);
+        self
+    }
+
+    /// Sets whether each line that a session gives is added to its history.
+    pub fn auto_add_history(mut self, yes: bool) -> Self
+        ensures { result ≡ record { config = record self.config { auto_add_history = yes } } }
+    {
+        self.set_auto_add_history(yes);
+        self
+    }
+
+    /// Sets what a beep does.
+    pub fn bell_style(mut self, bell_style: BellStyle) -> Self
+        ensures { result ≡ record { config = record self.config { bell_style = bell_style } } }
+    {
+        self.set_bell_style(bell_style);
+        self
+    }
+
+    /// Sets whether highlighting is drawn. A session keeps it and does nothing with it.
+    pub fn color_mode(mut self, color_mode: ColorMode) -> Self
+        ensures { result ≡ record { config = record self.config { color_mode = color_mode } } }
+    {
+        self.set_color_mode(color_mode);
+        self
+    }
+
+    /// Sets how the terminal counts the columns of a grapheme cluster.
+    pub fn grapheme_cluster_mode(mut self, mode: GraphemeClusterMode) -> Self
+        ensures { result ≡ record { config = record self.config { grapheme_cluster_mode = mode } } }
+    {
+        self.set_grapheme_cluster_mode(mode);
+        self
+    }
+
+    /// Sets which files the editor works on. A session keeps it and does nothing with it.
+    pub fn behavior(mut self, behavior: Behavior) -> Self
+        ensures { result ≡ record { config = record self.config { behavior = behavior } } }
+    {
+        self.config.behavior = behavior;
+        self
+    }
+
+    /// Sets how many columns a tab takes. A session keeps it and does nothing with it.
+    pub fn tab_stop(mut self, columns: u8) -> Self
+        ensures { result ≡ record { config = record self.config { tab_stop = columns } } }
+    {
+        self.set_tab_stop(columns);
+        self
+    }
+
+    /// Sets how many spaces a line is indented or dedented by.
+    pub fn indent_size(mut self, spaces: u8) -> Self
+        ensures { result ≡ record { config = record self.config { indent_size = spaces } } }
+    {
+        self.set_indent_size(spaces);
+        self
+    }
+
+    /// Sets whether the cursor is brought to the first column before a prompt. A session keeps it
+    /// and does nothing with it.
+    pub fn check_cursor_position(mut self, yes: bool) -> Self
+        ensures { result ≡ record { config = record self.config { check_cursor_position = yes } } }
+    {
+        self.set_check_cursor_position(yes);
+        self
+    }
+
+    /// Sets whether the terminal is asked to mark what is pasted. A session keeps it and does
+    /// nothing with it.
+    pub fn bracketed_paste(mut self, yes: bool) -> Self
+        ensures { result ≡ record { config = record self.config { enable_bracketed_paste = yes } } }
+    {
+        self.enable_bracketed_paste(yes);
+        self
+    }
+
+    /// Sets whether the terminal's own signal keys stay on. A session keeps it and does nothing
+    /// with it.
+    pub fn enable_signals(mut self, yes: bool) -> Self
+        ensures { result ≡ record { config = record self.config { enable_signals = yes } } }
+    {
+        self.set_enable_signals(yes);
+        self
+    }
+}
+
+impl Configurer for Builder {
+    ghost settings = { λ builder. builder.config };
+
+    ghost with_settings = { λ _ config. record { config = config } };
+
+    ghost settings_as_set = { λ _ _. refl };
+
+    fn config_mut(&mut self) -> &mut Config {
+        &mut self.config
+    }
+}

@@ -1,0 +1,88 @@
+//! The values that settings take.
+ghost use Rattle.std.specs.Prelude.{◌≡◌};
+ghost use Rattle.line_config.specs.Config.{duplicates_of, timeout_of};
+
+/// What a beep does.
+#[derive(Clone, Copy, Debug, Default, PartialEq, Eq)]
+pub enum BellStyle {
+    /// It sounds the terminal's bell.
+    #[default]
+    Audible,
+    /// Nothing.
+    None,
+    /// The screen flashes, which a session doesn't do: it does nothing.
+    Visible,
+}
+
+/// Which lines a history leaves out as repeated.
+#[derive(Clone, Copy, Debug, PartialEq, Eq)]
+pub enum HistoryDuplicates {
+    /// None.
+    AlwaysAdd,
+    /// A line that equals the last entry.
+    IgnoreConsecutive,
+}
+
+impl HistoryDuplicates {
+    // By whether repeated lines are left out.
+    pub(crate) fn when(ignored: bool) -> Self
+        ensures { result ≡ duplicates_of ignored }
+    {
+        if ignored {
+            HistoryDuplicates::IgnoreConsecutive
+        } else {
+            HistoryDuplicates::AlwaysAdd
+        }
+    }
+}
+
+/// What becomes of several candidates of a completion.
+#[derive(Clone, Copy, Debug, PartialEq, Eq)]
+pub enum CompletionType {
+    /// Each further press of the key shows the next candidate.
+    Circular,
+    /// The word is completed as far as all candidates agree, and then they are listed.
+    List,
+}
+
+/// A standard keymap.
+#[derive(Clone, Copy, Debug, PartialEq, Eq)]
+pub enum EditMode {
+    /// Emacs's.
+    Emacs,
+    /// Vi's.
+    Vi,
+}
+
+impl EditMode {
+    // The timeout of key sequences, in milliseconds, that is set with the mode.
+    pub(crate) fn keyseq_timeout(self) -> Option<u16>
+        ensures { result ≡ timeout_of self }
+    {
+        match self {
+            EditMode::Emacs => None,
+            EditMode::Vi => Some(500),
+        }
+    }
+}
+
+/// Whether highlighting is drawn.
+#[derive(Clone, Copy, Debug, PartialEq, Eq)]
+pub enum ColorMode {
+    /// Where the terminal can.
+    Enabled,
+    /// Also where it can't.
+    Forced,
+    /// Never.
+    Disabled,
+}
+
+/// Which files an editor works on.
+#[derive(Clone, Copy, Debug, Default, PartialEq, Eq)]
+pub enum Behavior {
+    /// Standard input and output.
+    #[default]
+    Stdio,
+    /// The terminal where there is one, whatever standard input and output are.
+    PreferTerm,
+}

@@ -1,0 +1,99 @@
+-- Worked rows of the definitions of histories and of their text.
+use Rattle.std.proofs.Common.{◌≡◌, ℕ, ◌++◌, true, false, List, [], ◌∷◌, refl, Some, None}
+use Rattle.std.specs.Prelude.{codes}
+use Rattle.std.specs.Str.{chars}
+use Rattle.line_config.specs.declared.device.Last.TheVariants.{End, Failed}
+use Rattle.line_help.specs.History.{Settings, filed_with_all, takes_all, nothing_filed, ignored, resized}
+use Rattle.line_help.specs.HistoryText.{rows_of, texts_of, has_header, text_to_save, text_to_append, header}
+use Rattle.line_help.specs.Search.{searched}
+use Rattle.line_help.specs.Hints.{history_hint}
+use Rattle.line_help.specs.declared.search.SearchDirection.TheVariants.{Forward, Reverse}
+
+abbrev few : Settings
+few = record { max_len = 100; ignore_space = false; ignore_dups = true }
+
+abbrev no_spaces : Settings
+no_spaces = record { max_len = 100; ignore_space = true; ignore_dups = true }
+
+-- `#V2`, `a\nb`, `c\\d`, `e\x`, a newline behind each
+abbrev escaped_rows : List ℕ
+escaped_rows = header ++ 10 ∷ 97 ∷ 92 ∷ 110 ∷ 98 ∷ 10 ∷ 99 ∷ 92 ∷ 92 ∷ 100 ∷ 10 ∷ 101 ∷ 92 ∷ 120 ∷ 10 ∷ []
+
+-- `a`, newline, `b`; `c\d`; `e\x`
+abbrev read_entries : List (List ℕ)
+read_entries = (97 ∷ 10 ∷ 98 ∷ []) ∷ (99 ∷ 92 ∷ 100 ∷ []) ∷ (101 ∷ 92 ∷ 120 ∷ []) ∷ []
+
+escapes_are_read_back : texts_of (rows_of End escaped_rows) ≡ read_entries
+escapes_are_read_back = refl
+
+header_stands : has_header (rows_of End escaped_rows) ≡ true
+header_stands = refl
+
+none_is_ignored : takes_all (nothing_filed few) read_entries ≡ true
+none_is_ignored = refl
+
+all_are_kept : (filed_with_all (nothing_filed few) read_entries).kept.entries ≡ read_entries
+all_are_kept = refl
+
+-- `a\nb`
+without_header_no_escapes : texts_of (rows_of End (97 ∷ 92 ∷ 110 ∷ 98 ∷ [])) ≡ (97 ∷ 92 ∷ 110 ∷ 98 ∷ []) ∷ []
+without_header_no_escapes = refl
+
+-- new entry `x\y`
+backslash_is_doubled : text_to_save (filed_with_all (nothing_filed few) ((120 ∷ 92 ∷ 121 ∷ []) ∷ [])) ≡ header ++ 10 ∷ 120 ∷ 92 ∷ 92 ∷ 121 ∷ 10 ∷ []
+backslash_is_doubled = refl
+
+nothing_new_nothing_saved : text_to_save (record { kept = record { entries = read_entries; settings = few }; unsaved = 0 }) ≡ []
+nothing_new_nothing_saved = refl
+
+new_row_appended : text_to_append (filed_with_all (record { kept = record { entries = read_entries; settings = few }; unsaved = 0 }) (codes "z" ∷ [])) ≡ 122 ∷ 10 ∷ []
+new_row_appended = refl
+
+-- carriage returns: one right before a newline goes, a last row keeps its own
+returns_before_newlines_go : rows_of End (97 ∷ 13 ∷ 13 ∷ 10 ∷ 13 ∷ 10 ∷ 98 ∷ 13 ∷ []) ≡ (97 ∷ 13 ∷ []) ∷ [] ∷ (98 ∷ 13 ∷ []) ∷ []
+returns_before_newlines_go = refl
+
+begun_row_of_a_failing_source : rows_of Failed (97 ∷ 10 ∷ 98 ∷ []) ≡ (97 ∷ []) ∷ []
+begun_row_of_a_failing_source = refl
+
+abbrev three : List (List ℕ)
+three = codes "line1" ∷ codes "line2" ∷ codes "line3" ∷ []
+
+nearest_backward : searched false (codes "line") 1 Reverse three ≡ Some (record { entry = codes "line2"; idx = 1; pos = 0 })
+nearest_backward = refl
+
+nearest_forward : searched false (codes "3") 0 Forward three ≡ Some (record { entry = codes "line3"; idx = 2; pos = 4 })
+nearest_forward = refl
+
+not_found : searched false (codes "none") 1 Reverse three ≡ None
+not_found = refl
+
+empty_term : searched false [] 1 Reverse three ≡ None
+empty_term = refl
+
+behind_the_end : searched false (codes "line") 3 Reverse three ≡ None
+behind_the_end = refl
+
+size_one_keeps_the_newest : (resized 1 (record { entries = three; settings = few })).entries ≡ codes "line3" ∷ []
+size_one_keeps_the_newest = refl
+
+rest_of_the_entry : history_hint (codes "hello") 5 (codes "hello world" ∷ []) 1 ≡ Some (codes " world")
+rest_of_the_entry = refl
+
+no_hint_for_the_entry_itself : history_hint (codes "hello world") 11 (codes "hello world" ∷ []) 1 ≡ None
+no_hint_for_the_entry_itself = refl
+
+repeated_line : ignored no_spaces (codes "line2" ∷ []) (codes "line2") ≡ true
+unfolding chars
+repeated_line = refl
+
+empty_line : ignored no_spaces (codes "line2" ∷ []) [] ≡ true
+empty_line = refl
+
+new_line : ignored no_spaces [] (codes "line2") ≡ false
+unfolding chars
+new_line = refl
+
+line_behind_a_space : ignored no_spaces (codes "line2" ∷ []) (codes " line3") ≡ true
+unfolding chars
+line_behind_a_space = refl

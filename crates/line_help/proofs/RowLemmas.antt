@@ -1,0 +1,102 @@
+-- Rows of a text: a row up to its newline, the last row, a row that a failure cuts off.
+use Rattle.std.proofs.Common.{◌≡◌, ◌≢◌, ℕ, suc, ◌-◌, ◌<◌, Bool, true, false, List, [], ◌∷◌, ◌++◌, length, take, refl, ap, get_or, arith}
+use Rattle.std.specs.Prelude.{if◌then◌else◌, ◌||◌, ◌&&◌, ◌==◌, not, Err}
+use Rattle.std.specs.List.{list_any}
+use Rattle.std.proofs.lemmas.Bool.{eq-eqb, ne_eqb}
+use Rattle.line_config.specs.Device.{front_of}
+use Rattle.line_config.specs.declared.device.DeviceFailed.{DeviceFailed}
+use Rattle.line_config.specs.declared.device.Last.{Last}
+use Rattle.line_config.specs.declared.device.Last.TheVariants.{End, Failed}
+use Rattle.line_help.specs.HistoryText.{rows_of, onto, without_return, begins_with_newline}
+
+-- no newline stands among these bytes
+abbrev pub has_newline : List ℕ → Bool
+has_newline bytes = list_any (λ b. b == 10) bytes
+
+neither : (a b : Bool) → (a || b) ≡ false → (a ≡ false) × (b ≡ false)
+neither true b h = cc
+neither false b h = (refl, h)
+
+pub last_return : (xs : List ℕ) → 0 < length xs → get_or xs (length xs - 1) 0 ≡ 13 → without_return xs ≡ take (length xs - 1) xs
+last_return [] some e = absurd (omega arith)
+last_return (b ∷ []) some e = rw (eq-eqb b 13 e) refl
+last_return (b ∷ (c ∷ bs)) some e =
+    let m : suc (length bs) - 1 ≡ length bs = omega arith in
+    let n : suc (suc (length bs)) - 1 ≡ suc (length bs) = omega arith in
+    let f = rw n at e in
+    let g = last_return (c ∷ bs) (omega arith) (rw m f) in
+    rw n (ap (λ t. b ∷ t) (rw m at g))
+
+pub last_other : (xs : List ℕ) (d : ℕ) → 0 < length xs → get_or xs (length xs - 1) d ≢ 13 → without_return xs ≡ xs
+last_other [] d some e = absurd (omega arith)
+last_other (b ∷ []) d some e = rw (ne_eqb b 13 e) refl
+last_other (b ∷ (c ∷ bs)) d some e =
+    let m : suc (length bs) - 1 ≡ length bs = omega arith in
+    let n : suc (suc (length bs)) - 1 ≡ suc (length bs) = omega arith in
+    let f = rw n at e in
+    ap (λ t. b ∷ t) (last_other (c ∷ bs) d (omega arith) (rw m f))
+
+pub no_return : (xs : List ℕ) → length xs ≡ 0 → without_return xs ≡ xs
+no_return [] none = refl
+no_return (x ∷ xs) none = absurd (omega arith)
+
+pub ruleset endings = (last_return, no_return)
+
+one_byte : (last : Last) (b : ℕ) (rows : List (List ℕ)) (newline return : Bool) → newline ≡ false
+    → (if newline then [] ∷ ([] ∷ rows) else if return && true then [] ∷ rows else onto ([] ∷ rows) last b) ≡ (if return then [] else b ∷ []) ∷ rows
+one_byte last b rows true return h = cc
+one_byte last b rows false true h = refl
+one_byte last b rows false false h = refl
+
+more_bytes : (last : Last) (b : ℕ) (inner : List (List ℕ)) (row : List ℕ) (rows : List (List ℕ)) (newline return next : Bool) → inner ≡ row ∷ rows → newline ≡ false → next ≡ false
+    → (if newline then [] ∷ inner else if return && next then inner else onto inner last b) ≡ (b ∷ row) ∷ rows
+more_bytes last b inner row rows true return next e h k = cc
+more_bytes last b inner row rows false true true e h k = cc
+more_bytes last b inner row rows false true false e h k = rw e refl
+more_bytes last b inner row rows false false next e h k = rw e refl
+
+sole_byte : (b : ℕ) (newline return : Bool) → newline ≡ false → (if newline then [] ∷ [] else if return && false then [] else onto [] End b) ≡ (b ∷ []) ∷ []
+sole_byte b true return h = cc
+sole_byte b false true h = refl
+sole_byte b false false h = refl
+
+cut_byte : (b : ℕ) (inner : List (List ℕ)) (newline return : Bool) → inner ≡ [] → newline ≡ false → (if newline then [] ∷ inner else if return then inner else onto inner Failed b) ≡ []
+cut_byte b inner true return e h = cc
+cut_byte b inner false true e h = e
+cut_byte b inner false false e h = rw e refl
+
+pub cut_row : (last : Last) (xs rest : List ℕ) → has_newline xs ≡ false → rows_of last (xs ++ 10 ∷ rest) ≡ without_return xs ∷ rows_of last rest
+cut_row last [] rest none = refl
+cut_row last (b ∷ []) rest none = one_byte last b (rows_of last rest) (b == 10) (b == 13) (neither (b == 10) false none).0
+cut_row last (b ∷ (c ∷ xs)) rest none =
+    let h = (neither (b == 10) (has_newline (c ∷ xs)) none).0 in
+    let k = (neither (b == 10) (has_newline (c ∷ xs)) none).1 in
+    let m = (neither (c == 10) (has_newline xs) k).0 in
+    more_bytes last b (rows_of last (c ∷ (xs ++ 10 ∷ rest))) (without_return (c ∷ xs)) (rows_of last rest) (b == 10) (b == 13) (c == 10) (cut_row last (c ∷ xs) rest k) h m
+
+pub last_row : (b : ℕ) (xs : List ℕ) → has_newline (b ∷ xs) ≡ false → rows_of End (b ∷ xs) ≡ (b ∷ xs) ∷ []
+last_row b [] none = sole_byte b (b == 10) (b == 13) (neither (b == 10) false none).0
+last_row b (c ∷ xs) none =
+    let h = (neither (b == 10) (has_newline (c ∷ xs)) none).0 in
+    let k = (neither (b == 10) (has_newline (c ∷ xs)) none).1 in
+    let m = (neither (c == 10) (has_newline xs) k).0 in
+    more_bytes End b (rows_of End (c ∷ xs)) (c ∷ xs) [] (b == 10) (b == 13) (c == 10) (last_row c xs k) h m
+
+pub cut_off : (xs : List ℕ) → has_newline xs ≡ false → rows_of Failed xs ≡ []
+cut_off [] none = refl
+cut_off (b ∷ xs) none =
+    let h = (neither (b == 10) (has_newline xs) none).0 in
+    let k = (neither (b == 10) (has_newline xs) none).1 in
+    cut_byte b (rows_of Failed xs) (b == 10) (b == 13 && begins_with_newline xs) (cut_off xs k) h
+
+-- a steady source fails where nothing is to come
+pub failed_at : (bytes : List ℕ) (last : Last) (e : DeviceFailed) → Err e ≡ front_of bytes last → (bytes ≡ []) × (last ≡ Failed)
+failed_at (b ∷ bs) last e h = cc
+failed_at [] End e h = cc
+failed_at [] Failed e h = (refl, refl)
+
+pub at_end : (row : List ℕ) (empty : Bool) → has_newline row ≡ false → empty ≡ (length row == 0) → rows_of End row ≡ (if not empty then row ∷ [] else [])
+at_end [] empty none h = rw h refl
+at_end (b ∷ row) empty none h = let f : (suc (length row) == 0) ≡ false = ne_eqb (suc (length row)) 0 (omega arith) in rw (h, f) (last_row b row none)
+
+pub ruleset row_ends = (cut_row, cut_off)

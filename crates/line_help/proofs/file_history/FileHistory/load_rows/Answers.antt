@@ -1,0 +1,51 @@
+use Rattle.std.proofs.Common.{◌∙◌, sym, rules, true, false}
+use Rattle.line_help.specs.HistoryText.{rows_of}
+use Rattle.line_help.proofs.LoadLemmas.{answer_more, left_more, reached_more}
+use Rattle.line_help.proofs.file_history.FileHistory.load_rows.Goals as goal
+
+pub loop-self-preserved-then-whole : goal.loop-self-preserved-then-whole
+loop-self-preserved-then-whole g c =
+    let last = g.S.Source.last c.args.source.now in
+    let rows = rows_of last (g.S.Source.coming c.read_row.new.source) in
+    let row = c.deref.result.now in
+    let text = c.in_ok-added.ensures.text in
+    let added = c.in_ok-added.ensures.added in
+    record {
+      told = search rules;
+      steady = search rules;
+      last = search rules;
+      bound = search rules;
+      part = λ told.
+          let r = rw (c.if-branch.true, c.loop-self.invariant.last, ← c.deref.ensures.value) at c.in_ok-read_row.ensures.row (c.loop-self.invariant.told told) in
+          reached_more _ c.args.escapes row rows c.args.self.now c.loop-self.self c.add_row.new.self text (rw r at c.loop-self.invariant.part told) added;
+      left = λ told.
+          let r = rw (c.if-branch.true, c.loop-self.invariant.last, ← c.deref.ensures.value) at c.in_ok-read_row.ensures.row (c.loop-self.invariant.told told) in
+          rw added (sym (left_more c.loop-self.self c.args.escapes row rows text) ∙ (rw r at c.loop-self.invariant.left told));
+      answer = λ told.
+          let r = rw (c.if-branch.true, c.loop-self.invariant.last, ← c.deref.ensures.value) at c.in_ok-read_row.ensures.row (c.loop-self.invariant.told told) in
+          rw (added, c.in_ok-added.ensures.answer)
+          (sym (answer_more last true c.loop-self.self c.args.escapes row rows text) ∙ (rw (r, c.if-whole.true) at c.loop-self.invariant.answer told));
+    }
+
+pub loop-self-preserved : goal.loop-self-preserved
+loop-self-preserved g c =
+    let last = g.S.Source.last c.args.source.now in
+    let rows = rows_of last (g.S.Source.coming c.read_row.new.source) in
+    let row = c.deref.result.now in
+    let text = c.in_ok-added.ensures.text in
+    let added = c.in_ok-added.ensures.added in
+    record {
+      told = search rules;
+      steady = search rules;
+      last = search rules;
+      bound = search rules;
+      part = λ told.
+          let r = rw (c.if-branch.true, c.loop-self.invariant.last, ← c.deref.ensures.value) at c.in_ok-read_row.ensures.row (c.loop-self.invariant.told told) in
+          reached_more _ c.args.escapes row rows c.args.self.now c.loop-self.self c.add_row.new.self text (rw r at c.loop-self.invariant.part told) added;
+      left = λ told.
+          let r = rw (c.if-branch.true, c.loop-self.invariant.last, ← c.deref.ensures.value) at c.in_ok-read_row.ensures.row (c.loop-self.invariant.told told) in
+          rw added (sym (left_more c.loop-self.self c.args.escapes row rows text) ∙ (rw r at c.loop-self.invariant.left told));
+      answer = λ told.
+          let r = rw (c.if-branch.true, c.loop-self.invariant.last, ← c.deref.ensures.value) at c.in_ok-read_row.ensures.row (c.loop-self.invariant.told told) in
+          rw c.if-whole.false (sym (answer_more last false c.loop-self.self c.args.escapes row rows text) ∙ (rw (r, c.if-whole.false) at c.loop-self.invariant.answer told));
+    }

@@ -1,0 +1,30 @@
+-- Hints: what a hinter shows behind a line.
+use Rattle.std.specs.Prelude.{ℕ, ◌-◌, ◌==◌, ◌||◌, not, true, if◌then◌else◌, List, length, drop, bytes_eq, Option, Some, None}
+use Rattle.line_help.specs.Search.{Hit, searched}
+use Rattle.line_help.specs.declared.search.SearchDirection.TheVariants.{Reverse}
+
+-- a hint: the text that is shown, and the text that taking it puts in, if any
+pub record Hinted : Type 0 where
+  pub display : List ℕ
+  pub completion : Option (List ℕ)
+
+-- a hinter's answer, and whether it fails, by line, place, entries of the history and place in the history
+abbrev pub Answers : Type 0 → Type 0
+Answers A = List ℕ → ℕ → List (List ℕ) → ℕ → A
+
+abbrev pub text_hint : List ℕ → Hinted
+text_hint text = record { display = text; completion = Some text }
+
+-- where the search for a hint begins: at the last entry where the place is the end
+abbrev pub hint_start : List (List ℕ) → ℕ → ℕ
+hint_start entries place = if place == length entries then place - 1 else place
+
+-- the rest of the entry that was found, none where the entry is the line
+abbrev pub rest_behind : List ℕ → Option Hit → Option (List ℕ)
+rest_behind line None = None
+rest_behind line (Some hit) = if bytes_eq hit.entry line then None else Some (drop (length line) hit.entry)
+
+-- the rest of the nearest entry at or before the place in the history that begins with the line
+abbrev pub history_hint : List ℕ → ℕ → List (List ℕ) → ℕ → Option (List ℕ)
+history_hint line pos entries place = if length line == 0 || not (pos == length line) then None
+    else rest_behind line (searched true line (hint_start entries place) Reverse entries)

@@ -1,0 +1,98 @@
+-- A history: its entries, oldest first, and which lines become entries.
+use Rattle.std.specs.Prelude.{ℕ, ◌-◌, ◌+◌, ◌==◌, ◌&&◌, ◌||◌, not, min, Bool, true, false, if◌then◌else◌, List, [], ◌∷◌, ◌++◌, length, drop, chars, bytes_eq}
+use Rattle.std.specs.Char.{is_whitespace}
+use Rattle.line_config.specs.declared.config.Config.{Config}
+use Rattle.line_config.specs.declared.settings.HistoryDuplicates.{HistoryDuplicates}
+use Rattle.line_config.specs.declared.settings.HistoryDuplicates.TheVariants.{AlwaysAdd, IgnoreConsecutive}
+
+-- how many entries there are at most, and which lines are left out
+pub record Settings : Type 0 where
+  pub max_len : ℕ
+  pub ignore_space : Bool
+  pub ignore_dups : Bool
+
+-- a history in memory
+pub record Kept : Type 0 where
+  pub entries : List (List ℕ)
+  pub settings : Settings
+
+-- a history that is saved: how many of its entries, the newest, are still to be saved
+pub record Filed : Type 0 where
+  pub kept : Kept
+  pub unsaved : ℕ
+
+abbrev pub ignores_repeated : HistoryDuplicates → Bool
+ignores_repeated AlwaysAdd = false
+ignores_repeated IgnoreConsecutive = true
+
+abbrev pub settings_of : Config → Settings
+settings_of config = record { max_len = config.max_history_size; ignore_space = config.history_ignore_space; ignore_dups = ignores_repeated config.history_duplicates }
+
+abbrev pub first_is_space : List ℕ → Bool
+first_is_space [] = false
+first_is_space (c ∷ cs) = is_whitespace c
+
+-- whether the text's first character is whitespace
+abbrev pub begins_with_space : List ℕ → Bool
+begins_with_space text = first_is_space (chars text)
+
+-- whether the newest entry is this text
+abbrev pub newest_is : List ℕ → List (List ℕ) → Bool
+newest_is text [] = false
+newest_is text (entry ∷ []) = bytes_eq entry text
+newest_is text (entry ∷ (next ∷ entries)) = newest_is text (next ∷ entries)
+
+-- whether the line doesn't become an entry
+abbrev pub ignored : Settings → List (List ℕ) → List ℕ → Bool
+ignored settings entries line = ((settings.max_len == 0 || length line == 0) || (settings.ignore_space && begins_with_space line))
+    || (settings.ignore_dups && newest_is line entries)
+
+-- the last so many of these
+abbrev pub newest : ℕ → List (List ℕ) → List (List ℕ)
+newest count entries = drop (length entries - count) entries
+
+abbrev pub added : Settings → List (List ℕ) → List ℕ → List (List ℕ)
+added settings entries line = if ignored settings entries line then entries else newest settings.max_len (entries ++ line ∷ [])
+
+-- with this entry behind the others
+abbrev pub entries_with : Kept → List ℕ → Kept
+entries_with kept entry = record kept { entries = newest kept.settings.max_len (kept.entries ++ entry ∷ []) }
+
+abbrev pub unsaved_after : Settings → List (List ℕ) → List ℕ → ℕ → ℕ
+unsaved_after settings entries line unsaved = if ignored settings entries line then unsaved else min (unsaved + 1) (length (added settings entries line))
+
+-- what a line makes of the two histories
+abbrev pub kept_with : Kept → List ℕ → Kept
+kept_with kept line = record { entries = added kept.settings kept.entries line; settings = kept.settings }
+
+abbrev pub filed_with : Filed → List ℕ → Filed
+filed_with filed line = record { kept = kept_with filed.kept line; unsaved = unsaved_after filed.kept.settings filed.kept.entries line filed.unsaved }
+
+-- these lines, one after the other
+abbrev pub filed_with_all : Filed → List (List ℕ) → Filed
+filed_with_all filed [] = filed
+filed_with_all filed (line ∷ lines) = filed_with_all (filed_with filed line) lines
+
+-- whether none of them is ignored
+abbrev pub takes_all : Filed → List (List ℕ) → Bool
+takes_all filed [] = true
+takes_all filed (line ∷ lines) = not (ignored filed.kept.settings filed.kept.entries line) && takes_all (filed_with filed line) lines
+
+abbrev pub resized : ℕ → Kept → Kept
+resized len kept = record { entries = newest len kept.entries; settings = record kept.settings { max_len = len } }
+
+abbrev pub filed_resized : ℕ → Filed → Filed
+filed_resized len filed = record { kept = resized len filed.kept; unsaved = min filed.unsaved len }
+
+abbrev pub entries_kept : List (List ℕ) → Settings → Kept
+entries_kept entries settings = record { entries = entries; settings = settings }
+
+abbrev pub nothing_kept : Settings → Kept
+nothing_kept settings = entries_kept [] settings
+
+abbrev pub nothing_filed : Settings → Filed
+nothing_filed settings = record { kept = nothing_kept settings; unsaved = 0 }
+
+-- the same history, with nothing to save
+abbrev pub all_saved : Filed → Filed
+all_saved filed = record filed { unsaved = 0 }

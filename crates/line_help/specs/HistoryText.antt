@@ -1,0 +1,154 @@
+-- The text of a history: what is saved of a list of entries, and which list a text gives.
+use Rattle.std.specs.Prelude.{◌≡◌, ℕ, ◌==◌, ◌&&◌, Bool, true, false, if◌then◌else◌, List, [], ◌∷◌, ◌++◌, flat_map, bytes_eq, codes, Option, Some, None, option_map, unwrap_or, Result, Ok, Err}
+use Rattle.std.specs.Str.{is_utf8}
+use Rattle.line_config.specs.declared.device.Last.{Last}
+use Rattle.line_config.specs.declared.device.Last.TheVariants.{End, Failed}
+use Rattle.line_config.specs.declared.errors.ReadlineError.{ReadlineError}
+use Rattle.line_config.specs.declared.errors.ReadlineError.TheVariants.{Eof, Interrupted, NotUtf8, PasteOutOfPlace, Reader, Display, Lines, HistoryText, Helper, Handler, Memory}
+use Rattle.line_help.specs.History.{Filed, newest, filed_with_all, takes_all, all_saved}
+
+-- the first row of a saved text: a text without it has no escapes
+abbrev pub header : List ℕ
+header = codes "#V2"
+
+-- a newline is saved as `\n`, a backslash as two
+abbrev pub escaped_byte : ℕ → List ℕ
+escaped_byte b = if b == 10 then 92 ∷ 110 ∷ [] else if b == 92 then 92 ∷ 92 ∷ [] else b ∷ []
+
+abbrev pub escaped : List ℕ → List ℕ
+escaped text = flat_map escaped_byte text
+
+-- each entry a row, which a newline closes
+abbrev pub row_of : List ℕ → List ℕ
+row_of entry = escaped entry ++ 10 ∷ []
+
+abbrev pub rows_text : List (List ℕ) → List ℕ
+rows_text entries = flat_map row_of entries
+
+abbrev pub saved_text : List (List ℕ) → List ℕ
+saved_text entries = header ++ (10 ∷ rows_text entries)
+
+-- what `save_to` and `append_to` write: nothing where no entry is new
+abbrev pub text_to_save : Filed → List ℕ
+text_to_save filed = if filed.unsaved == 0 then [] else saved_text filed.kept.entries
+
+abbrev pub text_to_append : Filed → List ℕ
+text_to_append filed = if filed.unsaved == 0 then [] else rows_text (newest filed.unsaved filed.kept.entries)
+
+-- the text that an escaped one stands for: none where a backslash stands before anything else
+abbrev pub unescaped : List ℕ → Option (List ℕ)
+unescaped [] = Some []
+unescaped (b ∷ []) = if b == 92 then None else Some (b ∷ [])
+unescaped (b ∷ (c ∷ bs)) = if b == 92
+    then (if c == 110 then option_map (λ text. 10 ∷ text) (unescaped bs)
+    else if c == 92 then option_map (λ text. 92 ∷ text) (unescaped bs) else None)
+    else option_map (λ text. b ∷ text) (unescaped (c ∷ bs))
+
+-- the entry of a row: the row as it stands where it has no escapes, or a wrong one
+abbrev pub entry_of : Bool → List ℕ → List ℕ
+entry_of false row = row
+entry_of true row = unwrap_or (unescaped row) row
+
+abbrev pub begins_with_newline : List ℕ → Bool
+begins_with_newline [] = false
+begins_with_newline (b ∷ bs) = b == 10
+
+-- a byte before the rows of what follows it. The last row need not be closed, but a failure of the source leaves such a row out
+abbrev pub onto : List (List ℕ) → Last → ℕ → List (List ℕ)
+onto (row ∷ rows) last b = (b ∷ row) ∷ rows
+onto [] End b = (b ∷ []) ∷ []
+onto [] Failed b = []
+
+-- the rows of a text behind which this stands: they end at newlines, and a carriage return right before a newline is no part of its row
+abbrev pub rows_of : Last → List ℕ → List (List ℕ)
+rows_of last [] = []
+rows_of last (b ∷ bs) = if b == 10 then [] ∷ rows_of last bs
+    else if b == 13 && begins_with_newline bs then rows_of last bs
+    else onto (rows_of last bs) last b
+
+-- the rows before the first one that isn't UTF-8
+abbrev pub good_rows : List (List ℕ) → List (List ℕ)
+good_rows [] = []
+good_rows (row ∷ rows) = if is_utf8 row then row ∷ good_rows rows else []
+
+-- the entries of rows: empty rows give none
+abbrev pub entries_of : Bool → List (List ℕ) → List (List ℕ)
+entries_of escapes [] = []
+entries_of escapes ([] ∷ rows) = entries_of escapes rows
+entries_of escapes ((b ∷ bs) ∷ rows) = entry_of escapes (b ∷ bs) ∷ entries_of escapes rows
+
+-- whether the first row is the header
+abbrev pub has_header : List (List ℕ) → Bool
+has_header [] = false
+has_header (row ∷ rows) = bytes_eq row header
+
+-- the history behind the first row
+abbrev pub after_first : Filed → List ℕ → Filed
+after_first filed row = if bytes_eq row header then filed else filed_with_all filed (entries_of false (row ∷ []))
+
+abbrev pub texts_behind : Bool → List (List ℕ) → List (List ℕ) → List (List ℕ)
+texts_behind true rows all = entries_of true rows
+texts_behind false rows all = entries_of false all
+
+-- the texts that loading these rows adds, in order
+abbrev pub texts_of : List (List ℕ) → List (List ℕ)
+texts_of [] = []
+texts_of (row ∷ rows) = texts_behind (bytes_eq row header) rows (row ∷ rows)
+
+-- the texts that loading adds of a text that isn't refused
+abbrev pub loaded_texts : Last → List ℕ → List (List ℕ)
+loaded_texts last text = texts_of (good_rows (rows_of last text))
+
+-- whether a row isn't UTF-8
+abbrev pub has_bad_row : List (List ℕ) → Bool
+has_bad_row [] = false
+has_bad_row (row ∷ rows) = if is_utf8 row then has_bad_row rows else true
+
+-- what reading rows answers: a row that isn't UTF-8 is met before the failure of the source
+abbrev pub answer_at : Last → Bool → Result Bool ReadlineError
+answer_at End whole = Ok whole
+answer_at Failed whole = Err Reader
+
+abbrev pub outcome : Last → List (List ℕ) → Bool → Result Bool ReadlineError
+outcome last rows whole = if has_bad_row rows then Err HistoryText else answer_at last whole
+
+-- the answer of a load: whether the header stood and no row was ignored
+abbrev pub load_answer : Last → List (List ℕ) → Filed → Result Bool ReadlineError
+load_answer last rows filed = outcome last rows (has_header rows && takes_all filed (texts_of (good_rows rows)))
+
+-- the history after it: with all rows before a refusal, and with nothing new where there is none
+abbrev pub left_at : Last → Filed → Filed
+left_at End filed = all_saved filed
+left_at Failed filed = filed
+
+abbrev pub load_leaves : Last → List (List ℕ) → Filed → Filed
+load_leaves last rows filed = let after : Filed = filed_with_all filed (texts_of (good_rows rows)) in
+    if has_bad_row rows then after else left_at last after
+
+-- what a refused load leaves: the first of these texts were added
+pub record AddsSome (texts : List (List ℕ)) (before after : Filed) : Type 0 where
+  pub taken : List (List ℕ)
+  pub rest : List (List ℕ)
+  pub split : texts ≡ taken ++ rest
+  pub held : after ≡ filed_with_all before taken
+
+-- whether such a result follows from the text alone: want of memory doesn't, nor the failure of a source that can't tell where it fails
+abbrev pub follows : Bool → Result Bool ReadlineError → Bool
+follows steady (Ok whole) = true
+follows steady (Err HistoryText) = true
+follows steady (Err Reader) = steady
+follows steady (Err Eof) = false
+follows steady (Err Interrupted) = false
+follows steady (Err NotUtf8) = false
+follows steady (Err PasteOutOfPlace) = false
+follows steady (Err Display) = false
+follows steady (Err Lines) = false
+follows steady (Err Helper) = false
+follows steady (Err Handler) = false
+follows steady (Err Memory) = false
+
+-- a row without the carriage return at its end
+abbrev pub without_return : List ℕ → List ℕ
+without_return [] = []
+without_return (b ∷ []) = if b == 13 then [] else b ∷ []
+without_return (b ∷ (c ∷ bs)) = b ∷ without_return (c ∷ bs)

@@ -1,0 +1,6 @@
+pub mod History
+pub mod HistoryText
+pub mod Hints
+pub mod Iterated
+pub mod Laws
+pub mod Search

@@ -1,0 +1,57 @@
+-- Searching in a history.
+use Rattle.std.specs.Prelude.{ℕ, suc, ◌+◌, ◌==◌, ◌||◌, nat_le, Bool, true, false, if◌then◌else◌, List, [], ◌∷◌, length, take, drop, reverse, eqb, Option, Some, None, option_map, slice_get}
+use Rattle.std.specs.List.{starts_with}
+use Rattle.line_help.specs.declared.search.SearchResult.{SearchResult}
+use Rattle.line_help.specs.declared.search.SearchDirection.{SearchDirection}
+use Rattle.line_help.specs.declared.search.SearchDirection.TheVariants.{Forward, Reverse}
+
+-- an entry that was found: its text, its place in the history, and the place in it, in bytes
+pub record Hit : Type 0 where
+  pub entry : List ℕ
+  pub idx : ℕ
+  pub pos : ℕ
+
+abbrev pub hit_of : SearchResult → Hit
+hit_of found = record { entry = found.entry.now; idx = found.idx; pos = found.pos }
+
+-- where the term stands in the text for the first time, in bytes
+abbrev pub first_hit : List ℕ → List ℕ → Option ℕ
+first_hit term [] = if length term == 0 then Some 0 else None
+first_hit term (b ∷ bs) = if starts_with eqb (b ∷ bs) term then Some 0 else option_map suc (first_hit term bs)
+
+-- behind the term, where the text begins with it
+abbrev pub hit_at_start : List ℕ → List ℕ → Option ℕ
+hit_at_start term text = if starts_with eqb text term then Some (length term) else None
+
+-- what a term is to an entry: in it, or at its start
+abbrev pub hit_by : Bool → List ℕ → List ℕ → Option ℕ
+hit_by false term text = first_hit term text
+hit_by true term text = hit_at_start term text
+
+abbrev pub hit_or : Option ℕ → List ℕ → ℕ → Option Hit → Option Hit
+hit_or None entry idx other = other
+hit_or (Some pos) entry idx other = Some (record { entry = entry; idx = idx; pos = pos })
+
+-- the first of these entries with a hit, where the first of them stands at this place in the history
+abbrev pub first_from : (List ℕ → Option ℕ) → ℕ → List (List ℕ) → Option Hit
+first_from test idx [] = None
+first_from test idx (entry ∷ entries) = hit_or (test entry) entry idx (first_from test (idx + 1) entries)
+
+-- the first of these entries with a hit, where they stand newest first: an entry's place is the number of those behind it
+abbrev pub first_back : (List ℕ → Option ℕ) → List (List ℕ) → Option Hit
+first_back test [] = None
+first_back test (entry ∷ entries) = hit_or (test entry) entry (length entries) (first_back test entries)
+
+-- the nearest entry with a hit, from the place `start` on
+abbrev pub nearest : SearchDirection → (List ℕ → Option ℕ) → ℕ → List (List ℕ) → Option Hit
+nearest Forward test start entries = first_from test start (drop start entries)
+nearest Reverse test start entries = first_back test (reverse (take (start + 1) entries))
+
+-- what a search answers: nothing for the empty term or a place behind the last entry
+abbrev pub searched : Bool → List ℕ → ℕ → SearchDirection → List (List ℕ) → Option Hit
+searched anchored term start direction entries = if length term == 0 || nat_le (length entries) start then None
+    else nearest direction (hit_by anchored term) start entries
+
+-- the entry at a place, its hit at its start
+abbrev pub entry_at : ℕ → List (List ℕ) → Option Hit
+entry_at idx entries = option_map (λ entry. record { entry = entry; idx = idx; pos = 0 }) (slice_get entries idx)

@@ -1,0 +1,47 @@
+//! Where a line stands in the history.
+ghost use Rattle.std.specs.Prelude.{◌≡◌, ◌≤◌, length};
+
+use crate::history::History;
+
+/// A history, and a place in it: that of the entry that is shown, or the end, the number of entries, where none is.
+#[derive(Drop)]
+pub struct Context<'h, Hi: History> {
+    pub(crate) history: &'h Hi,
+    pub(crate) place: usize,
+    ghost inside: { place ≤ length (Hi.entries history.now) },
+}
+
+impl<'h, Hi: History> Context<'h, Hi> {
+    /// The place is the end.
+    pub fn new(history: &'h Hi) -> Self
+        ensures history { result.history.now ≡ history.now }
+        ensures place { result.place ≡ length (Hi.entries history.now) }
+    {
+        let place = history.len();
+        Context { history, place }
+    }
+
+    /// The history.
+    pub fn history(&self) -> &'h Hi
+        ensures { result.now ≡ self.now.history.now }
+    {
+        self.history
+    }
+
+    /// The place in the history.
+    pub fn history_index(&self) -> usize
+        ensures place { result ≡ self.now.place }
+        ensures inside { result ≤ length (Hi.entries self.now.history.now) }
+    {
+        self.place
+    }
+
+    /// Sets the place. It is at most the number of entries.
+    pub fn set_history_index(&mut self, place: usize)
+        requires { place ≤ length (Hi.entries self.old.history.now) }
+        ensures place { self.new.place ≡ place }
+        ensures history { self.new.history.now ≡ self.old.history.now }
+    {
+        self.place = place;
+    }
+}

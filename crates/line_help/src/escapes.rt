@@ -1,0 +1,79 @@
+//! Escapes in a saved history: a newline stands as `\n`, a backslash as two.
+ghost use Rattle.std.specs.Prelude.{◌≡◌, ◌++◌, IsTrue, IfOk, IfErr, OnOk, option_map, string_bytes};
+ghost use Rattle.line_config.specs.declared.errors.ReadlineError.TheVariants.{HistoryText};
+ghost use Rattle.line_help.specs.HistoryText.{row_of, unescaped, entry_of};
+
+use line_config::{ReadlineError, Sink};
+use std::alloc::{AllocError, Global};
+
+/// Writes some bytes of a history's text.
+pub(crate) fn put<S: Sink>(sink: &mut S, bytes: &[u8]) -> Result<(), ReadlineError>
+    ensures text { IsTrue (S.told sink.old) → OnOk result (S.held sink.new ≡ S.held sink.old ++ bytes.now) }
+    ensures told { IsTrue (S.told sink.old) → IsTrue (S.told sink.new) }
+    ensures error { IfErr result (λ e. (e ≡ HistoryText) × IsTrue (S.has_failed sink.new)) }
+{
+    match sink.write(bytes) {
+        Ok(()) => Ok(()),
+        Err(_) => Err(ReadlineError::HistoryText),
+    }
+}
+
+/// Writes an entry as a row, which a newline closes.
+pub(crate) fn write_row<S: Sink>(sink: &mut S, entry: &str) -> Result<(), ReadlineError>
+    ensures text { IsTrue (S.told sink.old) → OnOk result (S.held sink.new ≡ S.held sink.old ++ row_of entry.now) }
+    ensures told { IsTrue (S.told sink.old) → IsTrue (S.told sink.new) }
+    ensures error { IfErr result (λ e. (e ≡ HistoryText) × IsTrue (S.has_failed sink.new)) }
+{
+    let bytes = entry.as_bytes();
+    for byte in bytes {
+        match *byte {
+            b'\n' => put(sink, b"\\n")?,
+            b'\\' => put(sink, b"\\\\")?,
+            plain => put(sink, &[plain])?,
+        }
+    }
+    put(sink, b"\n")?;
+    Ok(())
+}
+
+/// The text that a row with escapes stands for. There is none where a backslash stands before anything but `n` and a
+/// backslash.
+#[tactic(auto, using(crate::proofs::EscapeLemmas::escape_steps))]
+pub(crate) fn unescaped(alloc: Global, row: &str) -> Result<Option<String>, AllocError>
+    ensures { IfOk result (λ text. option_map string_bytes text ≡ unescaped row.now) }
+{
+    let mut text = String::with_capacity(alloc, row.len())?;
+    let mut escape = false;
+    for c in row.chars() {
+        if !escape {
+            if c == '\\' {
+                escape = true;
+            } else {
+                text.push(c)?;
+            }
+        } else {
+            match c {
+                'n' => text.push('\n')?,
+                '\\' => text.push('\\')?,
+                _ => return Ok(None),
+            }
+            escape = false;
+        }
+    }
+    if escape {
+        return Ok(None);
+    }
+    Ok(Some(text))
+}
+
+/// The entry that a row gives: the row as it stands where it has no escapes, or a wrong one.
+pub(crate) fn entry_of(alloc: Global, row: &str, escapes: bool) -> Result<String, AllocError>
+    ensures { IfOk result (λ entry. string_bytes entry ≡ entry_of escapes row.now) }
+{
+    if escapes {
+        if let Some(text) = unescaped(alloc, row)? {
+            return Ok(text);
+        }
+    }
+    String::from_str(alloc, row)
+}

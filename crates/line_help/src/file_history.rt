@@ -1,0 +1,355 @@
+//! A history that is loaded and saved.
+
+use crate::escapes::{entry_of, put, write_row};
+use crate::history::History;
+use crate::history_iter::HistoryIter;
+use crate::memory_history::MemHistory;
+use crate::rows::read_row;
+use crate::search::{SearchDirection, SearchResult};
+use line_config::{Config, ReadlineError, Sink, Source};
+use std::alloc::Global;
+use std::marker::Model;
+use std::ops::Index;
+
+/// A history that can be loaded from a source and saved to a sink. It counts the entries that are new since it was last
+/// loaded, saved, appended or cleared.
+///
+/// Its text has a row for each entry, behind a first row `#V2`. In the rows a newline is written as `\n` and a backslash as
+/// two. A text without that first row is read too: its rows have no escapes.
+#[derive(Debug, Drop)]
+pub struct FileHistory {
+    memory: MemHistory,
+    unsaved: usize,
+}
+
+/// The history of a program that doesn't choose one.
+pub type DefaultHistory = FileHistory;
+
+impl Model for FileHistory {
+    ghost use Rattle.std.specs.Prelude.{◌≤◌, length};
+    ghost use Rattle.line_help.specs.History.{Filed};
+
+    ghost Value = { Filed };
+
+    ghost view = { λ h. record { kept = h.memory; unsaved = h.unsaved } };
+
+    ghost invariant = { λ h. h.unsaved ≤ length h.memory.entries };
+}
+
+impl FileHistory {
+    ghost use Rattle.std.specs.Prelude.{◌≡◌};
+    ghost use Rattle.line_config.specs.Config.{default_config};
+    ghost use Rattle.line_help.specs.History.{settings_of, nothing_filed};
+    ghost use Rattle.line_help.specs.Iterated.{entries_left};
+
+    /// A history with the default settings.
+    pub fn new(alloc: Global) -> Self
+        ensures { result ≡ nothing_filed (settings_of default_config) }
+    {
+        Self::with_config(alloc, &Config::default())
+    }
+
+    /// A history with the settings for histories of a configuration: how many entries are kept, and which lines are
+    /// ignored.
+    pub fn with_config(alloc: Global, config: &Config) -> Self
+        ensures { result ≡ nothing_filed (settings_of config.now) }
+    {
+        FileHistory {
+            memory: MemHistory::with_config(alloc, config),
+            unsaved: 0,
+        }
+    }
+
+    /// The entries, oldest first.
+    pub fn iter(&self) -> HistoryIter<'_>
+        ensures { entries_left result ≡ self.now.kept.entries }
+    {
+        self.memory.iter()
+    }
+}
+
+// Saving.
+impl FileHistory {
+    ghost use Rattle.std.specs.Prelude.{◌≡◌, ◌++◌, ◌≤◌, length, drop, IsTrue, IfErr, OnOk, OnErr};
+    ghost use Rattle.line_config.specs.declared.errors.ReadlineError.TheVariants.{HistoryText};
+    ghost use Rattle.line_help.specs.History.{all_saved};
+    ghost use Rattle.line_help.specs.HistoryText.{rows_text, text_to_save, text_to_append};
+
+    /// Writes the rows of the entries from the first one on, and passes on what was written.
+    fn write_rows<S: Sink>(&self, sink: &mut S, first: usize) -> Result<(), ReadlineError>
+        ensures text { IsTrue (S.told sink.old) → OnOk result (S.held sink.new ≡ S.held sink.old ++ rows_text (drop first self.now.kept.entries)) }
+        ensures told { IsTrue (S.told sink.old) → IsTrue (S.told sink.new) }
+        ensures error { IfErr result (λ e. (e ≡ HistoryText) × IsTrue (S.has_failed sink.new)) }
+    {
+        for index in first..self.memory.len() {
+            write_row(sink, self.memory[index].as_str())?;
+        }
+        match sink.flush() {
+            Ok(()) => Ok(()),
+            Err(_) => Err(ReadlineError::HistoryText),
+        }
+    }
+
+    /// Writes the whole text of the history, where an entry is new. Then none is new. Where the sink fails nothing
+    /// changes: what it took of the text is then unknown.
+    pub fn save_to<S: Sink>(&mut self, sink: &mut S) -> Result<(), ReadlineError>
+        ensures text { IsTrue (S.told sink.old) → OnOk result (S.held sink.new ≡ S.held sink.old ++ text_to_save self.old) }
+        ensures told { IsTrue (S.told sink.old) → IsTrue (S.told sink.new) }
+        ensures saved { OnOk result (self.new ≡ all_saved self.old) }
+        ensures kept { OnErr result (self.new ≡ self.old) }
+        ensures error { IfErr result (λ e. (e ≡ HistoryText) × IsTrue (S.has_failed sink.new)) }
+    {
+        if self.unsaved == 0 {
+            return Ok(());
+        }
+        put(sink, b"#V2\n")?;
+        self.write_rows(sink, 0)?;
+        self.unsaved = 0;
+        Ok(())
+    }
+
+    /// Writes the rows of the new entries, where there are any, to go behind a text that was saved before. Then none is
+    /// new. Where the sink fails nothing changes: what it took of the text is then unknown.
+    pub fn append_to<S: Sink>(&mut self, sink: &mut S) -> Result<(), ReadlineError>
+        ensures text { IsTrue (S.told sink.old) → OnOk result (S.held sink.new ≡ S.held sink.old ++ text_to_append self.old) }
+        ensures told { IsTrue (S.told sink.old) → IsTrue (S.told sink.new) }
+        ensures saved { OnOk result (self.new ≡ all_saved self.old) }
+        ensures kept { OnErr result (self.new ≡ self.old) }
+        ensures error { IfErr result (λ e. (e ≡ HistoryText) × IsTrue (S.has_failed sink.new)) }
+    {
+        let count = self.unsaved;
+        if count == 0 {
+            return Ok(());
+        }
+        self.write_rows(sink, self.memory.len() - count)?;
+        self.unsaved = 0;
+        Ok(())
+    }
+}
+
+impl History for FileHistory {
+    ghost use Rattle.std.specs.Prelude.{◌≡◌, not, string_bytes, IfOk, IfErr, OnOk, OnErr, [], true, false};
+    ghost use Rattle.line_config.specs.declared.errors.ReadlineError.TheVariants.{Memory};
+    ghost use Rattle.line_help.specs.History.{ignored, filed_with, filed_resized, nothing_filed};
+
+    ghost entries = { λ h. h.kept.entries };
+
+    ghost settings = { λ h. h.kept.settings };
+
+    fn get(&self, index: usize, dir: SearchDirection) -> Option<SearchResult<'_>> {
+        self.memory.get(index, dir)
+    }
+
+    fn add(&mut self, alloc: Global, line: &str) -> Result<bool, ReadlineError>
+        ensures answer { IfOk result (λ b. b ≡ not (ignored self.old.kept.settings self.old.kept.entries line.now)) }
+        ensures added { OnOk result (self.new ≡ filed_with self.old line.now) }
+        ensures kept { OnErr result (self.new ≡ self.old) }
+        ensures error { IfErr result (λ e. e ≡ Memory) }
+    {
+        let added = self.memory.add(alloc, line)?;
+        if added {
+            self.unsaved = self.unsaved.saturating_add(1).min(self.memory.len());
+        }
+        Ok(added)
+    }
+
+    fn add_owned(&mut self, alloc: Global, line: String) -> Result<bool, ReadlineError>
+        ensures answer { IfOk result (λ b. b ≡ not (ignored self.old.kept.settings self.old.kept.entries (string_bytes line))) }
+        ensures added { OnOk result (self.new ≡ filed_with self.old (string_bytes line)) }
+        ensures kept { OnErr result (self.new ≡ self.old) }
+        ensures error { IfErr result (λ e. e ≡ Memory) }
+    {
+        let added = self.memory.add_owned(alloc, line)?;
+        if added {
+            self.unsaved = self.unsaved.saturating_add(1).min(self.memory.len());
+        }
+        Ok(added)
+    }
+
+    fn len(&self) -> usize {
+        self.memory.len()
+    }
+
+    fn is_empty(&self) -> bool {
+        self.memory.is_empty()
+    }
+
+    fn set_max_len(&mut self, len: usize)
+        ensures { self.new ≡ filed_resized len self.old }
+    {
+        self.memory.set_max_len(len);
+        self.unsaved = self.unsaved.min(len);
+    }
+
+    fn ignore_dups(&mut self, yes: bool)
+        ensures { self.new ≡ record self.old { kept = record self.old.kept { settings = record self.old.kept.settings { ignore_dups = yes } } } }
+    {
+        self.memory.ignore_dups(yes);
+    }
+
+    fn ignore_space(&mut self, yes: bool)
+        ensures { self.new ≡ record self.old { kept = record self.old.kept { settings = record self.old.kept.settings { ignore_space = yes } } } }
+    {
+        self.memory.ignore_space(yes);
+    }
+
+    fn clear(&mut self)
+        ensures { self.new ≡ nothing_filed self.old.kept.settings }
+    {
+        self.memory.clear();
+        self.unsaved = 0;
+    }
+
+    fn search(&self, term: &str, start: usize, dir: SearchDirection) -> Option<SearchResult<'_>> {
+        self.memory.search(term, start, dir)
+    }
+
+    fn starts_with(
+        &self,
+        term: &str,
+        start: usize,
+        dir: SearchDirection,
+    ) -> Option<SearchResult<'_>> {
+        self.memory.starts_with(term, start, dir)
+    }
+}
+
+/// The entry at a place, which is below the number of entries.
+impl Index<usize> for FileHistory {
+    type Output = String;
+
+    ghost use Rattle.std.specs.Prelude.{◌≡◌, ◌<◌, length, slice_index_or, string_bytes};
+
+    ghost can_index = { λ h i. i < length h.kept.entries };
+
+    ghost index_gives = { λ h i x. string_bytes x ≡ slice_index_or h.kept.entries i (string_bytes x) };
+
+    fn index(&self, index: usize) -> &String {
+        &self.memory[index]
+    }
+}
+
+impl<'a> IntoIterator for &'a FileHistory {
+    type Item = &'a String;
+
+    type IntoIter = HistoryIter<'a>;
+
+    ghost use Rattle.std.specs.Prelude.{◌≡◌};
+    ghost use Rattle.line_help.specs.Iterated.{entries_left};
+
+    ghost into_iter_gives = { λ h it. entries_left it ≡ h.now.kept.entries };
+
+    fn into_iter(self) -> HistoryIter<'a> {
+        self.iter()
+    }
+}
+
+// Loading.
+impl FileHistory {
+    ghost use Rattle.std.specs.Prelude.{◌≡◌, ◌≤◌, ◌⊎◌, ◌∷◌, [], true, false, IsTrue, IfOk, IfErr, OnOk, OnErr, Err, bytes_eq};
+    ghost use Rattle.std.specs.Str.{is_utf8};
+    ghost use Rattle.line_config.specs.declared.errors.ReadlineError.TheVariants.{HistoryText, Memory, Reader};
+    ghost use Rattle.line_help.specs.History.{filed_with_all, takes_all};
+    ghost use Rattle.line_help.specs.HistoryText.{AddsSome, after_first, entries_of, follows, header, good_rows, load_answer, load_leaves, outcome, rows_of, texts_of};
+
+    // Adds the entry of a row, and answers whether it isn't ignored. An empty row has none.
+    fn add_row(&mut self, alloc: Global, row: &[u8], escapes: bool) -> Result<bool, ReadlineError>
+        ensures answer { IfOk result (λ b. b ≡ takes_all self.old (entries_of escapes (row.now ∷ []))) }
+        ensures added { OnOk result (self.new ≡ filed_with_all self.old (entries_of escapes (row.now ∷ []))) }
+        ensures text { OnOk result (is_utf8 row.now ≡ true) }
+        ensures bad { result ≡ Err HistoryText → is_utf8 row.now ≡ false }
+        ensures kept { OnErr result (self.new ≡ self.old) }
+        ensures error { IfErr result (λ e. (e ≡ Memory) ⊎ (e ≡ HistoryText)) }
+    {
+        if row.is_empty() {
+            return Ok(true);
+        }
+        match str::from_utf8(row) {
+            Ok(text) => {
+                let entry = entry_of(alloc, text, escapes)?;
+                let added = self.add_owned(alloc, entry)?;
+                Ok(added)
+            }
+            Err(_) => Err(ReadlineError::HistoryText),
+        }
+    }
+
+    // Takes the first row: the header, or a row without escapes. Answers whether it is the header.
+    fn add_first(&mut self, alloc: Global, row: &[u8]) -> Result<bool, ReadlineError>
+        ensures answer { IfOk result (λ b. b ≡ bytes_eq row.now header) }
+        ensures added { OnOk result (self.new ≡ after_first self.old row.now) }
+        ensures text { OnOk result (is_utf8 row.now ≡ true) }
+        ensures bad { result ≡ Err HistoryText → is_utf8 row.now ≡ false }
+        ensures kept { OnErr result (self.new ≡ self.old) }
+        ensures error { IfErr result (λ e. (e ≡ Memory) ⊎ (e ≡ HistoryText)) }
+    {
+        if row == b"#V2".as_slice() {
+            return Ok(true);
+        }
+        self.add_row(alloc, row, false)?;
+        Ok(false)
+    }
+
+    // Adds the entries of all rows that are to come.
+    fn load_rows<S: Source>(
+        &mut self,
+        alloc: Global,
+        source: &mut S,
+        row: &mut Vec<u8>,
+        escapes: bool,
+    ) -> Result<bool, ReadlineError>
+        ensures answer { IsTrue (S.told source.old) → IsTrue (follows (S.steady source.old) result)
+            → let rows = rows_of (S.last source.old) (S.coming source.old) in
+            result ≡ outcome (S.last source.old) rows (takes_all self.old (entries_of escapes (good_rows rows))) }
+        ensures left { IsTrue (S.told source.old) → IsTrue (follows (S.steady source.old) result)
+            → self.new ≡ filed_with_all self.old (entries_of escapes (good_rows (rows_of (S.last source.old) (S.coming source.old)))) }
+        ensures part { IsTrue (S.told source.old)
+            → AddsSome (entries_of escapes (good_rows (rows_of (S.last source.old) (S.coming source.old)))) self.old self.new }
+        ensures error { IfErr result (λ e. (e ≡ Memory) ⊎ ((e ≡ HistoryText) ⊎ ((e ≡ Reader) × IsTrue (S.has_failed source.new)))) }
+        ensures told { IsTrue (S.told source.old) → IsTrue (S.told source.new) }
+        ensures steady { S.steady source.new ≡ S.steady source.old }
+        ensures last { S.last source.new ≡ S.last source.old }
+        ensures keeps { S.bound source.new ≤ S.bound source.old }
+    {
+        let mut whole = true;
+        while read_row(source, row)? {
+            let added = self.add_row(alloc, row, escapes)?;
+            whole = whole && added;
+        }
+        Ok(whole)
+    }
+
+    /// Adds the entries of a text, in order, and answers whether the text began with the first row of a saved one and none
+    /// of its rows was ignored. Then no entry is new.
+    ///
+    /// It goes row by row. Where the source fails (`Reader`), a row isn't UTF-8 (`HistoryText`) or memory is refused, the
+    /// rows before stay, and their entries are new.
+    #[tactic(auto, using(crate::proofs::LoadLemmas::load_steps))]
+    pub fn load_from<S: Source>(
+        &mut self,
+        alloc: Global,
+        source: &mut S,
+    ) -> Result<bool, ReadlineError>
+        ensures answer { IsTrue (S.told source.old) → IsTrue (follows (S.steady source.old) result)
+            → result ≡ load_answer (S.last source.old) (rows_of (S.last source.old) (S.coming source.old)) self.old }
+        ensures left { IsTrue (S.told source.old) → IsTrue (follows (S.steady source.old) result)
+            → self.new ≡ load_leaves (S.last source.old) (rows_of (S.last source.old) (S.coming source.old)) self.old }
+        ensures part { IsTrue (S.told source.old)
+            → OnErr result (AddsSome (texts_of (good_rows (rows_of (S.last source.old) (S.coming source.old)))) self.old self.new) }
+        ensures error { IfErr result (λ e. (e ≡ Memory) ⊎ ((e ≡ HistoryText) ⊎ ((e ≡ Reader) × IsTrue (S.has_failed source.new)))) }
+        ensures told { IsTrue (S.told source.old) → IsTrue (S.told source.new) }
+        ensures steady { S.steady source.new ≡ S.steady source.old }
+        ensures last { S.last source.new ≡ S.last source.old }
+        ensures keeps { S.bound source.new ≤ S.bound source.old }
+    {
+        let mut row = Vec::new(alloc);
+        if !read_row(source, &mut row)? {
+            self.unsaved = 0;
+            return Ok(false);
+        }
+        let escapes = self.add_first(alloc, &row)?;
+        let whole = self.load_rows(alloc, source, &mut row, escapes)?;
+        self.unsaved = 0;
+        Ok(escapes && whole)
+    }
+}

@@ -1,0 +1,257 @@
+//! A history in memory.
+
+use crate::entry::Entry;
+use crate::found::hit;
+use crate::history::History;
+use crate::history_iter::HistoryIter;
+use crate::search::{SearchDirection, SearchResult};
+use crate::space::begins_with_space;
+use line_config::{Config, HistoryDuplicates, ReadlineError};
+use std::alloc::Global;
+use std::collections::VecDeque;
+use std::marker::Model;
+use std::ops::Index;
+
+/// A history that is gone with its program.
+#[derive(Debug, Drop)]
+pub struct MemHistory {
+    entries: VecDeque<Entry>,
+    max_len: usize,
+    ignore_space: bool,
+    ignore_dups: bool,
+}
+
+impl Model for MemHistory {
+    ghost use Rattle.std.specs.Prelude.{◌≤◌, length};
+    ghost use Rattle.line_help.specs.History.{Kept};
+
+    ghost Value = { Kept };
+
+    ghost view = { λ h. record { entries = h.entries.items; settings = record { max_len = h.max_len; ignore_space = h.ignore_space; ignore_dups = h.ignore_dups } } };
+
+    ghost invariant = { λ h. length h.entries.items ≤ h.max_len };
+}
+
+impl MemHistory {
+    ghost use Rattle.std.specs.Prelude.{◌≡◌, ◌<◌, IfErr, OnOk, OnErr};
+    ghost use Rattle.line_config.specs.Config.{default_config};
+    ghost use Rattle.line_config.specs.declared.errors.ReadlineError.TheVariants.{Memory};
+    ghost use Rattle.line_help.specs.History.{settings_of, nothing_kept, entries_with, newest, newest_is, ignored};
+    ghost use Rattle.line_help.specs.Iterated.{entries_left};
+
+    /// A history with the default settings.
+    pub fn new(alloc: Global) -> Self
+        ensures { result ≡ nothing_kept (settings_of default_config) }
+    {
+        Self::with_config(alloc, &Config::default())
+    }
+
+    /// A history with the settings for histories of a configuration: how many entries are kept, and which lines are
+    /// ignored.
+    pub fn with_config(alloc: Global, config: &Config) -> Self
+        ensures { result ≡ nothing_kept (settings_of config.now) }
+    {
+        MemHistory {
+            entries: VecDeque::new(alloc),
+            max_len: config.max_history_size(),
+            ignore_space: config.history_ignore_space(),
+            ignore_dups: matches!(
+                config.history_duplicates(),
+                HistoryDuplicates::IgnoreConsecutive
+            ),
+        }
+    }
+
+    /// The entries, oldest first.
+    pub fn iter(&self) -> HistoryIter<'_>
+        ensures { entries_left result ≡ self.now.entries }
+    {
+        HistoryIter::over(self.entries.iter())
+    }
+
+    // Whether the newest entry is this text.
+    fn newest_is(&self, text: &str) -> bool
+        ensures { result ≡ newest_is text.now self.now.entries }
+    {
+        match self.entries.back() {
+            Some(entry) => entry.text().as_str() == text,
+            None => false,
+        }
+    }
+
+    fn ignores(&self, line: &str) -> bool
+        ensures { result ≡ ignored self.now.settings self.now.entries line.now }
+    {
+        self.max_len == 0
+            || line.is_empty()
+            || (self.ignore_space && begins_with_space(line))
+            || (self.ignore_dups && self.newest_is(line))
+    }
+
+    // Puts an entry behind the others. The oldest one goes where there are too many.
+    fn insert(&mut self, entry: Entry) -> Result<(), ReadlineError>
+        requires { 0 < self.old.settings.max_len }
+        ensures entries { OnOk result (self.new ≡ entries_with self.old entry) }
+        ensures kept { OnErr result (self.new ≡ self.old) }
+        ensures error { IfErr result (λ e. e ≡ Memory) }
+    {
+        self.entries.push_back(entry)?;
+        if self.entries.len() > self.max_len {
+            self.entries.pop_front();
+        }
+        Ok(())
+    }
+}
+
+// The searches.
+impl MemHistory {
+    ghost use Rattle.std.specs.Prelude.{◌≡◌, ◌≤◌, length, drop, take, reverse, option_map};
+    ghost use Rattle.line_help.specs.Search.{hit_of, hit_by, first_from, first_back, searched};
+
+    #[tactic(auto, using(crate::proofs::SearchLemmas::from_steps))]
+    fn first_from(&self, anchored: bool, term: &str, start: usize) -> Option<SearchResult<'_>>
+        ensures { option_map hit_of result ≡ first_from (hit_by anchored term.now) start (drop start self.now.entries) }
+    {
+        for idx in start..self.entries.len() {
+            let entry = self.entries[idx].text().as_str();
+            if let Some(pos) = hit(anchored, term, entry) {
+                return Some(SearchResult { entry, idx, pos });
+            }
+        }
+        None
+    }
+
+    #[tactic(auto, using(crate::proofs::SearchLemmas::back_steps))]
+    fn first_back(&self, anchored: bool, term: &str, count: usize) -> Option<SearchResult<'_>>
+        requires { count ≤ length self.now.entries }
+        ensures { option_map hit_of result ≡ first_back (hit_by anchored term.now) (reverse (take count self.now.entries)) }
+    {
+        for idx in (0..count).rev() {
+            let entry = self.entries[idx].text().as_str();
+            if let Some(pos) = hit(anchored, term, entry) {
+                return Some(SearchResult { entry, idx, pos });
+            }
+        }
+        None
+    }
+
+    fn found(
+        &self,
+        anchored: bool,
+        term: &str,
+        start: usize,
+        dir: SearchDirection,
+    ) -> Option<SearchResult<'_>>
+        ensures { option_map hit_of result ≡ searched anchored term.now start dir self.now.entries }
+    {
+        if term.is_empty() || start >= self.entries.len() {
+            return None;
+        }
+        match dir {
+            SearchDirection::Forward => self.first_from(anchored, term, start),
+            SearchDirection::Reverse => self.first_back(anchored, term, start + 1),
+        }
+    }
+}
+
+impl History for MemHistory {
+    ghost entries = { λ h. h.entries };
+
+    ghost settings = { λ h. h.settings };
+
+    fn get(&self, index: usize, _dir: SearchDirection) -> Option<SearchResult<'_>> {
+        let entry = self.entries.get(index)?;
+        Some(SearchResult {
+            entry: entry.text().as_str(),
+            idx: index,
+            pos: 0,
+        })
+    }
+
+    fn add(&mut self, alloc: Global, line: &str) -> Result<bool, ReadlineError> {
+        if self.ignores(line) {
+            return Ok(false);
+        }
+        self.insert(Entry::copied(alloc, line)?)?;
+        Ok(true)
+    }
+
+    fn add_owned(&mut self, _alloc: Global, line: String) -> Result<bool, ReadlineError> {
+        if self.ignores(line.as_str()) {
+            return Ok(false);
+        }
+        self.insert(Entry::new(line))?;
+        Ok(true)
+    }
+
+    fn len(&self) -> usize {
+        self.entries.len()
+    }
+
+    fn is_empty(&self) -> bool {
+        self.entries.is_empty()
+    }
+
+    fn set_max_len(&mut self, len: usize) {
+        self.max_len = len;
+        let surplus = self.entries.len().saturating_sub(len);
+        for _ in 0..surplus {
+            self.entries.pop_front();
+        }
+    }
+
+    fn ignore_dups(&mut self, yes: bool) {
+        self.ignore_dups = yes;
+    }
+
+    fn ignore_space(&mut self, yes: bool) {
+        self.ignore_space = yes;
+    }
+
+    fn clear(&mut self) {
+        self.entries.clear();
+    }
+
+    fn search(&self, term: &str, start: usize, dir: SearchDirection) -> Option<SearchResult<'_>> {
+        self.found(false, term, start, dir)
+    }
+
+    fn starts_with(
+        &self,
+        term: &str,
+        start: usize,
+        dir: SearchDirection,
+    ) -> Option<SearchResult<'_>> {
+        self.found(true, term, start, dir)
+    }
+}
+
+/// The entry at a place, which is below the number of entries.
+impl Index<usize> for MemHistory {
+    type Output = String;
+
+    ghost use Rattle.std.specs.Prelude.{◌≡◌, ◌<◌, length, slice_index_or, string_bytes};
+
+    ghost can_index = { λ h i. i < length h.entries };
+
+    ghost index_gives = { λ h i x. string_bytes x ≡ slice_index_or h.entries i (string_bytes x) };
+
+    fn index(&self, index: usize) -> &String {
+        self.entries[index].text()
+    }
+}
+
+impl<'a> IntoIterator for &'a MemHistory {
+    type Item = &'a String;
+
+    type IntoIter = HistoryIter<'a>;
+
+    ghost use Rattle.std.specs.Prelude.{◌≡◌};
+    ghost use Rattle.line_help.specs.Iterated.{entries_left};
+
+    ghost into_iter_gives = { λ h it. entries_left it ≡ h.now.entries };
+
+    fn into_iter(self) -> HistoryIter<'a> {
+        self.iter()
+    }
+}

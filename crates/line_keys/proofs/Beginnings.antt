@@ -1,0 +1,67 @@
+-- Some bound sequence begins with given keys exactly where some sequence of these keys and more is bound.
+use Rattle.std.proofs.Common.{◌≡◌, ◌↔◌, Bool, true, false, cond, ◌||◌, List, [], ◌∷◌, ◌++◌, length, take, drop, refl, sym, ap, ◌∙◌, true≢false, Option, Some, IsTrue}
+use Rattle.std.specs.Prelude.{IsSome, option_map, find as first_passing}
+use Rattle.std.proofs.lemmas.List.{take-append-drop}
+use Rattle.std.proofs.Math.Seq.{take-append_seam}
+use Rattle.line_keys.specs.declared.binding.Entry.{Entry}
+use Rattle.line_keys.specs.declared.key.KeyEvent.{KeyEvent}
+use Rattle.line_keys.specs.declared.events.Event.{Event}
+use Rattle.line_keys.specs.declared.events.Event.TheVariants.{Any, KeySeq, Mouse}
+use Rattle.line_keys.specs.SameKeys.{same_keys-decides}
+use Rattle.line_keys.specs.SameEvents.{same_event-decides}
+use Rattle.line_keys.specs.Events.{begins_with}
+use Rattle.line_keys.specs.Bound.{find, begins, has_event}
+
+-- a sequence that begins with the keys is these and its rest
+begins_as : (keys : List KeyEvent) (e : Event) → begins_with keys e ≡ true → (rest : List KeyEvent) × (e ≡ KeySeq (keys ++ rest))
+begins_as keys (KeySeq sequence) h =
+    let front : keys ≡ take (length keys) sequence = (same_keys-decides keys (take (length keys) sequence)).0 h in
+    (drop (length keys) sequence, ap KeySeq (sym (take-append-drop (length keys) sequence) ∙ ap (λ (xs : List KeyEvent). xs ++ drop (length keys) sequence) (sym front)))
+begins_as keys Any h = absurd (true≢false (sym h))
+begins_as keys Mouse h = absurd (true≢false (sym h))
+
+as_begins : (keys rest : List KeyEvent) → begins_with keys (KeySeq (keys ++ rest)) ≡ true
+as_begins keys rest = (same_keys-decides keys (take (length keys) (keys ++ rest))).1 (sym (take-append_seam keys rest))
+
+or_true : (b : Bool) → (b || true) ≡ true
+or_true true = refl
+or_true false = refl
+
+module _ {H : Type 0} where
+  still_some : (b : Bool) (x : Entry H) (later : Option (Entry H)) → IsSome (option_map (λ (y : Entry H). y.handler) later)
+      → IsSome (option_map (λ (y : Entry H). y.handler) (cond b (Some x) later))
+  still_some true x later h = refl
+  still_some false x later h = h
+
+  abbrev Continued : List KeyEvent → List (Entry H) → Type 0
+  Continued keys entries = (rest : List KeyEvent) × IsSome (find (KeySeq (keys ++ rest)) entries)
+
+  finds_by : (keys : List KeyEvent) (x : Entry H) (entries : List (Entry H)) (now later : Bool) → begins_with keys x.event ≡ now → (now || later) ≡ true
+      → (later ≡ true → Continued keys entries) → Continued keys (x ∷ entries)
+  finds_by keys x entries true later is h tail =
+      let w = begins_as keys x.event is in
+      let same : has_event (KeySeq (keys ++ w.0)) x ≡ true = (same_event-decides x.event (KeySeq (keys ++ w.0))).1 w.1 in
+      (w.0, rw same refl)
+  finds_by keys x entries false later is h tail =
+      let w = tail h in
+      (w.0, still_some (has_event (KeySeq (keys ++ w.0)) x) x (first_passing (has_event (KeySeq (keys ++ w.0))) entries) w.1)
+
+  finds : (keys : List KeyEvent) (entries : List (Entry H)) → begins keys entries ≡ true → Continued keys entries
+  finds keys [] h = absurd (true≢false (sym h))
+  finds keys (x ∷ entries) h = finds_by keys x entries (begins_with keys x.event) (begins keys entries) refl h (finds keys entries)
+
+  found_by : (keys rest : List KeyEvent) (x : Entry H) (entries : List (Entry H)) (same : Bool) → has_event (KeySeq (keys ++ rest)) x ≡ same
+      → IsSome (option_map (λ (y : Entry H). y.handler) (cond same (Some x) (first_passing (has_event (KeySeq (keys ++ rest))) entries)))
+      → (IsSome (find (KeySeq (keys ++ rest)) entries) → begins keys entries ≡ true)
+      → (begins_with keys x.event || begins keys entries) ≡ true
+  found_by keys rest x entries true is h tail =
+      let at : x.event ≡ KeySeq (keys ++ rest) = (same_event-decides x.event (KeySeq (keys ++ rest))).0 is in
+      ap (λ (b : Bool). b || begins keys entries) (ap (begins_with keys) at ∙ as_begins keys rest)
+  found_by keys rest x entries false is h tail = ap (λ (b : Bool). begins_with keys x.event || b) (tail h) ∙ or_true (begins_with keys x.event)
+
+  found : (keys rest : List KeyEvent) (entries : List (Entry H)) → IsSome (find (KeySeq (keys ++ rest)) entries) → begins keys entries ≡ true
+  found keys rest [] h = absurd (true≢false (sym h))
+  found keys rest (x ∷ entries) h = found_by keys rest x entries (has_event (KeySeq (keys ++ rest)) x) refl h (found keys rest entries)
+
+  pub begins_both_ways : (keys : List KeyEvent) (entries : List (Entry H)) → IsTrue (begins keys entries) ↔ ((rest : List KeyEvent) × IsSome (find (KeySeq (keys ++ rest)) entries))
+  begins_both_ways keys entries = (finds keys entries, λ w. found keys w.0 entries w.1)

@@ -1,0 +1,76 @@
+-- Keys: what a character stands for, and the form in which a binding is kept.
+use Rattle.std.specs.Prelude.{ℕ, ◌+◌, Bool, ◌||◌, ◌&&◌, nat_lt, ◌==◌, if◌then◌else◌}
+use Rattle.std.specs.Int.RustNames.{bit_and, bit_or}
+use Rattle.std.specs.Char.{is_control, is_ascii_control, is_ascii_lowercase, is_ascii_uppercase, to_ascii_uppercase}
+use Rattle.bitflags.specs.Sets.{without}
+use Rattle.line_keys.specs.declared.flags.Modifiers.{Modifiers}
+use Rattle.line_keys.specs.declared.key.KeyCode.{KeyCode}
+use Rattle.line_keys.specs.declared.key.KeyCode.TheVariants.{Char, Backspace, BackTab, Tab, Enter, Esc, Null}
+use Rattle.line_keys.specs.declared.key.KeyEvent.{KeyEvent}
+
+-- the modifiers with these bits: 8 is Ctrl, 4 is Alt, 2 is Shift
+abbrev pub modifiers_of : ℕ → Modifiers
+modifiers_of bits = record { 0 = bits }
+
+abbrev pub none : Modifiers
+none = modifiers_of 0
+
+abbrev pub ctrl : Modifiers
+ctrl = modifiers_of 8
+
+abbrev pub alt : Modifiers
+alt = modifiers_of 4
+
+abbrev pub has_ctrl : Modifiers → Bool
+has_ctrl m = bit_and m.0 8 == 8
+
+abbrev pub has_shift : Modifiers → Bool
+has_shift m = bit_and m.0 2 == 2
+
+abbrev pub with_ctrl : Modifiers → Modifiers
+with_ctrl m = modifiers_of (bit_or m.0 8)
+
+abbrev pub with_shift : Modifiers → Modifiers
+with_shift m = modifiers_of (bit_or m.0 2)
+
+abbrev pub less_shift : Modifiers → Modifiers
+less_shift m = modifiers_of (without 8 m.0 2)
+
+abbrev pub key_with : KeyCode → Modifiers → KeyEvent
+key_with code mods = record { 0 = code; 1 = mods }
+
+-- a Tab, which with Shift is a key of its own
+abbrev pub tab_key : Modifiers → KeyEvent
+tab_key m = if has_shift m then key_with BackTab (less_shift m) else key_with Tab m
+
+-- what a control character stands for: U+0000 is Ctrl with @, and so on to U+001F, Ctrl with _
+abbrev pub control_key : ℕ → Modifiers → KeyEvent
+control_key c m =
+    if (c == 0x08) || (c == 0x7F) then key_with Backspace m
+    else if c == 0x09 then tab_key m
+    else if c == 0x0D then key_with Enter m
+    else if c == 0x1B then key_with Esc m
+    else if nat_lt c 0x20 then key_with (Char (c + 0x40)) (with_ctrl m)
+    else if c == 0x9B then key_with Esc (with_shift m)
+    else key_with Null m
+
+-- the key that sends a character
+abbrev pub key_of : ℕ → Modifiers → KeyEvent
+key_of c m = if is_control c then control_key c m else key_with (Char c) (less_shift m)
+
+-- the form of a character's key, by the first of the cases that fits
+abbrev pub normal_char : ℕ → Modifiers → KeyEvent
+normal_char c m =
+    if is_ascii_control c then key_of c m
+    else if is_ascii_lowercase c && has_ctrl m then key_with (Char (to_ascii_uppercase c)) m
+    else if is_ascii_uppercase c then key_with (Char c) (less_shift m)
+    else key_with (Char c) m
+
+abbrev pub normal_code : KeyCode → Modifiers → KeyEvent
+normal_code (Char c) m = normal_char c m
+normal_code Tab m = tab_key m
+normal_code code m = key_with code m
+
+-- the form in which a key is kept
+abbrev pub normal : KeyEvent → KeyEvent
+normal k = normal_code k.0 k.1

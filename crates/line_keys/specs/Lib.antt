@@ -1,0 +1,15 @@
+pub mod Answers
+pub mod Bound
+pub mod Coming
+pub mod Commands
+pub mod Events
+pub mod Faults
+pub mod Handling
+pub mod Keys
+pub mod Movements
+pub mod Redone
+pub mod Refreshing
+pub mod SameEvents
+pub mod SameKeys
+pub mod Showing
+pub mod Signals

@@ -1,0 +1,31 @@
+-- Commands made anew: row by row, with a new count, if there is one, and the text that was inserted last.
+use Rattle.std.specs.Prelude.{ℕ, ◌==◌, List, [], length, min, Option, Some, None, unwrap_or, if◌then◌else◌}
+use Rattle.line_buffer.specs.declared.types.Movement.{Movement}
+use Rattle.line_buffer.specs.declared.types.Movement.TheVariants.{ForwardChar}
+use Rattle.line_keys.specs.declared.command.Cmd.{Cmd}
+use Rattle.line_keys.specs.declared.command.Cmd.TheVariants.{Dedent, Indent, Insert, Kill, Move, ReplaceChar, Replace, SelfInsert, ViYankTo, Yank}
+use Rattle.line_keys.specs.Movements.{recounted}
+
+-- a typed character stands for all that was inserted with it
+abbrev pub typed_anew : ℕ → ℕ → Option (List ℕ) → Cmd
+typed_anew n c (Some text) = Insert n text
+typed_anew n c None = SelfInsert n c
+
+-- what a text covers that was typed over a range: where that is no character yet, as many as the text has bytes
+abbrev pub covered : Option ℕ → Option (List ℕ) → Movement → Movement
+covered new last (ForwardChar n) = ForwardChar (if n == 0 then min (length (unwrap_or last [])) 65535 else unwrap_or new n)
+covered new last m = recounted new m
+
+abbrev pub redone : Option ℕ → Option (List ℕ) → Cmd → Cmd
+redone new last (Dedent m) = Dedent (recounted new m)
+redone new last (Indent m) = Indent (recounted new m)
+redone new last (Insert n text) = Insert (unwrap_or new n) text
+redone new last (Kill m) = Kill (recounted new m)
+redone new last (Move m) = Move (recounted new m)
+redone new last (ReplaceChar n c) = ReplaceChar (unwrap_or new n) c
+redone new last (Replace m (Some text)) = Replace (recounted new m) (Some text)
+redone new last (Replace m None) = Replace (covered new last m) last
+redone new last (SelfInsert n c) = typed_anew (unwrap_or new n) c last
+redone new last (ViYankTo m) = ViYankTo (recounted new m)
+redone new last (Yank n anchor) = Yank (unwrap_or new n) anchor
+redone new last c = c

@@ -1,0 +1,266 @@
+//! What the editor can be told to do.
+
+ghost use Rattle.std.specs.Prelude.{◌≡◌, IfOk, IfErr};
+ghost use Rattle.line_config.specs.declared.errors.ReadlineError.{ReadlineError};
+ghost use Rattle.line_keys.specs.Movements.{recounted};
+
+use crate::texts::Text;
+use line_buffer::{Anchor, Movement, RepeatCount};
+use line_config::ReadlineError;
+use std::alloc::Global;
+
+/// A command, by readline's names.
+#[derive(Debug, PartialEq, Eq, Drop)]
+pub enum Cmd {
+    /// abort
+    Abort,
+    /// accept-line
+    AcceptLine,
+    /// beginning-of-history
+    BeginningOfHistory,
+    /// capitalize-word
+    CapitalizeWord,
+    /// clear-screen
+    ClearScreen,
+    /// complete
+    Complete,
+    /// complete-backward
+    CompleteBackward,
+    /// complete-hint
+    CompleteHint,
+    /// Takes indentation from the rows of a range.
+    Dedent(Movement),
+    /// downcase-word
+    DowncaseWord,
+    /// vi-eof-maybe
+    EndOfFile,
+    /// end-of-history
+    EndOfHistory,
+    /// forward-search-history
+    ForwardSearchHistory,
+    /// history-search-backward
+    HistorySearchBackward,
+    /// history-search-forward
+    HistorySearchForward,
+    /// Indents the rows of a range.
+    Indent(Movement),
+    /// Inserts a text, that many times.
+    Insert(RepeatCount, Text),
+    /// The signal that Ctrl-C sends.
+    Interrupt,
+    /// backward-delete-char, delete-char, kill-line, kill-word, unix-line-discard, unix-word-rubout, vi-delete-to
+    Kill(Movement),
+    /// backward-char, forward-char, backward-word, forward-word, beginning-of-line, end-of-line, vi-char-search
+    Move(Movement),
+    /// next-history
+    NextHistory,
+    Noop,
+    /// Draws the line anew.
+    Repaint,
+    /// Writes over the cluster at the cursor.
+    Overwrite(char),
+    /// previous-history
+    PreviousHistory,
+    /// quoted-insert
+    QuotedInsert,
+    /// vi-change-char
+    ReplaceChar(RepeatCount, char),
+    /// vi-change-to: kills a range, and puts the text there that was typed over it, once that is known.
+    Replace(Movement, Option<Text>),
+    /// reverse-search-history
+    ReverseSearchHistory,
+    /// self-insert
+    SelfInsert(RepeatCount, char),
+    /// The signal that Ctrl-Z sends.
+    Suspend,
+    /// transpose-chars
+    TransposeChars,
+    /// transpose-words
+    TransposeWords(RepeatCount),
+    /// undo
+    Undo(RepeatCount),
+    /// A key that means nothing.
+    Unknown,
+    /// upcase-word
+    UpcaseWord,
+    /// vi-yank-to
+    ViYankTo(Movement),
+    /// yank, vi-put
+    Yank(RepeatCount, Anchor),
+    /// yank-pop
+    YankPop,
+    /// Moves up so many rows; in the first row, previous-history.
+    LineUpOrPreviousHistory(RepeatCount),
+    /// Moves down so many rows; in the last row, next-history.
+    LineDownOrNextHistory(RepeatCount),
+    /// Inserts a newline.
+    Newline,
+    /// Accepts a valid line, and inserts a newline into any other.
+    AcceptOrInsertLine {
+        /// Whether a valid line is accepted also where text follows the cursor.
+        accept_in_the_middle: bool,
+    },
+}
+
+impl Cmd {
+    ghost use Rattle.line_keys.specs.Commands.{standing};
+
+    /// A copy of the command.
+    pub fn try_clone(&self, alloc: Global) -> Result<Self, ReadlineError>
+        ensures ok { IfOk result (λ c. c ≡ self.now) }
+        ensures err { IfErr result (λ e. e ≡ ReadlineError.Memory) }
+    {
+        let copy = match self {
+            Cmd::Abort => Cmd::Abort,
+            Cmd::AcceptLine => Cmd::AcceptLine,
+            Cmd::BeginningOfHistory => Cmd::BeginningOfHistory,
+            Cmd::CapitalizeWord => Cmd::CapitalizeWord,
+            Cmd::ClearScreen => Cmd::ClearScreen,
+            Cmd::Complete => Cmd::Complete,
+            Cmd::CompleteBackward => Cmd::CompleteBackward,
+            Cmd::CompleteHint => Cmd::CompleteHint,
+            Cmd::Dedent(movement) => Cmd::Dedent(recounted(movement, None)),
+            Cmd::DowncaseWord => Cmd::DowncaseWord,
+            Cmd::EndOfFile => Cmd::EndOfFile,
+            Cmd::EndOfHistory => Cmd::EndOfHistory,
+            Cmd::ForwardSearchHistory => Cmd::ForwardSearchHistory,
+            Cmd::HistorySearchBackward => Cmd::HistorySearchBackward,
+            Cmd::HistorySearchForward => Cmd::HistorySearchForward,
+            Cmd::Indent(movement) => Cmd::Indent(recounted(movement, None)),
+            Cmd::Insert(n, text) => Cmd::Insert(*n, text.try_clone(alloc)?),
+            Cmd::Interrupt => Cmd::Interrupt,
+            Cmd::Kill(movement) => Cmd::Kill(recounted(movement, None)),
+            Cmd::Move(movement) => Cmd::Move(recounted(movement, None)),
+            Cmd::NextHistory => Cmd::NextHistory,
+            Cmd::Noop => Cmd::Noop,
+            Cmd::Repaint => Cmd::Repaint,
+            Cmd::Overwrite(c) => Cmd::Overwrite(*c),
+            Cmd::PreviousHistory => Cmd::PreviousHistory,
+            Cmd::QuotedInsert => Cmd::QuotedInsert,
+            Cmd::ReplaceChar(n, c) => Cmd::ReplaceChar(*n, *c),
+            Cmd::Replace(movement, text) => Cmd::Replace(
+                recounted(movement, None),
+                copied(alloc, text)?,
+            ),
+            Cmd::ReverseSearchHistory => Cmd::ReverseSearchHistory,
+            Cmd::SelfInsert(n, c) => Cmd::SelfInsert(*n, *c),
+            Cmd::Suspend => Cmd::Suspend,
+            Cmd::TransposeChars => Cmd::TransposeChars,
+            Cmd::TransposeWords(n) => Cmd::TransposeWords(*n),
+            Cmd::Undo(n) => Cmd::Undo(*n),
+            Cmd::Unknown => Cmd::Unknown,
+            Cmd::UpcaseWord => Cmd::UpcaseWord,
+            Cmd::ViYankTo(movement) => Cmd::ViYankTo(recounted(movement, None)),
+            Cmd::Yank(n, anchor) => Cmd::Yank(*n, *anchor),
+            Cmd::YankPop => Cmd::YankPop,
+            Cmd::LineUpOrPreviousHistory(n) => Cmd::LineUpOrPreviousHistory(*n),
+            Cmd::LineDownOrNextHistory(n) => Cmd::LineDownOrNextHistory(*n),
+            Cmd::Newline => Cmd::Newline,
+            Cmd::AcceptOrInsertLine {
+                accept_in_the_middle,
+            } => Cmd::AcceptOrInsertLine {
+                accept_in_the_middle: *accept_in_the_middle,
+            },
+        };
+        Ok(copy)
+    }
+
+    /// Whether a kill after this command begins a new slot of the kill ring.
+    pub const fn should_reset_kill_ring(&self) -> bool
+        ensures { result ≡ (standing self.now).resets_ring }
+    {
+        match self {
+            Cmd::Kill(Movement::BackwardChar(_) | Movement::ForwardChar(_)) => true,
+            Cmd::ClearScreen
+            | Cmd::Kill(_)
+            | Cmd::Replace(..)
+            | Cmd::Noop
+            | Cmd::Suspend
+            | Cmd::Yank(..)
+            | Cmd::YankPop => false,
+            _ => true,
+        }
+    }
+
+    /// Whether the command changes the text in a way that Vi's `.` can make anew.
+    pub const fn is_repeatable_change(&self) -> bool
+        ensures { result ≡ (standing self.now).is_change }
+    {
+        matches!(
+            self,
+            Cmd::Dedent(_)
+                | Cmd::Indent(_)
+                | Cmd::Insert(..)
+                | Cmd::Kill(_)
+                | Cmd::ReplaceChar(..)
+                | Cmd::Replace(..)
+                | Cmd::SelfInsert(..)
+                | Cmd::ViYankTo(_)
+                | Cmd::Yank(..)
+        )
+    }
+
+    /// Whether the command takes a count when it is made anew.
+    pub const fn is_repeatable(&self) -> bool
+        ensures { result ≡ (standing self.now).repeats }
+    {
+        match self {
+            Cmd::Move(_) => true,
+            _ => self.is_repeatable_change(),
+        }
+    }
+}
+
+/// A copy of a text, if there is one.
+fn copied(alloc: Global, text: &Option<Text>) -> Result<Option<Text>, ReadlineError>
+    ensures ok { IfOk result (λ t. t ≡ text.now) }
+    ensures err { IfErr result (λ e. e ≡ ReadlineError.Memory) }
+{
+    match text {
+        Some(text) => Ok(Some(text.try_clone(alloc)?)),
+        None => Ok(None),
+    }
+}
+
+/// The movement with a new count, if there is one and it takes one.
+pub(crate) fn recounted(movement: &Movement, new: Option<RepeatCount>) -> Movement
+    ensures { result ≡ recounted new movement.now }
+{
+    match movement {
+        Movement::WholeLine => Movement::WholeLine,
+        Movement::BeginningOfLine => Movement::BeginningOfLine,
+        Movement::EndOfLine => Movement::EndOfLine,
+        Movement::BackwardWord(n, word) => Movement::BackwardWord(new.unwrap_or(*n), *word),
+        Movement::ForwardWord(n, at, word) => Movement::ForwardWord(new.unwrap_or(*n), *at, *word),
+        Movement::ViCharSearch(n, search) => Movement::ViCharSearch(new.unwrap_or(*n), *search),
+        Movement::ViFirstPrint => Movement::ViFirstPrint,
+        Movement::BackwardChar(n) => Movement::BackwardChar(new.unwrap_or(*n)),
+        Movement::ForwardChar(n) => Movement::ForwardChar(new.unwrap_or(*n)),
+        Movement::LineUp(n) => Movement::LineUp(new.unwrap_or(*n)),
+        Movement::LineDown(n) => Movement::LineDown(new.unwrap_or(*n)),
+        Movement::WholeBuffer => Movement::WholeBuffer,
+        Movement::BeginningOfBuffer => Movement::BeginningOfBuffer,
+        Movement::EndOfBuffer => Movement::EndOfBuffer,
+    }
+}
+
+/// Why a line is drawn.
+#[derive(Clone, Copy, Debug, PartialEq, Eq)]
+pub enum CmdKind {
+    /// The cursor moved.
+    MoveCursor,
+    Other,
+    /// The last drawing of a line, without hint and highlighted bracket.
+    ForcedRefresh,
+}
+
+/// What Vi does with a character that is typed.
+#[derive(Clone, Copy, PartialEq, Eq)]
+pub enum InputMode {
+    /// It is a command.
+    Command,
+    /// It is inserted.
+    Insert,
+    /// It is written over the text.
+    Replace,
+}

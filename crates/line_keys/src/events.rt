@@ -1,0 +1,184 @@
+//! What a binding is bound to: a sequence of keys, or anything.
+
+ghost use Rattle.std.specs.Prelude.{◌≡◌, List, [], ◌∷◌, IfOk, IfErr, slice_get, option_copied, map};
+ghost use Rattle.line_config.specs.declared.errors.ReadlineError.{ReadlineError};
+ghost use Rattle.line_keys.specs.declared.key.KeyEvent.{KeyEvent};
+ghost use Rattle.line_keys.specs.Keys.{normal};
+
+use crate::key::KeyEvent;
+use line_config::ReadlineError;
+use std::alloc::Global;
+use std::fmt;
+use std::hash::{Hash, Hasher};
+use std::marker::Model;
+
+/// A sequence of keys. A `Vec` becomes one, and is had back, without memory.
+#[derive(Drop)]
+pub struct Keys {
+    inner: Vec<KeyEvent>,
+}
+
+impl Model for Keys {
+    ghost use Rattle.std.specs.Prelude.{List};
+    ghost use Rattle.line_keys.specs.declared.key.KeyEvent.{KeyEvent};
+
+    ghost Value = { List KeyEvent };
+
+    ghost view = { λ k. k.inner.items };
+}
+
+impl Keys {
+    /// A copy of `keys`.
+    pub fn try_from_slice(alloc: Global, keys: &[KeyEvent]) -> Result<Self, ReadlineError>
+        ensures ok { IfOk result (λ k. k ≡ keys.now) }
+        ensures err { IfErr result (λ e. e ≡ ReadlineError.Memory) }
+    {
+        let inner = keys.to_vec(alloc)?;
+        Ok(Keys { inner })
+    }
+
+    /// A copy of the keys.
+    pub fn try_clone(&self, alloc: Global) -> Result<Self, ReadlineError>
+        ensures ok { IfOk result (λ k. k ≡ self.now) }
+        ensures err { IfErr result (λ e. e ≡ ReadlineError.Memory) }
+    {
+        Keys::try_from_slice(alloc, self.as_slice())
+    }
+
+    pub fn as_slice(&self) -> &[KeyEvent]
+        ensures { result.now ≡ self.now }
+    {
+        self.inner.as_slice()
+    }
+
+    /// The keys, in the memory that they have.
+    pub fn into_vec(self) -> Vec<KeyEvent>
+        ensures { result.items ≡ self }
+    {
+        self.inner
+    }
+
+    /// Each key in the form in which bindings are kept.
+    pub fn normalize(self) -> Self
+        ensures { result ≡ map normal self }
+    {
+        let mut inner = self.inner;
+        for key in inner.iter_mut() {
+            *key = KeyEvent::normalize(*key);
+        }
+        Keys { inner }
+    }
+}
+
+impl From<Vec<KeyEvent>> for Keys {
+    ghost from_gives = { λ v k. k ≡ v.items };
+
+    fn from(inner: Vec<KeyEvent>) -> Self {
+        Keys { inner }
+    }
+}
+
+impl PartialEq for Keys {
+    ghost use Rattle.std.specs.Cmp.{partial_equiv_from_equiv};
+    ghost use Rattle.line_keys.specs.SameKeys.{same_keys, same_keys-equivalence};
+
+    ghost eq = { same_keys };
+
+    ghost laws = { partial_equiv_from_equiv same_keys-equivalence };
+
+    fn eq(&self, other: &Keys) -> bool {
+        self.as_slice() == other.as_slice()
+    }
+}
+
+impl Eq for Keys {
+    ghost use Rattle.line_keys.specs.SameKeys.{same_keys-equivalence};
+
+    ghost laws = { same_keys-equivalence };
+}
+
+impl Hash for Keys {
+    ghost use Rattle.std.specs.Hash as fed;
+    ghost use Rattle.std.specs.Hash.{same_Alike};
+    ghost use Rattle.line_keys.specs.SameKeys.{same_keys-decides};
+
+    ghost hash_input = { fed.slice ⟦<KeyEvent as Hash>⟧.hash_input };
+
+    ghost respects_eq = { (same_Alike (fed.slice ⟦<KeyEvent as Hash>⟧.hash_input) same_keys-decides).fed };
+
+    fn hash<H: Hasher>(&self, state: &mut H) {
+        self.as_slice().hash(state);
+    }
+}
+
+impl fmt::Debug for Keys {
+    fn fmt<W: fmt::Write>(&self, f: &mut fmt::Formatter<W>) -> fmt::Result {
+        fmt::Debug::fmt(self.as_slice(), f)
+    }
+}
+
+/// What can be bound.
+#[derive(Debug, PartialEq, Eq, Hash, Drop)]
+pub enum Event {
+    /// Each single key that isn't bound itself.
+    Any,
+    /// Keys, one after the other.
+    KeySeq(Keys),
+    /// A mouse's, which no terminal sends here.
+    Mouse(),
+}
+
+impl Event {
+    ghost use Rattle.line_keys.specs.Events.{begins_with, key_number, normal_event, single};
+
+    /// The event of one key.
+    pub fn from_key(alloc: Global, key: KeyEvent) -> Result<Self, ReadlineError>
+        ensures ok { IfOk result (λ e. e ≡ single key) }
+        ensures err { IfErr result (λ e. e ≡ ReadlineError.Memory) }
+    {
+        let keys = Keys::try_from_slice(alloc, &[key])?;
+        Ok(Event::KeySeq(keys))
+    }
+
+    /// A copy of the event.
+    pub fn try_clone(&self, alloc: Global) -> Result<Self, ReadlineError>
+        ensures ok { IfOk result (λ e. e ≡ self.now) }
+        ensures err { IfErr result (λ e. e ≡ ReadlineError.Memory) }
+    {
+        match self {
+            Event::Any => Ok(Event::Any),
+            Event::KeySeq(keys) => Ok(Event::KeySeq(keys.try_clone(alloc)?)),
+            Event::Mouse() => Ok(Event::Mouse()),
+        }
+    }
+
+    /// The key number `i`, from 0 on.
+    pub fn get(&self, i: usize) -> Option<&KeyEvent>
+        ensures { option_copied result ≡ key_number self.now i }
+    {
+        match self {
+            Event::KeySeq(keys) => keys.as_slice().get(i),
+            _ => None,
+        }
+    }
+
+    /// Whether the event is a sequence that begins with these keys, or is these.
+    pub(crate) fn begins_with(&self, keys: &[KeyEvent]) -> bool
+        ensures { result ≡ begins_with keys.now self.now }
+    {
+        match self {
+            Event::KeySeq(sequence) => sequence.as_slice().starts_with(keys),
+            _ => false,
+        }
+    }
+
+    /// The event in the form in which bindings are kept: each key as `KeyEvent::normalize` gives it.
+    pub fn normalize(self) -> Self
+        ensures { result ≡ normal_event self }
+    {
+        match self {
+            Event::KeySeq(keys) => Event::KeySeq(keys.normalize()),
+            other => other,
+        }
+    }
+}

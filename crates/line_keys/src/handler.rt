@@ -1,0 +1,150 @@
+//! What a binding does.
+
+ghost use Rattle.std.specs.Prelude.{◌≡◌, IsSome, option_copied};
+ghost use Rattle.line_keys.specs.Faults.{HadMemory, NotMemory};
+ghost use Rattle.line_keys.specs.Handling.{Meaning};
+
+use crate::command::{Cmd, InputMode};
+use crate::events::Event;
+use crate::refresh::Refresher;
+use line_buffer::RepeatCount;
+use line_config::{EditMode, HookFault, ReadlineError};
+use std::alloc::Global;
+
+/// What a handler is shown of the editor.
+#[derive(Clone, Copy)]
+pub struct EventContext<'r> {
+    mode: EditMode,
+    input_mode: InputMode,
+    has_hint: bool,
+    hint_text: Option<&'r str>,
+    line: &'r str,
+    pos: usize,
+}
+
+impl<'r> EventContext<'r> {
+    ghost use Rattle.line_keys.specs.Showing.{seen_in, seen_of};
+
+    /// What a line shows, in these modes.
+    pub fn new<W: Refresher>(mode: EditMode, input_mode: InputMode, wrt: &'r W) -> Self
+        ensures { seen_in result ≡ seen_of mode input_mode (W.shown wrt.now) }
+    {
+        EventContext {
+            mode,
+            input_mode,
+            has_hint: wrt.has_hint(),
+            hint_text: wrt.hint_text(),
+            line: wrt.line(),
+            pos: wrt.pos(),
+        }
+    }
+
+    pub fn mode(&self) -> EditMode
+        ensures { result ≡ self.now.mode }
+    {
+        self.mode
+    }
+
+    /// Vi's mode, which in Emacs mode says nothing.
+    pub fn input_mode(&self) -> InputMode
+        ensures { result ≡ self.now.input_mode }
+    {
+        self.input_mode
+    }
+
+    /// Whether a hint stands behind the line.
+    pub fn has_hint(&self) -> bool
+        ensures { result ≡ self.now.has_hint }
+    {
+        self.has_hint
+    }
+
+    /// What the hint would add to the line, if it would add anything.
+    pub fn hint_text(&self) -> Option<&str>
+        ensures { option_copied result ≡ option_copied self.now.hint_text }
+    {
+        self.hint_text
+    }
+
+    pub fn line(&self) -> &str
+        ensures { result.now ≡ self.now.line.now }
+    {
+        self.line
+    }
+
+    /// The place of the cursor, in bytes.
+    pub fn pos(&self) -> usize
+        ensures { result ≡ self.now.pos }
+    {
+        self.pos
+    }
+}
+
+/// A binding whose command depends on what is shown.
+pub trait ConditionalEventHandler: Drop {
+    ghost use Rattle.line_keys.specs.Showing.{showing};
+
+    ghost meaning: { Self → Meaning };
+
+    /// The command for the event `evt`, or `None` for what the key does unbound. `n` is the count that was typed, 1
+    /// where none was, and `positive` its sign.
+    ///
+    /// The answer may depend on nothing but the arguments, though `Memory` may come at any call.
+    fn handle(
+        &self,
+        alloc: Global,
+        evt: &Event,
+        n: RepeatCount,
+        positive: bool,
+        ctx: &EventContext<'_>,
+    ) -> Result<Option<Cmd>, HookFault>
+        ensures { NotMemory result → result ≡ meaning self.now (showing evt.now n positive ctx.now) };
+}
+
+/// What is bound to an event.
+#[derive(Drop)]
+pub enum EventHandler {
+    /// Always this command.
+    Simple(Cmd),
+    /// The command depends on what is shown.
+    Conditional(Box<dyn ConditionalEventHandler>),
+}
+
+impl EventHandler {
+    ghost use Rattle.line_keys.specs.Answers.{handler_meaning, command_by};
+    ghost use Rattle.line_keys.specs.Showing.{showing};
+
+    /// The command for the event `evt`, or `None` for what the key does unbound: what a handler answers of its
+    /// arguments, whose failure is the refusal `Handler`.
+    pub fn decide(
+        &self,
+        alloc: Global,
+        evt: &Event,
+        n: RepeatCount,
+        positive: bool,
+        ctx: &EventContext<'_>,
+    ) -> Result<Option<Cmd>, ReadlineError>
+        ensures { HadMemory result → result ≡ command_by (handler_meaning (λ b. meaning b) self.now (showing evt.now n positive ctx.now)) }
+    {
+        match self {
+            EventHandler::Simple(cmd) => Ok(Some(cmd.try_clone(alloc)?)),
+            EventHandler::Conditional(handler) => {
+                match handler.handle(alloc, evt, n, positive, ctx) {
+                    Ok(cmd) => Ok(cmd),
+                    Err(HookFault::Failed) => Err(ReadlineError::Handler),
+                    Err(HookFault::Memory) => Err(ReadlineError::Memory),
+                }
+            }
+        }
+    }
+}
+
+impl From<Cmd> for EventHandler {
+    ghost use Rattle.line_keys.specs.declared.handler.EventHandler.TheVariants.{Simple};
+
+    ghost from_gives = { λ cmd h. h ≡ Simple cmd };
+
+    fn from(cmd: Cmd) -> Self {
+        EventHandler::Simple(cmd)
+    }
+}

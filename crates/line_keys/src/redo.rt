@@ -1,0 +1,79 @@
+//! Commands made anew, as by Vi's `.`.
+
+ghost use Rattle.std.specs.Prelude.{◌≡◌, IfOk, IfErr, length, min, unwrap_or, []};
+ghost use Rattle.line_config.specs.declared.errors.ReadlineError.{ReadlineError};
+ghost use Rattle.line_keys.specs.declared.command.Cmd.TheVariants.{Replace};
+ghost use Rattle.line_keys.specs.Redone.{redone, typed_anew, covered};
+
+use crate::command::{Cmd, recounted};
+use crate::refresh::Refresher;
+use crate::texts::Text;
+use line_buffer::{Movement, RepeatCount};
+use line_config::ReadlineError;
+use std::alloc::Global;
+
+impl Cmd {
+    /// The command as it is made anew, with another count if one is given.
+    ///
+    /// What was typed is typed anew as the text that was inserted last. A replacement whose text wasn't known takes
+    /// that text, and where it covered no characters yet, as many as the text has bytes, at most 65,535. A command
+    /// that can't be made anew stays as it is.
+    pub fn redo<W: Refresher>(
+        &self,
+        alloc: Global,
+        new: Option<RepeatCount>,
+        wrt: &W,
+    ) -> Result<Self, ReadlineError>
+        ensures ok { IfOk result (λ c. c ≡ redone new (W.shown wrt.now).last_insert self.now) }
+        ensures err { IfErr result (λ e. e ≡ ReadlineError.Memory) }
+    {
+        let anew = match self {
+            Cmd::Dedent(movement) => Cmd::Dedent(recounted(movement, new)),
+            Cmd::Indent(movement) => Cmd::Indent(recounted(movement, new)),
+            Cmd::Insert(n, text) => Cmd::Insert(new.unwrap_or(*n), text.try_clone(alloc)?),
+            Cmd::Kill(movement) => Cmd::Kill(recounted(movement, new)),
+            Cmd::Move(movement) => Cmd::Move(recounted(movement, new)),
+            Cmd::ReplaceChar(n, c) => Cmd::ReplaceChar(new.unwrap_or(*n), *c),
+            Cmd::Replace(movement, Some(text)) => {
+                Cmd::Replace(recounted(movement, new), Some(text.try_clone(alloc)?))
+            }
+            Cmd::Replace(movement, None) => typed_over(movement, new, wrt.last_insert()?),
+            Cmd::SelfInsert(n, c) => typed(new.unwrap_or(*n), *c, wrt.last_insert()?),
+            Cmd::ViYankTo(movement) => Cmd::ViYankTo(recounted(movement, new)),
+            Cmd::Yank(n, anchor) => Cmd::Yank(new.unwrap_or(*n), *anchor),
+            other => other.try_clone(alloc)?,
+        };
+        Ok(anew)
+    }
+}
+
+// What was typed, with what was typed after it.
+fn typed(n: RepeatCount, c: char, last: Option<Text>) -> Cmd
+    ensures { result ≡ typed_anew n c last }
+{
+    match last {
+        Some(text) => Cmd::Insert(n, text),
+        None => Cmd::SelfInsert(n, c),
+    }
+}
+
+// A replacement by what was typed over it.
+fn typed_over(movement: &Movement, new: Option<RepeatCount>, last: Option<Text>) -> Cmd
+    ensures { result ≡ Replace (covered new last movement.now) last }
+{
+    let covered = match movement {
+        Movement::ForwardChar(0) => Movement::ForwardChar(bytes_in(&last)),
+        other => recounted(other, new),
+    };
+    Cmd::Replace(covered, last)
+}
+
+// How many bytes the text has, up to the greatest count.
+fn bytes_in(last: &Option<Text>) -> RepeatCount
+    ensures { result ≡ min (length (unwrap_or last.now [])) 65535 }
+{
+    match last {
+        Some(text) => text.as_str().len().min(65535) as RepeatCount,
+        None => 0,
+    }
+}

@@ -1,0 +1,299 @@
+-- A run of kills comes back by one yank.
+use Rattle.std.proofs.Common.{◌≡◌, ◌≢◌, ℕ, zero, suc, ◌+◌, ◌-◌, ◌<◌, ◌≤◌, ◌==◌, inl, inr, ◌||◌, Bool, true, false, List, [], ◌∷◌, ◌++◌, length, take, drop, Option, None, Some, refl, sym, ap, subst, ◌∙◌, arith, add-zero}
+use Rattle.std.specs.Prelude.{IsUtf8, IsCharBoundary, IfSome, is_some, slice_range, slice_get, slice_set, slice_index_or, if◌then◌else◌, nat_lt, nat_le}
+use Rattle.std.specs.List.{replace_range}
+use Rattle.std.proofs.lemmas.List.{append-nil, length-drop, length-take-le, take-append-drop, length-set, get_or-set_same, length-append}
+use Rattle.std.proofs.Math.Bool.{or_assoc, or-false}
+use Rattle.std.proofs.Math.Seq.{get_or-append_seam}
+use Rattle.std.proofs.lemmas.Str.{IsUtf8-nil, IsUtf8-append, IsUtf8-between}
+use Rattle.std.proofs.lemmas.Bool.{eqb-true, ltb-true, ltb-false}
+use Rattle.std.proofs.lemmas.Bool.Decides.{nat_tests}
+use Rattle.line_buffer.specs.declared.range.Span.{Span}
+use Rattle.line_buffer.specs.declared.types.Mode.{Mode}
+use Rattle.line_buffer.specs.declared.types.Mode.TheVariants.{Append, Prepend}
+use Rattle.line_buffer.specs.declared.types.Movement.{Movement}
+use Rattle.line_buffer.specs.declared.types.Movement.TheVariants.{WholeLine, BeginningOfLine, EndOfLine, BackwardWord, ForwardWord, ViCharSearch, ViFirstPrint, BackwardChar, ForwardChar, LineUp, LineDown, WholeBuffer, BeginningOfBuffer, EndOfBuffer}
+use Rattle.line_buffer.specs.Event.Event.{StartKilling, StopKilling}
+use Rattle.line_buffer.specs.Insertions.{yank, insertion_of, no_insertion, put_at_cursor}
+use Rattle.line_buffer.specs.Line.{Line, cut_out}
+use Rattle.line_buffer.specs.Range.{range_of, deletion_events, deletion_line, kill_events, kill_line}
+use Rattle.line_buffer.specs.Replay.{insertion}
+use Rattle.line_buffer.proofs.InsertionLemmas.{one_insertion}
+use Rattle.line_record.specs.declared.kill_ring.Action.{Action}
+use Rattle.line_record.specs.declared.kill_ring.Action.TheVariants.{Other, Kill, Yank}
+use Rattle.line_record.specs.Edit.{StandsAt, exchanged_at}
+use Rattle.line_record.specs.Laws.{is_directed, AllDirected, line_killed, ring_killed, some_taken, KillsComeBack}
+use Rattle.line_record.specs.Ring.{Ring, IsRing, joined_text, slot_after, put_text, killed, killed_after, killed_anew, mode_of, ring_all}
+use Rattle.line_record.proofs.DirectedLemmas.{Onward, Back, IsDirected, directed}
+use Rattle.line_record.proofs.Exchange.{exchanged, joined_right, joined_left}
+
+-- the text put in at the cursor gives the first text
+record Restores (first : List ℕ) (l : Line) (text : List ℕ) : Type 0 where
+  utf8 : IsUtf8 l.text
+  cursor : IsCharBoundary l.text l.place
+  text_utf8 : IsUtf8 text
+  restored : exchanged_at l.place [] text l.text ≡ first
+  growth : l.growth ≡ true
+
+stands_at_cursor : (text : List ℕ) (at : ℕ) (put : List ℕ) → IsCharBoundary text at → IsUtf8 put → StandsAt at [] put text
+stands_at_cursor text at put b u = record {
+  start = b;
+  end = subst (IsCharBoundary text) (sym (add-zero at)) b;
+  bytes = ap (λ k. take k (drop at text)) (let e : at + 0 - at ≡ 0 = omega arith in e);
+  utf8 = u;
+}
+
+-- the part between two places stands at the first
+part_stands : (text : List ℕ) (from upto : ℕ) → from ≤ upto → IsCharBoundary text from → IsCharBoundary text upto → (from + length (slice_range text from upto) ≡ upto) × StandsAt from (slice_range text from upto) [] text
+part_stands text from upto order b e =
+    let n : length (slice_range text from upto) ≡ upto - from = length-take-le (upto - from) (drop from text) (omega (arith, length-drop from text, e.0, order)) in
+    let k : from + length (slice_range text from upto) ≡ upto = omega (arith, n, order) in (
+      k,
+      record {
+        start = b;
+        end = subst (IsCharBoundary text) (sym k) e;
+        bytes = ap (slice_range text from) k;
+        utf8 = IsUtf8-nil;
+      },
+    )
+
+-- the line after a part of it was taken
+taken : Span → Line → Line
+taken span l = cut_out span.from span.upto l
+
+mode_text : Span → Line → List ℕ → List ℕ
+mode_text span l text = joined_text (mode_of span.direction) (slice_range l.text span.from span.upto) text
+
+restores_onward : (first : List ℕ) (l : Line) (text : List ℕ) (span : Span) → Restores first l text → Onward l span → Restores first (taken span l) (mode_text span l text)
+unfolding taken mode_text
+restores_onward first l text span r h =
+    let part : List ℕ = slice_range l.text l.place span.upto in
+    let p = part_stands l.text l.place span.upto h.later r.cursor h.end in
+    let cut : replace_range l.text l.place span.upto [] ≡ exchanged_at l.place part [] l.text = ap (λ k. replace_range l.text l.place k []) (sym p.0) in
+    let x = exchanged l.place part [] l.text p.1 r.utf8 in
+    let at : l.place + 0 ≡ l.place = add-zero l.place in
+    let stands : StandsAt (l.place + 0) part [] l.text = subst (λ k. StandsAt k part [] l.text) (sym at) p.1 in
+    let j = joined_right l.place text [] part [] l.text (stands_at_cursor l.text l.place text r.cursor r.text_utf8) r.utf8 stands in
+    let part_utf8 : IsUtf8 part = IsUtf8-between l.text l.place span.upto r.utf8 h.later r.cursor h.end in
+    let after : List ℕ = replace_range l.text l.place span.upto [] in
+    let same : Restores first (record l { text = after; place = l.place }) (text ++ part) = record {
+      utf8 = subst IsUtf8 (sym cut) x.utf8;
+      cursor = subst (λ t. IsCharBoundary t l.place) (sym cut) x.stand.start;
+      text_utf8 = IsUtf8-append text part r.text_utf8 part_utf8;
+      restored = ap (exchanged_at l.place [] (text ++ part)) (cut ∙ ap (λ k. exchanged_at k part [] l.text) (sym at)) ∙ j.back ∙ r.restored;
+      growth = r.growth;
+    } in
+    subst (λ k. Restores first (cut_out k span.upto l) (joined_text (mode_of span.direction) (slice_range l.text k span.upto) text)) (sym h.from)
+    (subst (λ d. Restores first (cut_out l.place span.upto l) (joined_text (mode_of d) part text)) (sym h.direction) same)
+
+restores_back : (first : List ℕ) (l : Line) (text : List ℕ) (span : Span) → Restores first l text → Back l span → Restores first (taken span l) (mode_text span l text)
+unfolding taken mode_text
+restores_back first l text span r h =
+    let part : List ℕ = slice_range l.text span.from l.place in
+    let p = part_stands l.text span.from l.place h.earlier h.start r.cursor in
+    let cut : replace_range l.text span.from l.place [] ≡ exchanged_at span.from part [] l.text = ap (λ k. replace_range l.text span.from k []) (sym p.0) in
+    let x = exchanged span.from part [] l.text p.1 r.utf8 in
+    let j = joined_left span.from l.place text part l.text (stands_at_cursor l.text l.place text r.cursor r.text_utf8) r.utf8 p.1 p.0 in
+    let part_utf8 : IsUtf8 part = IsUtf8-between l.text span.from l.place r.utf8 h.earlier h.start r.cursor in
+    let after : List ℕ = replace_range l.text span.from l.place [] in
+    let same : Restores first (record l { text = after; place = span.from }) (part ++ text) = record {
+      utf8 = subst IsUtf8 (sym cut) x.utf8;
+      cursor = subst (λ t. IsCharBoundary t span.from) (sym cut) x.stand.start;
+      text_utf8 = IsUtf8-append part text part_utf8 r.text_utf8;
+      restored = ap (exchanged_at span.from [] (part ++ text)) cut ∙ j.back ∙ r.restored;
+      growth = r.growth;
+    } in
+    subst (λ k. Restores first (cut_out span.from k l) (joined_text (mode_of span.direction) (slice_range l.text span.from k) text)) (sym h.upto)
+    (subst (λ d. Restores first (cut_out span.from l.place l) (joined_text (mode_of d) part text)) (sym h.direction) same)
+
+restores_more : (first : List ℕ) (l : Line) (text : List ℕ) (span : Span) → Restores first l text → IsDirected l span → Restores first (taken span l) (mode_text span l text)
+restores_more first l text span r (inl h) = restores_onward first l text span r h
+restores_more first l text span r (inr h) = restores_back first l text span r h
+
+-- the ring holds the text that was killed, if any was
+record Killed (r : Ring) (text : List ℕ) : Type 0 where
+  last : r.last ≡ Kill
+  size : 0 < r.size
+  inside : r.place < length r.slots
+  slot : slice_index_or r.slots r.place [] ≡ text
+
+record Fresh (r : Ring) (text : List ℕ) : Type 0 where
+  last : r.last ≢ Kill
+  size : 0 < r.size
+  ring : IsRing (length r.slots) r.size r.place r.last
+  none : text ≡ []
+
+RingHolds : Bool → Ring → List ℕ → Type 0
+RingHolds true r text = Killed r text
+RingHolds false r text = Fresh r text
+
+-- a kill between its marks
+marked_kill : List ℕ → Mode → Ring → Ring
+marked_kill text mode r = record (killed text mode (record r { killing = true })) { killing = false }
+
+not_zero : (n : ℕ) → 0 < n → (n == 0) ≡ false
+not_zero n h = grind (arith, nat_tests)
+
+has_size : (text : List ℕ) (mode : Mode) (r : Ring) → 0 < r.size → killed text mode r ≡ killed_after r.last text mode r
+has_size text mode r h = ap (λ b. if b then record r { last = Kill } else killed_after r.last text mode r) (not_zero r.size h)
+
+killed_more : (r : Ring) (text more : List ℕ) (mode : Mode) → Killed r text → Killed (marked_kill more mode r) (joined_text mode more text)
+unfolding marked_kill
+killed_more r text more mode k =
+    let s : Ring = record r { killing = true } in
+    let e : killed more mode s ≡ record s { slots = slice_set r.slots r.place (joined_text mode more (slice_index_or r.slots r.place [])) } =
+    has_size more mode s k.size ∙ ap (λ a. killed_after a more mode s) k.last in
+    let made : Killed (record s { slots = slice_set r.slots r.place (joined_text mode more (slice_index_or r.slots r.place [])); killing = false }) (joined_text mode more text) = record {
+      last = k.last;
+      size = k.size;
+      inside = omega (arith, k.inside, length-set r.slots r.place (joined_text mode more (slice_index_or r.slots r.place [])));
+      slot = get_or-set_same r.slots r.place (joined_text mode more (slice_index_or r.slots r.place [])) [] k.inside ∙ ap (joined_text mode more) k.slot;
+    } in
+    subst (λ q. Killed (record q { killing = false }) (joined_text mode more text)) (sym e) made
+
+-- the next slot is one of those there, or the one behind them
+next_inside : (count size place : ℕ) (last : Action) → IsRing count size place last → slot_after count size place ≤ count
+next_inside count size place last r = by_tests (count == 0) (place + 1 == size) refl
+  where
+    by_tests : (a b : Bool) → (count == 0) ≡ a → (if a then 0 else (if b then 0 else place + 1)) ≤ count
+    by_tests true b e = omega arith
+    by_tests false true e = omega arith
+    by_tests false false e = let some : 0 < count = grind (arith, e, nat_tests) in let i : place < count = r.inside some in omega (arith, i)
+
+put_length : (i : ℕ) (text : List ℕ) (slots : List (List ℕ)) → i ≤ length slots → i < length (put_text i text slots)
+put_length i text slots h = by_test (nat_lt i (length slots)) refl
+  where
+    by_test : (b : Bool) → nat_lt i (length slots) ≡ b → i < length (if b then slice_set slots i text else slots ++ text ∷ [])
+    by_test true e = let k : i < length slots = ltb-true i (length slots) e in omega (arith, k, length-set slots i text)
+    by_test false e = omega (arith, h, length-append slots (text ∷ []))
+
+put_slot : (i : ℕ) (text : List ℕ) (slots : List (List ℕ)) → i ≤ length slots → slice_index_or (put_text i text slots) i [] ≡ text
+put_slot i text slots h = by_test (nat_lt i (length slots)) refl
+  where
+    by_test : (b : Bool) → nat_lt i (length slots) ≡ b → slice_index_or (if b then slice_set slots i text else slots ++ text ∷ []) i [] ≡ text
+    by_test true e = get_or-set_same slots i text [] (ltb-true i (length slots) e)
+    by_test false e =
+        let k : i ≡ length slots = omega (arith, h, ltb-false i (length slots) e) in
+        ap (λ j. slice_index_or (slots ++ text ∷ []) j []) k ∙ get_or-append_seam slots text [] []
+
+anew : (a : Action) (r : Ring) (text : List ℕ) (mode : Mode) → a ≢ Kill → killed_after a text mode r ≡ killed_anew text r
+anew Other r text mode h = refl
+anew (Yank n) r text mode h = refl
+anew Kill r text mode h = absurd (h refl)
+
+joined_nothing : (mode : Mode) (text : List ℕ) → joined_text mode text [] ≡ text
+joined_nothing Append text = refl
+joined_nothing Prepend text = append-nil text
+
+killed_first : (r : Ring) (text more : List ℕ) (mode : Mode) → Fresh r text → Killed (marked_kill more mode r) (joined_text mode more text)
+unfolding marked_kill
+killed_first r text more mode f =
+    let s : Ring = record r { killing = true } in
+    let next : ℕ = slot_after (length r.slots) r.size r.place in
+    let e : killed more mode s ≡ killed_anew more s = has_size more mode s f.size ∙ anew r.last s more mode f.last in
+    let within = next_inside (length r.slots) r.size r.place r.last f.ring in
+    let made : Killed (record (killed_anew more s) { killing = false }) (joined_text mode more text) = record {
+      last = refl;
+      size = f.size;
+      inside = put_length next more r.slots within;
+      slot = put_slot next more r.slots within ∙ sym (joined_nothing mode more) ∙ ap (joined_text mode more) (sym f.none);
+    } in
+    subst (λ q. Killed (record q { killing = false }) (joined_text mode more text)) (sym e) made
+
+killed_any : (some : Bool) (r : Ring) (text more : List ℕ) (mode : Mode) → RingHolds some r text → Killed (marked_kill more mode r) (joined_text mode more text)
+unfolding RingHolds
+killed_any true r text more mode h = killed_more r text more mode h
+killed_any false r text more mode h = killed_first r text more mode h
+
+-- the marks of killing alone
+only_marked : (some : Bool) (r : Ring) (text : List ℕ) → RingHolds some r text → RingHolds some (record r { killing = false }) text
+unfolding RingHolds
+only_marked true r text k = record { last = k.last; size = k.size; inside = k.inside; slot = k.slot }
+only_marked false r text f = record { last = f.last; size = f.size; ring = f.ring; none = f.none }
+
+directed_events : (m : Movement) (l : Line) → is_directed m ≡ true → kill_events m l ≡ StartKilling ∷ (deletion_events (range_of m l) l ++ (StopKilling ∷ []))
+directed_events EndOfLine l d = refl
+directed_events BeginningOfLine l d = refl
+directed_events EndOfBuffer l d = refl
+directed_events BeginningOfBuffer l d = refl
+directed_events (BackwardWord n word) l d = refl
+directed_events (ForwardWord n at word) l d = refl
+directed_events (ViCharSearch n search) l d = refl
+directed_events WholeLine l d = cc
+directed_events ViFirstPrint l d = cc
+directed_events (BackwardChar n) l d = cc
+directed_events (ForwardChar n) l d = cc
+directed_events (LineUp n) l d = cc
+directed_events (LineDown n) l d = cc
+directed_events WholeBuffer l d = cc
+
+record Run (some : Bool) (first : List ℕ) (l : Line) (r : Ring) : Type 0 where
+  text : List ℕ
+  line : Restores first l text
+  ring : RingHolds some r text
+
+-- one kill
+one_kill : (o : Option Span) (some : Bool) (first : List ℕ) (l : Line) (r : Ring) → IfSome o (IsDirected l) → Run some first l r
+    → Run (some || is_some o) first (deletion_line o l) (ring_all (StartKilling ∷ (deletion_events o l ++ (StopKilling ∷ []))) r)
+unfolding RingHolds taken mode_text marked_kill
+one_kill None true first l r h run = record { text = run.text; line = run.line; ring = only_marked true r run.text run.ring }
+one_kill None false first l r h run = record { text = run.text; line = run.line; ring = only_marked false r run.text run.ring }
+one_kill (Some span) true first l r h run = record {
+  text = joined_text (mode_of span.direction) (slice_range l.text span.from span.upto) run.text;
+  line = restores_more first l run.text span run.line h;
+  ring = killed_any true r run.text (slice_range l.text span.from span.upto) (mode_of span.direction) run.ring;
+}
+one_kill (Some span) false first l r h run = record {
+  text = joined_text (mode_of span.direction) (slice_range l.text span.from span.upto) run.text;
+  line = restores_more first l run.text span run.line h;
+  ring = killed_any false r run.text (slice_range l.text span.from span.upto) (mode_of span.direction) run.ring;
+}
+
+all_kills : (ms : List Movement) (some : Bool) (first : List ℕ) (l : Line) (r : Ring) → AllDirected ms → Run some first l r
+    → Run (some || some_taken ms l) first (line_killed ms l) (ring_killed ms l r)
+all_kills [] some first l r d run = subst (λ b. Run b first l r) (sym (or-false some)) run
+all_kills (m ∷ ms) some first l r d run =
+    let here = one_kill (range_of m l) some first l r (directed m l d.0 run.line.utf8 run.line.cursor) run in
+    let told : Run (some || is_some (range_of m l)) first (kill_line m l) (ring_all (kill_events m l) r) =
+    subst (λ es. Run (some || is_some (range_of m l)) first (kill_line m l) (ring_all es r)) (sym (directed_events m l d.0)) here in
+    subst (λ b. Run b first (line_killed ms (kill_line m l)) (ring_killed ms (kill_line m l) (ring_all (kill_events m l) r)))
+    (or_assoc some (is_some (range_of m l)) (some_taken ms (kill_line m l)))
+    (all_kills ms (some || is_some (range_of m l)) first (kill_line m l) (ring_all (kill_events m l) r) d.1 told)
+
+slot_there : (slots : List (List ℕ)) (i : ℕ) → i < length slots → slice_get slots i ≡ Some (slice_index_or slots i [])
+slot_there [] i h = absurd (omega (arith, h))
+slot_there (s ∷ slots) zero h = refl
+slot_there (s ∷ slots) (suc i) h = slot_there slots i (omega (arith, h))
+
+nothing_there : {A : Type 0} (xs : List A) → (length xs == 0) ≡ true → xs ≡ []
+nothing_there [] h = refl
+nothing_there (x ∷ xs) h = absurd (omega (arith, eqb-true (length (x ∷ xs)) 0 h))
+
+nothing_put : (text : List ℕ) (at : ℕ) → exchanged_at at [] [] text ≡ text
+nothing_put text at =
+    ap (λ x. x ++ drop (at + 0) text) (append-nil (take at text)) ∙ ap (λ k. take at text ++ drop k text) (add-zero at) ∙ take-append-drop at text
+
+put_in_room : (g : Bool) (text : List ℕ) (l : Line) → g ≡ true
+    → (if g || nat_le (length l.text + length text) l.limit then record { answer = Some (l.place == length l.text); events = insertion l.place text ∷ []; line = put_at_cursor text l } else no_insertion l).line.text
+    ≡ exchanged_at l.place [] text l.text
+put_in_room true text l e = ap (λ k. replace_range l.text l.place k text) (sym (add-zero l.place))
+put_in_room false text l e = cc
+
+-- the yank of what was killed
+yanked_back : (first : List ℕ) (l : Line) (text : List ℕ) → Restores first l text → (yank text 1 l).line.text ≡ first
+yanked_back first l text r = by_test (length text == 0) refl
+  where
+    by_test : (b : Bool) → (length text == 0) ≡ b → (if b then no_insertion l else insertion_of text 1 l).line.text ≡ first
+    by_test true e = sym (nothing_put l.text l.place) ∙ ap (λ t. exchanged_at l.place [] t l.text) (sym (nothing_there text e)) ∙ r.restored
+    by_test false e = sym (ap (λ x. x.line.text) (one_insertion text 1 l refl)) ∙ put_in_room l.growth text l r.growth ∙ r.restored
+
+pub kills_come_back : KillsComeBack
+unfolding RingHolds
+kills_come_back ms l r d some u b g ring size last =
+    let start : Run false l.text l r = record {
+      text = [];
+      line = record { utf8 = u; cursor = b; text_utf8 = IsUtf8-nil; restored = nothing_put l.text l.place; growth = g };
+      ring = record { last = last; size = size; ring = ring; none = refl };
+    } in
+    let run = subst (λ k. Run k l.text (line_killed ms l) (ring_killed ms l r)) some (all_kills ms false l.text l r d start) in
+    (run.text, slot_there _ _ run.ring.inside ∙ ap Some run.ring.slot, yanked_back l.text (line_killed ms l) run.text run.line)

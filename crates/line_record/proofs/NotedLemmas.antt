@@ -1,0 +1,230 @@
+-- What noting an event does to the record of texts.
+use Rattle.std.proofs.Common.{◌≡◌, ℕ, ◌+◌, ◌==◌, ◌&&◌, not, Bool, true, false, List, [], ◌∷◌, ◌++◌, length, take, drop, Option, Some, None, refl, sym, ap, subst, add-zero, ◌∙◌, arith, eqb-true}
+use Rattle.std.specs.Prelude.{IsUtf8, encode_utf8, if◌then◌else◌}
+use Rattle.std.proofs.lemmas.List.{append-nil, take-append-drop}
+use Rattle.unicode_segmentation.specs.Segments.{is_alphanumeric}
+use Rattle.line_buffer.specs.Event.{Event}
+use Rattle.line_buffer.specs.Event.Event.{StartKilling, StopKilling, Delete, InsertChar, InsertStr, Replace}
+use Rattle.line_buffer.specs.Replay.{Swaps}
+use Rattle.line_buffer.specs.declared.types.Direction.{Direction}
+use Rattle.line_record.specs.Edit.{Edit, place_of, removed_of, added_of, taken_back, exchanged_at, StandsAt, StandsIn}
+use Rattle.line_record.specs.Edit.Edit.{Inserted, Deleted, Replaced}
+use Rattle.line_record.specs.Held.{Held, step_of, stepped, stepped_on, stepped_if, recorded_in, change_of, joined_to, is_alphanumeric_cluster}
+use Rattle.line_record.specs.Items.{Item, Items, done_held, DoneStand, ItemsStand, held_on, ahead_on, noted, noted_on, noted_if, told_of, record_after, ahead_after, Recorded, RecordedIn}
+use Rattle.line_record.specs.Items.Item.{Open, Lone, Group}
+use Rattle.line_record.specs.Stored.{event_of}
+use Rattle.line_record.specs.declared.report.Report.{Report}
+use Rattle.line_record.specs.declared.report.Report.TheVariants as told
+use Rattle.line_record.proofs.Exchange.{exchanged, Joined, joined_right, joined_left}
+
+-- the text before it was changed stands behind the change
+pub record Follows (c : Edit) (before after : List ℕ) : Type 0 where
+  pub stand : StandsIn c after
+  pub back : taken_back c after ≡ before
+
+pub record Noted (items : List Item) (texts : List Held) (after : List ℕ) : Type 0 where
+  pub stand : DoneStand items after
+  pub held : done_held items after ≡ texts
+
+noted_new : (c : Edit) (items : List Item) (before after : List ℕ) → Follows c before after → DoneStand items before
+    → Noted (Lone c ∷ items) (step_of c before ∷ done_held items before) after
+noted_new c items before after f s = record {
+  stand = ((f.stand, tt), subst (DoneStand items) (sym f.back) s);
+  held = ap (λ t. step_of c t ∷ done_held items t) f.back;
+}
+
+-- what joins a change d leaves the text before d
+Joins : Event → List ℕ → List ℕ → Type 0
+Joins e before after = (d g : Edit) → joined_to e d ≡ Some g → StandsIn d before → Follows g (taken_back d before) after
+
+noted_joined : (e : Event) (c d : Edit) (items : List Item) (before after : List ℕ) (o : Option Edit) → joined_to e d ≡ o → Follows c before after → Joins e before after
+    → DoneStand (Lone d ∷ items) before
+    → Noted (noted_on o c d items) (stepped_on o c before (taken_back d before) (step_of d (taken_back d before)) (done_held items (taken_back d before))) after
+unfolding Joins
+noted_joined e c d items before after (Some g) is f j s = noted_new g items (taken_back d before) after (j d g is s.0.0) s.1
+noted_joined e c d items before after None is f j s = noted_new c (Lone d ∷ items) before after f s
+
+noted_step : (e : Event) (c : Edit) (items : List Item) (before after : List ℕ) → Follows c before after → Joins e before after → DoneStand items before
+    → Noted (noted e c items) (stepped e c before (done_held items before)) after
+noted_step e c [] before after f j s = noted_new c [] before after f s
+noted_step e c (Open ∷ items) before after f j s = noted_new c (Open ∷ items) before after f s
+noted_step e c (Group d ds ∷ items) before after f j s = noted_new c (Group d ds ∷ items) before after f s
+noted_step e c (Lone d ∷ items) before after f j s = noted_joined e c d items before after (joined_to e d) refl f j s
+
+-- a change that an event tells of
+follows : (c : Edit) (before after : List ℕ) → StandsAt (place_of c) (removed_of c) (added_of c) before → IsUtf8 before
+    → after ≡ exchanged_at (place_of c) (removed_of c) (added_of c) before → Follows c before after
+follows c before after s u e =
+    let x = exchanged (place_of c) (removed_of c) (added_of c) before s u in
+    record {
+      stand = subst (StandsIn c) (sym e) x.stand;
+      back = ap (taken_back c) e ∙ x.back;
+    }
+
+stands_from_swaps : {at : ℕ} {from to before after : List ℕ} → Swaps at from to before after → StandsAt at from to before
+stands_from_swaps s = record { start = s.start; end = s.end; bytes = s.stands; utf8 = s.text }
+
+both : (a b : Bool) → (a && b) ≡ true → b ≡ true
+both true b h = h
+both false b h = cc
+
+-- the test of a choice that gives something holds
+some_if : {A : Type 0} (b : Bool) (x g : A) → (if b then Some x else None) ≡ Some g → (b ≡ true) × (x ≡ g)
+some_if true x g e = (refl, cc)
+some_if false x g e = cc
+
+from_joined : {at : ℕ} {was now before longer : List ℕ} (g : Edit) (after : List ℕ) → Joined at was now (removed_of g) (added_of g) before longer (place_of g)
+    → after ≡ longer → Follows g (exchanged_at at now was before) after
+from_joined g after j e = record {
+  stand = subst (StandsIn g) (sym e) j.stand;
+  back = ap (taken_back g) e ∙ j.back;
+}
+
+joins_char : (at c : ℕ) (before after : List ℕ) → IsUtf8 before → Swaps at [] (encode_utf8 c) before after → Joins (InsertChar at c) before after
+unfolding Joins
+joins_char at c before after u w (Inserted place text) g e s =
+    let h = some_if (is_alphanumeric c && (at == place + length text)) (Inserted place (text ++ encode_utf8 c)) g e in
+    let i : at ≡ place + length text = eqb-true at (place + length text) (both (is_alphanumeric c) (at == place + length text) h.0) in
+    let t : StandsAt (place + length text) [] (encode_utf8 c) before = subst (λ k. StandsAt k [] (encode_utf8 c) before) i (stands_from_swaps w) in
+    let x : Follows (Inserted place (text ++ encode_utf8 c)) (taken_back (Inserted place text) before) after =
+    from_joined (Inserted place (text ++ encode_utf8 c)) after (joined_right place [] text [] (encode_utf8 c) before s u t) (w.becomes ∙ ap (λ k. exchanged_at k [] (encode_utf8 c) before) i) in
+    subst (λ y. Follows y (taken_back (Inserted place text) before) after) h.1 x
+joins_char at c before after u w (Deleted place text) g e s = cc
+joins_char at c before after u w (Replaced place was is) g e s = cc
+
+joins_replacement : (at : ℕ) (removed added before after : List ℕ) → IsUtf8 before → Swaps at removed added before after → Joins (Replace at removed added) before after
+unfolding Joins
+joins_replacement at removed added before after u w (Replaced place was is) g e s =
+    let h = some_if (at == place + length is) (Replaced place (was ++ removed) (is ++ added)) g e in
+    let i : at ≡ place + length is = eqb-true at (place + length is) h.0 in
+    let t : StandsAt (place + length is) removed added before = subst (λ k. StandsAt k removed added before) i (stands_from_swaps w) in
+    let x : Follows (Replaced place (was ++ removed) (is ++ added)) (taken_back (Replaced place was is) before) after =
+    from_joined (Replaced place (was ++ removed) (is ++ added)) after (joined_right place was is removed added before s u t) (w.becomes ∙ ap (λ k. exchanged_at k removed added before) i) in
+    subst (λ y. Follows y (taken_back (Replaced place was is) before) after) h.1 x
+joins_replacement at removed added before after u w (Inserted place text) g e s = cc
+joins_replacement at removed added before after u w (Deleted place text) g e s = cc
+
+deletion_ahead : (at place : ℕ) (removed deleted before after : List ℕ) → IsUtf8 before → Swaps at removed [] before after → StandsIn (Deleted place deleted) before
+    → at ≡ place → Follows (Deleted place (deleted ++ removed)) (taken_back (Deleted place deleted) before) after
+deletion_ahead at place removed deleted before after u w s i =
+    let j : at ≡ place + 0 = i ∙ sym (add-zero place) in
+    let t : StandsAt (place + 0) removed [] before = subst (λ k. StandsAt k removed [] before) j (stands_from_swaps w) in
+    from_joined (Deleted place (deleted ++ removed)) after (joined_right place deleted [] removed [] before s u t) (w.becomes ∙ ap (λ k. exchanged_at k removed [] before) j)
+
+deletion_behind : (at place : ℕ) (removed deleted before after : List ℕ) → IsUtf8 before → Swaps at removed [] before after → StandsIn (Deleted place deleted) before
+    → at + length removed ≡ place → Follows (Deleted at (removed ++ deleted)) (taken_back (Deleted place deleted) before) after
+deletion_behind at place removed deleted before after u w s i =
+    from_joined (Deleted at (removed ++ deleted)) after (joined_left at place deleted removed before s u (stands_from_swaps w) i) w.becomes
+
+-- the choice that a deletion makes of what it joins
+chosen_deletion : (a b : Bool) (at place : ℕ) (removed deleted : List ℕ) (g : Edit) (P : Edit → Type 0) → (at == place) ≡ a → (at + length removed == place) ≡ b
+    → (at ≡ place → P (Deleted place (deleted ++ removed))) → (at + length removed ≡ place → P (Deleted at (removed ++ deleted)))
+    → (if a then Some (Deleted place (deleted ++ removed)) else if b then Some (Deleted at (removed ++ deleted)) else None) ≡ Some g → P g
+chosen_deletion true b at place removed deleted g P x y p q e = subst P (let i : Deleted place (deleted ++ removed) ≡ g = cc in i) (p (eqb-true at place x))
+chosen_deletion false true at place removed deleted g P x y p q e = subst P (let i : Deleted at (removed ++ deleted) ≡ g = cc in i) (q (eqb-true (at + length removed) place y))
+chosen_deletion false false at place removed deleted g P x y p q e = cc
+
+tested_deletion : (t : Bool) (x : Option Edit) (g : Edit) → (if not t then None else x) ≡ Some g → x ≡ Some g
+tested_deletion true x g e = e
+tested_deletion false x g e = cc
+
+joins_deletion : (at : ℕ) (removed : List ℕ) (direction : Direction) (before after : List ℕ) → IsUtf8 before → Swaps at removed [] before after → Joins (Delete at removed direction) before after
+unfolding Joins
+joins_deletion at removed direction before after u w (Deleted place deleted) g e s =
+    chosen_deletion (at == place) (at + length removed == place) at place removed deleted g (λ y. Follows y (taken_back (Deleted place deleted) before) after) refl refl
+    (deletion_ahead at place removed deleted before after u w s)
+    (deletion_behind at place removed deleted before after u w s)
+    (tested_deletion (is_alphanumeric_cluster removed) _ g e)
+joins_deletion at removed direction before after u w (Inserted place text) g e s = cc
+joins_deletion at removed direction before after u w (Replaced place was is) g e s = cc
+
+joins_text : (at : ℕ) (text before after : List ℕ) → Joins (InsertStr at text) before after
+unfolding Joins
+joins_text at text before after d g e s = cc
+
+-- the event's change, if it tells of one, follows the text before it and joins as it should; where it tells of none, the
+-- text stays
+Changes : Event → List ℕ → List ℕ → Option Edit → Type 0
+Changes e before after None = after ≡ before
+Changes e before after (Some c) = Follows c before after × Joins e before after
+
+noted_any : (e : Event) (o : Option Edit) (items : List Item) (before after : List ℕ) → Changes e before after o → DoneStand items before
+    → Noted (noted_if e o items) (stepped_if e o before (done_held items before)) after
+unfolding Changes
+noted_any e None items before after h s = record { stand = subst (DoneStand items) (sym h) s; held = ap (done_held items) h }
+noted_any e (Some c) items before after h s = noted_step e c items before after h.0 h.1 s
+
+recorded_told : (e : Event) (s : Items) (before after : List ℕ) → Noted (noted_if e (change_of e) s.done) (recorded_in e before (done_held s.done before)) after → ahead_after e (ahead_on s before) ≡ []
+    → Recorded e before after s (told_of e s)
+recorded_told e s before after n a = record { stand = (n.stand, tt); held = n.held; ahead = sym a }
+
+swapped : (c : Edit) (before after : List ℕ) → IsUtf8 before → Swaps (place_of c) (removed_of c) (added_of c) before after → Follows c before after
+swapped c before after u w = follows c before after (stands_from_swaps w) u w.becomes
+
+no_length : {A : Type 0} (xs : List A) → (length xs == 0) ≡ true → xs ≡ []
+no_length [] h = refl
+no_length (x ∷ xs) h = absurd (omega (arith, eqb-true (length (x ∷ xs)) 0 h))
+
+nothing_swapped : (at : ℕ) (from to before after : List ℕ) → (length from == 0) ≡ true → (length to == 0) ≡ true → Swaps at from to before after → after ≡ before
+nothing_swapped at from to before after f t w =
+    w.becomes ∙ ap (λ x. exchanged_at at x to before) (no_length from f) ∙ ap (λ x. exchanged_at at [] x before) (no_length to t)
+    ∙ ap (λ x. x ++ drop (at + 0) before) (append-nil (take at before)) ∙ ap (λ k. take at before ++ drop k before) (add-zero at) ∙ take-append-drop at before
+
+changes_deletion : (at : ℕ) (text : List ℕ) (direction : Direction) (before after : List ℕ) (b : Bool) → (length text == 0) ≡ b → IsUtf8 before → Swaps at text [] before after
+    → Changes (Delete at text direction) before after (if b then None else Some (Deleted at text))
+unfolding Changes
+changes_deletion at text direction before after true e u w = nothing_swapped at text [] before after e refl w
+changes_deletion at text direction before after false e u w = (swapped (Deleted at text) before after u w, joins_deletion at text direction before after u w)
+
+changes_text : (at : ℕ) (text before after : List ℕ) (b : Bool) → (length text == 0) ≡ b → IsUtf8 before → Swaps at [] text before after
+    → Changes (InsertStr at text) before after (if b then None else Some (Inserted at text))
+unfolding Changes
+changes_text at text before after true e u w = nothing_swapped at [] text before after refl e w
+changes_text at text before after false e u w = (swapped (Inserted at text) before after u w, joins_text at text before after)
+
+changes_replacement : (at : ℕ) (from to before after : List ℕ) (a b : Bool) → (length from == 0) ≡ a → (length to == 0) ≡ b → IsUtf8 before → Swaps at from to before after
+    → Changes (Replace at from to) before after (if a && b then None else Some (Replaced at from to))
+unfolding Changes
+changes_replacement at from to before after true true x y u w = nothing_swapped at from to before after x y w
+changes_replacement at from to before after true false x y u w = (swapped (Replaced at from to) before after u w, joins_replacement at from to before after u w)
+changes_replacement at from to before after false b x y u w = (swapped (Replaced at from to) before after u w, joins_replacement at from to before after u w)
+
+changes_char : (at c : ℕ) (before after : List ℕ) → IsUtf8 before → Swaps at [] (encode_utf8 c) before after → Changes (InsertChar at c) before after (Some (Inserted at (encode_utf8 c)))
+unfolding Changes
+changes_char at c before after u w = (swapped (Inserted at (encode_utf8 c)) before after u w, joins_char at c before after u w)
+
+recorded_same : (e : Event) (s : Items) (before after : List ℕ) → ItemsStand s before → after ≡ before → recorded_in e before (held_on s before) ≡ held_on s before
+    → ahead_after e (ahead_on s before) ≡ ahead_on s before → Recorded e before after s s
+recorded_same e s before after h i r a = record {
+  stand = subst (ItemsStand s) (sym i) h;
+  held = ap (held_on s) i ∙ sym r;
+  ahead = ap (ahead_on s) i ∙ sym a;
+}
+
+-- noting an event is what the record of texts asks for
+pub noted_recorded : (e : Event) (s : Items) → RecordedIn s e (record_after e s)
+noted_recorded StartKilling s = record { on = λ before after h u w. recorded_same StartKilling s before after h w refl refl }
+noted_recorded StopKilling s = record { on = λ before after h u w. recorded_same StopKilling s before after h w refl refl }
+noted_recorded (Delete at text direction) s = record {
+  on = λ before after h u w.
+      recorded_told (Delete at text direction) s before after (noted_any (Delete at text direction) _ s.done before after (changes_deletion at text direction before after (length text == 0) refl u w) h.0) refl;
+}
+noted_recorded (InsertChar at c) s = record {
+  on = λ before after h u w.
+      recorded_told (InsertChar at c) s before after (noted_any (InsertChar at c) _ s.done before after (changes_char at c before after u w) h.0) refl;
+}
+noted_recorded (InsertStr at text) s = record {
+  on = λ before after h u w.
+      recorded_told (InsertStr at text) s before after (noted_any (InsertStr at text) _ s.done before after (changes_text at text before after (length text == 0) refl u w) h.0) refl;
+}
+noted_recorded (Replace at from to) s = record {
+  on = λ before after h u w.
+      recorded_told (Replace at from to) s before after (noted_any (Replace at from to) _ s.done before after (changes_replacement at from to before after (length from == 0) (length to == 0) refl refl u w) h.0) refl;
+}
+
+-- noting what is told
+pub reported : (r : Report) (s t : Items) → t ≡ told_of (event_of r) s → RecordedIn s (event_of r) t
+reported (told.Char at c) s t e = subst (RecordedIn s (InsertChar at c)) (sym e) (noted_recorded (InsertChar at c) s)
+reported (told.Text at text) s t e = subst (RecordedIn s (InsertStr at text.now)) (sym e) (noted_recorded (InsertStr at text.now) s)
+reported (told.Deletion at text direction) s t e = subst (RecordedIn s (Delete at text.now direction)) (sym e) (noted_recorded (Delete at text.now direction) s)
+reported (told.Replacement at removed added) s t e = subst (RecordedIn s (Replace at removed.now added.now)) (sym e) (noted_recorded (Replace at removed.now added.now) s)

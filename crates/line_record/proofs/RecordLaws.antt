@@ -1,0 +1,33 @@
+-- Laws of the record.
+use Rattle.std.proofs.Common.{◌≡◌, ℕ, false, List, [], ◌∷◌, length, refl, ap, ◌∙◌}
+use Rattle.std.specs.Prelude.{IsUtf8}
+use Rattle.line_record.specs.Held.{Held, text_back, ended, closes, has_mark}
+use Rattle.line_record.specs.Held.Held.{Opened, Stepped}
+use Rattle.line_record.specs.Items.{Item, changes_of, text_before, text_after, done_held, DoneStand}
+use Rattle.line_record.specs.Laws.{text_after_all, RecordGivesTheText, EmptyGroupLeavesNothing, RedoGivesTheTextBack}
+use Rattle.line_record.proofs.StoredLemmas.{text_of-holding}
+use Rattle.line_record.proofs.UndoLemmas.{was_taken_back}
+
+replayed_done : (items : List Item) (text : List ℕ) → DoneStand items text → IsUtf8 text → text_after_all items (text_back (length (done_held items text)) (done_held items text) text) ≡ text
+replayed_done [] text h u = refl
+replayed_done (x ∷ items) text h u =
+    let was = was_taken_back (changes_of x) text h.0 u in
+    ap (λ t. text_after x (text_after_all items (text_back (length (done_held items (text_before x text))) (done_held items (text_before x text)) t))) (text_of-holding x (text_before x text))
+    ∙ ap (text_after x) (replayed_done items (text_before x text) h.1 was.utf8) ∙ was.back
+
+pub record_gives_the_text : RecordGivesTheText
+record_gives_the_text s text h u = replayed_done s.done text h.0 u
+
+no_mark : (held : List Held) → has_mark held ≡ false → (ended held ≡ held) × (closes held ≡ false)
+no_mark [] h = (refl, refl)
+no_mark (Opened text ∷ held) h = cc
+no_mark (Stepped text place newest joinable ∷ held) h =
+    let below = no_mark held h in
+    (rw (below.1, h), h)
+
+pub empty_group_leaves_nothing : EmptyGroupLeavesNothing
+empty_group_leaves_nothing text held h = no_mark held h
+
+pub redo_gives_the_text_back : RedoGivesTheTextBack
+redo_gives_the_text_back (Opened text) held ahead l = (refl, refl)
+redo_gives_the_text_back (Stepped text place newest joinable) held ahead l = (refl, refl)

@@ -1,0 +1,110 @@
+-- The record of texts after several events, of the record alone or as a part of a listener.
+use Rattle.std.proofs.Common.{◌≡◌, ℕ, List, [], ◌∷◌, refl, sym, ap, subst, ◌∙◌, inl, inr}
+use Rattle.std.specs.Prelude.{IsUtf8}
+use Rattle.line_buffer.specs.Event.{Event}
+use Rattle.line_buffer.specs.Event.Event.{StartKilling, StopKilling, Delete, InsertChar, InsertStr, Replace}
+use Rattle.line_buffer.specs.Replayed.{replayed, replayed_all}
+use Rattle.line_buffer.specs.Replay.{Swaps, Replays, ReplaysAll, TakesAll, Reports, StopsAmong}
+use Rattle.line_record.specs.Held.{Held, recorded_in}
+use Rattle.line_record.specs.Items.{Items, ItemsStand, held_on, RecordedIn}
+use Rattle.line_record.specs.Runs.{recorded_all}
+use Rattle.line_record.proofs.Exchange.{exchanged}
+
+pub replayed_all-nil : (text : List ℕ) → replayed_all [] text ≡ text
+unfolding replayed_all
+replayed_all-nil text = refl
+
+pub replayed_all-cons : (e : Event) (es : List Event) (text : List ℕ) → replayed_all (e ∷ es) text ≡ replayed_all es (replayed e text)
+unfolding replayed_all
+replayed_all-cons e es text = refl
+
+pub recorded_all-nil : (text : List ℕ) (held : List Held) → recorded_all [] text held ≡ held
+unfolding recorded_all
+recorded_all-nil text held = refl
+
+pub recorded_all-cons : (e : Event) (es : List Event) (text : List ℕ) (held : List Held) → recorded_all (e ∷ es) text held ≡ recorded_all es (replayed e text) (recorded_in e text held)
+unfolding recorded_all
+recorded_all-cons e es text held = refl
+
+-- the text that an event leaves
+pub replayed_is : (e : Event) (before after : List ℕ) → Replays e before after → after ≡ replayed e before
+replayed_is StartKilling before after r = r
+replayed_is StopKilling before after r = r
+replayed_is (Delete at text direction) before after r = r.becomes
+replayed_is (InsertChar at c) before after r = r.becomes
+replayed_is (InsertStr at text) before after r = r.becomes
+replayed_is (Replace at from to) before after r = r.becomes
+
+swapped_utf8 : {at : ℕ} {from to before after : List ℕ} → IsUtf8 before → Swaps at from to before after → IsUtf8 after
+swapped_utf8 {at} {from} {to} {before} {after} u w =
+    subst IsUtf8 (sym w.becomes) (exchanged at from to before (record { start = w.start; end = w.end; bytes = w.stands; utf8 = w.text }) u).utf8
+
+pub replayed_utf8 : (e : Event) (before after : List ℕ) → IsUtf8 before → Replays e before after → IsUtf8 after
+replayed_utf8 StartKilling before after u r = subst IsUtf8 (sym r) u
+replayed_utf8 StopKilling before after u r = subst IsUtf8 (sym r) u
+replayed_utf8 (Delete at text direction) before after u r = swapped_utf8 u r
+replayed_utf8 (InsertChar at c) before after u r = swapped_utf8 u r
+replayed_utf8 (InsertStr at text) before after u r = swapped_utf8 u r
+replayed_utf8 (Replace at from to) before after u r = swapped_utf8 u r
+
+-- the record after events
+pub record RecordedAll (events : List Event) (s t : Items) (before after : List ℕ) : Type 0 where
+  pub stand : ItemsStand t after
+  pub held : held_on t after ≡ recorded_all events before (held_on s before)
+  pub text : after ≡ replayed_all events before
+  pub utf8 : IsUtf8 after
+
+-- a listener of which the record is a part
+module _ {S : Type 0} (takes : S → Event → S → Type 0) (part : S → Items) (takes_part : (s : S) (e : Event) (t : S) → takes s e t → RecordedIn (part s) e (part t)) where
+  pub all_recorded : (events : List Event) (s t : S) (before after : List ℕ) → TakesAll takes s events t → ReplaysAll events before after
+      → ItemsStand (part s) before → IsUtf8 before → RecordedAll events (part s) (part t) before after
+  all_recorded [] s t before after told replays h u = record {
+    stand = subst (λ x. ItemsStand (part x) after) (sym told) (subst (ItemsStand (part s)) (sym replays) h);
+    held = ap (λ x. held_on (part x) after) told ∙ ap (held_on (part s)) replays ∙ sym (recorded_all-nil before (held_on (part s) before));
+    text = replays ∙ sym (replayed_all-nil before);
+    utf8 = subst IsUtf8 (sym replays) u;
+  }
+  all_recorded (e ∷ es) s t before after (v, told, more) (between, replays, later) h u =
+      let first = (takes_part s e v told).on before between h u replays in
+      let is : between ≡ replayed e before = replayed_is e before between replays in
+      let rest = all_recorded es v t between after more later first.stand (replayed_utf8 e before between u replays) in
+      record {
+        stand = rest.stand;
+        held = rest.held ∙ ap (recorded_all es between) first.held ∙ ap (λ x. recorded_all es x (recorded_in e before (held_on (part s) before))) is
+            ∙ sym (recorded_all-cons e es before (held_on (part s) before));
+        text = rest.text ∙ ap (replayed_all es) is ∙ sym (replayed_all-cons e es before);
+        utf8 = rest.utf8;
+      }
+
+  pub part_told : {events : List Event} {s t : S} {before after : List ℕ} → ItemsStand (part s) before → IsUtf8 before → Reports takes events s t before after
+      → RecordedAll events (part s) (part t) before after
+  part_told {events} {s} {t} {before} {after} h u r = all_recorded events s t before after r.told r.replays h u
+
+  -- after a refusal the record is that of the events that the line made, and of what closed the call
+  pub part_stopped : {events : List Event} {s t : S} {before after : List ℕ} → (refuses : S → Event → S → Type 0) → ((x : S) (e : Event) (y : S) → refuses x e y → part y ≡ part x)
+      → ItemsStand (part s) before → IsUtf8 before → (p : StopsAmong takes refuses events s t before after)
+      → RecordedAll p.closing (part p.between) (part t) after after × RecordedAll p.done (part s) (part p.between) before after
+  part_stopped {events} {s} {t} {before} {after} refuses refuses_part h u p =
+      let done = part_told h u p.reported in
+      let same : part p.left ≡ part p.between = elim p.stopped [ inl e ↦ ap part e | inr (e, r) ↦ refuses_part p.between e p.left r ] in
+      let closing = part_told (subst (λ x. ItemsStand x after) (sym same) done.stand) done.utf8 p.closed in
+      (subst (λ x. RecordedAll p.closing x (part t) after after) same closing, done)
+
+-- the record alone
+pub told_stand : {events : List Event} {s t : Items} {before after : List ℕ} → ItemsStand s before → IsUtf8 before → Reports RecordedIn events s t before after → ItemsStand t after
+told_stand h u r = (part_told RecordedIn (λ x. x) (λ s e t k. k) h u r).stand
+
+pub told_held : {events : List Event} {s t : Items} {before after : List ℕ} → ItemsStand s before → IsUtf8 before → Reports RecordedIn events s t before after
+    → held_on t after ≡ recorded_all events before (held_on s before)
+told_held h u r = (part_told RecordedIn (λ x. x) (λ s e t k. k) h u r).held
+
+pub stopped_stand : {events : List Event} {s t : Items} {before after : List ℕ} → ItemsStand s before → IsUtf8 before
+    → StopsAmong RecordedIn (λ x e y. y ≡ x) events s t before after → ItemsStand t after
+stopped_stand h u p = (part_stopped RecordedIn (λ x. x) (λ s e t k. k) (λ x e y. y ≡ x) (λ x e y k. k) h u p).0.stand
+
+-- what each event keeps, a run keeps
+pub kept_by_all : {S : Type 0} (takes : S → Event → S → Type 0) (Kept : S → S → Type 0) → ((s : S) → Kept s s) → ((s t u : S) → Kept s t → Kept t u → Kept s u)
+    → ((s : S) (e : Event) (t : S) → takes s e t → Kept s t) → (events : List Event) (s t : S) → TakesAll takes s events t → Kept s t
+kept_by_all takes Kept same chained step [] s t told = subst (Kept s) (sym told) (same s)
+kept_by_all takes Kept same chained step (e ∷ es) s t (v, told, more) =
+    chained s v t (step s e v told) (kept_by_all takes Kept same chained step es v t more)

@@ -1,0 +1,94 @@
+-- Several changes taken back or made anew, one after the other.
+use Rattle.std.proofs.Common.{◌≡◌, ℕ, zero, suc, ◌+◌, ◌<◌, List, [], ◌∷◌, ◌++◌, length, take, drop, map, refl, sym, ap, subst, ◌∙◌, arith, get_or, add-one, append_assoc, drop-cons}
+use Rattle.std.proofs.Math.Seq.{take-append_seam, drop-append_seam, take-suc}
+use Rattle.std.proofs.lemmas.List.{take-append-drop, drop-map, map-append, length-map, get_or-map}
+use Rattle.line_buffer.specs.Line.{Line}
+use Rattle.line_record.specs.Edit.{Edit, all_taken_back, all_made_anew, AllStandIn, AllFitIn, StandsIn, FitsIn}
+use Rattle.line_record.specs.Items.{lines_back, lines_ahead, taken_back_in, made_anew_in}
+
+pub lines_back_text : (cs : List Edit) (l : Line) → (lines_back cs l).text ≡ all_taken_back cs l.text
+lines_back_text [] l = refl
+lines_back_text (c ∷ cs) l = ap (λ t. (taken_back_in c (record l { text = t })).text) (lines_back_text cs l)
+
+pub lines_ahead_text : (cs : List Edit) (l : Line) → (lines_ahead cs l).text ≡ all_made_anew cs l.text
+lines_ahead_text [] l = refl
+lines_ahead_text (c ∷ cs) l = lines_ahead_text cs (made_anew_in c l)
+
+-- of a line but for its place
+pub lines_back_but_place : (cs : List Edit) (l : Line) (p : ℕ) → record (lines_back cs l) { place = p } ≡ record l { text = all_taken_back cs l.text; place = p }
+lines_back_but_place [] l p = refl
+lines_back_but_place (c ∷ cs) l p = ap (λ m. record (taken_back_in c m) { place = p }) (lines_back_but_place cs l p)
+
+pub AllStandIn-drop : (n : ℕ) (cs : List Edit) (text : List ℕ) → AllStandIn cs text → AllStandIn (drop n cs) text
+AllStandIn-drop zero cs text h = h
+AllStandIn-drop (suc n) [] text h = h
+AllStandIn-drop (suc n) (c ∷ cs) text h = AllStandIn-drop n cs text h.1
+
+pub lines_ahead-append : (cs ds : List Edit) (l : Line) → lines_ahead (cs ++ ds) l ≡ lines_ahead ds (lines_ahead cs l)
+lines_ahead-append [] ds l = refl
+lines_ahead-append (c ∷ cs) ds l = lines_ahead-append cs ds (made_anew_in c l)
+
+-- the newest of the changes that are left is taken back
+pub record BackTurn {A : Type 0} (f : A → Edit) (xs earlier : List A) (x : A) (first l : Line) : Type 0 where
+  pub stands : StandsIn (f x) l.text
+  pub left : earlier ≡ take (length earlier) xs
+  pub line : taken_back_in (f x) l ≡ lines_back (drop (length earlier) (map f xs)) first
+
+pub back_turn : {A : Type 0} (f : A → Edit) (xs left earlier : List A) (x : A) (first l : Line) → left ≡ take (length left) xs → left ≡ earlier ++ (x ∷ [])
+    → l ≡ lines_back (drop (length left) (map f xs)) first → AllStandIn (map f xs) first.text → BackTurn f xs earlier x first l
+back_turn f xs left earlier x first l is cases line stand =
+    let rest = drop (length left) xs in
+    let whole : xs ≡ earlier ++ (x ∷ rest) =
+    sym (take-append-drop (length left) xs) ∙ ap (λ ys. ys ++ rest) (sym is ∙ cases) ∙ append_assoc earlier (x ∷ []) rest in
+    let mapped : map f xs ≡ map f earlier ++ (f x ∷ map f rest) = ap (map f) whole ∙ map-append f earlier (x ∷ rest) in
+    let behind : drop (length left) (map f xs) ≡ map f rest = drop-map f (length left) xs in
+    let from : drop (length earlier) (map f xs) ≡ f x ∷ map f rest =
+    ap (λ k. drop k (map f xs)) (sym (length-map earlier f)) ∙ ap (drop (length (map f earlier))) mapped ∙ drop-append_seam (map f earlier) (f x ∷ map f rest) in
+    let here : l ≡ lines_back (map f rest) first = line ∙ ap (λ cs. lines_back cs first) behind in
+    record {
+      stands = subst (StandsIn (f x)) (sym (ap (λ m. m.text) here ∙ lines_back_text (map f rest) first))
+          (subst (λ cs. AllStandIn cs first.text) from (AllStandIn-drop (length earlier) (map f xs) first.text stand)).0;
+      left = sym (ap (take (length earlier)) whole ∙ take-append_seam earlier (x ∷ rest));
+      line = ap (taken_back_in (f x)) here ∙ sym (ap (λ cs. lines_back cs first) from);
+    }
+
+-- the oldest of the changes that are left is made anew
+pub record AheadTurn {A : Type 0} (f : A → Edit) (xs : List A) (i : ℕ) (x : A) (first l : Line) : Type 0 where
+  pub fits : FitsIn (f x) l.text
+  pub line : made_anew_in (f x) l ≡ lines_ahead (take (i + 1) (map f xs)) first
+  pub fit : (after : Line) → after ≡ made_anew_in (f x) l → AllFitIn (drop (i + 1) (map f xs)) after.text
+
+pub ahead_turn : {A : Type 0} (f : A → Edit) (xs : List A) (i : ℕ) (x : A) (first l : Line) → i < length xs → x ≡ get_or xs i x
+    → l ≡ lines_ahead (take i (map f xs)) first → AllFitIn (drop i (map f xs)) l.text → AheadTurn f xs i x first l
+ahead_turn f xs i x first l inside is line fit =
+    let within : i < length (map f xs) = omega (arith, length-map xs f) in
+    let item : get_or (map f xs) i (f x) ≡ f x = get_or-map f xs i x (f x) inside ∙ ap f (sym is) in
+    let from : drop i (map f xs) ≡ f x ∷ drop (i + 1) (map f xs) =
+    drop-cons (map f xs) i (f x) within ∙ ap (λ y. y ∷ drop (suc i) (map f xs)) item ∙ ap (λ k. f x ∷ drop k (map f xs)) (sym (add-one i)) in
+    let upto : take (i + 1) (map f xs) ≡ take i (map f xs) ++ (f x ∷ []) =
+    ap (λ k. take k (map f xs)) (add-one i) ∙ take-suc (map f xs) i (f x) within ∙ ap (λ y. take i (map f xs) ++ (y ∷ [])) item in
+    let both = subst (λ cs. AllFitIn cs l.text) from fit in
+    record {
+      fits = both.0;
+      line = ap (made_anew_in (f x)) line ∙ sym (lines_ahead-append (take i (map f xs)) (f x ∷ []) first) ∙ sym (ap (λ cs. lines_ahead cs first) upto);
+      fit = λ after e. subst (λ (m : Line). AllFitIn (drop (i + 1) (map f xs)) m.text) (sym e) both.1;
+    }
+
+-- one more of some items copied
+pub one_more : {A B : Type 0} (f : A → B) (xs : List A) (i : ℕ) (x : A) (ys more : List A) (y : A) → i < length xs → x ≡ get_or xs i x → map f ys ≡ take i (map f xs)
+    → f y ≡ f x → more ≡ ys ++ (y ∷ []) → map f more ≡ take (i + 1) (map f xs)
+one_more f xs i x ys more y inside is copied same pushed =
+    let within : i < length (map f xs) = omega (arith, length-map xs f) in
+    let item : f x ≡ get_or (map f xs) i (f x) = sym (get_or-map f xs i x (f x) inside ∙ ap f (sym is)) in
+    ap (map f) pushed ∙ map-append f ys (y ∷ []) ∙ ap (λ zs. zs ++ (f y ∷ [])) copied ∙ ap (λ z. take i (map f xs) ++ (z ∷ [])) (same ∙ item)
+    ∙ sym (take-suc (map f xs) i (f x) within) ∙ sym (ap (λ k. take k (map f xs)) (add-one i))
+
+-- one more of some items put behind others
+pub one_behind : {A B : Type 0} (f : A → B) (xs : List A) (i : ℕ) (x : A) (ys more : List A) (y : A) (front : List B) → i < length xs → x ≡ get_or xs i x
+    → map f ys ≡ front ++ take i (map f xs) → f y ≡ f x → more ≡ ys ++ (y ∷ []) → map f more ≡ front ++ take (i + 1) (map f xs)
+one_behind f xs i x ys more y front inside is copied same pushed =
+    let within : i < length (map f xs) = omega (arith, length-map xs f) in
+    let item : f x ≡ get_or (map f xs) i (f x) = sym (get_or-map f xs i x (f x) inside ∙ ap f (sym is)) in
+    ap (map f) pushed ∙ map-append f ys (y ∷ []) ∙ ap (λ zs. zs ++ (f y ∷ [])) copied ∙ append_assoc front (take i (map f xs)) (f y ∷ [])
+    ∙ ap (λ z. front ++ (take i (map f xs) ++ (z ∷ []))) (same ∙ item)
+    ∙ ap (λ zs. front ++ zs) (sym (take-suc (map f xs) i (f x) within)) ∙ ap (λ k. front ++ take k (map f xs)) (sym (add-one i))

@@ -1,0 +1,250 @@
+-- What undoing and making anew do to the record of texts.
+use Rattle.std.proofs.Common.{◌≡◌, ℕ, zero, suc, ◌+◌, ◌-◌, ◌<◌, ◌≤◌, ◌||◌, Bool, true, false, List, [], ◌∷◌, ◌++◌, drop, map, reverse, refl, sym, ap, subst, ◌∙◌, arith, Some, None, add-zero, zero-add}
+use Rattle.std.proofs.Math.Nat.{sub-zero}
+use Rattle.std.proofs.Math.Bool.{or_assoc}
+use Rattle.std.specs.Prelude.{IsUtf8}
+use Rattle.line_buffer.specs.Line.{Line}
+use Rattle.line_record.specs.Edit.{Edit, place_of, removed_of, added_of, taken_back, made_anew, redo_place, StandsIn, all_taken_back, all_made_anew, AllStandIn, AllFitIn, newest_of}
+use Rattle.line_record.specs.Held.{Held, is_step, undone_line, line_back, has_step, ahead_back, remade_line, line_ahead, has_step_ahead, held_ahead}
+use Rattle.line_record.specs.Items.{Item, Items, changes_of, text_before, text_after, holding, done_held, undone_ahead, DoneStand, UndoneFit, ItemsStand, held_on, ahead_on, taken_back_in, made_anew_in, lines_back, lines_ahead, lines_back_one, lines_ahead_one, part_back, undo_one, redo_one, undo_many, many_back, many_change, is_change, nearest_is_change}
+use Rattle.line_record.specs.Items.Item.{Open, Lone, Group}
+use Rattle.line_record.proofs.Exchange.{exchanged}
+use Rattle.line_record.proofs.StepLemmas.{lines_back_text, lines_ahead_text, lines_back_but_place}
+use Rattle.line_record.proofs.StoredLemmas.{text_of-holding, reverse_push}
+
+-- changes that were taken back can be made anew
+pub record TakenBack (cs : List Edit) (text : List ℕ) : Type 0 where
+  pub utf8 : IsUtf8 (all_taken_back cs text)
+  pub fit : AllFitIn cs (all_taken_back cs text)
+  pub back : all_made_anew cs (all_taken_back cs text) ≡ text
+
+pub was_taken_back : (cs : List Edit) (text : List ℕ) → AllStandIn cs text → IsUtf8 text → TakenBack cs text
+was_taken_back [] text h u = record { utf8 = u; fit = tt; back = refl }
+was_taken_back (c ∷ cs) text h u =
+    let below = was_taken_back cs text h.1 u in
+    let x = exchanged (place_of c) (added_of c) (removed_of c) (all_taken_back cs text) h.0 below.utf8 in
+    record {
+      utf8 = x.utf8;
+      fit = (x.stand, subst (AllFitIn cs) (sym x.back) below.fit);
+      back = ap (all_made_anew cs) x.back ∙ below.back;
+    }
+
+-- changes that were made anew can be taken back
+record MadeAnew (cs : List Edit) (text : List ℕ) : Type 0 where
+  stand : AllStandIn cs (all_made_anew cs text)
+  back : all_taken_back cs (all_made_anew cs text) ≡ text
+
+was_made_anew : (cs : List Edit) (text : List ℕ) → AllFitIn cs text → IsUtf8 text → MadeAnew cs text
+was_made_anew [] text h u = record { stand = tt; back = refl }
+was_made_anew (c ∷ cs) text h u =
+    let x = exchanged (place_of c) (removed_of c) (added_of c) text h.0 u in
+    let above = was_made_anew cs (made_anew c text) h.1 x.utf8 in
+    record {
+      stand = (subst (StandsIn c) (sym above.back) x.stand, above.stand);
+      back = ap (taken_back c) above.back ∙ x.back;
+    }
+
+item_back : (x : Item) (l : Line) → lines_back (changes_of x) l ≡ undone_line (holding x (text_before x l.text)) l
+item_back Open l = refl
+item_back (Lone c) l = refl
+item_back (Group c cs) l = ap (taken_back_in c) (lines_back_but_place cs l 0)
+
+group_ahead : (c : Edit) (cs : List Edit) (l : Line) → lines_ahead (c ∷ cs) l ≡ record l { text = all_made_anew (c ∷ cs) l.text; place = redo_place (newest_of c cs) }
+group_ahead c [] l = refl
+group_ahead c (d ∷ cs) l = group_ahead d cs (made_anew_in c l)
+
+item_ahead : (x : Item) (l : Line) → lines_ahead (changes_of x) l ≡ remade_line (record { held = holding x l.text; text = text_after x l.text }) l
+item_ahead Open l = refl
+item_ahead (Lone c) l = refl
+item_ahead (Group c cs) l = group_ahead c cs l
+
+is_step-holding : (x : Item) (text : List ℕ) → is_change x ≡ is_step (holding x text)
+is_step-holding Open text = refl
+is_step-holding (Lone c) text = refl
+is_step-holding (Group c cs) text = refl
+
+-- several items undone
+pub record UndoneBy (n : ℕ) (done undone : List Item) (l : Line) : Type 0 where
+  pub line : many_back n done l ≡ line_back n (done_held done l.text) l
+  pub held : done_held (undo_many n done undone).done (many_back n done l).text ≡ drop n (done_held done l.text)
+  pub answer : many_change n done ≡ has_step n (done_held done l.text)
+  pub ahead : undone_ahead (undo_many n done undone).undone (many_back n done l).text ≡ ahead_back n (done_held done l.text) l.text (undone_ahead undone l.text)
+  pub stand : DoneStand (undo_many n done undone).done (many_back n done l).text
+  pub fit : UndoneFit undone l.text → UndoneFit (undo_many n done undone).undone (many_back n done l).text
+
+undone_by : (n : ℕ) (done undone : List Item) (l : Line) → DoneStand done l.text → IsUtf8 l.text → UndoneBy n done undone l
+undone_by zero done undone l h u = record { line = refl; held = refl; answer = refl; ahead = refl; stand = h; fit = λ f. f }
+undone_by (suc n) [] undone l h u = record { line = refl; held = refl; answer = refl; ahead = refl; stand = tt; fit = λ f. f }
+undone_by (suc n) (x ∷ items) undone l h u =
+    let below : Line = lines_back (changes_of x) l in
+    let t : List ℕ = text_before x l.text in
+    let k : Held = holding x t in
+    let e : below.text ≡ t = lines_back_text (changes_of x) l in
+    let was = was_taken_back (changes_of x) l.text h.0 u in
+    let rest = undone_by n items (x ∷ undone) below (subst (DoneStand items) (sym e) h.1) (subst IsUtf8 (sym e) was.utf8) in
+    record {
+      line = rest.line ∙ ap (λ s. line_back n (done_held items s) below) e ∙ ap (line_back n (done_held items t)) (item_back x l);
+      held = rest.held ∙ ap (λ s. drop n (done_held items s)) e;
+      answer = ap (λ b. b || many_change n items) (is_step-holding x t) ∙ ap (λ b. is_step k || b) (rest.answer ∙ ap (λ s. has_step n (done_held items s)) e);
+      ahead = rest.ahead
+          ∙ ap (λ s. ahead_back n (done_held items s) s (record { held = holding x s; text = text_after x s } ∷ undone_ahead undone (text_after x s))) e
+          ∙ ap (λ s. ahead_back n (done_held items t) t (record { held = k; text = s } ∷ undone_ahead undone s)) was.back
+          ∙ ap (λ s. ahead_back n (done_held items t) s (record { held = k; text = l.text } ∷ undone_ahead undone l.text)) (sym (text_of-holding x t));
+      stand = rest.stand;
+      fit = λ f. rest.fit (subst (AllFitIn (changes_of x)) (sym e) was.fit, subst (UndoneFit undone) (sym was.back ∙ sym (ap (text_after x) e)) f);
+    }
+
+-- what the loop of an undo has done
+pub record Undoing (end counter : ℕ) (first now : Items) (before after : Line) (undone : Bool) : Type 0 where
+  pub bound : counter ≤ end
+  pub items : undo_many (end - counter) now.done now.undone ≡ undo_many end first.done first.undone
+  pub line : many_back (end - counter) now.done after ≡ many_back end first.done before
+  pub answer : (undone || many_change (end - counter) now.done) ≡ many_change end first.done
+  pub part : (k j : ℕ) → part_back k j now.done after ≡ part_back (counter + k) j first.done before
+  pub stand : DoneStand now.done after.text
+
+pub begun : (n : ℕ) (s : Items) (l : Line) → DoneStand s.done l.text → Undoing n 0 s s l l false
+begun n s l h = record {
+  bound = omega arith;
+  items = ap (λ k. undo_many k s.done s.undone) (sub-zero n);
+  line = ap (λ k. many_back k s.done l) (sub-zero n);
+  answer = ap (λ k. many_change k s.done) (sub-zero n);
+  part = λ k j. ap (λ i. part_back i j s.done l) (sym (zero-add k));
+  stand = h;
+}
+
+-- one item more
+undo_turn_on : (end counter : ℕ) (first : Items) (done undone_items : List Item) (before after : Line) (undone b : Bool)
+    → Undoing end counter first (record { done = done; undone = undone_items }) before after undone → counter < end → Some b ≡ nearest_is_change done
+    → Undoing end (counter + 1) first (undo_one done undone_items) before (lines_back_one done after) (undone || b)
+undo_turn_on end counter first [] undone_items before after undone b u less is = cc
+undo_turn_on end counter first (x ∷ items) undone_items before after undone b u less is =
+    let n : end - counter ≡ suc (end - (counter + 1)) = omega arith in
+    let same : b ≡ is_change x = cc in
+    record {
+      bound = omega arith;
+      items = sym (ap (λ k. undo_many k (x ∷ items) undone_items) n) ∙ u.items;
+      line = sym (ap (λ k. many_back k (x ∷ items) after) n) ∙ u.line;
+      answer = ap (λ c. (undone || c) || many_change (end - (counter + 1)) items) same ∙ or_assoc undone (is_change x) (many_change (end - (counter + 1)) items)
+          ∙ sym (ap (λ k. undone || many_change k (x ∷ items)) n) ∙ u.answer;
+      part = λ k j. u.part (suc k) j ∙ ap (λ i. part_back i j first.done before) (let e : counter + suc k ≡ counter + 1 + k = omega arith in e);
+      stand = subst (DoneStand items) (sym (lines_back_text (changes_of x) after)) u.stand.1;
+    }
+
+pub undo_turn : (end counter : ℕ) (first now next : Items) (before after later : Line) (undone b : Bool) → Undoing end counter first now before after undone → counter < end
+    → Some b ≡ nearest_is_change now.done → next ≡ undo_one now.done now.undone → later ≡ lines_back_one now.done after
+    → Undoing end (counter + 1) first next before later (undone || b)
+undo_turn end counter first now next before after later undone b u less is items line =
+    subst (λ s. Undoing end (counter + 1) first s before later (undone || b)) (sym items)
+    (subst (λ l. Undoing end (counter + 1) first (undo_one now.done now.undone) before l (undone || b)) (sym line)
+    (undo_turn_on end counter first now.done now.undone before after undone b u less is))
+
+pub record Finished (n : ℕ) (first last : Items) (before after : Line) (undone : Bool) : Type 0 where
+  pub items : last ≡ undo_many n first.done first.undone
+  pub line : after ≡ many_back n first.done before
+  pub answer : undone ≡ many_change n first.done
+
+or-false : (b : Bool) → (b || false) ≡ b
+or-false true = refl
+or-false false = refl
+
+pub ran_out : (end counter : ℕ) (first now : Items) (before after : Line) (undone : Bool) → Undoing end counter first now before after undone → end ≤ counter
+    → Finished end first now before after undone
+ran_out end counter first now before after undone u over =
+    let n : end - counter ≡ 0 = omega arith in
+    record {
+      items = sym (ap (λ k. undo_many k now.done now.undone) n) ∙ u.items;
+      line = sym (ap (λ k. many_back k now.done after) n) ∙ u.line;
+      answer = sym (or-false undone) ∙ sym (ap (λ k. undone || many_change k now.done) n) ∙ u.answer;
+    }
+
+undo_many-nil : (n : ℕ) (undone : List Item) → undo_many n [] undone ≡ record { done = []; undone = undone }
+undo_many-nil zero undone = refl
+undo_many-nil (suc n) undone = refl
+
+many_back-nil : (n : ℕ) (l : Line) → many_back n [] l ≡ l
+many_back-nil zero l = refl
+many_back-nil (suc n) l = refl
+
+many_change-nil : (n : ℕ) → many_change n [] ≡ false
+many_change-nil zero = refl
+many_change-nil (suc n) = refl
+
+nothing_left_on : (end counter : ℕ) (first : Items) (done undone_items : List Item) (before after : Line) (undone : Bool)
+    → Undoing end counter first (record { done = done; undone = undone_items }) before after undone → None ≡ nearest_is_change done
+    → Finished end first (undo_one done undone_items) before (lines_back_one done after) undone
+nothing_left_on end counter first [] undone_items before after undone u is = record {
+  items = sym (undo_many-nil (end - counter) undone_items) ∙ u.items;
+  line = sym (many_back-nil (end - counter) after) ∙ u.line;
+  answer = sym (or-false undone) ∙ sym (ap (λ b. undone || b) (many_change-nil (end - counter))) ∙ u.answer;
+}
+nothing_left_on end counter first (x ∷ items) undone_items before after undone u is = cc
+
+pub nothing_left : (end counter : ℕ) (first now next : Items) (before after later : Line) (undone : Bool) → Undoing end counter first now before after undone
+    → None ≡ nearest_is_change now.done → next ≡ undo_one now.done now.undone → later ≡ lines_back_one now.done after → Finished end first next before later undone
+nothing_left end counter first now next before after later undone u is items line =
+    subst (λ s. Finished end first s before later undone) (sym items)
+    (subst (λ l. Finished end first (undo_one now.done now.undone) before l undone) (sym line) (nothing_left_on end counter first now.done now.undone before after undone u is))
+
+-- an undo by its definition
+pub record UndoneAs (n : ℕ) (first last : Items) (before after : Line) (undone : Bool) : Type 0 where
+  pub answer : undone ≡ has_step n (held_on first before.text)
+  pub line : after ≡ line_back n (held_on first before.text) before
+  pub held : held_on last after.text ≡ drop n (held_on first before.text)
+  pub ahead : ahead_on last after.text ≡ ahead_back n (held_on first before.text) before.text (ahead_on first before.text)
+  pub stand : ItemsStand last after.text
+
+pub undone_as : (n : ℕ) (first last : Items) (before after : Line) (undone : Bool) → Finished n first last before after undone → ItemsStand first before.text → IsUtf8 before.text
+    → UndoneAs n first last before after undone
+undone_as n first last before after undone f h u =
+    let x = undone_by n first.done first.undone before h.0 u in
+    let many = undo_many n first.done first.undone in
+    let back = many_back n first.done before in
+    record {
+      answer = f.answer ∙ x.answer;
+      line = f.line ∙ x.line;
+      held = ap (λ s. held_on s after.text) f.items ∙ ap (λ (l : Line). held_on many l.text) f.line ∙ x.held;
+      ahead = ap (λ s. ahead_on s after.text) f.items ∙ ap (λ (l : Line). ahead_on many l.text) f.line ∙ x.ahead;
+      stand = subst (λ s. ItemsStand s after.text) (sym f.items) (subst (λ (l : Line). ItemsStand many l.text) (sym f.line) (x.stand, x.fit h.1));
+    }
+
+-- what a refusal leaves of an undo
+pub part_left : (end counter : ℕ) (first now : Items) (before after left : Line) (undone : Bool) → Undoing end counter first now before after undone → counter < end
+    → (j : ℕ) × (left ≡ part_back 0 j now.done after) → (k : ℕ) × (j : ℕ) × (k < end) × (left ≡ part_back k j first.done before)
+part_left end counter first now before after left undone u less (j, e) =
+    (counter, j, less, e ∙ u.part 0 j ∙ ap (λ k. part_back k j first.done before) (add-zero counter))
+
+-- the nearest item, where its changes went all
+pub whole_part : {A : Type 0} (f : A → Item) (xs ys : List A) (x : A) (done : List Item) (cs : List Edit) (l left : Line) → reverse (map f xs) ≡ done → xs ≡ ys ++ (x ∷ [])
+    → changes_of (f x) ≡ cs → left ≡ lines_back cs l → (j : ℕ) × (left ≡ part_back 0 j done l)
+whole_part f xs ys x done cs l left is popped changes line =
+    (0, line ∙ ap (λ c. lines_back c l) (sym changes) ∙ sym (ap (λ items. part_back 0 0 items l) (sym is ∙ ap (λ z. reverse (map f z)) popped ∙ reverse_push f ys x)))
+
+-- a redo by its definition
+pub record RedoneAs (first last : Items) (before after : Line) : Type 0 where
+  pub line : after ≡ line_ahead (ahead_on first before.text) before
+  pub held : held_on last after.text ≡ held_ahead (ahead_on first before.text) (held_on first before.text)
+  pub ahead : ahead_on last after.text ≡ drop 1 (ahead_on first before.text)
+  pub stand : ItemsStand last after.text
+  pub answer : (b : Bool) → Some b ≡ nearest_is_change first.undone → b ≡ has_step_ahead (ahead_on first before.text)
+
+redone_on : (done undone : List Item) (l : Line) → DoneStand done l.text → UndoneFit undone l.text → IsUtf8 l.text
+    → RedoneAs (record { done = done; undone = undone }) (redo_one done undone) l (lines_ahead_one undone l)
+redone_on done [] l h f u = record { line = refl; held = refl; ahead = refl; stand = (h, tt); answer = λ b e. cc }
+redone_on done (x ∷ items) l h f u =
+    let e : (lines_ahead (changes_of x) l).text ≡ text_after x l.text = lines_ahead_text (changes_of x) l in
+    let made = was_made_anew (changes_of x) l.text f.0 u in
+    record {
+      line = item_ahead x l;
+      held = ap (λ s. holding x (text_before x s) ∷ done_held done (text_before x s)) e
+          ∙ ap (λ s. holding x s ∷ done_held done s) made.back;
+      ahead = ap (undone_ahead items) e;
+      stand = subst (λ s. (AllStandIn (changes_of x) s × DoneStand done (text_before x s)) × UndoneFit items s) (sym e) ((made.stand, subst (DoneStand done) (sym made.back) h), f.1);
+      answer = λ b i. (let same : b ≡ is_change x = cc in same) ∙ is_step-holding x l.text;
+    }
+
+pub redone_as : (first last : Items) (before after : Line) → last ≡ redo_one first.done first.undone → after ≡ lines_ahead_one first.undone before → ItemsStand first before.text
+    → IsUtf8 before.text → RedoneAs first last before after
+redone_as first last before after items line h u =
+    subst (λ s. RedoneAs first s before after) (sym items)
+    (subst (λ l. RedoneAs first (redo_one first.done first.undone) before l) (sym line) (redone_on first.done first.undone before h.0 h.1 u))

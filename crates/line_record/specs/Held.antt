@@ -1,0 +1,184 @@
+-- The record of texts: steps and open marks, the newest first, and what each call makes of it.
+use Rattle.std.specs.Prelude.{ℕ, zero, suc, ◌+◌, ◌==◌, ◌&&◌, ◌||◌, not, Bool, true, false, if◌then◌else◌, List, [], ◌∷◌, ◌++◌, ◌-◌, drop, length, chars, encode_utf8, Option, Some, None}
+use Rattle.std.specs.List.{list_all}
+use Rattle.unicode_segmentation.specs.Grapheme.{graphemes}
+use Rattle.unicode_segmentation.specs.Segments.{is_alphanumeric}
+use Rattle.line_buffer.specs.Event.{Event}
+use Rattle.line_buffer.specs.Event.Event.{StartKilling, StopKilling, Delete, InsertChar, InsertStr, Replace}
+use Rattle.line_buffer.specs.Line.{Line}
+use Rattle.line_record.specs.Edit.{Edit, undo_place, redo_place}
+use Rattle.line_record.specs.Edit.Edit.{Inserted, Deleted, Replaced}
+
+-- an open mark keeps the text that it was set at; a step keeps the text before it, the place that undoing it gives, its
+-- newest change, and whether a change may join that one
+pub data Held : Type 0 where
+  Opened : (text : List ℕ) → Held
+  Stepped : (text : List ℕ) (place : ℕ) (newest : Edit) (joinable : Bool) → Held
+
+abbrev pub text_of : Held → List ℕ
+text_of (Opened text) = text
+text_of (Stepped text place newest joinable) = text
+
+-- one cluster, its characters all alphanumeric
+abbrev pub is_alphanumeric_cluster : List ℕ → Bool
+is_alphanumeric_cluster text = (length (graphemes true text) == 1) && list_all is_alphanumeric (chars text)
+
+-- the change that an event tells of; an empty one is none
+abbrev pub change_of : Event → Option Edit
+change_of StartKilling = None
+change_of StopKilling = None
+change_of (Delete at text direction) = if length text == 0 then None else Some (Deleted at text)
+change_of (InsertChar at c) = Some (Inserted at (encode_utf8 c))
+change_of (InsertStr at text) = if length text == 0 then None else Some (Inserted at text)
+change_of (Replace at before after) = if (length before == 0) && (length after == 0) then None else Some (Replaced at before after)
+
+-- an alphanumeric character typed right behind an insertion
+abbrev pub joined_char : ℕ → ℕ → Edit → Option Edit
+joined_char at c (Inserted place text) =
+    if is_alphanumeric c && (at == place + length text) then Some (Inserted place (text ++ encode_utf8 c)) else None
+joined_char at c (Deleted place text) = None
+joined_char at c (Replaced place before after) = None
+
+-- an alphanumeric cluster deleted right behind a deletion, or right before it
+abbrev pub joined_deletion : ℕ → List ℕ → Edit → Option Edit
+joined_deletion at text (Deleted place deleted) =
+    if not (is_alphanumeric_cluster text) then None
+    else if at == place then Some (Deleted place (deleted ++ text))
+    else if at + length text == place then Some (Deleted at (text ++ deleted))
+    else None
+joined_deletion at text (Inserted place inserted) = None
+joined_deletion at text (Replaced place before after) = None
+
+-- a replacement right behind another
+abbrev pub joined_replacement : ℕ → List ℕ → List ℕ → Edit → Option Edit
+joined_replacement at before after (Replaced place was is) =
+    if at == place + length is then Some (Replaced place (was ++ before) (is ++ after)) else None
+joined_replacement at before after (Inserted place text) = None
+joined_replacement at before after (Deleted place text) = None
+
+-- the change that an event makes with the one right before it, if it joins that one
+abbrev pub joined_to : Event → Edit → Option Edit
+joined_to StartKilling d = None
+joined_to StopKilling d = None
+joined_to (Delete at text direction) d = joined_deletion at text d
+joined_to (InsertChar at c) d = joined_char at c d
+joined_to (InsertStr at text) d = None
+joined_to (Replace at before after) d = joined_replacement at before after d
+
+-- a step of one change
+abbrev pub step_of : Edit → List ℕ → Held
+step_of c text = Stepped text (undo_place c) c true
+
+-- a change that joins adds no step and leaves the step's text
+abbrev pub stepped_on : Option Edit → Edit → List ℕ → List ℕ → Held → List Held → List Held
+stepped_on (Some joined) c text earlier newest held = step_of joined earlier ∷ held
+stepped_on None c text earlier newest held = step_of c text ∷ (newest ∷ held)
+
+abbrev pub stepped : Event → Edit → List ℕ → List Held → List Held
+stepped e c text (Stepped earlier place d true ∷ held) = stepped_on (joined_to e d) c text earlier (Stepped earlier place d true) held
+stepped e c text (Stepped earlier place d false ∷ held) = step_of c text ∷ (Stepped earlier place d false ∷ held)
+stepped e c text (Opened earlier ∷ held) = step_of c text ∷ (Opened earlier ∷ held)
+stepped e c text [] = step_of c text ∷ []
+
+abbrev pub stepped_if : Event → Option Edit → List ℕ → List Held → List Held
+stepped_if e None text held = held
+stepped_if e (Some c) text held = stepped e c text held
+
+-- the record after an event on the text
+abbrev pub recorded_in : Event → List ℕ → List Held → List Held
+recorded_in e text held = stepped_if e (change_of e) text held
+
+-- some mark is open
+abbrev pub has_mark : List Held → Bool
+has_mark [] = false
+has_mark (Opened text ∷ held) = true
+has_mark (Stepped text place newest joinable ∷ held) = has_mark held
+
+-- a step is newer than the oldest open mark
+abbrev pub closes : List Held → Bool
+closes [] = false
+closes (Opened text ∷ held) = closes held
+closes (Stepped text place newest joinable ∷ held) = has_mark held
+
+-- a newer change taken into the step that closes a group
+abbrev pub grouped : Edit → List Held → List Held
+grouped c [] = []
+grouped c (Opened text ∷ held) = Opened text ∷ held
+grouped c (Stepped text place newest joinable ∷ held) = Stepped text place c false ∷ held
+
+-- the marks are closed: they go, and the steps newer than the oldest of them become one, which nothing joins
+abbrev pub ended : List Held → List Held
+ended [] = []
+ended (Opened text ∷ held) = ended held
+ended (Stepped text place newest joinable ∷ held) =
+    if closes held then grouped newest (ended held)
+    else if has_mark held then Stepped text place newest false ∷ ended held
+    else Stepped text place newest joinable ∷ held
+
+-- undoing by some items: the text of the last of them, and the place of the last step among them
+abbrev pub undone_line : Held → Line → Line
+undone_line (Opened text) l = record l { text = text }
+undone_line (Stepped text place newest joinable) l = record l { text = text; place = place }
+
+abbrev pub is_step : Held → Bool
+is_step (Opened text) = false
+is_step (Stepped text place newest joinable) = true
+
+abbrev pub line_back : ℕ → List Held → Line → Line
+line_back zero held l = l
+line_back (suc n) [] l = l
+line_back (suc n) (h ∷ held) l = line_back n held (undone_line h l)
+
+abbrev pub text_back : ℕ → List Held → List ℕ → List ℕ
+text_back zero held text = text
+text_back (suc n) [] text = text
+text_back (suc n) (h ∷ held) text = text_back n held (text_of h)
+
+-- the first n items, and the text at which the last of them stood last
+abbrev pub first_held : ℕ → List Held → List Held
+first_held n held = drop (length held - n) held
+
+abbrev pub text_kept : ℕ → List Held → List ℕ → List ℕ
+text_kept n held text = text_back (length held - n) held text
+
+abbrev pub has_step : ℕ → List Held → Bool
+has_step zero held = false
+has_step (suc n) [] = false
+has_step (suc n) (h ∷ held) = is_step h || has_step n held
+
+-- an item that was undone: as it was held, and the text that making it anew gives
+pub record Undone : Type 0 where
+  pub held : Held
+  pub text : List ℕ
+
+abbrev pub ahead_back : ℕ → List Held → List ℕ → List Undone → List Undone
+ahead_back zero held text ahead = ahead
+ahead_back (suc n) [] text ahead = ahead
+ahead_back (suc n) (h ∷ held) text ahead = ahead_back n held (text_of h) (record { held = h; text = text } ∷ ahead)
+
+-- making an item anew: a step's cursor goes behind its newest change, a mark leaves it
+abbrev pub remade_line : Undone → Line → Line
+remade_line u l = elim u.held [ Opened text ↦ record l { text = u.text } | Stepped text place newest joinable ↦ record l { text = u.text; place = redo_place newest } ]
+
+abbrev pub line_ahead : List Undone → Line → Line
+line_ahead [] l = l
+line_ahead (u ∷ ahead) l = remade_line u l
+
+abbrev pub has_step_ahead : List Undone → Bool
+has_step_ahead [] = false
+has_step_ahead (u ∷ ahead) = is_step u.held
+
+abbrev pub held_ahead : List Undone → List Held → List Held
+held_ahead [] held = held
+held_ahead (u ∷ ahead) held = u.held ∷ held
+
+-- the text that was put in last, if the newest item put one in
+abbrev pub inserted_by : Edit → Option (List ℕ)
+inserted_by (Inserted at text) = Some text
+inserted_by (Deleted at text) = None
+inserted_by (Replaced at before after) = Some after
+
+abbrev pub last_inserted : List Held → Option (List ℕ)
+last_inserted [] = None
+last_inserted (Opened text ∷ held) = None
+last_inserted (Stepped text place newest joinable ∷ held) = inserted_by newest

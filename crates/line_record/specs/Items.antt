@@ -1,0 +1,209 @@
+-- The record's value: the changes done and undone, each side nearest first, and the texts that they hold on a line's text.
+use Rattle.std.specs.Prelude.{◌≡◌, ℕ, ◌||◌, Bool, true, false, List, [], ◌∷◌, ◌++◌, zero, suc, take, drop, length, ◌-◌, Option, Some, None, IsUtf8}
+use Rattle.line_buffer.specs.Event.{Event}
+use Rattle.line_buffer.specs.Event.Event.{StartKilling, StopKilling, Delete, InsertChar, InsertStr, Replace}
+use Rattle.line_buffer.specs.Line.{Line}
+use Rattle.line_buffer.specs.Replay.{Replays}
+use Rattle.line_record.specs.Edit.{Edit, undo_place, redo_place, taken_back, made_anew, all_taken_back, AllStandIn, all_made_anew, AllFitIn, newest_of}
+use Rattle.line_record.specs.Held.{Held, Undone, step_of, change_of, joined_to, recorded_in, ended, closes}
+use Rattle.line_record.specs.Held.Held.{Opened, Stepped}
+
+-- an open mark, a change that others may join, or a closed group with its oldest change and the newer ones in order
+pub data Item : Type 0 where
+  Open : Item
+  Lone : (change : Edit) → Item
+  Group : (oldest : Edit) (newer : List Edit) → Item
+
+pub record Items : Type 0 where
+  pub done : List Item
+  pub undone : List Item
+
+abbrev pub no_items : Items
+no_items = record { done = []; undone = [] }
+
+abbrev pub changes_of : Item → List Edit
+changes_of Open = []
+changes_of (Lone c) = c ∷ []
+changes_of (Group c cs) = c ∷ cs
+
+abbrev pub text_before : Item → List ℕ → List ℕ
+text_before x text = all_taken_back (changes_of x) text
+
+abbrev pub text_after : Item → List ℕ → List ℕ
+text_after x text = all_made_anew (changes_of x) text
+
+-- the line with a change taken back, the cursor at the change's place
+abbrev pub taken_back_in : Edit → Line → Line
+taken_back_in c l = record l { text = taken_back c l.text; place = undo_place c }
+
+abbrev pub made_anew_in : Edit → Line → Line
+made_anew_in c l = record l { text = made_anew c l.text; place = redo_place c }
+
+-- the line with several changes taken back, the newest first
+abbrev pub lines_back : List Edit → Line → Line
+lines_back [] l = l
+lines_back (c ∷ cs) l = taken_back_in c (lines_back cs l)
+
+-- the line with several changes made anew, the oldest first
+abbrev pub lines_ahead : List Edit → Line → Line
+lines_ahead [] l = l
+lines_ahead (c ∷ cs) l = lines_ahead cs (made_anew_in c l)
+
+-- a part of what an undo does: some items, and of the next item's changes those from the j-th on
+abbrev pub part_back : ℕ → ℕ → List Item → Line → Line
+part_back k j [] l = l
+part_back zero j (x ∷ items) l = lines_back (drop j (changes_of x)) l
+part_back (suc k) j (x ∷ items) l = part_back k j items (lines_back (changes_of x) l)
+
+-- a part of what a redo does
+abbrev pub part_ahead : ℕ → List Item → Line → Line
+part_ahead j [] l = l
+part_ahead j (x ∷ items) l = lines_ahead (take j (changes_of x)) l
+
+-- an item, with the text before it
+abbrev pub holding : Item → List ℕ → Held
+holding Open text = Opened text
+holding (Lone c) text = step_of c text
+holding (Group c cs) text = Stepped text (undo_place c) (newest_of c cs) false
+
+abbrev pub done_held : List Item → List ℕ → List Held
+done_held [] text = []
+done_held (x ∷ items) text = holding x (text_before x text) ∷ done_held items (text_before x text)
+
+abbrev pub undone_ahead : List Item → List ℕ → List Undone
+undone_ahead [] text = []
+undone_ahead (x ∷ items) text = record { held = holding x text; text = text_after x text } ∷ undone_ahead items (text_after x text)
+
+abbrev pub DoneStand : List Item → List ℕ → Type 0
+DoneStand [] text = Unit {0}
+DoneStand (x ∷ items) text = AllStandIn (changes_of x) text × DoneStand items (text_before x text)
+
+abbrev pub UndoneFit : List Item → List ℕ → Type 0
+UndoneFit [] text = Unit {0}
+UndoneFit (x ∷ items) text = AllFitIn (changes_of x) text × UndoneFit items (text_after x text)
+
+-- the changes done can be taken back from the text, and those undone can be made anew on it
+abbrev pub ItemsStand : Items → List ℕ → Type 0
+ItemsStand s text = DoneStand s.done text × UndoneFit s.undone text
+
+-- the record of texts, on the line's text
+abbrev pub held_on : Items → List ℕ → List Held
+held_on s text = done_held s.done text
+
+-- what can be redone, on the line's text
+abbrev pub ahead_on : Items → List ℕ → List Undone
+ahead_on s text = undone_ahead s.undone text
+
+-- a mark set
+abbrev pub opened : Items → Items
+opened s = record { done = Open ∷ s.done; undone = [] }
+
+-- the changes of several items, the oldest item first
+abbrev pub gathered : List Item → List Edit
+gathered [] = []
+gathered (x ∷ items) = changes_of x ++ gathered items
+
+-- changes as a closed group behind older items
+abbrev pub group_of : List Edit → List Item → List Item
+group_of [] older = older
+group_of (c ∷ cs) older = Group c cs ∷ older
+
+-- closing the marks leaves other items, which hold what is asked for
+pub record EndedBy (closed : Bool) (items after : List Item) (text : List ℕ) : Type 0 where
+  pub answer : closed ≡ closes (done_held items text)
+  pub held : done_held after text ≡ ended (done_held items text)
+  pub stand : DoneStand items text → DoneStand after text
+
+-- the first items kept
+abbrev pub truncated : ℕ → Items → Items
+truncated n s = record { done = drop (length s.done - n) s.done; undone = [] }
+
+-- the nearest item done moves to the undone
+abbrev pub undo_one : List Item → List Item → Items
+undo_one [] undone = record { done = []; undone = undone }
+undo_one (x ∷ items) undone = record { done = items; undone = x ∷ undone }
+
+-- the nearest item undone moves back
+abbrev pub redo_one : List Item → List Item → Items
+redo_one done [] = record { done = done; undone = [] }
+redo_one done (x ∷ items) = record { done = x ∷ done; undone = items }
+
+abbrev pub is_change : Item → Bool
+is_change Open = false
+is_change (Lone c) = true
+is_change (Group c cs) = true
+
+-- the line with the nearest item taken back, or made anew
+abbrev pub lines_back_one : List Item → Line → Line
+lines_back_one [] l = l
+lines_back_one (x ∷ items) l = lines_back (changes_of x) l
+
+abbrev pub lines_ahead_one : List Item → Line → Line
+lines_ahead_one [] l = l
+lines_ahead_one (x ∷ items) l = lines_ahead (changes_of x) l
+
+-- whether the nearest item is a step, if there is one
+abbrev pub nearest_is_change : List Item → Option Bool
+nearest_is_change [] = None
+nearest_is_change (x ∷ items) = Some (is_change x)
+
+-- several items in turn
+abbrev pub undo_many : ℕ → List Item → List Item → Items
+undo_many zero done undone = record { done = done; undone = undone }
+undo_many (suc n) [] undone = record { done = []; undone = undone }
+undo_many (suc n) (x ∷ items) undone = undo_many n items (x ∷ undone)
+
+abbrev pub many_back : ℕ → List Item → Line → Line
+many_back zero items l = l
+many_back (suc n) [] l = l
+many_back (suc n) (x ∷ items) l = many_back n items (lines_back (changes_of x) l)
+
+abbrev pub many_change : ℕ → List Item → Bool
+many_change zero items = false
+many_change (suc n) [] = false
+many_change (suc n) (x ∷ items) = is_change x || many_change n items
+
+-- a change noted behind the items done
+abbrev pub noted_on : Option Edit → Edit → Edit → List Item → List Item
+noted_on (Some joined) c d items = Lone joined ∷ items
+noted_on None c d items = Lone c ∷ (Lone d ∷ items)
+
+abbrev pub noted : Event → Edit → List Item → List Item
+noted e c (Lone d ∷ items) = noted_on (joined_to e d) c d items
+noted e c (Group d ds ∷ items) = Lone c ∷ (Group d ds ∷ items)
+noted e c (Open ∷ items) = Lone c ∷ (Open ∷ items)
+noted e c [] = Lone c ∷ []
+
+abbrev pub noted_if : Event → Option Edit → List Item → List Item
+noted_if e None items = items
+noted_if e (Some c) items = noted e c items
+
+-- an event noted: what was undone can't be redone any more
+abbrev pub told_of : Event → Items → Items
+told_of e s = record { done = noted_if e (change_of e) s.done; undone = [] }
+
+-- the record after an event; the marks of killing are nothing to it
+abbrev pub record_after : Event → Items → Items
+record_after StartKilling s = s
+record_after StopKilling s = s
+record_after (Delete at text direction) s = told_of (Delete at text direction) s
+record_after (InsertChar at c) s = told_of (InsertChar at c) s
+record_after (InsertStr at text) s = told_of (InsertStr at text) s
+record_after (Replace at before after) s = told_of (Replace at before after) s
+
+abbrev pub ahead_after : Event → List Undone → List Undone
+ahead_after StartKilling ahead = ahead
+ahead_after StopKilling ahead = ahead
+ahead_after (Delete at text direction) ahead = []
+ahead_after (InsertChar at c) ahead = []
+ahead_after (InsertStr at text) ahead = []
+ahead_after (Replace at before after) ahead = []
+
+-- what an event makes of the record: wherever its changes stand, they stand after it, and the record of texts follows
+pub record Recorded (e : Event) (before after : List ℕ) (s t : Items) : Type 0 where
+  pub stand : ItemsStand t after
+  pub held : held_on t after ≡ recorded_in e before (held_on s before)
+  pub ahead : ahead_on t after ≡ ahead_after e (ahead_on s before)
+
+pub record RecordedIn (s : Items) (e : Event) (t : Items) : Type 0 where
+  pub on : (before after : List ℕ) → ItemsStand s before → IsUtf8 before → Replays e before after → Recorded e before after s t

@@ -1,0 +1,81 @@
+-- Laws of the record and of the kill ring.
+use Rattle.std.specs.Prelude.{◌≡◌, ℕ, ◌<◌, ◌≢◌, Bool, true, false, List, [], ◌∷◌, length, Some, slice_get, is_some, ◌||◌, IsUtf8, IsCharBoundary}
+use Rattle.line_buffer.specs.Line.{Line}
+use Rattle.line_buffer.specs.Insertions.{yank}
+use Rattle.line_buffer.specs.Range.{range_of, kill_events, kill_line}
+use Rattle.line_buffer.specs.declared.types.Movement.{Movement}
+use Rattle.line_buffer.specs.declared.types.Movement.TheVariants.{EndOfLine, BeginningOfLine, EndOfBuffer, BeginningOfBuffer, BackwardWord, ForwardWord, ViCharSearch}
+use Rattle.line_record.specs.declared.kill_ring.Action.TheVariants.{Kill}
+use Rattle.line_record.specs.Held.{Held, Undone, text_back, ended, closes, has_mark, line_back, line_ahead, ahead_back, held_ahead}
+use Rattle.line_record.specs.Held.Held.{Opened}
+use Rattle.line_record.specs.Items.{Item, Items, ItemsStand, held_on, text_after}
+use Rattle.line_record.specs.Course.{Call, begun_with, after_calls, IsAmong}
+use Rattle.line_record.specs.Ring.{Ring, IsRing, ring_all}
+
+-- whatever was done to a line with a new record, an undo leaves a text that the line had before
+abbrev pub UndoLeavesAnEarlierText : Type 0
+UndoLeavesAnEarlierText =
+    (calls : List Call) (text : List ℕ) (n : ℕ) →
+    let c = after_calls calls (begun_with text) in
+    IsAmong (text_back n c.held c.text) c.seen
+
+-- the text after all that was done, from a text on
+abbrev pub text_after_all : List Item → List ℕ → List ℕ
+text_after_all [] text = text
+text_after_all (x ∷ items) text = text_after x (text_after_all items text)
+
+-- the recorded changes, made on the text before the first of them, give the line's text
+abbrev pub RecordGivesTheText : Type 0
+RecordGivesTheText =
+    (s : Items) (text : List ℕ) → ItemsStand s text → IsUtf8 text →
+    text_after_all s.done (text_back (length (held_on s text)) (held_on s text) text) ≡ text
+
+-- a group in which nothing was recorded leaves the record as it was
+abbrev pub EmptyGroupLeavesNothing : Type 0
+EmptyGroupLeavesNothing =
+    (text : List ℕ) (held : List Held) → has_mark held ≡ false → (ended (Opened text ∷ held) ≡ held) × (closes (Opened text ∷ held) ≡ false)
+
+-- what was undone last, made anew, gives back the text from before, and the record
+abbrev pub RedoGivesTheTextBack : Type 0
+RedoGivesTheTextBack =
+    (h : Held) (held : List Held) (ahead : List Undone) (l : Line) →
+    let undone = ahead_back 1 (h ∷ held) l.text ahead in
+    ((line_ahead undone (line_back 1 (h ∷ held) l)).text ≡ l.text) × (held_ahead undone held ≡ h ∷ held)
+
+-- kills from the cursor on or up to it
+abbrev pub is_directed : Movement → Bool
+is_directed EndOfLine = true
+is_directed BeginningOfLine = true
+is_directed EndOfBuffer = true
+is_directed BeginningOfBuffer = true
+is_directed (BackwardWord n word) = true
+is_directed (ForwardWord n at word) = true
+is_directed (ViCharSearch n search) = true
+is_directed movement = false
+
+abbrev pub AllDirected : List Movement → Type 0
+AllDirected [] = Unit {0}
+AllDirected (m ∷ movements) = (is_directed m ≡ true) × AllDirected movements
+
+-- a line and a ring after kills
+abbrev pub line_killed : List Movement → Line → Line
+line_killed [] l = l
+line_killed (m ∷ movements) l = line_killed movements (kill_line m l)
+
+abbrev pub ring_killed : List Movement → Line → Ring → Ring
+ring_killed [] l r = r
+ring_killed (m ∷ movements) l r = ring_killed movements (kill_line m l) (ring_all (kill_events m l) r)
+
+-- one of the kills takes something
+abbrev pub some_taken : List Movement → Line → Bool
+some_taken [] l = false
+some_taken (m ∷ movements) l = is_some (range_of m l) || some_taken movements (kill_line m l)
+
+-- a run of such kills, then one yank, restores the text
+abbrev pub KillsComeBack : Type 0
+KillsComeBack =
+    (movements : List Movement) (l : Line) (r : Ring) → AllDirected movements → some_taken movements l ≡ true
+    → IsUtf8 l.text → IsCharBoundary l.text l.place → l.growth ≡ true
+    → IsRing (length r.slots) r.size r.place r.last → 0 < r.size → r.last ≢ Kill
+    → (text : List ℕ) × (slice_get (ring_killed movements l r).slots (ring_killed movements l r).place ≡ Some text)
+    × ((yank text 1 (line_killed movements l)).line.text ≡ l.text)

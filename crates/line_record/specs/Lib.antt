@@ -1,0 +1,12 @@
+pub mod Course
+pub mod Edit
+pub mod Held
+pub mod Items
+pub mod Laws
+pub mod Names
+pub mod Props
+pub mod Ring
+pub mod RingLends
+pub mod Runs
+pub mod Stored
+pub mod Together

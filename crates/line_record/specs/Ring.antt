@@ -1,0 +1,100 @@
+-- A kill ring: slots that hold killed texts, the place of the one that would be yanked, and the last action.
+use Rattle.std.specs.Prelude.{◌≡◌, ℕ, ◌+◌, ◌-◌, ◌==◌, ◌<◌, ◌≤◌, Bool, true, false, List, [], ◌∷◌, ◌++◌, length, if◌then◌else◌, nat_lt, Option, Some, None, slice_set, slice_index_or}
+use Rattle.std.specs.List.{fold}
+use Rattle.line_buffer.specs.Event.{Event}
+use Rattle.line_buffer.specs.Event.Event.{StartKilling, StopKilling, Delete, InsertChar, InsertStr, Replace}
+use Rattle.line_buffer.specs.declared.types.Direction.{Direction}
+use Rattle.line_buffer.specs.declared.types.Direction.TheVariants.{Forward, Backward}
+use Rattle.line_buffer.specs.declared.types.Mode.{Mode}
+use Rattle.line_buffer.specs.declared.types.Mode.TheVariants.{Append, Prepend}
+use Rattle.line_record.specs.declared.kill_ring.Action.{Action}
+use Rattle.line_record.specs.declared.kill_ring.Action.TheVariants.{Other, Kill, Yank}
+
+pub record Ring : Type 0 where
+  pub slots : List (List ℕ)
+  pub size : ℕ
+  pub place : ℕ
+  pub last : Action
+  pub killing : Bool
+
+-- no more slots than the size, the place on one of them, and a text to join to after a kill
+pub record IsRing (count size place : ℕ) (last : Action) : Type 0 where
+  pub few : count ≤ size
+  pub inside : 0 < count → place < count
+  pub start : count ≡ 0 → place ≡ 0
+  pub some : last ≡ Kill → 0 < size → 0 < count
+
+abbrev pub new_ring : ℕ → Ring
+new_ring size = record { slots = []; size = size; place = 0; last = Other; killing = false }
+
+-- a text joined to the one in a slot
+abbrev pub joined_text : Mode → List ℕ → List ℕ → List ℕ
+joined_text Append text slot = slot ++ text
+joined_text Prepend text slot = text ++ slot
+
+-- the slot after a place, past the last size the first
+abbrev pub slot_after : ℕ → ℕ → ℕ → ℕ
+slot_after count size place = if count == 0 then 0 else if place + 1 == size then 0 else place + 1
+
+-- a text put in a slot, or behind the last one
+abbrev pub put_text : ℕ → List ℕ → List (List ℕ) → List (List ℕ)
+put_text place text slots = if nat_lt place (length slots) then slice_set slots place text else slots ++ text ∷ []
+
+abbrev pub killed_anew : List ℕ → Ring → Ring
+killed_anew text r =
+    let next = slot_after (length r.slots) r.size r.place in
+    record r { slots = put_text next text r.slots; place = next; last = Kill }
+
+abbrev pub killed_after : Action → List ℕ → Mode → Ring → Ring
+killed_after Kill text mode r = record r { slots = slice_set r.slots r.place (joined_text mode text (slice_index_or r.slots r.place [])) }
+killed_after Other text mode r = killed_anew text r
+killed_after (Yank count) text mode r = killed_anew text r
+
+-- a kill after a kill joins the text of its slot, any other takes the next slot; a ring of no slots keeps nothing
+abbrev pub killed : List ℕ → Mode → Ring → Ring
+killed text mode r = if r.size == 0 then record r { last = Kill } else killed_after r.last text mode r
+
+-- the present slot was lent
+abbrev pub yanked : Ring → Ring
+yanked r = if length r.slots == 0 then r else record r { last = Yank (length (slice_index_or r.slots r.place [])) }
+
+-- one slot back, before the first the last one
+abbrev pub slot_before : ℕ → ℕ → ℕ
+slot_before count place = if place == 0 then count - 1 else place - 1
+
+abbrev pub turned_back : Ring → Ring
+turned_back r = yanked (record r { place = slot_before (length r.slots) r.place })
+
+-- a ring turns only after a yank
+abbrev pub turned_after : Action → Ring → Ring
+turned_after (Yank count) r = if length r.slots == 0 then r else turned_back r
+turned_after Kill r = r
+turned_after Other r = r
+
+abbrev pub turned : Ring → Ring
+turned r = turned_after r.last r
+
+-- the length of what was yanked, and the text in its place
+abbrev pub exchanged_after : Action → Ring → Option (ℕ × List ℕ)
+exchanged_after (Yank count) r = if length r.slots == 0 then None else Some (count, slice_index_or r.slots (slot_before (length r.slots) r.place) [])
+exchanged_after Kill r = None
+exchanged_after Other r = None
+
+abbrev pub exchanged : Ring → Option (ℕ × List ℕ)
+exchanged r = exchanged_after r.last r
+
+abbrev pub mode_of : Direction → Mode
+mode_of Forward = Append
+mode_of Backward = Prepend
+
+-- deletions are kills between the two marks of killing
+abbrev pub ring_step : Event → Ring → Ring
+ring_step StartKilling r = record r { killing = true }
+ring_step StopKilling r = record r { killing = false }
+ring_step (Delete at text direction) r = if r.killing then killed text (mode_of direction) r else r
+ring_step (InsertChar at c) r = r
+ring_step (InsertStr at text) r = r
+ring_step (Replace at removed added) r = r
+
+abbrev pub ring_all : List Event → Ring → Ring
+ring_all events r = fold (λ s e. ring_step e s) r events

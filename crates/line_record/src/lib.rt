@@ -1,0 +1,18 @@
+//! What becomes of the events of a line: the kill ring, which brings killed text back, and the undo record, which
+//! brings earlier texts back.
+#![tactic(auto)]
+
+mod change;
+pub mod changeset;
+pub mod joined;
+pub mod kill_ring;
+pub mod laws;
+mod listen;
+mod report;
+mod step;
+mod undo;
+mod words;
+
+pub use changeset::Changeset;
+pub use joined::Joined;
+pub use kill_ring::KillRing;

@@ -1,0 +1,124 @@
+//! Undoing what was recorded, and making it anew.
+
+use crate::changeset::{Changeset, push_step};
+use crate::step::{make_anew, take_back};
+use line_buffer::{LineBuffer, OutOfMemory, RepeatCount};
+use std::alloc::Global;
+
+impl Changeset {
+    ghost use Rattle.std.specs.Prelude.{◌≡◌, ◌+◌, ◌<◌, ◌++◌, ℕ, true, max, drop, IfOk, OnOk, OnErr, IsUtf8};
+    ghost use Rattle.line_record.specs.Held.{line_back, has_step, ahead_back, line_ahead, has_step_ahead, held_ahead};
+    ghost use Rattle.line_record.specs.Items.{no_items, undo_one, redo_one, lines_back_one, lines_ahead_one, part_back, part_ahead, nearest_is_change, ItemsStand, DoneStand, UndoneFit, held_on, ahead_on};
+
+    /// Takes the last `n` items back: steps, and open marks. 0 acts as 1. Answers whether a step was among them. The cursor
+    /// goes to the place of the oldest of their changes, behind what was put back there. After a refusal a part of the
+    /// changes is taken back, and nothing is recorded any more.
+    pub fn undo(
+        &mut self,
+        alloc: Global,
+        line: &mut LineBuffer,
+        n: RepeatCount,
+    ) -> Result<bool, OutOfMemory>
+        requires { ItemsStand self.old line.old.text }
+        ensures answer { IfOk result (λ b. b ≡ has_step (max n 1) (held_on self.old line.old.text)) }
+        ensures line { OnOk result (line.new ≡ line_back (max n 1) (held_on self.old line.old.text) line.old) }
+        ensures held { OnOk result (held_on self.new line.new.text ≡ drop (max n 1) (held_on self.old line.old.text)) }
+        ensures ahead { OnOk result (ahead_on self.new line.new.text ≡ ahead_back (max n 1) (held_on self.old line.old.text) line.old.text (ahead_on self.old line.old.text)) }
+        ensures stand { ItemsStand self.new line.new.text }
+        ensures refused { OnErr result (self.new ≡ no_items) }
+        ensures part { OnErr result ((k : ℕ) × (j : ℕ) × (k < max n 1) × (line.new ≡ part_back k j self.old.done line.old)) }
+    {
+        let _text = line.as_str();
+        let mut undone = false;
+        for _ in 0..n.max(1) {
+            match self.undo_item(alloc, line)? {
+                Some(is_step) => undone |= is_step,
+                None => return Ok(undone),
+            }
+        }
+        Ok(undone)
+    }
+
+    /// Takes the last item back, if there is one; true where it is a step.
+    fn undo_item(
+        &mut self,
+        alloc: Global,
+        line: &mut LineBuffer,
+    ) -> Result<Option<bool>, OutOfMemory>
+        requires { DoneStand self.old.done line.old.text }
+        ensures answer { IfOk result (λ o. o ≡ nearest_is_change self.old.done) }
+        ensures items { OnOk result (self.new ≡ undo_one self.old.done self.old.undone) }
+        ensures line { OnOk result (line.new ≡ lines_back_one self.old.done line.old) }
+        ensures refused { OnErr result (self.new ≡ no_items) }
+        ensures part { OnErr result ((j : ℕ) × (line.new ≡ part_back 0 j self.old.done line.old)) }
+    {
+        let Some(step) = self.done.pop() else {
+            return Ok(None);
+        };
+        let is_step = !step.is_mark();
+        if let Err(refusal) = take_back(alloc, &step.changes, line) {
+            self.forget();
+            return Err(refusal);
+        }
+        if let Err(refusal) = push_step(&mut self.undone, step) {
+            self.forget();
+            return Err(refusal);
+        }
+        Ok(Some(is_step))
+    }
+
+    /// Makes the item anew that was undone last, if there is one; true where it is a step. The cursor goes behind what
+    /// its newest change puts in. After a refusal a part of the changes is made, and nothing is recorded any more.
+    pub fn redo(&mut self, alloc: Global, line: &mut LineBuffer) -> Result<bool, OutOfMemory>
+        requires { ItemsStand self.old line.old.text }
+        ensures answer { IfOk result (λ b. b ≡ has_step_ahead (ahead_on self.old line.old.text)) }
+        ensures line { OnOk result (line.new ≡ line_ahead (ahead_on self.old line.old.text) line.old) }
+        ensures held { OnOk result (held_on self.new line.new.text ≡ held_ahead (ahead_on self.old line.old.text) (held_on self.old line.old.text)) }
+        ensures ahead { OnOk result (ahead_on self.new line.new.text ≡ drop 1 (ahead_on self.old line.old.text)) }
+        ensures stand { ItemsStand self.new line.new.text }
+        ensures refused { OnErr result (self.new ≡ no_items) }
+        ensures part { OnErr result ((j : ℕ) × (line.new ≡ part_ahead j self.old.undone line.old)) }
+    {
+        let _text = line.as_str();
+        match self.redo_item(alloc, line)? {
+            Some(is_step) => Ok(is_step),
+            None => Ok(false),
+        }
+    }
+
+    /// Makes the nearest undone item anew, if there is one; true where it is a step.
+    fn redo_item(
+        &mut self,
+        alloc: Global,
+        line: &mut LineBuffer,
+    ) -> Result<Option<bool>, OutOfMemory>
+        requires { UndoneFit self.old.undone line.old.text }
+        ensures answer { IfOk result (λ o. o ≡ nearest_is_change self.old.undone) }
+        ensures items { OnOk result (self.new ≡ redo_one self.old.done self.old.undone) }
+        ensures line { OnOk result (line.new ≡ lines_ahead_one self.old.undone line.old) }
+        ensures refused { OnErr result (self.new ≡ no_items) }
+        ensures part { OnErr result ((j : ℕ) × (line.new ≡ part_ahead j self.old.undone line.old)) }
+    {
+        let Some(step) = self.undone.pop() else {
+            return Ok(None);
+        };
+        let is_step = !step.is_mark();
+        if let Err(refusal) = make_anew(alloc, &step.changes, line) {
+            self.forget();
+            return Err(refusal);
+        }
+        if let Err(refusal) = push_step(&mut self.done, step) {
+            self.forget();
+            return Err(refusal);
+        }
+        Ok(Some(is_step))
+    }
+
+    /// Nothing is recorded any more.
+    fn forget(&mut self)
+        ensures { self.new ≡ no_items }
+    {
+        self.done.clear();
+        self.undone.clear();
+    }
+}

@@ -1,0 +1,81 @@
+-- What a reader's answers are, by what is still to come.
+use Rattle.std.proofs.Common.{◌≡◌, ℕ, Bool, List, [], Err, Result, None, IsTrue, refl, ap}
+use Rattle.line_config.specs.declared.errors.ReadlineError.{ReadlineError}
+use Rattle.line_config.specs.declared.errors.ReadlineError.TheVariants.{Eof, Interrupted, NotUtf8, PasteOutOfPlace, Reader, Display, Lines, HistoryText, Helper, Handler, Memory}
+use Rattle.line_config.specs.declared.device.Last.{Last}
+use Rattle.line_config.specs.declared.device.Last.TheVariants.{End}
+use Rattle.line_config.specs.declared.settings.EditMode.{EditMode}
+use Rattle.line_keys.specs.Faults.{IsReaderRefusal}
+use Rattle.line_keys.specs.Coming.{Ends, Refused, key_at, paste_at, left_by, refusal_of, End as EndItem}
+use Rattle.line_screen.specs.Input.{Stop, AtEnd, AtBad, AtFailure, Torn, Inside, stop_refusal, chars_of, is_failure}
+use Rattle.line_screen.specs.KeyGrammar.{Readings, Key, Paste, Cut, Stops, readings, coming_of, key_answer, text_answer, item_of}
+use Rattle.line_screen.specs.Lasting.{is_lasting, kept_refusal}
+use Rattle.line_screen.specs.Reader.{coming_by}
+
+pub stop_item : (stop : Stop) → refusal_of (item_of stop) ≡ stop_refusal stop
+stop_item AtEnd = refl
+stop_item AtBad = refl
+stop_item AtFailure = refl
+stop_item Torn = refl
+stop_item Inside = refl
+
+pub key_answered : (r : Readings) → key_at (coming_of r) ≡ key_answer r
+key_answered (Key k behind rest) = refl
+key_answered (Paste text behind rest) = refl
+key_answered (Cut stop left) = refl
+key_answered (Stops stop left) = ap Err (stop_item stop)
+
+pub text_answered : (r : Readings) → paste_at (coming_of r) ≡ text_answer r
+text_answered (Key k behind rest) = refl
+text_answered (Paste text behind rest) = refl
+text_answered (Cut stop left) = ap Err (stop_item stop)
+text_answered (Stops stop left) = refl
+
+-- the end of the input stays the end
+pub at_end : (mode : EditMode) (bytes : List ℕ) (last : Last) → bytes ≡ [] → last ≡ End → coming_of (readings mode (chars_of bytes last)) ≡ Ends EndItem
+at_end mode bytes last none end = rw (none, end) refl
+
+-- an earlier refusal
+pub kept_left : (why : ReadlineError) → IsTrue (is_lasting why) → Refused why ≡ left_by why
+kept_left Eof lasting = absurd (cc)
+kept_left Interrupted lasting = refl
+kept_left NotUtf8 lasting = refl
+kept_left PasteOutOfPlace lasting = refl
+kept_left Reader lasting = refl
+kept_left Display lasting = refl
+kept_left Lines lasting = refl
+kept_left HistoryText lasting = refl
+kept_left Helper lasting = refl
+kept_left Handler lasting = refl
+kept_left Memory lasting = refl
+
+pub kept_refused : (why : ReadlineError) → IsTrue (is_lasting why) → IsReaderRefusal why
+kept_refused Eof lasting = tt
+kept_refused Interrupted lasting = absurd (cc)
+kept_refused NotUtf8 lasting = tt
+kept_refused PasteOutOfPlace lasting = tt
+kept_refused Reader lasting = tt
+kept_refused Display lasting = absurd (cc)
+kept_refused Lines lasting = absurd (cc)
+kept_refused HistoryText lasting = absurd (cc)
+kept_refused Helper lasting = absurd (cc)
+kept_refused Handler lasting = absurd (cc)
+kept_refused Memory lasting = tt
+
+-- a call that is refused now
+abbrev answer_of : ReadlineError → Result ℕ ReadlineError
+answer_of why = Err why
+
+pub refused_left : (why : ReadlineError) (failed : Bool) (r : Readings) → IsReaderRefusal why → failed ≡ is_failure (answer_of why)
+    → (why ≡ Eof → coming_of r ≡ Ends EndItem) → coming_by failed (kept_refusal why None) r ≡ left_by why
+refused_left Eof failed r kind fails ends = rw fails (ends refl)
+refused_left Interrupted failed r kind fails ends = absurd kind
+refused_left NotUtf8 failed r kind fails ends = rw fails refl
+refused_left PasteOutOfPlace failed r kind fails ends = rw fails refl
+refused_left Reader failed r kind fails ends = rw fails refl
+refused_left Display failed r kind fails ends = absurd kind
+refused_left Lines failed r kind fails ends = absurd kind
+refused_left HistoryText failed r kind fails ends = absurd kind
+refused_left Helper failed r kind fails ends = absurd kind
+refused_left Handler failed r kind fails ends = absurd kind
+refused_left Memory failed r kind fails ends = rw fails refl

@@ -1,0 +1,120 @@
+-- The bytes of a run of printable ASCII, and the bytes of items one part after the other.
+use Rattle.std.proofs.Common.{◌≡◌, ℕ, ◌+◌, ◌<◌, ◌≤◌, ◌==◌, Bool, true, false, List, [], ◌∷◌, ◌++◌, map, length, Result, Ok, Err, OnOk, IfOk, refl, sym, ap, ◌∙◌, subst, append_assoc, append-nil, arith, if◌then◌else◌}
+use Rattle.std.proofs.lemmas.Bool.{ne_eqb, eqb-true, eqb-false}
+use Rattle.line_screen.specs.Drawing.{Item, break_if, left_col, sent_one, col_after_one, sent, col_after}
+use Rattle.line_screen.specs.Drawing.Item.{Letter}
+use Rattle.line_screen.specs.Sending.{Takes}
+
+pub sent-append : (columns : ℕ) (xs ys : List Item) (col : ℕ) → sent columns (xs ++ ys) col ≡ sent columns xs col ++ sent columns ys (col_after columns xs col)
+sent-append columns [] ys col = refl
+sent-append columns (x ∷ xs) ys col =
+    ap (λ bs. sent_one columns x col ++ bs) (sent-append columns xs ys (col_after_one columns x col))
+    ∙ sym (append_assoc (sent_one columns x col) (sent columns xs (col_after_one columns x col)) (sent columns ys (col_after columns xs (col_after_one columns x col))))
+
+pub col_after-append : (columns : ℕ) (xs ys : List Item) (col : ℕ) → col_after columns (xs ++ ys) col ≡ col_after columns ys (col_after columns xs col)
+col_after-append columns [] ys col = refl
+col_after-append columns (x ∷ xs) ys col = col_after-append columns xs ys (col_after_one columns x col)
+
+none_left : (columns col : ℕ) (c : ℕ) (cs : List ℕ) → col + length (c ∷ cs) ≤ columns → (col + 1 == columns) ≡ true → cs ≡ []
+none_left columns col c [] h e = refl
+none_left columns col c (b ∷ cs) h e = let last = eqb-true (col + 1) columns e in absurd (omega arith)
+
+record Run (columns : ℕ) (letters : List ℕ) (col : ℕ) : Type 0 where
+  bytes : sent columns (map Letter letters) col ≡ letters ++ break_if (col + length letters == columns)
+  next : col_after columns (map Letter letters) col ≡ left_col columns (col + length letters)
+
+run_none : (columns col : ℕ) → col < columns → Run columns [] col
+run_none columns col h =
+    let e : (col + 0 == columns) ≡ false = ne_eqb (col + 0) columns (λ same. omega arith) in
+    record {
+      bytes = sym (ap break_if e);
+      next = sym (ap (λ b. if b then 0 else (col + 0)) e ∙ omega arith);
+    }
+
+last_if : (columns col c : ℕ) (cs : List ℕ) → col < columns → col + length (c ∷ cs) ≤ columns → (col + 1 < columns → Run columns cs (col + 1)) → (b : Bool) → (col + 1 == columns) ≡ b → Run columns (c ∷ cs) col
+last_if columns col c cs low room more true e =
+    let none = none_left columns col c cs room e in
+    subst (λ xs. Run columns (c ∷ xs) col) (sym none)
+    (record { bytes = append-nil (c ∷ break_if (col + 1 == columns)); next = refl })
+last_if columns col c cs low room more false e =
+    let differ = eqb-false (col + 1) columns e in
+    let rest = more (grind arith) in
+    let count : col + 1 + length cs ≡ col + length (c ∷ cs) = omega arith in
+    let here : left_col columns (col + 1) ≡ col + 1 = ap (λ b. if b then 0 else (col + 1)) e in
+    record {
+      bytes = ap (λ b. (c ∷ break_if b) ++ sent columns (map Letter cs) (left_col columns (col + 1))) e
+          ∙ ap (λ n. c ∷ sent columns (map Letter cs) n) here
+          ∙ ap (λ bs. c ∷ bs) rest.bytes
+          ∙ ap (λ n. c ∷ (cs ++ break_if (n == columns))) count;
+      next = ap (col_after columns (map Letter cs)) here ∙ rest.next ∙ ap (left_col columns) count;
+    }
+
+run_of : (columns : ℕ) (letters : List ℕ) (col : ℕ) → col < columns → col + length letters ≤ columns → Run columns letters col
+run_of columns [] col low room = run_none columns col low
+run_of columns (c ∷ cs) col low room = last_if columns col c cs low room (λ more. run_of columns cs (col + 1) more (omega arith)) (col + 1 == columns) refl
+
+pub sent_run : (columns : ℕ) (letters : List ℕ) (col : ℕ) → col < columns → col + length letters ≤ columns → sent columns (map Letter letters) col ≡ letters ++ break_if (col + length letters == columns)
+sent_run columns letters col low room = (run_of columns letters col low room).bytes
+
+pub col_after_run : (columns : ℕ) (letters : List ℕ) (col : ℕ) → col < columns → col + length letters ≤ columns → col_after columns (map Letter letters) col ≡ left_col columns (col + length letters)
+col_after_run columns letters col low room = (run_of columns letters col low room).next
+
+-- ---- a loop that sends items: what is sent, and what is left
+
+pub record SoFar {D : Type 0} (told : D → Bool) (held : D → List ℕ) (failed : D → Bool) (columns start : ℕ) (all left : List Item) (old new : D) (col : ℕ) : Type 0 where
+  pub bytes : List ℕ
+  pub taken : Takes told held old new bytes
+  pub works : failed new ≡ failed old
+  pub rest : bytes ++ sent columns left col ≡ sent columns all start
+  pub column : col_after columns left col ≡ col_after columns all start
+  pub inside : col < columns
+
+module _ {D : Type 0} (told : D → Bool) (held : D → List ℕ) (failed : D → Bool) (columns start : ℕ) where
+  pub so_far_start : (all : List Item) (s : D) → start < columns → SoFar told held failed columns start all all s s start
+  so_far_start all s h = record { bytes = []; taken = λ t. (t, sym (append-nil (held s))); works = refl; rest = refl; column = refl; inside = h }
+
+  pub so_far_steps : (all items left before : List Item) (old new newer : D) (col next : ℕ) → SoFar told held failed columns start all before old new col → before ≡ items ++ left
+      → Takes told held new newer (sent columns items col) → failed newer ≡ failed new → next ≡ col_after columns items col → next < columns
+      → SoFar told held failed columns start all left old newer next
+  so_far_steps all items left before old new newer col next h split sent_more works next_is inside =
+      record {
+        bytes = h.bytes ++ sent columns items col;
+        taken = λ t. let first = h.taken t in let second = sent_more first.0 in
+            (second.0, second.1 ∙ ap (λ bs. bs ++ sent columns items col) first.1 ∙ append_assoc (held old) h.bytes (sent columns items col));
+        works = works ∙ h.works;
+        rest = ap (λ n. (h.bytes ++ sent columns items col) ++ sent columns left n) next_is
+            ∙ append_assoc h.bytes (sent columns items col) (sent columns left (col_after columns items col))
+            ∙ ap (λ bs. h.bytes ++ bs) (sym (sent-append columns items left col) ∙ ap (λ is. sent columns is col) (sym split))
+            ∙ h.rest;
+        column = ap (col_after columns left) next_is ∙ sym (col_after-append columns items left col) ∙ ap (λ is. col_after columns is col) (sym split) ∙ h.column;
+        inside = inside;
+      }
+
+  pub so_far_end : (all left : List Item) (old new : D) (col : ℕ) → SoFar told held failed columns start all left old new col → left ≡ [] → Takes told held old new (sent columns all start)
+  so_far_end all left old new col h none t =
+      let end = h.taken t in
+      let whole : h.bytes ≡ sent columns all start = sym (append-nil h.bytes) ∙ ap (λ is. h.bytes ++ sent columns is col) (sym none) ∙ h.rest in
+      (end.0, end.1 ∙ ap (λ bs. held old ++ bs) whole)
+
+  pub so_far_column : (all left : List Item) (old new : D) (col : ℕ) → SoFar told held failed columns start all left old new col → left ≡ [] → col ≡ col_after columns all start
+  so_far_column all left old new col h none = ap (λ is. col_after columns is col) (sym none) ∙ h.column
+
+  pub so_far_step : (all left before : List Item) (item : Item) (old new newer : D) (col next : ℕ) → SoFar told held failed columns start all before old new col → before ≡ item ∷ left
+      → Takes told held new newer (sent_one columns item col) → failed newer ≡ failed new → next ≡ col_after_one columns item col → next < columns
+      → SoFar told held failed columns start all left old newer next
+  so_far_step all left before item old new newer col next h split sent_more works next_is inside =
+      so_far_steps all (item ∷ []) left before old new newer col next h split (subst (Takes told held new newer) (sym (append-nil (sent_one columns item col))) sent_more) works next_is inside
+
+pub takes_then : {D : Type 0} (told : D → Bool) (held : D → List ℕ) (a b c : D) (xs ys : List ℕ) → Takes told held a b xs → Takes told held b c ys → Takes told held a c (xs ++ ys)
+takes_then told held a b c xs ys first second = λ t.
+    let one = first t in
+    let two = second one.0 in
+    (two.0, two.1 ∙ ap (λ bs. bs ++ ys) one.1 ∙ append_assoc (held a) xs ys)
+
+pub on_ok : {A E : Type 0} (r : Result A E) (P Q : Type 0) → (P → Q) → OnOk r P → OnOk r Q
+on_ok (Ok x) P Q f h = f h
+on_ok (Err e) P Q f h = h
+
+pub if_ok : {A E : Type 0} (r : Result A E) (P Q : A → Type 0) → ((x : A) → P x → Q x) → IfOk r P → IfOk r Q
+if_ok (Ok x) P Q f h = f x h
+if_ok (Err e) P Q f h = h

@@ -1,0 +1,47 @@
+use Rattle.std.proofs.Common.{◌≤◌, ◌++◌, ◌∷◌, [], false, length, lit<, arith}
+use Rattle.std.proofs.lemmas.List.{length_push, drop_all}
+use Rattle.std.proofs.lemmas.Iterator.Consumers.{YieldsList-turn, YieldsList-end}
+use Rattle.std.proofs.lemmas.Iterator.Splits.{YieldsList-from_str_split}
+use Rattle.line_screen.specs.Drawing.{next_items, text_items, rows_of}
+use Rattle.line_screen.specs.Measure.{cluster_width}
+use Rattle.line_screen.proofs.Runs.{so_far_start, so_far_steps, so_far_end, so_far_column}
+use Rattle.line_screen.proofs.RowsLeft.{left_from, left_takes, left_ends}
+use Rattle.line_screen.proofs.drawing.text.send_text.Goals as goal
+
+pub loop-row-init : goal.loop-row-init
+loop-row-init g c =
+    so_far_start g.D.Sink.told g.D.Sink.held g.D.Sink.has_failed c.args.grid.columns c.args.start
+    (text_items (cluster_width c.args.grid.mode c.args.grid.columns) c.args.text.now) c.args.sink.now c.requires.inside
+
+pub loop-row-preserved : goal.loop-row-preserved
+loop-row-preserved g c =
+    let wide = cluster_width c.args.grid.mode c.args.grid.columns in
+    let text = c.args.text.now in
+    let turn = YieldsList-turn (YieldsList-from_str_split 10 text (lit< tt) (cc) (cc) (cc)) c.loop-row.yielded _ c.loop-row.yielded_by _ _ c.in-Some.row c.in-Some.is c.next.ensures.steps in
+    so_far_steps g.D.Sink.told g.D.Sink.held g.D.Sink.has_failed c.args.grid.columns c.args.start
+    (text_items wide text) (next_items wide c.loop-row.is_first c.in-Some.row.now) (left_from wide text false (length (c.loop-row.yielded ++ c.in-Some.row ∷ [])))
+    (left_from wide text c.loop-row.is_first (length c.loop-row.yielded))
+    c.args.sink.now c.loop-row.sink c.send_next_row.new.sink c.loop-row.col c.in_ok-col.col
+    c.loop-row.invariant
+    (left_takes wide text c.loop-row.is_first (length c.loop-row.yielded) _ c.in-Some.row.now turn.0 turn.1 (length_push c.loop-row.yielded c.in-Some.row))
+    c.in_ok-col.ensures.sent c.in_ok-col.ensures.works c.in_ok-col.ensures.next c.in_ok-col.ensures.inside
+
+pub returns-clause-sent : goal.returns-clause-sent
+returns-clause-sent g c =
+    let wide = cluster_width c.args.grid.mode c.args.grid.columns in
+    let text = c.args.text.now in
+    let last = YieldsList-end (YieldsList-from_str_split 10 text (lit< tt) (cc) (cc) (cc)) c.loop-row.yielded _ c.loop-row.yielded_by _ _ c.in-None.is c.next.ensures.steps in
+    let all : length (rows_of text) ≤ length c.loop-row.yielded = omega (arith, last.1) in
+    so_far_end g.D.Sink.told g.D.Sink.held g.D.Sink.has_failed c.args.grid.columns c.args.start
+    (text_items wide text) (left_from wide text c.loop-row.is_first (length c.loop-row.yielded)) c.args.sink.now c.loop-row.sink c.loop-row.col c.loop-row.invariant
+    (left_ends wide text c.loop-row.is_first (length c.loop-row.yielded) (drop_all (length c.loop-row.yielded) (rows_of text) all))
+
+pub returns-clause-next : goal.returns-clause-next
+returns-clause-next g c =
+    let wide = cluster_width c.args.grid.mode c.args.grid.columns in
+    let text = c.args.text.now in
+    let last = YieldsList-end (YieldsList-from_str_split 10 text (lit< tt) (cc) (cc) (cc)) c.loop-row.yielded _ c.loop-row.yielded_by _ _ c.in-None.is c.next.ensures.steps in
+    let all : length (rows_of text) ≤ length c.loop-row.yielded = omega (arith, last.1) in
+    so_far_column g.D.Sink.told g.D.Sink.held g.D.Sink.has_failed c.args.grid.columns c.args.start
+    (text_items wide text) (left_from wide text c.loop-row.is_first (length c.loop-row.yielded)) c.args.sink.now c.loop-row.sink c.loop-row.col c.loop-row.invariant
+    (left_ends wide text c.loop-row.is_first (length c.loop-row.yielded) (drop_all (length c.loop-row.yielded) (rows_of text) all))

@@ -1,0 +1,60 @@
+-- The drawing calls of a screen, and the bytes of each.
+use Rattle.std.specs.Prelude.{ℕ, List, [], ◌∷◌, ◌++◌, Option, Some, None, option_map, Result, Ok, Err}
+use Rattle.line_buffer.specs.declared.layout.GraphemeClusterMode.{GraphemeClusterMode}
+use Rattle.line_buffer.specs.declared.layout.Layout.{Layout}
+use Rattle.line_buffer.specs.declared.layout.Position.{Position}
+use Rattle.line_config.specs.declared.device.DeviceFailed.{DeviceFailed}
+use Rattle.line_config.specs.declared.errors.ReadlineError.{ReadlineError}
+use Rattle.line_config.specs.declared.errors.ReadlineError.TheVariants as Refusal
+use Rattle.line_config.specs.declared.settings.BellStyle.{BellStyle}
+use Rattle.line_config.specs.declared.settings.BellStyle.TheVariants.{Audible}
+use Rattle.line_screen.specs.Drawing.{drawing, full_drawing, cleared, move_bytes, erase_to_end, erase_to_row_end, go_home}
+use Rattle.line_screen.specs.Measure.{cluster_width}
+use Rattle.line_screen.specs.declared.renderer.ScreenRenderer.{ScreenRenderer}
+
+-- what doesn't change over a screen's calls
+pub record Screen : Type 0 where
+  pub columns : ℕ
+  pub mode : GraphemeClusterMode
+  pub bell : BellStyle
+
+abbrev pub screen_of : {D : Type 0} → ScreenRenderer D → Screen
+screen_of r = record { columns = r.grid.columns; mode = r.grid.mode; bell = r.bell_style }
+
+abbrev pub sink_of : {D : Type 0} → ScreenRenderer D → D
+sink_of r = r.sink
+
+pub data Call : Type 0 where
+  Draw : (old_row : Option ℕ) (prompt line info : List ℕ) (finish cursor : Position) → Call
+  Move : (old new : Position) → Call
+  Write : (text : List ℕ) → Call
+  Beep : Call
+  ClearScreen : Call
+  ClearRows : (row : ℕ) → Call
+  ClearToEol : Call
+
+abbrev pub drawing_bytes : ℕ → (List ℕ → Option ℕ) → Option ℕ → List ℕ → List ℕ → List ℕ → Position → Position → List ℕ
+drawing_bytes columns wide None prompt line info finish cursor = drawing columns wide prompt line info finish cursor
+drawing_bytes columns wide (Some row) prompt line info finish cursor = full_drawing columns wide row prompt line info finish cursor
+
+abbrev pub bell_bytes : BellStyle → List ℕ
+bell_bytes Audible = 0x07 ∷ []
+bell_bytes _ = []
+
+abbrev pub bytes_of : Screen → Call → List ℕ
+bytes_of s (Draw old prompt line info finish cursor) = drawing_bytes s.columns (cluster_width s.mode s.columns) old prompt line info finish cursor
+bytes_of s (Move old new) = move_bytes old new
+bytes_of s (Write text) = text
+bytes_of s Beep = bell_bytes s.bell
+bytes_of s ClearScreen = go_home ++ erase_to_end
+bytes_of s (ClearRows row) = cleared row
+bytes_of s ClearToEol = erase_to_row_end
+
+-- the row of the cursor of an older drawing, if there is one
+abbrev pub old_row : Option Layout → Option ℕ
+old_row old = option_map (λ layout. layout.cursor.row) old
+
+-- a failed device's answer is the display's refusal
+abbrev pub display_answer : {A : Type 0} → Result A DeviceFailed → Result A ReadlineError
+display_answer (Ok x) = Ok x
+display_answer (Err e) = Err Refusal.Display

@@ -1,0 +1,15 @@
+pub mod Calls
+pub mod Cells
+pub mod Chain
+pub mod Display
+pub mod Drawing
+pub mod Following
+pub mod Input
+pub mod KeyGrammar
+pub mod Lasting
+pub mod Laws
+pub mod Measure
+pub mod Reader
+pub mod Sending
+pub mod Showing
+pub mod Unread

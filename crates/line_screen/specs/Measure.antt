@@ -1,0 +1,35 @@
+-- The columns of a cluster by the display's way of counting, and where the drawing of a text ends.
+use Rattle.std.specs.Prelude.{ℕ, ◌==◌, nat_lt, nat_le, min, Bool, true, not, ◌&&◌, List, length, chars, Option, Some, None, if◌then◌else◌}
+use Rattle.std.specs.List.{list_all, list_any}
+use Rattle.std.specs.Char.{is_control}
+use Rattle.unicode_segmentation.specs.Grapheme.{graphemes}
+use Rattle.line_buffer.specs.declared.layout.GraphemeClusterMode.{GraphemeClusterMode}
+use Rattle.line_buffer.specs.declared.layout.Position.{Position}
+use Rattle.line_buffer.specs.Width.{width_of}
+use Rattle.line_screen.specs.Display.{is_text}
+use Rattle.line_screen.specs.Drawing.{text_items, after, next_row}
+
+-- taken alone it is one cluster, without control characters
+abbrev pub is_cluster : List ℕ → Bool
+is_cluster bytes =
+    (list_all is_text bytes && not (list_any is_control (chars bytes))) && (length (graphemes true bytes) == 1)
+
+abbrev pub is_width : ℕ → ℕ → Bool
+is_width columns width = nat_lt 0 width && nat_le width columns
+
+-- the columns of a text that is one cluster and can stand in a row
+abbrev pub cluster_width : GraphemeClusterMode → ℕ → List ℕ → Option ℕ
+cluster_width mode columns bytes =
+    if is_cluster bytes && is_width columns (width_of mode bytes) then Some (width_of mode bytes) else None
+
+-- a place behind a row's cells is the next row's first
+abbrev pub in_row : ℕ → Position → Position
+in_row columns at = if nat_lt at.col columns then at else next_row at
+
+-- rows are counted to 65,535
+abbrev pub saturated : Position → Position
+saturated at = record { col = at.col; row = min at.row 65535 }
+
+-- where the drawing of a text from a place on ends
+abbrev pub measure_of : GraphemeClusterMode → ℕ → List ℕ → Position → Position
+measure_of mode columns text from = saturated (after columns (text_items (cluster_width mode columns) text) (in_row columns from))

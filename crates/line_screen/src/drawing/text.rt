@@ -1,0 +1,231 @@
+//! A text on rows of cells: a full row is left at once, and what doesn't fit goes to the next row.
+
+ghost use Rattle.std.specs.Prelude.{◌≡◌, ◌≤◌, ◌<◌, ◌∷◌, ◌==◌, ◌+◌, nat_le, true, IsTrue, OnOk, OnErr, IfOk, length, map};
+ghost use Rattle.std.specs.List.{list_all};
+ghost use Rattle.unicode_segmentation.specs.Grapheme.{graphemes};
+ghost use Rattle.line_screen.specs.Display.{is_printable};
+ghost use Rattle.line_screen.specs.Drawing.{item_of, row_items, next_items, text_items, break_if, break_unless, left_col, fitted_col, fenced, sent_one, col_after_one, sent, col_after};
+ghost use Rattle.line_screen.specs.Drawing.Item.{Letter, Cluster};
+ghost use Rattle.line_screen.specs.Measure.{cluster_width};
+ghost use Rattle.line_screen.specs.Sending.{Takes};
+
+use crate::drawing::sequences::send;
+use crate::grid::{Grid, is_letter, is_printable_text};
+use line_buffer::Unit;
+use line_config::{DeviceFailed, Sink};
+use unicode_segmentation::UnicodeSegmentation;
+
+/// Leaves a full row. Answers the column, as each function here does.
+fn leave_full<D: Sink>(sink: &mut D, grid: Grid, col: Unit) -> Result<Unit, DeviceFailed>
+    requires inside { col ≤ grid.columns }
+    ensures sent { OnOk result (Takes D.told D.held sink.old sink.new (break_if (col == grid.columns))) }
+    ensures next { IfOk result (λ c. c ≡ left_col grid.columns col) }
+    ensures inside { IfOk result (λ c. c < grid.columns) }
+    ensures works { OnOk result (D.has_failed sink.new ≡ D.has_failed sink.old) }
+    ensures err { OnErr result (IsTrue (D.has_failed sink.new)) }
+{
+    if col == grid.columns {
+        send(sink, b"\r\n")?;
+        return Ok(0);
+    }
+    Ok(col)
+}
+
+/// Goes to the next row where so many columns don't fit behind `col`.
+fn make_room<D: Sink>(
+    sink: &mut D,
+    grid: Grid,
+    col: Unit,
+    width: Unit,
+) -> Result<Unit, DeviceFailed>
+    requires inside { col < grid.columns }
+    requires narrow { width ≤ grid.columns }
+    ensures sent { OnOk result (Takes D.told D.held sink.old sink.new (break_unless (nat_le (col + width) grid.columns))) }
+    ensures next { IfOk result (λ c. c ≡ fitted_col grid.columns width col) }
+    ensures room { IfOk result (λ c. c + width ≤ grid.columns) }
+    ensures works { OnOk result (D.has_failed sink.new ≡ D.has_failed sink.old) }
+    ensures err { OnErr result (IsTrue (D.has_failed sink.new)) }
+{
+    if col + width <= grid.columns {
+        return Ok(col);
+    }
+    send(sink, b"\r\n")?;
+    Ok(0)
+}
+
+/// The text of a cluster between two sequences that change nothing.
+fn send_fenced<D: Sink>(sink: &mut D, cluster: &str) -> Result<(), DeviceFailed>
+    ensures sent { OnOk result (Takes D.told D.held sink.old sink.new (fenced cluster.now)) }
+    ensures works { OnOk result (D.has_failed sink.new ≡ D.has_failed sink.old) }
+    ensures err { OnErr result (IsTrue (D.has_failed sink.new)) }
+{
+    send(sink, b"\x1B[m")?;
+    send(sink, cluster.as_bytes())?;
+    send(sink, b"\x1B[m")
+}
+
+fn send_wide<D: Sink>(
+    sink: &mut D,
+    grid: Grid,
+    col: Unit,
+    cluster: &str,
+    width: Unit,
+) -> Result<Unit, DeviceFailed>
+    requires inside { col < grid.columns }
+    requires narrow { width ≤ grid.columns }
+    ensures sent { OnOk result (Takes D.told D.held sink.old sink.new (sent_one grid.columns (Cluster cluster.now width) col)) }
+    ensures next { IfOk result (λ c. c ≡ col_after_one grid.columns (Cluster cluster.now width) col) }
+    ensures inside { IfOk result (λ c. c < grid.columns) }
+    ensures works { OnOk result (D.has_failed sink.new ≡ D.has_failed sink.old) }
+    ensures err { OnErr result (IsTrue (D.has_failed sink.new)) }
+{
+    let start = make_room(sink, grid, col, width)?;
+    send_fenced(sink, cluster)?;
+    leave_full(sink, grid, start + width)
+}
+
+/// Printable characters of ASCII, a column for each, that fit in the row.
+fn send_run<D: Sink>(
+    sink: &mut D,
+    grid: Grid,
+    col: Unit,
+    letters: &[u8],
+) -> Result<Unit, DeviceFailed>
+    requires inside { col < grid.columns }
+    requires room { col + length letters.now ≤ grid.columns }
+    ensures sent { OnOk result (Takes D.told D.held sink.old sink.new (sent grid.columns (map Letter letters.now) col)) }
+    ensures next { IfOk result (λ c. c ≡ col_after grid.columns (map Letter letters.now) col) }
+    ensures inside { IfOk result (λ c. c < grid.columns) }
+    ensures works { OnOk result (D.has_failed sink.new ≡ D.has_failed sink.old) }
+    ensures err { OnErr result (IsTrue (D.has_failed sink.new)) }
+{
+    send(sink, letters)?;
+    leave_full(sink, grid, col + letters.len() as Unit)
+}
+
+/// A cluster, or a question mark in the place of one that a display can't hold.
+fn send_cluster<D: Sink>(
+    sink: &mut D,
+    grid: Grid,
+    col: Unit,
+    cluster: &str,
+) -> Result<Unit, DeviceFailed>
+    requires inside { col < grid.columns }
+    ensures sent { OnOk result (Takes D.told D.held sink.old sink.new (sent_one grid.columns (item_of (cluster_width grid.mode grid.columns) cluster.now) col)) }
+    ensures next { IfOk result (λ c. c ≡ col_after_one grid.columns (item_of (cluster_width grid.mode grid.columns) cluster.now) col) }
+    ensures inside { IfOk result (λ c. c < grid.columns) }
+    ensures works { OnOk result (D.has_failed sink.new ≡ D.has_failed sink.old) }
+    ensures err { OnErr result (IsTrue (D.has_failed sink.new)) }
+{
+    if is_letter(cluster) {
+        return send_run(sink, grid, col, cluster.as_bytes());
+    }
+    match grid.cluster_columns(cluster) {
+        Some(width) => send_wide(sink, grid, col, cluster, width),
+        None => send_wide(sink, grid, col, "?", 1),
+    }
+}
+
+fn send_letters<D: Sink>(
+    sink: &mut D,
+    grid: Grid,
+    start: Unit,
+    letters: &[u8],
+) -> Result<Unit, DeviceFailed>
+    requires inside { start < grid.columns }
+    ensures sent { OnOk result (Takes D.told D.held sink.old sink.new (sent grid.columns (map Letter letters.now) start)) }
+    ensures next { IfOk result (λ c. c ≡ col_after grid.columns (map Letter letters.now) start) }
+    ensures inside { IfOk result (λ c. c < grid.columns) }
+    ensures works { OnOk result (D.has_failed sink.new ≡ D.has_failed sink.old) }
+    ensures err { OnErr result (IsTrue (D.has_failed sink.new)) }
+{
+    let mut col = start;
+    let mut rest = letters;
+    while !rest.is_empty() {
+        let count = rest.len().min(usize::from(grid.columns - col));
+        let (front, back) = rest.split_at(count);
+        col = send_run(sink, grid, col, front)?;
+        rest = back;
+    }
+    Ok(col)
+}
+
+fn send_clusters<D: Sink>(
+    sink: &mut D,
+    grid: Grid,
+    start: Unit,
+    row: &str,
+) -> Result<Unit, DeviceFailed>
+    requires inside { start < grid.columns }
+    ensures sent { OnOk result (Takes D.told D.held sink.old sink.new (sent grid.columns (map (item_of (cluster_width grid.mode grid.columns)) (graphemes true row.now)) start)) }
+    ensures next { IfOk result (λ c. c ≡ col_after grid.columns (map (item_of (cluster_width grid.mode grid.columns)) (graphemes true row.now)) start) }
+    ensures inside { IfOk result (λ c. c < grid.columns) }
+    ensures works { OnOk result (D.has_failed sink.new ≡ D.has_failed sink.old) }
+    ensures err { OnErr result (IsTrue (D.has_failed sink.new)) }
+{
+    let mut col = start;
+    for cluster in row.graphemes(true) {
+        col = send_cluster(sink, grid, col, cluster)?;
+    }
+    Ok(col)
+}
+
+/// A row of the text: by characters where all are printable ASCII, else by clusters.
+fn send_row<D: Sink>(sink: &mut D, grid: Grid, start: Unit, row: &str) -> Result<Unit, DeviceFailed>
+    requires inside { start < grid.columns }
+    ensures sent { OnOk result (Takes D.told D.held sink.old sink.new (sent grid.columns (row_items (cluster_width grid.mode grid.columns) row.now) start)) }
+    ensures next { IfOk result (λ c. c ≡ col_after grid.columns (row_items (cluster_width grid.mode grid.columns) row.now) start) }
+    ensures inside { IfOk result (λ c. c < grid.columns) }
+    ensures works { OnOk result (D.has_failed sink.new ≡ D.has_failed sink.old) }
+    ensures err { OnErr result (IsTrue (D.has_failed sink.new)) }
+{
+    if is_printable_text(row) {
+        send_letters(sink, grid, start, row.as_bytes())
+    } else {
+        send_clusters(sink, grid, start, row)
+    }
+}
+
+fn send_next_row<D: Sink>(
+    sink: &mut D,
+    grid: Grid,
+    start: Unit,
+    is_first: bool,
+    row: &str,
+) -> Result<Unit, DeviceFailed>
+    requires inside { start < grid.columns }
+    ensures sent { OnOk result (Takes D.told D.held sink.old sink.new (sent grid.columns (next_items (cluster_width grid.mode grid.columns) is_first row.now) start)) }
+    ensures next { IfOk result (λ c. c ≡ col_after grid.columns (next_items (cluster_width grid.mode grid.columns) is_first row.now) start) }
+    ensures inside { IfOk result (λ c. c < grid.columns) }
+    ensures works { OnOk result (D.has_failed sink.new ≡ D.has_failed sink.old) }
+    ensures err { OnErr result (IsTrue (D.has_failed sink.new)) }
+{
+    if is_first {
+        return send_row(sink, grid, start, row);
+    }
+    send(sink, b"\r\n")?;
+    send_row(sink, grid, 0, row)
+}
+
+/// A text from a column on.
+pub(crate) fn send_text<D: Sink>(
+    sink: &mut D,
+    grid: Grid,
+    start: Unit,
+    text: &str,
+) -> Result<Unit, DeviceFailed>
+    requires inside { start < grid.columns }
+    ensures sent { OnOk result (Takes D.told D.held sink.old sink.new (sent grid.columns (text_items (cluster_width grid.mode grid.columns) text.now) start)) }
+    ensures next { IfOk result (λ c. c ≡ col_after grid.columns (text_items (cluster_width grid.mode grid.columns) text.now) start) }
+    ensures inside { IfOk result (λ c. c < grid.columns) }
+    ensures works { OnOk result (D.has_failed sink.new ≡ D.has_failed sink.old) }
+    ensures err { OnErr result (IsTrue (D.has_failed sink.new)) }
+{
+    let mut col = start;
+    let mut is_first = true;
+    for row in text.split('\n') {
+        col = send_next_row(sink, grid, col, is_first, row)?;
+        is_first = false;
+    }
+    Ok(col)
+}

@@ -1,0 +1,88 @@
+//! Whole drawings: prompt, line, and the hint or message behind it.
+
+ghost use Rattle.std.specs.Prelude.{◌≡◌, ◌<◌, ◌++◌, [], IsTrue, OnOk, OnErr, IfOk};
+ghost use Rattle.line_screen.specs.Drawing.{plain, sent, col_after, text_items, shown_text, drawing};
+ghost use Rattle.line_screen.specs.Calls.{drawing_bytes};
+ghost use Rattle.line_screen.specs.Measure.{cluster_width};
+ghost use Rattle.line_screen.specs.Sending.{Takes};
+
+use crate::drawing::sequences::{flush, send, send_cleared, send_move};
+use crate::drawing::text::send_text;
+use crate::grid::Grid;
+use line_buffer::{Position, Unit};
+use line_config::{DeviceFailed, Sink};
+
+/// What a drawing shows: prompt, line, and the hint or message behind it.
+#[derive(Clone, Copy)]
+pub(crate) struct Texts<'a> {
+    pub(crate) prompt: &'a str,
+    pub(crate) line: &'a str,
+    pub(crate) info: &'a str,
+}
+
+/// One of the texts, from a column on. Answers the column behind it.
+fn send_part<D: Sink>(
+    sink: &mut D,
+    grid: Grid,
+    start: Unit,
+    text: &str,
+) -> Result<Unit, DeviceFailed>
+    requires inside { start < grid.columns }
+    ensures sent { OnOk result (Takes D.told D.held sink.old sink.new (plain ++ sent grid.columns (text_items (cluster_width grid.mode grid.columns) text.now) start)) }
+    ensures next { IfOk result (λ c. c ≡ col_after grid.columns (text_items (cluster_width grid.mode grid.columns) text.now) start) }
+    ensures inside { IfOk result (λ c. c < grid.columns) }
+    ensures works { OnOk result (D.has_failed sink.new ≡ D.has_failed sink.old) }
+    ensures err { OnErr result (IsTrue (D.has_failed sink.new)) }
+{
+    send(sink, b"\x1B[m")?;
+    send_text(sink, grid, start, text)
+}
+
+/// The three texts, each from where the one before ends.
+fn send_shown<D: Sink>(sink: &mut D, grid: Grid, texts: Texts) -> Result<(), DeviceFailed>
+    ensures sent { OnOk result (Takes D.told D.held sink.old sink.new (shown_text grid.columns (cluster_width grid.mode grid.columns) texts.entry.prompt.now texts.entry.line.now texts.entry.info.now)) }
+    ensures works { OnOk result (D.has_failed sink.new ≡ D.has_failed sink.old) }
+    ensures err { OnErr result (IsTrue (D.has_failed sink.new)) }
+{
+    let prompt_end = send_part(sink, grid, 0, texts.prompt)?;
+    let line_end = send_part(sink, grid, prompt_end, texts.line)?;
+    send_part(sink, grid, line_end, texts.info)?;
+    send(sink, b"\x1B[m")
+}
+
+/// The three texts, then the way from where they end to the cursor.
+pub(crate) fn send_drawing<D: Sink>(
+    sink: &mut D,
+    grid: Grid,
+    texts: Texts,
+    end: Position,
+    cursor: Position,
+) -> Result<(), DeviceFailed>
+    ensures sent { OnOk result (Takes D.told D.held sink.old sink.new (drawing grid.columns (cluster_width grid.mode grid.columns) texts.entry.prompt.now texts.entry.line.now texts.entry.info.now end cursor)) }
+    ensures works { OnOk result (D.has_failed sink.new ≡ D.has_failed sink.old) }
+    ensures err { OnErr result (IsTrue (D.has_failed sink.new)) }
+{
+    send_shown(sink, grid, texts)?;
+    send_move(sink, end, cursor)
+}
+
+/// A whole drawing, passed on: in the place of one whose cursor stands in its row `old_row`, or from
+/// the cursor on.
+pub(crate) fn draw<D: Sink>(
+    sink: &mut D,
+    grid: Grid,
+    old_row: Option<Unit>,
+    texts: Texts,
+    end: Position,
+    cursor: Position,
+) -> Result<(), DeviceFailed>
+    ensures sent { OnOk result (Takes D.told D.held sink.old sink.new (drawing_bytes grid.columns (cluster_width grid.mode grid.columns) old_row texts.entry.prompt.now texts.entry.line.now texts.entry.info.now end cursor)) }
+    ensures works { OnOk result (D.has_failed sink.new ≡ D.has_failed sink.old) }
+    ensures err { OnErr result (IsTrue (D.has_failed sink.new)) }
+{
+    if let Some(row) = old_row {
+        send_cleared(sink, row)?;
+    }
+    send_drawing(sink, grid, texts, end, cursor)?;
+    flush(sink)
+}

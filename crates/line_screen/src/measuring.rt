@@ -1,0 +1,146 @@
+//! Where the drawing of a text ends.
+
+ghost use Rattle.std.specs.Prelude.{◌≡◌, ◌≤◌, ◌<◌, ◌+◌, ◌==◌, ◌∷◌, [], true, length, map};
+ghost use Rattle.std.specs.List.{list_all};
+ghost use Rattle.unicode_segmentation.specs.Grapheme.{graphemes};
+ghost use Rattle.line_screen.specs.Display.{right};
+ghost use Rattle.line_screen.specs.Drawing.{item_of, row_items, next_items, text_items, next_row, fit, leave, after};
+ghost use Rattle.line_screen.specs.Drawing.Item.{Letter, NewRow};
+ghost use Rattle.line_screen.specs.Measure.{cluster_width, saturated, measure_of};
+
+use crate::grid::{Grid, is_letter, is_printable_text};
+use line_buffer::{GraphemeClusterMode, Position, Unit};
+use unicode_segmentation::UnicodeSegmentation;
+
+/// Where the drawing of a text ends that begins at a place, on rows of so many columns.
+///
+/// Columns stay exact; rows are counted to 65,535. A place whose column isn't below the columns is the
+/// next row's first cell.
+pub fn measure(text: &str, from: Position, columns: Unit, mode: GraphemeClusterMode) -> Position
+    requires low { 2 ≤ columns }
+    requires high { columns ≤ 1000 }
+    ensures { result ≡ measure_of mode columns text.now from }
+{
+    let grid = Grid { columns, mode };
+    if from.col < columns {
+        after_text(grid, from, text)
+    } else {
+        after_text(grid, next_row(from), text)
+    }
+}
+
+fn next_row(at: Position) -> Position
+    ensures { result ≡ saturated (next_row at) }
+{
+    Position {
+        col: 0,
+        row: at.row.saturating_add(1),
+    }
+}
+
+fn leave_full(grid: Grid, at: Position) -> Position
+    requires inside { at.col ≤ grid.columns }
+    ensures place { result ≡ saturated (leave grid.columns at) }
+    ensures inside { result.col < grid.columns }
+{
+    if at.col == grid.columns {
+        next_row(at)
+    } else {
+        at
+    }
+}
+
+/// So many columns further in the same row.
+fn step_right(grid: Grid, at: Position, count: Unit) -> Position
+    requires room { at.col + count ≤ grid.columns }
+    ensures place { result ≡ saturated (leave grid.columns (right count at)) }
+    ensures inside { result.col < grid.columns }
+{
+    let behind = Position {
+        col: at.col + count,
+        row: at.row,
+    };
+    leave_full(grid, behind)
+}
+
+fn after_cluster(grid: Grid, at: Position, cluster: &str) -> Position
+    requires inside { at.col < grid.columns }
+    ensures place { result ≡ saturated (after grid.columns (item_of (cluster_width grid.mode grid.columns) cluster.now ∷ []) at) }
+    ensures inside { result.col < grid.columns }
+{
+    if is_letter(cluster) {
+        return step_right(grid, at, 1);
+    }
+    let width = grid.cluster_columns(cluster).unwrap_or(1);
+    if at.col + width <= grid.columns {
+        step_right(grid, at, width)
+    } else {
+        step_right(grid, next_row(at), width)
+    }
+}
+
+fn after_letters(grid: Grid, from: Position, letters: &[u8]) -> Position
+    requires inside { from.col < grid.columns }
+    ensures place { result ≡ saturated (after grid.columns (map Letter letters.now) from) }
+    ensures inside { result.col < grid.columns }
+{
+    let mut at = from;
+    let mut rest = letters;
+    while !rest.is_empty() {
+        let count = rest.len().min(usize::from(grid.columns - at.col));
+        let (front, back) = rest.split_at(count);
+        at = step_right(grid, at, front.len() as Unit);
+        rest = back;
+    }
+    at
+}
+
+fn after_clusters(grid: Grid, from: Position, row: &str) -> Position
+    requires inside { from.col < grid.columns }
+    ensures place { result ≡ saturated (after grid.columns (map (item_of (cluster_width grid.mode grid.columns)) (graphemes true row.now)) from) }
+    ensures inside { result.col < grid.columns }
+{
+    let mut at = from;
+    for cluster in row.graphemes(true) {
+        at = after_cluster(grid, at, cluster);
+    }
+    at
+}
+
+fn after_row(grid: Grid, from: Position, row: &str) -> Position
+    requires inside { from.col < grid.columns }
+    ensures place { result ≡ saturated (after grid.columns (row_items (cluster_width grid.mode grid.columns) row.now) from) }
+    ensures inside { result.col < grid.columns }
+{
+    if is_printable_text(row) {
+        after_letters(grid, from, row.as_bytes())
+    } else {
+        after_clusters(grid, from, row)
+    }
+}
+
+fn after_next_row(grid: Grid, from: Position, is_first: bool, row: &str) -> Position
+    requires inside { from.col < grid.columns }
+    ensures place { result ≡ saturated (after grid.columns (next_items (cluster_width grid.mode grid.columns) is_first row.now) from) }
+    ensures inside { result.col < grid.columns }
+{
+    if is_first {
+        after_row(grid, from, row)
+    } else {
+        after_row(grid, next_row(from), row)
+    }
+}
+
+fn after_text(grid: Grid, from: Position, text: &str) -> Position
+    requires inside { from.col < grid.columns }
+    ensures place { result ≡ saturated (after grid.columns (text_items (cluster_width grid.mode grid.columns) text.now) from) }
+    ensures inside { result.col < grid.columns }
+{
+    let mut at = from;
+    let mut is_first = true;
+    for row in text.split('\n') {
+        at = after_next_row(grid, at, is_first, row);
+        is_first = false;
+    }
+    at
+}

@@ -1,0 +1,5 @@
+//! Worked rows of the crates below.
+#![tactic(auto)]
+
+#[cfg(test)]
+mod record;

@@ -1,0 +1,77 @@
+#!/usr/bin/env python3
+"""Drawings on a terminal: tmux shows what crates/drawing_shown draws, its cells and its cursor.
+
+`./test` builds the program first. Texts are those whose widths tmux counts as the editor does.
+"""
+import os
+import pathlib
+import shlex
+import subprocess
+import sys
+import tempfile
+import time
+
+PROGRAM = pathlib.Path(__file__).resolve().parent.parent / "crates/drawing_shown/out/drawing_shown"
+
+# name, columns, the rows shown, the cursor's row and column
+CASES = [
+    ("wrapped", 10, ["> abcdefgh", "ij"], (1, 2)),
+    ("full", 10, ["> abcdefgh"], (1, 0)),
+    ("shorter", 10, ["> ab"], (0, 4)),
+    ("wide", 9, ["> \u6f22\u5b57\u6f22", "\u5b57"], (1, 2)),
+    ("control", 20, ["> a?b"], (0, 5)),
+    ("accent", 20, ["> e\u0301x"], (0, 3)),
+    ("message", 20, ["> ]unpaired"], (0, 3)),
+    ("rows", 20, ["> one", "two", "three"], (0, 5)),
+]
+
+
+class Terminal:
+    """A tmux server of its own, with one pane that runs a command."""
+
+    def __init__(self, folder, columns, command):
+        config = os.path.join(folder, "tmux.conf")
+        pathlib.Path(config).write_text("set -g status off\n")
+        self.start = ["tmux", "-u", "-S", os.path.join(folder, "socket"), "-f", config]
+        self.ask("new-session", "-d", "-x", str(columns), "-y", "8", command)
+
+    def ask(self, *words):
+        return subprocess.run([*self.start, *words], check=True, capture_output=True, text=True).stdout
+
+    def shown(self):
+        rows = [row.rstrip() for row in self.ask("capture-pane", "-p").split("\n")]
+        while rows and not rows[-1]:
+            rows.pop()
+        row, col = self.ask("display-message", "-p", "#{cursor_y} #{cursor_x}").split()
+        return rows, (int(row), int(col))
+
+    def close(self):
+        subprocess.run([*self.start, "kill-server"], check=False, capture_output=True)
+
+
+def shows(name, columns, rows, cursor):
+    with tempfile.TemporaryDirectory() as folder:
+        terminal = Terminal(folder, columns, f"{shlex.quote(str(PROGRAM))} {name}; exec sleep 120")
+        try:
+            end = time.monotonic() + 100
+            while True:
+                got = terminal.shown()
+                if got == (rows, cursor):
+                    return True
+                if time.monotonic() > end:
+                    print(f"FAILED: {name}: wanted {(rows, cursor)}, shown {got}")
+                    return False
+                time.sleep(0.05)
+        finally:
+            terminal.close()
+
+
+def main():
+    os.environ["LC_ALL"] = "C.UTF-8"
+    results = [shows(*case) for case in CASES]
+    print(f"{results.count(True)} passed, {results.count(False)} failed")
+    return 0 if all(results) else 1
+
+
+if __name__ == "__main__":
+    sys.exit(main())

@@ -1,0 +1,51 @@
+#!/usr/bin/env python3
+"""Each edit of a line with each growth refused in turn: text, cursor and events stand together after it.
+
+`./test` builds crates/growth_tests and the shim of tests/growth.py first. The program makes one edit a row and says
+itself whether the text is what the events make of it. Here each call for memory of its run is refused once.
+"""
+import os
+import pathlib
+import subprocess
+import tempfile
+
+from checks import HUNG, TOP, Failed, run_all, same
+
+SHIM = os.path.join(TOP, "build", "refuse_growth.so")
+PROGRAM = pathlib.Path(TOP) / "crates" / "growth_tests" / "out" / "growth_tests"
+MOST = 10000
+
+
+def rows_of(ran):
+    same("standard error", ran.stderr, b"")
+    same("status", ran.returncode, 0)
+    return [tuple(row.split(": ")) for row in ran.stdout.decode().splitlines()]
+
+
+def run_refusing(number, report):
+    told = {"LD_PRELOAD": SHIM, "REFUSE_GROWTH": str(number), "REFUSE_GROWTH_REPORT": report}
+    return rows_of(subprocess.run([PROGRAM], capture_output=True, timeout=HUNG, env=told))
+
+
+def each_growth_refused():
+    refused = set()
+    with tempfile.TemporaryDirectory() as folder:
+        report = os.path.join(folder, "refused")
+        for number in range(1, MOST):
+            rows = run_refusing(number, report)
+            words = [word for _, word in rows if word != "done"]
+            if not os.path.exists(report):
+                same("rows of a run with ample memory that are not done", words, [])
+                break
+            os.remove(report)
+            if len(words) != 1 or words[0] not in ("refused", "not begun"):
+                raise Failed(f"call {number}: {rows}")
+            refused.update(name for name, word in rows if word == "refused")
+        else:
+            raise Failed(f"{MOST} calls, and no end")
+    print(f"calls refused in turn: {number - 1}; refused once at least: {', '.join(sorted(refused))}", flush=True)
+    same("whether edits that grow were refused", {"insert", "update", "yank", "indent"} <= refused, True)
+
+
+if __name__ == "__main__":
+    run_all([each_growth_refused])
