@@ -86,7 +86,10 @@ fn change(
             let _ = line.yank(alloc, LONG, 2, shadow)?;
         }
         Edit::YankPop => {
-            let _ = line.yank_pop(alloc, 0, LONG, shadow)?;
+            let at = line.pos();
+            if at >= 1 && line.as_str().is_char_boundary(at - 1) {
+                let _ = line.yank_pop(alloc, 1, LONG, shadow)?;
+            }
         }
         _ => return take_away(alloc, edit, line, shadow),
     }

@@ -17,7 +17,7 @@ pub struct Shadow {
 impl Shadow {
     pub fn new(alloc: Global, text: &str) -> Result<Shadow, OutOfMemory> {
         let mut line = LineBuffer::with_capacity(alloc, ROOM)?;
-        line.insert_str(alloc, 0, text, &mut NoListener)?;
+        line.replace(alloc, 0..0, text, &mut NoListener)?;
         Ok(Shadow {
             line,
             fitted: true,
