@@ -1,5 +1,5 @@
 -- What is laid ends where the drawing ends, or before; letters at a row's end.
-use Rattle.std.proofs.Common.{◌≡◌, ℕ, ◌+◌, ◌<◌, ◌≤◌, ◌==◌, nat_le, Bool, true, false, ◌&&◌, List, [], ◌∷◌, map, length, inl, inr, refl, ◌∙◌, arith, if◌then◌else◌}
+use Rattle.std.proofs.Common.{◌≡◌, ap, ℕ, suc, ◌+◌, ◌<◌, ◌≤◌, ◌==◌, nat_le, Bool, true, false, ◌&&◌, List, [], ◌∷◌, map, length, inl, inr, refl, ◌∙◌, arith, if◌then◌else◌}
 use Rattle.std.specs.List.{list_all}
 use Rattle.std.proofs.lemmas.Bool.{and_from, eqb-true, eqb-false, cases_lt}
 use Rattle.std.proofs.lemmas.Bool.Decides.{nat_tests}
@@ -97,5 +97,28 @@ pub letters_behind : (columns : ℕ) (cs : List ℕ) (at : Position) → at.col 
 letters_behind columns cs at low room =
     elim (cases_lt (at.col + length cs) columns) [
       | inl fits ↦ row_behind columns cs at fits
+      | inr past ↦ let h = wraps columns cs at low past in absurd (omega arith)
+    ]
+
+next_col : (col n : ℕ) → col + 1 + n ≡ col + suc n
+next_col col n = omega arith
+
+same_place : (at : Position) → at ≡ right 0 at
+same_place at = ap (λ n. let p : Position = record { col = n; row = at.row } in p) (omega arith)
+
+room_if : (columns c : ℕ) (cs : List ℕ) (at : Position) → at.col + length (c ∷ cs) < columns → (after columns (map Letter cs) (right 1 at) ≡ right (length cs) (right 1 at))
+    → (b : Bool) → (at.col + 1 == columns) ≡ b → after columns (map Letter cs) (if b then next_row (right 1 at) else right 1 at) ≡ right (length (c ∷ cs)) at
+room_if columns c cs at room ih true e = let full = eqb-true (at.col + 1) columns e in absurd (omega arith)
+room_if columns c cs at room ih false e = ih ∙ ap (λ n. let p : Position = record { col = n; row = at.row } in p) (next_col at.col (length cs))
+
+row_after : (columns : ℕ) (cs : List ℕ) (at : Position) → at.col + length cs < columns → after columns (map Letter cs) at ≡ right (length cs) at
+row_after columns [] at room = same_place at
+row_after columns (c ∷ cs) at room = room_if columns c cs at room (row_after columns cs (right 1 at) (omega arith)) (at.col + 1 == columns) refl
+
+-- letters that end in no lower a column than their number stand in one row
+pub letters_in_row : (columns : ℕ) (cs : List ℕ) (at : Position) → at.col < columns → length cs ≤ (after columns (map Letter cs) at).col → after columns (map Letter cs) at ≡ right (length cs) at
+letters_in_row columns cs at low room =
+    elim (cases_lt (at.col + length cs) columns) [
+      | inl fits ↦ row_after columns cs at fits
       | inr past ↦ let h = wraps columns cs at low past in absurd (omega arith)
     ]

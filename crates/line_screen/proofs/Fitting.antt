@@ -130,7 +130,7 @@ module _ (mode : GraphemeClusterMode) (columns : ℕ) (some : 1 ≤ columns) whe
   row_if row true e = letters_fit row e
   row_if row false e = clusters_fit (graphemes true row)
 
-  fit_append : (xs ys : List Item) → AllFit columns (cluster_width mode columns) xs → AllFit columns (cluster_width mode columns) ys → AllFit columns (cluster_width mode columns) (xs ++ ys)
+  pub fit_append : (xs ys : List Item) → AllFit columns (cluster_width mode columns) xs → AllFit columns (cluster_width mode columns) ys → AllFit columns (cluster_width mode columns) (xs ++ ys)
   fit_append [] ys h k = k
   fit_append (x ∷ xs) ys h k = (h.0, fit_append xs ys h.1 k)
 

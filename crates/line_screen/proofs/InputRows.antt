@@ -1,12 +1,14 @@
 -- Worked rows of characters, keys and pasted texts: each is what the definitions compute.
-use Rattle.std.proofs.Common.{◌≡◌, ℕ, List, [], ◌∷◌, refl}
+use Rattle.std.proofs.Common.{◌≡◌, ℕ, List, [], ◌∷◌, ◌++◌, Err, codes, refl}
 use Rattle.line_config.specs.declared.device.Last.TheVariants.{End as SourceEnd, Failed as SourceFailed}
 use Rattle.line_config.specs.declared.settings.EditMode.TheVariants.{Emacs, Vi}
-use Rattle.line_keys.specs.declared.key.KeyCode.TheVariants.{Backspace, BracketedPasteStart, Char, Delete, Enter, Esc, F, Left, Right}
+use Rattle.line_keys.specs.declared.key.KeyCode.TheVariants.{Backspace, BracketedPasteEnd, BracketedPasteStart, Char, Delete, Enter, Esc, F, Left, Right}
 use Rattle.line_keys.specs.declared.key.KeyEvent.{KeyEvent}
 use Rattle.line_keys.specs.Keys.{key_with, modifiers_of, none, alt}
-use Rattle.line_keys.specs.Coming.{Pressed, Pasted, CutOff, Ends, End, Bad}
+use Rattle.line_config.specs.declared.errors.ReadlineError.TheVariants.{PasteOutOfPlace}
+use Rattle.line_keys.specs.Coming.{Coming, Pressed, Pasted, CutOff, Ends, End, Bad, key_at}
 use Rattle.line_screen.specs.Input.{Next, Over, AtEnd, AtBad, AtFailure, Torn, Inside, chars_of}
+use Rattle.line_screen.specs.Pasting.{with_newlines}
 use Rattle.line_screen.specs.KeyGrammar.{Readings, Key, Stops, readings, coming_of, unknown, esc}
 
 abbrev emacs : List ℕ → Readings
@@ -133,3 +135,53 @@ paste_of_no_character = refl
 
 paste_cut_off : coming_of (emacs (0x1B ∷ 0x5B ∷ 0x32 ∷ 0x30 ∷ 0x30 ∷ 0x7E ∷ 0x61 ∷ [])) ≡ Pressed start (CutOff End)
 paste_cut_off = refl
+
+-- ---- lines of keys and pasted texts
+
+abbrev typed : ℕ → Coming → Coming
+typed c rest = Pressed (key_with (Char c) none) rest
+
+abbrev enter : KeyEvent
+enter = key_with Enter none
+
+-- `ab`, then ESC and no character
+no_character_behind_esc : coming_of (emacs (codes "ab" ++ 0x1B ∷ 0xC3 ∷ [])) ≡ typed 0x61 (typed 0x62 (Ends Bad))
+no_character_behind_esc = refl
+
+-- the end mark of no paste is a key
+end_mark_alone : coming_of (emacs (0x61 ∷ 0x1B ∷ codes "[201~b" ++ 0x0D ∷ []))
+    ≡ typed 0x61 (Pressed (key_with BracketedPasteEnd none) (typed 0x62 (Pressed enter (Ends End))))
+end_mark_alone = refl
+
+sequence_without_name : coming_of (emacs (0x61 ∷ 0x1B ∷ codes "[9~b" ++ 0x0D ∷ [])) ≡ typed 0x61 (Pressed unknown (typed 0x62 (Pressed enter (Ends End))))
+sequence_without_name = refl
+
+-- in both modes, a paste of `a`, LF, `b`, and Enter
+pasted_newline : coming_of (emacs (0x1B ∷ codes "[200~a" ++ 0x0A ∷ 0x62 ∷ 0x1B ∷ codes "[201~" ++ 0x0D ∷ []))
+    ≡ Pressed start (Pasted (0x61 ∷ 0x0A ∷ 0x62 ∷ []) (Pressed enter (Ends End)))
+unfolding lib.Utf8.encode
+pasted_newline = refl
+
+vi_pasted_newline : coming_of (vi (0x1B ∷ codes "[200~a" ++ 0x0A ∷ 0x62 ∷ 0x1B ∷ codes "[201~" ++ 0x0D ∷ []))
+    ≡ Pressed start (Pasted (0x61 ∷ 0x0A ∷ 0x62 ∷ []) (Pressed enter (Ends End)))
+unfolding lib.Utf8.encode
+vi_pasted_newline = refl
+
+pasted_tab : coming_of (emacs (0x1B ∷ codes "[200~" ++ 0x09 ∷ 0x1B ∷ codes "[201~" ++ 0x0D ∷ [])) ≡ Pressed start (Pasted (0x09 ∷ []) (Pressed enter (Ends End)))
+unfolding lib.Utf8.encode
+pasted_tab = refl
+
+-- a key asked for in a pasted text's place
+key_in_a_texts_place : (text : List ℕ) (rest : Coming) → key_at (Pasted text rest) ≡ Err PasteOutOfPlace
+key_in_a_texts_place text rest = refl
+
+no_character_in_a_line : coming_of (emacs (codes "ab" ++ 0x0D ∷ 0xFF ∷ [])) ≡ typed 0x61 (typed 0x62 (Pressed enter (Ends Bad)))
+no_character_in_a_line = refl
+
+sequence_cut_off_in_a_line : coming_of (emacs (codes "ab" ++ 0x1B ∷ 0x5B ∷ [])) ≡ typed 0x61 (typed 0x62 (Ends End))
+sequence_cut_off_in_a_line = refl
+
+-- ---- newlines of a pasted text
+
+rows_of_a_paste : with_newlines (codes "a" ++ 0x0D ∷ 0x0A ∷ 0x62 ∷ 0x0D ∷ 0x0D ∷ 0x0A ∷ 0x0A ∷ 0x0D ∷ []) ≡ 0x61 ∷ 0x0A ∷ 0x62 ∷ 0x0A ∷ 0x0A ∷ 0x0A ∷ 0x0A ∷ []
+rows_of_a_paste = refl

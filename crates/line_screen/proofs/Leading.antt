@@ -229,20 +229,20 @@ module _ (mode : GraphemeClusterMode) (columns : ℕ) (some : 1 ≤ columns) (fe
   -- ---- the two short ways
 
   -- nothing behind the line: the items of prompt and line
-  line_items : (v : Shown) → v.info ≡ [] → shown_items (cluster_width mode columns) v ≡ text_items (cluster_width mode columns) v.prompt ++ text_items (cluster_width mode columns) v.line
+  pub line_items : (v : Shown) → v.info ≡ [] → shown_items (cluster_width mode columns) v ≡ text_items (cluster_width mode columns) v.prompt ++ text_items (cluster_width mode columns) v.line
   line_items v none =
       let wide = cluster_width mode columns in
       ap (λ info. text_items wide v.prompt ++ (text_items wide v.line ++ text_items wide info)) none
       ∙ ap (λ is. text_items wide v.prompt ++ is) (append-nil (text_items wide v.line))
 
   -- the cursor behind the line
-  line_cursor : (v : Shown) → v.place ≡ length v.line → cursor_of columns (cluster_width mode columns) v ≡ after columns (text_items (cluster_width mode columns) v.prompt ++ text_items (cluster_width mode columns) v.line) origin
+  pub line_cursor : (v : Shown) → v.place ≡ length v.line → cursor_of columns (cluster_width mode columns) v ≡ after columns (text_items (cluster_width mode columns) v.prompt ++ text_items (cluster_width mode columns) v.line) origin
   line_cursor v e =
       let wide = cluster_width mode columns in
       let whole : take v.place v.line ≡ v.line = take_all v.place v.line (omega arith) in
       ap (λ line. after columns (text_items wide v.prompt ++ text_items wide line) origin) whole
 
-  not_left : (at : Position) → at.col + 1 < columns → leave columns (right 1 at) ≡ right 1 at
+  pub not_left : (at : Position) → at.col + 1 < columns → leave columns (right 1 at) ≡ right 1 at
   not_left at room = ap (λ b. if b then next_row (right 1 at) else right 1 at) (ne_eqb (at.col + 1) columns (λ e. omega arith))
 
   types_good : (bytes : List ℕ) (over : List Placed) (a : View) (c : ℕ) → Good columns (cluster_width mode columns) bytes over a → is_printable c ≡ true → a.shown.info ≡ [] → a.shown.place ≡ length a.shown.line

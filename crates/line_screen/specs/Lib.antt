@@ -1,6 +1,7 @@
 pub mod Calls
 pub mod Cells
 pub mod Chain
+pub mod Characters
 pub mod Display
 pub mod Drawing
 pub mod Following
@@ -9,7 +10,9 @@ pub mod KeyGrammar
 pub mod Lasting
 pub mod Laws
 pub mod Measure
+pub mod Pasting
 pub mod Reader
 pub mod Sending
+pub mod Short
 pub mod Showing
 pub mod Unread

@@ -1,7 +1,10 @@
 //! Laws of the definitions: each is the contract of a function that does nothing.
 
+ghost use Rattle.line_screen.specs.Characters.{EncodedCharsAreRead, CharsAreEncoded};
 ghost use Rattle.line_screen.specs.Following.{WholeKeysStay};
+ghost use Rattle.line_screen.specs.Short.{TypingLeads, KillingLeads};
 ghost use Rattle.line_screen.specs.Laws.{FullDrawingShows, StartIsEmpty, CallsLead, ChainsLead, ShownIsMeant, CellsAreShown};
+ghost use Rattle.line_screen.specs.Pasting.{PastedTextIsBeforeItsMark, PastedTextIsCutOff};
 
 /// A full drawing shows the value that it was given, whatever stood from its top on, and keeps the rows
 /// above.
@@ -20,6 +23,17 @@ pub fn calls()
     ensures { CallsLead }
 {}
 
+/// Where a short insertion is offered, its byte leads to the line with the character.
+pub fn short_insertions()
+    ensures { TypingLeads }
+{}
+
+/// Where a short kill is offered, a move and the erasure of the row's end lead to the line without its
+/// end.
+pub fn short_kills()
+    ensures { KillingLeads }
+{}
+
 /// Calls one after the other lead from what is shown before them to what is shown behind them.
 pub fn chains()
     ensures { ChainsLead }
@@ -35,8 +49,29 @@ pub fn cells()
     ensures { CellsAreShown }
 {}
 
+/// Any characters are read back from their bytes, whatever follows these.
+pub fn encoded_characters_are_read()
+    ensures { EncodedCharsAreRead }
+{}
+
+/// Each character that is read is a scalar value and came from its bytes alone. Where none is read the bytes are at
+/// their end, or cut off inside a character, or one of them fits no character.
+pub fn characters_are_encoded()
+    ensures { CharsAreEncoded }
+{}
+
 /// Bytes that are whole keys and pasted texts read as these whatever follows them, unless the last one is ESC.
 #[tactic(auto, using(crate::proofs::FollowingLemmas::whole_keys_stay))]
 pub fn whole_keys_stay()
     ensures { WholeKeysStay }
+{}
+
+/// A pasted text is what stands before the first end mark, each CR LF and CR in it a newline.
+pub fn pasted_text_is_before_its_mark()
+    ensures { PastedTextIsBeforeItsMark }
+{}
+
+/// A pasted text whose end mark doesn't come is cut off where the characters stop.
+pub fn pasted_text_is_cut_off()
+    ensures { PastedTextIsCutOff }
 {}

@@ -7,7 +7,9 @@ pub mod laws;
 pub mod measuring;
 pub mod reading;
 pub mod renderer;
+pub mod short;
 
 pub use measuring::measure;
 pub use reading::reader::KeyReader;
 pub use renderer::ScreenRenderer;
+pub use short::{short_insertion, short_kill};

@@ -1,5 +1,15 @@
-//! Readers, lines and handlers for tests.
+//! Bytes read as keys and pasted texts: tests.
 #![tactic(auto)]
 
 #[cfg(test)]
-mod key_reading;
+mod characters;
+#[cfg(test)]
+mod items;
+#[cfg(test)]
+mod pastes;
+#[cfg(test)]
+mod rows;
+#[cfg(test)]
+mod sequences;
+#[cfg(test)]
+mod sources;

@@ -4,7 +4,7 @@ ghost use Rattle.std.specs.Prelude.{[], false};
 
 use line_buffer::{GraphemeClusterMode, Layout, Position};
 use line_config::{BellStyle, DeviceFailed, ReadlineError, Sink, VecSink};
-use line_screen::{ScreenRenderer, laws, measure};
+use line_screen::{ScreenRenderer, laws, measure, short_insertion, short_kill};
 use std::test::Fail;
 
 /// A line with its cursor, and what stands around it.
@@ -290,6 +290,56 @@ fn measures(rt: HostRuntime) {
     }
 }
 
+#[test]
+fn short_insertions_are_printable_ascii_with_room_to_its_right(rt: HostRuntime) {
+    let end = |col| Position { row: 2, col };
+    // the line's end, the character, whether its byte is enough
+    for (col, c, short) in [
+        (5, 'x', true),
+        (5, ' ', true),
+        (5, '~', true),
+        (5, '\u{7F}', false),
+        (5, '\t', false),
+        (5, '\n', false),
+        // a column wide, no column wide, and two columns wide
+        (5, '\u{E9}', false),
+        (5, '\u{301}', false),
+        (5, '\u{6F22}', false),
+        (78, 'x', true),
+        (79, 'x', false),
+        (80, 'x', false),
+        (65535, 'x', false),
+    ] {
+        let col: u16 = col;
+        let want = if short {
+            Some(end(col.saturating_add(1)))
+        } else {
+            None
+        };
+        assert_eq!(rt; short_insertion(end(col), c, 80), want, "{c:?} at {col}");
+    }
+}
+
+#[test]
+fn short_kills_are_printable_ascii_in_one_row(rt: HostRuntime) {
+    let end = |col| Position { row: 2, col };
+    // the line's end, what is killed, where the cursor goes
+    for (col, killed, to) in [
+        (5, "abc", Some(2)),
+        (5, "abcde", Some(0)),
+        (5, "", Some(5)),
+        (5, "abcdef", None),
+        (5, "a\u{E9}", None),
+        (5, "a\n", None),
+    ] {
+        assert_eq!(rt;
+            short_kill(end(col), killed),
+            to.map(end),
+            "{killed:?} before {col}"
+        );
+    }
+}
+
 /// A sink that fails for good after so many writes.
 #[derive(Drop)]
 struct FailsAfter {
@@ -418,6 +468,8 @@ fn has_laws(_: HostRuntime) {
     laws::full_drawing();
     laws::start();
     laws::calls();
+    laws::short_insertions();
+    laws::short_kills();
     laws::chains();
     laws::meaning();
     laws::cells();
