@@ -1,11 +1,14 @@
 -- Two listeners, the last of which is a record.
-use Rattle.std.proofs.Common.{◌≡◌, ap, ◌∙◌, inl, inr}
+use Rattle.std.proofs.Common.{◌≡◌, List, refl, sym, ap, subst, ◌∙◌, inl, inr}
+use Rattle.std.specs.Prelude.{ℕ, IsUtf8}
 use Rattle.line_buffer.specs.Event.{Event}
+use Rattle.line_buffer.specs.Replay.{Reports, StopsAmong}
 use Rattle.line_record.specs.declared.joined.Joined.{Joined}
-use Rattle.line_record.specs.Items.{Items, RecordedIn}
+use Rattle.line_record.specs.Items.{Items, ItemsStand, RecordedIn}
+use Rattle.line_record.specs.Names.{SameNames}
 use Rattle.line_record.specs.Runs.{recorded_all}
 use Rattle.line_record.specs.Together.{joined_takes, joined_refuses, RefusalsLeaveNoUnmadeChange}
-use Rattle.line_record.proofs.RunLemmas.{part_stopped}
+use Rattle.line_record.proofs.RunLemmas.{part_told, part_stopped, kept_by_all}
 
 pub refusals_leave_no_unmade_change : {A : Type 0} (first first_refuses : A → Event → A → Type 0) → RefusalsLeaveNoUnmadeChange first first_refuses
 refusals_leave_no_unmade_change {A} first first_refuses events s t before after h u call =
@@ -17,3 +20,39 @@ refusals_leave_no_unmade_change {A} first first_refuses events s t before after 
       stand = both.0.stand;
       held = both.0.held ∙ ap (recorded_all call.closing after) both.1.held;
     }
+
+-- the record's changes stand on the line's text, where both were told, and where one refused
+pub joined_stand : {A : Type 0} (first : A → Event → A → Type 0) {events : List Event} {s t : Joined A Items} {before after : List ℕ} → ItemsStand s.second.now before → IsUtf8 before
+    → Reports (joined_takes first RecordedIn) events s t before after → ItemsStand t.second.now after
+joined_stand {A} first h u r = (part_told (joined_takes first RecordedIn) (λ j. j.second.now) (λ x e y k. k.1.1) h u r).stand
+
+pub joined_stand_refused : {A : Type 0} (first first_refuses : A → Event → A → Type 0) {events : List Event} {s t : Joined A Items} {before after : List ℕ}
+    → ItemsStand s.second.now before → IsUtf8 before
+    → StopsAmong (joined_takes first RecordedIn) (joined_refuses first first_refuses (λ x e y. y ≡ x)) events s t before after → ItemsStand t.second.now after
+joined_stand_refused first first_refuses {events} {s} {t} {before} {after} h u call = (refusals_leave_no_unmade_change first first_refuses events s t before after h u call).stand
+
+-- they stay the same two
+module _ {A B : Type 0} (first first_refuses : A → Event → A → Type 0) (second second_refuses : B → Event → B → Type 0) where
+  Same : Joined A B → Joined A B → Type 0
+  Same s t = SameNames s.first s.second t.first t.second
+
+  same : (s : Joined A B) → Same s s
+  unfolding Same
+  same s = record { first_same = refl; second_same = refl }
+
+  chained : (s t u : Joined A B) → Same s t → Same t u → Same s u
+  unfolding Same
+  chained s t u h k = record { first_same = k.first_same ∙ h.first_same; second_same = k.second_same ∙ h.second_same }
+
+  pub joined_names : {events : List Event} {s t : Joined A B} {before after : List ℕ} → Reports (joined_takes first second) events s t before after
+      → SameNames s.first s.second t.first t.second
+  unfolding Same
+  joined_names {events} {s} {t} r = kept_by_all (joined_takes first second) Same same chained (λ x e y k. k.0) events s t r.told
+
+  pub joined_names_refused : {events : List Event} {s t : Joined A B} {before after : List ℕ}
+      → StopsAmong (joined_takes first second) (joined_refuses first first_refuses second_refuses) events s t before after → SameNames s.first s.second t.first t.second
+  unfolding Same
+  joined_names_refused {events} {s} {t} call =
+      let stopped : Same call.between call.left =
+      elim call.stopped [ inl k ↦ subst (Same call.between) (sym k) (same call.between) | inr (e, k) ↦ k.0 ] in
+      chained s call.between t (joined_names call.reported) (chained call.between call.left t stopped (joined_names call.closed))

@@ -2,13 +2,16 @@ pub mod CourseLemmas
 pub mod DirectedLemmas
 pub mod EndLemmas
 pub mod Exchange
+pub mod GroupLaws
 pub mod JoinedLaws
 pub mod KillLaws
 pub mod NotedLemmas
 pub mod RecordLaws
 mod RecordRows
+pub mod RingLaws
 pub mod RingLemmas
 mod RingRows
+pub mod RootLaws
 pub mod RunLemmas
 pub mod StepLemmas
 pub mod StoredLemmas

@@ -18,7 +18,7 @@ replayed_done (x ∷ items) text h u =
 pub record_gives_the_text : RecordGivesTheText
 record_gives_the_text s text h u = replayed_done s.done text h.0 u
 
-no_mark : (held : List Held) → has_mark held ≡ false → (ended held ≡ held) × (closes held ≡ false)
+pub no_mark : (held : List Held) → has_mark held ≡ false → (ended held ≡ held) × (closes held ≡ false)
 no_mark [] h = (refl, refl)
 no_mark (Opened text ∷ held) h = cc
 no_mark (Stepped text place newest joinable ∷ held) h =

@@ -37,6 +37,15 @@ undo_past_everything_leaves_nothing = refl
 redo_makes_the_older_step : line_ahead (ahead_back 9 two_steps (codes "ab c") []) (at [] 0) ≡ at (codes "ab") 2
 redo_makes_the_older_step = refl
 
+redo_of_a_deletion_goes_to_its_place : line_ahead (ahead_back 1 (Stepped (codes "abc") 3 (Deleted 1 (codes "bc")) true ∷ []) (codes "a") []) (at (codes "abc") 3) ≡ at (codes "a") 1
+redo_of_a_deletion_goes_to_its_place = refl
+
+redo_of_a_replacement_goes_behind_it : line_ahead (ahead_back 1 (Stepped (codes "ab") 2 (Replaced 0 (codes "ab") (codes "xyz")) true ∷ []) (codes "xyz") []) (at (codes "ab") 0) ≡ at (codes "xyz") 3
+redo_of_a_replacement_goes_behind_it = refl
+
+redo_of_a_mark_leaves_the_cursor : line_ahead (ahead_back 1 (Opened (codes "ab") ∷ []) (codes "ab") []) (at (codes "ab") 1) ≡ at (codes "ab") 1
+redo_of_a_mark_leaves_the_cursor = refl
+
 an_empty_group_is_taken_off : ended (Opened (codes "ab c") ∷ two_steps) ≡ two_steps
 an_empty_group_is_taken_off = refl
 

@@ -3,6 +3,10 @@ use Rattle.std.proofs.Common.{◌≡◌, ℕ, List, [], ◌∷◌, Option, Some,
 use Rattle.std.specs.Prelude.{codes, slice_get}
 use Rattle.line_buffer.specs.declared.types.Mode.TheVariants.{Append, Prepend}
 use Rattle.line_record.specs.declared.kill_ring.Action.TheVariants.{Other}
+use Rattle.line_buffer.specs.Event.Event.{StartKilling, StopKilling, Delete, InsertChar}
+use Rattle.line_buffer.specs.declared.types.Direction.TheVariants.{Forward, Backward}
+use Rattle.line_record.specs.Kills.{RingCall, no_kills, all_kills_after, ring_after_all, newest_first}
+use Rattle.line_record.specs.Kills.RingCall.{Taken, Heard, Ended, Lent}
 use Rattle.line_record.specs.Ring.{Ring, new_ring, killed, yanked, turned, exchanged}
 
 abbrev ended_run : Ring → Ring
@@ -35,3 +39,21 @@ a_full_ring_forgets_the_oldest = refl
 
 nothing_turns_without_a_yank : exchanged (killed (codes "a") Append (new_ring 2)) ≡ None
 nothing_turns_without_a_yank = refl
+
+-- a run of two kills, a kill by itself, and a run of a deletion on and a deletion back between the marks of killing, with a letter
+-- typed between them
+three_runs : List RingCall
+three_runs = Taken (codes "b") Append ∷ (Taken (codes "a") Prepend ∷ (Ended ∷ (Taken (codes "c") Append ∷ (Lent ∷ (Heard (Delete 0 (codes "x") Forward)
+    ∷ (Heard StartKilling ∷ (Heard (Delete 0 (codes "e") Forward) ∷ (Heard (InsertChar 0 102) ∷ (Heard (Delete 0 (codes "d") Backward) ∷ (Heard StopKilling ∷ []))))))))))
+
+the_runs_are_three : (all_kills_after three_runs no_kills).runs ≡ codes "de" ∷ (codes "c" ∷ (codes "ab" ∷ []))
+unfolding three_runs all_kills_after
+the_runs_are_three = refl
+
+a_ring_of_two_holds_the_last_two : newest_first (ring_after_all three_runs (new_ring 2)) ≡ codes "de" ∷ (codes "c" ∷ [])
+unfolding three_runs ring_after_all
+a_ring_of_two_holds_the_last_two = refl
+
+a_larger_ring_holds_all : newest_first (ring_after_all three_runs (new_ring 5)) ≡ codes "de" ∷ (codes "c" ∷ (codes "ab" ∷ []))
+unfolding three_runs ring_after_all
+a_larger_ring_holds_all = refl

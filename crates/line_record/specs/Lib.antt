@@ -2,6 +2,7 @@ pub mod Course
 pub mod Edit
 pub mod Held
 pub mod Items
+pub mod Kills
 pub mod Laws
 pub mod Names
 pub mod Props

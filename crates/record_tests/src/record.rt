@@ -3,7 +3,9 @@
 ghost use Rattle.line_record.specs.Items.{ItemsStand};
 ghost use Rattle.line_record.specs.Props.{ItemsStand-prop};
 
-use line_buffer::{DeleteListener, Direction, LineBuffer, Mode, NoListener, OutOfMemory};
+use line_buffer::{
+    DeleteListener, Direction, LineBuffer, Mode, NoListener, OutOfMemory, WordAction,
+};
 use line_record::{Changeset, Joined, KillRing};
 use std::alloc::Global;
 use std::process::Abort;
@@ -47,6 +49,10 @@ impl Desk {
 
     fn delete(&mut self, n: u16) -> Result<(), OutOfMemory> {
         take_after(self.alloc, &mut self.line, &mut self.changes, n)
+    }
+
+    fn raise(&mut self) -> Result<(), OutOfMemory> {
+        raise(self.alloc, &mut self.line, &mut self.changes)
     }
 
     fn begin(&mut self) -> Result<usize, OutOfMemory> {
@@ -120,6 +126,15 @@ fn take_after(
 {
     let _text = line.as_str();
     line.delete(alloc, n, changes)?;
+    Ok(())
+}
+
+fn raise(alloc: Global, line: &mut LineBuffer, changes: &mut Changeset) -> Result<(), OutOfMemory>
+    requires { ItemsStand changes.old line.old.text }
+    ensures { ItemsStand changes.new line.new.text }
+{
+    let _text = line.as_str();
+    line.edit_word(alloc, WordAction::Uppercase, changes)?;
     Ok(())
 }
 
@@ -304,6 +319,40 @@ fn open_marks_undone(rt: HostRuntime) -> Result<(), Fail> {
     assert!(rt; !desk.redo()?);
     assert!(rt; desk.redo()?);
     assert_eq!(rt; desk.line.as_str(), "ab");
+    Ok(())
+}
+
+#[test]
+fn each_kind_made_anew(rt: HostRuntime) -> Result<(), Fail> {
+    let alloc = rt.alloc();
+    let mut desk = Desk::new(alloc, "one two")?;
+    desk.line.move_buffer_start();
+    desk.raise()?;
+    assert!(rt; desk.undo(1)?);
+    assert_eq!(rt; desk.line.as_str(), "one two");
+    assert_eq!(rt; desk.line.pos(), 3);
+    desk.line.move_buffer_start();
+    assert!(rt; desk.redo()?);
+    assert_eq!(rt; desk.line.as_str(), "ONE two");
+    assert_eq!(rt; desk.line.pos(), 3);
+
+    desk.line.move_buffer_end();
+    desk.paste("!!")?;
+    desk.backspace(1)?;
+    assert!(rt; desk.undo(2)?);
+    assert_eq!(rt; desk.line.as_str(), "ONE two");
+    assert_eq!(rt; desk.line.pos(), 7);
+    assert!(rt; desk.redo()?);
+    assert_eq!(rt; desk.line.as_str(), "ONE two!!");
+    assert_eq!(rt; desk.line.pos(), 9);
+    assert!(rt; desk.redo()?);
+    assert_eq!(rt; desk.line.as_str(), "ONE two!");
+    assert_eq!(rt; desk.line.pos(), 8);
+    assert!(rt; !desk.redo()?);
+
+    assert!(rt; desk.undo(u16::MAX)?);
+    assert_eq!(rt; desk.line.as_str(), "one two");
+    assert!(rt; !desk.undo(u16::MAX)?);
     Ok(())
 }
 
