@@ -1,8 +1,10 @@
 #!/usr/bin/env python3
-"""Each edit of a line with each growth refused in turn: text, cursor and events stand together after it.
+"""Each edit of a line with each growth refused in turn: text, cursor and events stand together after it; so each call
+that the undo record and the kill ring hear of, and each call of a history.
 
-`./test` builds crates/growth_tests and the shim of tests/growth.py first. The program makes one edit a row and says
-itself whether the text is what the events make of it. Here each call for memory of its run is refused once.
+`./test` builds crates/growth_tests and the shim of tests/growth.py first. The program makes one call a row and says
+itself whether what it left is right: WRONG where it isn't, "not begun" where the refusal came before the call, and "not
+judged" where it came after. Here each call for memory of its run is refused once.
 """
 import os
 import pathlib
@@ -14,6 +16,17 @@ from checks import HUNG, TOP, Failed, run_all, same
 SHIM = os.path.join(TOP, "build", "refuse_growth.so")
 PROGRAM = pathlib.Path(TOP) / "crates" / "growth_tests" / "out" / "growth_tests"
 MOST = 10000
+
+# Rows of calls that grow, so that each of them must have been refused once at least.
+GROWING = {
+    "insert", "update", "yank", "indent",
+    "letter recorded", "letter joined", "paste recorded", "backspace recorded", "backspace joined", "replacement joined",
+    "update recorded", "edit_word recorded", "transpose_words recorded", "indent recorded",
+    "kill in the ring", "kill joined in the ring", "kill over the oldest",
+    "end", "undo", "undo of all", "redo of all", "last_insert", "copy of the record",
+    "history add", "history add where full", "history add_owned", "history load_from", "history save_to",
+    "history append_to", "history hint",
+}
 
 
 def rows_of(ran):
@@ -38,13 +51,13 @@ def each_growth_refused():
                 same("rows of a run with ample memory that are not done", words, [])
                 break
             os.remove(report)
-            if len(words) != 1 or words[0] not in ("refused", "not begun"):
+            if len(words) != 1 or words[0] not in ("refused", "not begun", "not judged"):
                 raise Failed(f"call {number}: {rows}")
             refused.update(name for name, word in rows if word == "refused")
         else:
             raise Failed(f"{MOST} calls, and no end")
     print(f"calls refused in turn: {number - 1}; refused once at least: {', '.join(sorted(refused))}", flush=True)
-    same("whether edits that grow were refused", {"insert", "update", "yank", "indent"} <= refused, True)
+    same("rows of calls that grow and were never refused", sorted(GROWING - refused), [])
 
 
 if __name__ == "__main__":

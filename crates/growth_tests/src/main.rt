@@ -1,8 +1,12 @@
-//! Each edit of a line, with a listener that makes the events it is told on a text of its own. A row for each edit says
-//! whether it was done or refused, and whether line and listener have the same text and settings then. `tests/growth.py`
-//! runs this with each growth of memory refused in turn.
+//! Each edit of a line, with a listener that makes the events it is told on a text of its own, each call of the undo
+//! record and of the kill ring, and each call of a history. A row for each says whether it was done or refused, and
+//! whether what it left is right. `tests/edit_growth.py` runs this with each growth of memory refused in turn.
 #![tactic(auto)]
 
+mod desk;
+mod histories;
+mod record_cases;
+mod row_sink;
 mod shadow;
 
 use line_buffer::{
@@ -195,5 +199,6 @@ fn main(rt: HostRuntime) -> io::Result<()> {
     for (edit, name) in EDITS {
         check(&rt, rt.alloc(), edit, name)?;
     }
-    Ok(())
+    record_cases::check_all(&rt, rt.alloc())?;
+    histories::check(&rt, rt.alloc())
 }

@@ -15,7 +15,7 @@ pub struct Shadow {
 }
 
 impl Shadow {
-    pub fn new(alloc: Global, text: &str) -> Result<Shadow, OutOfMemory> {
+    pub(crate) fn new(alloc: Global, text: &str) -> Result<Shadow, OutOfMemory> {
         let mut line = LineBuffer::with_capacity(alloc, ROOM)?;
         line.replace(alloc, 0..0, text, &mut NoListener)?;
         Ok(Shadow {
@@ -26,7 +26,7 @@ impl Shadow {
     }
 
     /// Whether the events make this text, and no kill is left open.
-    pub fn agrees(&self, text: &str) -> bool {
+    pub(crate) fn agrees(&self, text: &str) -> bool {
         self.fitted && !self.killing && self.line.as_str() == text
     }
 

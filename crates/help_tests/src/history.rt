@@ -1,6 +1,6 @@
-//! Histories: worked rows, texts of every kind, and devices that fail at each byte in turn.
+//! Histories: worked rows, and texts of every kind.
 
-use line_config::{Config, DeviceFailed, ReadlineError, Sink, SliceSource, VecSink};
+use line_config::{Config, Configurer, ReadlineError, SliceSource, VecSink};
 use line_help::{
     Context, FileHistory, Hint, Hinter, History, HistoryHinter, MemHistory, SearchDirection,
 };
@@ -8,7 +8,7 @@ use std::alloc::Global;
 use std::test::Fail;
 
 /// The rows of a history, a bar behind each entry.
-fn shown(rt: &impl AllocGlobal, history: &FileHistory) -> Result<String, Fail> {
+pub(crate) fn shown(rt: &impl AllocGlobal, history: &FileHistory) -> Result<String, Fail> {
     let mut text = String::new(rt.alloc());
     for entry in history {
         text.push_str(entry.as_str())?;
@@ -17,7 +17,7 @@ fn shown(rt: &impl AllocGlobal, history: &FileHistory) -> Result<String, Fail> {
     Ok(text)
 }
 
-fn with_lines(alloc: Global, lines: &[&str]) -> Result<FileHistory, Fail> {
+pub(crate) fn with_lines(alloc: Global, lines: &[&str]) -> Result<FileHistory, Fail> {
     let mut history = FileHistory::new(alloc);
     for line in lines {
         history.add(alloc, line)?;
@@ -25,7 +25,7 @@ fn with_lines(alloc: Global, lines: &[&str]) -> Result<FileHistory, Fail> {
     Ok(history)
 }
 
-fn saved(rt: &impl AllocGlobal, history: &mut FileHistory) -> Result<VecSink, Fail> {
+pub(crate) fn saved(rt: &impl AllocGlobal, history: &mut FileHistory) -> Result<VecSink, Fail> {
     let mut sink = VecSink::new(rt.alloc());
     history.save_to(&mut sink)?;
     Ok(sink)
@@ -75,81 +75,75 @@ fn texts_that_are_refused(rt: HostRuntime) -> Result<(), Fail> {
     Ok(())
 }
 
+/// Loading goes by the history's own settings, as adding does.
 #[test]
-fn sources_that_fail_at_each_byte(rt: HostRuntime) -> Result<(), Fail> {
-    let text = b"#V2\na\\nb\nc\nd";
+fn texts_under_other_settings(rt: HostRuntime) -> Result<(), Fail> {
+    let text = b"#V2\na\na\n b\n\xe3\x80\x80c\nd\n".as_slice();
+    // The size, whether spaces and whether repeated lines are ignored, the entries, and whether all were taken.
     let rows = [
-        "", "", "", "", "", "", "", "", "", "a\nb|", "a\nb|", "a\nb|c|", "a\nb|c|",
+        (100, false, false, "a|a| b|\u{3000}c|d|", true),
+        (100, false, true, "a| b|\u{3000}c|d|", false),
+        (100, true, false, "a|a|d|", false),
+        (100, true, true, "a|d|", false),
+        (2, false, false, "\u{3000}c|d|", true),
+        (1, false, false, "d|", true),
+        (1, true, true, "d|", false),
+        (0, false, false, "", false),
     ];
-    for (count, entries) in rows.iter().enumerate() {
-        let part = &text[..count.min(text.len())];
+    for (size, spaces, repeated, entries, whole) in rows {
         let mut history = FileHistory::new(rt.alloc());
-        let answer = history.load_from(rt.alloc(), &mut SliceSource::failing_after(part));
-        assert!(rt; answer == Err(ReadlineError::Reader), "after {count} bytes");
-        assert_eq!(rt; shown(&rt, &history)?.as_str(), *entries);
+        history.set_max_len(size);
+        history.ignore_space(spaces);
+        history.ignore_dups(repeated);
+        let answer = history.load_from(rt.alloc(), &mut SliceSource::new(text));
+        assert!(rt; answer == Ok(whole), "size {size}");
+        assert_eq!(rt; shown(&rt, &history)?.as_str(), entries);
     }
     Ok(())
 }
 
-/// A sink that takes so many calls and then fails.
-#[derive(Drop)]
-struct Few {
-    left: usize,
-    failed: bool,
-}
-
-impl Sink for Few {
-    ghost use Rattle.std.specs.Prelude.{false, []};
-
-    ghost told = { λ s. false };
-
-    ghost held = { λ s. [] };
-
-    ghost has_failed = { λ s. s.failed };
-
-    fn write(&mut self, _bytes: &[u8]) -> Result<(), DeviceFailed> {
-        self.flush()
-    }
-
-    fn flush(&mut self) -> Result<(), DeviceFailed> {
-        if self.failed || self.left == 0 {
-            self.failed = true;
-            return Err(DeviceFailed);
-        }
-        self.left -= 1;
-        Ok(())
-    }
-
-    fn failed(&self) -> bool {
-        self.failed
-    }
-}
-
+/// The settings of a configuration are those of a history made with it.
 #[test]
-fn sinks_that_fail_at_each_call(rt: HostRuntime) -> Result<(), Fail> {
-    let mut history = with_lines(rt.alloc(), &["a\\", "b"])?;
-    let mut refused = 0usize;
-    for left in 0..20 {
-        let mut sink = Few {
-            left,
-            failed: false,
-        };
-        if history.save_to(&mut sink).is_ok() {
-            break;
-        }
-        refused = refused.saturating_add(1);
-        assert!(rt; sink.failed());
-        let mut sink = Few {
-            left: left.min(4),
-            failed: false,
-        };
-        assert!(rt; history.append_to(&mut sink) == Err(ReadlineError::HistoryText));
+fn histories_of_a_configuration(rt: HostRuntime) -> Result<(), Fail> {
+    let mut config = Config::default();
+    let _ = config.set_max_history_size(2);
+    let _ = config.set_history_ignore_dups(false);
+    config.set_history_ignore_space(true);
+    let mut history = FileHistory::with_config(rt.alloc(), &config);
+    for line in ["a", "b", "b", " c"] {
+        history.add(rt.alloc(), line)?;
     }
-    assert_eq!(rt; refused, 7);
-    assert!(rt;
-        saved(&rt, &mut history)?.bytes().is_empty(),
-        "a save that passed leaves nothing new"
-    );
+    assert_eq!(rt; shown(&rt, &history)?.as_str(), "b|b|");
+    Ok(())
+}
+
+/// What is appended behind a saved text, with more lines added than the history keeps, and the first of them like the last
+/// one saved: the list comes back all the same, and so it does after a second round.
+#[test]
+fn appended_texts_come_back(rt: HostRuntime) -> Result<(), Fail> {
+    let alloc = rt.alloc();
+    let mut history = FileHistory::new(alloc);
+    history.set_max_len(2);
+    history.add(alloc, "a")?;
+    history.add(alloc, "b")?;
+    let mut text = VecSink::new(alloc);
+    history.save_to(&mut text)?;
+    for (lines, entries, whole) in [
+        (["c", "b", "d"], "b|d|", "#V2\na\nb\nb\nd\n"),
+        (["d", "\n", "e"], "\n|e|", "#V2\na\nb\nb\nd\n\\n\ne\n"),
+    ] {
+        for line in lines {
+            history.add(alloc, line)?;
+        }
+        history.append_to(&mut text)?;
+        assert_eq!(rt; text.bytes(), whole.as_bytes());
+        history = FileHistory::new(alloc);
+        history.set_max_len(2);
+        let answer = history.load_from(alloc, &mut SliceSource::new(text.bytes()));
+        assert!(rt; answer == Ok(false), "a repeated row is ignored");
+        assert_eq!(rt; shown(&rt, &history)?.as_str(), entries);
+        assert!(rt; saved(&rt, &mut history)?.bytes().is_empty());
+    }
     Ok(())
 }
 

@@ -1,5 +1,13 @@
-//! Tests that cross crates: histories and their texts.
+//! Tests that cross crates: histories and their texts, brackets, helpers and prompts.
 #![tactic(auto)]
 
+#[cfg(test)]
+mod brackets;
+#[cfg(test)]
+mod completion;
+#[cfg(test)]
+mod failing;
+#[cfg(test)]
+mod helpers;
 #[cfg(test)]
 mod history;

@@ -1,5 +1,7 @@
 -- What the readers and lines of the tests mean.
-use Rattle.std.specs.Prelude.{◌≡◌, [], ◌∷◌, ◌++◌, false, None, map, is_some}
+use Rattle.std.specs.Prelude.{⊤, ◌≡◌, [], ◌∷◌, ◌++◌, false, None, Some, map, is_some}
+use Rattle.line_config.specs.declared.errors.ReadlineError.{ReadlineError}
+use Rattle.line_config.specs.declared.errors.ReadlineError.TheVariants.{Eof, Interrupted, NotUtf8, PasteOutOfPlace, Reader, Display, Lines, HistoryText, Helper, Handler, Memory}
 use Rattle.line_keys.specs.Coming.{Coming}
 use Rattle.line_keys.specs.Refreshing.{Shown, Ask}
 use Rattle.line_keys.specs.Refreshing as ask
@@ -32,3 +34,17 @@ MakesRequest before a after = map request_made after.requests.items ≡ map requ
 abbrev pub shown_after : Shown → Ask → Shown
 shown_after s (ask.Message text kind) = record s { hinted = false; completion = None }
 shown_after s a = s
+
+-- memory may be wanting at any call; the display fails where no more requests are answered
+abbrev pub HasReason : PlainLine → ReadlineError → Type 0
+HasReason l Memory = ⊤
+HasReason l Display = l.answered ≡ Some 0
+HasReason l Eof = ⊥
+HasReason l Interrupted = ⊥
+HasReason l NotUtf8 = ⊥
+HasReason l PasteOutOfPlace = ⊥
+HasReason l Reader = ⊥
+HasReason l Lines = ⊥
+HasReason l HistoryText = ⊥
+HasReason l Helper = ⊥
+HasReason l Handler = ⊥

@@ -7,6 +7,42 @@ use line_config::HookFault;
 use line_keys::{Cmd, ConditionalEventHandler, Event, EventContext};
 use std::alloc::Global;
 
+/// Answers in one way, whatever it is shown.
+#[derive(Drop)]
+pub enum OneWay {
+    /// What it is shown of the count: `Undo` of it, or `TransposeWords` where it is negative.
+    Count,
+    /// No command.
+    Nothing,
+    /// That it failed.
+    Fails,
+    /// That it wants memory.
+    WantsMemory,
+}
+
+impl ConditionalEventHandler for OneWay {
+    ghost use Rattle.key_tests.specs.Handlers.{one_way};
+
+    ghost meaning = { one_way };
+
+    fn handle(
+        &self,
+        _: Global,
+        _: &Event,
+        n: RepeatCount,
+        positive: bool,
+        _: &EventContext<'_>,
+    ) -> Result<Option<Cmd>, HookFault> {
+        match self {
+            OneWay::Count if positive => Ok(Some(Cmd::Undo(n))),
+            OneWay::Count => Ok(Some(Cmd::TransposeWords(n))),
+            OneWay::Nothing => Ok(None),
+            OneWay::Fails => Err(HookFault::Failed),
+            OneWay::WantsMemory => Err(HookFault::Memory),
+        }
+    }
+}
+
 /// Takes the hint at the end of the line, kills what follows elsewhere, and fails in an empty line.
 #[derive(Drop)]
 pub struct HintOrKill {

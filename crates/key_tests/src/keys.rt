@@ -64,6 +64,13 @@ impl<'t> KeyList<'t> {
         }
     }
 
+    /// What was not read yet.
+    pub fn left(&self) -> &[Typed]
+        ensures { result.now ≡ self.now.typed.now }
+    {
+        self.typed
+    }
+
     // Keeps a refusal, unless it is the end of the input.
     fn refuse(&mut self, why: ReadlineError) -> ReadlineError
         requires { IsReaderRefusal why }

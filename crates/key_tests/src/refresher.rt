@@ -20,6 +20,8 @@ pub enum Request {
 #[derive(Drop)]
 pub struct PlainLine {
     alloc: Global,
+    /// How many more requests are answered, if not all: the display fails at the next one.
+    pub answered: Option<u32>,
     pub text: Text,
     /// The place of the cursor, in bytes.
     pub pos: usize,
@@ -30,8 +32,7 @@ pub struct PlainLine {
 
 impl PlainLine {
     ghost use Rattle.std.specs.Prelude.{◌++◌, ◌∷◌, [], IfOk, IfErr, OnOk, length, false, None};
-    ghost use Rattle.key_tests.specs.Reading.{shown_of, MakesRequest, request_made};
-    ghost use Rattle.line_config.specs.declared.errors.ReadlineError.{ReadlineError};
+    ghost use Rattle.key_tests.specs.Reading.{shown_of, MakesRequest, request_made, HasReason};
 
     pub fn new(alloc: Global, text: Text) -> Self
         ensures { shown_of result ≡ record { line = text; place = length text; hinted = false; completion = None; last_insert = None } }
@@ -39,6 +40,7 @@ impl PlainLine {
         let pos = text.as_str().len();
         PlainLine {
             alloc,
+            answered: None,
             text,
             pos,
             hint: None,
@@ -51,8 +53,13 @@ impl PlainLine {
     fn keep(&mut self, request: Request) -> Result<(), ReadlineError>
         ensures ok { OnOk result (MakesRequest self.old (request_made request) self.new) }
         ensures shows { OnOk result (shown_of self.new ≡ shown_of self.old) }
-        ensures err { IfErr result (λ e. e ≡ ReadlineError.Memory) }
+        ensures err { IfErr result (HasReason self.new) }
     {
+        match self.answered {
+            None => {}
+            Some(0) => return Err(ReadlineError::Display),
+            Some(n) => self.answered = Some(n - 1),
+        }
         match self.requests.push(request) {
             Ok(()) => Ok(()),
             Err(_) => Err(ReadlineError::Memory),
@@ -62,8 +69,7 @@ impl PlainLine {
 
 impl Refresher for PlainLine {
     ghost use Rattle.std.specs.Prelude.{◌≡◌};
-    ghost use Rattle.line_config.specs.declared.errors.ReadlineError.TheVariants.{Memory};
-    ghost use Rattle.key_tests.specs.Reading.{shown_of, MakesRequest, shown_after};
+    ghost use Rattle.key_tests.specs.Reading.{shown_of, MakesRequest, shown_after, HasReason};
 
     ghost shown = { shown_of };
 
@@ -71,7 +77,7 @@ impl Refresher for PlainLine {
 
     ghost asked = { MakesRequest };
 
-    ghost reason = { λ _ e. e ≡ Memory };
+    ghost reason = { HasReason };
 
     fn refresh_line(&mut self) -> Result<(), ReadlineError> {
         self.keep(Request::Line)

@@ -1,10 +1,14 @@
 -- Worked rows of the definitions of histories and of their text.
-use Rattle.std.proofs.Common.{◌≡◌, ℕ, ◌++◌, true, false, List, [], ◌∷◌, refl, Some, None}
+use Rattle.std.proofs.Common.{◌≡◌, ℕ, ◌++◌, true, false, List, [], ◌∷◌, refl, Some, None, Ok, Err}
 use Rattle.std.specs.Prelude.{codes}
-use Rattle.std.specs.Str.{chars}
+use Rattle.std.specs.Str.{chars, is_utf8}
+use lib.Utf8.{encode}
 use Rattle.line_config.specs.declared.device.Last.TheVariants.{End, Failed}
-use Rattle.line_help.specs.History.{Settings, filed_with_all, takes_all, nothing_filed, ignored, resized}
-use Rattle.line_help.specs.HistoryText.{rows_of, texts_of, has_header, text_to_save, text_to_append, header}
+use Rattle.line_config.specs.declared.errors.ReadlineError.TheVariants.{HistoryText, Reader}
+use Rattle.line_help.specs.Course.{Adds, Appends, Loads, after_steps, just_saved}
+use Rattle.line_help.specs.History.{Settings, filed_with_all, takes_all, nothing_filed, entries_kept, ignored, resized}
+use Rattle.line_help.specs.HistoryText.{rows_of, texts_of, has_header, text_to_save, text_to_append, header, load_answer, load_leaves}
+use Rattle.line_help.specs.Loaded.{loaded}
 use Rattle.line_help.specs.Search.{searched}
 use Rattle.line_help.specs.Hints.{history_hint}
 use Rattle.line_help.specs.declared.search.SearchDirection.TheVariants.{Forward, Reverse}
@@ -29,6 +33,18 @@ escapes_are_read_back = refl
 header_stands : has_header (rows_of End escaped_rows) ≡ true
 header_stands = refl
 
+escaped_text_is_loaded : loaded few escaped_rows ≡ record { kept = entries_kept read_entries few; unsaved = 0 }
+unfolding is_utf8 chars encode
+escaped_text_is_loaded = refl
+
+escaped_text_is_whole : load_answer End (rows_of End escaped_rows) (nothing_filed few) ≡ Ok true
+unfolding is_utf8 chars encode
+escaped_text_is_whole = refl
+
+nothing_to_save_behind_a_load : text_to_save (loaded few escaped_rows) ≡ []
+unfolding is_utf8 chars encode
+nothing_to_save_behind_a_load = refl
+
 none_is_ignored : takes_all (nothing_filed few) read_entries ≡ true
 none_is_ignored = refl
 
@@ -39,6 +55,31 @@ all_are_kept = refl
 without_header_no_escapes : texts_of (rows_of End (97 ∷ 92 ∷ 110 ∷ 98 ∷ [])) ≡ (97 ∷ 92 ∷ 110 ∷ 98 ∷ []) ∷ []
 without_header_no_escapes = refl
 
+no_header_no_true : load_answer End (rows_of End (97 ∷ 92 ∷ 110 ∷ 98 ∷ [])) (nothing_filed few) ≡ Ok false
+unfolding is_utf8 chars encode
+no_header_no_true = refl
+
+-- `#V2`, `a`, a byte that begins a character, `b`: the row before stays and is new
+abbrev bad_rows : List (List ℕ)
+bad_rows = rows_of End (header ++ 10 ∷ 97 ∷ 10 ∷ 195 ∷ 10 ∷ 98 ∷ 10 ∷ [])
+
+bad_row_refused : load_answer End bad_rows (nothing_filed few) ≡ Err HistoryText
+unfolding is_utf8 chars encode
+bad_row_refused = refl
+
+bad_row_leaves : load_leaves End bad_rows (nothing_filed few) ≡ record { kept = entries_kept (codes "a" ∷ []) few; unsaved = 1 }
+unfolding is_utf8 chars encode
+bad_row_leaves = refl
+
+-- the same rows from a source that fails behind them: the bad row is met first
+bad_row_before_a_failure : load_answer Failed bad_rows (nothing_filed few) ≡ Err HistoryText
+unfolding is_utf8 chars encode
+bad_row_before_a_failure = refl
+
+failure_behind_a_row : load_answer Failed (rows_of Failed (header ++ 10 ∷ 97 ∷ 10 ∷ 98 ∷ [])) (nothing_filed few) ≡ Err Reader
+unfolding is_utf8 chars encode
+failure_behind_a_row = refl
+
 -- new entry `x\y`
 backslash_is_doubled : text_to_save (filed_with_all (nothing_filed few) ((120 ∷ 92 ∷ 121 ∷ []) ∷ [])) ≡ header ++ 10 ∷ 120 ∷ 92 ∷ 92 ∷ 121 ∷ 10 ∷ []
 backslash_is_doubled = refl
@@ -48,6 +89,11 @@ nothing_new_nothing_saved = refl
 
 new_row_appended : text_to_append (filed_with_all (record { kept = record { entries = read_entries; settings = few }; unsaved = 0 }) (codes "z" ∷ [])) ≡ 122 ∷ 10 ∷ []
 new_row_appended = refl
+
+-- behind a first save: appended to, loaded, and appended to again
+text_of_a_course : (after_steps few (Adds (codes "b") ∷ Appends ∷ Loads ∷ Adds (codes "c") ∷ Appends ∷ []) (just_saved few (codes "a" ∷ []))).text ≡ header ++ 10 ∷ 97 ∷ 10 ∷ 98 ∷ 10 ∷ 99 ∷ 10 ∷ []
+unfolding is_utf8 chars encode
+text_of_a_course = refl
 
 -- carriage returns: one right before a newline goes, a last row keeps its own
 returns_before_newlines_go : rows_of End (97 ∷ 13 ∷ 13 ∷ 10 ∷ 13 ∷ 10 ∷ 98 ∷ 13 ∷ []) ≡ (97 ∷ 13 ∷ []) ∷ [] ∷ (98 ∷ 13 ∷ []) ∷ []

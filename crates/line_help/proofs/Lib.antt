@@ -1,6 +1,23 @@
+pub mod BalanceLemmas
+mod BracketRows
+pub mod CommonPrefixLemmas
+pub mod CompletionLawLemmas
+mod CompletionRows
+pub mod CourseLemmas
 pub mod EscapeLemmas
+pub mod FileNameLemmas
+pub mod HighlightLemmas
 mod HistoryRows
+pub mod InTurnLemmas
 pub mod LoadLemmas
+pub mod MatchLemmas
+pub mod MessageLemmas
+pub mod NearestLemmas
+pub mod NewestLemmas
+pub mod QuoteLemmas
 pub mod ReloadLemmas
 pub mod RowLemmas
 pub mod SearchLemmas
+pub mod SortLemmas
+pub mod ValidationLemmas
+pub mod WordBeforeLemmas

@@ -11,7 +11,8 @@ use Rattle.std.proofs.lemmas.Str.{IsUtf8-append, IsUtf8-from_is_utf8, IsUtf8-nil
 use Rattle.line_config.specs.declared.device.Last.TheVariants.{End}
 use Rattle.line_help.specs.History.{Settings, Filed, begins_with_space, newest_is, filed_with, filed_with_all, nothing_filed, all_saved, newest}
 use Rattle.line_help.specs.HistoryText.{escaped, escaped_byte, unescaped, entry_of, entries_of, row_of, rows_text, rows_of, saved_text, header, without_return, good_rows, has_bad_row, load_leaves, text_to_append}
-use Rattle.line_help.specs.Laws.{ends_in_return, CanComeBack, Reload, ReloadAppended, loaded, made_of}
+use Rattle.line_help.specs.Laws.{Reload, ReloadAppended}
+use Rattle.line_help.specs.Loaded.{ends_in_return, CanComeBack, loaded, made_of}
 use Rattle.line_help.proofs.EscapeLemmas.{plain_byte, no_byte}
 use Rattle.line_help.proofs.LoadLemmas.{loaded_leaves, header_is_utf8}
 use Rattle.line_help.proofs.RowLemmas.{cut_row, has_newline}
@@ -177,7 +178,7 @@ text_is : (none : Bool) (text : List ℕ) → (if none then [] else text) ≢ []
 text_is true text some = absurd (some refl)
 text_is false text some = refl
 
-can_both : (xs ys : List (List ℕ)) → CanComeBack xs → CanComeBack ys → CanComeBack (xs ++ ys)
+pub can_both : (xs ys : List (List ℕ)) → CanComeBack xs → CanComeBack ys → CanComeBack (xs ++ ys)
 can_both [] ys p q = q
 can_both (x ∷ xs) ys p q = (p.0, p.1, can_both xs ys p.2 q)
 

@@ -147,6 +147,21 @@ follows steady (Err Helper) = false
 follows steady (Err Handler) = false
 follows steady (Err Memory) = false
 
+-- whether a result says that the source failed
+abbrev pub says_reader : Result Bool ReadlineError → Bool
+says_reader (Ok whole) = false
+says_reader (Err Reader) = true
+says_reader (Err HistoryText) = false
+says_reader (Err Eof) = false
+says_reader (Err Interrupted) = false
+says_reader (Err NotUtf8) = false
+says_reader (Err PasteOutOfPlace) = false
+says_reader (Err Display) = false
+says_reader (Err Lines) = false
+says_reader (Err Helper) = false
+says_reader (Err Handler) = false
+says_reader (Err Memory) = false
+
 -- a row without the carriage return at its end
 abbrev pub without_return : List ℕ → List ℕ
 without_return [] = []

@@ -1,5 +1,5 @@
 //! Escapes in a saved history: a newline stands as `\n`, a backslash as two.
-ghost use Rattle.std.specs.Prelude.{◌≡◌, ◌++◌, IsTrue, IfOk, IfErr, OnOk, option_map, string_bytes};
+ghost use Rattle.std.specs.Prelude.{◌≡◌, ◌++◌, is_err, IsTrue, IfOk, IfErr, OnOk, option_map, string_bytes};
 ghost use Rattle.line_config.specs.declared.errors.ReadlineError.TheVariants.{HistoryText};
 ghost use Rattle.line_help.specs.HistoryText.{row_of, unescaped, entry_of};
 
@@ -10,7 +10,8 @@ use std::alloc::{AllocError, Global};
 pub(crate) fn put<S: Sink>(sink: &mut S, bytes: &[u8]) -> Result<(), ReadlineError>
     ensures text { IsTrue (S.told sink.old) → OnOk result (S.held sink.new ≡ S.held sink.old ++ bytes.now) }
     ensures told { IsTrue (S.told sink.old) → IsTrue (S.told sink.new) }
-    ensures error { IfErr result (λ e. (e ≡ HistoryText) × IsTrue (S.has_failed sink.new)) }
+    ensures error { IfErr result (λ e. e ≡ HistoryText) }
+    ensures failure { S.has_failed sink.new ≡ is_err result }
 {
     match sink.write(bytes) {
         Ok(()) => Ok(()),
@@ -22,7 +23,8 @@ pub(crate) fn put<S: Sink>(sink: &mut S, bytes: &[u8]) -> Result<(), ReadlineErr
 pub(crate) fn write_row<S: Sink>(sink: &mut S, entry: &str) -> Result<(), ReadlineError>
     ensures text { IsTrue (S.told sink.old) → OnOk result (S.held sink.new ≡ S.held sink.old ++ row_of entry.now) }
     ensures told { IsTrue (S.told sink.old) → IsTrue (S.told sink.new) }
-    ensures error { IfErr result (λ e. (e ≡ HistoryText) × IsTrue (S.has_failed sink.new)) }
+    ensures error { IfErr result (λ e. e ≡ HistoryText) }
+    ensures failure { S.has_failed sink.new ≡ is_err result }
 {
     let bytes = entry.as_bytes();
     for byte in bytes {

@@ -70,7 +70,7 @@ impl FileHistory {
 
 // Saving.
 impl FileHistory {
-    ghost use Rattle.std.specs.Prelude.{◌≡◌, ◌++◌, ◌≤◌, length, drop, IsTrue, IfErr, OnOk, OnErr};
+    ghost use Rattle.std.specs.Prelude.{◌≡◌, ◌++◌, ◌≤◌, length, drop, is_err, IsTrue, IfErr, OnOk, OnErr};
     ghost use Rattle.line_config.specs.declared.errors.ReadlineError.TheVariants.{HistoryText};
     ghost use Rattle.line_help.specs.History.{all_saved};
     ghost use Rattle.line_help.specs.HistoryText.{rows_text, text_to_save, text_to_append};
@@ -79,7 +79,8 @@ impl FileHistory {
     fn write_rows<S: Sink>(&self, sink: &mut S, first: usize) -> Result<(), ReadlineError>
         ensures text { IsTrue (S.told sink.old) → OnOk result (S.held sink.new ≡ S.held sink.old ++ rows_text (drop first self.now.kept.entries)) }
         ensures told { IsTrue (S.told sink.old) → IsTrue (S.told sink.new) }
-        ensures error { IfErr result (λ e. (e ≡ HistoryText) × IsTrue (S.has_failed sink.new)) }
+        ensures error { IfErr result (λ e. e ≡ HistoryText) }
+        ensures failure { S.has_failed sink.new ≡ is_err result }
     {
         for index in first..self.memory.len() {
             write_row(sink, self.memory[index].as_str())?;
@@ -98,6 +99,7 @@ impl FileHistory {
         ensures saved { OnOk result (self.new ≡ all_saved self.old) }
         ensures kept { OnErr result (self.new ≡ self.old) }
         ensures error { IfErr result (λ e. (e ≡ HistoryText) × IsTrue (S.has_failed sink.new)) }
+        ensures fine { OnOk result (IsTrue (S.has_failed sink.new) → IsTrue (S.has_failed sink.old)) }
     {
         if self.unsaved == 0 {
             return Ok(());
@@ -116,6 +118,7 @@ impl FileHistory {
         ensures saved { OnOk result (self.new ≡ all_saved self.old) }
         ensures kept { OnErr result (self.new ≡ self.old) }
         ensures error { IfErr result (λ e. (e ≡ HistoryText) × IsTrue (S.has_failed sink.new)) }
+        ensures fine { OnOk result (IsTrue (S.has_failed sink.new) → IsTrue (S.has_failed sink.old)) }
     {
         let count = self.unsaved;
         if count == 0 {
@@ -250,7 +253,7 @@ impl FileHistory {
     ghost use Rattle.std.specs.Str.{is_utf8};
     ghost use Rattle.line_config.specs.declared.errors.ReadlineError.TheVariants.{HistoryText, Memory, Reader};
     ghost use Rattle.line_help.specs.History.{filed_with_all, takes_all};
-    ghost use Rattle.line_help.specs.HistoryText.{AddsSome, after_first, entries_of, follows, header, good_rows, load_answer, load_leaves, outcome, rows_of, texts_of};
+    ghost use Rattle.line_help.specs.HistoryText.{AddsSome, after_first, entries_of, follows, header, good_rows, load_answer, load_leaves, outcome, rows_of, says_reader, texts_of};
 
     // Adds the entry of a row, and answers whether it isn't ignored. An empty row has none.
     fn add_row(&mut self, alloc: Global, row: &[u8], escapes: bool) -> Result<bool, ReadlineError>
@@ -305,7 +308,8 @@ impl FileHistory {
             → self.new ≡ filed_with_all self.old (entries_of escapes (good_rows (rows_of (S.last source.old) (S.coming source.old)))) }
         ensures part { IsTrue (S.told source.old)
             → AddsSome (entries_of escapes (good_rows (rows_of (S.last source.old) (S.coming source.old)))) self.old self.new }
-        ensures error { IfErr result (λ e. (e ≡ Memory) ⊎ ((e ≡ HistoryText) ⊎ ((e ≡ Reader) × IsTrue (S.has_failed source.new)))) }
+        ensures error { IfErr result (λ e. (e ≡ Memory) ⊎ ((e ≡ HistoryText) ⊎ (e ≡ Reader))) }
+        ensures failure { S.has_failed source.new ≡ says_reader result }
         ensures told { IsTrue (S.told source.old) → IsTrue (S.told source.new) }
         ensures steady { S.steady source.new ≡ S.steady source.old }
         ensures last { S.last source.new ≡ S.last source.old }
@@ -336,7 +340,8 @@ impl FileHistory {
             → self.new ≡ load_leaves (S.last source.old) (rows_of (S.last source.old) (S.coming source.old)) self.old }
         ensures part { IsTrue (S.told source.old)
             → OnErr result (AddsSome (texts_of (good_rows (rows_of (S.last source.old) (S.coming source.old)))) self.old self.new) }
-        ensures error { IfErr result (λ e. (e ≡ Memory) ⊎ ((e ≡ HistoryText) ⊎ ((e ≡ Reader) × IsTrue (S.has_failed source.new)))) }
+        ensures error { IfErr result (λ e. (e ≡ Memory) ⊎ ((e ≡ HistoryText) ⊎ (e ≡ Reader))) }
+        ensures failure { S.has_failed source.new ≡ says_reader result }
         ensures told { IsTrue (S.told source.old) → IsTrue (S.told source.new) }
         ensures steady { S.steady source.new ≡ S.steady source.old }
         ensures last { S.last source.new ≡ S.last source.old }

@@ -87,8 +87,10 @@ impl Hinter for () {
 pub struct HistoryHinter;
 
 impl HistoryHinter {
-    /// A hinter.
-    pub fn new() -> Self {
+    /// A hinter. It holds nothing.
+    pub fn new() -> Self
+        ensures { result ≡ record {} }
+    {
         HistoryHinter
     }
 }

@@ -1,5 +1,6 @@
-//! Laws of histories. Each is the contract of a function, which does nothing.
-ghost use Rattle.line_help.specs.Laws.{Reload, ReloadAppended};
+//! Laws of histories, of brackets and of completion. Each is the contract of a function, which does nothing.
+ghost use Rattle.line_help.specs.CompletionLaws.{EscapesComeBack, CommonBeginningIsLongest, OpenQuotesStand};
+ghost use Rattle.line_help.specs.Laws.{Reload, ReloadAppended, TextKeepsUp, OpeningIsMatched, ClosingIsMatched, ValidIsBalanced, IncompleteIsBegun, InvalidIsLost, MessageNames};
 
 /// A saved text that isn't empty, loaded into a new history, gives the entries that adding the saved entries in order
 /// gives, none of them new, where none ends in a carriage return.
@@ -11,4 +12,58 @@ pub fn reload()
 /// ones gives.
 pub fn reload_appended()
     ensures { ReloadAppended }
+{}
+
+/// Under unchanged settings a text that was saved keeps up with the history, whatever lines are added, and however often it
+/// is saved anew, appended to and loaded into a new history: where no entry is new, the text, loaded once more, gives the
+/// same list, none of it new. No entry that is written may end in a carriage return.
+pub fn text_keeps_up()
+    ensures { TextKeepsUp }
+{}
+
+/// What is answered as the match of an opening bracket is the one bracket that closes it: between the two the brackets of
+/// their kind are balanced, whatever else stands there.
+pub fn opening_is_matched()
+    ensures { OpeningIsMatched }
+{}
+
+/// So is what is answered as the match of a closing bracket, the one that opens it.
+pub fn closing_is_matched()
+    ensures { ClosingIsMatched }
+{}
+
+/// A text is valid exactly where its brackets are balanced.
+pub fn valid_is_balanced()
+    ensures { ValidIsBalanced }
+{}
+
+/// It is incomplete exactly where they aren't, and some more text would balance them.
+pub fn incomplete_is_begun()
+    ensures { IncompleteIsBegun }
+{}
+
+/// It is invalid, with a message, exactly where no more text would balance them.
+pub fn invalid_is_lost()
+    ensures { InvalidIsLost }
+{}
+
+/// A message names the first bracket with which nothing can balance a text: a closing one that is unpaired, or the innermost
+/// open one that it doesn't close.
+pub fn message_names()
+    ensures { MessageNames }
+{}
+
+/// An escaped text, unescaped, is the text again, where the escape is itself among the characters that are escaped.
+pub fn escapes_come_back()
+    ensures { EscapesComeBack }
+{}
+
+/// What texts have in common is a text and begins each of them; and each text that begins them all begins it.
+pub fn common_beginning_is_longest()
+    ensures { CommonBeginningIsLongest }
+{}
+
+/// Where a quote is open at a text's end, such a quote stands at the place that is answered.
+pub fn open_quotes_stand()
+    ensures { OpenQuotesStand }
 {}

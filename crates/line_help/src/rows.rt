@@ -1,8 +1,8 @@
 //! Rows of a text that comes from a source.
-ghost use Rattle.std.specs.Prelude.{◌≡◌, ◌<◌, ◌≤◌, ◌⊎◌, List, [], ◌∷◌, true, false, if◌then◌else◌, IsTrue, IfOk, IfErr, IfSome, Ok, Err, None, option_to_list, ◌++◌};
+ghost use Rattle.std.specs.Prelude.{◌≡◌, ◌<◌, ◌≤◌, ◌⊎◌, is_err, List, [], ◌∷◌, true, false, if◌then◌else◌, IsTrue, IfOk, IfErr, IfSome, Ok, Err, None, option_to_list, ◌++◌};
 ghost use Rattle.line_config.specs.declared.device.Last.TheVariants.{End, Failed};
 ghost use Rattle.line_config.specs.declared.errors.ReadlineError.TheVariants.{Memory, Reader};
-ghost use Rattle.line_help.specs.HistoryText.{rows_of, without_return};
+ghost use Rattle.line_help.specs.HistoryText.{rows_of, says_reader, without_return};
 
 use line_config::{ReadlineError, Source};
 
@@ -22,7 +22,8 @@ fn next_byte<S: Source>(source: &mut S) -> Result<Option<u8>, ReadlineError>
     ensures end { IsTrue (S.told source.old) → result ≡ Ok None → (S.coming source.old ≡ []) × (S.last source.old ≡ End) }
     ensures cut { IsTrue (S.told source.old) → IsTrue (S.steady source.old) → result ≡ Err Reader
         → (S.coming source.old ≡ []) × (S.last source.old ≡ Failed) }
-    ensures error { IfErr result (λ e. (e ≡ Reader) × IsTrue (S.has_failed source.new)) }
+    ensures error { IfErr result (λ e. e ≡ Reader) }
+    ensures failure { S.has_failed source.new ≡ is_err result }
     ensures told { IsTrue (S.told source.old) → IsTrue (S.told source.new) }
     ensures steady { S.steady source.new ≡ S.steady source.old }
     ensures last { S.last source.new ≡ S.last source.old }
@@ -44,7 +45,8 @@ pub(crate) fn read_row<S: Source>(source: &mut S, row: &mut Vec<u8>) -> Result<b
     ensures end { IsTrue (S.told source.old) → result ≡ Ok false → S.last source.old ≡ End }
     ensures cut { IsTrue (S.told source.old) → IsTrue (S.steady source.old) → result ≡ Err Reader
         → (S.last source.old ≡ Failed) × (rows_of (S.last source.old) (S.coming source.old) ≡ []) }
-    ensures error { IfErr result (λ e. (e ≡ Memory) ⊎ ((e ≡ Reader) × IsTrue (S.has_failed source.new))) }
+    ensures error { IfErr result (λ e. (e ≡ Memory) ⊎ (e ≡ Reader)) }
+    ensures failure { S.has_failed source.new ≡ says_reader result }
     ensures told { IsTrue (S.told source.old) → IsTrue (S.told source.new) }
     ensures steady { S.steady source.new ≡ S.steady source.old }
     ensures last { S.last source.new ≡ S.last source.old }

@@ -15,7 +15,7 @@ pub(crate) struct Log {
 }
 
 impl Log {
-    pub fn new(alloc: Global) -> Self {
+    pub(crate) fn new(alloc: Global) -> Self {
         Log {
             rows: String::new(alloc),
         }

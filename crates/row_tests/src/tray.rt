@@ -23,7 +23,7 @@ pub(crate) struct Tray {
 
 impl Tray {
     /// A sink with room for so many bytes, and no more than its array has.
-    pub fn with_room(room: usize) -> Tray {
+    pub(crate) fn with_room(room: usize) -> Tray {
         Tray {
             bytes: [0; SIZE],
             len: 0,
@@ -36,7 +36,7 @@ impl Tray {
     }
 
     /// A sink whose call with this number fails, counted from 0 over writes and flushes.
-    pub fn failing_at(call: usize) -> Tray {
+    pub(crate) fn failing_at(call: usize) -> Tray {
         Tray {
             failing_call: call,
             bytes: [0; SIZE],
@@ -49,13 +49,13 @@ impl Tray {
     }
 
     /// What it has taken.
-    pub fn bytes(&self) -> &[u8] {
+    pub(crate) fn bytes(&self) -> &[u8] {
         let all = &self.bytes[..];
         &all[..self.len]
     }
 
     /// Whether the call that failed was a flush.
-    pub fn failed_in_flush(&self) -> bool {
+    pub(crate) fn failed_in_flush(&self) -> bool {
         self.failed_in_flush
     }
 

@@ -1,0 +1,19 @@
+//! Tests of how keys become commands, as tables.
+#![tactic(auto)]
+
+#[cfg(test)]
+mod bound;
+#[cfg(test)]
+mod emacs;
+#[cfg(test)]
+mod tables;
+#[cfg(test)]
+mod telling;
+#[cfg(test)]
+mod typing;
+#[cfg(test)]
+mod vi_command;
+#[cfg(test)]
+mod vi_insert;
+#[cfg(test)]
+mod vi_operators;

@@ -1,0 +1,314 @@
+//! A line with its undo record, and a kill ring that is told of its kills first.
+
+ghost use Rattle.line_record.specs.Items.{ItemsStand};
+ghost use Rattle.line_record.specs.Props.{ItemsStand-prop};
+
+use line_buffer::{LineBuffer, Movement, NoListener, OutOfMemory, Word, WordAction};
+use line_record::{Changeset, Joined, KillRing};
+use std::alloc::Global;
+
+/// What stands on the line when a case begins.
+pub const START: &str = "one two three ";
+
+/// How many items the record has then: the letters of two words, a group, a letter and a kill.
+pub const ITEMS: usize = 5;
+
+#[derive(Drop)]
+pub struct Desk {
+    line: LineBuffer,
+    changes: Changeset,
+    ring: KillRing,
+    alloc: Global,
+    ghost stand: { ItemsStand changes line.text } by { ItemsStand-prop changes line.text },
+}
+
+impl Desk {
+    pub(crate) fn new(alloc: Global) -> Result<Self, OutOfMemory> {
+        let line = LineBuffer::with_capacity(alloc, 0)?.can_growth(true);
+        let changes = Changeset::new(alloc)?;
+        let ring = KillRing::new(alloc, 2)?;
+        let mut desk = Desk {
+            line,
+            changes,
+            ring,
+            alloc,
+        };
+        desk.type_text("one two")?;
+        desk.begin()?;
+        desk.paste(" three")?;
+        desk.type_text(" fou")?;
+        desk.end()?;
+        desk.type_text("r")?;
+        desk.kill_word_back()?;
+        Ok(desk)
+    }
+
+    /// Takes away the room that the line has beyond its text.
+    pub(crate) fn tighten(&mut self) -> Result<(), OutOfMemory> {
+        self.line = self.line.try_clone(self.alloc)?;
+        Ok(())
+    }
+
+    pub(crate) fn copy_of_line(&self) -> Result<LineBuffer, OutOfMemory> {
+        self.line.try_clone(self.alloc)
+    }
+
+    pub(crate) fn text(&self) -> &str {
+        self.line.as_str()
+    }
+
+    pub(crate) fn pos(&self) -> usize {
+        self.line.pos()
+    }
+
+    pub(crate) fn move_to_start(&mut self) {
+        self.line.move_buffer_start();
+    }
+
+    pub(crate) fn type_text(&mut self, text: &str) -> Result<(), OutOfMemory> {
+        for c in text.chars() {
+            put_char(self.alloc, &mut self.line, &mut self.changes, c)?;
+        }
+        Ok(())
+    }
+
+    pub(crate) fn paste(&mut self, text: &str) -> Result<(), OutOfMemory> {
+        put_text(self.alloc, &mut self.line, &mut self.changes, text)
+    }
+
+    pub(crate) fn backspace(&mut self) -> Result<(), OutOfMemory> {
+        take_before(self.alloc, &mut self.line, &mut self.changes)
+    }
+
+    pub(crate) fn update(&mut self, text: &str) -> Result<(), OutOfMemory> {
+        exchange_all(self.alloc, &mut self.line, &mut self.changes, text)
+    }
+
+    /// The text between two places exchanged for another.
+    pub(crate) fn replace(
+        &mut self,
+        from: usize,
+        upto: usize,
+        text: &str,
+    ) -> Result<(), OutOfMemory> {
+        exchange(
+            self.alloc,
+            &mut self.line,
+            &mut self.changes,
+            from,
+            upto,
+            text,
+        )
+    }
+
+    pub(crate) fn raise_word(&mut self) -> Result<(), OutOfMemory> {
+        raise(self.alloc, &mut self.line, &mut self.changes)
+    }
+
+    pub(crate) fn transpose_words(&mut self) -> Result<(), OutOfMemory> {
+        transpose(self.alloc, &mut self.line, &mut self.changes)
+    }
+
+    pub(crate) fn indent_all(&mut self) -> Result<(), OutOfMemory> {
+        indent(self.alloc, &mut self.line, &mut self.changes)
+    }
+
+    pub(crate) fn kill_word_back(&mut self) -> Result<(), OutOfMemory> {
+        kill(
+            self.alloc,
+            &mut self.line,
+            &mut self.ring,
+            &mut self.changes,
+        )
+    }
+
+    pub(crate) fn end_run(&mut self) {
+        self.ring.reset();
+    }
+
+    pub(crate) fn begin(&mut self) -> Result<usize, OutOfMemory> {
+        self.changes.begin(self.alloc)
+    }
+
+    pub(crate) fn end(&mut self) -> Result<bool, OutOfMemory> {
+        let _text = self.line.as_str();
+        self.changes.end(self.alloc)
+    }
+
+    pub(crate) fn undo(&mut self, n: u16) -> Result<bool, OutOfMemory> {
+        self.changes.undo(self.alloc, &mut self.line, n)
+    }
+
+    pub(crate) fn redo(&mut self) -> Result<bool, OutOfMemory> {
+        self.changes.redo(self.alloc, &mut self.line)
+    }
+
+    /// Whether the text put in last, copied, is this one.
+    pub(crate) fn last_insert_is(&self, text: &str) -> Result<bool, OutOfMemory> {
+        match self.changes.last_insert(self.alloc)? {
+            Some(inserted) => Ok(inserted.as_str() == text),
+            None => Ok(false),
+        }
+    }
+
+    /// Whether a copy of the record put the same text in last.
+    pub(crate) fn copies_record(&self) -> Result<bool, OutOfMemory> {
+        let copy = self.changes.try_clone(self.alloc)?;
+        Ok(copy.last_insert_text() == self.changes.last_insert_text())
+    }
+
+    /// Whether the ring's present slot holds this text.
+    pub(crate) fn yanks(&mut self, text: &str) -> bool {
+        self.ring.yank() == Some(text)
+    }
+
+    /// Whether the cursor stands between two characters.
+    pub(crate) fn has_cursor(&self) -> bool {
+        self.line.as_str().is_char_boundary(self.line.pos())
+    }
+
+    /// Whether nothing is recorded, so that nothing can be undone or made anew.
+    pub(crate) fn has_no_record(&mut self) -> Result<bool, OutOfMemory> {
+        let inserted = self.changes.last_insert_text().is_some();
+        let undone = self.undo(1)?;
+        let made = self.redo()?;
+        Ok(!inserted && !undone && !made)
+    }
+}
+
+fn put_char(
+    alloc: Global,
+    line: &mut LineBuffer,
+    changes: &mut Changeset,
+    c: char,
+) -> Result<(), OutOfMemory>
+    requires { ItemsStand changes.old line.old.text }
+    ensures { ItemsStand changes.new line.new.text }
+{
+    let _text = line.as_str();
+    line.insert(alloc, c, 1, changes)?;
+    Ok(())
+}
+
+fn put_text(
+    alloc: Global,
+    line: &mut LineBuffer,
+    changes: &mut Changeset,
+    text: &str,
+) -> Result<(), OutOfMemory>
+    requires { ItemsStand changes.old line.old.text }
+    ensures { ItemsStand changes.new line.new.text }
+{
+    let _text = line.as_str();
+    line.yank(alloc, text, 1, changes)?;
+    Ok(())
+}
+
+fn take_before(
+    alloc: Global,
+    line: &mut LineBuffer,
+    changes: &mut Changeset,
+) -> Result<(), OutOfMemory>
+    requires { ItemsStand changes.old line.old.text }
+    ensures { ItemsStand changes.new line.new.text }
+{
+    let _text = line.as_str();
+    line.backspace(alloc, 1, changes)?;
+    Ok(())
+}
+
+fn exchange_all(
+    alloc: Global,
+    line: &mut LineBuffer,
+    changes: &mut Changeset,
+    text: &str,
+) -> Result<(), OutOfMemory>
+    requires { ItemsStand changes.old line.old.text }
+    ensures { ItemsStand changes.new line.new.text }
+{
+    let _text = line.as_str();
+    line.update(alloc, text, text.len(), changes)?;
+    Ok(())
+}
+
+fn exchange(
+    alloc: Global,
+    line: &mut LineBuffer,
+    changes: &mut Changeset,
+    from: usize,
+    upto: usize,
+    text: &str,
+) -> Result<(), OutOfMemory>
+    requires { ItemsStand changes.old line.old.text }
+    ensures { ItemsStand changes.new line.new.text }
+{
+    let here = line.as_str();
+    if from > upto || !here.is_char_boundary(from) || !here.is_char_boundary(upto) {
+        return Ok(());
+    }
+    line.replace(alloc, from..upto, text, changes)?;
+    Ok(())
+}
+
+fn raise(alloc: Global, line: &mut LineBuffer, changes: &mut Changeset) -> Result<(), OutOfMemory>
+    requires { ItemsStand changes.old line.old.text }
+    ensures { ItemsStand changes.new line.new.text }
+{
+    let _text = line.as_str();
+    line.edit_word(alloc, WordAction::Uppercase, changes)?;
+    Ok(())
+}
+
+fn transpose(
+    alloc: Global,
+    line: &mut LineBuffer,
+    changes: &mut Changeset,
+) -> Result<(), OutOfMemory>
+    requires { ItemsStand changes.old line.old.text }
+    ensures { ItemsStand changes.new line.new.text }
+{
+    let _text = line.as_str();
+    line.transpose_words(alloc, 1, changes)?;
+    Ok(())
+}
+
+fn indent(alloc: Global, line: &mut LineBuffer, changes: &mut Changeset) -> Result<(), OutOfMemory>
+    requires { ItemsStand changes.old line.old.text }
+    ensures { ItemsStand changes.new line.new.text }
+{
+    let _text = line.as_str();
+    line.indent(alloc, &Movement::WholeBuffer, 2, false, changes)?;
+    Ok(())
+}
+
+fn kill(
+    alloc: Global,
+    line: &mut LineBuffer,
+    ring: &mut KillRing,
+    changes: &mut Changeset,
+) -> Result<(), OutOfMemory>
+    requires { ItemsStand changes.old line.old.text }
+    ensures { ItemsStand changes.new line.new.text }
+{
+    let mut both = Joined {
+        first: ring,
+        second: changes,
+    };
+    kill_both(alloc, line, &mut both)
+}
+
+ghost use Rattle.line_record.specs.Names.{SameNames};
+
+fn kill_both(
+    alloc: Global,
+    line: &mut LineBuffer,
+    both: &mut Joined<'_, KillRing, Changeset>,
+) -> Result<(), OutOfMemory>
+    requires { ItemsStand both.old.second.now line.old.text }
+    ensures stand { ItemsStand both.new.second.now line.new.text }
+    ensures names { SameNames both.old.first both.old.second both.new.first both.new.second }
+{
+    let _text = line.as_str();
+    line.kill(alloc, &Movement::BackwardWord(1, Word::Emacs), both)?;
+    Ok(())
+}

@@ -1,0 +1,100 @@
+-- Where a common beginning ends.
+use Rattle.std.proofs.Common.{◌++◌, cond, length-drop, ◌≡◌, ℕ, zero, suc, ◌+◌, ◌-◌, ◌<◌, ◌≤◌, ◌⊎◌, Bool, true, false, List, [], ◌∷◌, length, take, drop, get_or, refl, sym, ap, ◌∙◌, subst, inl, inr, Some, arith, nat_eq}
+use Rattle.std.specs.Prelude.{IsUtf8, IsCharBoundary}
+use Rattle.std.specs.List.{common_prefix_len}
+use Rattle.std.proofs.lemmas.List.{nil_from_length}
+use Rattle.std.proofs.lemmas.Bool.Decides.{nat_tests}
+use Rattle.std.proofs.lemmas.Str.{IsCharBoundary-start}
+use Rattle.line_buffer.specs.Insertions.{last_cut, is_inside_char}
+use Rattle.line_buffer.proofs.InsertionLemmas.{is_cut, not_cut}
+use Rattle.line_help.specs.CommonPrefix.{common_to_all, unless_empty, longest_common_prefix}
+
+above_or_at : (r n : ℕ) → r ≤ suc n → (r ≡ suc n) ⊎ (r ≤ n)
+above_or_at r n le = grind arith
+
+-- the last place at which a text may be cut
+pub cut_at_floor : (text : List ℕ) (n r : ℕ) → IsUtf8 text → n ≤ length text → r ≤ n → IsCharBoundary text r → ((i : ℕ) → r < i → i ≤ n → IsCharBoundary text i → ⊥) → last_cut text n ≡ r
+unfolding last_cut
+cut_at_floor text zero r u inside le here none = omega arith
+cut_at_floor text (suc n) r u inside le here none = elim (above_or_at r n le) [
+  | inl e ↦ is_cut text (suc n) true (λ _. subst (IsCharBoundary text) e here, λ _. refl) refl ∙ sym e
+  | inr below ↦
+      let never : IsCharBoundary text (suc n) → ⊥ = λ b. none (suc n) (omega arith) (omega arith) b in
+      let back = (not_cut text (suc n) false (λ t. absurd (let k : false ≡ true = t in cc), λ b. absurd (never b)) refl u inside).1 in
+      let one : suc n - 1 ≡ n = omega arith in
+      sym back ∙ ap (last_cut text) one ∙ cut_at_floor text n r u (omega arith) below here (λ i lo hi b. none i lo (omega arith) b)
+]
+
+beside_nothing : (xs : List ℕ) → common_prefix_len nat_eq xs [] ≡ 0
+beside_nothing [] = refl
+beside_nothing (x ∷ xs) = refl
+
+-- nothing is alike behind the other text
+pub behind_other : (text other : List ℕ) (len : ℕ) → length other ≤ len → common_prefix_len nat_eq (drop len text) (drop len other) ≡ 0
+behind_other text other len le = let none : drop len other ≡ [] = nil_from_length (drop len other) (omega (arith, length-drop len other)) in rw none (beside_nothing (drop len text))
+
+-- the longest beginning of texts of which there are two or more
+pub of_several : (text : List ℕ) (others : List (List ℕ)) → 0 < length others → longest_common_prefix (text ∷ others) ≡ unless_empty (common_to_all text others)
+of_several text [] some = absurd (omega arith)
+of_several text (other ∷ others) some = refl
+
+pub kept_unless_empty : (text : List ℕ) → 0 < length text → unless_empty text ≡ Some text
+kept_unless_empty [] some = absurd (omega arith)
+kept_unless_empty (b ∷ bs) some = refl
+
+-- the last place at which a text may be cut, as what it is
+pub last_cut_le : (text : List ℕ) (n : ℕ) → last_cut text n ≤ n
+unfolding last_cut
+last_cut_le text zero = omega arith
+last_cut_le text (suc n) = go (is_inside_char text (suc n)) (last_cut_le text n)
+  where
+    go : (b : Bool) → last_cut text n ≤ n → cond b (last_cut text n) (suc n) ≤ suc n
+    go true le = omega arith
+    go false le = omega arith
+
+outside : (text : List ℕ) (n : ℕ) → n ≤ length text → is_inside_char text n ≡ false → n < length text → 128 ≤ get_or text n 0 → 192 ≤ get_or text n 0
+outside text n le e inside high = grind (arith, nat_tests)
+
+not_inside : (text : List ℕ) (n : ℕ) → IsCharBoundary text n → is_inside_char text n ≡ false
+not_inside text n b = grind (arith, nat_tests)
+
+pub last_cut_boundary : (text : List ℕ) (n : ℕ) → IsUtf8 text → n ≤ length text → IsCharBoundary text (last_cut text n)
+unfolding last_cut
+last_cut_boundary text zero u le = IsCharBoundary-start text u
+last_cut_boundary text (suc n) u le = go (is_inside_char text (suc n)) refl (last_cut_boundary text n u (omega arith))
+  where
+    go : (b : Bool) → is_inside_char text (suc n) ≡ b → IsCharBoundary text (last_cut text n) → IsCharBoundary text (cond b (last_cut text n) (suc n))
+    go true e before = before
+    go false e before = (le, outside text (suc n) le e)
+
+pub last_cut_greatest : (text : List ℕ) (i n : ℕ) → IsCharBoundary text i → i ≤ n → i ≤ last_cut text n
+unfolding last_cut
+last_cut_greatest text i zero b le = le
+last_cut_greatest text i (suc n) b le = go (is_inside_char text (suc n)) refl (λ below. last_cut_greatest text i n b below)
+  where
+    go : (a : Bool) → is_inside_char text (suc n) ≡ a → (i ≤ n → i ≤ last_cut text n) → i ≤ cond a (last_cut text n) (suc n)
+    go true e before = elim (above_or_at i n le) [
+      | inl same ↦ let never : is_inside_char text (suc n) ≡ false = ap (is_inside_char text) (sym same) ∙ not_inside text i b in cc
+      | inr below ↦ before below
+    ]
+    go false e before = le
+
+-- as far as texts are alike
+pub alike : (m : ℕ) (text other : List ℕ) → m ≤ common_prefix_len nat_eq text other → take m text ≡ take m other
+alike zero text other le = refl
+alike (suc m) [] other le = absurd (omega arith)
+alike (suc m) (x ∷ xs) [] le = absurd (omega arith)
+alike (suc m) (x ∷ xs) (y ∷ ys) le = go (nat_eq x y) refl le (λ l. alike m xs ys l)
+  where
+    go : (b : Bool) → nat_eq x y ≡ b → suc m ≤ cond b (1 + common_prefix_len nat_eq xs ys) 0 → (m ≤ common_prefix_len nat_eq xs ys → take m xs ≡ take m ys) → x ∷ take m xs ≡ y ∷ take m ys
+    go true e more rest_of =
+        let same : x ≡ y = grind (arith, nat_tests) in
+        let rest : take m xs ≡ take m ys = rest_of (omega arith) in cc
+    go false e more rest_of = absurd (omega arith)
+
+itself : (n : ℕ) → nat_eq n n ≡ true
+itself n = grind arith
+
+pub long : (front r s : List ℕ) → length front ≤ common_prefix_len nat_eq (front ++ r) (front ++ s)
+long [] r s = omega arith
+long (f ∷ fs) r s = let le = long fs r s in rw (itself f) (omega arith)

@@ -1,0 +1,122 @@
+-- The laws of completion.
+use Rattle.std.proofs.Common.{◌≡◌, ◌≢◌, ℕ, ◌≤◌, ◌&&◌, cond, Bool, true, false, List, [], ◌∷◌, ◌++◌, length, get_or, take, drop, nat_eq, Some, refl, sym, ap, ◌∙◌, arith, ne_eqb, append_assoc, length-append}
+use Rattle.std.specs.Prelude.{encode_utf8_all, IsUtf8, IsCharBoundary}
+use Rattle.std.specs.Str.{chars, all_scalars}
+use Rattle.std.specs.Char.{IsScalar}
+use lib.Utf8.{scalar}
+use Rattle.std.specs.List.{common_prefix_len}
+use Rattle.std.proofs.lemmas.List.{take-append-drop, take_at, take-take, append-nil}
+use Rattle.std.proofs.lemmas.List.Elements.{All-nil, All-cons, All-head, All-tail}
+use Rattle.std.proofs.lemmas.List.Sums.{common_prefix_len-le}
+use Rattle.std.proofs.lemmas.Option.{slice_get-get_or}
+use Rattle.std.proofs.lemmas.Str.{chars-encodes, encodes-chars, scalars-chars, IsUtf8-take, IsCharBoundary-from_take}
+use Rattle.line_buffer.specs.Insertions.{last_cut}
+use Rattle.line_help.specs.CommonPrefix.{common_beginning, common_to_all}
+use Rattle.line_help.proofs.CommonPrefixLemmas.{last_cut_le, last_cut_boundary, last_cut_greatest, alike, long}
+use Rattle.line_help.specs.CompletionLaws.{EscapesComeBack, Begins, CommonBeginningIsLongest, OpenQuotesStand}
+use Rattle.line_help.specs.Quotes.{unescaped, unescaped_chars, escaped_chars, escaped_by}
+use Rattle.line_help.specs.declared.quotes.Quote.TheVariants.{Double, Single, None as Unquoted}
+use Rattle.line_help.proofs.QuoteLemmas.{escaped_one, plain_char, StandsIn, unclosed_stands}
+
+-- escapes, character by character
+read_back : (esc : ℕ) (breaks : ℕ → Bool) → breaks esc ≡ true → (cs : List ℕ) → unescaped_chars esc (escaped_chars esc breaks cs) ≡ cs
+read_back esc breaks is [] = refl
+read_back esc breaks is (c ∷ cs) = go (breaks c) refl (read_back esc breaks is cs)
+  where
+    go : (b : Bool) → breaks c ≡ b → unescaped_chars esc (escaped_chars esc breaks cs) ≡ cs → unescaped_chars esc (cond b (esc ∷ c ∷ []) (c ∷ []) ++ escaped_chars esc breaks cs) ≡ c ∷ cs
+    go true e rest = escaped_one esc c (escaped_chars esc breaks cs) ∙ ap (λ ds. c ∷ ds) rest
+    go false e rest =
+        let ne : c ≢ esc = λ same. let t : true ≡ false = sym is ∙ ap breaks (sym same) ∙ e in cc in
+        plain_char esc c (escaped_chars esc breaks cs) (ne_eqb c esc ne) ∙ ap (λ ds. c ∷ ds) rest
+
+both : (a b : Bool) → a ≡ true → b ≡ true → (a && b) ≡ true
+both a b e f = rw (e, f) refl
+
+first_of_both : (a b : Bool) → (a && b) ≡ true → a ≡ true
+first_of_both true b e = refl
+first_of_both false b e = e
+
+second_of_both : (a b : Bool) → (a && b) ≡ true → b ≡ true
+second_of_both true b e = e
+second_of_both false b e = cc
+
+all_scalar : (esc : ℕ) (breaks : ℕ → Bool) → IsScalar esc → (cs : List ℕ) → all_scalars cs ≡ true → all_scalars (escaped_chars esc breaks cs) ≡ true
+all_scalar esc breaks s [] h = refl
+all_scalar esc breaks s (c ∷ cs) h =
+    go (breaks c) (all_scalar esc breaks s cs (second_of_both (scalar c) (all_scalars cs) h))
+  where
+    go : (b : Bool) → all_scalars (escaped_chars esc breaks cs) ≡ true → all_scalars (cond b (esc ∷ c ∷ []) (c ∷ []) ++ escaped_chars esc breaks cs) ≡ true
+    go true left = both (scalar esc) (scalar c && all_scalars (escaped_chars esc breaks cs)) s
+        (both (scalar c) (all_scalars (escaped_chars esc breaks cs)) (first_of_both (scalar c) (all_scalars cs) h) left)
+    go false left = both (scalar c) (all_scalars (escaped_chars esc breaks cs)) (first_of_both (scalar c) (all_scalars cs) h) left
+
+comes_back : (text : List ℕ) (esc : ℕ) (breaks : ℕ → Bool) → IsUtf8 text → IsScalar esc → breaks esc ≡ true → unescaped (escaped_by (Some esc) text breaks) (Some esc) ≡ text
+comes_back text esc breaks u s is =
+    ap (λ cs. encode_utf8_all (unescaped_chars esc cs)) (chars-encodes (escaped_chars esc breaks (chars text)) (all_scalar esc breaks s (chars text) (scalars-chars text u)))
+    ∙ ap encode_utf8_all (read_back esc breaks is (chars text))
+    ∙ encodes-chars text u
+
+pub escapes_come_back_holds : EscapesComeBack
+escapes_come_back_holds text esc breaks Double u s is not_single = comes_back text esc breaks u s is
+escapes_come_back_holds text esc breaks Single u s is not_single = absurd (not_single refl)
+escapes_come_back_holds text esc breaks Unquoted u s is not_single = comes_back text esc breaks u s is
+
+-- what two texts have in common
+begins_on : (a b c : List ℕ) → Begins a b → Begins b c → Begins a c
+begins_on a b c p q = (p.0 ++ q.0, q.1 ∙ ap (λ t. t ++ q.0) p.1 ∙ append_assoc a p.0 q.0)
+
+common_end : (text other : List ℕ) → IsUtf8 text → last_cut text (common_prefix_len nat_eq text other) ≤ common_prefix_len nat_eq text other
+common_end text other u = last_cut_le text (common_prefix_len nat_eq text other)
+
+common_is_text : (text other : List ℕ) → IsUtf8 text → IsUtf8 (common_beginning text other)
+common_is_text text other u =
+    let n = common_prefix_len nat_eq text other in
+    IsUtf8-take text (last_cut text n) u (last_cut_boundary text n u (common_prefix_len-le nat_eq text other).0)
+
+common_begins : (text other : List ℕ) → Begins (common_beginning text other) text
+common_begins text other =
+    let n = last_cut text (common_prefix_len nat_eq text other) in
+    (drop n text, sym (take-append-drop n text))
+
+common_begins_other : (text other : List ℕ) → Begins (common_beginning text other) other
+common_begins_other text other =
+    let m = common_prefix_len nat_eq text other in
+    let n = last_cut text m in
+    let same : take n text ≡ take n other = alike n text other (last_cut_le text m) in
+    (drop n other, sym (take-append-drop n other) ∙ ap (λ t. t ++ drop n other) (sym same))
+
+common_is_longest : (text other front : List ℕ) → IsUtf8 text → IsUtf8 front → Begins front text → Begins front other → Begins front (common_beginning text other)
+common_is_longest text other front u v a b =
+    let m = common_prefix_len nat_eq text other in
+    let n = last_cut text m in
+    let k = length front in
+    let taken : take k text ≡ front = ap (take k) a.1 ∙ take_at front a.0 k refl in
+    let fits : k ≤ length text = rw a.1 (omega (arith, length-append front a.0)) in
+    let alike_so_far : k ≤ m = rw (a.1, b.1) (long front a.0 b.0) in
+    let cut : IsCharBoundary text k = IsCharBoundary-from_take text k u fits (rw taken v) in
+    let le : k ≤ n = last_cut_greatest text k m cut alike_so_far in
+    let again : take k (take n text) ≡ front = take-take k n text le ∙ taken in
+    (drop k (take n text), sym (take-append-drop k (take n text)) ∙ ap (λ t. t ++ drop k (take n text)) again)
+
+pub common_beginning_is_longest_holds : CommonBeginningIsLongest
+common_beginning_is_longest_holds text [] u =
+    (u, All-cons (Begins text) text [] ([], sym (append-nil text)) (All-nil (Begins text)), λ front v all. All-head (Begins front) text [] all)
+common_beginning_is_longest_holds text (other ∷ others) u =
+    let first = common_beginning text other in
+    let left = common_beginning_is_longest_holds first others (common_is_text text other u) in
+    let whole = common_to_all first others in
+    let in_first : Begins whole first = All-head (Begins whole) first others left.1 in (
+      left.0,
+      All-cons (Begins whole) text (other ∷ others) (begins_on whole first text in_first (common_begins text other))
+          (All-cons (Begins whole) other others (begins_on whole first other in_first (common_begins_other text other)) (All-tail (Begins whole) first others left.1)),
+      λ front v all.
+          let rest = All-tail (Begins front) text (other ∷ others) all in
+          left.2 front v (All-cons (Begins front) first others
+          (common_is_longest text other front u v (All-head (Begins front) text (other ∷ others) all) (All-head (Begins front) other others rest))
+          (All-tail (Begins front) other others rest)),
+    )
+
+pub open_quotes_stand_holds : OpenQuotesStand
+open_quotes_stand_holds text place quote e =
+    let stands : StandsIn text (Some (place, quote)) = rw e at (unclosed_stands text) in
+    (get_or text place 0, slice_get-get_or text place 0 stands.0, stands.1)

@@ -1,0 +1,212 @@
+-- A history and its text stand together after each step.
+use Rattle.std.proofs.Common.{◌≡◌, ℕ, zero, suc, ◌+◌, ◌-◌, ◌≤◌, ◌<◌, ◌⊎◌, inl, inr, Bool, true, false, List, [], ◌∷◌, ◌++◌, length, drop, min, refl, sym, ◌∙◌, ap, arith}
+use Rattle.std.specs.Prelude.{◌==◌}
+use Rattle.std.proofs.Math.Nat.{min-eq_left, min-eq_right}
+use Rattle.std.proofs.lemmas.Bool.Decides.{Decides-eqb}
+use Rattle.std.proofs.lemmas.Grind.{flat_map-append}
+use Rattle.std.proofs.lemmas.List.{append-nil, append_assoc, length-append}
+use Rattle.line_help.specs.Course.{Written, Step, Adds, Saves, Appends, Loads, after_step, after_steps, just_saved, CanStep, CanMake}
+use Rattle.line_help.specs.History.{Settings, Filed, added, all_saved, filed_with, ignored, newest, nothing_filed}
+use Rattle.line_help.specs.HistoryText.{header, row_of, rows_text, saved_text}
+use Rattle.line_help.specs.Laws.{TextKeepsUp}
+use Rattle.line_help.specs.Loaded.{CanComeBack, loaded, made_of}
+use Rattle.line_help.proofs.InTurnLemmas.{InTurn, added_all, added_in_parts, added_when, all_in_turn, all_small, filed_kept, gives_itself, overwritten, stays_in_turn, stays_small}
+use Rattle.line_help.proofs.NewestLemmas.{all_new, length-newest, newest_twice, newest_with, none_new}
+use Rattle.line_help.proofs.ReloadLemmas.{can_both, saved_back}
+
+abbrev filed_of : Settings → List (List ℕ) → ℕ → Filed
+filed_of s entries unsaved = record { kept = record { entries = entries; settings = s }; unsaved = unsaved }
+
+-- the entries that were written, and behind them those that are new, give the history
+record Stands (s : Settings) (now : Written) : Type 0 where
+  entries : List (List ℕ)
+  unsaved : ℕ
+  rows : List (List ℕ)
+  is : now.history ≡ filed_of s entries unsaved
+  text : now.text ≡ saved_text rows
+  back : CanComeBack rows
+  turn : InTurn s [] entries
+  fits : length entries ≤ s.max_len
+  few : unsaved ≤ length entries
+  gives : added_all s [] (rows ++ newest unsaved entries) ≡ entries
+
+which : (a b : ℕ) → (a ≤ b) ⊎ (b < a)
+which a b = grind arith
+
+-- a line that becomes an entry
+module _ (s : Settings) (entries rows : List (List ℕ)) (unsaved : ℕ) (line : List ℕ) (taken : ignored s entries line ≡ false)
+    (turn : InTurn s [] entries) (fits : length entries ≤ s.max_len) (few : unsaved ≤ length entries)
+    (gives : added_all s [] (rows ++ newest unsaved entries) ≡ entries) where
+  one_more : unsaved + 1 ≤ length (added s entries line) → added_all s [] (rows ++ newest (unsaved + 1) (added s entries line)) ≡ added s entries line
+  one_more le =
+      let small = stays_small s entries line fits in
+      ap (λ xs. added_all s [] (rows ++ newest (unsaved + 1) xs)) (added_when s entries line taken)
+      ∙ ap (λ xs. added_all s [] (rows ++ xs)) (newest_twice (unsaved + 1) s.max_len (entries ++ line ∷ []) (omega arith) ∙ newest_with unsaved entries line)
+      ∙ ap (λ xs. added_all s [] xs) (sym (append_assoc rows (newest unsaved entries) (line ∷ [])))
+      ∙ added_in_parts s [] (rows ++ newest unsaved entries) (line ∷ [])
+      ∙ ap (λ xs. added s xs line) gives
+
+  all_are_new : length (added s entries line) < unsaved + 1 → added_all s [] (rows ++ newest (length (added s entries line)) (added s entries line)) ≡ added s entries line
+  all_are_new lt =
+      let l : length (added s entries line) ≡ length (entries ++ line ∷ []) - (length (entries ++ line ∷ []) - s.max_len) =
+      ap (λ xs. length xs) (added_when s entries line taken) ∙ length-newest s.max_len (entries ++ line ∷ []) in
+      let m = length-append entries (line ∷ []) in
+      ap (λ xs. added_all s [] (rows ++ xs)) (all_new (length (added s entries line)) (added s entries line) (omega arith))
+      ∙ added_in_parts s [] rows (added s entries line)
+      ∙ overwritten s (added_all s [] rows) (added s entries line) (all_small s [] rows (omega arith)) (stays_in_turn s entries line turn) (omega arith)
+
+after_adding : (s : Settings) (now : Written) (line : List ℕ) → Stands s now → Stands s (after_step s (Adds line) now)
+after_adding s now line r = by_case (ignored s r.entries line) refl where
+  is_ignored : ignored s r.entries line ≡ true → filed_with (filed_of s r.entries r.unsaved) line ≡ filed_of s r.entries r.unsaved
+  is_ignored e = rw e refl
+
+  counted : ignored s r.entries line ≡ false → filed_with (filed_of s r.entries r.unsaved) line ≡ filed_of s (added s r.entries line) (min (r.unsaved + 1) (length (added s r.entries line)))
+  counted e = rw e refl
+
+  taken : (count : ℕ) → ignored s r.entries line ≡ false → min (r.unsaved + 1) (length (added s r.entries line)) ≡ count → count ≤ length (added s r.entries line)
+      → added_all s [] (r.rows ++ newest count (added s r.entries line)) ≡ added s r.entries line → Stands s (after_step s (Adds line) now)
+  taken count e f few gives = record {
+    entries = added s r.entries line;
+    unsaved = count;
+    rows = r.rows;
+    is = ap (λ h. filed_with h line) r.is ∙ counted e ∙ ap (λ n. filed_of s (added s r.entries line) n) f;
+    text = r.text;
+    back = r.back;
+    turn = stays_in_turn s r.entries line r.turn;
+    fits = stays_small s r.entries line r.fits;
+    few = few;
+    gives = gives;
+  }
+
+  by_case : (b : Bool) → ignored s r.entries line ≡ b → Stands s (after_step s (Adds line) now)
+  by_case true e = record {
+    entries = r.entries;
+    unsaved = r.unsaved;
+    rows = r.rows;
+    is = ap (λ h. filed_with h line) r.is ∙ is_ignored e;
+    text = r.text;
+    back = r.back;
+    turn = r.turn;
+    fits = r.fits;
+    few = r.few;
+    gives = r.gives;
+  }
+  by_case false e =
+      elim (which (r.unsaved + 1) (length (added s r.entries line))) [
+        | inl le ↦ taken (r.unsaved + 1) e (min-eq_left le) le (one_more s r.entries r.rows r.unsaved line e r.turn r.fits r.few r.gives le)
+        | inr lt ↦ taken (length (added s r.entries line)) e (min-eq_right (omega arith)) (omega arith) (all_are_new s r.entries r.rows r.unsaved line e r.turn r.fits r.few r.gives lt)
+      ]
+
+-- where nothing is new behind the rows, they give the history
+none_behind : (s : Settings) (rows entries : List (List ℕ)) → added_all s [] (rows ++ newest 0 entries) ≡ added_all s [] rows
+none_behind s rows entries = ap (λ xs. added_all s [] (rows ++ xs)) (none_new entries) ∙ ap (λ xs. added_all s [] xs) (append-nil rows)
+
+after_writing : (s : Settings) (now : Written) (text : List ℕ) (rows : List (List ℕ)) (r : Stands s now) → text ≡ saved_text rows → CanComeBack rows → added_all s [] rows ≡ r.entries
+    → Stands s (record { text = text; history = all_saved now.history })
+after_writing s now text rows r of back gives = record {
+  entries = r.entries;
+  unsaved = 0;
+  rows = rows;
+  is = ap (λ h. all_saved h) r.is;
+  text = of;
+  back = back;
+  turn = r.turn;
+  fits = r.fits;
+  few = omega arith;
+  gives = none_behind s rows r.entries ∙ gives;
+}
+
+all_written : (s : Settings) (now : Written) (r : Stands s now) → r.unsaved ≡ 0 → added_all s [] r.rows ≡ r.entries
+all_written s now r e = sym (none_behind s r.rows r.entries) ∙ ap (λ n. added_all s [] (r.rows ++ newest n r.entries)) (sym e) ∙ r.gives
+
+after_saving : (s : Settings) (now : Written) → CanStep Saves now → Stands s now → Stands s (after_step s Saves now)
+after_saving s now can r = by_case (now.history.unsaved == 0) refl where
+  by_case : (b : Bool) → (now.history.unsaved == 0) ≡ b → Stands s (after_step s Saves now)
+  by_case true e = rw e (after_writing s now now.text r.rows r r.text r.back (all_written s now r (sym (ap (λ h. h.unsaved) r.is) ∙ (Decides-eqb now.history.unsaved 0).0 e)))
+  by_case false e = rw e (after_writing s now (saved_text now.history.kept.entries) now.history.kept.entries r refl can
+      (ap (λ h. added_all s [] h.kept.entries) r.is ∙ gives_itself s r.entries r.turn r.fits))
+
+back_of_rest : (k : ℕ) (xs : List (List ℕ)) → CanComeBack xs → CanComeBack (drop k xs)
+back_of_rest zero xs can = can
+back_of_rest (suc k) [] can = tt
+back_of_rest (suc k) (x ∷ xs) can = back_of_rest k xs can.2
+
+rows_behind : (text : List ℕ) (rows more : List (List ℕ)) → text ≡ saved_text rows → text ++ rows_text more ≡ saved_text (rows ++ more)
+rows_behind text rows more is = ap (λ t. t ++ rows_text more) is ∙ ap (λ t. header ++ (10 ∷ t)) (sym (flat_map-append row_of rows more))
+
+after_appending : (s : Settings) (now : Written) → CanStep Appends now → Stands s now → Stands s (after_step s Appends now)
+after_appending s now can r = by_case (now.history.unsaved == 0) refl where
+  new : List (List ℕ)
+  new = newest now.history.unsaved now.history.kept.entries
+
+  same : new ≡ newest r.unsaved r.entries
+  same = ap (λ h. newest h.unsaved h.kept.entries) r.is
+
+  by_case : (b : Bool) → (now.history.unsaved == 0) ≡ b → Stands s (after_step s Appends now)
+  by_case true e =
+      rw (e, append-nil now.text)
+      (after_writing s now now.text r.rows r r.text r.back (all_written s now r (sym (ap (λ h. h.unsaved) r.is) ∙ (Decides-eqb now.history.unsaved 0).0 e)))
+  by_case false e =
+      rw e (after_writing s now (now.text ++ rows_text new) (r.rows ++ new) r (rows_behind now.text r.rows new r.text)
+      (can_both r.rows new r.back (back_of_rest (length now.history.kept.entries - now.history.unsaved) now.history.kept.entries can))
+      (ap (λ xs. added_all s [] (r.rows ++ xs)) same ∙ r.gives))
+
+made_is : (s : Settings) (rows : List (List ℕ)) → made_of s rows ≡ filed_of s (added_all s [] rows) 0
+made_is s rows = let kept = filed_kept (nothing_filed s) rows in rw kept refl
+
+loaded_is : (s : Settings) (text : List ℕ) (rows : List (List ℕ)) → text ≡ saved_text rows → CanComeBack rows → loaded s text ≡ filed_of s (added_all s [] rows) 0
+loaded_is s text rows is back = ap (λ t. loaded s t) is ∙ saved_back s rows back ∙ made_is s rows
+
+after_loading : (s : Settings) (now : Written) → Stands s now → Stands s (after_step s Loads now)
+after_loading s now r = record {
+  entries = added_all s [] r.rows;
+  unsaved = 0;
+  rows = r.rows;
+  is = loaded_is s now.text r.rows r.text r.back;
+  text = r.text;
+  back = r.back;
+  turn = all_in_turn s [] r.rows tt;
+  fits = all_small s [] r.rows (omega arith);
+  few = omega arith;
+  gives = none_behind s r.rows (added_all s [] r.rows);
+}
+
+after_one : (s : Settings) (now : Written) (step : Step) → CanStep step now → Stands s now → Stands s (after_step s step now)
+after_one s now (Adds line) can r = after_adding s now line r
+after_one s now Saves can r = after_saving s now can r
+after_one s now Appends can r = after_appending s now can r
+after_one s now Loads can r = after_loading s now r
+
+after_all : (s : Settings) (steps : List Step) (now : Written) → CanMake s steps now → Stands s now → Stands s (after_steps s steps now)
+after_all s [] now can r = r
+after_all s (step ∷ steps) now can r = after_all s steps (after_step s step now) can.1 (after_one s now step can.0 r)
+
+comes_back : (s : Settings) (now : Written) → Stands s now → now.history.unsaved ≡ 0 → loaded s now.text ≡ now.history
+comes_back s now r e =
+    let none : r.unsaved ≡ 0 = sym (ap (λ h. h.unsaved) r.is) ∙ e in
+    loaded_is s now.text r.rows r.text r.back
+    ∙ ap (λ xs. filed_of s xs 0) (all_written s now r none)
+    ∙ ap (λ n. filed_of s r.entries n) (sym none)
+    ∙ sym r.is
+
+stands_first : (s : Settings) (lines : List (List ℕ)) → CanComeBack (just_saved s lines).history.kept.entries → Stands s (just_saved s lines)
+stands_first s lines can =
+    let entries = added_all s [] lines in
+    let e : (made_of s lines).kept.entries ≡ entries = ap (λ h. h.kept.entries) (made_is s lines) in
+    let turn = all_in_turn s [] lines tt in
+    let fits = all_small s [] lines (omega arith) in
+    record {
+      entries = entries;
+      unsaved = 0;
+      rows = entries;
+      is = made_is s lines;
+      text = ap (λ xs. saved_text xs) e;
+      back = rw e at can;
+      turn = turn;
+      fits = fits;
+      few = omega arith;
+      gives = none_behind s entries entries ∙ gives_itself s entries turn fits;
+    }
+
+pub text_keeps_up_holds : TextKeepsUp
+text_keeps_up_holds s lines steps back can e = comes_back s (after_steps s steps (just_saved s lines)) (after_all s steps (just_saved s lines) can (stands_first s lines back)) e

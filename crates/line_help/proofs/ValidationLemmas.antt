@@ -1,0 +1,25 @@
+-- Validation by brackets: the two steps at which a closing bracket doesn't fit.
+use Rattle.std.proofs.Common.{◌≡◌, ℕ, ◌<◌, true, false, List, [], ◌∷◌, ◌++◌, length, drop, reverse, refl, sym, ap, ◌∙◌, ◌≢◌, Some, slice_index_or}
+use Rattle.std.specs.Prelude.{◌==◌}
+use Rattle.std.proofs.lemmas.List.{drop_more, reverse-append, nil_from_length}
+use Rattle.std.proofs.lemmas.Bool.{ne_eqb}
+use Rattle.line_help.specs.Brackets.{is_opening, is_closing, partner}
+use Rattle.line_help.specs.Validation.{verdict_from, bracket_verdict, not_closed, unpaired}
+use Rattle.line_help.specs.declared.validate.ValidationResult.TheVariants.{Invalid}
+
+pub not_closed_found : (input bytes items older message : List ℕ) (opening other i : ℕ) → bytes ≡ input → verdict_from [] bytes ≡ verdict_from (reverse items) (drop i bytes) → i < length bytes
+    → items ≡ older ++ (opening ∷ []) → false ≡ is_opening (slice_index_or bytes i 0) → true ≡ is_closing (slice_index_or bytes i 0) → other ≡ partner opening → other ≢ slice_index_or bytes i 0
+    → message ≡ not_closed opening → Invalid (Some message) ≡ bracket_verdict input
+not_closed_found input bytes items older message opening other i same so_far within held not_opening closing is_partner differ told =
+    let not_closing : (partner opening == slice_index_or bytes i 0) ≡ false = ne_eqb (partner opening) (slice_index_or bytes i 0) (λ e. differ (is_partner ∙ e)) in
+    let step : verdict_from (reverse items) (drop i bytes) ≡ Invalid (Some (not_closed opening)) =
+    rw (held, drop_more bytes i 0 within, reverse-append older (opening ∷ []), ← not_opening, ← closing, not_closing) refl in
+    ap (λ text. Invalid (Some text)) told ∙ sym (ap (λ text. verdict_from [] text) (sym same) ∙ so_far ∙ step)
+
+pub unpaired_found : (input bytes items message : List ℕ) (i : ℕ) → bytes ≡ input → verdict_from [] bytes ≡ verdict_from (reverse items) (drop i bytes) → i < length bytes
+    → length items ≡ 0 → false ≡ is_opening (slice_index_or bytes i 0) → true ≡ is_closing (slice_index_or bytes i 0)
+    → message ≡ unpaired (slice_index_or bytes i 0) → Invalid (Some message) ≡ bracket_verdict input
+unpaired_found input bytes items message i same so_far within none not_opening closing told =
+    let step : verdict_from (reverse items) (drop i bytes) ≡ Invalid (Some (unpaired (slice_index_or bytes i 0))) =
+    rw (nil_from_length items none, drop_more bytes i 0 within, ← not_opening, ← closing) refl in
+    ap (λ text. Invalid (Some text)) told ∙ sym (ap (λ text. verdict_from [] text) (sym same) ∙ so_far ∙ step)

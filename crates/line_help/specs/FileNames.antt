@@ -1,0 +1,88 @@
+-- Names of files and folders for a path that is being typed.
+use Rattle.std.specs.Prelude.{ℕ, ◌+◌, ◌-◌, ◌==◌, Bool, true, false, not, List, [], ◌∷◌, ◌++◌, length, take, drop, map, filter, nat_eq, Option, Some, None}
+use Rattle.std.specs.List.{starts_with, suffix_len}
+use Rattle.std.specs.Ordering.{is_lt, nat_cmp}
+use Rattle.std.specs.Cmp.Lexicographic.{slice_cmp}
+use Rattle.line_help.specs.Completion.{Offered, Completion}
+use Rattle.line_help.specs.Sorting.{sorted_by}
+use Rattle.line_help.specs.Quotes.{unescaped, escaped, unclosed_quote}
+use Rattle.line_help.specs.WordBefore.{word_start, break_characters, double_quote_characters, is_among}
+use Rattle.line_help.specs.declared.quotes.Quote.{Quote}
+use Rattle.line_help.specs.declared.quotes.Quote.TheVariants.{Double, Single, None as Unquoted}
+
+-- what a folder holds: a name, and whether a folder bears it
+pub record Named : Type 0 where
+  pub name : List ℕ
+  pub is_dir : Bool
+
+-- a path that is being typed: where it starts in the line, what it says, and the quote that it stands behind
+pub record Typed : Type 0 where
+  pub start : ℕ
+  pub path : List ℕ
+  pub quote : Quote
+
+abbrev pub typed_of : ℕ → List ℕ → Quote → Typed
+typed_of start path quote = record { start = start; path = path; quote = quote }
+
+-- the characters that a name needs an escape before
+abbrev pub is_special : Quote → ℕ → Bool
+is_special Double c = is_among double_quote_characters c
+is_special Single c = is_among break_characters c
+is_special Unquoted c = is_among break_characters c
+
+-- behind an open quote the path is the rest; else it is the last word
+abbrev pub quoted : ℕ → Quote → List ℕ → Typed
+quoted start Double text = record { start = start; path = unescaped (drop start text) (Some 92); quote = Double }
+quoted start Single text = record { start = start; path = drop start text; quote = Single }
+quoted start Unquoted text = record { start = start; path = drop start text; quote = Unquoted }
+
+abbrev pub unquoted : ℕ → List ℕ → Typed
+unquoted start text = record { start = start; path = unescaped (drop start text) (Some 92); quote = Unquoted }
+
+abbrev pub typed_behind : Option (ℕ × Quote) → List ℕ → Typed
+typed_behind None text = unquoted (word_start (Some 92) (is_among break_characters) text) text
+typed_behind (Some within) text = quoted (within.0 + 1) within.1 text
+
+abbrev pub typed_path : List ℕ → Typed
+typed_path text = typed_behind (unclosed_quote text) text
+
+-- a path is a folder, up to the last slash, and a name
+abbrev pub folder_len : List ℕ → ℕ
+folder_len path = length path - suffix_len (λ b. not (b == 47)) path
+
+abbrev pub folder_of : List ℕ → List ℕ
+folder_of path = take (folder_len path) path
+
+abbrev pub name_of : List ℕ → List ℕ
+name_of path = drop (folder_len path) path
+
+-- a name, with its folder and what needs an escape escaped; a slash behind a folder
+abbrev pub slash_of : Bool → List ℕ
+slash_of true = 47 ∷ []
+slash_of false = []
+
+abbrev pub offered_name : Quote → List ℕ → Named → Offered
+offered_name quote folder named = record {
+  display = named.name;
+  replacement = escaped ((folder ++ named.name) ++ slash_of named.is_dir) (Some 92) (is_special quote) quote;
+}
+
+abbrev pub begins_with : List ℕ → Named → Bool
+begins_with name named = starts_with nat_eq named.name name
+
+-- each listed name that begins as the typed one, in the order of the list
+abbrev pub offered_names : Quote → List ℕ → List ℕ → List Named → List Offered
+offered_names quote folder name all = map (offered_name quote folder) (filter (begins_with name) all)
+
+abbrev pub offered_for : (List ℕ → List Named) → Typed → List Offered
+offered_for list typed = offered_names typed.quote (folder_of typed.path) (name_of typed.path) (list (folder_of typed.path))
+
+abbrev pub unsorted_completion : (List ℕ → List Named) → List ℕ → Completion
+unsorted_completion list text = record { start = (typed_path text).start; candidates = offered_for list (typed_path text) }
+
+-- by what is displayed; those that display the same keep their order
+abbrev pub displayed_before : Offered → Offered → Bool
+displayed_before x y = is_lt (slice_cmp nat_cmp x.display y.display)
+
+abbrev pub path_completion : (List ℕ → List Named) → List ℕ → Completion
+path_completion list text = record { start = (typed_path text).start; candidates = sorted_by displayed_before (offered_for list (typed_path text)) }

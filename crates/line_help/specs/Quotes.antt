@@ -1,0 +1,75 @@
+-- Escapes and quotes, as a shell reads them.
+use Rattle.std.specs.Prelude.{◌≡◌, ℕ, ◌+◌, ◌==◌, ◌&&◌, Bool, true, false, if◌then◌else◌, List, [], ◌∷◌, flat_map, Option, Some, None, encode_utf8_all}
+use Rattle.std.specs.Str.{chars}
+use Rattle.std.specs.Char.{IsScalar}
+use Rattle.line_help.specs.declared.quotes.Quote.{Quote}
+use Rattle.line_help.specs.declared.quotes.Quote.TheVariants.{Double, Single, None as Unquoted}
+
+-- a closure answers by this test of characters
+abbrev pub Tells : (ℕ → Bool → Type 0) → (ℕ → Bool) → Type 0
+Tells answers test = (c : ℕ) (answer : Bool) → IsScalar c → answers c answer → answer ≡ test c
+
+-- an escape stands for the character behind it, and at the end for nothing
+abbrev pub unescaped_chars : ℕ → List ℕ → List ℕ
+unescaped_chars esc [] = []
+unescaped_chars esc (c ∷ []) = if c == esc then [] else c ∷ []
+unescaped_chars esc (c ∷ (d ∷ cs)) = if c == esc then d ∷ unescaped_chars esc cs else c ∷ unescaped_chars esc (d ∷ cs)
+
+abbrev pub unescaped : List ℕ → Option ℕ → List ℕ
+unescaped text None = text
+unescaped text (Some esc) = encode_utf8_all (unescaped_chars esc (chars text))
+
+-- an escape before each break character
+abbrev pub escaped_char : ℕ → (ℕ → Bool) → ℕ → List ℕ
+escaped_char esc breaks c = if breaks c then esc ∷ c ∷ [] else c ∷ []
+
+abbrev pub escaped_chars : ℕ → (ℕ → Bool) → List ℕ → List ℕ
+escaped_chars esc breaks cs = flat_map (escaped_char esc breaks) cs
+
+abbrev pub escaped_by : Option ℕ → List ℕ → (ℕ → Bool) → List ℕ
+escaped_by None text breaks = text
+escaped_by (Some esc) text breaks = encode_utf8_all (escaped_chars esc breaks (chars text))
+
+-- nothing is escaped between single quotes
+abbrev pub escape_in : Quote → Option ℕ → Option ℕ
+escape_in Double esc = esc
+escape_in Single esc = None
+escape_in Unquoted esc = esc
+
+abbrev pub escaped : List ℕ → Option ℕ → (ℕ → Bool) → Quote → List ℕ
+escaped text esc breaks quote = escaped_by (escape_in quote esc) text breaks
+
+-- where one stands in a text: outside quotes, or behind the quote at a place. A backslash escapes outside and between double quotes
+abbrev pub escapes_in : Quote → Bool
+escapes_in Double = true
+escapes_in Single = false
+escapes_in Unquoted = false
+
+abbrev pub escapes_at : Option (ℕ × Quote) → Bool
+escapes_at None = true
+escapes_at (Some within) = escapes_in within.1
+
+-- the byte that closes a quote
+abbrev pub closes : Quote → ℕ → Bool
+closes Double b = b == 34
+closes Single b = b == 39
+closes Unquoted b = false
+
+-- a byte at a place, which no backslash escapes, opens a quote, closes it or does neither
+abbrev pub opened_at : ℕ → ℕ → Option (ℕ × Quote)
+opened_at place b = if b == 34 then Some (place, Double) else if b == 39 then Some (place, Single) else None
+
+abbrev pub quote_after : ℕ → ℕ → Option (ℕ × Quote) → Option (ℕ × Quote)
+quote_after place b None = opened_at place b
+quote_after place b (Some within) = if closes within.1 b then None else Some within
+
+-- the quote that is open behind these bytes, the first of which stands at a place
+abbrev pub open_behind : Option (ℕ × Quote) → ℕ → List ℕ → Option (ℕ × Quote)
+open_behind within place [] = within
+open_behind within place (b ∷ []) = quote_after place b within
+open_behind within place (b ∷ (c ∷ bs)) = if b == 92 && escapes_at within
+    then open_behind within (place + 2) bs
+    else open_behind (quote_after place b within) (place + 1) (c ∷ bs)
+
+abbrev pub unclosed_quote : List ℕ → Option (ℕ × Quote)
+unclosed_quote text = open_behind None 0 text

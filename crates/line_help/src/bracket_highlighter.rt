@@ -1,0 +1,112 @@
+//! Highlighting the match of the bracket at the cursor.
+ghost use Rattle.std.specs.Prelude.{◌≡◌, ◌⊎◌, ◌<◌, ⊤, false, IsTrue, IfOk, IfErr, IfSome, is_some, string_bytes, slice_get, Some, None};
+ghost use Rattle.std.specs.Cow.{cow_str_bytes};
+ghost use Rattle.line_config.specs.declared.errors.HookFault.TheVariants.{Failed, Memory};
+ghost use Rattle.line_help.specs.Highlights.{Styled, kept_bracket, styles_line, match_to_show, with_bold_byte, with_match_shown};
+ghost use Rattle.line_help.specs.Highlights.Part.{OfLine};
+
+use crate::brackets::{check_bracket, find_matching_bracket};
+use crate::highlight::Highlighter;
+use line_config::HookFault;
+use line_keys::CmdKind;
+use std::alloc::{AllocError, Global};
+use std::borrow::CowStr;
+use std::marker::Model;
+
+/// Shows the bracket that matches the one at the cursor in bold and blue. It keeps the bracket at the cursor from
+/// `highlight_char` to the drawing that follows.
+#[derive(Clone, Copy, Debug)]
+pub struct MatchingBracketHighlighter {
+    bracket: Option<(u8, usize)>,
+}
+
+impl Model for MatchingBracketHighlighter {
+    ghost use Rattle.std.specs.Prelude.{ℕ, Option};
+
+    ghost Value = { Option (ℕ × ℕ) };
+
+    ghost view = { λ h. h.bracket };
+
+    ghost inverse = { λ found. record { bracket = found } };
+}
+
+impl MatchingBracketHighlighter {
+    /// No bracket is kept.
+    pub fn new() -> Self
+        ensures { result ≡ None }
+    {
+        MatchingBracketHighlighter { bracket: None }
+    }
+
+    /// The match that is to be shown, and its place.
+    fn match_in(&self, line: &str) -> Option<(u8, usize)>
+        ensures found { result ≡ match_to_show line.now self.now }
+        ensures stands { IfSome result (λ found. slice_get line.now found.1 ≡ Some found.0) }
+        ensures ascii { IfSome result (λ found. found.0 < 128) }
+    {
+        let (bracket, pos) = self.bracket?;
+        if line.len() < 2 || pos >= line.len() {
+            return None;
+        }
+        find_matching_bracket(line, pos, bracket)
+    }
+}
+
+impl Highlighter for MatchingBracketHighlighter {
+    ghost marks = { λ self line pos kind. is_some (kept_bracket line pos kind) };
+
+    ghost kept = { λ before after. ⊤ };
+
+    ghost styles = { λ self part. styles_line part };
+
+    ghost highlighting_fails = { λ self text. false };
+
+    /// The line with the match of the kept bracket in bold and blue, if it has one.
+    #[tactic(auto, using(crate::proofs::HighlightLemmas::plain))]
+    fn highlight<'l>(
+        &self,
+        alloc: Global,
+        line: &'l str,
+        _pos: usize,
+    ) -> Result<CowStr<'l>, HookFault>
+        ensures shown { IfOk result (λ shown. cow_str_bytes shown ≡ with_match_shown line.now self.now) }
+        ensures text { IfOk result (λ shown. Styled line.now (cow_str_bytes shown)) }
+        ensures plain { styles_line OfLine ≡ false → IfOk result (λ shown. cow_str_bytes shown ≡ line.now) }
+        ensures fault { IfErr result (λ e. (e ≡ Memory) ⊎ ((e ≡ Failed) × IsTrue false)) }
+    {
+        match self.match_in(line) {
+            None => Ok(CowStr::Borrowed(line)),
+            Some((matching, place)) => {
+                let shown = with_bold(alloc, line, matching, place)?;
+                Ok(CowStr::Owned(shown))
+            }
+        }
+    }
+
+    /// Keeps the bracket whose match is to be shown, and tells whether there is one. A line's last drawing shows none.
+    fn highlight_char(&mut self, line: &str, pos: usize, kind: CmdKind) -> bool
+        ensures bracket { self.new ≡ kept_bracket line.now pos kind }
+        ensures marks { result ≡ is_some (kept_bracket line.now pos kind) }
+    {
+        self.bracket = match kind {
+            CmdKind::ForcedRefresh => None,
+            CmdKind::MoveCursor | CmdKind::Other => check_bracket(line, pos),
+        };
+        self.bracket.is_some()
+    }
+}
+
+/// The line with the byte `bracket` at a place in bold and blue.
+#[tactic(auto, using(crate::proofs::HighlightLemmas::bold))]
+fn with_bold(alloc: Global, line: &str, bracket: u8, place: usize) -> Result<String, AllocError>
+    requires stands { slice_get line.now place ≡ Some bracket }
+    requires ascii { bracket < 128 }
+    ensures { IfOk result (λ shown. string_bytes shown ≡ with_bold_byte line.now (Some (bracket, place))) }
+{
+    let mut shown = String::from_str(alloc, &line[..place])?;
+    shown.push_str("\x1b[1;34m")?;
+    shown.push(bracket as char)?;
+    shown.push_str("\x1b[0m")?;
+    shown.push_str(&line[place + 1..])?;
+    Ok(shown)
+}

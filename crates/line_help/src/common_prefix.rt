@@ -1,0 +1,50 @@
+//! What candidates have in common.
+ghost use Rattle.std.specs.Prelude.{◌≡◌, ◌≤◌, length, map, nat_eq, option_copied};
+ghost use Rattle.std.specs.List.{common_prefix_len};
+ghost use Rattle.line_help.specs.CommonPrefix.{common_beginning, longest_common_prefix};
+
+use crate::completion::Candidate;
+
+/// How many bytes two texts begin with alike.
+#[tactic(auto, using(crate::proofs::CommonPrefixLemmas::behind_other))]
+fn common_len(text: &[u8], other: &[u8]) -> usize
+    ensures value { result ≡ common_prefix_len nat_eq text.now other.now }
+    ensures bound { result ≤ length text.now }
+{
+    let mut len = 0;
+    while len < text.len() && len < other.len() && text[len] == other[len] {
+        len += 1;
+    }
+    len
+}
+
+/// The longest beginning of a text, in whole characters, that another text has too.
+#[tactic(auto, using(crate::proofs::CommonPrefixLemmas::cut_at_floor))]
+fn common_beginning<'t>(text: &'t str, other: &str) -> &'t str
+    ensures { result.now ≡ common_beginning text.now other.now }
+{
+    let len = common_len(text.as_bytes(), other.as_bytes());
+    let end = text.floor_char_boundary(len);
+    &text[..end]
+}
+
+/// The longest beginning, in whole characters, that all replacements have; none where it is empty, but for a sole
+/// candidate, whose replacement it is.
+#[tactic(auto, using(crate::proofs::CommonPrefixLemmas::of_several, crate::proofs::CommonPrefixLemmas::kept_unless_empty))]
+pub fn longest_common_prefix<C: Candidate>(candidates: &[C]) -> Option<&str>
+    ensures { option_copied result ≡ longest_common_prefix (map (λ c. (C.offers c).replacement) candidates.now) }
+{
+    let (first, others) = candidates.split_first()?;
+    let mut common = first.replacement();
+    if others.is_empty() {
+        return Some(common);
+    }
+    for other in others {
+        common = common_beginning(common, other.replacement());
+    }
+    if common.is_empty() {
+        None
+    } else {
+        Some(common)
+    }
+}

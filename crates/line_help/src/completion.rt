@@ -1,0 +1,190 @@
+//! Completion: what may stand in place of the word before the cursor.
+ghost use Rattle.std.specs.Prelude.{◌≡◌, ◌≤◌, ◌⊎◌, ℕ, List, Bool, true, false, IsTrue, IfOk, IfErr, OnOk, OnErr, IsCharBoundary, length, map, box_value};
+ghost use Rattle.line_buffer.specs.Line.{Line, replaced};
+ghost use Rattle.line_buffer.specs.Replay.{Replays, replacement};
+ghost use Rattle.line_config.specs.declared.errors.HookFault.TheVariants.{Failed, Memory};
+ghost use Rattle.line_help.specs.Completion.{Offered, Completion, text_offered, nothing_offered};
+
+use crate::context::Context;
+use crate::history::History;
+use line_buffer::{ChangeListener, LineBuffer};
+use line_config::HookFault;
+use std::alloc::{Allocator, Global};
+use std::convert::AsStr;
+use std::marker::Model;
+
+/// A candidate.
+pub trait Candidate: Drop {
+    // What it offers.
+    ghost offers: { Self → Offered };
+
+    /// The text that is listed.
+    fn display(&self) -> &str
+        ensures { result.now ≡ (offers self.now).display };
+
+    /// The text that is put into the line.
+    fn replacement(&self) -> &str
+        ensures { result.now ≡ (offers self.now).replacement };
+}
+
+impl<T: AsStr + Drop> Candidate for T {
+    ghost offers = { λ text. text_offered (T.text text) };
+
+    fn display(&self) -> &str {
+        self.as_str()
+    }
+
+    fn replacement(&self) -> &str {
+        self.as_str()
+    }
+}
+
+/// A candidate whose two texts may differ.
+#[derive(Debug, Drop)]
+pub struct Pair {
+    /// The text that is listed.
+    pub display: String,
+    /// The text that is put into the line.
+    pub replacement: String,
+}
+
+impl Model for Pair {
+    ghost use Rattle.std.specs.Prelude.{string_bytes};
+    ghost use Rattle.line_help.specs.Completion.{Offered};
+
+    ghost Value = { Offered };
+
+    ghost view = { λ p. record { display = string_bytes p.display; replacement = string_bytes p.replacement } };
+}
+
+impl Pair {
+    /// The same candidate in memory of its own.
+    pub fn try_clone(&self, alloc: Global) -> Result<Self, HookFault>
+        ensures same { IfOk result (λ pair. pair ≡ self.now) }
+        ensures fault { IfErr result (λ e. e ≡ Memory) }
+    {
+        let display = String::from_str(alloc, self.display.as_str())?;
+        let replacement = String::from_str(alloc, self.replacement.as_str())?;
+        Ok(Pair {
+            display,
+            replacement,
+        })
+    }
+}
+
+impl Candidate for Pair {
+    ghost offers = { λ pair. pair };
+
+    fn display(&self) -> &str {
+        self.display.as_str()
+    }
+
+    fn replacement(&self) -> &str {
+        self.replacement.as_str()
+    }
+}
+
+/// What completes words.
+pub trait Completer {
+    /// A candidate of it.
+    type Candidate: Candidate;
+
+    // What it answers, by line, place, entries of the history and place in the history.
+    ghost completion_of: { Self → List ℕ → ℕ → List (List ℕ) → ℕ → Completion };
+
+    // Whether it fails to, by the same.
+    ghost completing_fails: { Self → List ℕ → ℕ → List (List ℕ) → ℕ → Bool };
+
+    // Whether it fails to update a line, by the line, the start and the text to be put in.
+    ghost updating_fails: { Self → Line → ℕ → List ℕ → Bool };
+
+    /// Where the word before the cursor at `pos` starts, in bytes, and the candidates for it. They depend on nothing but
+    /// line, place, entries and place in the history; want of memory may be answered besides.
+    fn complete<Hi: History>(
+        &self,
+        alloc: Global,
+        line: &str,
+        pos: usize,
+        ctx: &Context<'_, Hi>,
+    ) -> Result<(usize, Vec<Self::Candidate>), HookFault>
+        requires { IsCharBoundary line.now pos }
+        ensures start { IfOk result (λ found. found.0 ≡ (completion_of self.now line.now pos (Hi.entries ctx.now.history.now) ctx.now.place).start) }
+        ensures candidates { IfOk result (λ found. map Self.Candidate.offers found.1.items ≡ (completion_of self.now line.now pos (Hi.entries ctx.now.history.now) ctx.now.place).candidates) }
+        ensures fine { OnOk result (completing_fails self.now line.now pos (Hi.entries ctx.now.history.now) ctx.now.place ≡ false) }
+        ensures fault { IfErr result (λ e. (e ≡ Memory) ⊎ ((e ≡ Failed) × IsTrue (completing_fails self.now line.now pos (Hi.entries ctx.now.history.now) ctx.now.place))) };
+
+    /// Puts a candidate's replacement in place of the line from `start` to the cursor.
+    fn update<L: ChangeListener>(
+        &self,
+        alloc: Global,
+        line: &mut LineBuffer,
+        start: usize,
+        elected: &str,
+        cl: &mut L,
+    ) -> Result<(), HookFault>
+        requires order { start ≤ line.old.place }
+        requires boundary { IsCharBoundary line.old.text start }
+        ensures told { OnOk result (L.takes cl.old (replacement start line.old.place elected.now line.old.text) cl.new) }
+        ensures replays { OnOk result (Replays (replacement start line.old.place elected.now line.old.text) line.old.text line.new.text) }
+        ensures line { OnOk result (line.new ≡ replaced start line.old.place elected.now line.old) }
+        ensures refused { OnErr result ((cl.new ≡ cl.old) ⊎ L.refuses cl.old (replacement start line.old.place elected.now line.old.text) cl.new) }
+        ensures kept { OnErr result (line.new ≡ line.old) }
+        ensures fault { IfErr result (λ e. (e ≡ Memory) ⊎ ((e ≡ Failed) × IsTrue (updating_fails self.now line.old start elected.now))) }
+    {
+        let end = line.pos();
+        line.replace(alloc, start..end, elected, cl)?;
+        Ok(())
+    }
+}
+
+/// No candidates.
+impl Completer for () {
+    type Candidate = String;
+
+    ghost completion_of = { λ self line pos entries place. nothing_offered };
+
+    ghost completing_fails = { λ self line pos entries place. false };
+
+    ghost updating_fails = { λ self line start elected. false };
+
+    fn complete<Hi: History>(
+        &self,
+        alloc: Global,
+        _line: &str,
+        _pos: usize,
+        _ctx: &Context<'_, Hi>,
+    ) -> Result<(usize, Vec<String>), HookFault> {
+        Ok((0, Vec::new(alloc)))
+    }
+}
+
+impl<C: Completer, A: Allocator> Completer for Box<C, A> {
+    type Candidate = C::Candidate;
+
+    ghost completion_of = { λ held. C.completion_of (box_value held) };
+
+    ghost completing_fails = { λ held. C.completing_fails (box_value held) };
+
+    ghost updating_fails = { λ held. C.updating_fails (box_value held) };
+
+    fn complete<Hi: History>(
+        &self,
+        alloc: Global,
+        line: &str,
+        pos: usize,
+        ctx: &Context<'_, Hi>,
+    ) -> Result<(usize, Vec<C::Candidate>), HookFault> {
+        (**self).complete(alloc, line, pos, ctx)
+    }
+
+    fn update<L: ChangeListener>(
+        &self,
+        alloc: Global,
+        line: &mut LineBuffer,
+        start: usize,
+        elected: &str,
+        cl: &mut L,
+    ) -> Result<(), HookFault> {
+        (**self).update(alloc, line, start, elected, cl)
+    }
+}

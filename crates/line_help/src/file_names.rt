@@ -1,0 +1,249 @@
+//! Completion of file names, over a list of what folders hold.
+ghost use Rattle.std.specs.Prelude.{◌≡◌, ◌++◌, ◌⊎◌, ◌≤◌, ℕ, List, Bool, true, false, length, take, filter, IsTrue, IfOk, IfErr, OnOk, OnErr, IsCharBoundary, string_bytes, Some};
+ghost use Rattle.std.specs.Cow.{cow_str_bytes};
+ghost use Rattle.line_config.specs.declared.errors.HookFault.TheVariants.{Failed, Memory};
+ghost use Rattle.line_help.specs.Completion.{Offered, Completion};
+ghost use Rattle.line_help.specs.FileNames.{Named, typed_of, quoted, is_special, typed_path, name_of, folder_of, slash_of, offered_name, offered_names, offered_for, begins_with, unsorted_completion, path_completion, displayed_before};
+ghost use Rattle.std.specs.List.Sorted.{IsSortedBy};
+ghost use Rattle.line_help.specs.Quotes.{escaped};
+
+use crate::completion::{Candidate, Completer, Pair};
+use crate::context::Context;
+use crate::history::History;
+use crate::quotes::{Quote, escape, find_unclosed_quote, unescape};
+use crate::word_before::{ends_word, extract_word, is_double_quote_char};
+use line_config::HookFault;
+use std::alloc::Global;
+use std::borrow::CowStr;
+use std::marker::Model;
+
+/// What a folder holds: a name, and whether a folder bears it.
+#[derive(Debug, Drop)]
+pub struct Listed {
+    /// The name, without its folder.
+    pub name: String,
+    /// Whether it is a folder.
+    pub is_dir: bool,
+}
+
+impl Model for Listed {
+    ghost use Rattle.std.specs.Prelude.{string_bytes};
+    ghost use Rattle.line_help.specs.FileNames.{Named};
+
+    ghost Value = { Named };
+
+    ghost view = { λ l. record { name = string_bytes l.name; is_dir = l.is_dir } };
+}
+
+impl Listed {
+    fn begins_with(&self, name: &str) -> bool
+        ensures { result ≡ begins_with name.now self.now }
+    {
+        self.name.as_str().starts_with(name)
+    }
+}
+
+/// Lists what folders hold.
+pub trait Lister {
+    // What a folder holds, by its path.
+    ghost held_in: { Self → List ℕ → List Named };
+
+    // Whether it can't be listed.
+    ghost listing_fails: { Self → List ℕ → Bool };
+
+    /// What the folder `dir` holds, and nothing where there is no such folder. The path ends in a slash, or is empty where no
+    /// folder was typed.
+    fn list(&self, alloc: Global, dir: &str) -> Result<Vec<Listed>, HookFault>
+        ensures names { IfOk result (λ names. names.items ≡ held_in self.now dir.now) }
+        ensures fine { OnOk result (listing_fails self.now dir.now ≡ false) }
+        ensures fault { IfErr result (λ e. (e ≡ Memory) ⊎ ((e ≡ Failed) × IsTrue (listing_fails self.now dir.now))) };
+}
+
+/// Completes the names of files and folders.
+#[derive(Debug, Drop)]
+pub struct FilenameCompleter<L> {
+    pub(crate) lister: L,
+}
+
+/// A path that is being typed.
+#[derive(Drop)]
+struct TypedPath<'l> {
+    start: usize,
+    path: CowStr<'l>,
+    quote: Quote,
+}
+
+/// The escape in paths.
+const ESCAPE_CHAR: Option<char> = Some('\\');
+
+/// The path that stands behind a quote.
+fn quoted<'l>(
+    alloc: Global,
+    text: &'l str,
+    start: usize,
+    quote: Quote,
+) -> Result<TypedPath<'l>, HookFault>
+    requires { IsCharBoundary text.now start }
+    ensures typed { IfOk result (λ typed. typed_of typed.start (cow_str_bytes typed.path) typed.quote ≡ quoted start quote text.now) }
+    ensures fault { IfErr result (λ e. e ≡ Memory) }
+{
+    let rest = &text[start..];
+    let path = match quote {
+        Quote::Double => unescape(alloc, rest, ESCAPE_CHAR)?,
+        Quote::Single | Quote::None => CowStr::Borrowed(rest),
+    };
+    Ok(TypedPath { start, path, quote })
+}
+
+/// The path at the end of a text: what stands behind an open quote, else the last word.
+#[tactic(auto, using(crate::proofs::FileNameLemmas::behind_quote))]
+fn typed_path<'l>(alloc: Global, text: &'l str) -> Result<TypedPath<'l>, HookFault>
+    ensures typed { IfOk result (λ typed. typed_of typed.start (cow_str_bytes typed.path) typed.quote ≡ typed_path text.now) }
+    ensures fault { IfErr result (λ e. e ≡ Memory) }
+{
+    match find_unclosed_quote(text) {
+        Some((place, quote)) => quoted(alloc, text, place + 1, quote),
+        None => {
+            let (start, word) = extract_word(text, text.len(), ESCAPE_CHAR, ends_word);
+            let path = unescape(alloc, word, ESCAPE_CHAR)?;
+            Ok(TypedPath {
+                start,
+                path,
+                quote: Quote::None,
+            })
+        }
+    }
+}
+
+/// A path's folder, up to its last slash, and its name.
+fn split_path(path: &str) -> (&str, &str)
+    ensures folder { result.0.now ≡ folder_of path.now }
+    ensures name { result.1.now ≡ name_of path.now }
+{
+    match path.rfind('/') {
+        Some(place) => path.split_at(place + 1),
+        None => ("", path),
+    }
+}
+
+/// A path with an escape before each character that needs one.
+fn escape_path(alloc: Global, path: String, quote: Quote) -> Result<String, HookFault>
+    ensures text { IfOk result (λ text. string_bytes text ≡ escaped (string_bytes path) (Some 92) (is_special quote) quote) }
+    ensures fault { IfErr result (λ e. e ≡ Memory) }
+{
+    match quote {
+        Quote::Double => escape(alloc, path, ESCAPE_CHAR, is_double_quote_char, quote),
+        Quote::Single | Quote::None => escape(alloc, path, ESCAPE_CHAR, ends_word, quote),
+    }
+}
+
+/// The candidate that a listed name gives.
+fn offered_name(
+    alloc: Global,
+    quote: Quote,
+    folder: &str,
+    listed: &Listed,
+) -> Result<Pair, HookFault>
+    ensures pair { IfOk result (λ pair. pair ≡ offered_name quote folder.now listed.now) }
+    ensures fault { IfErr result (λ e. e ≡ Memory) }
+{
+    let mut path = String::from_str(alloc, folder)?;
+    path.push_str(listed.name.as_str())?;
+    if listed.is_dir {
+        path.push('/')?;
+    }
+    let replacement = escape_path(alloc, path, quote)?;
+    let display = String::from_str(alloc, listed.name.as_str())?;
+    Ok(Pair {
+        display,
+        replacement,
+    })
+}
+
+/// The candidates that listed names give.
+fn offered_names(
+    alloc: Global,
+    quote: Quote,
+    folder: &str,
+    name: &str,
+    all: &[Listed],
+) -> Result<Vec<Pair>, HookFault>
+    ensures pairs { IfOk result (λ pairs. pairs.items ≡ offered_names quote folder.now name.now all.now) }
+    ensures fault { IfErr result (λ e. e ≡ Memory) }
+{
+    let mut pairs = Vec::new(alloc);
+    for listed in all {
+        if listed.begins_with(name) {
+            pairs.push(offered_name(alloc, quote, folder, listed)?)?;
+        }
+    }
+    Ok(pairs)
+}
+
+impl<L: Lister> FilenameCompleter<L> {
+    /// A completer over a lister.
+    pub fn new(lister: L) -> Self
+        ensures { result.lister ≡ lister }
+    {
+        FilenameCompleter { lister }
+    }
+
+    /// Where the path before `pos` starts, and a candidate for each name in its folder that begins as it does, by name.
+    pub fn complete_path(
+        &self,
+        alloc: Global,
+        line: &str,
+        pos: usize,
+    ) -> Result<(usize, Vec<Pair>), HookFault>
+        requires { IsCharBoundary line.now pos }
+        ensures start { IfOk result (λ found. found.0 ≡ (path_completion (L.held_in self.now.lister) (take pos line.now)).start) }
+        ensures candidates { IfOk result (λ found. found.1.items ≡ (path_completion (L.held_in self.now.lister) (take pos line.now)).candidates) }
+        ensures sorted { IfOk result (λ found. IsSortedBy displayed_before found.1.items) }
+        ensures fine { OnOk result (L.listing_fails self.now.lister (folder_of (typed_path (take pos line.now)).path) ≡ false) }
+        ensures fault { IfErr result (λ e. (e ≡ Memory) ⊎ ((e ≡ Failed) × IsTrue (L.listing_fails self.now.lister (folder_of (typed_path (take pos line.now)).path)))) }
+    {
+        let (start, mut pairs) = self.complete_path_unsorted(alloc, line, pos)?;
+        pairs.sort_by(|one, other| one.display().cmp(other.display()))?;
+        Ok((start, pairs))
+    }
+
+    /// The same in the order in which the lister gives the names.
+    pub fn complete_path_unsorted(
+        &self,
+        alloc: Global,
+        line: &str,
+        pos: usize,
+    ) -> Result<(usize, Vec<Pair>), HookFault>
+        requires { IsCharBoundary line.now pos }
+        ensures start { IfOk result (λ found. found.0 ≡ (unsorted_completion (L.held_in self.now.lister) (take pos line.now)).start) }
+        ensures candidates { IfOk result (λ found. found.1.items ≡ (unsorted_completion (L.held_in self.now.lister) (take pos line.now)).candidates) }
+        ensures fine { OnOk result (L.listing_fails self.now.lister (folder_of (typed_path (take pos line.now)).path) ≡ false) }
+        ensures fault { IfErr result (λ e. (e ≡ Memory) ⊎ ((e ≡ Failed) × IsTrue (L.listing_fails self.now.lister (folder_of (typed_path (take pos line.now)).path)))) }
+    {
+        let typed = typed_path(alloc, &line[..pos])?;
+        let (folder, name) = split_path(typed.path.as_str());
+        let all = self.lister.list(alloc, folder)?;
+        let pairs = offered_names(alloc, typed.quote, folder, name, &all)?;
+        Ok((typed.start, pairs))
+    }
+}
+
+impl<L: Lister> Completer for FilenameCompleter<L> {
+    type Candidate = Pair;
+
+    ghost completion_of = { λ self line pos entries place. path_completion (L.held_in self.lister) (take pos line) };
+
+    ghost completing_fails = { λ self line pos entries place. L.listing_fails self.lister (folder_of (typed_path (take pos line)).path) };
+
+    ghost updating_fails = { λ self line start elected. false };
+
+    fn complete<Hi: History>(
+        &self,
+        alloc: Global,
+        line: &str,
+        pos: usize,
+        _ctx: &Context<'_, Hi>,
+    ) -> Result<(usize, Vec<Pair>), HookFault> {
+        self.complete_path(alloc, line, pos)
+    }
+}

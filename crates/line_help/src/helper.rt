@@ -1,0 +1,43 @@
+//! The helper of a line: completer, hinter, highlighter and validator in one.
+ghost use Rattle.std.specs.Prelude.{◌≡◌, refl};
+
+use crate::completion::Completer;
+use crate::highlight::Highlighter;
+use crate::hint::Hinter;
+use crate::validate::Validator;
+
+/// What completes, hints, highlights and validates.
+///
+/// What `highlight_char` leaves of it answers the other calls as it did before.
+pub trait Helper: Completer + Hinter + Highlighter + Validator {
+    ghost same_completions: { (before after : Self) → Self.Highlighter.kept before after → Self.Completer.completion_of after ≡ Self.Completer.completion_of before };
+
+    ghost same_completing: { (before after : Self) → Self.Highlighter.kept before after → Self.Completer.completing_fails after ≡ Self.Completer.completing_fails before };
+
+    ghost same_updating: { (before after : Self) → Self.Highlighter.kept before after → Self.Completer.updating_fails after ≡ Self.Completer.updating_fails before };
+
+    ghost same_hints: { (before after : Self) → Self.Highlighter.kept before after → Self.Hinter.hint_of after ≡ Self.Hinter.hint_of before };
+
+    ghost same_hinting: { (before after : Self) → Self.Highlighter.kept before after → Self.Hinter.fails after ≡ Self.Hinter.fails before };
+
+    ghost same_verdicts: { (before after : Self) → Self.Highlighter.kept before after → Self.Validator.verdict_of after ≡ Self.Validator.verdict_of before };
+
+    ghost same_validating: { (before after : Self) → Self.Highlighter.kept before after → Self.Validator.validating_fails after ≡ Self.Validator.validating_fails before };
+}
+
+/// No candidates, no hints, no styles, and every text is valid.
+impl Helper for () {
+    ghost same_completions = { λ before after kept. refl };
+
+    ghost same_completing = { λ before after kept. refl };
+
+    ghost same_updating = { λ before after kept. refl };
+
+    ghost same_hints = { λ before after kept. refl };
+
+    ghost same_hinting = { λ before after kept. refl };
+
+    ghost same_verdicts = { λ before after kept. refl };
+
+    ghost same_validating = { λ before after kept. refl };
+}

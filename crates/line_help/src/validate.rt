@@ -1,0 +1,108 @@
+//! Validation: whether a line may be accepted.
+ghost use Rattle.std.specs.Prelude.{◌≡◌, ◌⊎◌, ℕ, List, Bool, None, false, IsTrue, IfOk, IfErr, OnOk};
+ghost use Rattle.line_config.specs.declared.errors.HookFault.TheVariants.{Failed, Memory};
+
+use line_config::HookFault;
+use line_keys::Text;
+use std::alloc::Global;
+
+/// What a validator finds of a text.
+#[derive(Debug, Drop, PartialEq, Eq)]
+pub enum ValidationResult {
+    /// More has to be typed.
+    Incomplete,
+    /// It can't be accepted as it is, with what is told of that, if anything.
+    Invalid(Option<Text>),
+    /// It can be accepted, with what is told of that, if anything.
+    Valid(Option<Text>),
+}
+
+impl ValidationResult {
+    ghost use Rattle.line_help.specs.Validation.{is_valid, has_message};
+
+    /// Whether the text can be accepted.
+    pub fn is_valid(&self) -> bool
+        ensures { result ≡ is_valid self.now }
+    {
+        match self {
+            ValidationResult::Valid(_) => true,
+            ValidationResult::Incomplete | ValidationResult::Invalid(_) => false,
+        }
+    }
+
+    /// Whether something is told.
+    pub fn has_message(&self) -> bool
+        ensures { result ≡ has_message self.now }
+    {
+        match self {
+            ValidationResult::Incomplete => false,
+            ValidationResult::Invalid(message) | ValidationResult::Valid(message) =>
+                message.is_some(),
+        }
+    }
+}
+
+/// The text that is to be validated.
+#[derive(Clone, Copy, Debug)]
+pub struct ValidationContext<'i> {
+    input: &'i str,
+}
+
+impl<'i> ValidationContext<'i> {
+    /// For this text.
+    pub fn new(input: &'i str) -> Self
+        ensures { result.input.now ≡ input.now }
+    {
+        ValidationContext { input }
+    }
+
+    /// The text.
+    pub fn input(&self) -> &str
+        ensures { result.now ≡ self.now.input.now }
+    {
+        self.input
+    }
+}
+
+/// What says whether a line may be accepted.
+pub trait Validator {
+    ghost use Rattle.line_help.specs.declared.validate.ValidationResult.{ValidationResult};
+
+    // What it finds of a text.
+    ghost verdict_of: { Self → List ℕ → ValidationResult };
+
+    // Whether it fails at a text.
+    ghost validating_fails: { Self → List ℕ → Bool };
+
+    /// What it finds of the text, which depends on nothing but the text; want of memory may be answered besides.
+    fn validate(
+        &self,
+        alloc: Global,
+        ctx: &ValidationContext<'_>,
+    ) -> Result<ValidationResult, HookFault>
+        ensures verdict { IfOk result (λ found. found ≡ verdict_of self.now ctx.now.input.now) }
+        ensures fine { OnOk result (validating_fails self.now ctx.now.input.now ≡ false) }
+        ensures fault { IfErr result (λ e. (e ≡ Memory) ⊎ ((e ≡ Failed) × IsTrue (validating_fails self.now ctx.now.input.now))) };
+
+    /// Whether it would be asked while the line is typed. Nothing asks it.
+    fn validate_while_typing(&self) -> bool {
+        false
+    }
+}
+
+/// Every text is valid, and nothing is told.
+impl Validator for () {
+    ghost use Rattle.line_help.specs.declared.validate.ValidationResult.TheVariants.{Valid};
+
+    ghost verdict_of = { λ self text. Valid None };
+
+    ghost validating_fails = { λ self text. false };
+
+    fn validate(
+        &self,
+        _alloc: Global,
+        _ctx: &ValidationContext<'_>,
+    ) -> Result<ValidationResult, HookFault> {
+        Ok(ValidationResult::Valid(None))
+    }
+}

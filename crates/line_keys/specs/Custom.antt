@@ -1,0 +1,85 @@
+-- What custom bindings make of keys: of one, and of the sequence that it begins.
+use Rattle.std.specs.Prelude.{ℕ, Bool, List, [], ◌∷◌, ◌++◌, Option, Some, None, Result, Ok, Err, slice_get, if◌then◌else◌}
+use Rattle.std.specs.declared.dyn_box.DynBox.{DynBox}
+use Rattle.std.specs.declared.alloc.Global.{Global}
+use Rattle.line_config.specs.declared.errors.ReadlineError.{ReadlineError}
+use Rattle.line_config.specs.declared.errors.ReadlineError.TheVariants.{PasteOutOfPlace}
+use Rattle.line_keys.specs.declared.binding.Entry.{Entry}
+use Rattle.line_keys.specs.declared.command.Cmd.{Cmd}
+use Rattle.line_keys.specs.declared.events.Event.{Event}
+use Rattle.line_keys.specs.declared.events.Event.TheVariants.{Any, KeySeq}
+use Rattle.line_keys.specs.declared.handler.EventHandler.{EventHandler}
+use Rattle.line_keys.specs.declared.key.KeyEvent.{KeyEvent}
+use Rattle.line_keys.specs.declared.keymap.custom.Followed.{Followed}
+use Rattle.line_keys.specs.declared.keymap.custom.Followed.TheVariants.{Bound, Unbound}
+use Rattle.line_keys.specs.Answers.{binds, command_by}
+use Rattle.line_keys.specs.Bound.{begins as some_begins}
+use Rattle.line_keys.specs.Coming.{Coming, Pressed, Pasted, CutOff, Ends, Refused, refusal_of}
+use Rattle.line_keys.specs.Events.{single}
+use Rattle.line_keys.specs.Handling.{Meaning, Showing}
+use Rattle.line_keys.specs.Phrases.{Input, Taken, answered, at_once, refused}
+use Rattle.line_keys.specs.Refreshing.{Shown}
+use Rattle.line_keys.specs.Showing.{seen_of}
+
+-- the bindings as plain functions
+pub record Custom : Type 0 where
+  -- what an event is bound to answers of what it is shown
+  pub answers : Event → Option Meaning
+  -- some bound sequence begins with these keys, or is these
+  pub begins : List KeyEvent → Bool
+
+abbrev pub custom_of : {X : Type 0} {F : X → Type 0} → List (Entry (EventHandler X F)) → (DynBox X Global F → Meaning) → Custom
+custom_of entries of_box = record { answers = binds entries of_box; begins = λ keys. some_begins keys entries }
+
+-- all by which a key behind its count is decided
+pub record Situation : Type 0 where
+  pub custom : Custom
+  pub input : Input
+  pub shown : Shown
+  -- the count, and whether it isn't negative
+  pub n : ℕ
+  pub positive : Bool
+
+abbrev pub situation : Custom → Input → Shown → ℕ → Bool → Situation
+situation custom input shown n positive = record { custom = custom; input = input; shown = shown; n = n; positive = positive }
+
+abbrev pub shown_for : Situation → Event → Showing
+shown_for s e = record { event = e; count = s.n; positive = s.positive; seen = seen_of s.input.mode s.input.input_mode s.shown }
+
+-- what is bound, if anything, answers a command, nothing, or a failure
+abbrev pub answer_by : Option Meaning → Showing → Result (Option Cmd) ReadlineError
+answer_by None s = Ok None
+answer_by (Some meaning) s = command_by (meaning s)
+
+-- the binding of one key, else that of any
+abbrev pub or_any : Custom → Option Meaning → Option Meaning
+or_any custom (Some meaning) = Some meaning
+or_any custom None = custom.answers Any
+
+abbrev pub custom_answer : Situation → KeyEvent → Result (Option Cmd) ReadlineError
+custom_answer s k = answer_by (or_any s.custom (s.custom.answers (single k))) (shown_for s (single k))
+
+-- what a sequence of keys is bound to answers
+abbrev pub sequence_answer : Situation → List KeyEvent → Result (Option Cmd) ReadlineError
+sequence_answer s keys = answer_by (s.custom.answers (KeySeq keys)) (shown_for s (KeySeq keys))
+
+-- ---- sequences: while the keys so far begin a bound one, or are it, one more is read
+
+-- a command ends the sequence, and where there is none the sequence goes on
+abbrev pub bound_by : Taken Followed → Coming → Result (Option Cmd) ReadlineError → Taken Followed
+bound_by more rest (Ok (Some cmd)) = answered (Bound cmd) rest
+bound_by more rest (Ok None) = more
+bound_by more rest (Err e) = at_once (Err e) rest
+
+-- the keys read in vain are lost, but for the second
+abbrev pub in_vain : List KeyEvent → Coming → Taken Followed
+in_vain keys rest = answered (Unbound (slice_get keys 1)) rest
+
+abbrev pub following : Situation → List KeyEvent → Coming → Taken Followed
+following s keys (Pressed k rest) =
+    if s.custom.begins keys then bound_by (following s (keys ++ k ∷ []) rest) rest (sequence_answer s (keys ++ k ∷ []))
+    else in_vain keys (Pressed k rest)
+following s keys (Pasted text rest) = if s.custom.begins keys then refused PasteOutOfPlace else in_vain keys (Pasted text rest)
+following s keys (CutOff last) = if s.custom.begins keys then refused PasteOutOfPlace else in_vain keys (CutOff last)
+following s keys (Ends last) = if s.custom.begins keys then refused (refusal_of last) else in_vain keys (Ends last)
+following s keys (Refused why) = if s.custom.begins keys then refused why else in_vain keys (Refused why)

@@ -1,0 +1,138 @@
+//! From keys to commands, in Emacs and in Vi mode.
+
+pub mod common;
+pub mod count;
+pub mod custom;
+pub mod emacs;
+pub mod vi;
+
+ghost use Rattle.std.specs.Prelude.{◌≡◌, ◌<◌, ◌≤◌, IsTrue, IfOk, IfErr, OnOk, MatchResult, None, [], refl};
+ghost use Rattle.line_config.specs.declared.errors.ReadlineError.{ReadlineError};
+ghost use Rattle.line_config.specs.declared.settings.EditMode.TheVariants.{Emacs, Vi};
+ghost use Rattle.line_config.specs.Refusals.{MetBy};
+ghost use Rattle.line_keys.specs.Faults.{IsReaderRefusal};
+ghost use Rattle.line_keys.specs.Coming.{Pressed, key_at, left_by};
+ghost use Rattle.line_keys.specs.Refreshing.{Asked};
+
+use crate::binding::Bindings;
+use crate::command::{Cmd, InputMode};
+use crate::key::KeyEvent;
+use crate::refresh::Refresher;
+use crate::tty::{Event, RawReader};
+use line_buffer::CharSearch;
+use line_config::{Config, EditMode, ReadlineError};
+use std::alloc::Global;
+
+/// Makes commands of keys, and keeps what Vi's commands hand on to later ones.
+#[derive(Drop)]
+pub struct InputState<'b> {
+    pub(crate) mode: EditMode,
+    custom_bindings: &'b Bindings,
+    pub(crate) input_mode: InputMode,
+    // Vi's last change.
+    last_cmd: Cmd,
+    // Vi's last search for a character.
+    last_char_search: Option<CharSearch>,
+}
+
+impl<'b> InputState<'b> {
+    ghost use Rattle.line_keys.specs.declared.command.Cmd.TheVariants.{Noop};
+    ghost use Rattle.line_keys.specs.declared.command.InputMode.TheVariants.{Command, Insert};
+    ghost use Rattle.line_keys.specs.InputStates.{input_of, custom_in};
+    ghost use Rattle.line_keys.specs.Phrase.{phrase};
+    ghost use Rattle.line_keys.specs.Reasons.{Because};
+    ghost use Rattle.line_keys.specs.Modes.{is_emacs, is_vi_command};
+
+    /// A state in the mode of the configuration, which remembers nothing.
+    pub fn new(
+        _alloc: Global,
+        config: &Config,
+        custom_bindings: &'b Bindings,
+    ) -> Result<Self, ReadlineError>
+        ensures { MatchResult result (λ s. (input_of s ≡ record { mode = config.now.edit_mode; input_mode = Insert; last = Noop; search = None }) × (s.custom_bindings ≡ custom_bindings.entry)) (λ _. ⊥) }
+    {
+        Ok(InputState {
+            mode: config.edit_mode(),
+            custom_bindings,
+            input_mode: InputMode::Insert,
+            last_cmd: Cmd::Noop,
+            last_char_search: None,
+        })
+    }
+
+    pub fn is_emacs_mode(&self) -> bool
+        ensures { result ≡ is_emacs self.now.mode }
+    {
+        self.mode == EditMode::Emacs
+    }
+
+    /// Whether the keys are commands of Vi.
+    pub fn is_vi_cmd_mode(&self) -> bool
+        ensures { result ≡ is_vi_command self.now.mode self.now.input_mode }
+    {
+        self.input_mode == InputMode::Command && self.mode == EditMode::Vi
+    }
+
+    /// The next command: the keys and pastes that it is made of are read, and no more.
+    ///
+    /// `single_esc_abort` is handed to the reader. Where `ignore_external_print` is set the first key is asked for as
+    /// a key, else as a report of the terminal.
+    #[tactic(auto, using(crate::proofs::EmacsCounts::emacs_keeps, crate::proofs::Refused::reader_because, crate::proofs::Asks::Asked_none))]
+    pub fn next_cmd<R: RawReader, W: Refresher>(
+        &mut self,
+        alloc: Global,
+        rdr: &mut R,
+        wrt: &mut W,
+        single_esc_abort: bool,
+        ignore_external_print: bool,
+    ) -> Result<Cmd, ReadlineError>
+        ensures answer { IsTrue (R.told rdr.old) → MetBy (R.steady rdr.old) result → result ≡ (phrase (custom_in self.old (λ b. meaning b)) (W.rule wrt.old) (input_of self.old) (W.shown wrt.old) (R.coming rdr.old)).answer }
+        ensures rest { IsTrue (R.told rdr.old) → MetBy (R.steady rdr.old) result → R.coming rdr.new ≡ (phrase (custom_in self.old (λ b. meaning b)) (W.rule wrt.old) (input_of self.old) (W.shown wrt.old) (R.coming rdr.old)).rest }
+        ensures asks { IsTrue (R.told rdr.old) → MetBy (R.steady rdr.old) result → Asked W.asked W.shown W.rule wrt.old (phrase (custom_in self.old (λ b. meaning b)) (W.rule wrt.old) (input_of self.old) (W.shown wrt.old) (R.coming rdr.old)).asks wrt.new }
+        ensures input { IsTrue (R.told rdr.old) → MetBy (R.steady rdr.old) result → input_of self.new ≡ (phrase (custom_in self.old (λ b. meaning b)) (W.rule wrt.old) (input_of self.old) (W.shown wrt.old) (R.coming rdr.old)).input }
+        ensures mode { self.new.mode ≡ self.old.mode }
+        ensures bindings { self.new.custom_bindings ≡ self.old.custom_bindings }
+        ensures reason { IfErr result (λ e. Because (R.reason rdr.new) (W.reason wrt.new) (custom_in self.old (λ b. meaning b)) e) }
+        ensures told { IsTrue (R.told rdr.old) → IsTrue (R.told rdr.new) }
+        ensures steady { R.steady rdr.new ≡ R.steady rdr.old }
+        ensures falls { OnOk result (R.bound rdr.new < R.bound rdr.old) }
+        ensures keeps { R.bound rdr.new ≤ R.bound rdr.old }
+    {
+        let single_esc_abort = self.single_esc_abort(single_esc_abort);
+        let key = first_key(rdr, single_esc_abort, ignore_external_print)?;
+        match self.mode {
+            EditMode::Emacs => self.emacs(alloc, rdr, wrt, key),
+            EditMode::Vi => self.vi(alloc, rdr, wrt, key),
+        }
+    }
+
+    fn single_esc_abort(&self, single_esc_abort: bool) -> bool {
+        match self.mode {
+            EditMode::Emacs => single_esc_abort,
+            EditMode::Vi => false,
+        }
+    }
+}
+
+/// The first key of a command.
+fn first_key<R: RawReader>(
+    rdr: &mut R,
+    single_esc_abort: bool,
+    ignore_external_print: bool,
+) -> Result<KeyEvent, ReadlineError>
+    ensures answer { IsTrue (R.told rdr.old) → MetBy (R.steady rdr.old) result → result ≡ key_at (R.coming rdr.old) }
+    ensures ok { IsTrue (R.told rdr.old) → IfOk result (λ k. R.coming rdr.old ≡ Pressed k (R.coming rdr.new)) }
+    ensures err { IsTrue (R.told rdr.old) → IfErr result (λ e. R.coming rdr.new ≡ left_by e) }
+    ensures refused { IfErr result IsReaderRefusal }
+    ensures reason { IfErr result (λ e. R.reason rdr.new e) }
+    ensures told { IsTrue (R.told rdr.old) → IsTrue (R.told rdr.new) }
+    ensures steady { R.steady rdr.new ≡ R.steady rdr.old }
+    ensures falls { OnOk result (R.bound rdr.new < R.bound rdr.old) }
+    ensures keeps { R.bound rdr.new ≤ R.bound rdr.old }
+{
+    if ignore_external_print {
+        return rdr.next_key(single_esc_abort);
+    }
+    let Event::KeyPress(key) = rdr.wait_for_input(single_esc_abort)?;
+    Ok(key)
+}
