@@ -23,11 +23,11 @@ fn last_cut(text: &str, room: usize) -> usize
 
 #[tactic(auto, using(crate::proofs::ReplayLemmas::stops_at_once))]
 impl LineBuffer {
-    ghost use Rattle.std.specs.Prelude.{◌≡◌, ℕ, ◌≤◌, ◌-◌, ◌==◌, ◌⊎◌, [], length, min, IsUtf8, IfOk, OnOk, OnErr, IsCharBoundary, encode_utf8};
+    ghost use Rattle.std.specs.Prelude.{◌≡◌, ℕ, ◌≤◌, ◌-◌, ◌==◌, ◌⊎◌, true, [], length, min, IsUtf8, IfOk, OnOk, OnErr, IsCharBoundary, encode_utf8};
     ghost use Rattle.std.specs.List.{repeat};
     ghost use Rattle.line_buffer.specs.declared.types.Direction.TheVariants.{Forward};
     ghost use Rattle.line_buffer.specs.Event.Event.{InsertChar};
-    ghost use Rattle.line_buffer.specs.Insertions.{has_room, kept_text, update_events, update_line, put_at_cursor, insertion_by, insertion_of, without_before, insert, yank, yank_pop};
+    ghost use Rattle.line_buffer.specs.Insertions.{has_room, kept_text, update_events, update_line, put_at_cursor, insertion_by, insertion_of, can_take_before, without_before, insert, yank, yank_pop};
     ghost use Rattle.line_buffer.specs.Settings.{SameSettings};
     ghost use Rattle.line_buffer.specs.Replay.{Replays, Reports, StopsAmong, deletion, insertion};
 
@@ -268,6 +268,16 @@ impl LineBuffer {
             return Ok(None);
         }
         self.insert_copies(alloc, text, n, cl)
+    }
+
+    /// Whether `count` bytes stand before the cursor, the first of which begins a character: what `yank_pop` asks for.
+    pub fn can_take_before(&self, count: usize) -> bool
+        ensures value { result ≡ can_take_before count self.now }
+        ensures size { result ≡ true → count ≤ self.now.place }
+        ensures start { result ≡ true → IsCharBoundary self.now.text (self.now.place - count) }
+    {
+        let place = self.pos();
+        count <= place && self.as_str().is_char_boundary(place - count)
     }
 
     /// `yank` of one text in place of the `yank_size` bytes before the cursor; `None` where only these are taken.

@@ -4,7 +4,7 @@ use Rattle.std.specs.Prelude.{ℕ, IsUtf8}
 use Rattle.line_buffer.specs.Event.{Event}
 use Rattle.line_buffer.specs.Replay.{Reports, StopsAmong}
 use Rattle.line_record.specs.declared.joined.Joined.{Joined}
-use Rattle.line_record.specs.Items.{Items, ItemsStand, RecordedIn}
+use Rattle.line_record.specs.Items.{Items, ItemsStand, RecordedIn, held_on}
 use Rattle.line_record.specs.Names.{SameNames}
 use Rattle.line_record.specs.Runs.{recorded_all}
 use Rattle.line_record.specs.Together.{joined_takes, joined_refuses, RefusalsLeaveNoUnmadeChange}
@@ -25,6 +25,11 @@ refusals_leave_no_unmade_change {A} first first_refuses events s t before after 
 pub joined_stand : {A : Type 0} (first : A → Event → A → Type 0) {events : List Event} {s t : Joined A Items} {before after : List ℕ} → ItemsStand s.second.now before → IsUtf8 before
     → Reports (joined_takes first RecordedIn) events s t before after → ItemsStand t.second.now after
 joined_stand {A} first h u r = (part_told (joined_takes first RecordedIn) (λ j. j.second.now) (λ x e y k. k.1.1) h u r).stand
+
+-- and the record is that of the line's events
+pub joined_held : {A : Type 0} (first : A → Event → A → Type 0) {events : List Event} {s t : Joined A Items} {before after : List ℕ} → ItemsStand s.second.now before → IsUtf8 before
+    → Reports (joined_takes first RecordedIn) events s t before after → held_on t.second.now after ≡ recorded_all events before (held_on s.second.now before)
+joined_held first h u r = (part_told (joined_takes first RecordedIn) (λ j. j.second.now) (λ x e y k. k.1.1) h u r).held
 
 pub joined_stand_refused : {A : Type 0} (first first_refuses : A → Event → A → Type 0) {events : List Event} {s t : Joined A Items} {before after : List ℕ}
     → ItemsStand s.second.now before → IsUtf8 before
