@@ -1,0 +1,1 @@
+//! Lines that are to be accepted.

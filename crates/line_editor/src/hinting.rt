@@ -1,0 +1,1 @@
+//! The hint taken into the line.

@@ -1,0 +1,1 @@
+//! Characters and texts put in.

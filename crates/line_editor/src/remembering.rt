@@ -1,0 +1,1 @@
+//! The history in place of the line.

@@ -1,0 +1,1 @@
+//! Transpositions, letters, indentation, undo.
