@@ -25,7 +25,7 @@ pub(crate) fn highlighter_of<H>(helper: &Option<H>, colours: bool) -> Option<&H>
     if colours { helper.as_ref() } else { None }
 }
 
-#[tactic(auto, using(crate::proofs::BegunLemmas::begun_none, crate::proofs::BegunLemmas::begun_refused))]
+#[tactic(auto, using(crate::proofs::BegunLemmas::begun_none, crate::proofs::BegunLemmas::begun_refused, crate::proofs::BegunLemmas::begun_made))]
 impl<'p, 'h, Out: Renderer, H: Helper + Drop, Hi: History> State<'p, 'h, Out, H, Hi> {
     ghost use Rattle.line_editor.specs.States.{value_of, setting_of, Stays, Does, HookFails, reason_of};
     ghost use Rattle.line_editor.specs.Values.{with_hint, with_mark};
@@ -244,7 +244,8 @@ impl<'p, 'h, Out: Renderer, H: Helper + Drop, Hi: History> State<'p, 'h, Out, H,
         ensures does { Does cleared_and_drawn self.old self.new result }
     {
         self.clear_screen()?;
-        self.refresh()
+        self.refresh()?;
+        Ok(())
     }
 
     /// Shows a character that was typed at the end: its byte alone, where nothing stands behind it and it doesn't fill its

@@ -27,6 +27,3 @@ pub use line_buffer::{
     Anchor, At, CharSearch, Direction, GraphemeClusterMode, Layout, LineBuffer, Mode, Movement,
     Position, RepeatCount, Unit, Word, WordAction,
 };
-pub use line_config::*;
-pub use line_help::*;
-pub use line_keys::*;
