@@ -1,5 +1,5 @@
 #!/usr/bin/env python3
-"""Drawings on a terminal: tmux shows what crates/drawing_shown draws, its cells and its cursor.
+"""Drawings on a terminal: tmux shows what crates/drawings_program draws, its cells and its cursor.
 
 `./test` builds the program first. Texts are those whose widths tmux counts as the editor does.
 """
@@ -11,7 +11,7 @@ import sys
 import tempfile
 import time
 
-PROGRAM = pathlib.Path(__file__).resolve().parent.parent / "crates/drawing_shown/out/drawing_shown"
+PROGRAM = pathlib.Path(__file__).resolve().parent.parent / "crates/drawings_program/out/drawings_program"
 
 # name, columns, the rows shown, the cursor's row and column
 CASES = [

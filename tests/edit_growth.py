@@ -2,7 +2,7 @@
 """Each edit of a line with each growth refused in turn: text, cursor and events stand together after it; so each call
 that the undo record and the kill ring hear of, and each call of a history.
 
-`./test` builds crates/growth_tests and the shim of tests/growth.py first. The program makes one call a row and says
+`./test` builds crates/edits_program and the shim of tests/growth.py first. The program makes one call a row and says
 itself whether what it left is right: WRONG where it isn't, "not begun" where the refusal came before the call, and "not
 judged" where it came after. Here each call for memory of its run is refused once.
 """
@@ -14,7 +14,7 @@ import tempfile
 from checks import HUNG, TOP, Failed, run_all, same
 
 SHIM = os.path.join(TOP, "build", "refuse_growth.so")
-PROGRAM = pathlib.Path(TOP) / "crates" / "growth_tests" / "out" / "growth_tests"
+PROGRAM = pathlib.Path(TOP) / "crates" / "edits_program" / "out" / "edits_program"
 MOST = 10000
 
 # Rows of calls that grow, so that each of them must have been refused once at least.
