@@ -2,19 +2,18 @@
 """Each edit of a line with each growth refused in turn: text, cursor and events stand together after it; so each call
 that the undo record and the kill ring hear of, and each call of a history.
 
-`./test` builds crates/edits_program and the shim of tests/growth.py first. The program makes one call a row and says
+`rt ci` builds crates/edits_program, and tests/growth.py the shim, first. The program makes one call a row and says
 itself whether what it left is right: WRONG where it isn't, "not begun" where the refusal came before the call, and "not
 judged" where it came after. Here each call for memory of its run is refused once.
 """
 import os
-import pathlib
 import subprocess
 import tempfile
 
-from checks import HUNG, TOP, Failed, run_all, same
+from checks import HUNG, TOP, Failed, built, run_all, same
 
 SHIM = os.path.join(TOP, "build", "refuse_growth.so")
-PROGRAM = pathlib.Path(TOP) / "crates" / "edits_program" / "out" / "edits_program"
+PROGRAM = built("edits_program")
 MOST = 10000
 
 # Rows of calls that grow, so that each of them must have been refused once at least.
