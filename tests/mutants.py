@@ -96,6 +96,7 @@ class Crate:
 
     def __init__(self, top, name):
         self.name, self.folder = name, os.path.join(top, "crates", name)
+        self.checks, self.seconds = 0, 0
         self.edits, self.unfit = [], {}
         room = os.path.join(self.folder, "mutants")
         files = sorted(it for it in os.listdir(room) if it.endswith(".edit")) if os.path.isdir(room) else []
@@ -203,11 +204,21 @@ class Checker:
             for file, text in crate.texts(group).items():
                 with open(os.path.join(room, file), "w", encoding="utf-8") as it:
                     it.write(text)
-            how = {"cwd": room, "stdin": subprocess.DEVNULL, "stdout": subprocess.PIPE, "stderr": subprocess.STDOUT}
-            ran = subprocess.run(self.words(crate, jobs, kept), errors="replace", check=False, **how)
-            if ran.returncode == -9 and jobs > 1:
-                ran = subprocess.run(self.words(crate, 1, kept), errors="replace", check=False, **how)
-        return ran.stdout
+            status, said = self.ran(crate, self.words(crate, jobs, kept), room)
+            if status == -9 and jobs > 1:  # killed, most likely for memory
+                status, said = self.ran(crate, self.words(crate, 1, kept), room)
+        return said
+
+    def ran(self, crate, words, room):
+        """The status of a command and what it says; its processor time is counted for the crate."""
+        with tempfile.TemporaryFile("w+", errors="replace") as said:
+            how = {"stdin": subprocess.DEVNULL, "stdout": said, "stderr": subprocess.STDOUT}
+            with subprocess.Popen(words, cwd=room, **how) as it:
+                _, status, used = os.wait4(it.pid, 0)
+                it.returncode = os.waitstatus_to_exitcode(status)
+            crate.checks, crate.seconds = crate.checks + 1, crate.seconds + used.ru_utime + used.ru_stime
+            said.seek(0)
+            return it.returncode, said.read()
 
 
 class Said:
@@ -384,8 +395,10 @@ def main(words):
         crates.sort(key=Crate.weight, reverse=True)
         runs = [(it, pool.submit(lambda it=it: list(tried(it, checker, jobs, by_hand)))) for it in crates]
         for crate, run in runs:
-            print(f"-- {crate.name}: wrong bodies {len(crate.edits) + len(crate.unfit)}", flush=True)
-            for well, name, text in run.result():
+            found = run.result()
+            count = len(crate.edits) + len(crate.unfit)
+            print(f"-- {crate.name}: {count} wrong bodies, checks {crate.checks}, {crate.seconds:.0f} s of processor", flush=True)
+            for well, name, text in found:
                 print(f"{'refused' if well else 'FAILED'} {name}: {text[:400]}", flush=True)
                 passed, failed = passed + well, failed + (not well)
     return finished(passed, failed)
