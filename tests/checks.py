@@ -43,7 +43,7 @@ PROGRAM = built("keyline_program")
 
 
 def placed_script():
-    """A copy of ./keyline in a folder of its own, whose build hands out the program that `rt ci` left and proves nothing."""
+    """A copy of ./keyline in a folder of its own, whose build hands out the program that `rt ci` left."""
     folder = tempfile.TemporaryDirectory(prefix="keyline-gate-")
     atexit.register(folder.cleanup)
     script = shutil.copy(SCRIPT, folder.name)
@@ -93,6 +93,13 @@ class Incoming:
                 break
         same("what came", self.held[: len(expected)], expected)
         self.held = self.held[len(expected) :]
+
+    def expect_end_of(self, expected):
+        """Waits until what came ends with these bytes."""
+        deadline = time.monotonic() + HUNG
+        while not self.held.endswith(expected) and self.more(deadline):
+            pass
+        same("the end of what came", self.held[-len(expected) :], expected)
 
     def expect_end(self, expected=b""):
         """Waits for these bytes and then the end."""
