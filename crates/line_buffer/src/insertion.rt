@@ -112,7 +112,7 @@ impl LineBuffer {
         requires { IsCharBoundary text.now pos }
         ensures told { OnOk result (Reports C.takes (update_events text.now self.old) cl.old cl.new self.old.text self.new.text) }
         ensures line { OnOk result (self.new ≡ update_line text.now pos self.old) }
-        ensures stopped { OnErr result (StopsAmong C.takes C.refuses (update_events text.now self.old) cl.old cl.new self.old.text self.new.text) }
+        ensures stopped { OnErr result (StopsAmong C.takes C.refuses [] (update_events text.now self.old) cl.old cl.new self.old.text self.new.text) }
         ensures settings { SameSettings self.old self.new }
     {
         let kept = self.kept(text);
@@ -182,7 +182,7 @@ impl LineBuffer {
         ensures answer { IfOk result (λ a. a ≡ (insertion_by (insertion self.old.place text.now) text.now self.old).answer) }
         ensures told { OnOk result (Reports C.takes (insertion_by (insertion self.old.place text.now) text.now self.old).events cl.old cl.new self.old.text self.new.text) }
         ensures line { OnOk result (self.new ≡ (insertion_by (insertion self.old.place text.now) text.now self.old).line) }
-        ensures stopped { OnErr result (StopsAmong C.takes C.refuses (insertion_by (insertion self.old.place text.now) text.now self.old).events cl.old cl.new self.old.text self.new.text) }
+        ensures stopped { OnErr result (StopsAmong C.takes C.refuses [] (insertion_by (insertion self.old.place text.now) text.now self.old).events cl.old cl.new self.old.text self.new.text) }
         ensures kept { OnErr result (self.new ≡ self.old) }
     {
         if !self.has_room(text.len()) {
@@ -205,7 +205,7 @@ impl LineBuffer {
         ensures answer { IfOk result (λ a. a ≡ (insertion_of text.now n self.old).answer) }
         ensures told { OnOk result (Reports C.takes (insertion_of text.now n self.old).events cl.old cl.new self.old.text self.new.text) }
         ensures line { OnOk result (self.new ≡ (insertion_of text.now n self.old).line) }
-        ensures stopped { OnErr result (StopsAmong C.takes C.refuses (insertion_of text.now n self.old).events cl.old cl.new self.old.text self.new.text) }
+        ensures stopped { OnErr result (StopsAmong C.takes C.refuses [] (insertion_of text.now n self.old).events cl.old cl.new self.old.text self.new.text) }
         ensures kept { OnErr result (self.new ≡ self.old) }
     {
         if n == 1 {
@@ -232,7 +232,7 @@ impl LineBuffer {
         ensures answer { IfOk result (λ a. a ≡ (insert ch n self.old).answer) }
         ensures told { OnOk result (Reports C.takes (insert ch n self.old).events cl.old cl.new self.old.text self.new.text) }
         ensures line { OnOk result (self.new ≡ (insert ch n self.old).line) }
-        ensures stopped { OnErr result (StopsAmong C.takes C.refuses (insert ch n self.old).events cl.old cl.new self.old.text self.new.text) }
+        ensures stopped { OnErr result (StopsAmong C.takes C.refuses [] (insert ch n self.old).events cl.old cl.new self.old.text self.new.text) }
         ensures kept { OnErr result (self.new ≡ self.old) }
     {
         if n != 1 {
@@ -261,7 +261,7 @@ impl LineBuffer {
         ensures answer { IfOk result (λ a. a ≡ (yank text.now n self.old).answer) }
         ensures told { OnOk result (Reports C.takes (yank text.now n self.old).events cl.old cl.new self.old.text self.new.text) }
         ensures line { OnOk result (self.new ≡ (yank text.now n self.old).line) }
-        ensures stopped { OnErr result (StopsAmong C.takes C.refuses (yank text.now n self.old).events cl.old cl.new self.old.text self.new.text) }
+        ensures stopped { OnErr result (StopsAmong C.takes C.refuses [] (yank text.now n self.old).events cl.old cl.new self.old.text self.new.text) }
         ensures kept { OnErr result (self.new ≡ self.old) }
     {
         if text.is_empty() {
@@ -293,7 +293,7 @@ impl LineBuffer {
         ensures answer { IfOk result (λ a. a ≡ (yank_pop yank_size text.now self.old).answer) }
         ensures told { OnOk result (Reports C.takes (yank_pop yank_size text.now self.old).events cl.old cl.new self.old.text self.new.text) }
         ensures line { OnOk result (self.new ≡ (yank_pop yank_size text.now self.old).line) }
-        ensures stopped { OnErr result (StopsAmong C.takes C.refuses (yank_pop yank_size text.now self.old).events cl.old cl.new self.old.text self.new.text) }
+        ensures stopped { OnErr result (StopsAmong C.takes C.refuses [] (yank_pop yank_size text.now self.old).events cl.old cl.new self.old.text self.new.text) }
         ensures settings { SameSettings self.old self.new }
     {
         self.delete_before(alloc, yank_size, cl)?;
