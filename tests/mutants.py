@@ -6,7 +6,8 @@ Such a file is written as those of must-fail/ are: a line `file: src/lib.rt` and
 libraries that `rt ci` left in crates/*/out. A wrong body passes where each function that it changes is refused for its
 own sake. It fails where a function is proved all the same, where it no longer fits or changes nothing, and where only a
 stored proof doesn't fit it any more, which says nothing of the contract: tests/mutants-by-hand.txt names those of
-which it is known otherwise that the contract refuses them. A function that is refused though nothing is wrong with it fails too.
+which it is known otherwise that the contract refuses them. A function that is refused though nothing is wrong with it
+fails too.
 
     tests/mutants.py [CRATE..]          all crates, or these
     tests/mutants.py --fit [CRATE..]    says in a second which wrong bodies no longer fit, and tries none
@@ -330,7 +331,7 @@ def tried(crate, checker, jobs, by_hand):
         while left:
             group, count = left.pop(0), count + 1
             said = Said(crate, crate.texts(group), checker.check(crate, group, jobs, kept))
-            save(f"{crate.name}-{count}.log", said.text)
+            save(checker.top, f"{crate.name}-{count}.log", said.text)
             if said.lines:
                 # Where a callee in the same check is refused too, some goals are not tried: such a body has its own.
                 waiting = [it for it in group if len(group) > 1 and {*it.paths()} & said.waiting]
@@ -352,10 +353,11 @@ def refused_unread(said, group):
     return found or dict.fromkeys(group, " ".join(said.text.split("\n")[:3])[:300])
 
 
-def save(name, text):
+def save(top, name, text):
     """Keeps what a check said, for whoever looks into a failure."""
-    os.makedirs(os.path.join(TOP, "build", "mutants"), exist_ok=True)
-    with open(os.path.join(TOP, "build", "mutants", name), "w", encoding="utf-8") as it:
+    folder = os.path.join(top, "build", "mutants")
+    os.makedirs(folder, exist_ok=True)
+    with open(os.path.join(folder, name), "w", encoding="utf-8") as it:
         it.write(text)
 
 
@@ -397,7 +399,8 @@ def main(words):
         for crate, run in runs:
             found = run.result()
             count = len(crate.edits) + len(crate.unfit)
-            print(f"-- {crate.name}: {count} wrong bodies, checks {crate.checks}, {crate.seconds:.0f} s of processor", flush=True)
+            cost = f"checks {crate.checks}, {crate.seconds:.0f} s of processor"
+            print(f"-- {crate.name}: wrong bodies {count}, {cost}", flush=True)
             for well, name, text in found:
                 print(f"{'refused' if well else 'FAILED'} {name}: {text[:400]}", flush=True)
                 passed, failed = passed + well, failed + (not well)
