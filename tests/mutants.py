@@ -22,7 +22,7 @@ import sys
 import tempfile
 from concurrent.futures import ThreadPoolExecutor
 
-from functions import Sources, functions
+from functions import Sources, functions, shape
 
 TOP = os.path.dirname(os.path.dirname(os.path.realpath(__file__)))
 PARTS = ("src", "specs", "proofs")
@@ -39,14 +39,20 @@ class Edit:
 
     def __init__(self, path, sources):
         self.name = os.path.basename(path).removesuffix(".edit")
-        self.bodies = {}
+        self.bodies, self.shapely = {}, set()
         with open(path, encoding="utf-8") as it:
             texts = changed(it.read(), sources)
         for file, text in texts.items():
             for old, new in bodies_changed(sources, file, text):
                 self.bodies[file, sources.path(old)] = (old.body, new)
+                if shape(new) == shape(sources.texts[file][slice(*old.body)]):
+                    self.shapely.add(sources.path(old))
         if not self.bodies:
             raise Unfit("it changes nothing")
+
+    def keeps_shape(self, path):
+        """Whether a function's goals have the names that they had, since only values were changed."""
+        return path in self.shapely
 
     def paths(self):
         return [path for _, path in self.bodies]
@@ -228,6 +234,7 @@ class Said:
     FUNCTION = re.compile(r"(?m)^fn (\S+): (proved|not proved|no proof|could not tell)(.*)$")
     # A call of what is not proved is no fault of the function that makes it.
     CALLS = re.compile(r"\bit calls .*?, which (?:is|are) not proved")
+    UNPROVED = re.compile(r"(?s).*?did not prove (.*?)(?:; it calls.*|\Z)")
     OPEN = re.compile(r"(?m)^note: (src/\S+?):(\d+):\d+: it is not proved that .*?\(`([^`]+)`\)(.*)$")
     WAITS = re.compile(r"(?m)^note: `search` has not tried the goals of `([^`]+)`, which wait for a callee's proof")
     FRONT = re.compile(r"(?m)^(?:\./)?(src/[^\s:]+):(\d+):\d+: error\S* (.*)$")
@@ -263,18 +270,28 @@ class Said:
         """Why a function or a closure in it is refused for its own sake."""
         return [why for why in map(self.why, self.of(path)) if why]
 
-    def by_contract(self, path):
-        """Whether a goal that no stored answer is for shows what the function's contract refuses.
+    def goals(self, path):
+        """The open goals of a function but those of invariants, and whether values are known at which each is false."""
+        unproved = self.UNPROVED.match(self.why(path) or "")
+        found = dict.fromkeys(re.findall(r"`([^`]+)`", unproved[1]) if unproved else [], False)
+        found.update(self.open.get(path, {}))
+        return {it: false for it, false in found.items() if not re.match(r"loop|invariant|decreases|iterator", it)}
 
-        Such a goal is of a clause that was proved with no answer, or rattle knows values at which it is false.
+    def by_contract(self, path, keeps_shape):
+        """Whether an open goal shows that the function's contract refuses the body, and not just a stored proof.
+
+        Either values are known that make it false; or no stored answer is for its clause; or each stored answer still
+        fits, the goals have the names that they had, and none is for this one. The right body needed no answer there.
         """
         stored = self.crate.answered(path)
         if stored is None:
             return True
         clauses = {clause_of(it) for it in stored}
+        folder = "/".join(path.split("::")[1:])
+        fits = keeps_shape and not re.search(rf"(?m)^(?:\./)?proofs/{re.escape(folder)}/.*: error", self.text)
         return any(
-            not re.match(r"loop|invariant|decreases|iterator", goal) and (false or clause_of(goal) not in clauses)
-            for goal, false in self.open.get(path, {}).items()
+            false or clause_of(goal) not in clauses or fits and goal not in stored
+            for goal, false in self.goals(path).items()
         )
 
 
@@ -303,7 +320,7 @@ def judged(crate, group, said, by_hand):
                 faults.append(f"{path}: could not tell")
             elif not why:
                 faults.append(f"{path} is NOT REFUSED: it is proved with this body")
-            elif not said.by_contract(path):
+            elif not said.by_contract(path, edit.keeps_shape(path)):
                 told.append(f"{path}: only its stored proof does not fit this body, which says nothing of the contract")
                 if f"{crate.name}/{edit.name}" not in by_hand:
                     faults.append(told[-1])
