@@ -141,7 +141,9 @@ def paths_as_rattle_prints_them():
     small = Small()
     small.write("crates/small/src/at/place.rt", """
 impl crate::Pair { fn other(&self) -> u16 { let c = '{'; /* } */ self.other } }
-impl<'a, T: Fn(u8) -> bool, const N: usize> From<Vec<&'a T>> for Kept<T, N> where T: Drop { fn from(v: Vec<&T>) -> Self { "}" } }
+impl<'a, T: Fn(u8) -> bool, const N: usize> From<Vec<&'a T>> for Kept<T, N> where T: Drop {
+    fn from(v: Vec<&T>) -> Self { "}" }
+}
 impl Show for (u8, u16) { fn show(&self) {} }
 impl Show for () { fn show(&self) {} }
 impl Show for &str { fn show(&self) {} }
