@@ -148,7 +148,11 @@ impl Show for (u8, u16) { fn show(&self) {} }
 impl Show for () { fn show(&self) {} }
 impl Show for &str { fn show(&self) {} }
 impl<T: Drop> Show for T { fn show(&self) {} }
-pub trait Show { ghost seen : { ℕ } fn show(&self) ensures { { a } ≡ { b } }; fn shown(&self) -> [u8; 2] { [0; 2] } }
+pub trait Show {
+    ghost seen : { ℕ }
+    fn show(&self) ensures { { a } ≡ { b } };
+    fn shown(&self) -> [u8; 2] { [0; 2] }
+}
 mod inner { fn f() { fn g() {} } }
 """)
     sources = Sources(small.crate().folder, "small")
