@@ -11,8 +11,8 @@ ghost use Rattle.line_config.specs.Sending.{Sends};
 ghost use Rattle.line_screen.specs.Sending.{SendsTo, SendsItems};
 
 use crate::drawing::sequences::send;
-use crate::grid::{Grid, is_letter, is_printable_text};
-use line_buffer::Unit;
+use crate::grid::{Grid, is_letter};
+use line_buffer::{Unit, is_printable_text};
 use line_config::{DeviceFailed, Sink};
 use unicode_segmentation::UnicodeSegmentation;
 
