@@ -4,21 +4,13 @@
 #[cfg(test)]
 mod devices;
 #[cfg(test)]
-mod edits;
-#[cfg(test)]
 mod endings;
 #[cfg(test)]
 mod faults;
 #[cfg(test)]
 mod fixtures;
 #[cfg(test)]
-mod kills;
-#[cfg(test)]
-mod motions;
-#[cfg(test)]
 mod reading;
-#[cfg(test)]
-mod rows;
 #[cfg(test)]
 mod sessions;
 #[cfg(test)]
