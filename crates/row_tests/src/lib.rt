@@ -2,8 +2,6 @@
 #![tactic(auto)]
 
 #[cfg(test)]
-mod devices;
-#[cfg(test)]
 mod endings;
 #[cfg(test)]
 mod faults;
@@ -13,7 +11,5 @@ mod fixtures;
 mod reading;
 #[cfg(test)]
 mod sessions;
-#[cfg(test)]
-mod settings;
 #[cfg(test)]
 mod tray;
