@@ -133,12 +133,13 @@ fn widths_stop_at_the_most(rt: HostRuntime) -> Result<(), Fail> {
         assert_eq!(rt; mode.width(text.as_str()), 65_535, "{mode:?}");
     }
     text.push_str("\n|m")?;
-    let layout = Layout::new(GraphemeClusterMode::Unicode);
+    let mut layout = Layout::new(GraphemeClusterMode::Unicode);
+    layout.prompt_size = Position { col: 2, row: 0 };
     let mut line = line_of(rt.alloc(), text.as_str())?;
     assert!(rt; line.move_to_line_up(1, &layout));
     assert_eq!(rt; line.pos(), 0);
     assert!(rt; line.move_to_line_down(1, &layout));
-    assert_eq!(rt; line.pos(), 70_001);
+    assert_eq!(rt; line.pos(), 70_002);
     Ok(())
 }
 

@@ -1,4 +1,4 @@
-//! Tests that cross crates: worked rows of each crate, worked sessions, and devices that fail.
+//! What `keyline` promises, at work: worked sessions, and sessions over devices that fail.
 #![tactic(auto)]
 
 #[cfg(test)]
@@ -11,5 +11,3 @@ mod fixtures;
 mod reading;
 #[cfg(test)]
 mod sessions;
-#[cfg(test)]
-mod tray;
