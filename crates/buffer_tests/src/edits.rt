@@ -19,7 +19,7 @@ fn clusters_transposed(rt: HostRuntime) -> Result<(), Fail> {
         '|'          transpose_chars = false '|'
         '|ab'        transpose_chars = false '|ab'
         'a|'         transpose_chars = false 'a|'
-        'e|\u{301}'  transpose_chars = false 'e|\u{301}'
+        'e|\u{301}'  transpose_chars = true '\u{301}e|' replace 0 'e\u{301}' '\u{301}e'
         'e\u{301}|'  transpose_chars = false 'e\u{301}|'
         ",
     )

@@ -4,22 +4,23 @@
 use crate::arguments::Arguments;
 use crate::log::Log;
 use crate::table::{begun, plays, quoted, written};
-use line_buffer::LineBuffer;
+use line_buffer::{LineBuffer, OutOfMemory};
 use stand_ins::lines::line_of;
 use stand_ins::tables::call_and_answer;
 use std::alloc::Global;
 use std::process::Abort;
 use std::test::Fail;
 
-/// Copies and kills by a movement, and answers what is then written.
-fn killed(alloc: Global, line: &mut LineBuffer, call: &str) -> Result<String, Fail> {
+/// Copies and kills by a movement, and answers what is then written: `refused` where the listener refused the kill.
+fn killed(alloc: Global, line: &mut LineBuffer, call: &str, mut log: Log) -> Result<String, Fail> {
     let arguments = Arguments::of(call);
     let movement = arguments.movement(arguments.name)?;
     let copy = line.copy(alloc, &movement)?;
     let copy = quoted(alloc, copy.as_ref().map(|text| text.as_str()))?;
-    let mut log = Log::new(alloc);
-    let killed = line.kill(alloc, &movement, &mut log)?;
-    let answer = format!(in alloc; "{copy} {killed}")?;
+    let answer = match line.kill(alloc, &movement, &mut log) {
+        Ok(killed) => format!(in alloc; "{copy} {killed}")?,
+        Err(OutOfMemory) => format!(in alloc; "refused")?,
+    };
     Ok(written(alloc, answer.as_str(), line, &log)?)
 }
 
@@ -31,7 +32,7 @@ fn kills(rt: &(impl AllocGlobal + Abort), shown: &str, rows: &str) -> Result<(),
         };
         let mut line = line_of(rt.alloc(), shown)?;
         let call = begun(rt.alloc(), &mut line, call)?;
-        let shown = killed(rt.alloc(), &mut line, call)?;
+        let shown = killed(rt.alloc(), &mut line, call, Log::new(rt.alloc()))?;
         assert_eq!(rt; shown.as_str(), want, "{row}");
     }
     Ok(())
@@ -125,4 +126,25 @@ fn parts_deleted_without_a_kill(rt: HostRuntime) -> Result<(), Fail> {
                                 discard_buffer = false '|'
         ",
     )
+}
+
+/// A kill that its listener refuses is closed, and leaves the line as it was.
+#[test]
+fn refused_kills_are_closed(rt: HostRuntime) -> Result<(), Fail> {
+    let alloc = rt.alloc();
+    let rows = "
+        WholeLine = refused 'ab c|' start; delete 0 'ab c' Forward; stop
+        BackwardWord 1 Emacs = refused 'ab c|' start; delete 3 'c' Backward; stop
+        BackwardChar 1 = refused 'ab c|' delete 3 'c' Backward
+        EndOfBuffer = none false 'ab c|' start; stop
+        ";
+    for row in rows.lines() {
+        let Some((call, want)) = call_and_answer(row) else {
+            continue;
+        };
+        let mut line = line_of(alloc, "ab c|")?;
+        let shown = killed(alloc, &mut line, call, Log::refusing(alloc))?;
+        assert_eq!(rt; shown.as_str(), want, "{row}");
+    }
+    Ok(())
 }

@@ -1,4 +1,4 @@
-//! A listener that writes down what it is told.
+//! A listener that writes down what it is told, and refuses deletions where a test asks for it.
 
 use line_buffer::{ChangeListener, DeleteListener, Direction, OutOfMemory};
 use std::alloc::Global;
@@ -7,12 +7,22 @@ use std::alloc::Global;
 #[derive(Drop)]
 pub(crate) struct Log {
     pub events: String,
+    refuses: bool,
 }
 
 impl Log {
     pub(crate) fn new(alloc: Global) -> Self {
         Log {
             events: String::new(alloc),
+            refuses: false,
+        }
+    }
+
+    /// A log that refuses each deletion.
+    pub(crate) fn refusing(alloc: Global) -> Self {
+        Log {
+            events: String::new(alloc),
+            refuses: true,
         }
     }
 
@@ -44,7 +54,11 @@ impl DeleteListener for Log {
         direction: Direction,
     ) -> Result<(), OutOfMemory> {
         let event = format!(in alloc; "delete {idx} '{text}' {direction:?}")?;
-        self.write(event.as_str())
+        self.write(event.as_str())?;
+        if self.refuses {
+            return Err(OutOfMemory);
+        }
+        Ok(())
     }
 
     fn stop_killing(&mut self) {

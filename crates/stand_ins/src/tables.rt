@@ -56,17 +56,14 @@ pub fn pictured(alloc: Global, text: &str) -> Result<String, AllocError> {
     Ok(shown)
 }
 
-/// The bytes that are meant: a text with pictures, in which `‹ff›` is the byte FF.
+/// The bytes that are meant: a text with pictures, in which `‹c3 28›` is the bytes C3 and 28.
 pub fn meant_bytes(alloc: Global, shown: &str) -> Result<Vec<u8>, AllocError> {
     let mut bytes = Vec::new(alloc);
     for piece in shown.split('‹') {
-        let text = match piece.split_once('›') {
-            Some((digits, text)) => {
-                bytes.push(u8::from_str_radix(digits, 16).unwrap_or(b'?'))?;
-                text
-            }
-            None => piece,
-        };
+        let (numbers, text) = piece.split_once('›').unwrap_or(("", piece));
+        for number in numbers.split_whitespace() {
+            bytes.push(u8::from_str_radix(number, 16).unwrap_or(b'?'))?;
+        }
         bytes.extend_from_slice(meant(alloc, text)?.as_bytes())?;
     }
     Ok(bytes)
@@ -89,7 +86,9 @@ pub fn line_and_place(alloc: Global, marked: &str) -> Result<(String, usize), Al
     let (before, behind) = marked.split_once('|').unwrap_or((marked, ""));
     let mut line = meant(alloc, before)?;
     let place = line.len();
-    let beyond: Option<usize> = behind.strip_prefix('+').and_then(|digits| digits.parse().ok());
+    let beyond: Option<usize> = behind
+        .strip_prefix('+')
+        .and_then(|digits| digits.parse().ok());
     match beyond {
         Some(count) => Ok((line, place.saturating_add(count))),
         None => {
