@@ -1,7 +1,7 @@
 //! A sink of the tests, which fails as they ask.
 
 ghost use Rattle.std.specs.Prelude.{◌≡◌, ◌≤◌, ◌++◌, take, length};
-ghost use Rattle.row_tests.specs.declared.tray.TheConstants.{SIZE};
+ghost use Rattle.stand_ins.specs.declared.tray.TheConstants.{SIZE};
 
 use line_config::{DeviceFailed, Sink};
 
@@ -10,7 +10,7 @@ const SIZE: usize = 1024;
 /// A sink in a fixed array. It fails where the array or its room is full, having taken what fits,
 /// and at the call with the number `failing_call`, having taken half.
 #[derive(Drop)]
-pub(crate) struct Tray {
+pub struct Tray {
     bytes: [u8; SIZE],
     len: usize,
     room: usize,
@@ -23,7 +23,7 @@ pub(crate) struct Tray {
 
 impl Tray {
     /// A sink with room for so many bytes, and no more than its array has.
-    pub(crate) fn with_room(room: usize) -> Tray {
+    pub fn with_room(room: usize) -> Tray {
         Tray {
             bytes: [0; SIZE],
             len: 0,
@@ -36,7 +36,7 @@ impl Tray {
     }
 
     /// A sink whose call with this number fails, counted from 0 over writes and flushes.
-    pub(crate) fn failing_at(call: usize) -> Tray {
+    pub fn failing_at(call: usize) -> Tray {
         Tray {
             failing_call: call,
             bytes: [0; SIZE],
@@ -49,13 +49,13 @@ impl Tray {
     }
 
     /// What it has taken.
-    pub(crate) fn bytes(&self) -> &[u8] {
+    pub fn bytes(&self) -> &[u8] {
         let all = &self.bytes[..];
         &all[..self.len]
     }
 
     /// Whether the call that failed was a flush.
-    pub(crate) fn failed_in_flush(&self) -> bool {
+    pub fn failed_in_flush(&self) -> bool {
         self.failed_in_flush
     }
 

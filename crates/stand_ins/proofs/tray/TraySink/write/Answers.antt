@@ -1,6 +1,6 @@
 -- A write that fails has taken the first of the bytes.
 use Rattle.std.proofs.Common.{sym, take, drop, take-append-drop, rules}
-use Rattle.row_tests.proofs.tray.TraySink.write.Goals as goal
+use Rattle.stand_ins.proofs.tray.TraySink.write.Goals as goal
 
 pub returns-then-self-2-clause-begins : goal.returns-then-self-2-clause-begins
 returns-then-self-2-clause-begins c = λ told.
