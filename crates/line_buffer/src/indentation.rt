@@ -28,7 +28,7 @@ fn leading_len(row: &str, count: usize) -> usize
 impl LineBuffer {
     ghost use Rattle.std.specs.Prelude.{◌≡◌, ◌+◌, ◌≤◌, ◌⊎◌, true, [], length, slice_range, drop, IfOk, OnOk, OnErr, IsCharBoundary};
     ghost use Rattle.line_buffer.specs.declared.types.Direction.TheVariants.{Forward};
-    ghost use Rattle.line_buffer.specs.Indent.{leading, covered, rows_of, row_event, row_len, row_events, indent_events, indent_line};
+    ghost use Rattle.line_buffer.specs.Indent.{leading, rows_covered, rows_of, row_event, row_len, row_events, indent_events, indent_line};
     ghost use Rattle.line_buffer.specs.Settings.{SameSettings};
     ghost use Rattle.line_buffer.specs.Replay.{Replays, Reports, StopsAmong, deletion, insertion};
     ghost use Rattle.std.specs.List.{prefix_len};
@@ -90,13 +90,9 @@ impl LineBuffer {
     {
         let _text = self.as_str();
         let place = self.pos();
-        match self.delete_directed(alloc, at..upto, Direction::Forward, cl) {
-            Ok(()) => {
-                self.set_pos(place - (upto - at).min(place.saturating_sub(at)));
-                Ok(())
-            }
-            Err(refusal) => Err(refusal),
-        }
+        self.delete_directed(alloc, at..upto, Direction::Forward, cl)?;
+        self.set_pos(place - (upto - at).min(place.saturating_sub(at)));
+        Ok(())
     }
 
     /// Gives the row between two places its margin, or takes one away, and answers where the row ends then.
@@ -211,8 +207,8 @@ impl LineBuffer {
     }
 
     /// A place in the first row and one in the last row that a movement covers.
-    fn covered(&self, movement: &Movement) -> (usize, usize)
-        ensures value { result ≡ covered movement.now self.now }
+    fn rows_covered(&self, movement: &Movement) -> (usize, usize)
+        ensures value { result ≡ rows_covered movement.now self.now }
         ensures order { result.0 ≤ result.1 }
         ensures start { IsCharBoundary self.now.text result.0 }
         ensures end { IsCharBoundary self.now.text result.1 }
@@ -252,12 +248,10 @@ impl LineBuffer {
         ensures stopped { OnErr result (StopsAmong C.takes C.refuses [] (indent_events movement.now amount dedent self.old) cl.old cl.new self.old.text self.new.text) }
         ensures settings { SameSettings self.old self.new }
     {
-        let (from, upto) = self.covered(movement);
+        let (from, upto) = self.rows_covered(movement);
         let rows = self.row_start_of(from)..self.row_end_of(upto);
         let margin = " ".repeat(alloc, usize::from(amount))?;
-        match self.change_rows(alloc, rows, margin.as_str(), dedent, cl) {
-            Ok(()) => Ok(true),
-            Err(refusal) => Err(refusal),
-        }
+        self.change_rows(alloc, rows, margin.as_str(), dedent, cl)?;
+        Ok(true)
     }
 }

@@ -26,3 +26,4 @@ pub use line_buffer::{LineBuffer, MAX_LINE, OutOfMemory};
 pub use listener::{ChangeListener, DeleteListener, NoListener};
 pub use short::{is_printable_text, short_insertion, short_kill};
 pub use types::{Anchor, At, CharSearch, Direction, Mode, Movement, RepeatCount, Word, WordAction};
+pub use words::{is_alphanumeric, is_alphanumeric_cluster};

@@ -185,10 +185,8 @@ pub(crate) fn push_step(steps: &mut Vec<Step>, step: Step) -> Result<(), OutOfMe
     ensures ok { OnOk result (items_of steps.new.items ≡ item_of step ∷ items_of steps.old.items) }
     ensures kept { OnErr result (items_of steps.new.items ≡ items_of steps.old.items) }
 {
-    match steps.push(step) {
-        Ok(()) => Ok(()),
-        Err(_) => Err(OutOfMemory),
-    }
+    steps.push(step)?;
+    Ok(())
 }
 
 /// The steps with what is told behind them.
@@ -221,10 +219,7 @@ fn clone_steps(alloc: Global, steps: &[Step]) -> Result<Vec<Step>, OutOfMemory>
 {
     let mut clones = Vec::with_capacity(alloc, steps.len())?;
     for step in steps {
-        match clones.push(step.try_clone(alloc)?) {
-            Ok(()) => {}
-            Err(_) => return Err(OutOfMemory),
-        }
+        clones.push(step.try_clone(alloc)?)?;
     }
     Ok(clones)
 }
@@ -260,9 +255,7 @@ fn close_group(alloc: Global, steps: &mut Vec<Step>, mark: usize) -> Result<bool
         return Ok(false);
     }
     let closed = true;
-    if let Err(_) = steps.push(Step { closed, changes }) {
-        return Err(OutOfMemory);
-    }
+    steps.push(Step { closed, changes })?;
     Ok(true)
 }
 
