@@ -50,11 +50,13 @@ impl LineBuffer {
         ensures refused { OnErr result ((cl.new ≡ cl.old) ⊎ C.refuses cl.old (insertion at margin.now) cl.new) }
         ensures kept { OnErr result (self.new ≡ self.old) }
     {
+        // Its contract says that the text is UTF-8.
         let _text = self.as_str();
         let place = self.pos();
         self.set_pos(at);
         match self.insert_str(alloc, at, margin, cl) {
             Ok(_) => {
+                // Its contract says that the length fits.
                 let _longest = self.len();
                 let carried = if at <= place {
                     place + margin.len()
@@ -88,6 +90,7 @@ impl LineBuffer {
         ensures refused { OnErr result (C.refuses cl.old (deletion at upto Forward self.old.text) cl.new) }
         ensures kept { OnErr result (self.new ≡ self.old) }
     {
+        // Its contract says that the text is UTF-8.
         let _text = self.as_str();
         let place = self.pos();
         self.delete_directed(alloc, at..upto, Direction::Forward, cl)?;
@@ -117,6 +120,7 @@ impl LineBuffer {
         ensures refused { OnErr result ((cl.new ≡ cl.old) ⊎ C.refuses cl.old (row_event margin.now dedent row.start (slice_range self.old.text row.start row.end)) cl.new) }
         ensures kept { OnErr result (self.new ≡ self.old) }
     {
+        // Its contract says that the length fits.
         let _longest = self.len();
         if dedent {
             let taken = self.margin_len(&row, margin.len());
@@ -124,6 +128,7 @@ impl LineBuffer {
             return Ok(row.end - taken);
         }
         self.insert_margin(alloc, row.start, margin, cl)?;
+        // Its contract says that the new length fits.
         let _longer = self.len();
         Ok(row.end + margin.len())
     }
@@ -173,6 +178,7 @@ impl LineBuffer {
         let mut at = rows.start;
         let mut last = rows.end;
         'rows: loop {
+            // Its contract says that the text is UTF-8.
             let _text = self.as_str();
             let end = self.row_end_before(at, last);
             let is_last = end == last;
@@ -180,6 +186,7 @@ impl LineBuffer {
             if is_last {
                 return Ok(());
             }
+            // Its contract says that the length fits.
             let _longest = self.len();
             last = last - end + changed;
             at = changed + 1;
@@ -213,6 +220,7 @@ impl LineBuffer {
         ensures start { IsCharBoundary self.now.text result.0 }
         ensures end { IsCharBoundary self.now.text result.1 }
     {
+        // Its contract says that the text is UTF-8.
         let _text = self.as_str();
         let place = self.pos();
         match movement {

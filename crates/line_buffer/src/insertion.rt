@@ -45,6 +45,7 @@ impl LineBuffer {
     fn has_room_for(&self, text: &str, n: RepeatCount) -> bool
         ensures { result ≡ has_room (length (repeat n text.now)) self.now }
     {
+        // Read, the limit is known to fit.
         let _limit = self.limit;
         match text.len().checked_mul(usize::from(n)) {
             Some(count) => self.has_room(count),
@@ -76,6 +77,7 @@ impl LineBuffer {
         ensures refused { OnErr result (D.refuses dl.old (deletion 0 (length self.old.text) Forward self.old.text) dl.new) }
         ensures kept { OnErr result (self.new ≡ self.old) }
     {
+        // Its contract says that the text is UTF-8.
         let _text = self.as_str();
         let end = self.len();
         self.delete_range(alloc, 0..end, dl)
@@ -136,9 +138,11 @@ impl LineBuffer {
         ensures refused { OnErr result ((cl.new ≡ cl.old) ⊎ C.refuses cl.old (insertion self.old.place text.now) cl.new) }
         ensures kept { OnErr result (self.new ≡ self.old) }
     {
+        // Its contract says that the text is UTF-8.
         let _text = self.as_str();
         let at = self.pos();
         let at_end = self.insert_str(alloc, at, text, cl)?;
+        // Its contract says that the length fits.
         let _longest = self.len();
         self.set_pos(at + text.len());
         Ok(at_end)

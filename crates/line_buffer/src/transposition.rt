@@ -152,6 +152,7 @@ impl LineBuffer {
     {
         let earlier = self.copy_part(alloc, first.start, first.end)?;
         let later = self.copy_part(alloc, second.start, second.end)?;
+        // Its contract says that the text is UTF-8.
         let _text = self.as_str();
         let end = second.end;
         self.replace(alloc, second, earlier.as_str(), cl)?;

@@ -98,6 +98,7 @@ impl Change {
         ensures line { OnOk result (line.new ≡ record line.old { text = taken_back (edit_of self.now) line.old.text; place = undo_place (edit_of self.now) }) }
         ensures kept { OnErr result (line.new ≡ line.old) }
     {
+        // Its contract says that the length fits.
         let _longest = line.len();
         let (at, added) = (self.at(), self.added());
         line.replace(alloc, at..at + added.len(), self.removed(), &mut NoListener)
@@ -109,6 +110,7 @@ impl Change {
         ensures line { OnOk result (line.new ≡ record line.old { text = made_anew (edit_of self.now) line.old.text; place = redo_place (edit_of self.now) }) }
         ensures kept { OnErr result (line.new ≡ line.old) }
     {
+        // Its contract says that the length fits.
         let _longest = line.len();
         let (at, removed) = (self.at(), self.removed());
         line.replace(alloc, at..at + removed.len(), self.added(), &mut NoListener)

@@ -32,7 +32,8 @@ impl Changeset {
     ghost use Rattle.line_record.specs.Items.{no_items, opened, truncated, told_of, ItemsStand, RecordedIn, held_on};
     ghost use Rattle.line_record.specs.Stored.{event_of};
 
-    /// A record in which nothing stands.
+    /// A record in which nothing stands. It takes no memory yet, and never refuses: the answer has the form of rustyline's
+    /// calls that make a part of the editor, all of which may want memory.
     pub fn new(alloc: Global) -> Result<Self, OutOfMemory>
         ensures { IfOk result (λ c. c ≡ no_items) }
     {
