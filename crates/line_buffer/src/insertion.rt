@@ -23,11 +23,11 @@ fn last_cut(text: &str, room: usize) -> usize
 
 #[tactic(auto, using(crate::proofs::ReplayLemmas::stops_at_once))]
 impl LineBuffer {
-    ghost use Rattle.std.specs.Prelude.{◌≡◌, ℕ, ◌≤◌, ◌-◌, ◌==◌, ◌⊎◌, [], length, min, IsUtf8, IfOk, OnOk, OnErr, IsCharBoundary, encode_utf8};
+    ghost use Rattle.std.specs.Prelude.{◌≡◌, ℕ, ◌≤◌, ◌-◌, ◌==◌, ◌⊎◌, true, [], length, min, IsUtf8, IfOk, OnOk, OnErr, IsCharBoundary, encode_utf8};
     ghost use Rattle.std.specs.List.{repeat};
     ghost use Rattle.line_buffer.specs.declared.types.Direction.TheVariants.{Forward};
     ghost use Rattle.line_buffer.specs.Event.Event.{InsertChar};
-    ghost use Rattle.line_buffer.specs.Insertions.{has_room, kept_text, update_events, update_line, put_at_cursor, insertion_by, insertion_of, without_before, insert, yank, yank_pop};
+    ghost use Rattle.line_buffer.specs.Insertions.{has_room, kept_text, update_events, update_line, put_at_cursor, insertion_by, insertion_of, can_take_before, without_before, insert, yank, yank_pop};
     ghost use Rattle.line_buffer.specs.Settings.{SameSettings};
     ghost use Rattle.line_buffer.specs.Replay.{Replays, Reports, StopsAmong, deletion, insertion};
 
@@ -45,6 +45,7 @@ impl LineBuffer {
     fn has_room_for(&self, text: &str, n: RepeatCount) -> bool
         ensures { result ≡ has_room (length (repeat n text.now)) self.now }
     {
+        // Read, the limit is known to fit.
         let _limit = self.limit;
         match text.len().checked_mul(usize::from(n)) {
             Some(count) => self.has_room(count),
@@ -76,6 +77,7 @@ impl LineBuffer {
         ensures refused { OnErr result (D.refuses dl.old (deletion 0 (length self.old.text) Forward self.old.text) dl.new) }
         ensures kept { OnErr result (self.new ≡ self.old) }
     {
+        // Its contract says that the text is UTF-8.
         let _text = self.as_str();
         let end = self.len();
         self.delete_range(alloc, 0..end, dl)
@@ -112,18 +114,14 @@ impl LineBuffer {
         requires { IsCharBoundary text.now pos }
         ensures told { OnOk result (Reports C.takes (update_events text.now self.old) cl.old cl.new self.old.text self.new.text) }
         ensures line { OnOk result (self.new ≡ update_line text.now pos self.old) }
-        ensures stopped { OnErr result (StopsAmong C.takes C.refuses (update_events text.now self.old) cl.old cl.new self.old.text self.new.text) }
+        ensures stopped { OnErr result (StopsAmong C.takes C.refuses [] (update_events text.now self.old) cl.old cl.new self.old.text self.new.text) }
         ensures settings { SameSettings self.old self.new }
     {
         let kept = self.kept(text);
         self.delete_all(alloc, cl)?;
-        match self.insert_str(alloc, 0, kept, cl) {
-            Ok(_) => {
-                self.set_pos(pos.min(kept.len()));
-                Ok(())
-            }
-            Err(refusal) => Err(refusal),
-        }
+        self.insert_str(alloc, 0, kept, cl)?;
+        self.set_pos(pos.min(kept.len()));
+        Ok(())
     }
 
     /// `insert_str` at the cursor, which takes the place behind the text.
@@ -140,16 +138,14 @@ impl LineBuffer {
         ensures refused { OnErr result ((cl.new ≡ cl.old) ⊎ C.refuses cl.old (insertion self.old.place text.now) cl.new) }
         ensures kept { OnErr result (self.new ≡ self.old) }
     {
+        // Its contract says that the text is UTF-8.
         let _text = self.as_str();
         let at = self.pos();
-        match self.insert_str(alloc, at, text, cl) {
-            Ok(at_end) => {
-                let _longest = self.len();
-                self.set_pos(at + text.len());
-                Ok(at_end)
-            }
-            Err(refusal) => Err(refusal),
-        }
+        let at_end = self.insert_str(alloc, at, text, cl)?;
+        // Its contract says that the length fits.
+        let _longest = self.len();
+        self.set_pos(at + text.len());
+        Ok(at_end)
     }
 
     /// Puts a character in at the cursor, which takes the place behind it.
@@ -182,16 +178,14 @@ impl LineBuffer {
         ensures answer { IfOk result (λ a. a ≡ (insertion_by (insertion self.old.place text.now) text.now self.old).answer) }
         ensures told { OnOk result (Reports C.takes (insertion_by (insertion self.old.place text.now) text.now self.old).events cl.old cl.new self.old.text self.new.text) }
         ensures line { OnOk result (self.new ≡ (insertion_by (insertion self.old.place text.now) text.now self.old).line) }
-        ensures stopped { OnErr result (StopsAmong C.takes C.refuses (insertion_by (insertion self.old.place text.now) text.now self.old).events cl.old cl.new self.old.text self.new.text) }
+        ensures stopped { OnErr result (StopsAmong C.takes C.refuses [] (insertion_by (insertion self.old.place text.now) text.now self.old).events cl.old cl.new self.old.text self.new.text) }
         ensures kept { OnErr result (self.new ≡ self.old) }
     {
         if !self.has_room(text.len()) {
             return Ok(None);
         }
-        match self.insert_at_cursor(alloc, text, cl) {
-            Ok(at_end) => Ok(Some(at_end)),
-            Err(refusal) => Err(refusal),
-        }
+        let at_end = self.insert_at_cursor(alloc, text, cl)?;
+        Ok(Some(at_end))
     }
 
     /// Puts n copies of a text in at the cursor where there is room for them.
@@ -205,7 +199,7 @@ impl LineBuffer {
         ensures answer { IfOk result (λ a. a ≡ (insertion_of text.now n self.old).answer) }
         ensures told { OnOk result (Reports C.takes (insertion_of text.now n self.old).events cl.old cl.new self.old.text self.new.text) }
         ensures line { OnOk result (self.new ≡ (insertion_of text.now n self.old).line) }
-        ensures stopped { OnErr result (StopsAmong C.takes C.refuses (insertion_of text.now n self.old).events cl.old cl.new self.old.text self.new.text) }
+        ensures stopped { OnErr result (StopsAmong C.takes C.refuses [] (insertion_of text.now n self.old).events cl.old cl.new self.old.text self.new.text) }
         ensures kept { OnErr result (self.new ≡ self.old) }
     {
         if n == 1 {
@@ -232,7 +226,7 @@ impl LineBuffer {
         ensures answer { IfOk result (λ a. a ≡ (insert ch n self.old).answer) }
         ensures told { OnOk result (Reports C.takes (insert ch n self.old).events cl.old cl.new self.old.text self.new.text) }
         ensures line { OnOk result (self.new ≡ (insert ch n self.old).line) }
-        ensures stopped { OnErr result (StopsAmong C.takes C.refuses (insert ch n self.old).events cl.old cl.new self.old.text self.new.text) }
+        ensures stopped { OnErr result (StopsAmong C.takes C.refuses [] (insert ch n self.old).events cl.old cl.new self.old.text self.new.text) }
         ensures kept { OnErr result (self.new ≡ self.old) }
     {
         if n != 1 {
@@ -243,10 +237,8 @@ impl LineBuffer {
             return Ok(None);
         }
         let at_end = self.is_cursor_at_end();
-        match self.insert_char(alloc, ch, cl) {
-            Ok(()) => Ok(Some(at_end)),
-            Err(refusal) => Err(refusal),
-        }
+        self.insert_char(alloc, ch, cl)?;
+        Ok(Some(at_end))
     }
 
     /// Puts n copies of a text in at the cursor, which takes the place behind them: whether that was at the text's end, or
@@ -261,13 +253,23 @@ impl LineBuffer {
         ensures answer { IfOk result (λ a. a ≡ (yank text.now n self.old).answer) }
         ensures told { OnOk result (Reports C.takes (yank text.now n self.old).events cl.old cl.new self.old.text self.new.text) }
         ensures line { OnOk result (self.new ≡ (yank text.now n self.old).line) }
-        ensures stopped { OnErr result (StopsAmong C.takes C.refuses (yank text.now n self.old).events cl.old cl.new self.old.text self.new.text) }
+        ensures stopped { OnErr result (StopsAmong C.takes C.refuses [] (yank text.now n self.old).events cl.old cl.new self.old.text self.new.text) }
         ensures kept { OnErr result (self.new ≡ self.old) }
     {
         if text.is_empty() {
             return Ok(None);
         }
         self.insert_copies(alloc, text, n, cl)
+    }
+
+    /// Whether `count` bytes stand before the cursor, the first of which begins a character: what `yank_pop` asks for.
+    pub fn can_take_before(&self, count: usize) -> bool
+        ensures value { result ≡ can_take_before count self.now }
+        ensures size { result ≡ true → count ≤ self.now.place }
+        ensures start { result ≡ true → IsCharBoundary self.now.text (self.now.place - count) }
+    {
+        let place = self.pos();
+        count <= place && self.as_str().is_char_boundary(place - count)
     }
 
     /// `yank` of one text in place of the `yank_size` bytes before the cursor; `None` where only these are taken.
@@ -283,13 +285,11 @@ impl LineBuffer {
         ensures answer { IfOk result (λ a. a ≡ (yank_pop yank_size text.now self.old).answer) }
         ensures told { OnOk result (Reports C.takes (yank_pop yank_size text.now self.old).events cl.old cl.new self.old.text self.new.text) }
         ensures line { OnOk result (self.new ≡ (yank_pop yank_size text.now self.old).line) }
-        ensures stopped { OnErr result (StopsAmong C.takes C.refuses (yank_pop yank_size text.now self.old).events cl.old cl.new self.old.text self.new.text) }
+        ensures stopped { OnErr result (StopsAmong C.takes C.refuses [] (yank_pop yank_size text.now self.old).events cl.old cl.new self.old.text self.new.text) }
         ensures settings { SameSettings self.old self.new }
     {
         self.delete_before(alloc, yank_size, cl)?;
-        match self.yank(alloc, text, 1, cl) {
-            Ok(answer) => Ok(answer),
-            Err(refusal) => Err(refusal),
-        }
+        let answer = self.yank(alloc, text, 1, cl)?;
+        Ok(answer)
     }
 }
