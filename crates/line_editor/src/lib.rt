@@ -13,17 +13,16 @@ mod refreshing;
 mod remembering;
 pub mod renderer;
 mod rewording;
-mod running;
 pub mod saved;
+mod starting;
 pub mod state;
 mod turning;
 mod yanking;
 
-pub use commands::Status;
-pub use renderer::{RefreshKind, Renderer};
-pub use state::State;
-
+pub use commands::{Status, execute};
 pub use line_buffer::{
     Anchor, At, CharSearch, Direction, GraphemeClusterMode, Layout, LineBuffer, Mode, Movement,
     Position, RepeatCount, Unit, Word, WordAction,
 };
+pub use renderer::{RefreshKind, Renderer};
+pub use state::State;
