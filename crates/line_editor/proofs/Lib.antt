@@ -2,3 +2,4 @@ pub mod BegunLemmas
 pub mod DoesLemmas
 pub mod LeadLemmas
 pub mod CommandsLead
+pub mod ReturnLemmas

@@ -16,3 +16,4 @@ pub mod Yanking
 pub mod Asks
 pub mod Courses
 pub mod Leads
+pub mod Returns
