@@ -3,3 +3,4 @@ pub mod DoesLemmas
 pub mod LeadLemmas
 pub mod CommandsLead
 pub mod ReturnLemmas
+pub mod UndoLemmas

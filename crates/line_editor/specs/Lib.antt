@@ -17,3 +17,4 @@ pub mod Asks
 pub mod Courses
 pub mod Leads
 pub mod Returns
+pub mod UndoAll

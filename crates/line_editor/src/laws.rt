@@ -2,6 +2,7 @@
 
 ghost use Rattle.line_editor.specs.Leads.{CommandsLead, SubmittingLeads, AsksLead};
 ghost use Rattle.line_editor.specs.Returns.{ComesBack};
+ghost use Rattle.line_editor.specs.UndoAll.{UndoReaches};
 
 /// What a command wants to be seen leads from a display that shows the value before to one that shows the value behind, so
 /// that nothing of an older drawing is left standing.
@@ -23,4 +24,9 @@ pub fn asks_lead()
 /// between, line and cursor are as they were.
 pub fn come_back()
     ensures { ComesBack }
+{}
+
+/// An undo by as many items as the record has, or more, gives the text that the record begins on.
+pub fn undo_reaches()
+    ensures { UndoReaches }
 {}
