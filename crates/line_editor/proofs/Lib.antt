@@ -4,3 +4,4 @@ pub mod LeadLemmas
 pub mod CommandsLead
 pub mod ReturnLemmas
 pub mod UndoLemmas
+pub mod ReachLemmas
