@@ -9,13 +9,16 @@ pub mod Executing
 pub mod Hinting
 pub mod Inserting
 pub mod Killing
+pub mod Leads
 pub mod Lines
 pub mod Moving
 pub mod Redraws
 pub mod Remembering
+pub mod Returns
 pub mod Rewording
 pub mod Sights
 pub mod Starts
 pub mod States
+pub mod UndoAll
 pub mod Values
 pub mod Yanking

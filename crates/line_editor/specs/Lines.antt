@@ -45,9 +45,12 @@ enacted s (Reads item rest later) input v c = enacted s later input v rest
 enacted s (Becomes kept later) input v c = enacted s later kept v c
 
 -- each change-to begins a group
+abbrev pub begins_group : Cmd → Bool
+begins_group (Replace movement text) = true
+begins_group cmd = false
+
 abbrev pub begun : Cmd → Input → Shown → Part Cmd
-begun (Replace movement text) input shown c = Asks DoingInsert (λ seen. Ends (Ok (Replace movement text)))
-begun cmd input shown c = Ends (Ok cmd)
+begun cmd input shown c = if begins_group cmd then Asks DoingInsert (λ seen. Ends (Ok cmd)) else Ends (Ok cmd)
 
 abbrev pub line_phrase : Custom → Input → Shown → Part Cmd
 line_phrase custom input shown = and_then input shown (phrase custom input shown) begun

@@ -8,6 +8,7 @@ mod drawing;
 mod hinting;
 mod inserting;
 mod killing;
+pub mod laws;
 mod moving;
 mod refreshing;
 mod remembering;
