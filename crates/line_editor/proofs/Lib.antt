@@ -7,5 +7,6 @@ pub mod ReachLemmas
 pub mod RefusedLemmas
 pub mod ReturnLemmas
 pub mod RowLemmas
+mod Rows
 pub mod TurnLemmas
 pub mod UndoLemmas
