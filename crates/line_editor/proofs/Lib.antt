@@ -10,3 +10,5 @@ pub mod RowLemmas
 mod Rows
 pub mod TurnLemmas
 pub mod UndoLemmas
+pub mod EnactedLemmas
+pub mod CommandedLemmas

@@ -22,3 +22,4 @@ pub mod States
 pub mod UndoAll
 pub mod Values
 pub mod Yanking
+pub mod Turning

@@ -14,6 +14,7 @@ mod refreshing;
 mod remembering;
 pub mod renderer;
 mod rewording;
+mod running;
 pub mod saved;
 mod starting;
 pub mod state;

@@ -1,0 +1,73 @@
+-- What a turn makes of a state, of the ring and of what comes: all that the definition says, or a beginning of it.
+use Rattle.std.specs.Prelude.{◌≡◌, ◌⊎◌, ⊤, ℕ, ◌<◌, ◌≤◌, Bool, Result, Ok, Err, IsTrue, IsFalse, IfErr, OnOk}
+use Rattle.line_config.specs.declared.errors.ReadlineError.{ReadlineError}
+use Rattle.line_config.specs.declared.errors.ReadlineError.TheVariants.{Eof, Interrupted, NotUtf8, PasteOutOfPlace, Reader, Display, Lines, HistoryText, Helper, Handler, Memory}
+use Rattle.line_help.specs.declared.completion as completions
+use Rattle.line_help.specs.declared.hint as hints
+use Rattle.line_help.specs.declared.highlight as highlights
+use Rattle.line_help.specs.declared.validate as verdicts
+use Rattle.line_help.specs.declared.history as histories
+use Rattle.line_keys.specs.Answers.{Custom, HandlerFails}
+use Rattle.line_keys.specs.Coming.{Coming}
+use Rattle.line_keys.specs.Feeds.{Feed}
+use Rattle.line_keys.specs.Phrases.{Input}
+use Rattle.line_record.specs.Ring.{Ring}
+use Rattle.line_editor.specs.Calls.{Begun}
+use Rattle.line_editor.specs.Lines.{Turned, turn_of}
+use Rattle.line_editor.specs.Redraws.{asked}
+use Rattle.line_editor.specs.States.{value_of, setting_of, Stays, Reason, HookFails, Does}
+use Rattle.line_editor.specs.Values.{Value, Setting, Edit}
+use Rattle.line_editor.specs.declared.commands.Status.{Status}
+use Rattle.line_editor.specs.declared.renderer as renderers
+use Rattle.line_editor.specs.declared.state.State.{State}
+
+-- a turn by what it begins with
+abbrev pub turning : Custom → ℕ → Input → Ring → Coming → Setting → Value → Turned
+turning custom indent input r c s v = turn_of s custom indent input r v c
+
+module _ {Out H Hi K T : Type 0} {renderer : renderers.Renderer.Ghosts Out} {completer : completions.Completer.Ghosts H K} {candidate : completions.Candidate.Ghosts K}
+    {hinter : hints.Hinter.Ghosts H T} {hint : hints.Hint.Ghosts T} {highlighter : highlights.Highlighter.Ghosts H} {validator : verdicts.Validator.Ghosts H} {history : histories.History.Ghosts Hi} where
+  -- a fault came, which no input gives: the calls made are the first of the edit's, and a refused one perhaps behind them
+  pub record Cut {A : Type 0} (steady : Bool) (edit : Edit) (s t : State Out H Hi K T renderer completer candidate hinter hint highlighter validator history)
+      (result : Result A ReadlineError) : Type 0 where
+    pub fault : ReadlineError
+    pub result_is : result ≡ Err fault
+    -- a source that isn't steady may fail at any time
+    pub cause : Reason t fault ⊎ ((fault ≡ Reader) × IsFalse steady)
+    pub stays : Stays s t
+    pub begun : Begun renderer.canvas (asked (renderer.canvas.ruler s.out) s.layout (edit (setting_of s) (value_of s)).redraws).calls s.out t.out
+
+  -- why a call that reads and edits is refused, whatever is told; commands end a line too
+  abbrev pub Cause : Custom → State Out H Hi K T renderer completer candidate hinter hint highlighter validator history → Feed → ReadlineError → Type 0
+  Cause custom t feed Eof = ⊤
+  Cause custom t feed Interrupted = ⊤
+  Cause custom t feed NotUtf8 = feed.reason NotUtf8
+  Cause custom t feed PasteOutOfPlace = feed.reason PasteOutOfPlace
+  Cause custom t feed Reader = feed.reason Reader
+  Cause custom t feed Display = IsTrue (renderer.canvas.failed t.out)
+  Cause custom t feed Lines = ⊥
+  Cause custom t feed HistoryText = ⊥
+  Cause custom t feed Helper = HookFails t
+  Cause custom t feed Handler = HandlerFails custom
+  Cause custom t feed Memory = ⊤
+
+  -- the turn was made whole, and ends as it says
+  pub record Whole (turn : Setting → Value → Turned) (s t : State Out H Hi K T renderer completer candidate hinter hint highlighter validator history)
+      (ring : Ring) (input : Input) (rest : Coming) (result : Result Status ReadlineError) : Type 0 where
+    pub does : Does {A = Unit {0}} (λ a v. (turn a v).made) s t (Ok (tt {0}))
+    pub outcome_is : result ≡ (turn (setting_of s) (value_of s)).outcome
+    pub ring_is : ring ≡ (turn (setting_of s) (value_of s)).ring
+    pub input_is : input ≡ (turn (setting_of s) (value_of s)).input
+    pub rest_is : rest ≡ (turn (setting_of s) (value_of s)).rest
+
+  -- THE relation of a turn
+  pub record Takes (custom : Custom) (indent : ℕ) (s : State Out H Hi K T renderer completer candidate hinter hint highlighter validator history) (input : Input) (ring : Ring) (feed : Feed)
+      (t : State Out H Hi K T renderer completer candidate hinter hint highlighter validator history) (input' : Input) (ring' : Ring) (feed' : Feed) (result : Result Status ReadlineError) : Type 0 where
+    pub goes : IsTrue feed.told → Whole (turning custom indent input ring feed.coming) s t ring' input' feed'.coming result
+        ⊎ Cut feed.steady (λ a v. (turning custom indent input ring feed.coming a v).made) s t result
+    pub told : IsTrue feed.told → IsTrue feed'.told
+    pub steady : feed'.steady ≡ feed.steady
+    pub keeps : feed'.bound ≤ feed.bound
+    pub falls : OnOk result (feed'.bound < feed.bound)
+    pub mode : input'.mode ≡ input.mode
+    pub reason : IfErr result (λ e. Cause custom t feed' e)

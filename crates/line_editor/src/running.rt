@@ -1,0 +1,34 @@
+//! A line: turns until one ends it.
+ghost use Rattle.std.specs.Prelude.{◌≡◌};
+ghost use Rattle.line_keys.specs.InputStates.{input_of, custom_in};
+
+use crate::commands::{Status, execute};
+use crate::renderer::Renderer;
+use crate::state::State;
+use crate::turning::reset_for;
+use line_config::{Config, ReadlineError};
+use line_help::{Helper, History};
+use line_keys::{Decides, InputState, RawReader};
+use line_record::KillRing;
+
+impl<'p, 'h, Out: Renderer, H: Helper + Drop, Hi: History> State<'p, 'h, Out, H, Hi> {
+    ghost use Rattle.line_editor.specs.Turning.{Takes};
+
+    /// One turn: the next command, and what it does.
+    pub(crate) fn turn<R: RawReader, D: Decides>(
+        &mut self,
+        input_state: &mut InputState<'_, D>,
+        rdr: &mut R,
+        kill_ring: &mut KillRing,
+        config: &Config,
+    ) -> Result<Status, ReadlineError>
+        ensures turn { Takes (custom_in input_state.old D.decides) config.now.indent_size
+            self.old (input_of input_state.old) kill_ring.old (R.feed rdr.old)
+            self.new (input_of input_state.new) kill_ring.new (R.feed rdr.new) result }
+        ensures bindings { input_state.new.custom_bindings ≡ input_state.old.custom_bindings }
+    {
+        let cmd = self.next_cmd(input_state, rdr, false, false)?;
+        reset_for(kill_ring, &cmd);
+        execute(cmd, self, input_state, kill_ring, config)
+    }
+}
