@@ -25,11 +25,11 @@ pub record AnswersCall {S X : Type 0} (feed : S → Feed) (item : X → Coming �
   pub err : IsTrue (feed_in feed old).told → IfErr result (λ e. coming_in feed new ≡ left_by e)
   pub left : IsTrue (feed_in feed old).told → MetBy (feed_in feed old).steady result
       → left_in feed new ≡ left_by_call (feed_in feed old).failed old.refused misplaced
-          (left_in feed old)
+      (left_in feed old)
       (left_after (reads feed old))
   pub cut : IsCut (λ left. at (coming_by (feed_in feed old).failed old.refused left))
       (λ bytes last. read_from old.mode old.owed (chars_of bytes last)) (feed_in feed old)
-          (feed_in feed new) result
+      (feed_in feed new) result
   pub refused : IfErr result IsReaderRefusal
   pub reason : IfErr result (λ e. e ≡ Reader → IsTrue (feed_in feed new).failed)
   pub told : IsTrue (feed_in feed old).told → IsTrue (feed_in feed new).told
@@ -57,7 +57,7 @@ pub record AnswersChar {S : Type 0} (feed : S → Feed) (old new : KeyReader S)
   pub err : IsTrue (feed_in feed old).told → IfErr result (λ e. coming_in feed new ≡ left_by e)
   pub left : IsTrue (feed_in feed old).told → MetBy (feed_in feed old).steady result
       → left_in feed new ≡ left_by_call (feed_in feed old).failed old.refused old.owed
-          (left_in feed old)
+      (left_in feed old)
       (behind_char (chars_in feed old))
   pub cut : IsCut (char_answer (feed_in feed old).failed old.refused old.owed) chars_of
       (feed_in feed old) (feed_in feed new) result
@@ -69,5 +69,6 @@ pub record AnswersChar {S : Type 0} (feed : S → Feed) (old new : KeyReader S)
   pub keeps : (feed_in feed new).bound ≤ (feed_in feed old).bound
 
 -- want of memory is an earlier call's, and every call's since
-abbrev pub IsMemoryKept : {S X : Type 0} → (S → Feed) → KeyReader S → Result X ReadlineError → Type 0
+abbrev pub IsMemoryKept : {S X : Type 0} → (S → Feed) → KeyReader S → Result X ReadlineError
+    → Type 0
 IsMemoryKept feed old result = IfErr result (λ e. e ≡ Memory → coming_in feed old ≡ Refused Memory)
