@@ -1,0 +1,5 @@
+//! What tests stand on: what stands in for the real thing, and the notation of their tables.
+#![tactic(auto)]
+
+pub mod key_names;
+pub mod tables;
