@@ -1,11 +1,12 @@
 //! Where a term stands in an entry.
-ghost use Rattle.std.specs.Prelude.{◌≡◌};
+ghost use Rattle.std.specs.Prelude.{◌≡◌, IfSome, IsCharBoundary};
 ghost use Rattle.line_help.specs.Search.{hit_by};
 
 /// The place of a term in an entry: where it begins, or, for an anchored search, behind it where the entry begins with
 /// it.
 pub(crate) fn hit(anchored: bool, term: &str, entry: &str) -> Option<usize>
-    ensures { result ≡ hit_by anchored term.now entry.now }
+    ensures place { result ≡ hit_by anchored term.now entry.now }
+    ensures boundary { IfSome result (λ pos. IsCharBoundary entry.now pos) }
 {
     if !anchored {
         return entry.find(term);

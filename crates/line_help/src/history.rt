@@ -1,5 +1,5 @@
 //! What a history does.
-ghost use Rattle.std.specs.Prelude.{◌≡◌, ◌==◌, ◌<◌, ℕ, List, [], length, not, IfOk, IfErr, OnOk, OnErr, option_map, string_bytes, true, false};
+ghost use Rattle.std.specs.Prelude.{◌≡◌, ◌==◌, ◌<◌, ℕ, List, [], length, not, IfOk, IfErr, IfSome, IsCharBoundary, OnOk, OnErr, option_map, string_bytes, true, false};
 ghost use Rattle.line_config.specs.declared.errors.ReadlineError.TheVariants.{Memory};
 ghost use Rattle.line_help.specs.History.{Settings, ignored, added, newest};
 ghost use Rattle.line_help.specs.Search.{hit_of, entry_at, searched};
@@ -68,7 +68,9 @@ pub trait History: Drop {
     /// The nearest entry that contains the term, from the entry at `start` on in the direction. There is none for the
     /// empty term, nor from a place behind the last entry.
     fn search(&self, term: &str, start: usize, dir: SearchDirection) -> Option<SearchResult<'_>>
-        ensures { option_map hit_of result ≡ searched false term.now start dir (entries self.now) };
+        ensures found { option_map hit_of result ≡ searched false term.now start dir (entries self.now) }
+        ensures inside { IfSome result (λ hit. hit.idx < length (entries self.now)) }
+        ensures boundary { IfSome result (λ hit. IsCharBoundary hit.entry.now hit.pos) };
 
     /// The same for an entry that begins with the term.
     fn starts_with(
@@ -77,5 +79,7 @@ pub trait History: Drop {
         start: usize,
         dir: SearchDirection,
     ) -> Option<SearchResult<'_>>
-        ensures { option_map hit_of result ≡ searched true term.now start dir (entries self.now) };
+        ensures found { option_map hit_of result ≡ searched true term.now start dir (entries self.now) }
+        ensures inside { IfSome result (λ hit. hit.idx < length (entries self.now)) }
+        ensures boundary { IfSome result (λ hit. IsCharBoundary hit.entry.now hit.pos) };
 }

@@ -105,12 +105,14 @@ impl MemHistory {
 
 // The searches.
 impl MemHistory {
-    ghost use Rattle.std.specs.Prelude.{◌≡◌, ◌≤◌, length, drop, take, reverse, option_map};
+    ghost use Rattle.std.specs.Prelude.{◌≡◌, ◌<◌, ◌≤◌, IfSome, IsCharBoundary, length, drop, take, reverse, option_map};
     ghost use Rattle.line_help.specs.Search.{hit_of, hit_by, first_from, first_back, searched};
 
     #[tactic(auto, using(crate::proofs::SearchLemmas::from_steps))]
     fn first_from(&self, anchored: bool, term: &str, start: usize) -> Option<SearchResult<'_>>
-        ensures { option_map hit_of result ≡ first_from (hit_by anchored term.now) start (drop start self.now.entries) }
+        ensures found { option_map hit_of result ≡ first_from (hit_by anchored term.now) start (drop start self.now.entries) }
+        ensures inside { IfSome result (λ hit. hit.idx < length self.now.entries) }
+        ensures boundary { IfSome result (λ hit. IsCharBoundary hit.entry.now hit.pos) }
     {
         for idx in start..self.entries.len() {
             let entry = self.entries[idx].text().as_str();
@@ -124,7 +126,9 @@ impl MemHistory {
     #[tactic(auto, using(crate::proofs::SearchLemmas::back_steps))]
     fn first_back(&self, anchored: bool, term: &str, count: usize) -> Option<SearchResult<'_>>
         requires { count ≤ length self.now.entries }
-        ensures { option_map hit_of result ≡ first_back (hit_by anchored term.now) (reverse (take count self.now.entries)) }
+        ensures found { option_map hit_of result ≡ first_back (hit_by anchored term.now) (reverse (take count self.now.entries)) }
+        ensures inside { IfSome result (λ hit. hit.idx < length self.now.entries) }
+        ensures boundary { IfSome result (λ hit. IsCharBoundary hit.entry.now hit.pos) }
     {
         for idx in (0..count).rev() {
             let entry = self.entries[idx].text().as_str();
@@ -142,7 +146,9 @@ impl MemHistory {
         start: usize,
         dir: SearchDirection,
     ) -> Option<SearchResult<'_>>
-        ensures { option_map hit_of result ≡ searched anchored term.now start dir self.now.entries }
+        ensures found { option_map hit_of result ≡ searched anchored term.now start dir self.now.entries }
+        ensures inside { IfSome result (λ hit. hit.idx < length self.now.entries) }
+        ensures boundary { IfSome result (λ hit. IsCharBoundary hit.entry.now hit.pos) }
     {
         if term.is_empty() || start >= self.entries.len() {
             return None;
