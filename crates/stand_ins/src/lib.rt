@@ -2,4 +2,5 @@
 #![tactic(auto)]
 
 pub mod key_names;
+pub mod reader_calls;
 pub mod tables;
