@@ -1,6 +1,9 @@
 //! What tests stand on: what stands in for the real thing, and the notation of their tables.
 #![tactic(auto)]
 
+pub mod handlers;
 pub mod key_names;
 pub mod reader_calls;
+pub mod readers;
+pub mod refreshers;
 pub mod tables;
