@@ -1,5 +1,5 @@
 //! Helpers of the tests, and prompts: a helper that has everything, and one that refuses every call.
-ghost use Rattle.std.specs.Prelude.{◌≡◌, None, true, false, IfOk, refl};
+ghost use Rattle.std.specs.Prelude.{◌≡◌, if◌then◌else◌, None, Some, true, false, IfOk, refl};
 ghost use Rattle.std.proofs.Common.{ap};
 ghost use Rattle.line_help.specs.Completion.{nothing_offered};
 ghost use Rattle.line_config.specs.declared.errors.HookFault.{HookFault};
@@ -70,9 +70,7 @@ impl Highlighter for Whole {
 
     ghost kept = { λ before after. (after.hinter ≡ before.hinter) × (after.validator ≡ before.validator) };
 
-    ghost styles = { λ self. ⟦<MatchingBracketHighlighter as Highlighter>⟧.styles self.highlighter };
-
-    ghost highlighting_fails = { λ self. ⟦<MatchingBracketHighlighter as Highlighter>⟧.highlighting_fails self.highlighter };
+    ghost shown_as = { λ self. ⟦<MatchingBracketHighlighter as Highlighter>⟧.shown_as self.highlighter };
 
     fn highlight<'l>(
         &self,
@@ -81,6 +79,29 @@ impl Highlighter for Whole {
         pos: usize,
     ) -> Result<CowStr<'l>, HookFault> {
         self.highlighter.highlight(alloc, line, pos)
+    }
+
+    fn highlight_prompt<'p>(
+        &self,
+        alloc: Global,
+        prompt: &'p str,
+        default: bool,
+    ) -> Result<CowStr<'p>, HookFault> {
+        self.highlighter.highlight_prompt(alloc, prompt, default)
+    }
+
+    fn highlight_hint<'h>(&self, alloc: Global, hint: &'h str) -> Result<CowStr<'h>, HookFault> {
+        self.highlighter.highlight_hint(alloc, hint)
+    }
+
+    fn highlight_candidate<'c>(
+        &self,
+        alloc: Global,
+        candidate: &'c str,
+        completion: CompletionType,
+    ) -> Result<CowStr<'c>, HookFault> {
+        self.highlighter
+            .highlight_candidate(alloc, candidate, completion)
     }
 
     fn highlight_char(&mut self, line: &str, pos: usize, kind: CmdKind) -> bool {
@@ -93,12 +114,18 @@ impl Validator for Whole {
 
     ghost validating_fails = { λ self. ⟦<MatchingBracketValidator as Validator>⟧.validating_fails self.validator };
 
+    ghost while_typing = { λ self. ⟦<MatchingBracketValidator as Validator>⟧.while_typing self.validator };
+
     fn validate(
         &self,
         alloc: Global,
         ctx: &ValidationContext<'_>,
     ) -> Result<ValidationResult, HookFault> {
         self.validator.validate(alloc, ctx)
+    }
+
+    fn validate_while_typing(&self) -> bool {
+        self.validator.validate_while_typing()
     }
 }
 
@@ -191,9 +218,7 @@ impl Highlighter for Refusing {
 
     ghost kept = { λ before after. after ≡ before };
 
-    ghost styles = { λ self part. true };
-
-    ghost highlighting_fails = { λ self text. self.fails };
+    ghost shown_as = { λ self part text. if self.fails then None else Some text };
 
     fn highlight<'l>(
         &self,
@@ -201,6 +226,28 @@ impl Highlighter for Refusing {
         _line: &'l str,
         _pos: usize,
     ) -> Result<CowStr<'l>, HookFault> {
+        Err(self.fault())
+    }
+
+    fn highlight_prompt<'p>(
+        &self,
+        _alloc: Global,
+        _prompt: &'p str,
+        _default: bool,
+    ) -> Result<CowStr<'p>, HookFault> {
+        Err(self.fault())
+    }
+
+    fn highlight_hint<'h>(&self, _alloc: Global, _hint: &'h str) -> Result<CowStr<'h>, HookFault> {
+        Err(self.fault())
+    }
+
+    fn highlight_candidate<'c>(
+        &self,
+        _alloc: Global,
+        _candidate: &'c str,
+        _completion: CompletionType,
+    ) -> Result<CowStr<'c>, HookFault> {
         Err(self.fault())
     }
 
@@ -214,12 +261,18 @@ impl Validator for Refusing {
 
     ghost validating_fails = { λ self text. self.fails };
 
+    ghost while_typing = { λ self. false };
+
     fn validate(
         &self,
         _alloc: Global,
         _ctx: &ValidationContext<'_>,
     ) -> Result<ValidationResult, HookFault> {
         Err(self.fault())
+    }
+
+    fn validate_while_typing(&self) -> bool {
+        false
     }
 }
 
@@ -350,21 +403,21 @@ const NOTHING: &str = "
     candidates he       = 0
 ";
 
-const FAILED: &str = r#"
+const FAILED: &str = "
     verdict a           = Failed
     highlight a         = Failed
     candidates a        = Failed
     hint a              = Failed
-    hint_shown a        = "a"
-"#;
+    hint_shown a        = Failed
+";
 
-const WANTS_MEMORY: &str = r#"
+const WANTS_MEMORY: &str = "
     verdict a           = Memory
     highlight a         = Memory
     candidates a        = Memory
     hint a              = Memory
-    hint_shown a        = "a"
-"#;
+    hint_shown a        = Memory
+";
 
 #[test]
 fn what_helpers_answer(rt: HostRuntime) -> Result<(), Fail> {
