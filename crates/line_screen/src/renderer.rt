@@ -100,9 +100,9 @@ impl<D: Sink> ScreenRenderer<D> {
 
     /// Draws prompt, line, and behind it the hint or message, an empty text where there is none.
     ///
-    /// `old_layout` is that of the drawing in whose place the new one goes. Without one it begins at the
-    /// cursor, which is to stand in a row's first cell, with blank cells behind it. `new_layout`
-    /// says where the drawing ends and where its cursor goes.
+    /// `old_layout` is that of the drawing in whose place the new one goes. Without one it begins at
+    /// the cursor, which is to stand in a row's first cell, with blank cells behind it.
+    /// `new_layout` says where the drawing ends and where its cursor goes.
     pub fn refresh_line(
         &mut self,
         prompt: &str,
