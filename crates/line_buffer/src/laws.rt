@@ -7,14 +7,14 @@ pub fn kills_what_is_copied()
     ensures { KillsWhatIsCopied }
 {}
 
-/// Without leave to grow, `update` keeps the longest beginning of the new text, in whole characters, that the limit lets
-/// stand.
+/// Without leave to grow, `update` keeps the longest beginning of the new text, in whole
+/// characters, that the limit lets stand.
 pub fn keeps_the_longest_that_fits()
     ensures { KeepsTheLongestThatFits }
 {}
 
-/// What `indent` tells gives each of its rows the margin, or takes away as much whitespace at its front, and changes nothing
-/// else.
+/// What `indent` tells gives each of its rows the margin, or takes away as much whitespace at its
+/// front, and changes nothing else.
 pub fn rows_get_their_margin()
     ensures { RowsGetTheirMargin }
 {}
