@@ -1,14 +1,17 @@
-"""What the tests of processes share: the two paths, the bytes of drawings, and a count of what passed."""
+"""What the tests of processes share: the script and the programs, the bytes of drawings, and a count of what passed."""
+import atexit
 import os
 import select
+import shlex
+import shutil
 import subprocess
 import sys
+import tempfile
 import time
 import traceback
 
 TOP = os.path.dirname(os.path.dirname(os.path.realpath(__file__)))
 SCRIPT = os.path.join(TOP, "keyline")
-PROGRAM = os.path.join(TOP, "build", "keyline")
 
 # A run that takes so many seconds hangs. No test is decided by a clock otherwise.
 HUNG = 120
@@ -29,6 +32,33 @@ def drawing(text, back=0):
 
 class Failed(Exception):
     """A test found something else than it expects."""
+
+
+def built(crate):
+    """The program that `rt ci` left of a crate: proved from nothing, and run by it."""
+    return os.path.join(TOP, "crates", crate, "out", crate)
+
+
+PROGRAM = built("keyline_program")
+
+
+def placed_script():
+    """A copy of ./keyline in a folder of its own, whose build hands out the program that `rt ci` left."""
+    folder = tempfile.TemporaryDirectory(prefix="keyline-gate-")
+    atexit.register(folder.cleanup)
+    script = shutil.copy(SCRIPT, folder.name)
+    source = os.path.join(folder.name, "crates", "keyline_program", "src")
+    os.makedirs(source)
+    os.mkdir(os.path.join(folder.name, "bin"))
+    stand_in = os.path.join(folder.name, "bin", "rt")
+    with open(stand_in, "w", encoding="utf-8") as it:
+        it.write(f"#!/bin/sh\nmkdir -p out && cp {shlex.quote(PROGRAM)} out/keyline_program\n")
+    os.chmod(stand_in, 0o755)
+    for kept in ("crates.txt", os.path.join("crates", "keyline_program", "src", "main.rt")):
+        shutil.copy(os.path.join(TOP, kept), os.path.join(folder.name, kept))
+    os.environ["PATH"] = f"{folder.name}/bin:{os.environ['PATH']}"
+    subprocess.run([script], stdin=subprocess.DEVNULL, capture_output=True, timeout=HUNG, check=True)
+    return script
 
 
 def same(what, found, expected):
@@ -63,6 +93,13 @@ class Incoming:
                 break
         same("what came", self.held[: len(expected)], expected)
         self.held = self.held[len(expected) :]
+
+    def expect_end_of(self, expected):
+        """Waits until what came ends with these bytes."""
+        deadline = time.monotonic() + HUNG
+        while not self.held.endswith(expected) and self.more(deadline):
+            pass
+        same("the end of what came", self.held[-len(expected) :], expected)
 
     def expect_end(self, expected=b""):
         """Waits for these bytes and then the end."""

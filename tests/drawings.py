@@ -1,7 +1,7 @@
 #!/usr/bin/env python3
-"""Drawings on a terminal: tmux shows what crates/drawing_shown draws, its cells and its cursor.
+"""Drawings on a terminal: tmux shows what crates/drawings_program draws, its cells and its cursor.
 
-`./test` builds the program first. Texts are those whose widths tmux counts as the editor does.
+`rt ci` builds the program first. Texts are those whose widths tmux counts as the editor does.
 """
 import os
 import pathlib
@@ -11,7 +11,9 @@ import sys
 import tempfile
 import time
 
-PROGRAM = pathlib.Path(__file__).resolve().parent.parent / "crates/drawing_shown/out/drawing_shown"
+from checks import built
+
+PROGRAM = built("drawings_program")
 
 # name, columns, the rows shown, the cursor's row and column
 CASES = [
@@ -51,7 +53,7 @@ class Terminal:
 
 def shows(name, columns, rows, cursor):
     with tempfile.TemporaryDirectory() as folder:
-        terminal = Terminal(folder, columns, f"{shlex.quote(str(PROGRAM))} {name}; exec sleep 120")
+        terminal = Terminal(folder, columns, f"{shlex.quote(PROGRAM)} {name}; exec sleep 120")
         try:
             end = time.monotonic() + 100
             while True:

@@ -2,26 +2,25 @@
 """Each edit of a line with each growth refused in turn: text, cursor and events stand together after it; so each call
 that the undo record and the kill ring hear of, and each call of a history.
 
-`./test` builds crates/growth_tests and the shim of tests/growth.py first. The program makes one call a row and says
+`rt ci` builds crates/edits_program, and tests/growth.py the shim, first. The program makes one call a row and says
 itself whether what it left is right: WRONG where it isn't, "not begun" where the refusal came before the call, and "not
 judged" where it came after. Here each call for memory of its run is refused once.
 """
 import os
-import pathlib
 import subprocess
 import tempfile
 
-from checks import HUNG, TOP, Failed, run_all, same
+from checks import HUNG, TOP, Failed, built, run_all, same
 
 SHIM = os.path.join(TOP, "build", "refuse_growth.so")
-PROGRAM = pathlib.Path(TOP) / "crates" / "growth_tests" / "out" / "growth_tests"
+PROGRAM = built("edits_program")
 MOST = 10000
 
 # Rows of calls that grow, so that each of them must have been refused once at least.
 GROWING = {
     "insert", "update", "yank", "indent",
-    "letter recorded", "letter joined", "paste recorded", "backspace recorded", "backspace joined", "replacement joined",
-    "update recorded", "edit_word recorded", "transpose_words recorded", "indent recorded",
+    "letter recorded", "letter joined", "paste recorded", "backspace recorded", "backspace joined",
+    "replacement joined", "update recorded", "edit_word recorded", "transpose_words recorded", "indent recorded",
     "kill in the ring", "kill joined in the ring", "kill over the oldest",
     "end", "undo", "undo of all", "redo of all", "last_insert", "copy of the record",
     "history add", "history add where full", "history add_owned", "history load_from", "history save_to",

@@ -1,12 +1,13 @@
 #!/usr/bin/env python3
-"""The built program on real pipes. Run it by ./test, or alone once ./keyline has built the program."""
+"""The program on real pipes. Run it by ./test, or alone once `rt ci` or ./keyline has built the program."""
 import os
 import subprocess
 import tempfile
 
-from checks import (BACKSPACE, CTRL_D, ENTER, HUNG, LEFT, NEW_ROW, PROGRAM, RIGHT, SCRIPT, Running, drawing, run_all,
-                    same)
+from checks import (BACKSPACE, CTRL_D, ENTER, HUNG, LEFT, NEW_ROW, PROGRAM, RIGHT, Running, drawing, placed_script,
+                    run_all, same)
 
+SCRIPT = placed_script()
 # A session's first line, `ab`: what is sent to the display before the next line's first drawing.
 FIRST_LINE = drawing(b"") + drawing(b"a") + drawing(b"ab") + NEW_ROW
 

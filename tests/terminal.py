@@ -2,7 +2,7 @@
 """./keyline on a terminal: what is shown, and that the terminal is put back on every way out.
 
 A process of its own leads the terminal's session as a shell does: it runs ./keyline as a job in the foreground, and
-takes the terminal while the job is stopped. Run it by ./test, or alone once ./keyline has built the program.
+takes the terminal while the job is stopped. Run it by ./test, or alone once `rt ci` or ./keyline has built the program.
 """
 import fcntl
 import os
@@ -11,7 +11,9 @@ import signal
 import termios
 import time
 
-from checks import CTRL_D, ENTER, HUNG, LEFT, NEW_ROW, SCRIPT, Failed, Incoming, drawing, run_all, same
+from checks import CTRL_D, ENTER, HUNG, LEFT, NEW_ROW, Failed, Incoming, drawing, placed_script, run_all, same
+
+SCRIPT = placed_script()
 
 
 def shown(display):

@@ -7,7 +7,7 @@ use line_buffer::{Movement, RepeatCount};
 use line_config::{EditMode, ReadlineError};
 use line_keys::tty::Event as Report;
 use line_keys::{
-    Bindings, Cmd, CmdKind, Event, EventContext, EventHandler, InputMode, KeyCode, KeyEvent, Keys,
+    Bindings, Cmd, CmdKind, Decides, Event, EventContext, EventHandler, InputMode, KeyCode, KeyEvent, Keys,
     Modifiers, RawReader, Refresher, Text,
 };
 use std::alloc::Global;

@@ -1,12 +1,14 @@
 -- Where a text may be cut, and texts of several copies.
-use Rattle.std.proofs.Common.{◌≡◌, ℕ, zero, suc, ◌+◌, ◌-◌, ◌*◌, ◌^◌, ◌<◌, ◌≤◌, Bool, true, false, List, [], length, take, refl, sym, ap, ◌∙◌, subst, arith}
-use Rattle.std.specs.Prelude.{IsTrue, ◌↔◌, IsUtf8, IsCharBoundary, min}
+use Rattle.std.proofs.Common.{◌≡◌, ℕ, zero, suc, ◌+◌, ◌-◌, ◌*◌, ◌^◌, ◌<◌, ◌≤◌, Bool, true, false, List, [], ◌∷◌, length, take, refl, sym, ap, ◌∙◌, subst, arith}
+use Rattle.std.specs.Prelude.{IsTrue, ◌↔◌, IsUtf8, IsCharBoundary, min, if◌then◌else◌, Some, ◌==◌, encode_utf8}
 use Rattle.std.specs.List.{replace_range, repeat}
 use Rattle.std.proofs.lemmas.List.{length-append, length-take-le, get_or-take, append-nil, drop_all}
 use native.Mathlib.Decide.{dec_le}
 use Rattle.std.proofs.lemmas.Bool.Decides.{nat_tests}
 use Rattle.std.proofs.lemmas.Str.{IsCharBoundary-start, IsCharBoundary-end}
-use Rattle.line_buffer.specs.Insertions.{last_cut, is_inside_char, has_room, insertion_by, insertion_of}
+use Rattle.line_buffer.specs.Event.{Event}
+use Rattle.line_buffer.specs.Event.Event.{InsertChar}
+use Rattle.line_buffer.specs.Insertions.{last_cut, is_inside_char, has_room, put_at_cursor, no_insertion, insertion_by, insertion_of, insert}
 use Rattle.line_buffer.specs.Line.{Line}
 use Rattle.line_buffer.specs.Replay.{insertion}
 
@@ -67,3 +69,11 @@ copies_length xs n m e = let long = length-repeat n xs in grind (arith, e, long)
 pub one_insertion : (text : List ℕ) (n : ℕ) (l : Line) → n ≡ 1 → insertion_by (insertion l.place text) text l ≡ insertion_of text n l
 one_insertion text n l e =
     ap (λ added. insertion_by (insertion l.place added) added l) (let same : text ≡ repeat n text = rw e (sym (append-nil text)) in same)
+
+-- where there is room, what is told
+pub told_where_room : (told : Event) (added : List ℕ) (l : Line) → true ≡ has_room (length added) l → (insertion_by told added l).events ≡ told ∷ []
+told_where_room told added l e = ap (λ b. (if b then record { answer = Some (l.place == length l.text); events = told ∷ []; line = put_at_cursor added l } else no_insertion l).events) (sym e)
+
+pub told_of_one : (c n size : ℕ) (l : Line) → n ≡ 1 → size ≡ length (encode_utf8 c) → true ≡ has_room size l → (insert c n l).events ≡ InsertChar l.place c ∷ []
+told_of_one c n size l one len e =
+    ap (λ k. (insert c k l).events) one ∙ told_where_room (InsertChar l.place c) (encode_utf8 c) l (e ∙ ap (λ k. has_room k l) len)

@@ -1,10 +1,10 @@
 -- Calls of several events: what they make of a listener and of a text, and what is left where one is refused.
-use Rattle.std.proofs.Common.{◌≡◌, Bool, false, ℕ, ◌+◌, ◌-◌, arith, take, drop, List, [], ◌∷◌, ◌++◌, ◌⊎◌, inl, inr, refl, sym, subst, ap, ◌∙◌, append_assoc}
+use Rattle.std.proofs.Common.{◌≡◌, Bool, true, false, ℕ, ◌+◌, ◌-◌, arith, take, drop, List, [], ◌∷◌, ◌++◌, ◌⊎◌, inl, inr, refl, sym, subst, ap, ◌∙◌, append_assoc}
 use Rattle.std.specs.Prelude.{if◌then◌else◌, Result, Ok, Err, OnErr, IsUtf8, IsCharBoundary}
 use Rattle.std.specs.List.{replace_range, insert_slice}
 use Rattle.line_buffer.specs.Event.{Event}
 use Rattle.line_buffer.specs.Event.Event.{StartKilling, StopKilling}
-use Rattle.line_buffer.specs.Replay.{Swaps, Replays, ReplaysAll, TakesAll, Reports, StopsAmong}
+use Rattle.line_buffer.specs.Replay.{Swaps, Replays, ReplaysAll, TakesAll, TellsOfChange, Reports, StopsAmong}
 
 module _ {S : Type 0} (takes : S → Event → S → Type 0) where
   TakesAll-append : (es fs : List Event) (s t u : S) → TakesAll takes s es t → TakesAll takes t fs u → TakesAll takes s (es ++ fs) u
@@ -31,101 +31,110 @@ reports_then {S} {takes} {es} {fs} {s} {t} {u} {a} {b} {c} x y = record {
 }
 
 -- the first event was refused, or no memory was found for it
-pub stops_at_once : {S : Type 0} (takes refuses : S → Event → S → Type 0) (events : List Event) (e : Event) (s t : S) (a b : List ℕ) → (t ≡ s) ⊎ refuses s e t → b ≡ a
-    → StopsAmong takes refuses events s t a b
-stops_at_once takes refuses events e s t a b h same = record {
+pub stops_at_once : {S : Type 0} (takes refuses : S → Event → S → Type 0) (events never : List Event) (e : Event) (s t : S) (a b : List ℕ)
+    → events ≡ e ∷ never → TellsOfChange e → (t ≡ s) ⊎ refuses s e t → b ≡ a → StopsAmong takes refuses [] events s t a b
+stops_at_once takes refuses events never e s t a b split change h same = record {
   done = [];
-  rest = events;
-  split = refl;
+  refused = e;
+  never = never;
+  split = split;
+  change = change;
   between = s;
   reported = record { told = refl; replays = same };
   left = t;
-  stopped = elim h as (λ _. (t ≡ s) ⊎ ((e : Event) × refuses s e t)) [ inl x ↦ inl x | inr x ↦ inr (e, x) ];
-  closing = [];
+  stopped = h;
   closed = reports_nothing takes t b;
 }
 
+-- the refused event, as another equation has it
+pub refused_as : {S : Type 0} (refuses : S → Event → S → Type 0) {e f : Event} {s t : S} → e ≡ f → (t ≡ s) ⊎ refuses s e t → (t ≡ s) ⊎ refuses s f t
+refused_as refuses {e} {f} {s} {t} same h = subst (λ x. (t ≡ s) ⊎ refuses s x t) same h
+
+-- events under a test that holds
+pub if_true : {A : Type 0} (b : Bool) (x y : A) → b ≡ true → (if b then x else y) ≡ x
+if_true b x y e = ap (λ v. if v then x else y) e
+
 -- no memory was found before anything was told
-pub stops_for_memory : {S : Type 0} (takes refuses : S → Event → S → Type 0) (events : List Event) (s : S) (a b : List ℕ) → b ≡ a → StopsAmong takes refuses events s s a b
-stops_for_memory takes refuses events s a b same = record {
-  done = [];
-  rest = events;
-  split = refl;
-  between = s;
-  reported = record { told = refl; replays = same };
-  left = s;
-  stopped = inl refl;
-  closing = [];
-  closed = reports_nothing takes s b;
-}
+pub stops_for_memory : {S : Type 0} (takes refuses : S → Event → S → Type 0) (events never : List Event) (e : Event) (s : S) (a b : List ℕ)
+    → events ≡ e ∷ never → TellsOfChange e → b ≡ a → StopsAmong takes refuses [] events s s a b
+stops_for_memory takes refuses events never e s a b split change same = stops_at_once takes refuses events never e s s a b split change (inl refl) same
 
 -- the same where the answer is an error that was converted
-pub stops_at_once_on : {S T E : Type 0} (r : Result T E) (takes refuses : S → Event → S → Type 0) (events : List Event) (e : Event) (s t : S) (a b : List ℕ) → (t ≡ s) ⊎ refuses s e t → b ≡ a
-    → OnErr r (StopsAmong takes refuses events s t a b)
-stops_at_once_on r takes refuses events e s t a b h same =
-    elim r as (λ r. OnErr r (StopsAmong takes refuses events s t a b)) [ Ok x ↦ tt | Err x ↦ stops_at_once takes refuses events e s t a b h same ]
+pub stops_at_once_on : {S T E : Type 0} (r : Result T E) (takes refuses : S → Event → S → Type 0) (events never : List Event) (e : Event) (s t : S) (a b : List ℕ)
+    → events ≡ e ∷ never → TellsOfChange e → (t ≡ s) ⊎ refuses s e t → b ≡ a → OnErr r (StopsAmong takes refuses [] events s t a b)
+stops_at_once_on r takes refuses events never e s t a b split change h same =
+    elim r as (λ r. OnErr r (StopsAmong takes refuses [] events s t a b)) [ Ok x ↦ tt | Err x ↦ stops_at_once takes refuses events never e s t a b split change h same ]
+
+pub stops_for_memory_on : {S T E : Type 0} (r : Result T E) (takes refuses : S → Event → S → Type 0) (events never : List Event) (e : Event) (s : S) (a b : List ℕ)
+    → events ≡ e ∷ never → TellsOfChange e → b ≡ a → OnErr r (StopsAmong takes refuses [] events s s a b)
+stops_for_memory_on r takes refuses events never e s a b split change same = stops_at_once_on r takes refuses events never e s s a b split change (inl refl) same
 
 -- a call was refused after another was made
-pub stops_later : {S : Type 0} {takes refuses : S → Event → S → Type 0} {es fs : List Event} {s t u : S} {a b c : List ℕ} → Reports takes es s t a b
-    → StopsAmong takes refuses fs t u b c → StopsAmong takes refuses (es ++ fs) s u a c
-stops_later {S} {takes} {refuses} {es} {fs} {s} {t} {u} {a} {b} {c} x y = record {
+pub stops_later : {S : Type 0} {takes refuses : S → Event → S → Type 0} {closing es fs : List Event} {s t u : S} {a b c : List ℕ} → Reports takes es s t a b
+    → StopsAmong takes refuses closing fs t u b c → StopsAmong takes refuses closing (es ++ fs) s u a c
+stops_later {S} {takes} {refuses} {closing} {es} {fs} {s} {t} {u} {a} {b} {c} x y = record {
   done = es ++ y.done;
-  rest = y.rest;
-  split = ap (λ zs. es ++ zs) y.split ∙ sym (append_assoc es y.done y.rest);
+  refused = y.refused;
+  never = y.never;
+  split = ap (λ zs. es ++ zs) y.split ∙ sym (append_assoc es y.done (y.refused ∷ y.never));
+  change = y.change;
   between = y.between;
   reported = reports_then x y.reported;
   left = y.left;
   stopped = y.stopped;
-  closing = y.closing;
   closed = y.closed;
 }
 
 -- what closes a refused call was told too
-pub stops_closed : {S : Type 0} {takes refuses : S → Event → S → Type 0} {es more : List Event} {s t u : S} {a b : List ℕ} → StopsAmong takes refuses es s t a b
-    → Reports takes more t u b b → StopsAmong takes refuses es s u a b
-stops_closed {S} {takes} {refuses} {es} {more} {s} {t} {u} {a} {b} x y = record {
+pub stops_closed : {S : Type 0} {takes refuses : S → Event → S → Type 0} {closing es more : List Event} {s t u : S} {a b : List ℕ} → StopsAmong takes refuses closing es s t a b
+    → Reports takes more t u b b → StopsAmong takes refuses (closing ++ more) es s u a b
+stops_closed {S} {takes} {refuses} {closing} {es} {more} {s} {t} {u} {a} {b} x y = record {
   done = x.done;
-  rest = x.rest;
+  refused = x.refused;
+  never = x.never;
   split = x.split;
+  change = x.change;
   between = x.between;
   reported = x.reported;
   left = x.left;
   stopped = x.stopped;
-  closing = x.closing ++ more;
   closed = reports_then x.closed y;
 }
 
 -- events that don't come any more change nothing of what is said of those before
-pub stops_before : {S : Type 0} {takes refuses : S → Event → S → Type 0} {es : List Event} (more : List Event) {s t : S} {a b : List ℕ} → StopsAmong takes refuses es s t a b
-    → StopsAmong takes refuses (es ++ more) s t a b
-stops_before {S} {takes} {refuses} {es} more {s} {t} {a} {b} x = record {
+pub stops_before : {S : Type 0} {takes refuses : S → Event → S → Type 0} {closing es : List Event} (more : List Event) {s t : S} {a b : List ℕ}
+    → StopsAmong takes refuses closing es s t a b → StopsAmong takes refuses closing (es ++ more) s t a b
+stops_before {S} {takes} {refuses} {closing} {es} more {s} {t} {a} {b} x = record {
   done = x.done;
-  rest = x.rest ++ more;
-  split = ap (λ zs. zs ++ more) x.split ∙ append_assoc x.done x.rest more;
+  refused = x.refused;
+  never = x.never ++ more;
+  split = ap (λ zs. zs ++ more) x.split ∙ append_assoc x.done (x.refused ∷ x.never) more;
+  change = x.change;
   between = x.between;
   reported = x.reported;
   left = x.left;
   stopped = x.stopped;
-  closing = x.closing;
   closed = x.closed;
 }
 
--- the same of no memory
-pub stops_for_memory_on : {S T E : Type 0} (r : Result T E) (takes refuses : S → Event → S → Type 0) (events : List Event) (s : S) (a b : List ℕ) → b ≡ a → OnErr r (StopsAmong takes refuses events s s a b)
-stops_for_memory_on r takes refuses events s a b same =
-    elim r as (λ r. OnErr r (StopsAmong takes refuses events s s a b)) [ Ok x ↦ tt | Err x ↦ stops_for_memory takes refuses events s a b same ]
+on_err : {T E : Type 0} (r : Result T E) (P Q : Type 0) → (P → Q) → OnErr r P → OnErr r Q
+on_err (Ok x) P Q f h = tt
+on_err (Err x) P Q f h = f h
 
 -- a refused kill is closed as one that was made
 pub stops_killing : {S T E : Type 0} (r : Result T E) (takes refuses : S → Event → S → Type 0) (es : List Event) (plain : Bool) (s begun left t : S) (a b : List ℕ) → plain ≡ false
-    → takes s StartKilling begun → OnErr r (StopsAmong takes refuses es begun left a b) → takes left StopKilling t
-    → OnErr r (StopsAmong takes refuses (if plain then es else StartKilling ∷ (es ++ (StopKilling ∷ []))) s t a b)
+    → takes s StartKilling begun → OnErr r (StopsAmong takes refuses [] es begun left a b) → takes left StopKilling t
+    → OnErr r (StopsAmong takes refuses (if plain then [] else StopKilling ∷ []) (if plain then es else StartKilling ∷ (es ++ (StopKilling ∷ []))) s t a b)
 stops_killing {S} {T} {E} r takes refuses es plain s begun left t a b e start stopped stop =
-    subst (λ v. OnErr r (StopsAmong takes refuses (if v then es else StartKilling ∷ (es ++ (StopKilling ∷ []))) s t a b)) (sym e)
+    subst (λ v. OnErr r (StopsAmong takes refuses (if v then [] else StopKilling ∷ []) (if v then es else StartKilling ∷ (es ++ (StopKilling ∷ []))) s t a b)) (sym e)
     (on_err r _ _ (λ x. stops_closed (stops_later (reports_one takes StartKilling s begun a a start refl) (stops_before (StopKilling ∷ []) x)) (reports_one takes StopKilling left t b b stop refl)) stopped)
-  where
-    on_err : (r : Result T E) (P Q : Type 0) → (P → Q) → OnErr r P → OnErr r Q
-    on_err (Ok x) P Q f h = tt
-    on_err (Err x) P Q f h = f h
+
+-- a deletion by clusters stands between no marks
+pub stops_unmarked : {S T E : Type 0} (r : Result T E) (takes refuses : S → Event → S → Type 0) (es : List Event) (plain : Bool) (s t : S) (a b : List ℕ) → plain ≡ true
+    → OnErr r (StopsAmong takes refuses [] es s t a b)
+    → OnErr r (StopsAmong takes refuses (if plain then [] else StopKilling ∷ []) (if plain then es else StartKilling ∷ (es ++ (StopKilling ∷ []))) s t a b)
+stops_unmarked r takes refuses es plain s t a b e stopped =
+    subst (λ v. OnErr r (StopsAmong takes refuses (if v then [] else StopKilling ∷ []) (if v then es else StartKilling ∷ (es ++ (StopKilling ∷ []))) s t a b)) (sym e) stopped
 
 -- a text put in
 pub swaps_insertion : (at : ℕ) (added before after : List ℕ) → IsCharBoundary before at → IsUtf8 added → after ≡ insert_slice before at added → Swaps at [] added before after

@@ -1,16 +1,17 @@
 -- The walk over the rows that are moved: what was told so far, and what is still to come.
-use Rattle.std.proofs.Common.{◌≡◌, ℕ, ◌+◌, ◌-◌, ◌<◌, ◌≤◌, Bool, List, [], ◌∷◌, ◌++◌, ◌⊎◌, inl, inr, length, get_or, take, drop, refl, sym, ap, ◌∙◌, subst, arith, append_assoc}
+use Rattle.std.proofs.Common.{◌≡◌, ℕ, ◌+◌, ◌-◌, ◌<◌, ◌≤◌, Bool, true, false, List, [], ◌∷◌, ◌++◌, ◌⊎◌, inl, inr, length, get_or, take, drop, refl, sym, ap, ◌∙◌, subst, arith, append_assoc}
 use Rattle.std.specs.Prelude.{Result, Ok, Err, OnErr, IsUtf8, IsCharBoundary, slice_range}
 use Rattle.std.specs.List.{prefix_len}
 use Rattle.std.proofs.lemmas.List.{length-drop, drop-drop, drop-take, take-take, take_all, get_or-take, get_or-drop}
 use Rattle.std.proofs.lemmas.List.Edits.{length-between}
 use Rattle.std.proofs.lemmas.Str.{IsCharBoundary-from_drop, IsCharBoundary-after_ascii, IsUtf8-drop}
+use Rattle.line_buffer.specs.declared.types.Movement.{Movement}
 use Rattle.line_buffer.specs.Event.{Event}
-use Rattle.line_buffer.specs.Indent.{rows_of, row_event, row_len, row_events}
+use Rattle.line_buffer.specs.Indent.{covered, spaces, indent_events, rows_of, row_event, row_len, row_events}
 use Rattle.line_buffer.specs.Line.{Line}
-use Rattle.line_buffer.specs.Replay.{Replays, Reports, StopsAmong}
+use Rattle.line_buffer.specs.Replay.{Replays, Reports, TellsOfChange, StopsAmong}
 use Rattle.line_buffer.specs.Replayed.{carried_line, carried_all}
-use Rattle.line_buffer.specs.Rows.{is_in_row}
+use Rattle.line_buffer.specs.Rows.{is_in_row, row_start, row_end}
 use Rattle.line_buffer.specs.Settings.{SameSettings}
 use Rattle.line_buffer.proofs.IndentLemmas.{rows_last, rows_more}
 use Rattle.line_buffer.proofs.ReplayLemmas.{reports_one, reports_then, reports_nothing, stops_later, stops_at_once}
@@ -33,6 +34,46 @@ row_events-first margin dedent at row rows = refl
 row_events-none : (margin : List ℕ) (dedent : Bool) (at : ℕ) → row_events margin dedent at [] ≡ []
 unfolding row_events
 row_events-none margin dedent at = refl
+
+-- there is a first row in any text
+pub row_events-some : (margin : List ℕ) (dedent : Bool) (at : ℕ) (text : List ℕ)
+    → (never : List Event) × (row_events margin dedent at (rows_of text) ≡ row_event margin dedent at (take (prefix_len is_in_row text) text) ∷ never)
+row_events-some margin dedent at text = elim (prefix_len-stops text) [
+  | inl e ↦ (
+    [],
+    ap (row_events margin dedent at) (rows_last text e) ∙ row_events-first margin dedent at text []
+        ∙ ap (λ es. row_event margin dedent at text ∷ es) (row_events-none margin dedent (at + row_len margin dedent text + 1))
+        ∙ ap (λ x. row_event margin dedent at x ∷ []) (sym (take_all (prefix_len is_in_row text) text (omega (arith, e)))),
+  )
+  | inr h ↦ (
+    _,
+    ap (row_events margin dedent at) (rows_more text h.0)
+        ∙ row_events-first margin dedent at (take (prefix_len is_in_row text) text) (rows_of (drop (prefix_len is_in_row text + 1) text)),
+  )
+]
+
+pub row_event_tells : (margin : List ℕ) (dedent : Bool) (at : ℕ) (row : List ℕ) → TellsOfChange (row_event margin dedent at row)
+row_event_tells margin true at row = tt
+row_event_tells margin false at row = tt
+
+-- events, the first of which tells of a change
+pub record SomeChange (all : List Event) : Type 0 where
+  pub first : Event
+  pub never : List Event
+  pub tells : TellsOfChange first
+  pub events : all ≡ first ∷ never
+
+pub indent_events-some : (movement : Movement) (amount : ℕ) (dedent : Bool) (l : Line) → SomeChange (indent_events movement amount dedent l)
+indent_events-some movement amount dedent l =
+    let first = row_start l.text (covered movement l).0 in
+    let text = slice_range l.text first (row_end l.text (covered movement l).1) in
+    let some = row_events-some (spaces amount) dedent first text in
+    record {
+      first = row_event (spaces amount) dedent first (take (prefix_len is_in_row text) text);
+      never = some.0;
+      tells = row_event_tells (spaces amount) dedent first (take (prefix_len is_in_row text) text);
+      events = some.1;
+    }
 
 -- of the events `all` those before the row at a place were told, and led from one line to the other
 pub record RowsTold {S : Type 0} (takes : S → Event → S → Type 0) (margin : List ℕ) (dedent : Bool) (all : List Event) (s t : S) (l m : Line) (at last : ℕ) : Type 0 where
@@ -80,12 +121,15 @@ module _ {S : Type 0} (takes refuses : S → Event → S → Type 0) (margin : L
   row_is = take-take width (last - at) (drop at m.text) (omega (arith, short, size)) ∙ ap (λ k. take k (drop at m.text)) (let k : width ≡ end - at = omega (arith, ends) in k)
 
   -- the row was refused, or no memory was found for it
-  pub row_stops : {T E : Type 0} (r : Result T E) (u : S) (n : Line) (e : Event) → (u ≡ t) ⊎ refuses t e u → n ≡ m → OnErr r (StopsAmong takes refuses all s u l.text n.text)
-  row_stops {T} {E} r u n e h same =
-      elim r as (λ r. OnErr r (StopsAmong takes refuses all s u l.text n.text)) [
+  pub row_stops : {T E : Type 0} (r : Result T E) (u : S) (n : Line) → (u ≡ t) ⊎ refuses t (row_event margin dedent at row) u → n ≡ m
+      → OnErr r (StopsAmong takes refuses [] all s u l.text n.text)
+  row_stops {T} {E} r u n h same =
+      let first = row_events-some margin dedent at rows in
+      let here : row_events margin dedent at (rows_of rows) ≡ row_event margin dedent at row ∷ first.0 = first.1 ∙ ap (λ x. row_event margin dedent at x ∷ first.0) row_is in
+      elim r as (λ r. OnErr r (StopsAmong takes refuses [] all s u l.text n.text)) [
         | Ok x ↦ tt
-        | Err x ↦ subst (λ es. StopsAmong takes refuses es s u l.text n.text) (sym w.split)
-            (stops_later w.reported (stops_at_once takes refuses _ e t u m.text n.text h (ap (λ l. l.text) same)))
+        | Err x ↦ subst (λ es. StopsAmong takes refuses [] es s u l.text n.text) (sym w.split)
+            (stops_later w.reported (stops_at_once takes refuses _ first.0 (row_event margin dedent at row) t u m.text n.text here (row_event_tells margin dedent at row) h (ap (λ l. l.text) same)))
       ]
 
   module _ (u : S) (n : Line) (changed : ℕ) (told : takes t (row_event margin dedent at row) u) (replays : Replays (row_event margin dedent at row) m.text n.text)

@@ -1,23 +1,40 @@
 -- Two parts of a text exchanged, the later one first.
-use Rattle.std.proofs.Common.{◌≡◌, ℕ, ◌+◌, ◌-◌, ◌≤◌, List, ◌∷◌, ◌++◌, length, take, drop, sym, ap, ◌∙◌, subst, arith, append_assoc, length-append}
-use Rattle.std.specs.Prelude.{IsUtf8, IsCharBoundary, slice_range}
+use Rattle.std.proofs.Common.{◌≡◌, ℕ, ◌+◌, ◌-◌, ◌≤◌, List, [], ◌∷◌, ◌++◌, length, take, drop, sym, ap, ◌∙◌, subst, arith, append_assoc, length-append}
+use Rattle.std.specs.Prelude.{true, not, nat_lt, ◌==◌, IsUtf8, IsCharBoundary, slice_range}
 use Rattle.std.specs.List.{replace_range}
 use Rattle.std.proofs.lemmas.List.{length-take-le, length-drop, drop-append-le}
+use Rattle.std.proofs.lemmas.Bool.{and_from}
+use Rattle.std.proofs.lemmas.Bool.Decides.{nat_tests}
 use Rattle.std.proofs.lemmas.Str.{IsUtf8-drop}
 use Rattle.line_buffer.specs.Event.{Event}
 use Rattle.line_buffer.specs.Replay.{Replays, StopsAmong, replacement}
-use Rattle.line_buffer.specs.Transpositions.{Pair}
+use Rattle.line_buffer.specs.Line.{Line}
+use Rattle.line_buffer.specs.Transpositions.{Pair, clusters_around, between_clusters, clusters_at, exchanged, transposes_chars, transpose_chars_events}
 use Rattle.line_buffer.proofs.CutLemmas.{at_seam}
-use Rattle.line_buffer.proofs.ReplayLemmas.{reports_one, stops_later}
+use Rattle.line_buffer.proofs.ReplayLemmas.{reports_one, stops_later, if_true}
 
 -- the second exchange was refused
 pub swap_stops : {S : Type 0} (takes refuses : S → Event → S → Type 0) (p : Pair) (text added b : List ℕ) (later : List Event) (s t u : S) (c : List ℕ)
     → added ≡ slice_range text p.first_start p.first_end
-    → takes s (replacement p.second_start p.second_end added text) t → Replays (replacement p.second_start p.second_end added text) text b → StopsAmong takes refuses later t u b c
-    → StopsAmong takes refuses (replacement p.second_start p.second_end (slice_range text p.first_start p.first_end) text ∷ later) s u text c
+    → takes s (replacement p.second_start p.second_end added text) t → Replays (replacement p.second_start p.second_end added text) text b → StopsAmong takes refuses [] later t u b c
+    → StopsAmong takes refuses [] (replacement p.second_start p.second_end (slice_range text p.first_start p.first_end) text ∷ later) s u text c
 swap_stops takes refuses p text added b later s t u c e told replays stopped =
-    subst (λ x. StopsAmong takes refuses (replacement p.second_start p.second_end x text ∷ later) s u text c) e
+    subst (λ x. StopsAmong takes refuses [] (replacement p.second_start p.second_end x text ∷ later) s u text c) e
     (stops_later (reports_one takes _ s t text b told replays) stopped)
+
+-- behind the first cluster, with another at hand
+pub transposes : (l : Line) (pos : ℕ) → pos ≡ l.place → (pos ≡ 0 → ⊥) → true ≡ nat_lt 1 (clusters_around l) → transposes_chars l ≡ true
+transposes l pos at behind two = and_from (not (l.place == 0)) (nat_lt 1 (clusters_around l)) (grind (arith, nat_tests)) (sym two)
+
+-- the event of the exchange, as the code has its parts
+pub exchange_event : (l m : Line) (parts : ℕ × ℕ × ℕ) (swapped : List ℕ) → transposes_chars l ≡ true → parts ≡ clusters_at (between_clusters l) → m ≡ l → swapped ≡ exchanged parts m.text
+    → transpose_chars_events l ≡ replacement parts.0 parts.2 swapped m.text ∷ []
+exchange_event l m parts swapped holds is same made =
+    let at = clusters_at (between_clusters l) in
+    if_true (transposes_chars l) (replacement at.0 at.2 (exchanged at l.text) l.text ∷ []) [] holds
+    ∙ ap (λ (p : ℕ × ℕ × ℕ). replacement p.0 p.2 (exchanged p l.text) l.text ∷ []) (sym is)
+    ∙ ap (λ (x : Line). replacement parts.0 parts.2 (exchanged parts x.text) x.text ∷ []) (sym same)
+    ∙ ap (λ x. replacement parts.0 parts.2 x m.text ∷ []) (sym made)
 
 -- behind both parts there is still the same text
 pub behind_both : (text x y : List ℕ) (a b c d : ℕ) → IsUtf8 text → IsCharBoundary text d → a ≤ b → b ≤ c → c ≤ d → length x ≡ b - a → length y ≡ d - c

@@ -1,5 +1,5 @@
 -- Texts that are put in: what is answered, what is told, and the line afterwards.
-use Rattle.std.specs.Prelude.{ℕ, zero, suc, ◌+◌, ◌-◌, ◌==◌, Bool, ◌&&◌, ◌||◌, nat_le, nat_lt, if◌then◌else◌, slice_index, List, [], ◌∷◌, length, take, min, Option, None, Some, encode_utf8}
+use Rattle.std.specs.Prelude.{ℕ, zero, suc, ◌+◌, ◌-◌, ◌==◌, Bool, not, ◌&&◌, ◌||◌, nat_le, nat_lt, if◌then◌else◌, slice_index, List, [], ◌∷◌, length, take, min, Option, None, Some, encode_utf8}
 use Rattle.std.specs.List.{insert_slice, repeat}
 use Rattle.line_buffer.specs.declared.types.Direction.TheVariants.{Forward}
 use Rattle.line_buffer.specs.Event.{Event}
@@ -61,6 +61,10 @@ insert c n l = if n == 1 then insertion_by (InsertChar l.place c) (encode_utf8 c
 -- n copies of a text that isn't empty
 abbrev pub yank : List ℕ → ℕ → Line → Insertion
 yank text n l = if length text == 0 then no_insertion l else insertion_of text n l
+
+-- so many bytes stand before the cursor, and begin a character
+abbrev pub can_take_before : ℕ → Line → Bool
+can_take_before count l = nat_le count l.place && not (is_inside_char l.text (l.place - count))
 
 -- the line without so many bytes before the cursor
 abbrev pub without_before : ℕ → Line → Line

@@ -15,6 +15,7 @@ pub mod Replayed
 pub mod RowRanges
 pub mod Rows
 pub mod Settings
+pub mod Short
 pub mod Transpositions
 pub mod Width
 pub mod Words

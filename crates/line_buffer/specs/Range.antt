@@ -104,5 +104,9 @@ kill_events movement l =
     let events = deletion_events (range_of movement l) l in
     if goes_by_clusters movement then events else StartKilling ∷ (events ++ (StopKilling ∷ []))
 
+-- what closes a kill, also one that is refused
+abbrev pub kill_closing : Movement → List Event
+kill_closing movement = if goes_by_clusters movement then [] else StopKilling ∷ []
+
 abbrev pub kill_line : Movement → Line → Line
 kill_line movement l = deletion_line (range_of movement l) l

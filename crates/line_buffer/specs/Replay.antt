@@ -37,17 +37,25 @@ pub record Reports {S : Type 0} (takes : S → Event → S → Type 0) (events :
   pub told : TakesAll takes s events t
   pub replays : ReplaysAll events before after
 
--- memory was wanting among the events: those done led to the text that is left; then either the line found none, or the
--- listener refused the next event; what closes the call was still told
-pub record StopsAmong {S : Type 0} (takes refuses : S → Event → S → Type 0) (events : List Event) (s t : S) (before after : List ℕ) : Type 0 where
+-- an event that tells of a change, and so can be refused: no mark
+abbrev pub TellsOfChange : Event → Type 0
+TellsOfChange StartKilling = ⊥
+TellsOfChange StopKilling = ⊥
+TellsOfChange e = Unit {0}
+
+-- memory was wanting at one of the events: those before it were done, and led to the text that is left; for that one the line
+-- found none, or the listener refused it; those after it never come. What closes the call was told in the end
+pub record StopsAmong {S : Type 0} (takes refuses : S → Event → S → Type 0) (closing events : List Event)
+    (s t : S) (before after : List ℕ) : Type 0 where
   pub done : List Event
-  pub rest : List Event
-  pub split : events ≡ done ++ rest
+  pub refused : Event
+  pub never : List Event
+  pub split : events ≡ done ++ refused ∷ never
+  pub change : TellsOfChange refused
   pub between : S
   pub reported : Reports takes done s between before after
   pub left : S
-  pub stopped : (left ≡ between) ⊎ ((e : Event) × refuses between e left)
-  pub closing : List Event
+  pub stopped : (left ≡ between) ⊎ refuses between refused left
   pub closed : Reports takes closing left t after after
 
 -- the event of each change

@@ -1,12 +1,12 @@
 -- Two parts of a text exchanged: the clusters at the cursor, and the words around it.
-use Rattle.std.specs.Prelude.{ℕ, ◌==◌, ◌&&◌, not, nat_lt, nat_le, true, Bool, if◌then◌else◌, List, [], ◌∷◌, ◌++◌, length, slice_range}
+use Rattle.std.specs.Prelude.{ℕ, ◌+◌, ◌==◌, ◌&&◌, not, nat_lt, nat_le, true, Bool, if◌then◌else◌, List, [], ◌∷◌, ◌++◌, length, slice_range}
 use Rattle.std.specs.List.{replace_range}
 use Rattle.unicode_segmentation.specs.Grapheme.{graphemes}
 use Rattle.line_buffer.specs.declared.types.At.TheVariants.{AfterEnd}
 use Rattle.line_buffer.specs.declared.types.Word.TheVariants.{Emacs}
 use Rattle.line_buffer.specs.Clusters.{place_forward, place_backward}
 use Rattle.line_buffer.specs.Event.{Event}
-use Rattle.line_buffer.specs.Line.{Line, moved_to, replaced}
+use Rattle.line_buffer.specs.Line.{Line, text_before, text_after, moved_to, replaced}
 use Rattle.line_buffer.specs.Replay.{replacement}
 use Rattle.line_buffer.specs.Words.{prev_word, next_word}
 
@@ -18,11 +18,13 @@ between_clusters l = if l.place == length l.text then moved_to (place_backward 1
 abbrev pub clusters_at : Line → ℕ × ℕ × ℕ
 clusters_at l = ((moved_to (place_backward 1 l) l).place, l.place, (moved_to (place_forward 1 l) l).place)
 
-abbrev pub has_two_clusters : List ℕ → Bool
-has_two_clusters text = nat_lt 1 (length (graphemes true text))
+-- how many clusters stand before the cursor and after it, each text cut by itself
+abbrev pub clusters_around : Line → ℕ
+clusters_around l = length (graphemes true (text_before l)) + length (graphemes true (text_after l))
 
+-- the cursor is behind a cluster, and there are two at least
 abbrev pub transposes_chars : Line → Bool
-transposes_chars l = not (l.place == 0) && has_two_clusters l.text
+transposes_chars l = not (l.place == 0) && nat_lt 1 (clusters_around l)
 
 -- two neighbouring parts, the later one first
 abbrev pub exchanged : ℕ × ℕ × ℕ → List ℕ → List ℕ

@@ -20,9 +20,9 @@ fn goes_by_clusters(movement: &Movement) -> bool
 }
 
 impl LineBuffer {
-    ghost use Rattle.std.specs.Prelude.{◌≡◌, ◌≤◌, slice_range, IsCharBoundary, length, is_some, option_map, string_bytes, IfSome, IfOk, OnOk, OnErr};
+    ghost use Rattle.std.specs.Prelude.{◌≡◌, ◌≤◌, [], slice_range, IsCharBoundary, length, is_some, option_map, string_bytes, true, IfSome, IfOk, OnOk, OnErr};
     ghost use Rattle.line_buffer.specs.declared.types.Movement.TheVariants.{BeginningOfLine, EndOfLine, BackwardWord, ForwardWord, ViCharSearch, BackwardChar, ForwardChar, BeginningOfBuffer, EndOfBuffer};
-    ghost use Rattle.line_buffer.specs.Range.{IsSpanOf, range_of, copied_range, span_text, deletion_events, deletion_line, kill_events, kill_line};
+    ghost use Rattle.line_buffer.specs.Range.{IsSpanOf, range_of, copied_range, span_text, deletion_events, deletion_line, kill_events, kill_closing, kill_line};
     ghost use Rattle.line_buffer.specs.Replay.{Reports, StopsAmong};
 
     /// Takes a part out, if there is one.
@@ -37,7 +37,7 @@ impl LineBuffer {
         ensures told { OnOk result (Reports D.takes (deletion_events span self.old) dl.old dl.new self.old.text self.new.text) }
         ensures line { OnOk result (self.new ≡ deletion_line span self.old) }
         ensures shrinks { length self.new.text ≤ length self.old.text }
-        ensures stopped { OnErr result (StopsAmong D.takes D.refuses (deletion_events span self.old) dl.old dl.new self.old.text self.new.text) }
+        ensures stopped { OnErr result (StopsAmong D.takes D.refuses [] (deletion_events span self.old) dl.old dl.new self.old.text self.new.text) }
         ensures kept { OnErr result (self.new ≡ self.old) }
     {
         let Some(span) = span else {
@@ -60,7 +60,7 @@ impl LineBuffer {
         ensures told { OnOk result (Reports D.takes (deletion_events (range_of movement.now self.old) self.old) dl.old dl.new self.old.text self.new.text) }
         ensures line { OnOk result (self.new ≡ deletion_line (range_of movement.now self.old) self.old) }
         ensures shrinks { length self.new.text ≤ length self.old.text }
-        ensures stopped { OnErr result (StopsAmong D.takes D.refuses (deletion_events (range_of movement.now self.old) self.old) dl.old dl.new self.old.text self.new.text) }
+        ensures stopped { OnErr result (StopsAmong D.takes D.refuses [] (deletion_events (range_of movement.now self.old) self.old) dl.old dl.new self.old.text self.new.text) }
         ensures kept { OnErr result (self.new ≡ self.old) }
     {
         let span = self.range_of(movement);
@@ -78,7 +78,7 @@ impl LineBuffer {
         ensures told { OnOk result (Reports D.takes (deletion_events (range_of (ForwardChar n) self.old) self.old) dl.old dl.new self.old.text self.new.text) }
         ensures line { OnOk result (self.new ≡ deletion_line (range_of (ForwardChar n) self.old) self.old) }
         ensures shrinks { length self.new.text ≤ length self.old.text }
-        ensures stopped { OnErr result (StopsAmong D.takes D.refuses (deletion_events (range_of (ForwardChar n) self.old) self.old) dl.old dl.new self.old.text self.new.text) }
+        ensures stopped { OnErr result (StopsAmong D.takes D.refuses [] (deletion_events (range_of (ForwardChar n) self.old) self.old) dl.old dl.new self.old.text self.new.text) }
         ensures kept { OnErr result (self.new ≡ self.old) }
     {
         let span = self.range_of(&Movement::ForwardChar(n));
@@ -100,7 +100,7 @@ impl LineBuffer {
         ensures told { OnOk result (Reports D.takes (deletion_events (range_of (BackwardChar n) self.old) self.old) dl.old dl.new self.old.text self.new.text) }
         ensures line { OnOk result (self.new ≡ deletion_line (range_of (BackwardChar n) self.old) self.old) }
         ensures shrinks { length self.new.text ≤ length self.old.text }
-        ensures stopped { OnErr result (StopsAmong D.takes D.refuses (deletion_events (range_of (BackwardChar n) self.old) self.old) dl.old dl.new self.old.text self.new.text) }
+        ensures stopped { OnErr result (StopsAmong D.takes D.refuses [] (deletion_events (range_of (BackwardChar n) self.old) self.old) dl.old dl.new self.old.text self.new.text) }
         ensures kept { OnErr result (self.new ≡ self.old) }
     {
         self.delete_by(alloc, &Movement::BackwardChar(n), dl)
@@ -116,7 +116,7 @@ impl LineBuffer {
         ensures told { OnOk result (Reports D.takes (deletion_events (range_of EndOfLine self.old) self.old) dl.old dl.new self.old.text self.new.text) }
         ensures line { OnOk result (self.new ≡ deletion_line (range_of EndOfLine self.old) self.old) }
         ensures shrinks { length self.new.text ≤ length self.old.text }
-        ensures stopped { OnErr result (StopsAmong D.takes D.refuses (deletion_events (range_of EndOfLine self.old) self.old) dl.old dl.new self.old.text self.new.text) }
+        ensures stopped { OnErr result (StopsAmong D.takes D.refuses [] (deletion_events (range_of EndOfLine self.old) self.old) dl.old dl.new self.old.text self.new.text) }
         ensures kept { OnErr result (self.new ≡ self.old) }
     {
         self.delete_by(alloc, &Movement::EndOfLine, dl)
@@ -132,7 +132,7 @@ impl LineBuffer {
         ensures told { OnOk result (Reports D.takes (deletion_events (range_of EndOfBuffer self.old) self.old) dl.old dl.new self.old.text self.new.text) }
         ensures line { OnOk result (self.new ≡ deletion_line (range_of EndOfBuffer self.old) self.old) }
         ensures shrinks { length self.new.text ≤ length self.old.text }
-        ensures stopped { OnErr result (StopsAmong D.takes D.refuses (deletion_events (range_of EndOfBuffer self.old) self.old) dl.old dl.new self.old.text self.new.text) }
+        ensures stopped { OnErr result (StopsAmong D.takes D.refuses [] (deletion_events (range_of EndOfBuffer self.old) self.old) dl.old dl.new self.old.text self.new.text) }
         ensures kept { OnErr result (self.new ≡ self.old) }
     {
         self.delete_by(alloc, &Movement::EndOfBuffer, dl)
@@ -148,7 +148,7 @@ impl LineBuffer {
         ensures told { OnOk result (Reports D.takes (deletion_events (range_of BeginningOfLine self.old) self.old) dl.old dl.new self.old.text self.new.text) }
         ensures line { OnOk result (self.new ≡ deletion_line (range_of BeginningOfLine self.old) self.old) }
         ensures shrinks { length self.new.text ≤ length self.old.text }
-        ensures stopped { OnErr result (StopsAmong D.takes D.refuses (deletion_events (range_of BeginningOfLine self.old) self.old) dl.old dl.new self.old.text self.new.text) }
+        ensures stopped { OnErr result (StopsAmong D.takes D.refuses [] (deletion_events (range_of BeginningOfLine self.old) self.old) dl.old dl.new self.old.text self.new.text) }
         ensures kept { OnErr result (self.new ≡ self.old) }
     {
         self.delete_by(alloc, &Movement::BeginningOfLine, dl)
@@ -164,7 +164,7 @@ impl LineBuffer {
         ensures told { OnOk result (Reports D.takes (deletion_events (range_of BeginningOfBuffer self.old) self.old) dl.old dl.new self.old.text self.new.text) }
         ensures line { OnOk result (self.new ≡ deletion_line (range_of BeginningOfBuffer self.old) self.old) }
         ensures shrinks { length self.new.text ≤ length self.old.text }
-        ensures stopped { OnErr result (StopsAmong D.takes D.refuses (deletion_events (range_of BeginningOfBuffer self.old) self.old) dl.old dl.new self.old.text self.new.text) }
+        ensures stopped { OnErr result (StopsAmong D.takes D.refuses [] (deletion_events (range_of BeginningOfBuffer self.old) self.old) dl.old dl.new self.old.text self.new.text) }
         ensures kept { OnErr result (self.new ≡ self.old) }
     {
         self.delete_by(alloc, &Movement::BeginningOfBuffer, dl)
@@ -182,7 +182,7 @@ impl LineBuffer {
         ensures told { OnOk result (Reports D.takes (deletion_events (range_of (BackwardWord n word) self.old) self.old) dl.old dl.new self.old.text self.new.text) }
         ensures line { OnOk result (self.new ≡ deletion_line (range_of (BackwardWord n word) self.old) self.old) }
         ensures shrinks { length self.new.text ≤ length self.old.text }
-        ensures stopped { OnErr result (StopsAmong D.takes D.refuses (deletion_events (range_of (BackwardWord n word) self.old) self.old) dl.old dl.new self.old.text self.new.text) }
+        ensures stopped { OnErr result (StopsAmong D.takes D.refuses [] (deletion_events (range_of (BackwardWord n word) self.old) self.old) dl.old dl.new self.old.text self.new.text) }
         ensures kept { OnErr result (self.new ≡ self.old) }
     {
         self.delete_by(alloc, &Movement::BackwardWord(n, word), dl)
@@ -201,7 +201,7 @@ impl LineBuffer {
         ensures told { OnOk result (Reports D.takes (deletion_events (range_of (ForwardWord n at word) self.old) self.old) dl.old dl.new self.old.text self.new.text) }
         ensures line { OnOk result (self.new ≡ deletion_line (range_of (ForwardWord n at word) self.old) self.old) }
         ensures shrinks { length self.new.text ≤ length self.old.text }
-        ensures stopped { OnErr result (StopsAmong D.takes D.refuses (deletion_events (range_of (ForwardWord n at word) self.old) self.old) dl.old dl.new self.old.text self.new.text) }
+        ensures stopped { OnErr result (StopsAmong D.takes D.refuses [] (deletion_events (range_of (ForwardWord n at word) self.old) self.old) dl.old dl.new self.old.text self.new.text) }
         ensures kept { OnErr result (self.new ≡ self.old) }
     {
         self.delete_by(alloc, &Movement::ForwardWord(n, at, word), dl)
@@ -219,7 +219,7 @@ impl LineBuffer {
         ensures told { OnOk result (Reports D.takes (deletion_events (range_of (ViCharSearch n search) self.old) self.old) dl.old dl.new self.old.text self.new.text) }
         ensures line { OnOk result (self.new ≡ deletion_line (range_of (ViCharSearch n search) self.old) self.old) }
         ensures shrinks { length self.new.text ≤ length self.old.text }
-        ensures stopped { OnErr result (StopsAmong D.takes D.refuses (deletion_events (range_of (ViCharSearch n search) self.old) self.old) dl.old dl.new self.old.text self.new.text) }
+        ensures stopped { OnErr result (StopsAmong D.takes D.refuses [] (deletion_events (range_of (ViCharSearch n search) self.old) self.old) dl.old dl.new self.old.text self.new.text) }
         ensures kept { OnErr result (self.new ≡ self.old) }
     {
         self.delete_by(alloc, &Movement::ViCharSearch(n, search), dl)
@@ -237,7 +237,7 @@ impl LineBuffer {
         ensures told { OnOk result (Reports D.takes (kill_events movement.now self.old) dl.old dl.new self.old.text self.new.text) }
         ensures line { OnOk result (self.new ≡ kill_line movement.now self.old) }
         ensures shrinks { length self.new.text ≤ length self.old.text }
-        ensures stopped { OnErr result (StopsAmong D.takes D.refuses (kill_events movement.now self.old) dl.old dl.new self.old.text self.new.text) }
+        ensures stopped { OnErr result (StopsAmong D.takes D.refuses (kill_closing movement.now) (kill_events movement.now self.old) dl.old dl.new self.old.text self.new.text) }
         ensures kept { OnErr result (self.new ≡ self.old) }
     {
         if goes_by_clusters(movement) {
@@ -261,7 +261,8 @@ impl LineBuffer {
     /// A text of its own of a part, if there is one.
     fn copy_span(&self, alloc: Global, span: Option<Span>) -> Result<Option<String>, OutOfMemory>
         requires { IfSome span (λ s. IsSpanOf self.now.text s) }
-        ensures { IfOk result (λ t. option_map string_bytes t ≡ option_map (λ s. span_text s self.now) span) }
+        ensures text { IfOk result (λ t. option_map string_bytes t ≡ option_map (λ s. span_text s self.now) span) }
+        ensures some { OnErr result (is_some span ≡ true) }
     {
         let Some(span) = span else {
             return Ok(None);

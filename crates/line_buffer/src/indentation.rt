@@ -26,7 +26,7 @@ fn leading_len(row: &str, count: usize) -> usize
 }
 
 impl LineBuffer {
-    ghost use Rattle.std.specs.Prelude.{◌≡◌, ◌+◌, ◌≤◌, ◌⊎◌, true, length, slice_range, drop, IfOk, OnOk, OnErr, IsCharBoundary};
+    ghost use Rattle.std.specs.Prelude.{◌≡◌, ◌+◌, ◌≤◌, ◌⊎◌, true, [], length, slice_range, drop, IfOk, OnOk, OnErr, IsCharBoundary};
     ghost use Rattle.line_buffer.specs.declared.types.Direction.TheVariants.{Forward};
     ghost use Rattle.line_buffer.specs.Indent.{leading, covered, rows_of, row_event, row_len, row_events, indent_events, indent_line};
     ghost use Rattle.line_buffer.specs.Settings.{SameSettings};
@@ -171,7 +171,7 @@ impl LineBuffer {
         requires end { IsCharBoundary self.old.text rows.end }
         ensures told { OnOk result (Reports C.takes (row_events margin.now dedent rows.start (rows_of (slice_range self.old.text rows.start rows.end))) cl.old cl.new self.old.text self.new.text) }
         ensures line { OnOk result (self.new ≡ carried_all (row_events margin.now dedent rows.start (rows_of (slice_range self.old.text rows.start rows.end))) self.old) }
-        ensures stopped { OnErr result (StopsAmong C.takes C.refuses (row_events margin.now dedent rows.start (rows_of (slice_range self.old.text rows.start rows.end))) cl.old cl.new self.old.text self.new.text) }
+        ensures stopped { OnErr result (StopsAmong C.takes C.refuses [] (row_events margin.now dedent rows.start (rows_of (slice_range self.old.text rows.start rows.end))) cl.old cl.new self.old.text self.new.text) }
         ensures settings { SameSettings self.old self.new }
     {
         let mut at = rows.start;
@@ -249,7 +249,7 @@ impl LineBuffer {
         ensures answer { IfOk result (λ b. b ≡ true) }
         ensures told { OnOk result (Reports C.takes (indent_events movement.now amount dedent self.old) cl.old cl.new self.old.text self.new.text) }
         ensures line { OnOk result (self.new ≡ indent_line movement.now amount dedent self.old) }
-        ensures stopped { OnErr result (StopsAmong C.takes C.refuses (indent_events movement.now amount dedent self.old) cl.old cl.new self.old.text self.new.text) }
+        ensures stopped { OnErr result (StopsAmong C.takes C.refuses [] (indent_events movement.now amount dedent self.old) cl.old cl.new self.old.text self.new.text) }
         ensures settings { SameSettings self.old self.new }
     {
         let (from, upto) = self.covered(movement);

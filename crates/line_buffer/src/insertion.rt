@@ -23,11 +23,11 @@ fn last_cut(text: &str, room: usize) -> usize
 
 #[tactic(auto, using(crate::proofs::ReplayLemmas::stops_at_once))]
 impl LineBuffer {
-    ghost use Rattle.std.specs.Prelude.{◌≡◌, ℕ, ◌≤◌, ◌-◌, ◌==◌, ◌⊎◌, [], length, min, IsUtf8, IfOk, OnOk, OnErr, IsCharBoundary, encode_utf8};
+    ghost use Rattle.std.specs.Prelude.{◌≡◌, ℕ, ◌≤◌, ◌-◌, ◌==◌, ◌⊎◌, true, [], length, min, IsUtf8, IfOk, OnOk, OnErr, IsCharBoundary, encode_utf8};
     ghost use Rattle.std.specs.List.{repeat};
     ghost use Rattle.line_buffer.specs.declared.types.Direction.TheVariants.{Forward};
     ghost use Rattle.line_buffer.specs.Event.Event.{InsertChar};
-    ghost use Rattle.line_buffer.specs.Insertions.{has_room, kept_text, update_events, update_line, put_at_cursor, insertion_by, insertion_of, without_before, insert, yank, yank_pop};
+    ghost use Rattle.line_buffer.specs.Insertions.{has_room, kept_text, update_events, update_line, put_at_cursor, insertion_by, insertion_of, can_take_before, without_before, insert, yank, yank_pop};
     ghost use Rattle.line_buffer.specs.Settings.{SameSettings};
     ghost use Rattle.line_buffer.specs.Replay.{Replays, Reports, StopsAmong, deletion, insertion};
 
@@ -112,7 +112,7 @@ impl LineBuffer {
         requires { IsCharBoundary text.now pos }
         ensures told { OnOk result (Reports C.takes (update_events text.now self.old) cl.old cl.new self.old.text self.new.text) }
         ensures line { OnOk result (self.new ≡ update_line text.now pos self.old) }
-        ensures stopped { OnErr result (StopsAmong C.takes C.refuses (update_events text.now self.old) cl.old cl.new self.old.text self.new.text) }
+        ensures stopped { OnErr result (StopsAmong C.takes C.refuses [] (update_events text.now self.old) cl.old cl.new self.old.text self.new.text) }
         ensures settings { SameSettings self.old self.new }
     {
         let kept = self.kept(text);
@@ -182,7 +182,7 @@ impl LineBuffer {
         ensures answer { IfOk result (λ a. a ≡ (insertion_by (insertion self.old.place text.now) text.now self.old).answer) }
         ensures told { OnOk result (Reports C.takes (insertion_by (insertion self.old.place text.now) text.now self.old).events cl.old cl.new self.old.text self.new.text) }
         ensures line { OnOk result (self.new ≡ (insertion_by (insertion self.old.place text.now) text.now self.old).line) }
-        ensures stopped { OnErr result (StopsAmong C.takes C.refuses (insertion_by (insertion self.old.place text.now) text.now self.old).events cl.old cl.new self.old.text self.new.text) }
+        ensures stopped { OnErr result (StopsAmong C.takes C.refuses [] (insertion_by (insertion self.old.place text.now) text.now self.old).events cl.old cl.new self.old.text self.new.text) }
         ensures kept { OnErr result (self.new ≡ self.old) }
     {
         if !self.has_room(text.len()) {
@@ -205,7 +205,7 @@ impl LineBuffer {
         ensures answer { IfOk result (λ a. a ≡ (insertion_of text.now n self.old).answer) }
         ensures told { OnOk result (Reports C.takes (insertion_of text.now n self.old).events cl.old cl.new self.old.text self.new.text) }
         ensures line { OnOk result (self.new ≡ (insertion_of text.now n self.old).line) }
-        ensures stopped { OnErr result (StopsAmong C.takes C.refuses (insertion_of text.now n self.old).events cl.old cl.new self.old.text self.new.text) }
+        ensures stopped { OnErr result (StopsAmong C.takes C.refuses [] (insertion_of text.now n self.old).events cl.old cl.new self.old.text self.new.text) }
         ensures kept { OnErr result (self.new ≡ self.old) }
     {
         if n == 1 {
@@ -232,7 +232,7 @@ impl LineBuffer {
         ensures answer { IfOk result (λ a. a ≡ (insert ch n self.old).answer) }
         ensures told { OnOk result (Reports C.takes (insert ch n self.old).events cl.old cl.new self.old.text self.new.text) }
         ensures line { OnOk result (self.new ≡ (insert ch n self.old).line) }
-        ensures stopped { OnErr result (StopsAmong C.takes C.refuses (insert ch n self.old).events cl.old cl.new self.old.text self.new.text) }
+        ensures stopped { OnErr result (StopsAmong C.takes C.refuses [] (insert ch n self.old).events cl.old cl.new self.old.text self.new.text) }
         ensures kept { OnErr result (self.new ≡ self.old) }
     {
         if n != 1 {
@@ -261,13 +261,23 @@ impl LineBuffer {
         ensures answer { IfOk result (λ a. a ≡ (yank text.now n self.old).answer) }
         ensures told { OnOk result (Reports C.takes (yank text.now n self.old).events cl.old cl.new self.old.text self.new.text) }
         ensures line { OnOk result (self.new ≡ (yank text.now n self.old).line) }
-        ensures stopped { OnErr result (StopsAmong C.takes C.refuses (yank text.now n self.old).events cl.old cl.new self.old.text self.new.text) }
+        ensures stopped { OnErr result (StopsAmong C.takes C.refuses [] (yank text.now n self.old).events cl.old cl.new self.old.text self.new.text) }
         ensures kept { OnErr result (self.new ≡ self.old) }
     {
         if text.is_empty() {
             return Ok(None);
         }
         self.insert_copies(alloc, text, n, cl)
+    }
+
+    /// Whether `count` bytes stand before the cursor, the first of which begins a character: what `yank_pop` asks for.
+    pub fn can_take_before(&self, count: usize) -> bool
+        ensures value { result ≡ can_take_before count self.now }
+        ensures size { result ≡ true → count ≤ self.now.place }
+        ensures start { result ≡ true → IsCharBoundary self.now.text (self.now.place - count) }
+    {
+        let place = self.pos();
+        count <= place && self.as_str().is_char_boundary(place - count)
     }
 
     /// `yank` of one text in place of the `yank_size` bytes before the cursor; `None` where only these are taken.
@@ -283,7 +293,7 @@ impl LineBuffer {
         ensures answer { IfOk result (λ a. a ≡ (yank_pop yank_size text.now self.old).answer) }
         ensures told { OnOk result (Reports C.takes (yank_pop yank_size text.now self.old).events cl.old cl.new self.old.text self.new.text) }
         ensures line { OnOk result (self.new ≡ (yank_pop yank_size text.now self.old).line) }
-        ensures stopped { OnErr result (StopsAmong C.takes C.refuses (yank_pop yank_size text.now self.old).events cl.old cl.new self.old.text self.new.text) }
+        ensures stopped { OnErr result (StopsAmong C.takes C.refuses [] (yank_pop yank_size text.now self.old).events cl.old cl.new self.old.text self.new.text) }
         ensures settings { SameSettings self.old self.new }
     {
         self.delete_before(alloc, yank_size, cl)?;

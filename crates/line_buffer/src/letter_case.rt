@@ -55,7 +55,7 @@ fn recased(alloc: Global, action: WordAction, word: &str) -> Result<String, OutO
 }
 
 impl LineBuffer {
-    ghost use Rattle.std.specs.Prelude.{◌≡◌, ◌≤◌, is_some, IfSome, IfOk, OnOk, OnErr, IsCharBoundary};
+    ghost use Rattle.std.specs.Prelude.{◌≡◌, ◌≤◌, [], is_some, IfSome, IfOk, OnOk, OnErr, IsCharBoundary};
     ghost use Rattle.line_buffer.specs.LetterCase.{word_at_or_after, word_to_edit, edit_word_events, edit_word_line};
     ghost use Rattle.line_buffer.specs.Replay.{Reports, StopsAmong};
 
@@ -101,7 +101,7 @@ impl LineBuffer {
         ensures answer { IfOk result (λ b. b ≡ is_some (word_to_edit self.old)) }
         ensures told { OnOk result (Reports C.takes (edit_word_events action self.old) cl.old cl.new self.old.text self.new.text) }
         ensures line { OnOk result (self.new ≡ edit_word_line action self.old) }
-        ensures stopped { OnErr result (StopsAmong C.takes C.refuses (edit_word_events action self.old) cl.old cl.new self.old.text self.new.text) }
+        ensures stopped { OnErr result (StopsAmong C.takes C.refuses [] (edit_word_events action self.old) cl.old cl.new self.old.text self.new.text) }
         ensures kept { OnErr result (self.new ≡ self.old) }
     {
         let Some((start, end)) = self.word_to_edit() else {

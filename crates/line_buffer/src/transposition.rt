@@ -1,7 +1,8 @@
 //! Clusters and words exchanged with the ones before them.
 
-ghost use Rattle.std.specs.Prelude.{◌≡◌, ◌≤◌, IfOk, IsCharBoundary, string_bytes};
-ghost use Rattle.line_buffer.specs.Transpositions.{has_two_clusters, exchanged};
+ghost use Rattle.std.specs.Prelude.{◌≡◌, ◌≤◌, true, length, IfOk, IsCharBoundary, string_bytes};
+ghost use Rattle.unicode_segmentation.specs.Grapheme.{graphemes};
+ghost use Rattle.line_buffer.specs.Transpositions.{exchanged};
 
 use crate::line_buffer::{LineBuffer, OutOfMemory};
 use crate::listener::ChangeListener;
@@ -10,13 +11,11 @@ use std::alloc::Global;
 use std::ops::Range;
 use unicode_segmentation::UnicodeSegmentation;
 
-/// The text is more than one cluster.
-fn has_two_clusters(text: &str) -> bool
-    ensures { result ≡ has_two_clusters text.now }
+/// The number of grapheme clusters of a text.
+fn cluster_count(text: &str) -> usize
+    ensures { result ≡ length (graphemes true text.now) }
 {
-    let mut clusters = text.graphemes(true);
-    clusters.next();
-    clusters.next().is_some()
+    text.graphemes(true).count()
 }
 
 /// Two neighbouring parts of a text, the later one first.
@@ -41,10 +40,19 @@ fn exchanged(
 }
 
 impl LineBuffer {
-    ghost use Rattle.std.specs.Prelude.{◌≡◌, ◌≤◌, length, IfOk, OnOk, OnErr, IsCharBoundary};
+    ghost use Rattle.std.specs.Prelude.{◌≡◌, ◌≤◌, nat_lt, [], length, IfOk, OnOk, OnErr, IsCharBoundary};
     ghost use Rattle.line_buffer.specs.Settings.{SameSettings};
     ghost use Rattle.line_buffer.specs.Replay.{Reports, StopsAmong};
-    ghost use Rattle.line_buffer.specs.Transpositions.{between_clusters, clusters_at, transposes_chars, transpose_chars_events, transpose_chars_line, after_words, before_words, words_around, swap_events, swap_line, transposes_words, transpose_words_events, transpose_words_line};
+    ghost use Rattle.line_buffer.specs.Transpositions.{clusters_around, between_clusters, clusters_at, transposes_chars, transpose_chars_events, transpose_chars_line, after_words, before_words, words_around, swap_events, swap_line, transposes_words, transpose_words_events, transpose_words_line};
+
+    /// The clusters before the cursor and those after it are two at least.
+    fn has_two_clusters(&self) -> bool
+        ensures { result ≡ nat_lt 1 (clusters_around self.now) }
+    {
+        let before = cluster_count(&self.buf[..self.pos]);
+        let after = cluster_count(&self.buf[self.pos..]);
+        before.saturating_add(after) > 1
+    }
 
     /// Where the two clusters at the cursor start, meet and end; at the text's end those are the last two.
     fn clusters_at_cursor(&mut self) -> (usize, usize, usize)
@@ -68,7 +76,7 @@ impl LineBuffer {
     }
 
     /// Puts the cluster at the cursor, at the text's end the last one, before the cluster before it, and the cursor behind
-    /// both. False at the text's start, and where there aren't two clusters.
+    /// both. False at the text's start, and where there aren't two clusters; a cursor inside a cluster parts it in two.
     pub fn transpose_chars<C: ChangeListener>(
         &mut self,
         alloc: Global,
@@ -77,11 +85,11 @@ impl LineBuffer {
         ensures answer { IfOk result (λ b. b ≡ transposes_chars self.old) }
         ensures told { OnOk result (Reports C.takes (transpose_chars_events self.old) cl.old cl.new self.old.text self.new.text) }
         ensures line { OnOk result (self.new ≡ transpose_chars_line self.old) }
-        ensures stopped { OnErr result (StopsAmong C.takes C.refuses (transpose_chars_events self.old) cl.old cl.new self.old.text self.new.text) }
+        ensures stopped { OnErr result (StopsAmong C.takes C.refuses [] (transpose_chars_events self.old) cl.old cl.new self.old.text self.new.text) }
         ensures kept { OnErr result (self.new ≡ self.old) }
         ensures length { length self.new.text ≡ length self.old.text }
     {
-        if self.pos() == 0 || !has_two_clusters(self.as_str()) {
+        if self.pos() == 0 || !self.has_two_clusters() {
             return Ok(false);
         }
         let (from, middle, upto) = self.clusters_at_cursor();
@@ -141,7 +149,7 @@ impl LineBuffer {
         requires second_end { IsCharBoundary self.old.text second.end }
         ensures told { OnOk result (Reports C.takes (swap_events (record { first_start = first.start; first_end = first.end; second_start = second.start; second_end = second.end }) self.old.text) cl.old cl.new self.old.text self.new.text) }
         ensures line { OnOk result (self.new ≡ swap_line (record { first_start = first.start; first_end = first.end; second_start = second.start; second_end = second.end }) self.old) }
-        ensures stopped { OnErr result (StopsAmong C.takes C.refuses (swap_events (record { first_start = first.start; first_end = first.end; second_start = second.start; second_end = second.end }) self.old.text) cl.old cl.new self.old.text self.new.text) }
+        ensures stopped { OnErr result (StopsAmong C.takes C.refuses [] (swap_events (record { first_start = first.start; first_end = first.end; second_start = second.start; second_end = second.end }) self.old.text) cl.old cl.new self.old.text self.new.text) }
         ensures settings { SameSettings self.old self.new }
     {
         let earlier = self.copy_part(alloc, first.start, first.end)?;
@@ -169,7 +177,7 @@ impl LineBuffer {
         ensures answer { IfOk result (λ b. b ≡ transposes_words n self.old) }
         ensures told { OnOk result (Reports C.takes (transpose_words_events n self.old) cl.old cl.new self.old.text self.new.text) }
         ensures line { OnOk result (self.new ≡ transpose_words_line n self.old) }
-        ensures stopped { OnErr result (StopsAmong C.takes C.refuses (transpose_words_events n self.old) cl.old cl.new self.old.text self.new.text) }
+        ensures stopped { OnErr result (StopsAmong C.takes C.refuses [] (transpose_words_events n self.old) cl.old cl.new self.old.text self.new.text) }
         ensures settings { SameSettings self.old self.new }
     {
         let second_end = self.on_by_words(n);

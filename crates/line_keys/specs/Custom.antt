@@ -1,14 +1,11 @@
 -- What custom bindings make of keys: of one, and of the sequence that it begins.
 use Rattle.std.specs.Prelude.{ℕ, Bool, List, [], ◌∷◌, ◌++◌, Option, Some, None, Result, Ok, Err, slice_get, if◌then◌else◌}
-use Rattle.std.specs.declared.dyn_box.DynBox.{DynBox}
-use Rattle.std.specs.declared.alloc.Global.{Global}
 use Rattle.line_config.specs.declared.errors.ReadlineError.{ReadlineError}
 use Rattle.line_config.specs.declared.errors.ReadlineError.TheVariants.{PasteOutOfPlace}
 use Rattle.line_keys.specs.declared.binding.Entry.{Entry}
 use Rattle.line_keys.specs.declared.command.Cmd.{Cmd}
 use Rattle.line_keys.specs.declared.events.Event.{Event}
 use Rattle.line_keys.specs.declared.events.Event.TheVariants.{Any, KeySeq}
-use Rattle.line_keys.specs.declared.handler.EventHandler.{EventHandler}
 use Rattle.line_keys.specs.declared.key.KeyEvent.{KeyEvent}
 use Rattle.line_keys.specs.declared.keymap.custom.Followed.{Followed}
 use Rattle.line_keys.specs.declared.keymap.custom.Followed.TheVariants.{Bound, Unbound}
@@ -28,8 +25,8 @@ pub record Custom : Type 0 where
   -- some bound sequence begins with these keys, or is these
   pub begins : List KeyEvent → Bool
 
-abbrev pub custom_of : {X : Type 0} {F : X → Type 0} → List (Entry (EventHandler X F)) → (DynBox X Global F → Meaning) → Custom
-custom_of entries of_box = record { answers = binds entries of_box; begins = λ keys. some_begins keys entries }
+abbrev pub custom_of : {D : Type 0} → List (Entry D) → (D → Meaning) → Custom
+custom_of entries means = record { answers = binds entries means; begins = λ keys. some_begins keys entries }
 
 -- all by which a key behind its count is decided
 pub record Situation : Type 0 where

@@ -110,13 +110,16 @@ pub enum EventHandler {
     Conditional(Box<dyn ConditionalEventHandler>),
 }
 
-impl EventHandler {
-    ghost use Rattle.line_keys.specs.Answers.{handler_meaning, command_by};
+/// What decides on a command: an `EventHandler`, or a type that stands for one.
+pub trait Decides: Drop {
+    ghost use Rattle.line_keys.specs.Answers.{command_by};
     ghost use Rattle.line_keys.specs.Showing.{showing};
+
+    ghost decides: { Self → Meaning };
 
     /// The command for the event `evt`, or `None` for what the key does unbound: what a handler answers of its
     /// arguments, whose failure is the refusal `Handler`.
-    pub fn decide(
+    fn decide(
         &self,
         alloc: Global,
         evt: &Event,
@@ -124,8 +127,22 @@ impl EventHandler {
         positive: bool,
         ctx: &EventContext<'_>,
     ) -> Result<Option<Cmd>, ReadlineError>
-        ensures { HadMemory result → result ≡ command_by (handler_meaning (λ b. meaning b) self.now (showing evt.now n positive ctx.now)) }
-    {
+        ensures { HadMemory result → result ≡ command_by (decides self.now (showing evt.now n positive ctx.now)) };
+}
+
+impl Decides for EventHandler {
+    ghost use Rattle.line_keys.specs.Answers.{handler_meaning};
+
+    ghost decides = { handler_meaning (λ b. (ConditionalEventHandler-box b).meaning b.value) };
+
+    fn decide(
+        &self,
+        alloc: Global,
+        evt: &Event,
+        n: RepeatCount,
+        positive: bool,
+        ctx: &EventContext<'_>,
+    ) -> Result<Option<Cmd>, ReadlineError> {
         match self {
             EventHandler::Simple(cmd) => Ok(Some(cmd.try_clone(alloc)?)),
             EventHandler::Conditional(handler) => {

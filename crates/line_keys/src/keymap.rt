@@ -14,8 +14,9 @@ ghost use Rattle.line_keys.specs.Faults.{IsReaderRefusal};
 ghost use Rattle.line_keys.specs.Coming.{Pressed, key_at, left_by};
 ghost use Rattle.line_keys.specs.Refreshing.{Asked};
 
-use crate::binding::Bindings;
+use crate::binding::EventMap;
 use crate::command::{Cmd, InputMode};
+use crate::handler::{Decides, EventHandler};
 use crate::key::KeyEvent;
 use crate::refresh::Refresher;
 use crate::tty::{Event, RawReader};
@@ -25,9 +26,9 @@ use std::alloc::Global;
 
 /// Makes commands of keys, and keeps what Vi's commands hand on to later ones.
 #[derive(Drop)]
-pub struct InputState<'b> {
+pub struct InputState<'b, D: Decides = EventHandler> {
     pub(crate) mode: EditMode,
-    custom_bindings: &'b Bindings,
+    custom_bindings: &'b EventMap<D>,
     pub(crate) input_mode: InputMode,
     // Vi's last change.
     last_cmd: Cmd,
@@ -35,7 +36,7 @@ pub struct InputState<'b> {
     last_char_search: Option<CharSearch>,
 }
 
-impl<'b> InputState<'b> {
+impl<'b, D: Decides> InputState<'b, D> {
     ghost use Rattle.line_keys.specs.declared.command.Cmd.TheVariants.{Noop};
     ghost use Rattle.line_keys.specs.declared.command.InputMode.TheVariants.{Command, Insert};
     ghost use Rattle.line_keys.specs.InputStates.{input_of, custom_in};
@@ -47,7 +48,7 @@ impl<'b> InputState<'b> {
     pub fn new(
         _alloc: Global,
         config: &Config,
-        custom_bindings: &'b Bindings,
+        custom_bindings: &'b EventMap<D>,
     ) -> Result<Self, ReadlineError>
         ensures { MatchResult result (λ s. (input_of s ≡ record { mode = config.now.edit_mode; input_mode = Insert; last = Noop; search = None }) × (s.custom_bindings ≡ custom_bindings.entry)) (λ _. ⊥) }
     {
@@ -86,13 +87,13 @@ impl<'b> InputState<'b> {
         single_esc_abort: bool,
         ignore_external_print: bool,
     ) -> Result<Cmd, ReadlineError>
-        ensures answer { IsTrue (R.told rdr.old) → MetBy (R.steady rdr.old) result → result ≡ (phrase (custom_in self.old (λ b. meaning b)) (W.rule wrt.old) (input_of self.old) (W.shown wrt.old) (R.coming rdr.old)).answer }
-        ensures rest { IsTrue (R.told rdr.old) → MetBy (R.steady rdr.old) result → R.coming rdr.new ≡ (phrase (custom_in self.old (λ b. meaning b)) (W.rule wrt.old) (input_of self.old) (W.shown wrt.old) (R.coming rdr.old)).rest }
-        ensures asks { IsTrue (R.told rdr.old) → MetBy (R.steady rdr.old) result → Asked W.asked W.shown W.rule wrt.old (phrase (custom_in self.old (λ b. meaning b)) (W.rule wrt.old) (input_of self.old) (W.shown wrt.old) (R.coming rdr.old)).asks wrt.new }
-        ensures input { IsTrue (R.told rdr.old) → MetBy (R.steady rdr.old) result → input_of self.new ≡ (phrase (custom_in self.old (λ b. meaning b)) (W.rule wrt.old) (input_of self.old) (W.shown wrt.old) (R.coming rdr.old)).input }
+        ensures answer { IsTrue (R.told rdr.old) → MetBy (R.steady rdr.old) result → result ≡ (phrase (custom_in self.old D.decides) (W.rule wrt.old) (input_of self.old) (W.shown wrt.old) (R.coming rdr.old)).answer }
+        ensures rest { IsTrue (R.told rdr.old) → MetBy (R.steady rdr.old) result → R.coming rdr.new ≡ (phrase (custom_in self.old D.decides) (W.rule wrt.old) (input_of self.old) (W.shown wrt.old) (R.coming rdr.old)).rest }
+        ensures asks { IsTrue (R.told rdr.old) → MetBy (R.steady rdr.old) result → Asked W.asked W.shown W.rule wrt.old (phrase (custom_in self.old D.decides) (W.rule wrt.old) (input_of self.old) (W.shown wrt.old) (R.coming rdr.old)).asks wrt.new }
+        ensures input { IsTrue (R.told rdr.old) → MetBy (R.steady rdr.old) result → input_of self.new ≡ (phrase (custom_in self.old D.decides) (W.rule wrt.old) (input_of self.old) (W.shown wrt.old) (R.coming rdr.old)).input }
         ensures mode { self.new.mode ≡ self.old.mode }
         ensures bindings { self.new.custom_bindings ≡ self.old.custom_bindings }
-        ensures reason { IfErr result (λ e. Because (R.reason rdr.new) (W.reason wrt.new) (custom_in self.old (λ b. meaning b)) e) }
+        ensures reason { IfErr result (λ e. Because (R.reason rdr.new) (W.reason wrt.new) (custom_in self.old D.decides) e) }
         ensures told { IsTrue (R.told rdr.old) → IsTrue (R.told rdr.new) }
         ensures steady { R.steady rdr.new ≡ R.steady rdr.old }
         ensures falls { OnOk result (R.bound rdr.new < R.bound rdr.old) }

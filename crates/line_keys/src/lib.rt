@@ -19,7 +19,7 @@ pub use binding::{Bindings, EventMap};
 pub use command::{Cmd, CmdKind, InputMode};
 pub use events::{Event, Keys};
 pub use flags::Modifiers;
-pub use handler::{ConditionalEventHandler, EventContext, EventHandler};
+pub use handler::{ConditionalEventHandler, Decides, EventContext, EventHandler};
 pub use key::{KeyCode, KeyEvent};
 pub use keymap::InputState;
 pub use refresh::{Invoke, Refresher};

@@ -4,21 +4,21 @@ use Rattle.std.specs.Prelude.{ℕ, IsUtf8}
 use Rattle.line_buffer.specs.Event.{Event}
 use Rattle.line_buffer.specs.Replay.{Reports, StopsAmong}
 use Rattle.line_record.specs.declared.joined.Joined.{Joined}
-use Rattle.line_record.specs.Items.{Items, ItemsStand, RecordedIn}
+use Rattle.line_record.specs.Items.{Items, ItemsStand, RecordedIn, held_on}
 use Rattle.line_record.specs.Names.{SameNames}
 use Rattle.line_record.specs.Runs.{recorded_all}
 use Rattle.line_record.specs.Together.{joined_takes, joined_refuses, RefusalsLeaveNoUnmadeChange}
 use Rattle.line_record.proofs.RunLemmas.{part_told, part_stopped, kept_by_all}
 
 pub refusals_leave_no_unmade_change : {A : Type 0} (first first_refuses : A → Event → A → Type 0) → RefusalsLeaveNoUnmadeChange first first_refuses
-refusals_leave_no_unmade_change {A} first first_refuses events s t before after h u call =
+refusals_leave_no_unmade_change {A} first first_refuses closing events s t before after h u call =
     let part : Joined A Items → Items = λ j. j.second.now in
     let same : (x : Joined A Items) (e : Event) (y : Joined A Items) → joined_refuses first first_refuses (λ p q r. r ≡ p) x e y → part y ≡ part x =
     λ x e y r. elim r.1 [ inl k ↦ k.1 | inr k ↦ k.1 ] in
     let both = part_stopped (joined_takes first RecordedIn) part (λ x e y k. k.1.1) (joined_refuses first first_refuses (λ p q r. r ≡ p)) same h u call in
     record {
       stand = both.0.stand;
-      held = both.0.held ∙ ap (recorded_all call.closing after) both.1.held;
+      held = both.0.held ∙ ap (recorded_all closing after) both.1.held;
     }
 
 -- the record's changes stand on the line's text, where both were told, and where one refused
@@ -26,10 +26,15 @@ pub joined_stand : {A : Type 0} (first : A → Event → A → Type 0) {events :
     → Reports (joined_takes first RecordedIn) events s t before after → ItemsStand t.second.now after
 joined_stand {A} first h u r = (part_told (joined_takes first RecordedIn) (λ j. j.second.now) (λ x e y k. k.1.1) h u r).stand
 
-pub joined_stand_refused : {A : Type 0} (first first_refuses : A → Event → A → Type 0) {events : List Event} {s t : Joined A Items} {before after : List ℕ}
+-- and the record is that of the line's events
+pub joined_held : {A : Type 0} (first : A → Event → A → Type 0) {events : List Event} {s t : Joined A Items} {before after : List ℕ} → ItemsStand s.second.now before → IsUtf8 before
+    → Reports (joined_takes first RecordedIn) events s t before after → held_on t.second.now after ≡ recorded_all events before (held_on s.second.now before)
+joined_held first h u r = (part_told (joined_takes first RecordedIn) (λ j. j.second.now) (λ x e y k. k.1.1) h u r).held
+
+pub joined_stand_refused : {A : Type 0} (first first_refuses : A → Event → A → Type 0) {closing events : List Event} {s t : Joined A Items} {before after : List ℕ}
     → ItemsStand s.second.now before → IsUtf8 before
-    → StopsAmong (joined_takes first RecordedIn) (joined_refuses first first_refuses (λ x e y. y ≡ x)) events s t before after → ItemsStand t.second.now after
-joined_stand_refused first first_refuses {events} {s} {t} {before} {after} h u call = (refusals_leave_no_unmade_change first first_refuses events s t before after h u call).stand
+    → StopsAmong (joined_takes first RecordedIn) (joined_refuses first first_refuses (λ x e y. y ≡ x)) closing events s t before after → ItemsStand t.second.now after
+joined_stand_refused first first_refuses {closing} {events} {s} {t} {before} {after} h u call = (refusals_leave_no_unmade_change first first_refuses closing events s t before after h u call).stand
 
 -- they stay the same two
 module _ {A B : Type 0} (first first_refuses : A → Event → A → Type 0) (second second_refuses : B → Event → B → Type 0) where
@@ -49,10 +54,10 @@ module _ {A B : Type 0} (first first_refuses : A → Event → A → Type 0) (se
   unfolding Same
   joined_names {events} {s} {t} r = kept_by_all (joined_takes first second) Same same chained (λ x e y k. k.0) events s t r.told
 
-  pub joined_names_refused : {events : List Event} {s t : Joined A B} {before after : List ℕ}
-      → StopsAmong (joined_takes first second) (joined_refuses first first_refuses second_refuses) events s t before after → SameNames s.first s.second t.first t.second
+  pub joined_names_refused : {closing events : List Event} {s t : Joined A B} {before after : List ℕ}
+      → StopsAmong (joined_takes first second) (joined_refuses first first_refuses second_refuses) closing events s t before after → SameNames s.first s.second t.first t.second
   unfolding Same
-  joined_names_refused {events} {s} {t} call =
+  joined_names_refused {closing} {events} {s} {t} call =
       let stopped : Same call.between call.left =
-      elim call.stopped [ inl k ↦ subst (Same call.between) (sym k) (same call.between) | inr (e, k) ↦ k.0 ] in
+      elim call.stopped [ inl k ↦ subst (Same call.between) (sym k) (same call.between) | inr k ↦ k.0 ] in
       chained s call.between t (joined_names call.reported) (chained call.between call.left t stopped (joined_names call.closed))

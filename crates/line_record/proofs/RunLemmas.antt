@@ -81,14 +81,14 @@ module _ {S : Type 0} (takes : S → Event → S → Type 0) (part : S → Items
   part_told {events} {s} {t} {before} {after} h u r = all_recorded events s t before after r.told r.replays h u
 
   -- after a refusal the record is that of the events that the line made, and of what closed the call
-  pub part_stopped : {events : List Event} {s t : S} {before after : List ℕ} → (refuses : S → Event → S → Type 0) → ((x : S) (e : Event) (y : S) → refuses x e y → part y ≡ part x)
-      → ItemsStand (part s) before → IsUtf8 before → (p : StopsAmong takes refuses events s t before after)
-      → RecordedAll p.closing (part p.between) (part t) after after × RecordedAll p.done (part s) (part p.between) before after
-  part_stopped {events} {s} {t} {before} {after} refuses refuses_part h u p =
+  pub part_stopped : {closing events : List Event} {s t : S} {before after : List ℕ} → (refuses : S → Event → S → Type 0) → ((x : S) (e : Event) (y : S) → refuses x e y → part y ≡ part x)
+      → ItemsStand (part s) before → IsUtf8 before → (p : StopsAmong takes refuses closing events s t before after)
+      → RecordedAll closing (part p.between) (part t) after after × RecordedAll p.done (part s) (part p.between) before after
+  part_stopped {closing} {events} {s} {t} {before} {after} refuses refuses_part h u p =
       let done = part_told h u p.reported in
-      let same : part p.left ≡ part p.between = elim p.stopped [ inl e ↦ ap part e | inr (e, r) ↦ refuses_part p.between e p.left r ] in
-      let closing = part_told (subst (λ x. ItemsStand x after) (sym same) done.stand) done.utf8 p.closed in
-      (subst (λ x. RecordedAll p.closing x (part t) after after) same closing, done)
+      let same : part p.left ≡ part p.between = elim p.stopped [ inl e ↦ ap part e | inr r ↦ refuses_part p.between p.refused p.left r ] in
+      let after_all = part_told (subst (λ x. ItemsStand x after) (sym same) done.stand) done.utf8 p.closed in
+      (subst (λ x. RecordedAll closing x (part t) after after) same after_all, done)
 
 -- the record alone
 pub told_stand : {events : List Event} {s t : Items} {before after : List ℕ} → ItemsStand s before → IsUtf8 before → Reports RecordedIn events s t before after → ItemsStand t after
@@ -98,8 +98,8 @@ pub told_held : {events : List Event} {s t : Items} {before after : List ℕ} �
     → held_on t after ≡ recorded_all events before (held_on s before)
 told_held h u r = (part_told RecordedIn (λ x. x) (λ s e t k. k) h u r).held
 
-pub stopped_stand : {events : List Event} {s t : Items} {before after : List ℕ} → ItemsStand s before → IsUtf8 before
-    → StopsAmong RecordedIn (λ x e y. y ≡ x) events s t before after → ItemsStand t after
+pub stopped_stand : {closing events : List Event} {s t : Items} {before after : List ℕ} → ItemsStand s before → IsUtf8 before
+    → StopsAmong RecordedIn (λ x e y. y ≡ x) closing events s t before after → ItemsStand t after
 stopped_stand h u p = (part_stopped RecordedIn (λ x. x) (λ s e t k. k) (λ x e y. y ≡ x) (λ x e y k. k) h u p).0.stand
 
 -- what each event keeps, a run keeps

@@ -20,12 +20,13 @@ module _ {A B : Type 0} where
 
 -- a call of several events that was refused, seen from a record that is told last: it holds the changes that the line
 -- made, and no other
-pub record HoldsWhatWasMade {S : Type 0} {takes refuses : S → Event → S → Type 0} {events : List Event} {s t : S} {before after : List ℕ} (part : S → Items) (call : StopsAmong takes refuses events s t before after) : Type 0 where
+pub record HoldsWhatWasMade {S : Type 0} {takes refuses : S → Event → S → Type 0} {closing events : List Event} {s t : S} {before after : List ℕ}
+    (part : S → Items) (call : StopsAmong takes refuses closing events s t before after) : Type 0 where
   pub stand : ItemsStand (part t) after
-  pub held : held_on (part t) after ≡ recorded_all call.closing after (recorded_all call.done before (held_on (part s) before))
+  pub held : held_on (part t) after ≡ recorded_all closing after (recorded_all call.done before (held_on (part s) before))
 
 abbrev pub RefusalsLeaveNoUnmadeChange : {A : Type 0} → (A → Event → A → Type 0) → (A → Event → A → Type 0) → Type 0
 RefusalsLeaveNoUnmadeChange {A} first first_refuses =
-    (events : List Event) (s t : Joined A Items) (before after : List ℕ) → ItemsStand s.second.now before → IsUtf8 before
-    → (call : StopsAmong (joined_takes first RecordedIn) (joined_refuses first first_refuses (λ x e y. y ≡ x)) events s t before after)
+    (closing events : List Event) (s t : Joined A Items) (before after : List ℕ) → ItemsStand s.second.now before → IsUtf8 before
+    → (call : StopsAmong (joined_takes first RecordedIn) (joined_refuses first first_refuses (λ x e y. y ≡ x)) closing events s t before after)
     → HoldsWhatWasMade (λ j. j.second.now) call

@@ -1,6 +1,6 @@
 //! The kill ring: killed texts, for yanking them again.
 
-use line_buffer::{DeleteListener, Direction, Mode, OutOfMemory};
+use line_buffer::{ChangeListener, DeleteListener, Direction, Mode, OutOfMemory};
 use std::alloc::Global;
 use std::marker::Model;
 
@@ -208,5 +208,26 @@ impl DeleteListener for KillRing {
 
     fn stop_killing(&mut self) {
         self.killing = false;
+    }
+}
+
+/// Hears of every change, and passes over all but deletions.
+impl ChangeListener for KillRing {
+    fn insert_char(&mut self, _alloc: Global, _idx: usize, _c: char) -> Result<(), OutOfMemory> {
+        Ok(())
+    }
+
+    fn insert_str(&mut self, _alloc: Global, _idx: usize, _text: &str) -> Result<(), OutOfMemory> {
+        Ok(())
+    }
+
+    fn replace(
+        &mut self,
+        _alloc: Global,
+        _idx: usize,
+        _removed: &str,
+        _added: &str,
+    ) -> Result<(), OutOfMemory> {
+        Ok(())
     }
 }

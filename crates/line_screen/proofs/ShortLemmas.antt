@@ -11,7 +11,8 @@ use Rattle.line_screen.specs.Display.{is_printable, right}
 use Rattle.line_screen.specs.Drawing.{text_items, after}
 use Rattle.line_screen.specs.Drawing.Item.{Letter}
 use Rattle.line_screen.specs.Laws.{widths}
-use Rattle.line_screen.specs.Short.{AtEnd, behind_typed, before_killed, TypingLeads, KillingLeads}
+use Rattle.line_buffer.specs.Short.{behind_typed, before_killed}
+use Rattle.line_screen.specs.Short.{AtEnd, TypingLeads, KillingLeads}
 use Rattle.line_screen.specs.Showing.{shown_items, finish_of, cursor_of}
 use Rattle.line_screen.proofs.Ends.{letters_in_row}
 use Rattle.line_screen.proofs.Fitting.{items_fit, fit_append, after_inside}

@@ -4,6 +4,7 @@ use Rattle.std.specs.Prelude.{ℕ, ◌+◌, ◌-◌, ◌*◌, ◌==◌, nat_lt, 
 use Rattle.std.specs.List.{list_all, filter}
 use Rattle.line_buffer.specs.Cells.{origin}
 use Rattle.line_buffer.specs.declared.layout.Position.{Position}
+pub use Rattle.line_buffer.specs.Short.{is_printable}
 
 -- ---- cells
 
@@ -66,10 +67,6 @@ put_letters columns (c ∷ cs) d = and_then (put columns 1 (c ∷ []) d) (put_le
 abbrev pub put_cluster : ℕ → List ℕ → Display → Option ℕ → Option Display
 put_cluster columns run d None = None
 put_cluster columns run d (Some width) = put columns width run d
-
--- the printable characters of ASCII
-abbrev pub is_printable : ℕ → Bool
-is_printable c = nat_le 0x20 c && nat_lt c 0x7F
 
 -- a run of text: printable ASCII alone, or one cluster
 abbrev pub put_run : ℕ → (List ℕ → Option ℕ) → List ℕ → Display → Option Display

@@ -1,22 +1,13 @@
 -- The short ways at the end of a line: one more character written, or the last ones erased, without a new drawing.
-use Rattle.std.specs.Prelude.{◌≡◌, ℕ, ◌+◌, ◌-◌, nat_lt, nat_le, ◌<◌, ◌≤◌, ◌^◌, ◌&&◌, true, List, [], ◌∷◌, ◌++◌, length, Option, Some, None, if◌then◌else◌}
+use Rattle.std.specs.Prelude.{◌≡◌, ℕ, ◌≤◌, true, List, [], ◌∷◌, ◌++◌, length, Option, Some}
 use Rattle.std.specs.List.{list_all, FoldsTo}
 use Rattle.line_buffer.specs.declared.layout.Position.{Position}
+use Rattle.line_buffer.specs.Short.{behind_typed, before_killed}
 use Rattle.line_screen.specs.Calls.{Screen, Call}
 use Rattle.line_screen.specs.Calls.Call.{Move, Write, ClearToEol}
 use Rattle.line_screen.specs.Chain.{View, Inside, Leads, is_simple, typed, cut_line}
-use Rattle.line_screen.specs.Display.{is_printable, right}
 use Rattle.line_screen.specs.Laws.{widths}
 use Rattle.line_screen.specs.Showing.{finish_of, cursor_of}
-
--- behind one printable character of ASCII, unless it would stand in the row's last column
-abbrev pub behind_typed : ℕ → ℕ → Position → Option Position
-behind_typed columns c end = if is_printable c && nat_lt (end.col + 1) columns then Some (right 1 end) else None
-
--- before the last characters, where these are printable ASCII and stand in one row
-abbrev pub before_killed : List ℕ → Position → Option Position
-before_killed killed end =
-    if list_all is_printable killed && nat_le (length killed) end.col then Some (record { col = end.col - length killed; row = end.row }) else None
 
 -- the cursor is at the end of a line of printable ASCII and newlines, with nothing behind it
 pub record AtEnd (columns : ℕ) (wide : List ℕ → Option ℕ) (a : View) : Type 0 where

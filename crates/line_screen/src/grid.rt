@@ -4,7 +4,7 @@ ghost use Rattle.std.specs.Prelude.{◌≡◌, ◌≤◌, ◌==◌, true, length
 ghost use Rattle.std.specs.List.{list_all, list_any};
 ghost use Rattle.std.specs.Char.{is_control};
 ghost use Rattle.unicode_segmentation.specs.Grapheme.{graphemes};
-ghost use Rattle.line_screen.specs.Display.{is_printable, is_text};
+ghost use Rattle.line_screen.specs.Display.{is_text};
 ghost use Rattle.line_screen.specs.Drawing.{is_letter};
 ghost use Rattle.line_screen.specs.Measure.{is_cluster, cluster_width};
 
@@ -63,15 +63,6 @@ fn cluster_count(text: &str) -> usize
     ensures { result ≡ length (graphemes true text.now) }
 {
     text.graphemes(true).count()
-}
-
-/// Each character is a printable one of ASCII.
-pub(crate) fn is_printable_text(text: &str) -> bool
-    ensures { result ≡ list_all is_printable text.now }
-{
-    text.as_bytes()
-        .iter()
-        .all(|byte| 0x20 <= *byte && *byte < 0x7F)
 }
 
 /// One printable character of ASCII.

@@ -7,9 +7,8 @@ pub mod laws;
 pub mod measuring;
 pub mod reading;
 pub mod renderer;
-pub mod short;
 
+pub use line_buffer::{short_insertion, short_kill};
 pub use measuring::measure;
 pub use reading::reader::KeyReader;
 pub use renderer::ScreenRenderer;
-pub use short::{short_insertion, short_kill};

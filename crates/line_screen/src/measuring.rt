@@ -8,8 +8,8 @@ ghost use Rattle.line_screen.specs.Drawing.{item_of, row_items, next_items, text
 ghost use Rattle.line_screen.specs.Drawing.Item.{Letter, NewRow};
 ghost use Rattle.line_screen.specs.Measure.{cluster_width, saturated, measure_of};
 
-use crate::grid::{Grid, is_letter, is_printable_text};
-use line_buffer::{GraphemeClusterMode, Position, Unit};
+use crate::grid::{Grid, is_letter};
+use line_buffer::{GraphemeClusterMode, Position, Unit, is_printable_text};
 use unicode_segmentation::UnicodeSegmentation;
 
 /// Where the drawing of a text ends that begins at a place, on rows of so many columns.

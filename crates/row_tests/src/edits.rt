@@ -114,6 +114,13 @@ fn clusters_transposed(rt: HostRuntime) -> Result<(), Fail> {
             "replace 0 [xe\u{301}] [e\u{301}x]\n",
         ),
         ("aa", 2, "aa", 2, "replace 0 [aa] [aa]\n"),
+        (
+            "e\u{301}",
+            1,
+            "\u{301}e",
+            3,
+            "replace 0 [e\u{301}] [\u{301}e]\n",
+        ),
     ] {
         let mut line = line(&rt, alloc, text, place)?;
         let mut log = Log::new(alloc);
@@ -122,13 +129,7 @@ fn clusters_transposed(rt: HostRuntime) -> Result<(), Fail> {
         assert_eq!(rt; line.pos(), after);
         assert_eq!(rt; log.rows.as_str(), told);
     }
-    for (text, place) in [
-        ("", 0),
-        ("ab", 0),
-        ("a", 1),
-        ("e\u{301}", 1),
-        ("e\u{301}", 3),
-    ] {
+    for (text, place) in [("", 0), ("ab", 0), ("a", 1), ("e\u{301}", 3)] {
         let mut line = line(&rt, alloc, text, place)?;
         let mut log = Log::new(alloc);
         assert!(rt;

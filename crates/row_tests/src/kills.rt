@@ -1,7 +1,7 @@
 //! Kills and copies by each movement, with the events that they tell.
 
 use crate::edits::{Log, line};
-use line_buffer::{At, CharSearch, Movement, Word};
+use line_buffer::{At, CharSearch, DeleteListener, Direction, Movement, OutOfMemory, Word};
 use std::alloc::Global;
 use std::process::Abort;
 use std::test::Fail;
@@ -353,5 +353,74 @@ fn parts_deleted_without_a_kill(rt: HostRuntime) -> Result<(), Fail> {
         "delete 4 [twe\u{301}] Forward\ndelete 3 [ ] Backward\ndelete 0 [one] Backward\ndelete 0 [ ] Forward\ndelete 0 [ab\n] Forward\ndelete 0 [cd] Forward\n"
     );
     assert_eq!(rt; line.as_str(), "");
+    Ok(())
+}
+
+/// Writes down what it is told, and refuses each deletion.
+#[derive(Drop)]
+struct Refusing {
+    rows: String,
+}
+
+impl DeleteListener for Refusing {
+    ghost use Rattle.std.specs.Prelude.{⊤};
+
+    ghost takes = { λ _ _ _. ⊤ };
+
+    ghost refuses = { λ _ _ _. ⊤ };
+
+    fn start_killing(&mut self) {
+        let _ = self.rows.push_str("start ");
+    }
+
+    fn delete(
+        &mut self,
+        _alloc: Global,
+        _idx: usize,
+        text: &str,
+        _direction: Direction,
+    ) -> Result<(), OutOfMemory> {
+        self.rows.push_str("refused ")?;
+        self.rows.push_str(text)?;
+        self.rows.push_str(" ")?;
+        Err(OutOfMemory)
+    }
+
+    fn stop_killing(&mut self) {
+        let _ = self.rows.push_str("stop");
+    }
+}
+
+/// A kill from the end of `ab c` that is refused or takes nothing: what the listener hears.
+fn refused(
+    rt: &impl Abort,
+    alloc: Global,
+    movement: Movement,
+    heard: &str,
+) -> Result<(), OutOfMemory> {
+    let mut line = line(rt, alloc, "ab c", 4)?;
+    let mut listener = Refusing {
+        rows: String::new(alloc),
+    };
+    let killed = line.kill(alloc, &movement, &mut listener);
+    assert_eq!(rt; killed.is_err(), heard.contains("refused"), "{movement:?}");
+    assert_eq!(rt; listener.rows.as_str(), heard, "{movement:?}");
+    assert_eq!(rt; line.as_str(), "ab c", "{movement:?}");
+    assert_eq!(rt; line.pos(), 4, "{movement:?}");
+    Ok(())
+}
+
+#[test]
+fn refused_kills_are_closed(rt: HostRuntime) -> Result<(), Fail> {
+    let alloc = rt.alloc();
+    refused(&rt, alloc, Movement::WholeLine, "start refused ab c stop")?;
+    refused(
+        &rt,
+        alloc,
+        Movement::BackwardWord(1, Word::Emacs),
+        "start refused c stop",
+    )?;
+    refused(&rt, alloc, Movement::BackwardChar(1), "refused c ")?;
+    refused(&rt, alloc, Movement::EndOfBuffer, "start stop")?;
     Ok(())
 }

@@ -12,6 +12,7 @@ ghost use Rattle.line_keys.specs.Tables.{look, first_row};
 
 use crate::command::Cmd;
 use crate::flags::Modifiers;
+use crate::handler::Decides;
 use crate::key::{KeyCode, KeyEvent};
 use crate::keymap::InputState;
 use crate::keymap::custom::Followed;
@@ -23,7 +24,7 @@ use std::alloc::Global;
 
 const PASTE: KeyEvent = KeyEvent(KeyCode::BracketedPasteStart, Modifiers::NONE);
 
-impl InputState<'_> {
+impl<D: Decides> InputState<'_, D> {
     ghost use Rattle.line_keys.specs.InputStates.{custom_in, situation_in};
     ghost use Rattle.line_keys.specs.Common.{common, beyond_rows};
     ghost use Rattle.line_keys.specs.Reasons.{Because};
@@ -38,9 +39,9 @@ impl InputState<'_> {
         n: RepeatCount,
         positive: bool,
     ) -> Result<Cmd, ReadlineError>
-        ensures answer { IsTrue (R.told rdr.old) → MetBy (R.steady rdr.old) result → result ≡ (common (situation_in self.now (λ b. meaning b) (W.shown wrt.now) n positive) key (R.coming rdr.old)).answer }
-        ensures rest { IsTrue (R.told rdr.old) → MetBy (R.steady rdr.old) result → R.coming rdr.new ≡ (common (situation_in self.now (λ b. meaning b) (W.shown wrt.now) n positive) key (R.coming rdr.old)).rest }
-        ensures reason { IfErr result (λ e. Because (R.reason rdr.new) (W.reason wrt.now) (custom_in self.now (λ b. meaning b)) e) }
+        ensures answer { IsTrue (R.told rdr.old) → MetBy (R.steady rdr.old) result → result ≡ (common (situation_in self.now D.decides (W.shown wrt.now) n positive) key (R.coming rdr.old)).answer }
+        ensures rest { IsTrue (R.told rdr.old) → MetBy (R.steady rdr.old) result → R.coming rdr.new ≡ (common (situation_in self.now D.decides (W.shown wrt.now) n positive) key (R.coming rdr.old)).rest }
+        ensures reason { IfErr result (λ e. Because (R.reason rdr.new) (W.reason wrt.now) (custom_in self.now D.decides) e) }
         ensures told { IsTrue (R.told rdr.old) → IsTrue (R.told rdr.new) }
         ensures steady { R.steady rdr.new ≡ R.steady rdr.old }
         ensures keeps { R.bound rdr.new ≤ R.bound rdr.old }
@@ -62,9 +63,9 @@ impl InputState<'_> {
         n: RepeatCount,
         positive: bool,
     ) -> Result<Cmd, ReadlineError>
-        ensures answer { IsTrue (R.told rdr.old) → MetBy (R.steady rdr.old) result → result ≡ (beyond_rows (situation_in self.now (λ b. meaning b) (W.shown wrt.now) n positive) key (R.coming rdr.old)).answer }
-        ensures rest { IsTrue (R.told rdr.old) → MetBy (R.steady rdr.old) result → R.coming rdr.new ≡ (beyond_rows (situation_in self.now (λ b. meaning b) (W.shown wrt.now) n positive) key (R.coming rdr.old)).rest }
-        ensures reason { IfErr result (λ e. Because (R.reason rdr.new) (W.reason wrt.now) (custom_in self.now (λ b. meaning b)) e) }
+        ensures answer { IsTrue (R.told rdr.old) → MetBy (R.steady rdr.old) result → result ≡ (beyond_rows (situation_in self.now D.decides (W.shown wrt.now) n positive) key (R.coming rdr.old)).answer }
+        ensures rest { IsTrue (R.told rdr.old) → MetBy (R.steady rdr.old) result → R.coming rdr.new ≡ (beyond_rows (situation_in self.now D.decides (W.shown wrt.now) n positive) key (R.coming rdr.old)).rest }
+        ensures reason { IfErr result (λ e. Because (R.reason rdr.new) (W.reason wrt.now) (custom_in self.now D.decides) e) }
         ensures told { IsTrue (R.told rdr.old) → IsTrue (R.told rdr.new) }
         ensures steady { R.steady rdr.new ≡ R.steady rdr.old }
         ensures keeps { R.bound rdr.new ≤ R.bound rdr.old }

@@ -6,6 +6,7 @@ ghost use Rattle.line_config.specs.Refusals.{MetBy};
 ghost use Rattle.line_keys.specs.Counts.{begun_by, count_and, counted_on, no_count, prompt_for, times};
 
 use crate::flags::Modifiers;
+use crate::handler::Decides;
 use crate::key::{KeyCode, KeyEvent};
 use crate::keymap::InputState;
 use crate::refresh::Refresher;
@@ -127,7 +128,7 @@ fn counted_on(count: Count, key: KeyEvent) -> Option<Count>
     }
 }
 
-impl InputState<'_> {
+impl<D: Decides> InputState<'_, D> {
     ghost use Rattle.line_keys.specs.InputStates.{input_of, custom_in};
     ghost use Rattle.line_keys.specs.Counts.{counting, counted_on};
     ghost use Rattle.line_keys.specs.Reasons.{Because};
@@ -145,7 +146,7 @@ impl InputState<'_> {
         ensures answer { IsTrue (R.told rdr.old) → MetBy (R.steady rdr.old) result → result ≡ (counting counted_on (input_of self.now) begun (R.coming rdr.old)).answer }
         ensures rest { IsTrue (R.told rdr.old) → MetBy (R.steady rdr.old) result → R.coming rdr.new ≡ (counting counted_on (input_of self.now) begun (R.coming rdr.old)).rest }
         ensures asks { IsTrue (R.told rdr.old) → MetBy (R.steady rdr.old) result → Asked W.asked W.shown W.rule wrt.old (counting counted_on (input_of self.now) begun (R.coming rdr.old)).asks wrt.new }
-        ensures reason { IfErr result (λ e. Because (R.reason rdr.new) (W.reason wrt.new) (custom_in self.now (λ b. meaning b)) e) }
+        ensures reason { IfErr result (λ e. Because (R.reason rdr.new) (W.reason wrt.new) (custom_in self.now D.decides) e) }
         ensures told { IsTrue (R.told rdr.old) → IsTrue (R.told rdr.new) }
         ensures steady { R.steady rdr.new ≡ R.steady rdr.old }
         ensures keeps { R.bound rdr.new ≤ R.bound rdr.old }

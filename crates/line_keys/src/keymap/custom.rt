@@ -6,7 +6,7 @@ ghost use Rattle.line_keys.specs.Faults.{HadMemory};
 
 use crate::command::Cmd;
 use crate::events::{Event, Keys};
-use crate::handler::{EventContext, EventHandler};
+use crate::handler::{Decides, EventContext};
 use crate::key::KeyEvent;
 use crate::keymap::InputState;
 use crate::refresh::Refresher;
@@ -24,10 +24,9 @@ pub(crate) enum Followed {
     Unbound(Option<KeyEvent>),
 }
 
-impl InputState<'_> {
+impl<D: Decides> InputState<'_, D> {
     ghost use Rattle.line_keys.specs.InputStates.{custom_in, situation_in};
     ghost use Rattle.line_keys.specs.Custom.{answer_by, custom_answer, sequence_answer, shown_for, following};
-    ghost use Rattle.line_keys.specs.Answers.{handler_meaning};
     ghost use Rattle.line_keys.specs.Reasons.{Because, BecauseBound};
 
     /// The command of the key's own binding, else of that of any key.
@@ -40,8 +39,8 @@ impl InputState<'_> {
         n: RepeatCount,
         positive: bool,
     ) -> Result<Option<Cmd>, ReadlineError>
-        ensures answer { HadMemory result → result ≡ custom_answer (situation_in self.now (λ b. meaning b) (W.shown wrt.now) n positive) key }
-        ensures reason { IfErr result (λ e. BecauseBound (custom_in self.now (λ b. meaning b)) e) }
+        ensures answer { HadMemory result → result ≡ custom_answer (situation_in self.now D.decides (W.shown wrt.now) n positive) key }
+        ensures reason { IfErr result (λ e. BecauseBound (custom_in self.now D.decides) e) }
     {
         let event = Event::from_key(alloc, key)?;
         let handler = match self.custom_bindings.get(&event) {
@@ -56,12 +55,12 @@ impl InputState<'_> {
         &self,
         alloc: Global,
         wrt: &W,
-        handler: Option<&EventHandler>,
+        handler: Option<&D>,
         event: &Event,
         n: RepeatCount,
         positive: bool,
     ) -> Result<Option<Cmd>, ReadlineError>
-        ensures { HadMemory result → result ≡ answer_by (option_map (handler_meaning (λ b. meaning b)) (option_copied handler.entry)) (shown_for (situation_in self.now (λ b. meaning b) (W.shown wrt.now) n positive) event.now) }
+        ensures { HadMemory result → result ≡ answer_by (option_map D.decides (option_copied handler.entry)) (shown_for (situation_in self.now D.decides (W.shown wrt.now) n positive) event.now) }
     {
         match handler {
             Some(handler) => {
@@ -84,9 +83,9 @@ impl InputState<'_> {
         n: RepeatCount,
         positive: bool,
     ) -> Result<Followed, ReadlineError>
-        ensures answer { IsTrue (R.told rdr.old) → MetBy (R.steady rdr.old) result → result ≡ (following (situation_in self.now (λ b. meaning b) (W.shown wrt.now) n positive) (key ∷ []) (R.coming rdr.old)).answer }
-        ensures rest { IsTrue (R.told rdr.old) → MetBy (R.steady rdr.old) result → R.coming rdr.new ≡ (following (situation_in self.now (λ b. meaning b) (W.shown wrt.now) n positive) (key ∷ []) (R.coming rdr.old)).rest }
-        ensures reason { IfErr result (λ e. Because (R.reason rdr.new) (W.reason wrt.now) (custom_in self.now (λ b. meaning b)) e) }
+        ensures answer { IsTrue (R.told rdr.old) → MetBy (R.steady rdr.old) result → result ≡ (following (situation_in self.now D.decides (W.shown wrt.now) n positive) (key ∷ []) (R.coming rdr.old)).answer }
+        ensures rest { IsTrue (R.told rdr.old) → MetBy (R.steady rdr.old) result → R.coming rdr.new ≡ (following (situation_in self.now D.decides (W.shown wrt.now) n positive) (key ∷ []) (R.coming rdr.old)).rest }
+        ensures reason { IfErr result (λ e. Because (R.reason rdr.new) (W.reason wrt.now) (custom_in self.now D.decides) e) }
         ensures told { IsTrue (R.told rdr.old) → IsTrue (R.told rdr.new) }
         ensures steady { R.steady rdr.new ≡ R.steady rdr.old }
         ensures keeps { R.bound rdr.new ≤ R.bound rdr.old }
@@ -114,8 +113,8 @@ impl InputState<'_> {
         n: RepeatCount,
         positive: bool,
     ) -> Result<Option<Cmd>, ReadlineError>
-        ensures answer { HadMemory result → result ≡ sequence_answer (situation_in self.now (λ b. meaning b) (W.shown wrt.now) n positive) keys.now }
-        ensures reason { IfErr result (λ e. BecauseBound (custom_in self.now (λ b. meaning b)) e) }
+        ensures answer { HadMemory result → result ≡ sequence_answer (situation_in self.now D.decides (W.shown wrt.now) n positive) keys.now }
+        ensures reason { IfErr result (λ e. BecauseBound (custom_in self.now D.decides) e) }
     {
         let event = Event::KeySeq(Keys::try_from_slice(alloc, keys)?);
         self.decided(

@@ -11,6 +11,7 @@ ghost use Rattle.line_keys.specs.Refreshing.{Shown};
 
 use crate::command::Cmd;
 use crate::flags::Modifiers;
+use crate::handler::Decides;
 use crate::key::{KeyCode, KeyEvent};
 use crate::keymap::InputState;
 use crate::keymap::common::{backward_char, by_sign, forward_char, term_binding};
@@ -28,7 +29,7 @@ const SEARCH: KeyEvent = KeyEvent(KeyCode::Char(']'), Modifiers::CTRL);
 
 const SEARCH_BACK: KeyEvent = KeyEvent(KeyCode::Char(']'), Modifiers::CTRL_ALT);
 
-impl InputState<'_> {
+impl<D: Decides> InputState<'_, D> {
     ghost use Rattle.line_keys.specs.InputStates.{input_of, custom_in, situation_in};
     ghost use Rattle.line_keys.specs.Emacs.{emacs_phrase, emacs_decided, emacs_command, emacs_beyond_rows, ctrl_x};
     ghost use Rattle.line_keys.specs.Counts.{times};
@@ -44,10 +45,10 @@ impl InputState<'_> {
         wrt: &mut W,
         key: KeyEvent,
     ) -> Result<Cmd, ReadlineError>
-        ensures answer { IsTrue (R.told rdr.old) → MetBy (R.steady rdr.old) result → result ≡ (emacs_phrase (custom_in self.now (λ b. meaning b)) (W.rule wrt.old) (input_of self.now) (W.shown wrt.old) key (R.coming rdr.old)).answer }
-        ensures rest { IsTrue (R.told rdr.old) → MetBy (R.steady rdr.old) result → R.coming rdr.new ≡ (emacs_phrase (custom_in self.now (λ b. meaning b)) (W.rule wrt.old) (input_of self.now) (W.shown wrt.old) key (R.coming rdr.old)).rest }
-        ensures asks { IsTrue (R.told rdr.old) → MetBy (R.steady rdr.old) result → Asked W.asked W.shown W.rule wrt.old (emacs_phrase (custom_in self.now (λ b. meaning b)) (W.rule wrt.old) (input_of self.now) (W.shown wrt.old) key (R.coming rdr.old)).asks wrt.new }
-        ensures reason { IfErr result (λ e. Because (R.reason rdr.new) (W.reason wrt.new) (custom_in self.now (λ b. meaning b)) e) }
+        ensures answer { IsTrue (R.told rdr.old) → MetBy (R.steady rdr.old) result → result ≡ (emacs_phrase (custom_in self.now D.decides) (W.rule wrt.old) (input_of self.now) (W.shown wrt.old) key (R.coming rdr.old)).answer }
+        ensures rest { IsTrue (R.told rdr.old) → MetBy (R.steady rdr.old) result → R.coming rdr.new ≡ (emacs_phrase (custom_in self.now D.decides) (W.rule wrt.old) (input_of self.now) (W.shown wrt.old) key (R.coming rdr.old)).rest }
+        ensures asks { IsTrue (R.told rdr.old) → MetBy (R.steady rdr.old) result → Asked W.asked W.shown W.rule wrt.old (emacs_phrase (custom_in self.now D.decides) (W.rule wrt.old) (input_of self.now) (W.shown wrt.old) key (R.coming rdr.old)).asks wrt.new }
+        ensures reason { IfErr result (λ e. Because (R.reason rdr.new) (W.reason wrt.new) (custom_in self.now D.decides) e) }
         ensures told { IsTrue (R.told rdr.old) → IsTrue (R.told rdr.new) }
         ensures steady { R.steady rdr.new ≡ R.steady rdr.old }
         ensures keeps { R.bound rdr.new ≤ R.bound rdr.old }
@@ -73,9 +74,9 @@ impl InputState<'_> {
         wrt: &W,
         counted: Counted,
     ) -> Result<Cmd, ReadlineError>
-        ensures answer { IsTrue (R.told rdr.old) → MetBy (R.steady rdr.old) result → result ≡ (emacs_decided (situation_in self.now (λ b. meaning b) (W.shown wrt.now) (times counted.count) counted.count.positive) counted.key (R.coming rdr.old)).answer }
-        ensures rest { IsTrue (R.told rdr.old) → MetBy (R.steady rdr.old) result → R.coming rdr.new ≡ (emacs_decided (situation_in self.now (λ b. meaning b) (W.shown wrt.now) (times counted.count) counted.count.positive) counted.key (R.coming rdr.old)).rest }
-        ensures reason { IfErr result (λ e. Because (R.reason rdr.new) (W.reason wrt.now) (custom_in self.now (λ b. meaning b)) e) }
+        ensures answer { IsTrue (R.told rdr.old) → MetBy (R.steady rdr.old) result → result ≡ (emacs_decided (situation_in self.now D.decides (W.shown wrt.now) (times counted.count) counted.count.positive) counted.key (R.coming rdr.old)).answer }
+        ensures rest { IsTrue (R.told rdr.old) → MetBy (R.steady rdr.old) result → R.coming rdr.new ≡ (emacs_decided (situation_in self.now D.decides (W.shown wrt.now) (times counted.count) counted.count.positive) counted.key (R.coming rdr.old)).rest }
+        ensures reason { IfErr result (λ e. Because (R.reason rdr.new) (W.reason wrt.now) (custom_in self.now D.decides) e) }
         ensures told { IsTrue (R.told rdr.old) → IsTrue (R.told rdr.new) }
         ensures steady { R.steady rdr.new ≡ R.steady rdr.old }
         ensures keeps { R.bound rdr.new ≤ R.bound rdr.old }
@@ -102,9 +103,9 @@ impl InputState<'_> {
         n: RepeatCount,
         positive: bool,
     ) -> Result<Cmd, ReadlineError>
-        ensures answer { IsTrue (R.told rdr.old) → MetBy (R.steady rdr.old) result → result ≡ (emacs_command (situation_in self.now (λ b. meaning b) (W.shown wrt.now) n positive) key (R.coming rdr.old)).answer }
-        ensures rest { IsTrue (R.told rdr.old) → MetBy (R.steady rdr.old) result → R.coming rdr.new ≡ (emacs_command (situation_in self.now (λ b. meaning b) (W.shown wrt.now) n positive) key (R.coming rdr.old)).rest }
-        ensures reason { IfErr result (λ e. Because (R.reason rdr.new) (W.reason wrt.now) (custom_in self.now (λ b. meaning b)) e) }
+        ensures answer { IsTrue (R.told rdr.old) → MetBy (R.steady rdr.old) result → result ≡ (emacs_command (situation_in self.now D.decides (W.shown wrt.now) n positive) key (R.coming rdr.old)).answer }
+        ensures rest { IsTrue (R.told rdr.old) → MetBy (R.steady rdr.old) result → R.coming rdr.new ≡ (emacs_command (situation_in self.now D.decides (W.shown wrt.now) n positive) key (R.coming rdr.old)).rest }
+        ensures reason { IfErr result (λ e. Because (R.reason rdr.new) (W.reason wrt.now) (custom_in self.now D.decides) e) }
         ensures told { IsTrue (R.told rdr.old) → IsTrue (R.told rdr.new) }
         ensures steady { R.steady rdr.new ≡ R.steady rdr.old }
         ensures keeps { R.bound rdr.new ≤ R.bound rdr.old }
@@ -134,9 +135,9 @@ impl InputState<'_> {
         n: RepeatCount,
         positive: bool,
     ) -> Result<Cmd, ReadlineError>
-        ensures answer { IsTrue (R.told rdr.old) → MetBy (R.steady rdr.old) result → result ≡ (emacs_beyond_rows (situation_in self.now (λ b. meaning b) (W.shown wrt.now) n positive) key (R.coming rdr.old)).answer }
-        ensures rest { IsTrue (R.told rdr.old) → MetBy (R.steady rdr.old) result → R.coming rdr.new ≡ (emacs_beyond_rows (situation_in self.now (λ b. meaning b) (W.shown wrt.now) n positive) key (R.coming rdr.old)).rest }
-        ensures reason { IfErr result (λ e. Because (R.reason rdr.new) (W.reason wrt.now) (custom_in self.now (λ b. meaning b)) e) }
+        ensures answer { IsTrue (R.told rdr.old) → MetBy (R.steady rdr.old) result → result ≡ (emacs_beyond_rows (situation_in self.now D.decides (W.shown wrt.now) n positive) key (R.coming rdr.old)).answer }
+        ensures rest { IsTrue (R.told rdr.old) → MetBy (R.steady rdr.old) result → R.coming rdr.new ≡ (emacs_beyond_rows (situation_in self.now D.decides (W.shown wrt.now) n positive) key (R.coming rdr.old)).rest }
+        ensures reason { IfErr result (λ e. Because (R.reason rdr.new) (W.reason wrt.now) (custom_in self.now D.decides) e) }
         ensures told { IsTrue (R.told rdr.old) → IsTrue (R.told rdr.new) }
         ensures steady { R.steady rdr.new ≡ R.steady rdr.old }
         ensures keeps { R.bound rdr.new ≤ R.bound rdr.old }
@@ -164,9 +165,9 @@ impl InputState<'_> {
         n: RepeatCount,
         positive: bool,
     ) -> Result<Cmd, ReadlineError>
-        ensures answer { IsTrue (R.told rdr.old) → MetBy (R.steady rdr.old) result → result ≡ (ctrl_x (situation_in self.now (λ b. meaning b) (W.shown wrt.now) n positive) key (R.coming rdr.old)).answer }
-        ensures rest { IsTrue (R.told rdr.old) → MetBy (R.steady rdr.old) result → R.coming rdr.new ≡ (ctrl_x (situation_in self.now (λ b. meaning b) (W.shown wrt.now) n positive) key (R.coming rdr.old)).rest }
-        ensures reason { IfErr result (λ e. Because (R.reason rdr.new) (W.reason wrt.now) (custom_in self.now (λ b. meaning b)) e) }
+        ensures answer { IsTrue (R.told rdr.old) → MetBy (R.steady rdr.old) result → result ≡ (ctrl_x (situation_in self.now D.decides (W.shown wrt.now) n positive) key (R.coming rdr.old)).answer }
+        ensures rest { IsTrue (R.told rdr.old) → MetBy (R.steady rdr.old) result → R.coming rdr.new ≡ (ctrl_x (situation_in self.now D.decides (W.shown wrt.now) n positive) key (R.coming rdr.old)).rest }
+        ensures reason { IfErr result (λ e. Because (R.reason rdr.new) (W.reason wrt.now) (custom_in self.now D.decides) e) }
         ensures told { IsTrue (R.told rdr.old) → IsTrue (R.told rdr.new) }
         ensures steady { R.steady rdr.new ≡ R.steady rdr.old }
         ensures keeps { R.bound rdr.new ≤ R.bound rdr.old }

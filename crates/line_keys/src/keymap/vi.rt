@@ -12,6 +12,7 @@ ghost use Rattle.line_keys.specs.Vi.{made_again, repeated, replacement, typed_in
 
 use crate::command::{Cmd, InputMode};
 use crate::flags::Modifiers;
+use crate::handler::Decides;
 use crate::key::{KeyCode, KeyEvent};
 use crate::keymap::InputState;
 use crate::keymap::common::term_binding;
@@ -32,7 +33,7 @@ const REPEAT: KeyEvent = KeyEvent(KeyCode::Char('.'), Modifiers::NONE);
 
 const REPLACE: KeyEvent = KeyEvent(KeyCode::Char('r'), Modifiers::NONE);
 
-impl InputState<'_> {
+impl<D: Decides> InputState<'_, D> {
     ghost use Rattle.line_keys.specs.InputStates.{input_of, custom_in, situation_in};
     ghost use Rattle.line_keys.specs.Counts.{times};
     ghost use Rattle.line_keys.specs.Refreshing.{Asked};
@@ -48,13 +49,13 @@ impl InputState<'_> {
         wrt: &mut W,
         key: KeyEvent,
     ) -> Result<Cmd, ReadlineError>
-        ensures answer { IsTrue (R.told rdr.old) → MetBy (R.steady rdr.old) result → result ≡ (vi_phrase (custom_in self.old (λ b. meaning b)) (W.rule wrt.old) (input_of self.old) (W.shown wrt.old) key (R.coming rdr.old)).answer }
-        ensures rest { IsTrue (R.told rdr.old) → MetBy (R.steady rdr.old) result → R.coming rdr.new ≡ (vi_phrase (custom_in self.old (λ b. meaning b)) (W.rule wrt.old) (input_of self.old) (W.shown wrt.old) key (R.coming rdr.old)).rest }
-        ensures asks { IsTrue (R.told rdr.old) → MetBy (R.steady rdr.old) result → Asked W.asked W.shown W.rule wrt.old (vi_phrase (custom_in self.old (λ b. meaning b)) (W.rule wrt.old) (input_of self.old) (W.shown wrt.old) key (R.coming rdr.old)).asks wrt.new }
-        ensures input { IsTrue (R.told rdr.old) → MetBy (R.steady rdr.old) result → input_of self.new ≡ (vi_phrase (custom_in self.old (λ b. meaning b)) (W.rule wrt.old) (input_of self.old) (W.shown wrt.old) key (R.coming rdr.old)).input }
+        ensures answer { IsTrue (R.told rdr.old) → MetBy (R.steady rdr.old) result → result ≡ (vi_phrase (custom_in self.old D.decides) (W.rule wrt.old) (input_of self.old) (W.shown wrt.old) key (R.coming rdr.old)).answer }
+        ensures rest { IsTrue (R.told rdr.old) → MetBy (R.steady rdr.old) result → R.coming rdr.new ≡ (vi_phrase (custom_in self.old D.decides) (W.rule wrt.old) (input_of self.old) (W.shown wrt.old) key (R.coming rdr.old)).rest }
+        ensures asks { IsTrue (R.told rdr.old) → MetBy (R.steady rdr.old) result → Asked W.asked W.shown W.rule wrt.old (vi_phrase (custom_in self.old D.decides) (W.rule wrt.old) (input_of self.old) (W.shown wrt.old) key (R.coming rdr.old)).asks wrt.new }
+        ensures input { IsTrue (R.told rdr.old) → MetBy (R.steady rdr.old) result → input_of self.new ≡ (vi_phrase (custom_in self.old D.decides) (W.rule wrt.old) (input_of self.old) (W.shown wrt.old) key (R.coming rdr.old)).input }
         ensures mode { self.new.mode ≡ self.old.mode }
         ensures bindings { self.new.custom_bindings ≡ self.old.custom_bindings }
-        ensures reason { IfErr result (λ e. Because (R.reason rdr.new) (W.reason wrt.new) (custom_in self.old (λ b. meaning b)) e) }
+        ensures reason { IfErr result (λ e. Because (R.reason rdr.new) (W.reason wrt.new) (custom_in self.old D.decides) e) }
         ensures told { IsTrue (R.told rdr.old) → IsTrue (R.told rdr.new) }
         ensures steady { R.steady rdr.new ≡ R.steady rdr.old }
         ensures keeps { R.bound rdr.new ≤ R.bound rdr.old }
@@ -74,13 +75,13 @@ impl InputState<'_> {
         wrt: &mut W,
         key: KeyEvent,
     ) -> Result<Cmd, ReadlineError>
-        ensures answer { IsTrue (R.told rdr.old) → MetBy (R.steady rdr.old) result → result ≡ (vi_command (custom_in self.old (λ b. meaning b)) (W.rule wrt.old) (input_of self.old) (W.shown wrt.old) key (R.coming rdr.old)).answer }
-        ensures rest { IsTrue (R.told rdr.old) → MetBy (R.steady rdr.old) result → R.coming rdr.new ≡ (vi_command (custom_in self.old (λ b. meaning b)) (W.rule wrt.old) (input_of self.old) (W.shown wrt.old) key (R.coming rdr.old)).rest }
-        ensures asks { IsTrue (R.told rdr.old) → MetBy (R.steady rdr.old) result → Asked W.asked W.shown W.rule wrt.old (vi_command (custom_in self.old (λ b. meaning b)) (W.rule wrt.old) (input_of self.old) (W.shown wrt.old) key (R.coming rdr.old)).asks wrt.new }
-        ensures input { IsTrue (R.told rdr.old) → MetBy (R.steady rdr.old) result → input_of self.new ≡ (vi_command (custom_in self.old (λ b. meaning b)) (W.rule wrt.old) (input_of self.old) (W.shown wrt.old) key (R.coming rdr.old)).input }
+        ensures answer { IsTrue (R.told rdr.old) → MetBy (R.steady rdr.old) result → result ≡ (vi_command (custom_in self.old D.decides) (W.rule wrt.old) (input_of self.old) (W.shown wrt.old) key (R.coming rdr.old)).answer }
+        ensures rest { IsTrue (R.told rdr.old) → MetBy (R.steady rdr.old) result → R.coming rdr.new ≡ (vi_command (custom_in self.old D.decides) (W.rule wrt.old) (input_of self.old) (W.shown wrt.old) key (R.coming rdr.old)).rest }
+        ensures asks { IsTrue (R.told rdr.old) → MetBy (R.steady rdr.old) result → Asked W.asked W.shown W.rule wrt.old (vi_command (custom_in self.old D.decides) (W.rule wrt.old) (input_of self.old) (W.shown wrt.old) key (R.coming rdr.old)).asks wrt.new }
+        ensures input { IsTrue (R.told rdr.old) → MetBy (R.steady rdr.old) result → input_of self.new ≡ (vi_command (custom_in self.old D.decides) (W.rule wrt.old) (input_of self.old) (W.shown wrt.old) key (R.coming rdr.old)).input }
         ensures mode { self.new.mode ≡ self.old.mode }
         ensures bindings { self.new.custom_bindings ≡ self.old.custom_bindings }
-        ensures reason { IfErr result (λ e. Because (R.reason rdr.new) (W.reason wrt.new) (custom_in self.old (λ b. meaning b)) e) }
+        ensures reason { IfErr result (λ e. Because (R.reason rdr.new) (W.reason wrt.new) (custom_in self.old D.decides) e) }
         ensures told { IsTrue (R.told rdr.old) → IsTrue (R.told rdr.new) }
         ensures steady { R.steady rdr.new ≡ R.steady rdr.old }
         ensures keeps { R.bound rdr.new ≤ R.bound rdr.old }
@@ -104,13 +105,13 @@ impl InputState<'_> {
         wrt: &mut W,
         counted: Counted,
     ) -> Result<Cmd, ReadlineError>
-        ensures answer { IsTrue (R.told rdr.old) → MetBy (R.steady rdr.old) result → result ≡ (vi_counted (custom_in self.old (λ b. meaning b)) (W.rule wrt.old) counted (input_of self.old) (W.shown wrt.old) (R.coming rdr.old)).answer }
-        ensures rest { IsTrue (R.told rdr.old) → MetBy (R.steady rdr.old) result → R.coming rdr.new ≡ (vi_counted (custom_in self.old (λ b. meaning b)) (W.rule wrt.old) counted (input_of self.old) (W.shown wrt.old) (R.coming rdr.old)).rest }
-        ensures asks { IsTrue (R.told rdr.old) → MetBy (R.steady rdr.old) result → Asked W.asked W.shown W.rule wrt.old (vi_counted (custom_in self.old (λ b. meaning b)) (W.rule wrt.old) counted (input_of self.old) (W.shown wrt.old) (R.coming rdr.old)).asks wrt.new }
-        ensures input { IsTrue (R.told rdr.old) → MetBy (R.steady rdr.old) result → input_of self.new ≡ (vi_counted (custom_in self.old (λ b. meaning b)) (W.rule wrt.old) counted (input_of self.old) (W.shown wrt.old) (R.coming rdr.old)).input }
+        ensures answer { IsTrue (R.told rdr.old) → MetBy (R.steady rdr.old) result → result ≡ (vi_counted (custom_in self.old D.decides) (W.rule wrt.old) counted (input_of self.old) (W.shown wrt.old) (R.coming rdr.old)).answer }
+        ensures rest { IsTrue (R.told rdr.old) → MetBy (R.steady rdr.old) result → R.coming rdr.new ≡ (vi_counted (custom_in self.old D.decides) (W.rule wrt.old) counted (input_of self.old) (W.shown wrt.old) (R.coming rdr.old)).rest }
+        ensures asks { IsTrue (R.told rdr.old) → MetBy (R.steady rdr.old) result → Asked W.asked W.shown W.rule wrt.old (vi_counted (custom_in self.old D.decides) (W.rule wrt.old) counted (input_of self.old) (W.shown wrt.old) (R.coming rdr.old)).asks wrt.new }
+        ensures input { IsTrue (R.told rdr.old) → MetBy (R.steady rdr.old) result → input_of self.new ≡ (vi_counted (custom_in self.old D.decides) (W.rule wrt.old) counted (input_of self.old) (W.shown wrt.old) (R.coming rdr.old)).input }
         ensures mode { self.new.mode ≡ self.old.mode }
         ensures bindings { self.new.custom_bindings ≡ self.old.custom_bindings }
-        ensures reason { IfErr result (λ e. Because (R.reason rdr.new) (W.reason wrt.new) (custom_in self.old (λ b. meaning b)) e) }
+        ensures reason { IfErr result (λ e. Because (R.reason rdr.new) (W.reason wrt.new) (custom_in self.old D.decides) e) }
         ensures told { IsTrue (R.told rdr.old) → IsTrue (R.told rdr.new) }
         ensures steady { R.steady rdr.new ≡ R.steady rdr.old }
         ensures keeps { R.bound rdr.new ≤ R.bound rdr.old }
@@ -137,13 +138,13 @@ impl InputState<'_> {
         wrt: &mut W,
         counted: Counted,
     ) -> Result<Cmd, ReadlineError>
-        ensures answer { IsTrue (R.told rdr.old) → MetBy (R.steady rdr.old) result → result ≡ (vi_command_table (W.rule wrt.old) (typed_count counted.count) (situation_in self.old (λ b. meaning b) (W.shown wrt.old) (times counted.count) true) counted.key (R.coming rdr.old)).answer }
-        ensures rest { IsTrue (R.told rdr.old) → MetBy (R.steady rdr.old) result → R.coming rdr.new ≡ (vi_command_table (W.rule wrt.old) (typed_count counted.count) (situation_in self.old (λ b. meaning b) (W.shown wrt.old) (times counted.count) true) counted.key (R.coming rdr.old)).rest }
-        ensures asks { IsTrue (R.told rdr.old) → MetBy (R.steady rdr.old) result → Asked W.asked W.shown W.rule wrt.old (vi_command_table (W.rule wrt.old) (typed_count counted.count) (situation_in self.old (λ b. meaning b) (W.shown wrt.old) (times counted.count) true) counted.key (R.coming rdr.old)).asks wrt.new }
-        ensures input { IsTrue (R.told rdr.old) → MetBy (R.steady rdr.old) result → input_of self.new ≡ (vi_command_table (W.rule wrt.old) (typed_count counted.count) (situation_in self.old (λ b. meaning b) (W.shown wrt.old) (times counted.count) true) counted.key (R.coming rdr.old)).input }
+        ensures answer { IsTrue (R.told rdr.old) → MetBy (R.steady rdr.old) result → result ≡ (vi_command_table (W.rule wrt.old) (typed_count counted.count) (situation_in self.old D.decides (W.shown wrt.old) (times counted.count) true) counted.key (R.coming rdr.old)).answer }
+        ensures rest { IsTrue (R.told rdr.old) → MetBy (R.steady rdr.old) result → R.coming rdr.new ≡ (vi_command_table (W.rule wrt.old) (typed_count counted.count) (situation_in self.old D.decides (W.shown wrt.old) (times counted.count) true) counted.key (R.coming rdr.old)).rest }
+        ensures asks { IsTrue (R.told rdr.old) → MetBy (R.steady rdr.old) result → Asked W.asked W.shown W.rule wrt.old (vi_command_table (W.rule wrt.old) (typed_count counted.count) (situation_in self.old D.decides (W.shown wrt.old) (times counted.count) true) counted.key (R.coming rdr.old)).asks wrt.new }
+        ensures input { IsTrue (R.told rdr.old) → MetBy (R.steady rdr.old) result → input_of self.new ≡ (vi_command_table (W.rule wrt.old) (typed_count counted.count) (situation_in self.old D.decides (W.shown wrt.old) (times counted.count) true) counted.key (R.coming rdr.old)).input }
         ensures mode { self.new.mode ≡ self.old.mode }
         ensures bindings { self.new.custom_bindings ≡ self.old.custom_bindings }
-        ensures reason { IfErr result (λ e. Because (R.reason rdr.new) (W.reason wrt.new) (custom_in self.old (λ b. meaning b)) e) }
+        ensures reason { IfErr result (λ e. Because (R.reason rdr.new) (W.reason wrt.new) (custom_in self.old D.decides) e) }
         ensures told { IsTrue (R.told rdr.old) → IsTrue (R.told rdr.new) }
         ensures steady { R.steady rdr.new ≡ R.steady rdr.old }
         ensures keeps { R.bound rdr.new ≤ R.bound rdr.old }
@@ -191,13 +192,13 @@ impl InputState<'_> {
         wrt: &mut W,
         counted: Counted,
     ) -> Result<Cmd, ReadlineError>
-        ensures answer { IsTrue (R.told rdr.old) → MetBy (R.steady rdr.old) result → result ≡ (vi_operation (W.rule wrt.old) (typed_count counted.count) (situation_in self.old (λ b. meaning b) (W.shown wrt.old) (times counted.count) true) counted.key (R.coming rdr.old)).answer }
-        ensures rest { IsTrue (R.told rdr.old) → MetBy (R.steady rdr.old) result → R.coming rdr.new ≡ (vi_operation (W.rule wrt.old) (typed_count counted.count) (situation_in self.old (λ b. meaning b) (W.shown wrt.old) (times counted.count) true) counted.key (R.coming rdr.old)).rest }
-        ensures asks { IsTrue (R.told rdr.old) → MetBy (R.steady rdr.old) result → Asked W.asked W.shown W.rule wrt.old (vi_operation (W.rule wrt.old) (typed_count counted.count) (situation_in self.old (λ b. meaning b) (W.shown wrt.old) (times counted.count) true) counted.key (R.coming rdr.old)).asks wrt.new }
-        ensures input { IsTrue (R.told rdr.old) → MetBy (R.steady rdr.old) result → input_of self.new ≡ (vi_operation (W.rule wrt.old) (typed_count counted.count) (situation_in self.old (λ b. meaning b) (W.shown wrt.old) (times counted.count) true) counted.key (R.coming rdr.old)).input }
+        ensures answer { IsTrue (R.told rdr.old) → MetBy (R.steady rdr.old) result → result ≡ (vi_operation (W.rule wrt.old) (typed_count counted.count) (situation_in self.old D.decides (W.shown wrt.old) (times counted.count) true) counted.key (R.coming rdr.old)).answer }
+        ensures rest { IsTrue (R.told rdr.old) → MetBy (R.steady rdr.old) result → R.coming rdr.new ≡ (vi_operation (W.rule wrt.old) (typed_count counted.count) (situation_in self.old D.decides (W.shown wrt.old) (times counted.count) true) counted.key (R.coming rdr.old)).rest }
+        ensures asks { IsTrue (R.told rdr.old) → MetBy (R.steady rdr.old) result → Asked W.asked W.shown W.rule wrt.old (vi_operation (W.rule wrt.old) (typed_count counted.count) (situation_in self.old D.decides (W.shown wrt.old) (times counted.count) true) counted.key (R.coming rdr.old)).asks wrt.new }
+        ensures input { IsTrue (R.told rdr.old) → MetBy (R.steady rdr.old) result → input_of self.new ≡ (vi_operation (W.rule wrt.old) (typed_count counted.count) (situation_in self.old D.decides (W.shown wrt.old) (times counted.count) true) counted.key (R.coming rdr.old)).input }
         ensures mode { self.new.mode ≡ self.old.mode }
         ensures bindings { self.new.custom_bindings ≡ self.old.custom_bindings }
-        ensures reason { IfErr result (λ e. Because (R.reason rdr.new) (W.reason wrt.new) (custom_in self.old (λ b. meaning b)) e) }
+        ensures reason { IfErr result (λ e. Because (R.reason rdr.new) (W.reason wrt.new) (custom_in self.old D.decides) e) }
         ensures told { IsTrue (R.told rdr.old) → IsTrue (R.told rdr.new) }
         ensures steady { R.steady rdr.new ≡ R.steady rdr.old }
         ensures keeps { R.bound rdr.new ≤ R.bound rdr.old }
@@ -234,12 +235,12 @@ impl InputState<'_> {
         wrt: &W,
         counted: Counted,
     ) -> Result<Cmd, ReadlineError>
-        ensures answer { IsTrue (R.told rdr.old) → MetBy (R.steady rdr.old) result → result ≡ (vi_search (typed_count counted.count) (situation_in self.old (λ b. meaning b) (W.shown wrt.now) (times counted.count) true) counted.key (R.coming rdr.old)).answer }
-        ensures rest { IsTrue (R.told rdr.old) → MetBy (R.steady rdr.old) result → R.coming rdr.new ≡ (vi_search (typed_count counted.count) (situation_in self.old (λ b. meaning b) (W.shown wrt.now) (times counted.count) true) counted.key (R.coming rdr.old)).rest }
-        ensures input { IsTrue (R.told rdr.old) → MetBy (R.steady rdr.old) result → input_of self.new ≡ (vi_search (typed_count counted.count) (situation_in self.old (λ b. meaning b) (W.shown wrt.now) (times counted.count) true) counted.key (R.coming rdr.old)).input }
+        ensures answer { IsTrue (R.told rdr.old) → MetBy (R.steady rdr.old) result → result ≡ (vi_search (typed_count counted.count) (situation_in self.old D.decides (W.shown wrt.now) (times counted.count) true) counted.key (R.coming rdr.old)).answer }
+        ensures rest { IsTrue (R.told rdr.old) → MetBy (R.steady rdr.old) result → R.coming rdr.new ≡ (vi_search (typed_count counted.count) (situation_in self.old D.decides (W.shown wrt.now) (times counted.count) true) counted.key (R.coming rdr.old)).rest }
+        ensures input { IsTrue (R.told rdr.old) → MetBy (R.steady rdr.old) result → input_of self.new ≡ (vi_search (typed_count counted.count) (situation_in self.old D.decides (W.shown wrt.now) (times counted.count) true) counted.key (R.coming rdr.old)).input }
         ensures mode { self.new.mode ≡ self.old.mode }
         ensures bindings { self.new.custom_bindings ≡ self.old.custom_bindings }
-        ensures reason { IfErr result (λ e. Because (R.reason rdr.new) (W.reason wrt.now) (custom_in self.old (λ b. meaning b)) e) }
+        ensures reason { IfErr result (λ e. Because (R.reason rdr.new) (W.reason wrt.now) (custom_in self.old D.decides) e) }
         ensures told { IsTrue (R.told rdr.old) → IsTrue (R.told rdr.new) }
         ensures steady { R.steady rdr.new ≡ R.steady rdr.old }
         ensures keeps { R.bound rdr.new ≤ R.bound rdr.old }
@@ -263,9 +264,9 @@ impl InputState<'_> {
         wrt: &W,
         counted: Counted,
     ) -> Result<Cmd, ReadlineError>
-        ensures answer { IsTrue (R.told rdr.old) → MetBy (R.steady rdr.old) result → result ≡ (vi_beyond_searches (typed_count counted.count) (situation_in self.now (λ b. meaning b) (W.shown wrt.now) (times counted.count) true) counted.key (R.coming rdr.old)).answer }
-        ensures rest { IsTrue (R.told rdr.old) → MetBy (R.steady rdr.old) result → R.coming rdr.new ≡ (vi_beyond_searches (typed_count counted.count) (situation_in self.now (λ b. meaning b) (W.shown wrt.now) (times counted.count) true) counted.key (R.coming rdr.old)).rest }
-        ensures reason { IfErr result (λ e. Because (R.reason rdr.new) (W.reason wrt.now) (custom_in self.now (λ b. meaning b)) e) }
+        ensures answer { IsTrue (R.told rdr.old) → MetBy (R.steady rdr.old) result → result ≡ (vi_beyond_searches (typed_count counted.count) (situation_in self.now D.decides (W.shown wrt.now) (times counted.count) true) counted.key (R.coming rdr.old)).answer }
+        ensures rest { IsTrue (R.told rdr.old) → MetBy (R.steady rdr.old) result → R.coming rdr.new ≡ (vi_beyond_searches (typed_count counted.count) (situation_in self.now D.decides (W.shown wrt.now) (times counted.count) true) counted.key (R.coming rdr.old)).rest }
+        ensures reason { IfErr result (λ e. Because (R.reason rdr.new) (W.reason wrt.now) (custom_in self.now D.decides) e) }
         ensures told { IsTrue (R.told rdr.old) → IsTrue (R.told rdr.new) }
         ensures steady { R.steady rdr.new ≡ R.steady rdr.old }
         ensures keeps { R.bound rdr.new ≤ R.bound rdr.old }
@@ -292,9 +293,9 @@ impl InputState<'_> {
         key: KeyEvent,
         n: RepeatCount,
     ) -> Result<Cmd, ReadlineError>
-        ensures answer { IsTrue (R.told rdr.old) → MetBy (R.steady rdr.old) result → result ≡ (vi_kept_search (situation_in self.now (λ b. meaning b) (W.shown wrt.now) n true) key (R.coming rdr.old)).answer }
-        ensures rest { IsTrue (R.told rdr.old) → MetBy (R.steady rdr.old) result → R.coming rdr.new ≡ (vi_kept_search (situation_in self.now (λ b. meaning b) (W.shown wrt.now) n true) key (R.coming rdr.old)).rest }
-        ensures reason { IfErr result (λ e. Because (R.reason rdr.new) (W.reason wrt.now) (custom_in self.now (λ b. meaning b)) e) }
+        ensures answer { IsTrue (R.told rdr.old) → MetBy (R.steady rdr.old) result → result ≡ (vi_kept_search (situation_in self.now D.decides (W.shown wrt.now) n true) key (R.coming rdr.old)).answer }
+        ensures rest { IsTrue (R.told rdr.old) → MetBy (R.steady rdr.old) result → R.coming rdr.new ≡ (vi_kept_search (situation_in self.now D.decides (W.shown wrt.now) n true) key (R.coming rdr.old)).rest }
+        ensures reason { IfErr result (λ e. Because (R.reason rdr.new) (W.reason wrt.now) (custom_in self.now D.decides) e) }
         ensures told { IsTrue (R.told rdr.old) → IsTrue (R.told rdr.new) }
         ensures steady { R.steady rdr.new ≡ R.steady rdr.old }
         ensures keeps { R.bound rdr.new ≤ R.bound rdr.old }
@@ -331,13 +332,13 @@ impl InputState<'_> {
         wrt: &mut W,
         key: KeyEvent,
     ) -> Result<Cmd, ReadlineError>
-        ensures answer { IsTrue (R.told rdr.old) → MetBy (R.steady rdr.old) result → result ≡ (vi_insert (custom_in self.old (λ b. meaning b)) (W.rule wrt.old) (input_of self.old) (W.shown wrt.old) key (R.coming rdr.old)).answer }
-        ensures rest { IsTrue (R.told rdr.old) → MetBy (R.steady rdr.old) result → R.coming rdr.new ≡ (vi_insert (custom_in self.old (λ b. meaning b)) (W.rule wrt.old) (input_of self.old) (W.shown wrt.old) key (R.coming rdr.old)).rest }
-        ensures asks { IsTrue (R.told rdr.old) → MetBy (R.steady rdr.old) result → Asked W.asked W.shown W.rule wrt.old (vi_insert (custom_in self.old (λ b. meaning b)) (W.rule wrt.old) (input_of self.old) (W.shown wrt.old) key (R.coming rdr.old)).asks wrt.new }
-        ensures input { IsTrue (R.told rdr.old) → MetBy (R.steady rdr.old) result → input_of self.new ≡ (vi_insert (custom_in self.old (λ b. meaning b)) (W.rule wrt.old) (input_of self.old) (W.shown wrt.old) key (R.coming rdr.old)).input }
+        ensures answer { IsTrue (R.told rdr.old) → MetBy (R.steady rdr.old) result → result ≡ (vi_insert (custom_in self.old D.decides) (W.rule wrt.old) (input_of self.old) (W.shown wrt.old) key (R.coming rdr.old)).answer }
+        ensures rest { IsTrue (R.told rdr.old) → MetBy (R.steady rdr.old) result → R.coming rdr.new ≡ (vi_insert (custom_in self.old D.decides) (W.rule wrt.old) (input_of self.old) (W.shown wrt.old) key (R.coming rdr.old)).rest }
+        ensures asks { IsTrue (R.told rdr.old) → MetBy (R.steady rdr.old) result → Asked W.asked W.shown W.rule wrt.old (vi_insert (custom_in self.old D.decides) (W.rule wrt.old) (input_of self.old) (W.shown wrt.old) key (R.coming rdr.old)).asks wrt.new }
+        ensures input { IsTrue (R.told rdr.old) → MetBy (R.steady rdr.old) result → input_of self.new ≡ (vi_insert (custom_in self.old D.decides) (W.rule wrt.old) (input_of self.old) (W.shown wrt.old) key (R.coming rdr.old)).input }
         ensures mode { self.new.mode ≡ self.old.mode }
         ensures bindings { self.new.custom_bindings ≡ self.old.custom_bindings }
-        ensures reason { IfErr result (λ e. Because (R.reason rdr.new) (W.reason wrt.new) (custom_in self.old (λ b. meaning b)) e) }
+        ensures reason { IfErr result (λ e. Because (R.reason rdr.new) (W.reason wrt.new) (custom_in self.old D.decides) e) }
         ensures told { IsTrue (R.told rdr.old) → IsTrue (R.told rdr.new) }
         ensures steady { R.steady rdr.new ≡ R.steady rdr.old }
         ensures keeps { R.bound rdr.new ≤ R.bound rdr.old }
@@ -363,13 +364,13 @@ impl InputState<'_> {
         wrt: &mut W,
         key: KeyEvent,
     ) -> Result<Cmd, ReadlineError>
-        ensures answer { IsTrue (R.told rdr.old) → MetBy (R.steady rdr.old) result → result ≡ (vi_insert_table (custom_in self.old (λ b. meaning b)) (W.rule wrt.old) (input_of self.old) (W.shown wrt.old) key (R.coming rdr.old)).answer }
-        ensures rest { IsTrue (R.told rdr.old) → MetBy (R.steady rdr.old) result → R.coming rdr.new ≡ (vi_insert_table (custom_in self.old (λ b. meaning b)) (W.rule wrt.old) (input_of self.old) (W.shown wrt.old) key (R.coming rdr.old)).rest }
-        ensures asks { IsTrue (R.told rdr.old) → MetBy (R.steady rdr.old) result → Asked W.asked W.shown W.rule wrt.old (vi_insert_table (custom_in self.old (λ b. meaning b)) (W.rule wrt.old) (input_of self.old) (W.shown wrt.old) key (R.coming rdr.old)).asks wrt.new }
-        ensures input { IsTrue (R.told rdr.old) → MetBy (R.steady rdr.old) result → input_of self.new ≡ (vi_insert_table (custom_in self.old (λ b. meaning b)) (W.rule wrt.old) (input_of self.old) (W.shown wrt.old) key (R.coming rdr.old)).input }
+        ensures answer { IsTrue (R.told rdr.old) → MetBy (R.steady rdr.old) result → result ≡ (vi_insert_table (custom_in self.old D.decides) (W.rule wrt.old) (input_of self.old) (W.shown wrt.old) key (R.coming rdr.old)).answer }
+        ensures rest { IsTrue (R.told rdr.old) → MetBy (R.steady rdr.old) result → R.coming rdr.new ≡ (vi_insert_table (custom_in self.old D.decides) (W.rule wrt.old) (input_of self.old) (W.shown wrt.old) key (R.coming rdr.old)).rest }
+        ensures asks { IsTrue (R.told rdr.old) → MetBy (R.steady rdr.old) result → Asked W.asked W.shown W.rule wrt.old (vi_insert_table (custom_in self.old D.decides) (W.rule wrt.old) (input_of self.old) (W.shown wrt.old) key (R.coming rdr.old)).asks wrt.new }
+        ensures input { IsTrue (R.told rdr.old) → MetBy (R.steady rdr.old) result → input_of self.new ≡ (vi_insert_table (custom_in self.old D.decides) (W.rule wrt.old) (input_of self.old) (W.shown wrt.old) key (R.coming rdr.old)).input }
         ensures mode { self.new.mode ≡ self.old.mode }
         ensures bindings { self.new.custom_bindings ≡ self.old.custom_bindings }
-        ensures reason { IfErr result (λ e. Because (R.reason rdr.new) (W.reason wrt.new) (custom_in self.old (λ b. meaning b)) e) }
+        ensures reason { IfErr result (λ e. Because (R.reason rdr.new) (W.reason wrt.new) (custom_in self.old D.decides) e) }
         ensures told { IsTrue (R.told rdr.old) → IsTrue (R.told rdr.new) }
         ensures steady { R.steady rdr.new ≡ R.steady rdr.old }
         ensures keeps { R.bound rdr.new ≤ R.bound rdr.old }
@@ -392,13 +393,13 @@ impl InputState<'_> {
         wrt: &mut W,
         key: KeyEvent,
     ) -> Result<Cmd, ReadlineError>
-        ensures answer { IsTrue (R.told rdr.old) → MetBy (R.steady rdr.old) result → result ≡ (vi_left (custom_in self.old (λ b. meaning b)) (W.rule wrt.old) (input_of self.old) (W.shown wrt.old) key (R.coming rdr.old)).answer }
-        ensures rest { IsTrue (R.told rdr.old) → MetBy (R.steady rdr.old) result → R.coming rdr.new ≡ (vi_left (custom_in self.old (λ b. meaning b)) (W.rule wrt.old) (input_of self.old) (W.shown wrt.old) key (R.coming rdr.old)).rest }
-        ensures asks { IsTrue (R.told rdr.old) → MetBy (R.steady rdr.old) result → Asked W.asked W.shown W.rule wrt.old (vi_left (custom_in self.old (λ b. meaning b)) (W.rule wrt.old) (input_of self.old) (W.shown wrt.old) key (R.coming rdr.old)).asks wrt.new }
-        ensures input { IsTrue (R.told rdr.old) → MetBy (R.steady rdr.old) result → input_of self.new ≡ (vi_left (custom_in self.old (λ b. meaning b)) (W.rule wrt.old) (input_of self.old) (W.shown wrt.old) key (R.coming rdr.old)).input }
+        ensures answer { IsTrue (R.told rdr.old) → MetBy (R.steady rdr.old) result → result ≡ (vi_left (custom_in self.old D.decides) (W.rule wrt.old) (input_of self.old) (W.shown wrt.old) key (R.coming rdr.old)).answer }
+        ensures rest { IsTrue (R.told rdr.old) → MetBy (R.steady rdr.old) result → R.coming rdr.new ≡ (vi_left (custom_in self.old D.decides) (W.rule wrt.old) (input_of self.old) (W.shown wrt.old) key (R.coming rdr.old)).rest }
+        ensures asks { IsTrue (R.told rdr.old) → MetBy (R.steady rdr.old) result → Asked W.asked W.shown W.rule wrt.old (vi_left (custom_in self.old D.decides) (W.rule wrt.old) (input_of self.old) (W.shown wrt.old) key (R.coming rdr.old)).asks wrt.new }
+        ensures input { IsTrue (R.told rdr.old) → MetBy (R.steady rdr.old) result → input_of self.new ≡ (vi_left (custom_in self.old D.decides) (W.rule wrt.old) (input_of self.old) (W.shown wrt.old) key (R.coming rdr.old)).input }
         ensures mode { self.new.mode ≡ self.old.mode }
         ensures bindings { self.new.custom_bindings ≡ self.old.custom_bindings }
-        ensures reason { IfErr result (λ e. Because (R.reason rdr.new) (W.reason wrt.new) (custom_in self.old (λ b. meaning b)) e) }
+        ensures reason { IfErr result (λ e. Because (R.reason rdr.new) (W.reason wrt.new) (custom_in self.old D.decides) e) }
         ensures told { IsTrue (R.told rdr.old) → IsTrue (R.told rdr.new) }
         ensures steady { R.steady rdr.new ≡ R.steady rdr.old }
         ensures keeps { R.bound rdr.new ≤ R.bound rdr.old }

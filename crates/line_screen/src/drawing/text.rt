@@ -10,8 +10,8 @@ ghost use Rattle.line_screen.specs.Measure.{cluster_width};
 ghost use Rattle.line_screen.specs.Sending.{Takes};
 
 use crate::drawing::sequences::send;
-use crate::grid::{Grid, is_letter, is_printable_text};
-use line_buffer::Unit;
+use crate::grid::{Grid, is_letter};
+use line_buffer::{Unit, is_printable_text};
 use line_config::{DeviceFailed, Sink};
 use unicode_segmentation::UnicodeSegmentation;
 

@@ -6,6 +6,7 @@ ghost use Rattle.line_keys.specs.ViCounts.{digit_of, vi_begun_by, vi_counted_on,
 ghost use Rattle.line_keys.specs.Counts.{count_of};
 
 use crate::flags::Modifiers;
+use crate::handler::Decides;
 use crate::key::{KeyCode, KeyEvent};
 use crate::keymap::InputState;
 use crate::keymap::count::{Count, Counted};
@@ -59,7 +60,7 @@ pub(crate) fn typed_count(count: Count) -> Option<RepeatCount>
     }
 }
 
-impl InputState<'_> {
+impl<D: Decides> InputState<'_, D> {
     ghost use Rattle.line_keys.specs.InputStates.{input_of, custom_in};
     ghost use Rattle.line_keys.specs.Counts.{counting};
     ghost use Rattle.line_keys.specs.ViCounts.{vi_counted_on, second_count};
@@ -79,7 +80,7 @@ impl InputState<'_> {
         ensures rest { IsTrue (R.told rdr.old) → MetBy (R.steady rdr.old) result → R.coming rdr.new ≡ (counting vi_counted_on (input_of self.now) begun (R.coming rdr.old)).rest }
         ensures input { IsTrue (R.told rdr.old) → MetBy (R.steady rdr.old) result → input_of self.now ≡ (counting vi_counted_on (input_of self.now) begun (R.coming rdr.old)).input }
         ensures asks { IsTrue (R.told rdr.old) → MetBy (R.steady rdr.old) result → Asked W.asked W.shown W.rule wrt.old (counting vi_counted_on (input_of self.now) begun (R.coming rdr.old)).asks wrt.new }
-        ensures reason { IfErr result (λ e. Because (R.reason rdr.new) (W.reason wrt.new) (custom_in self.now (λ b. meaning b)) e) }
+        ensures reason { IfErr result (λ e. Because (R.reason rdr.new) (W.reason wrt.new) (custom_in self.now D.decides) e) }
         ensures told { IsTrue (R.told rdr.old) → IsTrue (R.told rdr.new) }
         ensures steady { R.steady rdr.new ≡ R.steady rdr.old }
         ensures keeps { R.bound rdr.new ≤ R.bound rdr.old }
@@ -113,7 +114,7 @@ impl InputState<'_> {
         ensures rest { IsTrue (R.told rdr.old) → MetBy (R.steady rdr.old) result → R.coming rdr.new ≡ (second_count (input_of self.now) n key (R.coming rdr.old)).rest }
         ensures input { IsTrue (R.told rdr.old) → MetBy (R.steady rdr.old) result → input_of self.now ≡ (second_count (input_of self.now) n key (R.coming rdr.old)).input }
         ensures asks { IsTrue (R.told rdr.old) → MetBy (R.steady rdr.old) result → Asked W.asked W.shown W.rule wrt.old (second_count (input_of self.now) n key (R.coming rdr.old)).asks wrt.new }
-        ensures reason { IfErr result (λ e. Because (R.reason rdr.new) (W.reason wrt.new) (custom_in self.now (λ b. meaning b)) e) }
+        ensures reason { IfErr result (λ e. Because (R.reason rdr.new) (W.reason wrt.new) (custom_in self.now D.decides) e) }
         ensures told { IsTrue (R.told rdr.old) → IsTrue (R.told rdr.new) }
         ensures steady { R.steady rdr.new ≡ R.steady rdr.old }
         ensures keeps { R.bound rdr.new ≤ R.bound rdr.old }

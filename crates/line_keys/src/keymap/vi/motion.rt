@@ -8,6 +8,7 @@ ghost use Rattle.line_keys.specs.KeyRows.{given};
 ghost use Rattle.line_keys.specs.ViSearches.{opposite_of, search_letter, search_of};
 
 use crate::flags::Modifiers;
+use crate::handler::Decides;
 use crate::key::{KeyCode, KeyEvent};
 use crate::keymap::InputState;
 use crate::keymap::emacs::plain_char;
@@ -122,7 +123,7 @@ fn moved(changing: bool, key: KeyEvent, n: RepeatCount) -> Option<Movement>
     }
 }
 
-impl InputState<'_> {
+impl<D: Decides> InputState<'_, D> {
     ghost use Rattle.line_keys.specs.InputStates.{input_of, custom_in};
     ghost use Rattle.line_keys.specs.Reasons.{Because};
     ghost use Rattle.line_keys.specs.Refreshing.{Asked};
@@ -145,7 +146,7 @@ impl InputState<'_> {
         ensures input { IsTrue (R.told rdr.old) → MetBy (R.steady rdr.old) result → input_of self.new ≡ (vi_motion (W.rule wrt.old) (W.shown wrt.old) operator n (input_of self.old) (R.coming rdr.old)).input }
         ensures mode { self.new.mode ≡ self.old.mode }
         ensures bindings { self.new.custom_bindings ≡ self.old.custom_bindings }
-        ensures reason { IfErr result (λ e. Because (R.reason rdr.new) (W.reason wrt.new) (custom_in self.old (λ b. meaning b)) e) }
+        ensures reason { IfErr result (λ e. Because (R.reason rdr.new) (W.reason wrt.new) (custom_in self.old D.decides) e) }
         ensures told { IsTrue (R.told rdr.old) → IsTrue (R.told rdr.new) }
         ensures steady { R.steady rdr.new ≡ R.steady rdr.old }
         ensures keeps { R.bound rdr.new ≤ R.bound rdr.old }

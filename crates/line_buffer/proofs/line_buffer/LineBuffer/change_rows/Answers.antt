@@ -7,7 +7,7 @@ rows-init g c = rows_told_init _ _ _ _ _ _ _ c.requires.order c.requires.start c
 
 pub returns-in_err-changed-clause-stopped : goal.returns-in_err-changed-clause-stopped
 returns-in_err-changed-clause-stopped g c =
-    row_stops _ _ _ _ _ _ _ _ _ _ _ c.rows.invariant _ c.row_end_before-end.ensures.value _ _ _ _ c.in_err-changed.ensures.refused c.in_err-changed.ensures.kept
+    row_stops _ _ _ _ _ _ _ _ _ _ _ c.rows.invariant _ c.row_end_before-end.ensures.value _ _ _ c.in_err-changed.ensures.refused c.in_err-changed.ensures.kept
 
 pub returns-then-is_last-clause-told : goal.returns-then-is_last-clause-told
 returns-then-is_last-clause-told g c =

@@ -1,21 +1,23 @@
 use Rattle.std.proofs.lemmas.List.Edits.{length-between}
 use Rattle.std.specs.List.{replace_range}
 use Rattle.std.proofs.Common.{length, sym, ap, subst, ◌∙◌, refl, arith}
-use Rattle.std.specs.Prelude.{IsCharBoundary}
+use Rattle.std.specs.Prelude.{IsCharBoundary, slice_range}
+use Rattle.line_buffer.specs.Replay.{replacement}
 use Rattle.line_buffer.proofs.CutLemmas.{before_replaced}
-use Rattle.line_buffer.proofs.ReplayLemmas.{stops_at_once, stops_at_once_on, stops_for_memory_on}
+use Rattle.line_buffer.proofs.ReplayLemmas.{refused_as, stops_at_once, stops_at_once_on, stops_for_memory_on}
 use Rattle.line_buffer.proofs.TranspositionLemmas.{swap_stops, behind_both}
 use Rattle.line_buffer.proofs.line_buffer.LineBuffer.swap.Goals as goal
 
 pub returns-in_err-earlier-clause-stopped : goal.returns-in_err-earlier-clause-stopped
-returns-in_err-earlier-clause-stopped g c = stops_for_memory_on _ _ _ _ _ _ _ refl
+returns-in_err-earlier-clause-stopped g c = stops_for_memory_on _ _ _ _ _ _ _ _ _ refl tt refl
 
 pub returns-in_err-later-clause-stopped : goal.returns-in_err-later-clause-stopped
-returns-in_err-later-clause-stopped g c = stops_for_memory_on _ _ _ _ _ _ _ refl
+returns-in_err-later-clause-stopped g c = stops_for_memory_on _ _ _ _ _ _ _ _ _ refl tt refl
 
 pub returns-in_err-replace-clause-stopped : goal.returns-in_err-replace-clause-stopped
 returns-in_err-replace-clause-stopped g c =
-    stops_at_once_on _ _ _ _ _ _ _ _ _ c.in_err-replace.ensures.refused (ap (λ l. l.text) c.in_err-replace.ensures.kept)
+    stops_at_once_on _ _ _ _ _ _ _ _ _ _ refl tt
+    (refused_as g.C.DeleteListener.refuses (ap (λ x. replacement c.args.second.start c.args.second.end x c.args.self.now.text) (c.as_str.ensures.value ∙ c.in_ok-earlier.ensures)) c.in_err-replace.ensures.refused) (ap (λ l. l.text) c.in_err-replace.ensures.kept)
 
 pub replace-requires-2-clause-start : goal.replace-requires-2-clause-start
 replace-requires-2-clause-start g c =
@@ -38,4 +40,7 @@ set_pos-requires g c =
 pub returns-clause-stopped : goal.returns-clause-stopped
 returns-clause-stopped g c =
     swap_stops _ _ _ _ _ _ _ _ _ _ _ (c.as_str.ensures.value ∙ c.in_ok-earlier.ensures) c.in_ok-replace.ensures.told c.in_ok-replace.ensures.replays
-    (stops_at_once _ _ _ _ _ _ _ _ c.in-Err.ensures.refused (ap (λ l. l.text) c.in-Err.ensures.kept))
+    (stops_at_once _ _ _ _ _ _ _ _ _ refl tt
+    (refused_as g.C.DeleteListener.refuses (ap (λ x. replacement c.args.first.start c.args.first.end x c.replace.new.self.text) (c.as_str-2.ensures.value ∙ c.in_ok-later.ensures)
+    ∙ ap (λ x. replacement c.args.first.start c.args.first.end (slice_range c.args.self.now.text c.args.second.start c.args.second.end) x)
+    (ap (λ l. l.text) c.in_ok-replace.ensures.line ∙ ap (replace_range c.args.self.now.text c.args.second.start c.args.second.end) (c.as_str.ensures.value ∙ c.in_ok-earlier.ensures))) c.in-Err.ensures.refused) (ap (λ l. l.text) c.in-Err.ensures.kept))

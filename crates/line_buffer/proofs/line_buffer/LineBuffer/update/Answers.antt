@@ -1,14 +1,15 @@
-use Rattle.std.proofs.Common.{◌≡◌, sym, ap, subst, ◌∙◌, inr}
+use Rattle.std.proofs.Common.{◌≡◌, refl, sym, ap, subst, ◌∙◌, inr}
 use Rattle.std.specs.Prelude.{IsCharBoundary}
 use Rattle.std.specs.List.{insert_slice}
 use Rattle.std.proofs.lemmas.List.{append-nil}
 use Rattle.std.proofs.lemmas.Str.{IsCharBoundary-start}
-use Rattle.line_buffer.proofs.ReplayLemmas.{stops_at_once, stops_at_once_on, stops_later, reports_one}
+use Rattle.line_buffer.specs.Replay.{insertion}
+use Rattle.line_buffer.proofs.ReplayLemmas.{refused_as, stops_at_once, stops_at_once_on, stops_later, reports_one}
 use Rattle.line_buffer.proofs.line_buffer.LineBuffer.update.Goals as goal
 
 pub returns-in_err-delete_all-clause-stopped : goal.returns-in_err-delete_all-clause-stopped
 returns-in_err-delete_all-clause-stopped g c =
-    stops_at_once_on _ _ _ _ _ _ _ _ _ (inr c.in_err-delete_all.ensures.refused) (ap (λ l. l.text) c.in_err-delete_all.ensures.kept)
+    stops_at_once_on _ _ _ _ _ _ _ _ _ _ refl tt (inr c.in_err-delete_all.ensures.refused) (ap (λ l. l.text) c.in_err-delete_all.ensures.kept)
 
 pub insert_str-requires-clause-cursor : goal.insert_str-requires-clause-cursor
 insert_str-requires-clause-cursor g c =
@@ -25,4 +26,4 @@ set_pos-requires g c =
 pub returns-in-Err-clause-stopped : goal.returns-in-Err-clause-stopped
 returns-in-Err-clause-stopped g c =
     stops_later (reports_one _ _ _ _ _ _ c.in_ok-delete_all.ensures.told c.in_ok-delete_all.ensures.replays)
-    (stops_at_once _ _ _ _ _ _ _ _ c.in-Err.ensures.refused (ap (λ l. l.text) c.in-Err.ensures.kept))
+    (stops_at_once _ _ _ _ _ _ _ _ _ refl tt (refused_as g.C.DeleteListener.refuses (ap (insertion 0) c.kept-kept.ensures.value) c.in-Err.ensures.refused) (ap (λ l. l.text) c.in-Err.ensures.kept))

@@ -1,10 +1,10 @@
-use Rattle.std.proofs.Common.{ap, inr}
+use Rattle.std.proofs.Common.{refl, ap, inr}
 use Rattle.line_buffer.proofs.ReplayLemmas.{stops_at_once_on, stops_later, reports_one}
 use Rattle.line_buffer.proofs.line_buffer.LineBuffer.yank_pop.Goals as goal
 
 pub returns-in_err-delete_before-clause-stopped : goal.returns-in_err-delete_before-clause-stopped
 returns-in_err-delete_before-clause-stopped g c =
-    stops_at_once_on _ _ _ _ _ _ _ _ _ (inr c.in_err-delete_before.ensures.refused) (ap (λ l. l.text) c.in_err-delete_before.ensures.kept)
+    stops_at_once_on _ _ _ _ _ _ _ _ _ _ refl tt (inr c.in_err-delete_before.ensures.refused) (ap (λ l. l.text) c.in_err-delete_before.ensures.kept)
 
 pub returns-in-Err-clause-stopped : goal.returns-in-Err-clause-stopped
 returns-in-Err-clause-stopped g c =

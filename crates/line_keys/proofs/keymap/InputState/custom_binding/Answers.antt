@@ -10,6 +10,6 @@ returns-clause-answer g c = search rules
 
 pub returns-clause-reason : goal.returns-clause-reason
 returns-clause-reason g c =
-    either_because (custom_in c.args.self.now (λ b. (goal.ConditionalEventHandler-dyn g (b.vtable, b.value)).meaning b.value)) c.args.key
-    (shown_for (situation_in c.args.self.now (λ b. (goal.ConditionalEventHandler-dyn g (b.vtable, b.value)).meaning b.value) (g.W.Refresher.shown c.args.wrt.now) c.args.n c.args.positive) (single c.args.key))
+    either_because (custom_in c.args.self.now g.D.Decides.decides) c.args.key
+    (shown_for (situation_in c.args.self.now g.D.Decides.decides (g.W.Refresher.shown c.args.wrt.now) c.args.n c.args.positive) (single c.args.key))
     c.decided.result (returns-clause-answer g c)

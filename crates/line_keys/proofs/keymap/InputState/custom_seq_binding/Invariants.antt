@@ -5,7 +5,7 @@ use Rattle.line_keys.proofs.keymap.InputState.custom_seq_binding.Given as goal
 
 abbrev pub invariant-loop-alloc : goal.invariant-loop-alloc
 invariant-loop-alloc g l =
-    let here = situation_in l.fn.self (λ b. (goal.ConditionalEventHandler-dyn g (b.vtable, b.value)).meaning b.value) (g.W.Refresher.shown l.fn.wrt) l.fn.n l.fn.positive in
+    let here = situation_in l.fn.self g.D.Decides.decides (g.W.Refresher.shown l.fn.wrt) l.fn.n l.fn.positive in
     (IsTrue (g.R.RawReader.told l.fn.rdr) → IsTrue (g.R.RawReader.told l.rdr))
     × (IsTrue (g.R.RawReader.told l.fn.rdr) → following here (l.fn.key ∷ []) (g.R.RawReader.coming l.fn.rdr) ≡ following here l.keys.items (g.R.RawReader.coming l.rdr))
     × (g.R.RawReader.steady l.rdr ≡ g.R.RawReader.steady l.fn.rdr)

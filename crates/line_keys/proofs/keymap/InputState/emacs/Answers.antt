@@ -10,9 +10,9 @@ use Rattle.line_keys.proofs.keymap.InputState.emacs.Goals as goal
 pub returns-in_ok-counted-in-Some-clause-answer : goal.returns-in_ok-counted-in-Some-clause-answer
 returns-in_ok-counted-in-Some-clause-answer g c told met =
     let counted = c.in_ok-counted-in-Some.ensures in
-    let is : emacs_phrase (custom_in c.args.self.now (λ b. (goal.ConditionalEventHandler-dyn g (b.vtable, b.value)).meaning b.value))
+    let is : emacs_phrase (custom_in c.args.self.now g.D.Decides.decides)
     (g.W.Refresher.rule c.args.wrt.now) (input_of c.args.self.now) (g.W.Refresher.shown c.args.wrt.now) c.args.key (g.R.RawReader.coming c.args.rdr.now) ≡ _ =
-    behind_count (custom_in c.args.self.now (λ b. (goal.ConditionalEventHandler-dyn g (b.vtable, b.value)).meaning b.value))
+    behind_count (custom_in c.args.self.now g.D.Decides.decides)
     (g.W.Refresher.rule c.args.wrt.now) (input_of c.args.self.now) (g.W.Refresher.shown c.args.wrt.now) c.args.key (g.R.RawReader.coming c.args.rdr.now)
     c.in-Some.begun (sym c.in-Some.ensures) c.in_ok-counted-in-Some.counted (g.W.Refresher.shown c.emacs_digit_argument.new.wrt) (g.R.RawReader.coming c.emacs_digit_argument.new.rdr)
     (counted.answer told tt) (counted.asks told tt).shows (counted.rest told tt) in
@@ -21,9 +21,9 @@ returns-in_ok-counted-in-Some-clause-answer g c told met =
 pub returns-in_ok-counted-in-Some-clause-rest : goal.returns-in_ok-counted-in-Some-clause-rest
 returns-in_ok-counted-in-Some-clause-rest g c told met =
     let counted = c.in_ok-counted-in-Some.ensures in
-    let is : emacs_phrase (custom_in c.args.self.now (λ b. (goal.ConditionalEventHandler-dyn g (b.vtable, b.value)).meaning b.value))
+    let is : emacs_phrase (custom_in c.args.self.now g.D.Decides.decides)
     (g.W.Refresher.rule c.args.wrt.now) (input_of c.args.self.now) (g.W.Refresher.shown c.args.wrt.now) c.args.key (g.R.RawReader.coming c.args.rdr.now) ≡ _ =
-    behind_count (custom_in c.args.self.now (λ b. (goal.ConditionalEventHandler-dyn g (b.vtable, b.value)).meaning b.value))
+    behind_count (custom_in c.args.self.now g.D.Decides.decides)
     (g.W.Refresher.rule c.args.wrt.now) (input_of c.args.self.now) (g.W.Refresher.shown c.args.wrt.now) c.args.key (g.R.RawReader.coming c.args.rdr.now)
     c.in-Some.begun (sym c.in-Some.ensures) c.in_ok-counted-in-Some.counted (g.W.Refresher.shown c.emacs_digit_argument.new.wrt) (g.R.RawReader.coming c.emacs_digit_argument.new.rdr)
     (counted.answer told tt) (counted.asks told tt).shows (counted.rest told tt) in
@@ -31,12 +31,12 @@ returns-in_ok-counted-in-Some-clause-rest g c told met =
 
 pub returns-in-None-clause-answer : goal.returns-in-None-clause-answer
 returns-in-None-clause-answer g c told met =
-    c.emacs_decided-in-None.ensures.answer told met ∙ ap (λ (p : Phrase). p.answer) (sym (without_count (custom_in c.args.self.now (λ b. (goal.ConditionalEventHandler-dyn g (b.vtable, b.value)).meaning b.value))
+    c.emacs_decided-in-None.ensures.answer told met ∙ ap (λ (p : Phrase). p.answer) (sym (without_count (custom_in c.args.self.now g.D.Decides.decides)
     (g.W.Refresher.rule c.args.wrt.now) (input_of c.args.self.now) (g.W.Refresher.shown c.args.wrt.now) c.args.key (g.R.RawReader.coming c.args.rdr.now)
     c.none-count.result (sym c.in-None.ensures) c.none-count.ensures))
 
 pub returns-in-None-clause-rest : goal.returns-in-None-clause-rest
 returns-in-None-clause-rest g c told met =
-    c.emacs_decided-in-None.ensures.rest told met ∙ ap (λ (p : Phrase). p.rest) (sym (without_count (custom_in c.args.self.now (λ b. (goal.ConditionalEventHandler-dyn g (b.vtable, b.value)).meaning b.value))
+    c.emacs_decided-in-None.ensures.rest told met ∙ ap (λ (p : Phrase). p.rest) (sym (without_count (custom_in c.args.self.now g.D.Decides.decides)
     (g.W.Refresher.rule c.args.wrt.now) (input_of c.args.self.now) (g.W.Refresher.shown c.args.wrt.now) c.args.key (g.R.RawReader.coming c.args.rdr.now)
     c.none-count.result (sym c.in-None.ensures) c.none-count.ensures))

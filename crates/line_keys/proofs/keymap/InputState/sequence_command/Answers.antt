@@ -10,6 +10,6 @@ returns-clause-answer g c = search rules
 
 pub returns-clause-reason : goal.returns-clause-reason
 returns-clause-reason g c =
-    keys_because (custom_in c.args.self.now (λ b. (goal.ConditionalEventHandler-dyn g (b.vtable, b.value)).meaning b.value)) c.args.keys.now
-    (shown_for (situation_in c.args.self.now (λ b. (goal.ConditionalEventHandler-dyn g (b.vtable, b.value)).meaning b.value) (g.W.Refresher.shown c.args.wrt.now) c.args.n c.args.positive) (KeySeq c.args.keys.now))
+    keys_because (custom_in c.args.self.now g.D.Decides.decides) c.args.keys.now
+    (shown_for (situation_in c.args.self.now g.D.Decides.decides (g.W.Refresher.shown c.args.wrt.now) c.args.n c.args.positive) (KeySeq c.args.keys.now))
     c.decided.result (returns-clause-answer g c)

@@ -11,5 +11,5 @@ use Rattle.line_keys.proofs.keymap.InputState.vi_operation.Goals as goal
 pub returns-in-None-clause-asks : goal.returns-in-None-clause-asks
 returns-in-None-clause-asks g c told met =
     subst (λ (xs : List Ask). Asked g.W.Refresher.asked g.W.Refresher.shown g.W.Refresher.rule c.args.wrt.now xs c.args.wrt.now)
-    (sym (operation_asks (typed_count c.args.counted.count) (situation_in c.args.self.now (λ b. (goal.ConditionalEventHandler-dyn g (b.vtable, b.value)).meaning b.value) (g.W.Refresher.shown c.args.wrt.now) (times c.args.counted.count) true) c.args.counted.key (g.R.RawReader.coming c.args.rdr.now) (g.W.Refresher.rule c.args.wrt.now) (sym c.in-None.ensures)))
+    (sym (operation_asks (typed_count c.args.counted.count) (situation_in c.args.self.now g.D.Decides.decides (g.W.Refresher.shown c.args.wrt.now) (times c.args.counted.count) true) c.args.counted.key (g.R.RawReader.coming c.args.rdr.now) (g.W.Refresher.rule c.args.wrt.now) (sym c.in-None.ensures)))
     (Asked_none g.W.Refresher.asked g.W.Refresher.shown g.W.Refresher.rule c.args.wrt.now)

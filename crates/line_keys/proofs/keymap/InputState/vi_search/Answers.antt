@@ -8,4 +8,4 @@ use Rattle.line_keys.proofs.keymap.InputState.vi_search.Goals as goal
 
 pub returns-in-None-clause-input : goal.returns-in-None-clause-input
 returns-in-None-clause-input g c told met =
-    sym (search_keeps (typed_count c.args.counted.count) (situation_in c.args.self.now (λ b. (goal.ConditionalEventHandler-dyn g (b.vtable, b.value)).meaning b.value) (g.W.Refresher.shown c.args.wrt.now) (times c.args.counted.count) true) c.args.counted.key (g.R.RawReader.coming c.args.rdr.now) (sym c.in-None.ensures))
+    sym (search_keeps (typed_count c.args.counted.count) (situation_in c.args.self.now g.D.Decides.decides (g.W.Refresher.shown c.args.wrt.now) (times c.args.counted.count) true) c.args.counted.key (g.R.RawReader.coming c.args.rdr.now) (sym c.in-None.ensures))

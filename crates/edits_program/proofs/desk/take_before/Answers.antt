@@ -1,5 +1,5 @@
 use Rattle.line_record.proofs.RunLemmas.{told_stand, stopped_stand}
-use Rattle.growth_tests.proofs.desk.take_before.Goals as goal
+use Rattle.edits_program.proofs.desk.take_before.Goals as goal
 
 pub returns-in_err-backspace : goal.returns-in_err-backspace
 returns-in_err-backspace c = stopped_stand c.requires c.as_str-text.ensures.utf8 c.in_err-backspace.ensures.stopped

@@ -1,11 +1,10 @@
 //! The short ways: what is drawn at the end of a line without drawing the line anew.
 
-ghost use Rattle.std.specs.Prelude.{◌≡◌, ◌==◌, true};
-ghost use Rattle.line_screen.specs.Display.{is_printable};
-ghost use Rattle.line_screen.specs.Short.{behind_typed, before_killed};
+ghost use Rattle.std.specs.Prelude.{◌≡◌};
+ghost use Rattle.std.specs.List.{list_all};
+ghost use Rattle.line_buffer.specs.Short.{is_printable, behind_typed, before_killed};
 
-use crate::grid::is_printable_text;
-use line_buffer::{Position, Unit};
+use crate::layout::{Position, Unit};
 
 /// Where the cursor stands behind a character that is typed at the end of a line, if writing its byte
 /// shows it: a printable character of ASCII that doesn't fill its row. `None` asks for a full drawing.
@@ -37,6 +36,15 @@ pub fn short_kill(end: Position, killed: &str) -> Option<Position>
     } else {
         None
     }
+}
+
+/// Each character is a printable one of ASCII.
+pub fn is_printable_text(text: &str) -> bool
+    ensures { result ≡ list_all is_printable text.now }
+{
+    text.as_bytes()
+        .iter()
+        .all(|byte| 0x20 <= *byte && *byte < 0x7F)
 }
 
 /// A printable character of ASCII.

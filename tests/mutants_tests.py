@@ -1,0 +1,166 @@
+#!/usr/bin/env python3
+"""What tests/mutants.py says of wrong bodies, and of what is none, in a small crate of its own."""
+import os
+import tempfile
+
+import mutants
+from checks import run_all, same
+
+SOURCE = """//! Numbers, for wrong bodies.
+#![tactic(auto)]
+
+ghost use Rattle.std.specs.Prelude.{\u25cc\u2261\u25cc, \u25cc+\u25cc};
+
+/// The crate's type.
+pub struct Pair {
+    pub one: u16,
+    pub other: u16,
+}
+
+impl Pair {
+    pub fn first(&self) -> u16
+        ensures { result \u2261 self.now.one }
+    {
+        self.one
+    }
+}
+
+pub fn doubled(n: u8) -> u16
+    ensures { result \u2261 n + n }
+{
+    u16::from(n) + u16::from(n)
+}
+
+pub fn fourfold(n: u8) -> u16
+    ensures { result \u2261 n + n + (n + n) }
+{
+    doubled(n) + doubled(n)
+}
+
+pub fn silent(n: u8) -> u8 {
+    n // said of nothing
+}
+
+pub fn trebled(n: u8) -> u16
+    ensures { result \u2261 n + n + n }
+{
+    doubled(n)
+}
+"""
+EDITS = {
+    "added-once": ("u16::from(n) + u16::from(n)", "u16::from(n)"),
+    "nothing-said": ("n // said of nothing", "n / 2"),
+    "other-for-one": ("self.one", "self.other"),
+    "same-sum": ("doubled(n) + doubled(n)", "{ let sum = doubled(n) + doubled(n); sum }"),
+    "does-not-compile": ("self.one", "self.none"),
+    "gone": ("u16::from(n) * 2", "u16::from(n)"),
+    "twice-there": ("doubled(n)", "0"),
+    "same-text": ("u16::from(n) + u16::from(n)", "u16::from(n) + u16::from(n)"),
+    "clause": ("n + n + n }", "n + n }"),
+}
+DOUBLED = "small::doubled"
+
+
+class Small:
+    """A repository with one small crate and these of its edits."""
+
+    def __init__(self, *names):
+        self.folder = tempfile.TemporaryDirectory(prefix="mutants-tests-")
+        self.write("crates.txt", "small:\n")
+        self.write("crates/small/src/lib.rt", SOURCE)
+        for name in names:
+            old, new = EDITS[name]
+            self.write(f"crates/small/mutants/{name}.edit", f"file: src/lib.rt\nold: {old}\nnew: {new}\n")
+
+    def write(self, path, text):
+        path = os.path.join(self.folder.name, path)
+        os.makedirs(os.path.dirname(path), exist_ok=True)
+        with open(path, "w", encoding="utf-8") as it:
+            it.write(text)
+
+    def crate(self):
+        return mutants.Crate(self.folder.name, "small")
+
+    def tried(self):
+        checker = mutants.Checker(self.folder.name, mutants.crates_of(self.folder.name))
+        return {name: (well, text) for well, name, text in mutants.tried(self.crate(), checker, 1, {})}
+
+    def judged(self, said, by_hand=()):
+        crate = self.crate()
+        group = crate.groups()[0]
+        found = mutants.judged(crate, group, mutants.Said(crate, crate.texts(group), said), by_hand)
+        return {name: (well, text) for well, name, text in found}
+
+
+def expect(found, name, well, words):
+    same(f"whether {name} is told of", name in found, True)
+    same(f"whether {name} passes", found[name][0], well)
+    same(f"whether `{found[name][1]}` says `{words}`", words in found[name][1], True)
+
+
+def what_the_prover_says():
+    found = Small("added-once", "nothing-said", "other-for-one", "same-sum", "does-not-compile").tried()
+    expect(found, "small/added-once", True, "small::doubled")
+    expect(found, "small/other-for-one", True, "small::Pair::first")
+    expect(found, "small/nothing-said", False, "small::silent is NOT REFUSED")
+    expect(found, "small/same-sum", False, "small::fourfold is NOT REFUSED")
+    expect(found, "small/does-not-compile", False, "did not reach the prover")
+    expect(found, "small::trebled", False, "nothing is wrong with it")
+    same("what is told of", len(found), 6)
+
+
+def edits_that_no_longer_fit():
+    crate = Small("gone", "twice-there", "same-text", "clause").crate()
+    same("those that are tried", [it.name for it in crate.edits], [])
+    for name, words in (
+        ("gone", "0 times, and not once"),
+        ("twice-there", "3 times, and not once"),
+        ("same-text", "it changes nothing"),
+        ("clause", "more of src/lib.rt than the bodies"),
+    ):
+        same(f"whether `{crate.unfit[name]}` says `{words}`", words in crate.unfit[name], True)
+
+
+def no_function_changed_twice_in_a_check():
+    crate = Small("added-once", "nothing-said", "other-for-one", "does-not-compile").crate()
+    same("groups", [[it.name for it in group] for group in crate.groups()],
+         [["added-once", "does-not-compile", "nothing-said"], ["other-for-one"]])
+
+
+def a_caller_is_not_blamed_for_its_callee():
+    small = Small("added-once")
+    callee = "fn small::doubled: no proof: `search` did not prove `returns`\n"
+    caller = "fn small::fourfold: no proof: it calls `small::doubled`, which is not proved\n"
+    same("what is told of", [*small.judged(callee + caller)], ["small/added-once"])
+    caller = caller.replace("it calls", "`search` did not prove `returns`; it calls")
+    expect(small.judged(callee + caller), "small::fourfold", False, "nothing is wrong with it")
+
+
+def a_stored_proof_that_no_longer_fits():
+    small = Small("added-once")
+    small.write("crates/small/proofs/doubled/Answers.antt", "pub returns-clause-sum : goal.returns-clause-sum\n")
+    refused = "fn small::doubled: not proved\n"
+    note = "note: src/lib.rt:21:1: it is not proved that what the function ensures holds when it returns (`GOAL`)\n"
+    false = note.replace("\n", "; the facts known there allow values at which this goal is false\n")
+    for said, well in (
+        ("", False),
+        (note.replace("GOAL", "returns-then-n-clause-sum"), False),
+        (note.replace("GOAL", "returns-clause-other"), True),
+        (false.replace("GOAL", "returns-then-n-clause-sum"), True),
+        (false.replace("GOAL", "loop-n-preserved"), False),
+    ):
+        found = small.judged(said + refused)
+        expect(found, "small/added-once", well, DOUBLED)
+        if not well:
+            expect(found, "small/added-once", False, "says nothing of the contract")
+            expect(small.judged(said + refused, {"small/added-once": "a case"}), "small/added-once", True, DOUBLED)
+
+
+if __name__ == "__main__":
+    run_all([
+        edits_that_no_longer_fit,
+        no_function_changed_twice_in_a_check,
+        a_caller_is_not_blamed_for_its_callee,
+        a_stored_proof_that_no_longer_fits,
+        what_the_prover_says,
+    ])
