@@ -5,8 +5,8 @@ use Rattle.std.proofs.lemmas.Bool.{and_parts, and_from, le-leb}
 use Rattle.std.proofs.lemmas.Bool.Decides.{nat_tests}
 use Rattle.std.proofs.lemmas.List.Folds.{list_all-append}
 use Rattle.line_buffer.specs.declared.layout.Position.{Position}
-use Rattle.line_screen.specs.Display.{Placed, Display, Reading, put, put_down, put_run, is_printable, is_text, on_run, read, step, at_cursor, right, ends_before, touches}
-use Rattle.line_screen.specs.Display.Reading.{Text}
+use Rattle.line_screen.specs.Display.{Placed, Display, DisplayReading, put, put_down, put_run, is_printable, is_text, on_run, read, step, at_cursor, right, ends_before, touches}
+use Rattle.line_screen.specs.Display.DisplayReading.{Text}
 use Rattle.line_screen.specs.Drawing.{Item, next_row, fit, after_one, after, placed_at, lay_one, lay, plain, row_break, break_if, fitted_col, left_col, fenced, sent_one, col_after_one, sent, col_after}
 use Rattle.line_screen.specs.Drawing.Item.{NewRow, Letter, Cluster}
 use Rattle.line_screen.specs.Showing.{Stands}
@@ -16,7 +16,7 @@ use Rattle.line_screen.proofs.Standing.{stands_text, read-append, read_text, ste
 pub record Clear (d : Display) : Type 0 where
   pub all : list_all (ends_before d.cursor) d.placed ≡ true
 
-pub record Ready (columns : ℕ) (r : Reading) (d : Display) : Type 0 where
+pub record Ready (columns : ℕ) (r : DisplayReading) (d : Display) : Type 0 where
   pub stands : Stands columns r d
   pub clear : Clear d
   pub inside : d.cursor.col < columns
@@ -102,7 +102,7 @@ drawn columns items d = record { placed = d.placed ++ lay columns items d.cursor
 abbrev pub drawn_one : ℕ → Item → Display → Display
 drawn_one columns item d = record { placed = d.placed ++ lay_one columns item d.cursor; cursor = after_one columns item d.cursor }
 
-pub full_row : (columns : ℕ) (wide : List ℕ → Option ℕ) (b : Bool) (r : Reading) (d : Display) → Stands columns r d → Clear d → 0 < columns → (b ≡ false → d.cursor.col < columns)
+pub full_row : (columns : ℕ) (wide : List ℕ → Option ℕ) (b : Bool) (r : DisplayReading) (d : Display) → Stands columns r d → Clear d → 0 < columns → (b ≡ false → d.cursor.col < columns)
     → Ready columns (read columns wide r (break_if b)) (at_cursor (if b then next_row d.cursor else d.cursor) d)
 full_row columns wide true r d s c some h =
     record {
@@ -120,11 +120,11 @@ not_full columns col h e = grind (arith, nat_tests)
 abbrev fitted : ℕ → Bool → Display → Display
 fitted width b d = at_cursor (if b then d.cursor else next_row d.cursor) d
 
-record Fitted (columns : ℕ) (wide : List ℕ → Option ℕ) (width : ℕ) (b : Bool) (r : Reading) (d : Display) : Type 0 where
+record Fitted (columns : ℕ) (wide : List ℕ → Option ℕ) (width : ℕ) (b : Bool) (r : DisplayReading) (d : Display) : Type 0 where
   ready : Ready columns (read columns wide r (if b then [] else row_break)) (fitted width b d)
   room : (fitted width b d).cursor.col + width ≤ columns
 
-fits_if : (columns : ℕ) (wide : List ℕ → Option ℕ) (width : ℕ) (r : Reading) (d : Display) → Ready columns r d → width ≤ columns → (b : Bool) → nat_le (d.cursor.col + width) columns ≡ b
+fits_if : (columns : ℕ) (wide : List ℕ → Option ℕ) (width : ℕ) (r : DisplayReading) (d : Display) → Ready columns r d → width ≤ columns → (b : Bool) → nat_le (d.cursor.col + width) columns ≡ b
     → Fitted columns wide width b r d
 fits_if columns wide width r d ready narrow true e = record { ready = ready; room = grind (arith, nat_tests) }
 fits_if columns wide width r d ready narrow false e =
@@ -133,7 +133,7 @@ fits_if columns wide width r d ready narrow false e =
       room = grind (arith, nat_tests);
     }
 
-read_fenced : (columns : ℕ) (wide : List ℕ → Option ℕ) (bytes : List ℕ) (width : ℕ) (r : Reading) (d : Display) → Ready columns r d → Showable columns wide bytes width → d.cursor.col + width ≤ columns
+read_fenced : (columns : ℕ) (wide : List ℕ → Option ℕ) (bytes : List ℕ) (width : ℕ) (r : DisplayReading) (d : Display) → Ready columns r d → Showable columns wide bytes width → d.cursor.col + width ≤ columns
     → read columns wide r (fenced bytes) ≡ Text (put_down width bytes d) []
 read_fenced columns wide bytes width r d ready able room =
     read-append columns wide r (plain ++ bytes) plain
@@ -142,7 +142,7 @@ read_fenced columns wide bytes width r d ready able room =
     ∙ ap (λ x. read columns wide x plain) (read_text columns wide d [] bytes able.text)
     ∙ ap (λ o. read columns wide (on_run columns 0x1B o) (0x5B ∷ 0x6D ∷ [])) (able.put_is d ∙ put_clear columns width bytes d ready.clear room)
 
-one_cluster : (columns : ℕ) (wide : List ℕ → Option ℕ) (bytes : List ℕ) (width : ℕ) (r : Reading) (d : Display) → Ready columns r d → Showable columns wide bytes width
+one_cluster : (columns : ℕ) (wide : List ℕ → Option ℕ) (bytes : List ℕ) (width : ℕ) (r : DisplayReading) (d : Display) → Ready columns r d → Showable columns wide bytes width
     → Ready columns (read columns wide r (sent_one columns (Cluster bytes width) d.cursor.col)) (drawn_one columns (Cluster bytes width) d)
 one_cluster columns wide bytes width r d ready able =
     let b = nat_le (d.cursor.col + width) columns in
@@ -161,7 +161,7 @@ one_cluster columns wide bytes width r d ready able =
     ∙ sym (read-append columns wide r ((if b then [] else row_break) ++ fenced bytes) (break_if (fitted_col columns width d.cursor.col + width == columns))) in
     subst (λ x. Ready columns x (drawn_one columns (Cluster bytes width) d)) bytes_are done
 
-pub one : (columns : ℕ) (wide : List ℕ → Option ℕ) (item : Item) (r : Reading) (d : Display) → Ready columns r d → Fits columns wide item
+pub one : (columns : ℕ) (wide : List ℕ → Option ℕ) (item : Item) (r : DisplayReading) (d : Display) → Ready columns r d → Fits columns wide item
     → Ready columns (read columns wide r (sent_one columns item d.cursor.col)) (drawn_one columns item d)
 one columns wide NewRow r d ready h =
     let done = full_row columns wide true r d ready.stands ready.clear (let i = ready.inside in omega arith) (λ e. ready.inside) in
@@ -173,7 +173,7 @@ one columns wide (Letter c) r d ready h =
     full_row columns wide (d1.cursor.col == columns) (step columns wide r c) d1 stands (clear_put 1 (c ∷ []) d ready.clear) (let i = ready.inside in omega arith) (not_full columns d1.cursor.col room)
 one columns wide (Cluster bytes width) r d ready able = one_cluster columns wide bytes width r d ready able
 
-pub draws : (columns : ℕ) (wide : List ℕ → Option ℕ) (items : List Item) (r : Reading) (d : Display) → Ready columns r d → AllFit columns wide items
+pub draws : (columns : ℕ) (wide : List ℕ → Option ℕ) (items : List Item) (r : DisplayReading) (d : Display) → Ready columns r d → AllFit columns wide items
     → Ready columns (read columns wide r (sent columns items d.cursor.col)) (drawn columns items d)
 draws columns wide [] r d ready h =
     subst (λ xs. Ready columns r (record { placed = xs; cursor = d.cursor })) (sym (append-nil d.placed)) ready

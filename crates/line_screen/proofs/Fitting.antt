@@ -19,11 +19,13 @@ use Rattle.line_buffer.specs.Cells.{origin}
 use Rattle.line_buffer.specs.Width.{width_of}
 use Rattle.line_buffer.specs.declared.layout.GraphemeClusterMode.{GraphemeClusterMode}
 use Rattle.line_buffer.specs.declared.layout.Position.{Position}
-use Rattle.line_screen.specs.Display.{Display, put, put_letters, put_cluster, and_then, is_printable, is_text, right}
+use Rattle.line_screen.specs.Display.{Display, put, put_letters, put_cluster, then_put, is_printable, is_text, right}
 use Rattle.line_screen.specs.Drawing.{Item, drawn_cluster, is_letter, item_of, row_items, join_rows, rows_of, text_items, next_row, fit, after_one, after}
 use Rattle.line_screen.specs.Drawing.Item.{NewRow, Letter, Cluster}
+use Rattle.std.specs.Str.{IsUtf8, is_utf8}
+use Rattle.std.proofs.lemmas.Str.{is_utf8-from_IsUtf8}
 use Rattle.line_screen.specs.Measure.{is_cluster, is_width, cluster_width}
-use Rattle.line_screen.specs.Showing.{Shown, shown_items, finish_of, cursor_of}
+use Rattle.line_screen.specs.Showing.{Frame, shown_items, finish_of, cursor_of}
 use Rattle.line_screen.proofs.Draws.{Showable, Fits, AllFit}
 use Rattle.line_screen.proofs.Full.{Drawable}
 
@@ -32,6 +34,11 @@ use Rattle.line_screen.proofs.Full.{Drawable}
 abbrev is_other : GraphemeClusterBreak → Bool
 is_other Other = true
 is_other _ = false
+
+pub text_is_utf8 : (bytes : List ℕ) → IsUtf8 bytes → is_utf8 bytes ≡ true
+text_is_utf8 bytes text = is_utf8-from_IsUtf8 bytes text
+
+pub ruleset texts = (text_is_utf8)
 
 other_is : (v : GraphemeClusterBreak) → is_other v ≡ true → Other ≡ v
 other_is Other h = refl
@@ -89,7 +96,7 @@ letter_from_cluster bs h e =
 
 -- ---- items
 
-and_then_some : (o : Option Display) → and_then o (λ d. Some d) ≡ o
+and_then_some : (o : Option Display) → then_put o (λ d. Some d) ≡ o
 and_then_some None = refl
 and_then_some (Some d) = refl
 
@@ -103,8 +110,9 @@ module _ (mode : GraphemeClusterMode) (columns : ℕ) (some : 1 ≤ columns) whe
   width_if bytes other true e =
       let w = width_of mode bytes in
       let both = and_parts (is_cluster bytes) (is_width columns w) e in
-      let one = and_parts (list_all is_text bytes && not (list_any is_control (chars bytes))) (length (graphemes true bytes) == 1) both.0 in
-      let text = and_parts (list_all is_text bytes) (not (list_any is_control (chars bytes))) one.0 in
+      let plain = list_all is_text bytes && not (list_any is_control (chars bytes)) in
+      let one = and_parts (is_utf8 bytes && plain) (length (graphemes true bytes) == 1) both.0 in
+      let text = and_parts (list_all is_text bytes) (not (list_any is_control (chars bytes))) (and_parts (is_utf8 bytes) plain one.0).1 in
       let fits = and_parts (nat_lt 0 w) (nat_le w columns) both.1 in
       let mixed : list_all is_printable bytes ≡ false = false_from_ne_true (list_all is_printable bytes) (λ h. false≢true (sym other ∙ letter_from_cluster bytes h one.1)) in
       record {
@@ -166,7 +174,7 @@ after_inside columns wide [] at h low = low
 after_inside columns wide (item ∷ items) at h low = after_inside columns wide items (after_one columns item at) h.1 (one_inside columns wide item at h.0 low)
 
 -- every value can be drawn whose end and cursor stand in rows that a move can name
-pub drawable : (mode : GraphemeClusterMode) (columns : ℕ) → 1 ≤ columns → (v : Shown) → (finish_of columns (cluster_width mode columns) v).row < 2 ^ 64 → (cursor_of columns (cluster_width mode columns) v).row < 2 ^ 64
+pub drawable : (mode : GraphemeClusterMode) (columns : ℕ) → 1 ≤ columns → (v : Frame) → (finish_of columns (cluster_width mode columns) v).row < 2 ^ 64 → (cursor_of columns (cluster_width mode columns) v).row < 2 ^ 64
     → Drawable columns (cluster_width mode columns) v
 drawable mode columns some v finish cursor =
     let wide = cluster_width mode columns in

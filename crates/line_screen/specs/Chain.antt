@@ -7,12 +7,12 @@ use Rattle.line_screen.specs.Calls.{Call}
 use Rattle.line_screen.specs.Calls.Call.{Draw, Move, Write, Beep, ClearScreen, ClearRows, ClearToEol}
 use Rattle.line_screen.specs.Display.{Display, Placed, is_printable, read, start}
 use Rattle.line_screen.specs.Drawing.{row_break}
-use Rattle.line_screen.specs.Showing.{Shown, nothing, Stands, cells_of, finish_of, cursor_of, down, down_placed, above, from_top}
+use Rattle.line_screen.specs.Showing.{Frame, nothing, Stands, cells_of, finish_of, cursor_of, down, down_placed, above, from_top}
 use Rattle.std.specs.Prelude.{map}
 
 -- what is shown, the row of its first cell, and the cursor's place, counted from that row
 pub record View : Type 0 where
-  pub shown : Shown
+  pub shown : Frame
   pub top : ℕ
   pub place : Position
 
@@ -53,16 +53,22 @@ abbrev pub Replaces : Option ℕ → View → Type 0
 Replaces (Some row) a = row ≡ a.place.row
 Replaces None a = (a.shown ≡ nothing) × (a.place ≡ origin)
 
+-- the same, with the cursor at another place in the line
+abbrev pub at_place : Frame → ℕ → Frame
+at_place v place = record { prompt = v.prompt; line = v.line; place = place; info = v.info }
+
+-- the cursor goes to a cell, and may stand for another place in the line there
 pub record Moves (columns : ℕ) (a : View) (old new : Position) (b : View) : Type 0 where
   pub old_is : old ≡ a.place
   pub inside : Inside columns new
-  pub view : b ≡ record { shown = a.shown; top = a.top; place = new }
+  pub at : ℕ
+  pub view : b ≡ record { shown = at_place a.shown at; top = a.top; place = new }
 
 -- printable ASCII and newlines
 abbrev pub is_simple : ℕ → Bool
 is_simple c = (c == 0x0A) || is_printable c
 
-abbrev pub typed : Shown → ℕ → Shown
+abbrev pub typed : Frame → ℕ → Frame
 typed v c = record { prompt = v.prompt; line = v.line ++ c ∷ []; place = v.place + 1; info = [] }
 
 -- a printable character of ASCII at the end of a simple line, not into the last column, with nothing behind the line
@@ -83,12 +89,12 @@ pub record EndsLine (columns : ℕ) (wide : List ℕ → Option ℕ) (a : View) 
   pub place_is : a.place ≡ finish_of columns wide a.shown
   pub view : b ≡ empty_at (a.top + (finish_of columns wide a.shown).row + 1)
 
-abbrev pub cut_line : Shown → List ℕ → Shown
+abbrev pub cut_line : Frame → List ℕ → Frame
 cut_line v line = record { prompt = v.prompt; line = line; place = length line; info = [] }
 
 -- printable ASCII at the end of a simple line, no more of it than the columns of the line's end, with nothing behind the
 -- line: the cursor was moved to where it begins
-pub record Kills (columns : ℕ) (wide : List ℕ → Option ℕ) (a b : View) : Type 0 where
+pub record ErasesKilled (columns : ℕ) (wide : List ℕ → Option ℕ) (a b : View) : Type 0 where
   pub line : List ℕ
   pub killed : List ℕ
   pub whole : a.shown.line ≡ line ++ killed
@@ -106,4 +112,4 @@ Leads columns wide a (Write text) b = Types columns wide a text b ⊎ EndsLine c
 Leads columns wide a Beep b = b ≡ a
 Leads columns wide a ClearScreen b = b ≡ empty_at 0
 Leads columns wide a (ClearRows row) b = (row ≡ a.place.row) × (b ≡ empty_at a.top)
-Leads columns wide a ClearToEol b = Kills columns wide a b
+Leads columns wide a ClearToEol b = ErasesKilled columns wide a b

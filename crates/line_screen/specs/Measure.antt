@@ -2,6 +2,7 @@
 use Rattle.std.specs.Prelude.{ℕ, ◌==◌, nat_lt, nat_le, min, Bool, true, not, ◌&&◌, List, length, chars, Option, Some, None, if◌then◌else◌}
 use Rattle.std.specs.List.{list_all, list_any}
 use Rattle.std.specs.Char.{is_control}
+use Rattle.std.specs.Str.{is_utf8}
 use Rattle.unicode_segmentation.specs.Grapheme.{graphemes}
 use Rattle.line_buffer.specs.declared.layout.GraphemeClusterMode.{GraphemeClusterMode}
 use Rattle.line_buffer.specs.declared.layout.Position.{Position}
@@ -9,10 +10,10 @@ use Rattle.line_buffer.specs.Width.{width_of}
 use Rattle.line_screen.specs.Display.{is_text}
 use Rattle.line_screen.specs.Drawing.{text_items, after, next_row}
 
--- taken alone it is one cluster, without control characters
+-- taken alone it is one cluster of a text, without control characters; bytes that are no UTF-8 are none
 abbrev pub is_cluster : List ℕ → Bool
 is_cluster bytes =
-    (list_all is_text bytes && not (list_any is_control (chars bytes))) && (length (graphemes true bytes) == 1)
+    (is_utf8 bytes && (list_all is_text bytes && not (list_any is_control (chars bytes)))) && (length (graphemes true bytes) == 1)
 
 abbrev pub is_width : ℕ → ℕ → Bool
 is_width columns width = nat_lt 0 width && nat_le width columns

@@ -3,7 +3,7 @@ use Rattle.std.specs.Prelude.{◌≡◌, ℕ, ◌≤◌, true, List, [], ◌∷�
 use Rattle.std.specs.List.{list_all, FoldsTo}
 use Rattle.line_buffer.specs.declared.layout.Position.{Position}
 use Rattle.line_buffer.specs.Short.{behind_typed, before_killed}
-use Rattle.line_screen.specs.Calls.{Screen, Call}
+use Rattle.line_screen.specs.Calls.{Screen}
 use Rattle.line_screen.specs.Calls.Call.{Move, Write, ClearToEol}
 use Rattle.line_screen.specs.Chain.{View, Inside, Leads, is_simple, typed, cut_line}
 use Rattle.line_screen.specs.Laws.{widths}
