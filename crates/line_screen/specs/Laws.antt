@@ -21,8 +21,10 @@ FullDrawingShows =
     (s : Screen) → 2 ≤ s.columns → s.columns ≤ 1000
     → (bytes : List ℕ) (d : Display) → Stands s.columns (read s.columns (widths s) start bytes) d
     → (top old : ℕ) → d.cursor.row ≡ top + old → d.cursor.col < s.columns → old < 2 ^ 64
-    → (v : Frame) → (finish_of s.columns (widths s) v).row < 2 ^ 64 → (cursor_of s.columns (widths s) v).row < 2 ^ 64
-    → let new = full_drawing s.columns (widths s) old v.prompt v.line v.info (finish_of s.columns (widths s) v) (cursor_of s.columns (widths s) v) in
+    → (v : Frame) → (finish_of s.columns (widths s) v).row < 2 ^ 64
+    → (cursor_of s.columns (widths s) v).row < 2 ^ 64
+    → let new = full_drawing s.columns (widths s) old v.prompt v.line v.info
+    (finish_of s.columns (widths s) v) (cursor_of s.columns (widths s) v) in
     (e : Display)
     × Stands s.columns (read s.columns (widths s) start (bytes ++ new)) e
     × Shows s.columns (widths s) v top e
@@ -30,15 +32,18 @@ FullDrawingShows =
 
 -- before the first call nothing is shown
 abbrev pub StartIsEmpty : Type 0
-StartIsEmpty = (s : Screen) → 2 ≤ s.columns → s.columns ≤ 1000 → Good s.columns (widths s) [] [] (empty_at 0)
+StartIsEmpty = (s : Screen) → 2 ≤ s.columns → s.columns ≤ 1000
+    → Good s.columns (widths s) [] [] (empty_at 0)
 
--- a call leads from what is shown before it to what is shown behind it; what stands in the rows above stays, unless the
--- screen is cleared
+-- a call leads from what is shown before it to what is shown behind it; what stands in the rows
+-- above stays, unless the screen is cleared
 abbrev pub CallsLead : Type 0
 CallsLead =
-    (s : Screen) → 2 ≤ s.columns → s.columns ≤ 1000 → (bytes : List ℕ) (over : List Placed) (a b : View) (call : Call)
+    (s : Screen) → 2 ≤ s.columns → s.columns ≤ 1000
+    → (bytes : List ℕ) (over : List Placed) (a b : View) (call : Call)
     → Good s.columns (widths s) bytes over a → Leads s.columns (widths s) a call b
-    → (next : List Placed) × Good s.columns (widths s) (bytes ++ bytes_of s call) next b × (call ≢ ClearScreen → filter (above a.top) next ≡ over)
+    → (next : List Placed) × Good s.columns (widths s) (bytes ++ bytes_of s call) next b
+    × (call ≢ ClearScreen → filter (above a.top) next ≡ over)
 
 -- none of these calls clears the screen
 abbrev pub NeverClears : List Call → Type 0
@@ -48,7 +53,8 @@ NeverClears (call ∷ calls) = (call ≢ ClearScreen) × NeverClears calls
 -- and so do calls one after the other; until the screen is cleared the rows above stay
 abbrev pub ChainsLead : Type 0
 ChainsLead =
-    (s : Screen) → 2 ≤ s.columns → s.columns ≤ 1000 → (calls : List Call) (bytes : List ℕ) (over : List Placed) (a b : View)
+    (s : Screen) → 2 ≤ s.columns → s.columns ≤ 1000
+    → (calls : List Call) (bytes : List ℕ) (over : List Placed) (a b : View)
     → Good s.columns (widths s) bytes over a → FoldsTo (Leads s.columns (widths s)) a calls b
     → (next : List Placed) × Good s.columns (widths s) (bytes ++ flat_map (bytes_of s) calls) next b
     × (NeverClears calls → filter (above a.top) next ≡ over)
@@ -56,43 +62,56 @@ ChainsLead =
 -- no cell tells the place in the line, which may become another one without any call
 abbrev pub PlaceIsFree : Type 0
 PlaceIsFree =
-    (s : Screen) (bytes : List ℕ) (over : List Placed) (a : View) (place : ℕ) → Good s.columns (widths s) bytes over a
-    → Good s.columns (widths s) bytes over (record { shown = at_place a.shown place; top = a.top; place = a.place })
+    (s : Screen) (bytes : List ℕ) (over : List Placed) (a : View) (place : ℕ)
+    → Good s.columns (widths s) bytes over a
+    → Good s.columns (widths s) bytes over
+    (record { shown = at_place a.shown place; top = a.top; place = a.place })
 
--- CR LF has a meaning wherever the cursor stands: it goes to the first cell of the next row, and every cell stays
+-- CR LF has a meaning wherever the cursor stands: it goes to the first cell of the next row, and
+-- every cell stays
 abbrev pub LineEndsAnywhere : Type 0
 LineEndsAnywhere =
-    (s : Screen) → 1 ≤ s.columns → (bytes : List ℕ) (over : List Placed) (a : View) → Good s.columns (widths s) bytes over a
+    (s : Screen) → 1 ≤ s.columns → (bytes : List ℕ) (over : List Placed) (a : View)
+    → Good s.columns (widths s) bytes over a
     → (d : Display) × (meaning s.columns (widths s) bytes ≡ Some d)
     × (meaning s.columns (widths s) (bytes ++ row_break) ≡ Some (at_cursor (next_row d.cursor) d))
 
--- at the drawing's end it leads to the next line's top, above which all stands that stood, the line's own cells among it
+-- at the drawing's end it leads to the next line's top, above which all stands that stood, the
+-- line's own cells among it
 abbrev pub EndedLineStays : Type 0
 EndedLineStays =
-    (s : Screen) → 2 ≤ s.columns → s.columns ≤ 1000 → (bytes : List ℕ) (over : List Placed) (a b : View) (text : List ℕ)
+    (s : Screen) → 2 ≤ s.columns → s.columns ≤ 1000
+    → (bytes : List ℕ) (over : List Placed) (a b : View) (text : List ℕ)
     → Good s.columns (widths s) bytes over a → EndsLine s.columns (widths s) a text b
-    → (d : Display) × (meaning s.columns (widths s) bytes ≡ Some d) × Good s.columns (widths s) (bytes ++ text) d.placed b
+    → (d : Display) × (meaning s.columns (widths s) bytes ≡ Some d)
+    × Good s.columns (widths s) (bytes ++ text) d.placed b
 
--- the drawing's cursor and its end are measured on: the prompt from the first cell, the line from where the prompt ends, what
--- stands after the line from where the line ends
+-- the drawing's cursor and its end are measured on: the prompt from the first cell, the line from
+-- where the prompt ends, what stands after the line from where the line ends
 abbrev pub MeasuresGoOn : Type 0
 MeasuresGoOn =
     (s : Screen) → 1 ≤ s.columns → (v : Frame) → let measured = measure_of s.mode s.columns in
-    ((cursor_of s.columns (widths s) v).row ≤ 65535 → measured (take v.place v.line) (measured v.prompt origin) ≡ cursor_of s.columns (widths s) v)
-    × ((finish_of s.columns (widths s) v).row ≤ 65535 → measured v.info (measured v.line (measured v.prompt origin)) ≡ finish_of s.columns (widths s) v)
+    let cursor = cursor_of s.columns (widths s) v in
+    let finish = finish_of s.columns (widths s) v in
+    (cursor.row ≤ 65535 → measured (take v.place v.line) (measured v.prompt origin) ≡ cursor)
+    × (finish.row ≤ 65535 → measured v.info (measured v.line (measured v.prompt origin)) ≡ finish)
 
--- the bytes so far have a meaning, with what stands above, and where the cursor is at its place in the line they show the
--- value
+-- the bytes so far have a meaning, with what stands above, and where the cursor is at its place in
+-- the line they show the value
 abbrev pub ShownIsMeant : Type 0
 ShownIsMeant =
-    (s : Screen) (bytes : List ℕ) (over : List Placed) (a : View) → Good s.columns (widths s) bytes over a
+    (s : Screen) (bytes : List ℕ) (over : List Placed) (a : View)
+    → Good s.columns (widths s) bytes over a
     → (d : Display) × (meaning s.columns (widths s) bytes ≡ Some d)
-    × (filter (from_top a.top) d.placed ≡ map (down_placed a.top) (cells_of s.columns (widths s) a.shown))
+    × (filter (from_top a.top) d.placed
+    ≡ map (down_placed a.top) (cells_of s.columns (widths s) a.shown))
     × (filter (above a.top) d.placed ≡ over)
-    × (a.place ≡ cursor_of s.columns (widths s) a.shown → Shows s.columns (widths s) a.shown a.top d)
+    × (a.place ≡ cursor_of s.columns (widths s) a.shown
+    → Shows s.columns (widths s) a.shown a.top d)
 
 -- what is shown stands in its cells, from the row `top` on, and every other cell there is blank
 abbrev pub CellsAreShown : Type 0
 CellsAreShown =
     (s : Screen) (v : Frame) (top : ℕ) (d : Display) → Shows s.columns (widths s) v top d
-    → (row col : ℕ) → cell_at d.placed (top + row) col ≡ cell_at (cells_of s.columns (widths s) v) row col
+    → (row col : ℕ) → cell_at d.placed (top + row) col
+    ≡ cell_at (cells_of s.columns (widths s) v) row col

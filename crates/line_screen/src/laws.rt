@@ -6,8 +6,8 @@ ghost use Rattle.line_screen.specs.Short.{TypingLeads, KillingLeads};
 ghost use Rattle.line_screen.specs.Laws.{FullDrawingShows, StartIsEmpty, CallsLead, ChainsLead, PlaceIsFree, LineEndsAnywhere, EndedLineStays, MeasuresGoOn, ShownIsMeant, CellsAreShown};
 ghost use Rattle.line_screen.specs.Pasting.{PastedTextIsBeforeItsMark, PastedTextIsCutOff};
 
-/// A full drawing shows the value that it was given, whatever stood from its top on, and keeps the rows
-/// above.
+/// A full drawing shows the value that it was given, whatever stood from its top on, and keeps the
+/// rows above.
 pub fn full_drawing()
     ensures { FullDrawingShows }
 {}
@@ -17,8 +17,9 @@ pub fn start()
     ensures { StartIsEmpty }
 {}
 
-/// A drawing, a move, the insertion of one byte, the erasure of a row's end, a beep, a clearing and CR LF
-/// lead, each where it may be asked for, from a display that shows one view to one that shows the next.
+/// A drawing, a move, the insertion of one byte, the erasure of a row's end, a beep, a clearing and
+/// CR LF lead, each where it may be asked for, from a display that shows one view to one that shows
+/// the next.
 pub fn calls()
     ensures { CallsLead }
 {}
@@ -28,35 +29,38 @@ pub fn short_insertions()
     ensures { TypingLeads }
 {}
 
-/// Where a short kill is offered, a move and the erasure of the row's end lead to the line without its
-/// end.
+/// Where a short kill is offered, a move and the erasure of the row's end lead to the line without
+/// its end.
 pub fn short_kills()
     ensures { KillingLeads }
 {}
 
-/// Calls one after the other lead from what is shown before them to what is shown after them. What stands in the rows
-/// above stays until the screen is cleared.
+/// Calls one after the other lead from what is shown before them to what is shown after them. What
+/// stands in the rows above stays until the screen is cleared.
 pub fn chains()
     ensures { ChainsLead }
 {}
 
-/// The place in the line that the cursor stands for may become another one without any call: no cell tells it.
+/// The place in the line that the cursor stands for may become another one without any call: no
+/// cell tells it.
 pub fn places()
     ensures { PlaceIsFree }
 {}
 
-/// CR LF has a meaning wherever the cursor stands, also inside a line and before a hint: every cell stays.
+/// CR LF has a meaning wherever the cursor stands, also inside a line and before a hint: every cell
+/// stays.
 pub fn line_ends()
     ensures { LineEndsAnywhere }
 {}
 
-/// CR LF at the drawing's end leads to the next line's top, and the accepted line's cells stay above it.
+/// CR LF at the drawing's end leads to the next line's top, and the accepted line's cells stay above
+/// it.
 pub fn ended_lines()
     ensures { EndedLineStays }
 {}
 
-/// A drawing's cursor and its end are the measures of prompt, line and what stands after it, measured on one after the
-/// other.
+/// A drawing's cursor and its end are the measures of prompt, line and what stands after it, measured
+/// on one after the other.
 pub fn measures()
     ensures { MeasuresGoOn }
 {}
@@ -76,13 +80,14 @@ pub fn encoded_characters_are_read()
     ensures { EncodedCharsAreRead }
 {}
 
-/// Each character that is read is a scalar value and came from its bytes alone. Where none is read the bytes are at
-/// their end, or cut off inside a character, or one of them fits no character.
+/// Each character that is read is a scalar value and came from its bytes alone. Where none is read
+/// the bytes are at their end, or cut off inside a character, or one of them fits no character.
 pub fn characters_are_encoded()
     ensures { CharsAreEncoded }
 {}
 
-/// Bytes that are whole keys and pasted texts read as these whatever follows them, unless the last one is ESC.
+/// Bytes that are whole keys and pasted texts read as these whatever follows them, unless the last
+/// one is ESC.
 #[tactic(auto, using(crate::proofs::FollowingLemmas::whole_keys_stay))]
 pub fn whole_keys_stay()
     ensures { WholeKeysStay }
