@@ -19,7 +19,7 @@ few = record { max_len = 100; ignore_space = false; ignore_dups = true }
 abbrev no_spaces : Settings
 no_spaces = record { max_len = 100; ignore_space = true; ignore_dups = true }
 
--- `#V2`, `a\nb`, `c\\d`, `e\x`, a newline behind each
+-- `#V2`, `a\nb`, `c\\d`, `e\x`, a newline after each
 abbrev escaped_rows : List ℕ
 escaped_rows = header ++ 10 ∷ 97 ∷ 92 ∷ 110 ∷ 98 ∷ 10 ∷ 99 ∷ 92 ∷ 92 ∷ 100 ∷ 10 ∷ 101 ∷ 92 ∷ 120 ∷ 10 ∷ []
 
@@ -71,7 +71,7 @@ bad_row_leaves : load_leaves End bad_rows (nothing_filed few) ≡ record { kept 
 unfolding is_utf8 chars encode
 bad_row_leaves = refl
 
--- the same rows from a source that fails behind them: the bad row is met first
+-- the same rows from a source that fails after them: the bad row is met first
 bad_row_before_a_failure : load_answer Failed bad_rows (nothing_filed few) ≡ Err HistoryText
 unfolding is_utf8 chars encode
 bad_row_before_a_failure = refl
@@ -90,7 +90,7 @@ nothing_new_nothing_saved = refl
 new_row_appended : text_to_append (filed_with_all (record { kept = record { entries = read_entries; settings = few }; unsaved = 0 }) (codes "z" ∷ [])) ≡ 122 ∷ 10 ∷ []
 new_row_appended = refl
 
--- behind a first save: appended to, loaded, and appended to again
+-- after a first save: appended to, loaded, and appended to again
 text_of_a_course : (after_steps few (Adds (codes "b") ∷ Appends ∷ Loads ∷ Adds (codes "c") ∷ Appends ∷ []) (just_saved few (codes "a" ∷ []))).text ≡ header ++ 10 ∷ 97 ∷ 10 ∷ 98 ∷ 10 ∷ 99 ∷ 10 ∷ []
 unfolding is_utf8 chars encode
 text_of_a_course = refl

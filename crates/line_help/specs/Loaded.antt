@@ -13,7 +13,8 @@ ends_in_return (b ∷ (c ∷ bs)) = ends_in_return (c ∷ bs)
 -- each entry is UTF-8, as a text is, and none ends in a carriage return
 abbrev pub CanComeBack : List (List ℕ) → Type 0
 CanComeBack [] = Unit {0}
-CanComeBack (entry ∷ entries) = (is_utf8 entry ≡ true) × (ends_in_return entry ≡ false) × CanComeBack entries
+CanComeBack (entry ∷ entries) =
+    (is_utf8 entry ≡ true) × (ends_in_return entry ≡ false) × CanComeBack entries
 
 -- a new history, after a text was loaded into it
 abbrev pub loaded : Settings → List ℕ → Filed

@@ -6,8 +6,8 @@ use Rattle.std.proofs.lemmas.Bool.{lt-ltb}
 use Rattle.std.proofs.lemmas.Bool.Decides.{nat_tests}
 use Rattle.line_buffer.specs.declared.layout.Position.{Position}
 use Rattle.line_buffer.specs.Cells.{origin}
-use Rattle.line_screen.specs.Calls.{Screen, Call, bytes_of}
-use Rattle.line_screen.specs.Calls.Call.{Draw, Move, Write, Beep, ClearScreen, ClearRows, ClearToEol}
+use Rattle.line_screen.specs.Calls.{Screen, ScreenCall, bytes_of}
+use Rattle.line_screen.specs.Calls.ScreenCall.{Draw, Move, Write, Beep, ClearScreen, ClearRows, ClearToEol}
 use Rattle.line_screen.specs.Cells.{Cell, cell_at}
 use Rattle.line_screen.specs.Cells.Cell.{Head, Tail}
 use Rattle.line_screen.specs.Chain.{View, Good, Leads, empty_at}
@@ -15,7 +15,7 @@ use Rattle.line_screen.specs.Display.{Display, Placed, blank, read, start, settl
 use Rattle.line_screen.specs.Drawing.{full_drawing, text_items, after, next_row, row_break}
 use Rattle.line_screen.specs.Laws.{widths, FullDrawingShows, StartIsEmpty, CallsLead, ChainsLead, PlaceIsFree, LineEndsAnywhere, EndedLineStays, MeasuresGoOn, ShownIsMeant, CellsAreShown}
 use Rattle.line_screen.specs.Measure.{saturated, measure_of}
-use Rattle.line_screen.specs.Showing.{Frame, Stands, cells_of, finish_of, cursor_of, down_placed, above, from_top}
+use Rattle.line_screen.specs.Showing.{Picture, Stands, cells_of, finish_of, cursor_of, down_placed, above, from_top}
 use Rattle.line_screen.proofs.ListLemmas.{filter_all, all_by_parts}
 use Rattle.line_screen.proofs.Saturating.{after_saturated, saturated_small}
 use Rattle.line_screen.proofs.Shift.{after-append}
@@ -46,7 +46,7 @@ calls_lead s low high bytes over a b call g h =
     (led.next, led.good, led.stays)
 
 -- a line's top is never above the one before, but where the screen is cleared
-top_grows : (s : Screen) (a b : View) (call : Call) → Leads s.columns (widths s) a call b → call ≢ ClearScreen → a.top ≤ b.top
+top_grows : (s : Screen) (a b : View) (call : ScreenCall) → Leads s.columns (widths s) a call b → call ≢ ClearScreen → a.top ≤ b.top
 top_grows s a b (Draw old prompt line info finish cursor) h none = let same : b.top ≡ a.top = h.1.top_is in omega arith
 top_grows s a b (Move old new) h none = let same : b.top ≡ a.top = ap (λ (w : View). w.top) h.view in omega arith
 top_grows s a b (Write text) (inl h) none = let same : b.top ≡ a.top = ap (λ (w : View). w.top) h.view in omega arith
@@ -122,7 +122,7 @@ module _ (s : Screen) (some : 1 ≤ s.columns) where
       ∙ measured_from text (after s.columns a origin) (inside_after prompt origin some)
       ∙ ap saturated (sym (after-append s.columns a b origin))
 
-  finish_measured : (v : Frame) → (finish_of s.columns (widths s) v).row ≤ 65535
+  finish_measured : (v : Picture) → (finish_of s.columns (widths s) v).row ≤ 65535
       → measure_of s.mode s.columns v.info (measure_of s.mode s.columns v.line (measure_of s.mode s.columns v.prompt origin)) ≡ finish_of s.columns (widths s) v
   finish_measured v few =
       let columns = s.columns in

@@ -11,15 +11,15 @@ use Rattle.line_buffer.specs.declared.layout.GraphemeClusterMode.{GraphemeCluste
 use Rattle.line_buffer.specs.declared.layout.Position.{Position}
 use Rattle.line_config.specs.declared.settings.BellStyle.{BellStyle}
 use Rattle.line_config.specs.declared.settings.BellStyle.TheVariants as Bells
-use Rattle.line_screen.specs.Calls.{Screen, Call, bytes_of, bell_bytes, drawing_bytes}
-use Rattle.line_screen.specs.Calls.Call.{Draw, Move, Write, Beep, ClearScreen, ClearRows, ClearToEol}
+use Rattle.line_screen.specs.Calls.{Screen, ScreenCall, bytes_of, bell_bytes, drawing_bytes}
+use Rattle.line_screen.specs.Calls.ScreenCall.{Draw, Move, Write, Beep, ClearScreen, ClearRows, ClearToEol}
 use Rattle.line_screen.specs.Chain.{View, Good, Inside, empty_at, Replaces, Redraws, is_simple, typed, Types, EndsLine, cut_line, Leads, at_place}
 use Rattle.line_screen.specs.Display.{Placed, Display, read, start, put_down, is_printable, right, ends_before, starts_before, is_cut, stays_in_row, at_cursor, erased_below, erased_right}
 use Rattle.line_screen.specs.Display.DisplayReading.{Text, Lost}
 use Rattle.line_screen.specs.Drawing.{text_items, next_row, leave, after, placed_at, lay, row_break, erase_to_end, erase_to_row_end, go_home, cleared, move_bytes, drawing, full_drawing}
-use Rattle.line_screen.specs.Drawing.Item.{Letter}
+use Rattle.line_screen.specs.Drawing.DrawnItem.{Letter}
 use Rattle.line_screen.specs.Measure.{cluster_width}
-use Rattle.line_screen.specs.Showing.{Stands, Frame, nothing, shown_items, cells_of, finish_of, cursor_of, down, down_placed, above, from_top}
+use Rattle.line_screen.specs.Showing.{Stands, Picture, nothing, shown_items, cells_of, finish_of, cursor_of, down, down_placed, above, from_top}
 use Rattle.line_screen.proofs.Standing.{stands_text, read-append, step_control, step_letter, read_break}
 use Rattle.line_screen.proofs.Draws.{list_all_since, Clear, Ready, put_clear}
 use Rattle.line_screen.proofs.ListLemmas.{filter_all, filter_none, list_all_filter, list_all_true, all_by_parts, filter_comm}
@@ -77,7 +77,7 @@ low_top top row = grind (arith, nat_tests)
 module _ (mode : GraphemeClusterMode) (columns : ℕ) (some : 1 ≤ columns) (few : columns < 2 ^ 64) where
   -- ---- drawings
 
-  redraw_good : (bytes : List ℕ) (over : List Placed) (a : View) (old : ℕ) (v : Frame) → Good columns (cluster_width mode columns) bytes over a → old ≡ a.place.row
+  redraw_good : (bytes : List ℕ) (over : List Placed) (a : View) (old : ℕ) (v : Picture) → Good columns (cluster_width mode columns) bytes over a → old ≡ a.place.row
       → (finish_of columns (cluster_width mode columns) v).row < 2 ^ 64 → (cursor_of columns (cluster_width mode columns) v).row < 2 ^ 64
       → Good columns (cluster_width mode columns) (bytes ++ full_drawing columns (cluster_width mode columns) old v.prompt v.line v.info (finish_of columns (cluster_width mode columns) v) (cursor_of columns (cluster_width mode columns) v)) over
       (record { shown = v; top = a.top; place = cursor_of columns (cluster_width mode columns) v })
@@ -100,7 +100,7 @@ module _ (mode : GraphemeClusterMode) (columns : ℕ) (some : 1 ≤ columns) (fe
         over_is = redrawn_keeps columns wide v a.top g.display ∙ g.over_is;
       }
 
-  first_good : (bytes : List ℕ) (over : List Placed) (a : View) (v : Frame) → Good columns (cluster_width mode columns) bytes over a → a.shown ≡ nothing → a.place ≡ origin
+  first_good : (bytes : List ℕ) (over : List Placed) (a : View) (v : Picture) → Good columns (cluster_width mode columns) bytes over a → a.shown ≡ nothing → a.place ≡ origin
       → (finish_of columns (cluster_width mode columns) v).row < 2 ^ 64 → (cursor_of columns (cluster_width mode columns) v).row < 2 ^ 64
       → Good columns (cluster_width mode columns) (bytes ++ drawing columns (cluster_width mode columns) v.prompt v.line v.info (finish_of columns (cluster_width mode columns) v) (cursor_of columns (cluster_width mode columns) v)) over
       (record { shown = v; top = a.top; place = cursor_of columns (cluster_width mode columns) v })
@@ -197,7 +197,7 @@ module _ (mode : GraphemeClusterMode) (columns : ℕ) (some : 1 ≤ columns) (fe
       ∙ ap (λ b. if b then Text last [] else Lost) (list_all_true (λ p. not (is_cut origin p)) first_not_cut g.display.placed) in
       empty_good (bytes ++ (go_home ++ erase_to_end)) [] 0 last (subst (λ x. Stands columns x last) (sym is_read) (stands_text columns last)) (ap (filter (from_top 0)) none) refl (ap (filter (above 0)) none)
 
-  -- nothing stands behind the cursor where it is at the drawing's end
+  -- nothing stands after the cursor where it is at the drawing's end
   clear_at_end : (bytes : List ℕ) (over : List Placed) (a : View) (g : Good columns (cluster_width mode columns) bytes over a) → a.place ≡ finish_of columns (cluster_width mode columns) a.shown → list_all (ends_before g.display.cursor) g.display.placed ≡ true
   clear_at_end bytes over a g e =
       let wide = cluster_width mode columns in
@@ -228,15 +228,15 @@ module _ (mode : GraphemeClusterMode) (columns : ℕ) (some : 1 ≤ columns) (fe
 
   -- ---- the two short ways
 
-  -- nothing behind the line: the items of prompt and line
-  pub line_items : (v : Frame) → v.info ≡ [] → shown_items (cluster_width mode columns) v ≡ text_items (cluster_width mode columns) v.prompt ++ text_items (cluster_width mode columns) v.line
+  -- nothing after the line: the items of prompt and line
+  pub line_items : (v : Picture) → v.info ≡ [] → shown_items (cluster_width mode columns) v ≡ text_items (cluster_width mode columns) v.prompt ++ text_items (cluster_width mode columns) v.line
   line_items v none =
       let wide = cluster_width mode columns in
       ap (λ info. text_items wide v.prompt ++ (text_items wide v.line ++ text_items wide info)) none
       ∙ ap (λ is. text_items wide v.prompt ++ is) (append-nil (text_items wide v.line))
 
-  -- the cursor behind the line
-  pub line_cursor : (v : Frame) → v.place ≡ length v.line → cursor_of columns (cluster_width mode columns) v ≡ after columns (text_items (cluster_width mode columns) v.prompt ++ text_items (cluster_width mode columns) v.line) origin
+  -- the cursor after the line
+  pub line_cursor : (v : Picture) → v.place ≡ length v.line → cursor_of columns (cluster_width mode columns) v ≡ after columns (text_items (cluster_width mode columns) v.prompt ++ text_items (cluster_width mode columns) v.line) origin
   line_cursor v e =
       let wide = cluster_width mode columns in
       let whole : take v.place v.line ≡ v.line = take_all v.place v.line (omega arith) in
@@ -309,7 +309,7 @@ module _ (mode : GraphemeClusterMode) (columns : ℕ) (some : 1 ≤ columns) (fe
       let there = after columns base origin in
       let here : a.place ≡ there = place_is ∙ line_cursor (cut_line v line) refl in
       let cursor_is : d.cursor ≡ down top there = g.cursor ∙ ap (down top) here in
-      -- what stood: the base, and the letters behind it
+      -- what stood: the base, and the letters after it
       let old_items : shown_items wide v ≡ base ++ map Letter killed =
       line_items v none ∙ ap (λ text. text_items wide v.prompt ++ text_items wide text) whole
       ∙ ap (λ is. text_items wide v.prompt ++ is) (items_letters wide line killed simple letters)
@@ -391,7 +391,7 @@ module _ (mode : GraphemeClusterMode) (columns : ℕ) (some : 1 ≤ columns) (fe
       either (Some row) h low high = redraw_good bytes over a row b.shown g h low high
 
 -- what stands above stays, but where the screen is cleared
-pub record Led (s : Screen) (bytes : List ℕ) (over : List Placed) (a : View) (call : Call) (b : View) : Type 0 where
+pub record Led (s : Screen) (bytes : List ℕ) (over : List Placed) (a : View) (call : ScreenCall) (b : View) : Type 0 where
   pub next : List Placed
   pub good : Good s.columns (cluster_width s.mode s.columns) (bytes ++ bytes_of s call) next b
   pub stays : call ≢ ClearScreen → filter (above a.top) next ≡ over
@@ -404,7 +404,7 @@ retold columns wide bytes over a at g = record { display = g.display; stands = g
 pub over_again : (columns : ℕ) (wide : List ℕ → Option ℕ) (bytes : List ℕ) (over : List Placed) (a : View) → Good columns wide bytes over a → filter (above a.top) over ≡ over
 over_again columns wide bytes over a g = ap (filter (above a.top)) (sym g.over_is) ∙ above_twice a.top a.top (omega arith) g.display.placed ∙ g.over_is
 
-same_over : (s : Screen) (bytes : List ℕ) (over : List Placed) (a : View) (call : Call) (b : View) → Good s.columns (cluster_width s.mode s.columns) bytes over a → Good s.columns (cluster_width s.mode s.columns) (bytes ++ bytes_of s call) over b → Led s bytes over a call b
+same_over : (s : Screen) (bytes : List ℕ) (over : List Placed) (a : View) (call : ScreenCall) (b : View) → Good s.columns (cluster_width s.mode s.columns) bytes over a → Good s.columns (cluster_width s.mode s.columns) (bytes ++ bytes_of s call) over b → Led s bytes over a call b
 same_over s bytes over a call b g h = record { next = over; good = h; stays = λ _. over_again s.columns (cluster_width s.mode s.columns) bytes over a g }
 
 write_led : (s : Screen) → 1 ≤ s.columns → s.columns < 2 ^ 64 → (bytes : List ℕ) (over : List Placed) (a b : View) (text : List ℕ) → Good s.columns (cluster_width s.mode s.columns) bytes over a
@@ -422,7 +422,7 @@ write_led s some few bytes over a b text g (inr t) =
       stays = λ _. done.2;
     }
 
-pub leads : (s : Screen) → 1 ≤ s.columns → s.columns < 2 ^ 64 → (bytes : List ℕ) (over : List Placed) (a b : View) (call : Call) → Good s.columns (cluster_width s.mode s.columns) bytes over a
+pub leads : (s : Screen) → 1 ≤ s.columns → s.columns < 2 ^ 64 → (bytes : List ℕ) (over : List Placed) (a b : View) (call : ScreenCall) → Good s.columns (cluster_width s.mode s.columns) bytes over a
     → Leads s.columns (cluster_width s.mode s.columns) a call b → Led s bytes over a call b
 leads s some few bytes over a b (Draw old prompt line info finish cursor) g h =
     same_over s bytes over a (Draw old prompt line info finish cursor) b g (draw_good s.mode s.columns some few bytes over a b old prompt line info finish cursor g h.0 h.1)

@@ -7,7 +7,7 @@ use Rattle.line_buffer.specs.declared.layout.Position.{Position}
 use Rattle.line_screen.specs.Chain.{View, typed, cut_line}
 use Rattle.line_screen.specs.Display.{is_printable, right}
 use Rattle.line_screen.specs.Drawing.{text_items, after}
-use Rattle.line_screen.specs.Drawing.Item.{Letter}
+use Rattle.line_screen.specs.Drawing.DrawnItem.{Letter}
 use Rattle.line_screen.specs.Laws.{widths}
 use Rattle.line_screen.specs.Short.{TypingLeads, KillingLeads}
 use Rattle.line_screen.specs.Showing.{shown_items, finish_of, cursor_of}

@@ -4,9 +4,9 @@ use Rattle.std.specs.List.{list_all}
 use Rattle.std.proofs.lemmas.Bool.{and_parts, and_from}
 use Rattle.std.proofs.lemmas.Bool.Decides.{nat_tests}
 use Rattle.std.proofs.lemmas.List.Folds.{list_all-append}
-use Rattle.line_screen.specs.Display.{Display, DisplayReading, put, then_put, put_letters, put_run, is_printable, is_text, after_control, step, on_run, read, settled, at_cursor}
+use Rattle.line_screen.specs.Display.{Display, DisplayReading, put_text, then_put, put_letters, put_run, is_printable, is_text, after_control, step, on_run, read, settled, at_cursor}
 use Rattle.line_screen.specs.Display.DisplayReading.{Text, Lost}
-use Rattle.line_screen.specs.Drawing.{next_row, plain, row_break}
+use Rattle.line_screen.specs.Drawing.{next_row, no_style, row_break}
 use Rattle.line_screen.specs.Showing.{Stands}
 
 pub printable_text : (c : ℕ) → is_printable c ≡ true → is_text c ≡ true
@@ -15,7 +15,7 @@ printable_text c h = grind (arith, nat_tests)
 pub put_letters-append : (columns : ℕ) (xs ys : List ℕ) (d : Display) → put_letters columns (xs ++ ys) d ≡ then_put (put_letters columns xs d) (put_letters columns ys)
 put_letters-append columns [] ys d = refl
 put_letters-append columns (x ∷ xs) ys d =
-    elim (put columns 1 (x ∷ []) d) as (λ o. then_put o (put_letters columns (xs ++ ys)) ≡ then_put (then_put o (put_letters columns xs)) (put_letters columns ys)) [
+    elim (put_text columns 1 (x ∷ []) d) as (λ o. then_put o (put_letters columns (xs ++ ys)) ≡ then_put (then_put o (put_letters columns xs)) (put_letters columns ys)) [
       | None ↦ refl
       | Some e ↦ put_letters-append columns xs ys e
     ]
@@ -39,7 +39,7 @@ module _ (columns : ℕ) (wide : List ℕ → Option ℕ) where
   pub step_control : (r : DisplayReading) (d : Display) → Stands columns r d → (byte : ℕ) → is_text byte ≡ false → step columns wide r byte ≡ after_control columns d byte
   step_control r d s byte h = rw (s.is, h, s.printable, s.shows) refl
 
-  pub step_letter : (r : DisplayReading) (d e : Display) (c : ℕ) → Stands columns r d → is_printable c ≡ true → put columns 1 (c ∷ []) d ≡ Some e → Stands columns (step columns wide r c) e
+  pub step_letter : (r : DisplayReading) (d e : Display) (c : ℕ) → Stands columns r d → is_printable c ≡ true → put_text columns 1 (c ∷ []) d ≡ Some e → Stands columns (step columns wide r c) e
   step_letter r d e c s h put_is =
       record {
         before = s.before;
@@ -53,7 +53,7 @@ module _ (columns : ℕ) (wide : List ℕ → Option ℕ) where
   stands_settled r d s = rw (s.is, s.printable) s.shows
 
   -- after ESC [ m a new run begins
-  pub read_plain : (r : DisplayReading) (d : Display) → Stands columns r d → (more : List ℕ) → read columns wide r (plain ++ more) ≡ read columns wide (Text d []) more
+  pub read_plain : (r : DisplayReading) (d : Display) → Stands columns r d → (more : List ℕ) → read columns wide r (no_style ++ more) ≡ read columns wide (Text d []) more
   read_plain r d s more = ap (λ x. read columns wide x (0x5B ∷ 0x6D ∷ more)) (step_control r d s 0x1B refl)
 
   pub read_break : (r : DisplayReading) (d : Display) → Stands columns r d → 0 < columns → read columns wide r row_break ≡ Text (at_cursor (next_row d.cursor) d) []

@@ -1,5 +1,6 @@
--- What bytes mean on a display: the part of ECMA-48 that a line editor sends. The display has rows without end, each of
--- so many columns, and `wide` says of a text whether it is one cluster that can stand on it, and on how many columns.
+-- What bytes mean on a display: the part of ECMA-48 that a line editor sends. The display has rows
+-- without end, each of so many columns, and `wide` says of a text whether it is one cluster that
+-- can stand on it, and on how many columns.
 use Rattle.std.specs.Prelude.{ℕ, ◌+◌, ◌-◌, ◌*◌, ◌==◌, nat_lt, nat_le, Bool, true, not, ◌&&◌, ◌||◌, List, [], ◌∷◌, ◌++◌, Option, Some, None, if◌then◌else◌}
 use Rattle.std.specs.List.{list_all, filter}
 use Rattle.line_buffer.specs.Cells.{origin}
@@ -8,14 +9,15 @@ pub use Rattle.line_buffer.specs.Short.{is_printable}
 
 -- ---- cells
 
--- a cluster, the cell where it begins, and the number of its cells; every cell that no cluster stands on is blank
+-- a cluster, the cell where it begins, and the number of its cells; every cell that no cluster
+-- stands on is blank
 pub record Placed : Type 0 where
   pub row : ℕ
   pub col : ℕ
   pub width : ℕ
   pub bytes : List ℕ
 
--- the cursor stands behind the last cell of its row where its column is the number of columns
+-- the cursor stands after the last cell of its row where its column is the number of columns
 pub record Display : Type 0 where
   pub placed : List Placed
   pub cursor : Position
@@ -36,7 +38,8 @@ is_cut at p = starts_before at p && not (ends_before at p)
 
 -- they share a cell
 abbrev pub touches : Position → ℕ → Placed → Bool
-touches at width p = (p.row == at.row) && (nat_lt p.col (at.col + width) && nat_lt at.col (p.col + p.width))
+touches at width p =
+    (p.row == at.row) && (nat_lt p.col (at.col + width) && nat_lt at.col (p.col + p.width))
 
 -- ---- what a piece of text does
 
@@ -46,14 +49,22 @@ right width at = record { col = at.col + width; row = at.row }
 abbrev pub put_down : ℕ → List ℕ → Display → Display
 put_down width bytes d =
     record {
-      placed = d.placed ++ record { row = d.cursor.row; col = d.cursor.col; width = width; bytes = bytes } ∷ [];
+      placed = d.placed ++ record {
+        row = d.cursor.row;
+        col = d.cursor.col;
+        width = width;
+        bytes =
+            bytes;
+      } ∷ [];
       cursor = right width d.cursor;
     }
 
 -- on blank cells of the cursor's row
-abbrev pub put : ℕ → ℕ → List ℕ → Display → Option Display
-put columns width bytes d =
-    if nat_le (d.cursor.col + width) columns && list_all (λ p. not (touches d.cursor width p)) d.placed then Some (put_down width bytes d) else None
+abbrev pub put_text : ℕ → ℕ → List ℕ → Display → Option Display
+put_text columns width bytes d =
+    if nat_le (d.cursor.col + width) columns
+    && list_all (λ p. not (touches d.cursor width p)) d.placed
+    then Some (put_down width bytes d) else None
 
 abbrev pub then_put : Option Display → (Display → Option Display) → Option Display
 then_put None f = None
@@ -62,20 +73,22 @@ then_put (Some d) f = f d
 -- a cell for each
 abbrev pub put_letters : ℕ → List ℕ → Display → Option Display
 put_letters columns [] d = Some d
-put_letters columns (c ∷ cs) d = then_put (put columns 1 (c ∷ []) d) (put_letters columns cs)
+put_letters columns (c ∷ cs) d = then_put (put_text columns 1 (c ∷ []) d) (put_letters columns cs)
 
 abbrev pub put_cluster : ℕ → List ℕ → Display → Option ℕ → Option Display
 put_cluster columns run d None = None
-put_cluster columns run d (Some width) = put columns width run d
+put_cluster columns run d (Some width) = put_text columns width run d
 
 -- a run of text: printable ASCII alone, or one cluster
 abbrev pub put_run : ℕ → (List ℕ → Option ℕ) → List ℕ → Display → Option Display
-put_run columns wide run d = if list_all is_printable run then put_letters columns run d else put_cluster columns run d (wide run)
+put_run columns wide run d =
+    if list_all is_printable run then put_letters columns run d
+    else put_cluster columns run d (wide run)
 
 -- ---- bytes, one after the other
 
--- what was read: a display, and behind it the run of text that is still open; then the sequence that is begun, if one is.
--- What has no meaning is lost, with all that follows.
+-- what was read: a display, and after it the run of text that is still open; then the sequence that
+-- is begun, if one is. What has no meaning is lost, with all that follows.
 pub data DisplayReading : Type 0 where
   Text : (display : Display) (run : List ℕ) → DisplayReading
   Escape : (display : Display) → DisplayReading
@@ -100,16 +113,19 @@ at_cursor at d = record { placed = d.placed; cursor = at }
 abbrev pub is_inside : ℕ → Display → Bool
 is_inside columns d = nat_lt d.cursor.col columns
 
--- CR goes to the row's start, LF a row down, BEL changes nothing; behind the last cell only CR may come, and ESC
+-- CR goes to the row's start, LF a row down, BEL changes nothing; after the last cell only CR may
+-- come, and ESC
 abbrev pub after_control : ℕ → Display → ℕ → DisplayReading
 after_control columns d byte =
     if byte == 0x0D then Text (at_cursor (record { col = 0; row = d.cursor.row }) d) []
     else if byte == 0x1B then Escape d
-    else if (byte == 0x0A) && is_inside columns d then Text (at_cursor (record { col = d.cursor.col; row = d.cursor.row + 1 }) d) []
+    else if (byte == 0x0A) && is_inside columns d
+    then Text (at_cursor (record { col = d.cursor.col; row = d.cursor.row + 1 }) d) []
     else if (byte == 0x07) && is_inside columns d then Text d []
     else Lost
 
--- what a place leaves, if it is inside no cluster: all that begins before it, and all but what ends behind it in its row
+-- what a place leaves, if it is inside no cluster: all that begins before it, and all but what ends
+-- after it in its row
 abbrev pub erased_below : Display → DisplayReading
 erased_below d =
     if list_all (λ p. not (is_cut d.cursor p)) d.placed
@@ -125,7 +141,8 @@ erased_right d =
     then Text (record { placed = filter (stays_in_row d.cursor) d.placed; cursor = d.cursor }) []
     else Lost
 
--- ESC [ m (SGR) changes no cell; ESC [ J (ED) and ESC [ K (EL) erase, ESC [ H (CUP) goes to the first cell
+-- ESC [ m (SGR) changes no cell; ESC [ J (ED) and ESC [ K (EL) erase, ESC [ H (CUP) goes to the
+-- first cell
 abbrev pub plain_sequence : ℕ → Display → ℕ → DisplayReading
 plain_sequence columns d byte =
     if byte == 0x6D then Text d []
@@ -135,7 +152,8 @@ plain_sequence columns d byte =
     else if byte == 0x48 then Text (at_cursor origin d) []
     else Lost
 
--- ESC [ n A (CUU) up, B (CUD) down, C (CUF) right, D (CUB) left, staying inside; rows have no last one
+-- ESC [ n A (CUU) up, B (CUD) down, C (CUF) right, D (CUB) left, staying inside; rows have no last
+-- one
 abbrev pub moves_inside : ℕ → Position → ℕ → ℕ → Bool
 moves_inside columns at count final =
     if final == 0x41 then nat_le count at.row
@@ -161,11 +179,15 @@ on_run columns byte None = Lost
 on_run columns byte (Some d) = after_control columns d byte
 
 abbrev pub step : ℕ → (List ℕ → Option ℕ) → DisplayReading → ℕ → DisplayReading
-step columns wide (Text d run) byte = if is_text byte then Text d (run ++ byte ∷ []) else on_run columns byte (put_run columns wide run d)
+step columns wide (Text d run) byte =
+    if is_text byte then Text d (run ++ byte ∷ [])
+    else on_run columns byte (put_run columns wide run d)
 step columns wide (Escape d) byte = if byte == 0x5B then Bracket d else Lost
-step columns wide (Bracket d) byte = if begins_number byte then Number d (byte - 0x30) else plain_sequence columns d byte
+step columns wide (Bracket d) byte =
+    if begins_number byte then Number d (byte - 0x30) else plain_sequence columns d byte
 step columns wide (Number d count) byte =
-    if is_digit byte then Number d (count * 10 + (byte - 0x30)) else numbered_sequence columns d count byte
+    if is_digit byte then Number d (count * 10 + (byte - 0x30))
+    else numbered_sequence columns d count byte
 step columns wide Lost byte = Lost
 
 abbrev pub read : ℕ → (List ℕ → Option ℕ) → DisplayReading → List ℕ → DisplayReading

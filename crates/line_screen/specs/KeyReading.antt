@@ -11,7 +11,7 @@ use Rattle.line_config.specs.Refusals.{MetBy}
 use Rattle.line_keys.specs.declared.key.KeyEvent.{KeyEvent}
 use Rattle.line_keys.specs.Coming.{Coming}
 use Rattle.line_keys.specs.Faults.{IsReaderRefusal}
-use Rattle.line_screen.specs.Input.{Chars, chars_of, is_failure}
+use Rattle.line_screen.specs.Input.{chars_of, is_failure}
 use Rattle.line_screen.specs.KeyGrammar.{Readings, Key, Paste, readings, in_escape, in_third, in_bracket, in_linux, in_control, in_unknown, in_paste, key_answer, text_answer, left_after, read_from}
 use Rattle.line_screen.specs.Reader.{feed_in, left_in, reads, coming_by, char_answer}
 use Rattle.line_screen.specs.Reading.{IsKeyRefusal, IsCut}

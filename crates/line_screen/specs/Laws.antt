@@ -1,15 +1,15 @@
 -- What holds of a display over a screen's calls, on rows of 2 to 1,000 columns.
 use Rattle.std.specs.Prelude.{◌≡◌, ◌≢◌, ⊤, ℕ, ◌+◌, ◌^◌, ◌<◌, ◌≤◌, List, [], ◌∷◌, ◌++◌, map, take, Option, Some}
 use Rattle.std.specs.List.{filter, flat_map, FoldsTo}
-use Rattle.line_screen.specs.Calls.{Screen, Call, bytes_of}
-use Rattle.line_screen.specs.Calls.Call.{ClearScreen}
+use Rattle.line_screen.specs.Calls.{Screen, ScreenCall, bytes_of}
+use Rattle.line_screen.specs.Calls.ScreenCall.{ClearScreen}
 use Rattle.line_screen.specs.Cells.{cell_at}
 use Rattle.line_buffer.specs.Cells.{origin}
 use Rattle.line_screen.specs.Chain.{View, Good, Leads, EndsLine, at_place, empty_at}
 use Rattle.line_screen.specs.Display.{Display, Placed, read, start, meaning, at_cursor}
 use Rattle.line_screen.specs.Drawing.{full_drawing, next_row, row_break}
 use Rattle.line_screen.specs.Measure.{cluster_width, measure_of}
-use Rattle.line_screen.specs.Showing.{Frame, Stands, Shows, cells_of, finish_of, cursor_of, down_placed, above, from_top}
+use Rattle.line_screen.specs.Showing.{Picture, Stands, Shows, cells_of, finish_of, cursor_of, down_placed, above, from_top}
 
 -- the width of what is one cluster, on this screen
 abbrev pub widths : Screen → List ℕ → Option ℕ
@@ -21,7 +21,7 @@ FullDrawingShows =
     (s : Screen) → 2 ≤ s.columns → s.columns ≤ 1000
     → (bytes : List ℕ) (d : Display) → Stands s.columns (read s.columns (widths s) start bytes) d
     → (top old : ℕ) → d.cursor.row ≡ top + old → d.cursor.col < s.columns → old < 2 ^ 64
-    → (v : Frame) → (finish_of s.columns (widths s) v).row < 2 ^ 64
+    → (v : Picture) → (finish_of s.columns (widths s) v).row < 2 ^ 64
     → (cursor_of s.columns (widths s) v).row < 2 ^ 64
     → let new = full_drawing s.columns (widths s) old v.prompt v.line v.info
     (finish_of s.columns (widths s) v) (cursor_of s.columns (widths s) v) in
@@ -35,18 +35,18 @@ abbrev pub StartIsEmpty : Type 0
 StartIsEmpty = (s : Screen) → 2 ≤ s.columns → s.columns ≤ 1000
     → Good s.columns (widths s) [] [] (empty_at 0)
 
--- a call leads from what is shown before it to what is shown behind it; what stands in the rows
+-- a call leads from what is shown before it to what is shown after it; what stands in the rows
 -- above stays, unless the screen is cleared
 abbrev pub CallsLead : Type 0
 CallsLead =
     (s : Screen) → 2 ≤ s.columns → s.columns ≤ 1000
-    → (bytes : List ℕ) (over : List Placed) (a b : View) (call : Call)
+    → (bytes : List ℕ) (over : List Placed) (a b : View) (call : ScreenCall)
     → Good s.columns (widths s) bytes over a → Leads s.columns (widths s) a call b
     → (next : List Placed) × Good s.columns (widths s) (bytes ++ bytes_of s call) next b
     × (call ≢ ClearScreen → filter (above a.top) next ≡ over)
 
 -- none of these calls clears the screen
-abbrev pub NeverClears : List Call → Type 0
+abbrev pub NeverClears : List ScreenCall → Type 0
 NeverClears [] = ⊤
 NeverClears (call ∷ calls) = (call ≢ ClearScreen) × NeverClears calls
 
@@ -54,7 +54,7 @@ NeverClears (call ∷ calls) = (call ≢ ClearScreen) × NeverClears calls
 abbrev pub ChainsLead : Type 0
 ChainsLead =
     (s : Screen) → 2 ≤ s.columns → s.columns ≤ 1000
-    → (calls : List Call) (bytes : List ℕ) (over : List Placed) (a b : View)
+    → (calls : List ScreenCall) (bytes : List ℕ) (over : List Placed) (a b : View)
     → Good s.columns (widths s) bytes over a → FoldsTo (Leads s.columns (widths s)) a calls b
     → (next : List Placed) × Good s.columns (widths s) (bytes ++ flat_map (bytes_of s) calls) next b
     × (NeverClears calls → filter (above a.top) next ≡ over)
@@ -90,7 +90,7 @@ EndedLineStays =
 -- where the prompt ends, what stands after the line from where the line ends
 abbrev pub MeasuresGoOn : Type 0
 MeasuresGoOn =
-    (s : Screen) → 1 ≤ s.columns → (v : Frame) → let measured = measure_of s.mode s.columns in
+    (s : Screen) → 1 ≤ s.columns → (v : Picture) → let measured = measure_of s.mode s.columns in
     let cursor = cursor_of s.columns (widths s) v in
     let finish = finish_of s.columns (widths s) v in
     (cursor.row ≤ 65535 → measured (take v.place v.line) (measured v.prompt origin) ≡ cursor)
@@ -112,6 +112,6 @@ ShownIsMeant =
 -- what is shown stands in its cells, from the row `top` on, and every other cell there is blank
 abbrev pub CellsAreShown : Type 0
 CellsAreShown =
-    (s : Screen) (v : Frame) (top : ℕ) (d : Display) → Shows s.columns (widths s) v top d
+    (s : Screen) (v : Picture) (top : ℕ) (d : Display) → Shows s.columns (widths s) v top d
     → (row col : ℕ) → cell_at d.placed (top + row) col
     ≡ cell_at (cells_of s.columns (widths s) v) row col

@@ -26,7 +26,7 @@ cluster_width mode columns bytes =
     if is_cluster bytes && is_width columns (width_of mode bytes) then Some
     (width_of mode bytes) else None
 
--- a place behind a row's cells is the next row's first
+-- a place after a row's cells is the next row's first
 abbrev pub in_row : ℕ → Position → Position
 in_row columns at = if nat_lt at.col columns then at else next_row at
 

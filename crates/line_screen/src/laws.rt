@@ -53,14 +53,14 @@ pub fn line_ends()
     ensures { LineEndsAnywhere }
 {}
 
-/// CR LF at the drawing's end leads to the next line's top, and the accepted line's cells stay above
-/// it.
+/// CR LF at the drawing's end leads to the next line's top, and the accepted line's cells stay
+/// above it.
 pub fn ended_lines()
     ensures { EndedLineStays }
 {}
 
-/// A drawing's cursor and its end are the measures of prompt, line and what stands after it, measured
-/// on one after the other.
+/// A drawing's cursor and its end are the measures of prompt, line and what stands after it,
+/// measured on one after the other.
 pub fn measures()
     ensures { MeasuresGoOn }
 {}
