@@ -63,11 +63,11 @@ onto [] Failed b = []
 
 -- the rows of a text after which this stands: they end at newlines, and a carriage return right
 -- before a newline is no part of its row
-abbrev pub rows_of : Last → List ℕ → List (List ℕ)
-rows_of last [] = []
-rows_of last (b ∷ bs) = if b == 10 then [] ∷ rows_of last bs
-    else if b == 13 && begins_with_newline bs then rows_of last bs
-    else onto (rows_of last bs) last b
+abbrev pub text_rows : Last → List ℕ → List (List ℕ)
+text_rows last [] = []
+text_rows last (b ∷ bs) = if b == 10 then [] ∷ text_rows last bs
+    else if b == 13 && begins_with_newline bs then text_rows last bs
+    else onto (text_rows last bs) last b
 
 -- the rows before the first one that isn't UTF-8
 abbrev pub good_rows : List (List ℕ) → List (List ℕ)
@@ -101,7 +101,7 @@ texts_of (row ∷ rows) = texts_behind (bytes_eq row header) rows (row ∷ rows)
 
 -- the texts that loading adds of a text that isn't refused
 abbrev pub loaded_texts : Last → List ℕ → List (List ℕ)
-loaded_texts last text = texts_of (good_rows (rows_of last text))
+loaded_texts last text = texts_of (good_rows (text_rows last text))
 
 -- whether a row isn't UTF-8
 abbrev pub has_bad_row : List (List ℕ) → Bool

@@ -143,7 +143,8 @@ pub trait Completer {
             line.new.text) }
         ensures line { OnOk result (line.new ≡ replaced start line.old.place elected.now line.old) }
         ensures refused { OnErr result ((cl.new ≡ cl.old)
-            ⊎ L.refuses cl.old (replacement start line.old.place elected.now line.old.text) cl.new) }
+            ⊎ L.refuses cl.old (replacement start line.old.place elected.now line.old.text)
+            cl.new) }
         ensures kept { OnErr result (line.new ≡ line.old) }
         ensures fault { IfErr result (λ e. (e ≡ Memory)
             ⊎ ((e ≡ Failed) × IsTrue (updating_fails self.now line.old start elected.now))) }

@@ -103,7 +103,8 @@ impl FileHistory {
         ensures saved { OnOk result (self.new ≡ all_saved self.old) }
         ensures kept { OnErr result (self.new ≡ self.old) }
         ensures error { IfErr result (λ e. (e ≡ HistoryText) × IsTrue (S.has_failed sink.new)) }
-        ensures fine { OnOk result (IsTrue (S.has_failed sink.new) → IsTrue (S.has_failed sink.old)) }
+        ensures fine { OnOk result
+            (IsTrue (S.has_failed sink.new) → IsTrue (S.has_failed sink.old)) }
     {
         if self.unsaved == 0 {
             return Ok(());
@@ -124,7 +125,8 @@ impl FileHistory {
         ensures saved { OnOk result (self.new ≡ all_saved self.old) }
         ensures kept { OnErr result (self.new ≡ self.old) }
         ensures error { IfErr result (λ e. (e ≡ HistoryText) × IsTrue (S.has_failed sink.new)) }
-        ensures fine { OnOk result (IsTrue (S.has_failed sink.new) → IsTrue (S.has_failed sink.old)) }
+        ensures fine { OnOk result
+            (IsTrue (S.has_failed sink.new) → IsTrue (S.has_failed sink.old)) }
     {
         let count = self.unsaved;
         if count == 0 {
@@ -268,7 +270,7 @@ impl FileHistory {
     ghost use Rattle.std.specs.Str.{is_utf8};
     ghost use Rattle.line_config.specs.declared.errors.ReadlineError.TheVariants.{HistoryText, Memory, Reader};
     ghost use Rattle.line_help.specs.History.{filed_with_all, takes_all};
-    ghost use Rattle.line_help.specs.HistoryText.{AddsSome, after_first, entries_of, follows, header, good_rows, load_answer, load_leaves, outcome, rows_of, says_reader, texts_of};
+    ghost use Rattle.line_help.specs.HistoryText.{AddsSome, after_first, entries_of, follows, header, good_rows, load_answer, load_leaves, outcome, text_rows, says_reader, texts_of};
 
     // Adds the entry of a row, and answers whether it isn't ignored. An empty row has none.
     fn add_row(&mut self, alloc: Global, row: &[u8], escapes: bool) -> Result<bool, ReadlineError>
@@ -320,17 +322,17 @@ impl FileHistory {
     ) -> Result<bool, ReadlineError>
         ensures answer { IsTrue (S.feed source.old).told
             → IsTrue (follows (S.feed source.old).steady result)
-            → let rows = rows_of (S.feed source.old).last (S.feed source.old).coming in
+            → let rows = text_rows (S.feed source.old).last (S.feed source.old).coming in
             result ≡ outcome (S.feed source.old).last rows
             (takes_all self.old (entries_of escapes (good_rows rows))) }
         ensures left { IsTrue (S.feed source.old).told
             → IsTrue (follows (S.feed source.old).steady result)
             → self.new ≡ filed_with_all self.old
             (entries_of escapes (good_rows
-            (rows_of (S.feed source.old).last (S.feed source.old).coming))) }
+            (text_rows (S.feed source.old).last (S.feed source.old).coming))) }
         ensures part { IsTrue (S.feed source.old).told
             → AddsSome (entries_of escapes
-            (good_rows (rows_of (S.feed source.old).last (S.feed source.old).coming))) self.old
+            (good_rows (text_rows (S.feed source.old).last (S.feed source.old).coming))) self.old
             self.new }
         ensures error { IfErr result (λ e. (e ≡ Memory) ⊎ ((e ≡ HistoryText) ⊎ (e ≡ Reader))) }
         ensures failure { (S.feed source.new).failed ≡ says_reader result }
@@ -361,14 +363,14 @@ impl FileHistory {
         ensures answer { IsTrue (S.feed source.old).told
             → IsTrue (follows (S.feed source.old).steady result)
             → result ≡ load_answer (S.feed source.old).last
-            (rows_of (S.feed source.old).last (S.feed source.old).coming) self.old }
+            (text_rows (S.feed source.old).last (S.feed source.old).coming) self.old }
         ensures left { IsTrue (S.feed source.old).told
             → IsTrue (follows (S.feed source.old).steady result)
             → self.new ≡ load_leaves (S.feed source.old).last
-            (rows_of (S.feed source.old).last (S.feed source.old).coming) self.old }
+            (text_rows (S.feed source.old).last (S.feed source.old).coming) self.old }
         ensures part { IsTrue (S.feed source.old).told
             → OnErr result (AddsSome (texts_of
-            (good_rows (rows_of (S.feed source.old).last (S.feed source.old).coming))) self.old
+            (good_rows (text_rows (S.feed source.old).last (S.feed source.old).coming))) self.old
             self.new) }
         ensures error { IfErr result (λ e. (e ≡ Memory) ⊎ ((e ≡ HistoryText) ⊎ (e ≡ Reader))) }
         ensures failure { (S.feed source.new).failed ≡ says_reader result }

@@ -32,7 +32,8 @@ pub trait Highlighter {
         line: &'l str,
         pos: usize,
     ) -> Result<CowStr<'l>, HookFault>
-        ensures { Highlights cow_str_bytes line.now (shown_as self.now (OfLine pos) line.now) result };
+        ensures { Highlights cow_str_bytes line.now
+            (shown_as self.now (OfLine pos) line.now) result };
 
     /// The prompt: the line's own, or another one.
     fn highlight_prompt<'p>(

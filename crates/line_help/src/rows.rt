@@ -2,7 +2,7 @@
 ghost use Rattle.std.specs.Prelude.{◌≡◌, ◌<◌, ◌≤◌, ◌⊎◌, is_err, List, [], ◌∷◌, true, false, if◌then◌else◌, IsTrue, IfOk, IfErr, IfSome, Ok, Err, None, option_to_list, ◌++◌};
 ghost use Rattle.line_config.specs.declared.device.Last.TheVariants.{End, Failed};
 ghost use Rattle.line_config.specs.declared.errors.ReadlineError.TheVariants.{Memory, Reader};
-ghost use Rattle.line_help.specs.HistoryText.{rows_of, says_reader, without_return};
+ghost use Rattle.line_help.specs.HistoryText.{text_rows, says_reader, without_return};
 
 use line_config::{ReadlineError, Source};
 
@@ -46,15 +46,15 @@ fn next_byte<S: Source>(source: &mut S) -> Result<Option<u8>, ReadlineError>
 #[tactic(auto, using(crate::proofs::RowLemmas::row_ends))]
 pub(crate) fn read_row<S: Source>(source: &mut S, row: &mut Vec<u8>) -> Result<bool, ReadlineError>
     ensures row { IsTrue (S.feed source.old).told
-        → IfOk result (λ is_row. rows_of (S.feed source.old).last (S.feed source.old).coming
+        → IfOk result (λ is_row. text_rows (S.feed source.old).last (S.feed source.old).coming
         ≡ (if is_row then row.new.items
-        ∷ rows_of (S.feed source.old).last (S.feed source.new).coming else [])) }
+        ∷ text_rows (S.feed source.old).last (S.feed source.new).coming else [])) }
     ensures end { IsTrue (S.feed source.old).told → result ≡ Ok false
         → (S.feed source.old).last ≡ End }
     ensures cut { IsTrue (S.feed source.old).told → IsTrue (S.feed source.old).steady
         → result ≡ Err Reader
         → ((S.feed source.old).last ≡ Failed)
-        × (rows_of (S.feed source.old).last (S.feed source.old).coming ≡ []) }
+        × (text_rows (S.feed source.old).last (S.feed source.old).coming ≡ []) }
     ensures error { IfErr result (λ e. (e ≡ Memory) ⊎ (e ≡ Reader)) }
     ensures failure { (S.feed source.new).failed ≡ says_reader result }
     ensures told { IsTrue (S.feed source.old).told → IsTrue (S.feed source.new).told }

@@ -5,7 +5,7 @@ use Rattle.std.proofs.lemmas.Bool.{and_parts, and_from, le-leb}
 use Rattle.std.proofs.lemmas.Bool.Decides.{nat_tests}
 use Rattle.std.proofs.lemmas.List.Folds.{list_all-append}
 use Rattle.line_buffer.specs.declared.layout.Position.{Position}
-use Rattle.line_screen.specs.Display.{Placed, Display, DisplayReading, put_text, put_down, put_run, is_printable, is_text, on_run, read, step, at_cursor, right, ends_before, touches}
+use Rattle.line_screen.specs.Display.{Placed, Display, DisplayReading, put_cells, put_down, put_run, is_printable, is_text, on_run, read, step, at_cursor, right, ends_before, touches}
 use Rattle.line_screen.specs.Display.DisplayReading.{Text}
 use Rattle.line_screen.specs.Drawing.{DrawnItem, next_row, fit, after_one, after, placed_at, lay_one, lay, no_style, row_break, break_if, fitted_col, left_col, fenced, sent_one, col_after_one, sent, col_after}
 use Rattle.line_screen.specs.Drawing.DrawnItem.{NewRow, Letter, Cluster}
@@ -25,7 +25,7 @@ pub record Ready (columns : ℕ) (r : DisplayReading) (d : Display) : Type 0 whe
 pub record Showable (columns : ℕ) (wide : List ℕ → Option ℕ) (bytes : List ℕ) (width : ℕ) : Type 0 where
   pub narrow : width ≤ columns
   pub text : list_all is_text bytes ≡ true
-  pub put_is : (d : Display) → put_run columns wide bytes d ≡ put_text columns width bytes d
+  pub put_is : (d : Display) → put_run columns wide bytes d ≡ put_cells columns width bytes d
 
 abbrev pub Fits : ℕ → (List ℕ → Option ℕ) → DrawnItem → Type 0
 Fits columns wide NewRow = Unit {0}
@@ -79,7 +79,7 @@ after_cols columns (item ∷ items) at = after_cols columns items (after_one col
 
 -- ---- putting down
 
-pub put_clear : (columns width : ℕ) (bytes : List ℕ) (d : Display) → Clear d → d.cursor.col + width ≤ columns → put_text columns width bytes d ≡ Some (put_down width bytes d)
+pub put_clear : (columns width : ℕ) (bytes : List ℕ) (d : Display) → Clear d → d.cursor.col + width ≤ columns → put_cells columns width bytes d ≡ Some (put_down width bytes d)
 put_clear columns width bytes d c h =
     ap (λ b. if b then Some (put_down width bytes d) else None)
     (and_from (nat_le (d.cursor.col + width) columns) (list_all (λ p. not (touches d.cursor width p)) d.placed) (le-leb _ _ h) (list_all_since (ends_before d.cursor) (λ p. not (touches d.cursor width p)) (ends_apart d.cursor width) d.placed c.all))

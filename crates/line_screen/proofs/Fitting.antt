@@ -19,7 +19,7 @@ use Rattle.line_buffer.specs.Cells.{origin}
 use Rattle.line_buffer.specs.Width.{width_of}
 use Rattle.line_buffer.specs.declared.layout.GraphemeClusterMode.{GraphemeClusterMode}
 use Rattle.line_buffer.specs.declared.layout.Position.{Position}
-use Rattle.line_screen.specs.Display.{Display, put_text, put_letters, put_cluster, then_put, is_printable, is_text, right}
+use Rattle.line_screen.specs.Display.{Display, put_cells, put_letters, put_cluster, then_put, is_printable, is_text, right}
 use Rattle.line_screen.specs.Drawing.{DrawnItem, drawn_cluster, is_letter, drawn_item, row_items, join_rows, split_rows, text_items, next_row, fit, after_one, after}
 use Rattle.line_screen.specs.Drawing.DrawnItem.{NewRow, Letter, Cluster}
 use Rattle.std.specs.Str.{IsUtf8, is_utf8}
@@ -102,7 +102,7 @@ and_then_some (Some d) = refl
 
 module _ (mode : GraphemeClusterMode) (columns : ℕ) (some : 1 ≤ columns) where
   question_mark : Showable columns (cluster_width mode columns) (0x3F ∷ []) 1
-  question_mark = record { narrow = some; text = refl; put_is = λ d. and_then_some (put_text columns 1 (0x3F ∷ []) d) }
+  question_mark = record { narrow = some; text = refl; put_is = λ d. and_then_some (put_cells columns 1 (0x3F ∷ []) d) }
 
   width_if : (bytes : List ℕ) → is_letter bytes ≡ false → (b : Bool) → (is_cluster bytes && is_width columns (width_of mode bytes)) ≡ b
       → Fits columns (cluster_width mode columns) (drawn_cluster bytes (if b then Some (width_of mode bytes) else None))

@@ -4,7 +4,7 @@ use Rattle.std.specs.List.{list_all}
 use Rattle.std.proofs.lemmas.Bool.{and_parts, and_from}
 use Rattle.std.proofs.lemmas.Bool.Decides.{nat_tests}
 use Rattle.std.proofs.lemmas.List.Folds.{list_all-append}
-use Rattle.line_screen.specs.Display.{Display, DisplayReading, put_text, then_put, put_letters, put_run, is_printable, is_text, after_control, step, on_run, read, settled, at_cursor}
+use Rattle.line_screen.specs.Display.{Display, DisplayReading, put_cells, then_put, put_letters, put_run, is_printable, is_text, after_control, step, on_run, read, settled, at_cursor}
 use Rattle.line_screen.specs.Display.DisplayReading.{Text, Lost}
 use Rattle.line_screen.specs.Drawing.{next_row, no_style, row_break}
 use Rattle.line_screen.specs.Showing.{Stands}
@@ -15,7 +15,7 @@ printable_text c h = grind (arith, nat_tests)
 pub put_letters-append : (columns : ℕ) (xs ys : List ℕ) (d : Display) → put_letters columns (xs ++ ys) d ≡ then_put (put_letters columns xs d) (put_letters columns ys)
 put_letters-append columns [] ys d = refl
 put_letters-append columns (x ∷ xs) ys d =
-    elim (put_text columns 1 (x ∷ []) d) as (λ o. then_put o (put_letters columns (xs ++ ys)) ≡ then_put (then_put o (put_letters columns xs)) (put_letters columns ys)) [
+    elim (put_cells columns 1 (x ∷ []) d) as (λ o. then_put o (put_letters columns (xs ++ ys)) ≡ then_put (then_put o (put_letters columns xs)) (put_letters columns ys)) [
       | None ↦ refl
       | Some e ↦ put_letters-append columns xs ys e
     ]
@@ -39,7 +39,7 @@ module _ (columns : ℕ) (wide : List ℕ → Option ℕ) where
   pub step_control : (r : DisplayReading) (d : Display) → Stands columns r d → (byte : ℕ) → is_text byte ≡ false → step columns wide r byte ≡ after_control columns d byte
   step_control r d s byte h = rw (s.is, h, s.printable, s.shows) refl
 
-  pub step_letter : (r : DisplayReading) (d e : Display) (c : ℕ) → Stands columns r d → is_printable c ≡ true → put_text columns 1 (c ∷ []) d ≡ Some e → Stands columns (step columns wide r c) e
+  pub step_letter : (r : DisplayReading) (d e : Display) (c : ℕ) → Stands columns r d → is_printable c ≡ true → put_cells columns 1 (c ∷ []) d ≡ Some e → Stands columns (step columns wide r c) e
   step_letter r d e c s h put_is =
       record {
         before = s.before;

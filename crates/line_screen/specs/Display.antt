@@ -60,8 +60,8 @@ put_down width bytes d =
     }
 
 -- on blank cells of the cursor's row
-abbrev pub put_text : ℕ → ℕ → List ℕ → Display → Option Display
-put_text columns width bytes d =
+abbrev pub put_cells : ℕ → ℕ → List ℕ → Display → Option Display
+put_cells columns width bytes d =
     if nat_le (d.cursor.col + width) columns
     && list_all (λ p. not (touches d.cursor width p)) d.placed
     then Some (put_down width bytes d) else None
@@ -73,11 +73,11 @@ then_put (Some d) f = f d
 -- a cell for each
 abbrev pub put_letters : ℕ → List ℕ → Display → Option Display
 put_letters columns [] d = Some d
-put_letters columns (c ∷ cs) d = then_put (put_text columns 1 (c ∷ []) d) (put_letters columns cs)
+put_letters columns (c ∷ cs) d = then_put (put_cells columns 1 (c ∷ []) d) (put_letters columns cs)
 
 abbrev pub put_cluster : ℕ → List ℕ → Display → Option ℕ → Option Display
 put_cluster columns run d None = None
-put_cluster columns run d (Some width) = put_text columns width run d
+put_cluster columns run d (Some width) = put_cells columns width run d
 
 -- a run of text: printable ASCII alone, or one cluster
 abbrev pub put_run : ℕ → (List ℕ → Option ℕ) → List ℕ → Display → Option Display
