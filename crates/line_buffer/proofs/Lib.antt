@@ -1,9 +1,11 @@
 pub mod ChainLemmas
 pub mod ColumnLemmas
 mod ColumnRows
+pub mod CutLaws
 pub mod CutLemmas
 pub mod EditLaws
 pub mod HitLemmas
+pub mod IndentLaws
 pub mod IndentLemmas
 pub mod InsertionLemmas
 pub mod JoinLemmas
@@ -20,6 +22,7 @@ pub mod RowStartLemmas
 pub mod RowStepLemmas
 pub mod RowWalkLemmas
 pub mod SpanLemmas
+pub mod StandingLemmas
 pub mod StopLemmas
 pub mod TranspositionLemmas
 pub mod WidthLemmas

@@ -1,5 +1,5 @@
 -- Calls of several events: what they make of a listener and of a text, and what is left where one is refused.
-use Rattle.std.proofs.Common.{◌≡◌, Bool, true, false, ℕ, ◌+◌, ◌-◌, arith, take, drop, List, [], ◌∷◌, ◌++◌, ◌⊎◌, inl, inr, refl, sym, subst, ap, ◌∙◌, append_assoc}
+use Rattle.std.proofs.Common.{◌≡◌, Bool, true, false, ℕ, ◌+◌, ◌-◌, arith, take, drop, List, [], ◌∷◌, ◌++◌, ◌⊎◌, inl, refl, sym, subst, ap, ◌∙◌, append_assoc}
 use Rattle.std.specs.Prelude.{if◌then◌else◌, Result, Ok, Err, OnErr, IsUtf8, IsCharBoundary}
 use Rattle.std.specs.List.{replace_range, insert_slice}
 use Rattle.line_buffer.specs.Event.{Event}
@@ -45,6 +45,10 @@ stops_at_once takes refuses events never e s t a b split change h same = record 
   stopped = h;
   closed = reports_nothing takes t b;
 }
+
+-- what holds where the answer is an error
+pub on_refusal : {T E : Type 0} (r : Result T E) {P : Type 0} → P → OnErr r P
+on_refusal {T} {E} r {P} h = elim r as (λ r. OnErr r P) [ Ok x ↦ tt | Err x ↦ h ]
 
 -- the refused event, as another equation has it
 pub refused_as : {S : Type 0} (refuses : S → Event → S → Type 0) {e f : Event} {s t : S} → e ≡ f → (t ≡ s) ⊎ refuses s e t → (t ≡ s) ⊎ refuses s f t

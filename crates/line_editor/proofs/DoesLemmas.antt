@@ -1,0 +1,129 @@
+-- One edit, then another.
+use Rattle.std.proofs.Common.{◌≡◌, Bool, List, [], ◌∷◌, ◌++◌, refl, sym, ap, subst, ◌∙◌, append_assoc, if◌then◌else◌, Option, None, option_map}
+use Rattle.std.specs.Prelude.{ℕ, Result, Ok, Err, OnOk, OnErr, IsErrAnd}
+use Rattle.line_buffer.specs.Cells.{origin}
+use Rattle.line_help.specs.Hints.{Hinted, Answers}
+use Rattle.line_help.specs.declared.validate.ValidationResult.{ValidationResult}
+use Rattle.line_keys.specs.declared.command.CmdKind.{CmdKind}
+use Rattle.std.specs.List.{FoldsTo}
+use Rattle.line_buffer.specs.declared.layout.Layout.{Layout}
+use Rattle.line_config.specs.declared.errors.ReadlineError.{ReadlineError}
+use Rattle.line_help.specs.declared.completion as completions
+use Rattle.line_help.specs.declared.hint as hints
+use Rattle.line_help.specs.declared.highlight as highlights
+use Rattle.line_help.specs.declared.validate as verdicts
+use Rattle.line_help.specs.declared.history as histories
+use Rattle.line_editor.specs.Calls.{Call, Canvas, Ruler, Begun}
+use Rattle.line_editor.specs.Redraws.{Redraw, Asked, one, asked, then_asked, nothing_asked}
+use Rattle.line_editor.specs.States.{value_of, setting_of, Stays, Does}
+use Rattle.line_editor.specs.Values.{Value, Setting, Effect, Edit, then_do}
+use Rattle.line_editor.specs.declared.renderer as renderers
+use Rattle.line_editor.specs.declared.state.State.{State}
+use Rattle.line_editor.proofs.BegunLemmas.{begun_before, begun_behind, folds_both}
+
+asked_joined : (a : Asked) (b : Asked) (c : Asked) → then_asked a (then_asked b c) ≡ then_asked (then_asked a b) c
+asked_joined a b c = ap (λ calls. record { calls = calls; layout = c.layout }) (sym (append_assoc a.calls b.calls c.calls))
+
+-- redraws behind others are asked on the layout that those leave
+pub asked_both : (r : Ruler) (l : Layout) (xs ys : List Redraw) → asked r l (xs ++ ys) ≡ then_asked (asked r l xs) (asked r (asked r l xs).layout ys)
+asked_both r l [] ys = refl
+asked_both r l (x ∷ xs) ys = ap (then_asked (one r l x)) (asked_both r (one r l x).layout xs ys) ∙ asked_joined (one r l x) (asked r (one r l x).layout xs) _
+
+ok_map : {A E : Type 0} {P Q : Type 0} (result : Result A E) → (P → Q) → OnOk result P → OnOk result Q
+ok_map (Ok x) f h = f h
+ok_map (Err e) f h = tt
+
+err_map : {A E : Type 0} {P Q : Type 0} (result : Result A E) → (P → Q) → OnErr result P → OnErr result Q
+err_map (Ok x) f h = tt
+err_map (Err e) f h = f h
+
+is_err : {A E : Type 0} (e : E) (result : Result A E) → IsErrAnd result (λ x. x ≡ e) → result ≡ Err e
+is_err e (Ok x) h = elim h [ ]
+is_err e (Err x) h = ap Err h
+
+abbrev setting_by : Ruler → List ℕ → Option (Answers (Option Hinted)) → Option (List ℕ → ValidationResult) → Option (List ℕ → ℕ → CmdKind → Bool) → List (List ℕ) → Setting
+setting_by r prompt answers judge marks entries = record {
+  prompt = prompt; column = (r.measure prompt origin).col; mode = r.mode; hints = answers; judge = judge;
+  marks = if r.colours then marks else None; entries = entries;
+}
+
+module _ {Out H Hi K T : Type 0} {renderer : renderers.Renderer.Ghosts Out} {completer : completions.Completer.Ghosts H K} {candidate : completions.Candidate.Ghosts K}
+    {hinter : hints.Hinter.Ghosts H T} {hint : hints.Hint.Ghosts T} {highlighter : highlights.Highlighter.Ghosts H} {validator : verdicts.Validator.Ghosts H} {history : histories.History.Ghosts Hi} where
+  pub setting_stays : (s t : State Out H Hi K T renderer completer candidate hinter hint highlighter validator history) → Stays s t → setting_of t ≡ setting_of s
+  setting_stays s t h =
+      ap (λ r. setting_by r t.prompt.now (option_map hinter.hint_of t.helper) (option_map validator.verdict_of t.helper) (option_map highlighter.marks t.helper) (history.entries t.ctx.history.now)) h.ruler
+      ∙ ap (λ p. setting_by (renderer.canvas.ruler s.out) p (option_map hinter.hint_of t.helper) (option_map validator.verdict_of t.helper) (option_map highlighter.marks t.helper) (history.entries t.ctx.history.now)) h.prompt
+      ∙ ap (λ a. setting_by (renderer.canvas.ruler s.out) s.prompt.now a (option_map validator.verdict_of t.helper) (option_map highlighter.marks t.helper) (history.entries t.ctx.history.now)) h.hints_are
+      ∙ ap (λ a. setting_by (renderer.canvas.ruler s.out) s.prompt.now (option_map hinter.hint_of s.helper) a (option_map highlighter.marks t.helper) (history.entries t.ctx.history.now)) h.verdicts_are
+      ∙ ap (λ a. setting_by (renderer.canvas.ruler s.out) s.prompt.now (option_map hinter.hint_of s.helper) (option_map validator.verdict_of s.helper) a (history.entries t.ctx.history.now)) h.marks_are
+      ∙ ap (λ x. setting_by (renderer.canvas.ruler s.out) s.prompt.now (option_map hinter.hint_of s.helper) (option_map validator.verdict_of s.helper) (option_map highlighter.marks s.helper) (history.entries x)) h.history_is
+
+  pub stays_both : (s m t : State Out H Hi K T renderer completer candidate hinter hint highlighter validator history) → Stays s m → Stays m t → Stays s t
+  stays_both s m t h k = record {
+    ruler = k.ruler ∙ h.ruler; prompt = k.prompt ∙ h.prompt; history_is = k.history_is ∙ h.history_is; hints_are = k.hints_are ∙ h.hints_are;
+    hinting_is = k.hinting_is ∙ h.hinting_is; verdicts_are = k.verdicts_are ∙ h.verdicts_are; validating_is = k.validating_is ∙ h.validating_is;
+    marks_are = k.marks_are ∙ h.marks_are;
+  }
+
+  -- the second edit is that of the value which the first one leaves
+  second_is : {A : Type 0} (first second : Edit) (s m : State Out H Hi K T renderer completer candidate hinter hint highlighter validator history) (x : A) → Does first s m (Ok x)
+      → second (setting_of m) (value_of m) ≡ second (setting_of s) (first (setting_of s) (value_of s)).value
+  second_is first second s m x h = ap (λ a. second a (value_of m)) (setting_stays s m h.stays) ∙ ap (second (setting_of s)) h.value
+
+  asked_is : {A : Type 0} (first second : Edit) (s m : State Out H Hi K T renderer completer candidate hinter hint highlighter validator history) (x : A) → Does first s m (Ok x)
+      → asked (renderer.canvas.ruler m.out) m.layout (second (setting_of m) (value_of m)).redraws
+        ≡ asked (renderer.canvas.ruler s.out) (asked (renderer.canvas.ruler s.out) s.layout (first (setting_of s) (value_of s)).redraws).layout
+          (second (setting_of s) (first (setting_of s) (value_of s)).value).redraws
+  asked_is first second s m x h =
+      ap (λ e. asked (renderer.canvas.ruler m.out) m.layout e.redraws) (second_is first second s m x h)
+      ∙ ap (λ r. asked r m.layout (second (setting_of s) (first (setting_of s) (value_of s)).value).redraws) h.stays.ruler
+      ∙ ap (λ l. asked (renderer.canvas.ruler s.out) l (second (setting_of s) (first (setting_of s) (value_of s)).value).redraws) h.layout
+
+  -- a refusal says nothing of what would have been answered
+  refused_as : {A B : Type 0} (edit : Edit) (s t : State Out H Hi K T renderer completer candidate hinter hint highlighter validator history) (e : ReadlineError) → Does {A = A} edit s t (Err e) → Does {A = B} edit s t (Err e)
+  refused_as edit s t e h = record { value = tt; calls = tt; layout = tt; stays = h.stays; reason = h.reason; begun = h.begun }
+
+  -- both were made, or the second was refused
+  pub does_both : {A B : Type 0} (first second : Edit) (s m t : State Out H Hi K T renderer completer candidate hinter hint highlighter validator history) (x : A) (result : Result B ReadlineError)
+      → Does first s m (Ok x) → Does second m t result → Does (then_do first second) s t result
+  does_both first second s m t x result h k =
+      let e : Effect = first (setting_of s) (value_of s) in
+      let f : Effect = second (setting_of s) e.value in
+      let a : Asked = asked (renderer.canvas.ruler s.out) s.layout e.redraws in
+      let b : Asked = asked (renderer.canvas.ruler s.out) a.layout f.redraws in
+      let whole : asked (renderer.canvas.ruler s.out) s.layout (e.redraws ++ f.redraws) ≡ then_asked a b = asked_both (renderer.canvas.ruler s.out) s.layout e.redraws f.redraws in
+      let is : asked (renderer.canvas.ruler m.out) m.layout (second (setting_of m) (value_of m)).redraws ≡ b = asked_is first second s m x h in
+      record {
+        value = subst (λ y. OnOk result (value_of t ≡ y.value)) (second_is first second s m x h) k.value;
+        calls = ok_map result (λ c. subst (λ y. FoldsTo renderer.canvas.made s.out y.calls t.out) (sym whole)
+            (folds_both renderer.canvas.made a.calls b.calls s.out m.out t.out h.calls (subst (λ y. FoldsTo renderer.canvas.made m.out y.calls t.out) is c))) k.calls;
+        layout = ok_map result (λ c. c ∙ ap (λ y. y.layout) is ∙ ap (λ y. y.layout) (sym whole)) k.layout;
+        stays = stays_both s m t h.stays k.stays;
+        reason = k.reason;
+        begun = err_map result (λ c. subst (λ y. Begun renderer.canvas y.calls s.out t.out) (sym whole)
+            (begun_behind renderer.canvas a.calls b.calls s.out m.out t.out h.calls (subst (λ y. Begun renderer.canvas y.calls m.out t.out) is c))) k.begun;
+      }
+
+  -- the first one was refused
+  pub does_cut : {A B : Type 0} (first second : Edit) (s t : State Out H Hi K T renderer completer candidate hinter hint highlighter validator history) (e : ReadlineError)
+      → Does {A = A} first s t (Err e) → Does {A = B} (then_do first second) s t (Err e)
+  does_cut first second s t e h =
+      let x : Effect = first (setting_of s) (value_of s) in
+      let y : Effect = second (setting_of s) x.value in
+      record {
+        value = tt; calls = tt; layout = tt; stays = h.stays; reason = h.reason;
+        begun = subst (λ a. Begun renderer.canvas a.calls s.out t.out) (sym (asked_both (renderer.canvas.ruler s.out) s.layout x.redraws y.redraws))
+            (begun_before renderer.canvas (asked (renderer.canvas.ruler s.out) s.layout x.redraws).calls
+              (asked (renderer.canvas.ruler s.out) (asked (renderer.canvas.ruler s.out) s.layout x.redraws).layout y.redraws).calls s.out t.out h.begun);
+      }
+
+  -- the same as a question mark hands the refusal on
+  pub does_cut_by : {A B : Type 0} (first second : Edit) (s t : State Out H Hi K T renderer completer candidate hinter hint highlighter validator history) (e : ReadlineError) (result : Result B ReadlineError)
+      → IsErrAnd result (λ x. x ≡ e) → Does {A = A} first s t (Err e) → Does (then_do first second) s t result
+  does_cut_by {A} {B} first second s t e result is h =
+      subst (λ r. Does {A = B} (then_do first second) s t r) (sym (is_err e result is)) (does_cut first second s t e h)
+
+  pub does_both_by : {A B C : Type 0} (first second : Edit) (s m t : State Out H Hi K T renderer completer candidate hinter hint highlighter validator history) (x : A) (e : ReadlineError) (result : Result C ReadlineError)
+      → IsErrAnd result (λ y. y ≡ e) → Does first s m (Ok x) → Does {A = B} second m t (Err e) → Does (then_do first second) s t result
+  does_both_by {A} {B} {C} first second s m t x e result is h k =
+      subst (λ r. Does {A = C} (then_do first second) s t r) (sym (is_err e result is)) (does_both {B = C} first second s m t x (Err e) h (refused_as {A = B} {B = C} second m t e k))

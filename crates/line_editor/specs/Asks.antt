@@ -1,0 +1,32 @@
+-- What the key tables see of the editor's value, and what their asks make of it.
+use Rattle.std.specs.Prelude.{ℕ, List, Option, None, Some, is_some}
+use Rattle.line_edits.specs.Written.{opened, closed}
+use Rattle.line_help.specs.Hints.{Hinted}
+use Rattle.line_keys.specs.Refreshing.{Shown, Ask}
+use Rattle.line_keys.specs.Refreshing.Ask.{Line, Message, Prompted, DoingInsert, DoneInserting}
+use Rattle.line_record.specs.Held.{last_inserted}
+use Rattle.line_editor.specs.Drawing.{refreshed, refreshed_behind, told}
+use Rattle.line_editor.specs.Values.{Value, Setting, Effect, Edit, quietly, rewritten}
+
+abbrev pub completion_in : Option Hinted → Option (List ℕ)
+completion_in None = None
+completion_in (Some h) = h.completion
+
+abbrev pub shown_in : Value → Shown
+shown_in v = record {
+  line = v.line.text; place = v.line.place; hinted = is_some v.hint; completion = completion_in v.hint; last_insert = last_inserted v.held;
+}
+
+-- a group opened, and all groups closed
+abbrev pub open_group : Edit
+open_group = quietly (rewritten opened)
+
+abbrev pub close_groups : Edit
+close_groups = quietly (rewritten closed)
+
+abbrev pub ask_effect : Ask → Edit
+ask_effect Line = refreshed
+ask_effect (Prompted prompt) = refreshed_behind prompt
+ask_effect (Message text kind) = told text kind
+ask_effect DoingInsert = open_group
+ask_effect DoneInserting = close_groups

@@ -1,0 +1,99 @@
+-- What each command makes of the editor's value and of the ring, and how it ends.
+use Rattle.std.specs.Prelude.{ℕ, ◌==◌, Bool, true, false, if◌then◌else◌, List, Option, Some, None, Result, Ok, Err, slice_get, length, is_some}
+use Rattle.line_buffer.specs.Columns.{line_up, line_down}
+use Rattle.line_buffer.specs.declared.types.Anchor.TheVariants.{Before}
+use Rattle.line_buffer.specs.declared.types.WordAction.TheVariants.{Capitalize, Lowercase, Uppercase}
+use Rattle.line_config.specs.declared.errors.ReadlineError.{ReadlineError}
+use Rattle.line_config.specs.declared.errors.ReadlineError.TheVariants.{Interrupted, Eof}
+use Rattle.line_config.specs.declared.settings.EditMode.{EditMode}
+use Rattle.line_help.specs.declared.search.SearchDirection.TheVariants.{Forward, Reverse}
+use Rattle.line_keys.specs.Modes.{is_emacs, is_vi_command}
+use Rattle.line_keys.specs.declared.command.Cmd.{Cmd}
+use Rattle.line_keys.specs.declared.command.Cmd.TheVariants.{Abort, AcceptLine, BeginningOfHistory, CapitalizeWord, ClearScreen, Complete, CompleteBackward, CompleteHint, Dedent, DowncaseWord, EndOfFile, EndOfHistory, ForwardSearchHistory, HistorySearchBackward, HistorySearchForward, Indent, Insert, Interrupt, Kill, Move, NextHistory, Noop, Repaint, Overwrite, PreviousHistory, QuotedInsert, ReplaceChar, Replace, ReverseSearchHistory, SelfInsert, Suspend, TransposeChars, TransposeWords, Undo, Unknown, UpcaseWord, ViYankTo, Yank, YankPop, LineUpOrPreviousHistory, LineDownOrNextHistory, Newline, AcceptOrInsertLine}
+use Rattle.line_keys.specs.declared.command.InputMode.{InputMode}
+use Rattle.line_record.specs.Ring.{Ring, yanked, turned, exchanged}
+use Rattle.line_editor.specs.Accepting.{bare, newline, accept, accepts, accept_or_insert}
+use Rattle.line_editor.specs.Drawing.{refreshed, cleared_and_drawn, moved_to_end}
+use Rattle.line_editor.specs.Hinting.{complete_hint}
+use Rattle.line_editor.specs.Inserting.{insert_char, replace_char, overwrite_char}
+use Rattle.line_editor.specs.Killing.{kill, replace, killed_into, copied_into}
+use Rattle.line_editor.specs.Moving.{move_by, move_line_up, move_line_down}
+use Rattle.line_editor.specs.Remembering.{history_step, history_end, history_search}
+use Rattle.line_editor.specs.Rewording.{transpose_chars, transpose_words, edit_word, indent, undo}
+use Rattle.line_editor.specs.Values.{Value, Setting, Effect, Edit, unchanged}
+use Rattle.line_editor.specs.Yanking.{yank, yank_lent, pop_lent}
+use Rattle.line_editor.specs.declared.commands.Status.{Status}
+use Rattle.line_editor.specs.declared.commands.Status.TheVariants.{Proceed, Submit}
+
+-- what a command is done with, beside the state
+pub record Means : Type 0 where
+  pub mode : EditMode
+  pub input_mode : InputMode
+  -- by how many columns a row is moved in or out
+  pub indent_size : ℕ
+  pub ring : Ring
+
+abbrev pub in_vi_command : Means → Bool
+in_vi_command m = is_vi_command m.mode m.input_mode
+
+-- up or down by rows, and in the last row through the history
+abbrev pub line_up_or_previous : ℕ → Edit
+line_up_or_previous n s v = if is_some (line_up s.mode s.column n v.line) then move_line_up n s v else history_step true s v
+
+abbrev pub line_down_or_next : ℕ → Edit
+line_down_or_next n s v = if is_some (line_down s.mode s.column n v.line) then move_line_down n s v else history_step false s v
+
+abbrev pub effect : Means → Cmd → Edit
+effect m (SelfInsert n c) = insert_char c n
+effect m Newline = newline
+effect m (Insert n text) = yank (in_vi_command m) text Before n
+effect m (Yank n anchor) = yank_lent (in_vi_command m) anchor n (slice_get m.ring.slots m.ring.place)
+effect m YankPop = pop_lent (exchanged m.ring)
+effect m (Move movement) = move_by movement
+effect m (Kill movement) = kill movement
+effect m (Replace movement text) = replace movement text
+effect m (ReplaceChar n c) = replace_char c n
+effect m (Overwrite c) = overwrite_char c
+effect m EndOfFile = bare
+effect m ClearScreen = cleared_and_drawn
+effect m Repaint = refreshed
+effect m PreviousHistory = history_step true
+effect m NextHistory = history_step false
+effect m BeginningOfHistory = history_end true
+effect m EndOfHistory = history_end false
+effect m (LineUpOrPreviousHistory n) = line_up_or_previous n
+effect m (LineDownOrNextHistory n) = line_down_or_next n
+effect m HistorySearchBackward = history_search Reverse
+effect m HistorySearchForward = history_search Forward
+effect m TransposeChars = transpose_chars
+effect m (TransposeWords n) = transpose_words n
+effect m CapitalizeWord = edit_word Capitalize
+effect m DowncaseWord = edit_word Lowercase
+effect m UpcaseWord = edit_word Uppercase
+effect m (Undo n) = undo n
+effect m (Indent movement) = indent movement m.indent_size false
+effect m (Dedent movement) = indent movement m.indent_size true
+effect m CompleteHint = complete_hint
+effect m AcceptLine = accept
+effect m (AcceptOrInsertLine middle) = accept_or_insert middle
+effect m Interrupt = moved_to_end
+effect m cmd = unchanged
+
+abbrev pub ring_after : Cmd → Value → Ring → Ring
+ring_after (Kill movement) v r = killed_into movement v r
+ring_after (Replace movement text) v r = killed_into movement v r
+ring_after (ViYankTo movement) v r = copied_into movement v r
+ring_after (Yank n anchor) v r = yanked r
+ring_after YankPop v r = turned r
+ring_after cmd v r = r
+
+-- an empty line ends the session; in Vi another one is accepted
+abbrev pub end_of_file : EditMode → Value → Result Status ReadlineError
+end_of_file mode v = if length v.line.text == 0 then Err Eof else if is_emacs mode then Ok Proceed else Ok Submit
+
+abbrev pub outcome : Means → Cmd → Setting → Value → Result Status ReadlineError
+outcome m EndOfFile s v = end_of_file m.mode v
+outcome m AcceptLine s v = Ok Submit
+outcome m (AcceptOrInsertLine middle) s v = if accepts middle s v then Ok Submit else Ok Proceed
+outcome m Interrupt s v = Err Interrupted
+outcome m cmd s v = Ok Proceed

@@ -1,0 +1,39 @@
+-- A line as a list of turns, and a session as the turns of its lines.
+use Rattle.std.specs.Prelude.{◌≡◌, ⊤, ℕ, Bool, true, false, List, [], ◌∷◌}
+use Rattle.line_config.specs.declared.errors.ReadlineError.{ReadlineError}
+use Rattle.line_config.specs.declared.errors.ReadlineError.TheVariants.{Eof, Interrupted, NotUtf8, PasteOutOfPlace, Reader, Display, Lines, HistoryText, Helper, Handler, Memory}
+use Rattle.line_editor.specs.Redraws.{Redraw}
+use Rattle.line_editor.specs.Sights.{Sight, no_sight, Turns, FitsAll}
+
+-- a first drawing, or a phrase and a command that leave the line open, with what is to be seen behind them; a phrase and a
+-- command that accept the line; what ends the session, with whether a line break is written behind it
+pub data Turn : Type 0 where
+  Open : (redraws : List Redraw) (value : Sight) → Turn
+  Accept : (redraws : List Redraw) (value : Sight) → Turn
+  Last : (redraws : List Redraw) (breaks : Bool) → Turn
+
+-- the endings behind which a line break is written
+abbrev pub breaks_after : ReadlineError → Bool
+breaks_after Eof = true
+breaks_after Interrupted = true
+breaks_after NotUtf8 = false
+breaks_after PasteOutOfPlace = false
+breaks_after Reader = false
+breaks_after Display = false
+breaks_after Lines = false
+breaks_after HistoryText = false
+breaks_after Helper = false
+breaks_after Handler = false
+breaks_after Memory = false
+
+abbrev pub redraws_in : Turn → List Redraw
+redraws_in (Open redraws value) = redraws
+redraws_in (Accept redraws value) = redraws
+redraws_in (Last redraws breaks) = redraws
+
+-- each turn's redraws lead from what is seen to what is to be seen; a line begins with nothing to see
+abbrev pub Course : List ℕ → Sight → List Turn → Type 0
+Course own x [] = ⊤
+Course own x (Open redraws y ∷ rest) = Turns own x redraws y × (y.ended ≡ false) × Course own y rest
+Course own x (Accept redraws y ∷ rest) = Turns own x redraws y × (y.ended ≡ true) × Course own no_sight rest
+Course own x (Last redraws breaks ∷ rest) = FitsAll own x redraws

@@ -1,0 +1,53 @@
+-- What is killed, and what is copied into the ring.
+use Rattle.std.specs.Prelude.{ℕ, ◌-◌, ◌==◌, ◌&&◌, if◌then◌else◌, Bool, List, [], ◌∷◌, length, drop, Option, Some, None, is_some, option_map}
+use Rattle.std.specs.List.{list_all}
+use Rattle.line_buffer.specs.Line.{Line}
+use Rattle.line_buffer.specs.Range.{range_of, copied_range, span_text, kill_events}
+use Rattle.line_buffer.specs.declared.types.Mode.TheVariants.{Append}
+use Rattle.line_buffer.specs.declared.types.Movement.{Movement}
+use Rattle.line_record.specs.Ring.{Ring, ring_all, killed as killed_in}
+use Rattle.line_edits.specs.Edits.{killed}
+use Rattle.line_buffer.specs.Short.{is_printable}
+use Rattle.line_edits.specs.Plain.{is_plain}
+use Rattle.line_editor.specs.Drawing.{drawn, asked_anew}
+use Rattle.line_editor.specs.Inserting.{is_bare, insert_text}
+use Rattle.line_editor.specs.Redraws.{Redraw}
+use Rattle.line_editor.specs.Redraws.Redraw.{Taken}
+use Rattle.line_editor.specs.Values.{Value, Setting, Effect, Edit, unchanged, then_do, rewritten}
+
+-- printable characters from the end of a plain line, with nothing to show, before and behind it
+abbrev pub may_be_taken : Value → Value → Bool
+may_be_taken before v =
+    is_plain v.line.text && (list_all is_printable (drop (length v.line.text) before.line.text)
+    && ((v.line.place == length v.line.text) && (is_bare before && is_bare v)))
+
+abbrev pub taken_redraw : Setting → Value → Value → Redraw
+taken_redraw s before v =
+    if may_be_taken before v then Taken s.prompt (length before.line.text - length v.line.text) v.line.text v.line.place else drawn s v
+
+abbrev pub show_taken : Value → Edit
+show_taken before s v = record { value = asked_anew s v; redraws = taken_redraw s before (asked_anew s v) ∷ [] }
+
+abbrev pub kill : Movement → Edit
+kill movement s v =
+    if is_some (range_of movement v.line) then show_taken v s (rewritten (killed movement) v) else unchanged s (rewritten (killed movement) v)
+
+abbrev pub insert_text_if : Option (List ℕ) → Edit
+insert_text_if None = unchanged
+insert_text_if (Some text) = insert_text text
+
+-- killed, and a text put there
+abbrev pub replace : Movement → Option (List ℕ) → Edit
+replace movement text = then_do (kill movement) (insert_text_if text)
+
+-- ---- the ring
+
+abbrev pub killed_into : Movement → Value → Ring → Ring
+killed_into movement v r = ring_all (kill_events movement v.line) r
+
+abbrev pub copied_by : Option (List ℕ) → Ring → Ring
+copied_by None r = r
+copied_by (Some text) r = killed_in text Append r
+
+abbrev pub copied_into : Movement → Value → Ring → Ring
+copied_into movement v r = copied_by (option_map (λ span. span_text span v.line) (copied_range movement v.line)) r

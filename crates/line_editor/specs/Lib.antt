@@ -1,0 +1,17 @@
+pub mod Accepting
+pub mod Calls
+pub mod Commands
+pub mod Drawing
+pub mod Hinting
+pub mod Inserting
+pub mod Killing
+pub mod Moving
+pub mod Redraws
+pub mod Remembering
+pub mod Rewording
+pub mod Sights
+pub mod States
+pub mod Values
+pub mod Yanking
+pub mod Asks
+pub mod Courses

@@ -1,0 +1,84 @@
+-- Motions of the cursor.
+use Rattle.std.specs.Prelude.{ℕ, ◌==◌, not, Bool, if◌then◌else◌, List, [], ◌∷◌, length, Option, Some, is_some, chars}
+use Rattle.std.specs.Char.{is_whitespace}
+use Rattle.line_buffer.specs.Clusters.{place_forward, place_backward}
+use Rattle.line_buffer.specs.Columns.{line_up, line_down}
+use Rattle.line_buffer.specs.Hits.{search_place}
+use Rattle.line_buffer.specs.Line.{Line, moved_to}
+use Rattle.line_buffer.specs.Rows.{row_start, row_end}
+use Rattle.line_buffer.specs.Words.{prev_word, next_word}
+use Rattle.line_buffer.specs.declared.types.At.{At}
+use Rattle.line_buffer.specs.declared.types.At.TheVariants.{Start}
+use Rattle.line_buffer.specs.declared.types.CharSearch.{CharSearch}
+use Rattle.line_buffer.specs.declared.types.Movement.{Movement}
+use Rattle.line_buffer.specs.declared.types.Movement.TheVariants.{WholeLine, BeginningOfLine, EndOfLine, BackwardWord, ForwardWord, ViCharSearch, ViFirstPrint, BackwardChar, ForwardChar, LineUp, LineDown, WholeBuffer, BeginningOfBuffer, EndOfBuffer}
+use Rattle.line_buffer.specs.declared.types.Word.{Word}
+use Rattle.line_buffer.specs.declared.types.Word.TheVariants.{Big}
+use Rattle.line_help.specs.History.{begins_with_space}
+use Rattle.line_keys.specs.declared.command.CmdKind.{CmdKind}
+use Rattle.line_keys.specs.declared.command.CmdKind.TheVariants.{MoveCursor}
+use Rattle.line_editor.specs.Drawing.{cursor_moved}
+use Rattle.line_editor.specs.Values.{Value, Setting, Effect, Edit, unchanged, then_do, at_line}
+
+-- where it moves, the display's cursor follows
+abbrev pub stepped : CmdKind → Bool → Line → Edit
+stepped kind moves line s v = if moves then cursor_moved kind s (at_line line v) else unchanged s v
+
+abbrev pub to_found : Option ℕ → Edit
+to_found found s v = stepped MoveCursor (is_some found) (moved_to found v.line) s v
+
+abbrev pub to_place : CmdKind → ℕ → Edit
+to_place kind place s v = stepped kind (not (place == v.line.place)) (record v.line { place = place }) s v
+
+abbrev pub move_backward : ℕ → Edit
+move_backward n s v = to_found (place_backward n v.line) s v
+
+abbrev pub move_forward : ℕ → Edit
+move_forward n s v = to_found (place_forward n v.line) s v
+
+abbrev pub move_to_prev_word : Word → ℕ → Edit
+move_to_prev_word word n s v = to_found (prev_word word n v.line) s v
+
+abbrev pub move_to_next_word : At → Word → ℕ → Edit
+move_to_next_word at word n s v = to_found (next_word at word n v.line) s v
+
+abbrev pub move_to : CharSearch → ℕ → Edit
+move_to search n s v = to_found (search_place search n v.line) s v
+
+abbrev pub move_line_up : ℕ → Edit
+move_line_up n s v = to_found (line_up s.mode s.column n v.line) s v
+
+abbrev pub move_line_down : ℕ → Edit
+move_line_down n s v = to_found (line_down s.mode s.column n v.line) s v
+
+abbrev pub move_home : Edit
+move_home s v = to_place MoveCursor (row_start v.line.text v.line.place) s v
+
+abbrev pub move_end : Edit
+move_end s v = to_place MoveCursor (row_end v.line.text v.line.place) s v
+
+abbrev pub move_buffer_start : Edit
+move_buffer_start s v = stepped MoveCursor (not (v.line.place == 0)) (record v.line { place = 0 }) s v
+
+abbrev pub move_buffer_end : CmdKind → Edit
+move_buffer_end kind s v = stepped kind (not (v.line.place == length v.line.text)) (record v.line { place = length v.line.text }) s v
+
+-- from the row's start on to the next word, where the text begins with whitespace
+abbrev pub move_to_first_print : Edit
+move_to_first_print s v = if begins_with_space v.line.text then then_do move_home (move_to_next_word Start Big 1) s v else move_home s v
+
+abbrev pub move_by : Movement → Edit
+move_by WholeLine = unchanged
+move_by BeginningOfLine = move_home
+move_by EndOfLine = move_end
+move_by (BackwardWord n word) = move_to_prev_word word n
+move_by (ForwardWord n at word) = move_to_next_word at word n
+move_by (ViCharSearch n search) = move_to search n
+move_by ViFirstPrint = move_to_first_print
+move_by (BackwardChar n) = move_backward n
+move_by (ForwardChar n) = move_forward n
+move_by (LineUp n) = move_line_up n
+move_by (LineDown n) = move_line_down n
+move_by WholeBuffer = unchanged
+move_by BeginningOfBuffer = move_buffer_start
+move_by EndOfBuffer = move_buffer_end MoveCursor

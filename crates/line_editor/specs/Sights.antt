@@ -1,0 +1,102 @@
+-- What redraws lead to, without a screen.
+use Rattle.std.specs.Prelude.{◌≡◌, ⊤, ℕ, ◌+◌, Bool, true, false, List, [], ◌∷◌, ◌++◌, length, Option, Some, None}
+use Rattle.std.specs.List.{list_all}
+use Rattle.line_buffer.specs.Short.{is_printable}
+use Rattle.line_edits.specs.Plain.{is_plain}
+use Rattle.line_editor.specs.Redraws.{Redraw}
+use Rattle.line_editor.specs.Redraws.Redraw.{Drawn, Moved, Typed, Taken, Bared, ToEnd, Beeped, Cleared}
+use Rattle.line_editor.specs.Values.{Value, Setting}
+
+-- prompt, line, place and information as they were last asked for; `given`: the prompt is the session's own; `ended`: the
+-- cursor was sent to the drawing's end. An empty text counts as information
+pub record Sight : Type 0 where
+  pub prompt : List ℕ
+  pub line : List ℕ
+  pub place : ℕ
+  pub info : Option (List ℕ)
+  pub given : Bool
+  pub ended : Bool
+
+abbrev pub sight_with : Bool → List ℕ → List ℕ → ℕ → Option (List ℕ) → Sight
+sight_with given prompt text place info = record { prompt = prompt; line = text; place = place; info = info; given = given; ended = false }
+
+abbrev pub sight_as : List ℕ → List ℕ → ℕ → Option (List ℕ) → Sight
+sight_as = sight_with true
+
+abbrev pub no_sight : Sight
+no_sight = sight_with false [] [] 0 None
+
+abbrev pub sight : Sight → Redraw → Sight
+sight x (Drawn prompt given text place info) = sight_with given prompt text place info
+sight x (Moved text place) = sight_with x.given x.prompt x.line place x.info
+sight x (Typed prompt c text place) = sight_as prompt text place None
+sight x (Taken prompt count text place) = sight_as prompt text place None
+sight x (Bared prompt text place) = x
+sight x ToEnd = record { prompt = x.prompt; line = x.line; place = x.place; info = x.info; given = x.given; ended = true }
+sight x Beeped = x
+sight x Cleared = no_sight
+
+pub record TypedFits (x : Sight) (prompt : List ℕ) (c : ℕ) (text : List ℕ) (place : ℕ) : Type 0 where
+  pub printable : is_printable c ≡ true
+  pub simple : is_plain x.line ≡ true
+  pub end : x.place ≡ length x.line
+  pub prompt_is : prompt ≡ x.prompt
+  pub text_is : text ≡ x.line ++ c ∷ []
+  pub behind : place ≡ x.place + 1
+
+pub record TakenFits (x : Sight) (prompt : List ℕ) (count : ℕ) (text : List ℕ) (place : ℕ) : Type 0 where
+  pub killed : List ℕ
+  pub whole : x.line ≡ text ++ killed
+  pub count_is : count ≡ length killed
+  pub simple : is_plain text ≡ true
+  pub printable : list_all is_printable killed ≡ true
+  pub prompt_is : prompt ≡ x.prompt
+  pub end : place ≡ length text
+
+-- where each redraw may be asked for; `own` is the session's prompt
+abbrev pub Fits : List ℕ → Sight → Redraw → Type 0
+Fits own x (Drawn prompt given text place info) = given ≡ true → prompt ≡ own
+Fits own x (Moved text place) = text ≡ x.line
+Fits own x (Typed prompt c text place) = (x.given ≡ true) × (prompt ≡ own) × (x.ended ≡ false) × TypedFits x prompt c text place
+Fits own x (Taken prompt count text place) = (x.given ≡ true) × (prompt ≡ own) × TakenFits x prompt count text place
+Fits own x (Bared prompt text place) = x.given ≡ true
+Fits own x ToEnd = ⊤
+Fits own x Beeped = ⊤
+Fits own x Cleared = ⊤
+
+abbrev pub sight_all : Sight → List Redraw → Sight
+sight_all x [] = x
+sight_all x (r ∷ rs) = sight_all (sight x r) rs
+
+abbrev pub FitsAll : List ℕ → Sight → List Redraw → Type 0
+FitsAll own x [] = ⊤
+FitsAll own x (r ∷ rs) = Fits own x r × FitsAll own (sight x r) rs
+
+-- redraws that lead from one to the other
+pub record Turns (own : List ℕ) (x : Sight) (rs : List Redraw) (y : Sight) : Type 0 where
+  pub fits : FitsAll own x rs
+  pub leads : sight_all x rs ≡ y
+
+-- ---- the information that stands, as a fold of the redraws
+
+abbrev pub info_one : Option (List ℕ) → Redraw → Option (List ℕ)
+info_one info (Drawn prompt given text place new) = new
+info_one info (Moved text place) = info
+info_one info (Typed prompt c text place) = None
+info_one info (Taken prompt count text place) = None
+info_one info (Bared prompt text place) = info
+info_one info ToEnd = info
+info_one info Beeped = info
+info_one info Cleared = None
+
+abbrev pub info_after : List Redraw → Option (List ℕ) → Option (List ℕ)
+info_after [] info = info
+info_after (r ∷ rs) info = info_after rs (info_one info r)
+
+-- what is to be seen of a value with some information
+abbrev pub sight_of : Setting → Value → Option (List ℕ) → Sight
+sight_of s v info = sight_as s.prompt v.line.text v.line.place info
+
+-- the same with the cursor at the drawing's end
+abbrev pub ended_sight : Sight → Sight
+ended_sight x = record x { ended = true }

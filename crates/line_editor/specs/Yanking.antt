@@ -1,0 +1,48 @@
+-- Texts yanked from the ring, and exchanged.
+use Rattle.std.specs.Prelude.{ℕ, ◌||◌, Bool, true, false, if◌then◌else◌, List, [], ◌∷◌, Option, Some, None, is_some}
+use Rattle.line_buffer.specs.Clusters.{place_forward, place_backward}
+use Rattle.line_buffer.specs.Insertions.{yank as yanked_in, can_take_before}
+use Rattle.line_buffer.specs.Line.{Line, moved_to}
+use Rattle.line_buffer.specs.declared.types.Anchor.{Anchor}
+use Rattle.line_buffer.specs.declared.types.Anchor.TheVariants.{After, Before}
+use Rattle.line_edits.specs.Edits.{yanked, pop_in_group}
+use Rattle.line_editor.specs.Drawing.{refreshed}
+use Rattle.line_editor.specs.Values.{Value, Setting, Effect, Edit, unchanged, rewritten, at_line}
+
+-- behind the cluster at the cursor
+abbrev pub anchored : Anchor → Line → Line
+anchored After l = moved_to (place_forward 1 l) l
+anchored Before l = l
+
+abbrev pub steps : Anchor → Line → Bool
+steps After l = is_some (place_forward 1 l)
+steps Before l = false
+
+-- in Vi's command mode the cursor stands on the last cluster
+abbrev pub behind_yank : Bool → Line → Line
+behind_yank true l = moved_to (place_backward 1 l) l
+behind_yank false l = l
+
+abbrev pub yanked_by : Bool → List ℕ → ℕ → Value → Value
+yanked_by vi text n v =
+    let w = rewritten (yanked text n) v in
+    if is_some (yanked_in text n v.line).answer then at_line (behind_yank vi w.line) w else w
+
+abbrev pub yank : Bool → List ℕ → Anchor → ℕ → Edit
+yank vi text anchor n s v =
+    let before = at_line (anchored anchor v.line) v in
+    if is_some (yanked_in text n before.line).answer || steps anchor v.line then refreshed s (yanked_by vi text n before) else unchanged s (yanked_by vi text n before)
+
+-- where so many bytes stand before the cursor, from between two characters on
+abbrev pub yank_pop : ℕ → List ℕ → Edit
+yank_pop size text s v = if can_take_before size v.line then refreshed s (rewritten (pop_in_group size text) v) else unchanged s v
+
+-- ---- what the ring lends
+
+abbrev pub yank_lent : Bool → Anchor → ℕ → Option (List ℕ) → Edit
+yank_lent vi anchor n None = unchanged
+yank_lent vi anchor n (Some text) = yank vi text anchor n
+
+abbrev pub pop_lent : Option (ℕ × List ℕ) → Edit
+pop_lent None = unchanged
+pop_lent (Some lent) = yank_pop lent.0 lent.1

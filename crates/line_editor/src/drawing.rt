@@ -1,0 +1,300 @@
+//! What a state draws.
+ghost use Rattle.std.specs.Prelude.{◌≡◌, None, false, if◌then◌else◌, IfErr, OnOk, option_map, option_copied};
+
+use crate::renderer::{RefreshKind, Renderer};
+use crate::state::State;
+use line_buffer::{Layout, Position};
+use line_config::{HookFault, ReadlineError};
+use line_help::{Helper, Highlighter, Hint, Hinter, History};
+use line_keys::CmdKind;
+
+/// The text that a hint shows.
+fn display_of<T: Hint>(hint: &Option<T>) -> Option<&str>
+    ensures { option_copied result ≡ option_map (λ h. (T.says h).display) hint.now }
+{
+    match hint {
+        Some(hint) => Some(hint.display()),
+        None => None,
+    }
+}
+
+/// The helper, where the display has colours.
+pub(crate) fn highlighter_of<H>(helper: &Option<H>, colours: bool) -> Option<&H>
+    ensures { option_copied result ≡ (if colours then helper.now else None) }
+{
+    if colours { helper.as_ref() } else { None }
+}
+
+#[tactic(auto, using(crate::proofs::BegunLemmas::begun_none, crate::proofs::BegunLemmas::begun_refused, crate::proofs::BegunLemmas::begun_made))]
+impl<'p, 'h, Out: Renderer, H: Helper + Drop, Hi: History> State<'p, 'h, Out, H, Hi> {
+    ghost use Rattle.line_editor.specs.States.{value_of, setting_of, Stays, Does, HookFails, reason_of};
+    ghost use Rattle.line_editor.specs.Values.{with_hint, with_mark};
+    ghost use Rattle.line_editor.specs.Drawing.{drawn_behind, drawn_with, repainted, refreshed, refreshed_behind, told, cursor_shown, cursor_moved, moved_to_end, beeped, cleared, cleared_and_drawn};
+    ghost use Rattle.line_editor.specs.Drawing.{asked_anew};
+    ghost use Rattle.line_editor.specs.Values.{redrawn};
+    ghost use Rattle.line_editor.specs.Redraws.Redraw.{Typed, Taken, Bared};
+    ghost use Rattle.line_editor.specs.Calls.{Makes};
+    ghost use Rattle.line_editor.specs.Calls.Call.{ToLeftmost};
+    ghost use Rattle.line_keys.specs.declared.command.CmdKind.TheVariants.{Other};
+
+    /// Asks the helper for the hint.
+    pub(crate) fn ask_hint(&mut self) -> Result<(), ReadlineError>
+        ensures value { OnOk result (value_of self.new ≡ with_hint (setting_of self.old) (value_of self.old)) }
+        ensures out { self.new.out ≡ self.old.out }
+        ensures layout { self.new.layout ≡ self.old.layout }
+        ensures stays { Stays self.old self.new }
+        ensures reason { IfErr result (λ e. reason_of false (HookFails self.new) e) }
+    {
+        let mut hint = None;
+        if let Some(helper) = &self.helper {
+            match helper.hint(self.alloc, self.line.as_str(), self.line.pos(), &self.ctx) {
+                Ok(Some(found)) => {
+                    if !found.display().is_empty() {
+                        hint = Some(found);
+                    }
+                }
+                Ok(None) => {}
+                Err(HookFault::Failed) => return Err(ReadlineError::Helper),
+                Err(HookFault::Memory) => return Err(ReadlineError::Memory),
+            }
+        }
+        self.hint = hint;
+        Ok(())
+    }
+
+    /// Asks the helper whether a character is highlighted, where the display has colours.
+    pub(crate) fn mark(&mut self, kind: CmdKind)
+        ensures value { value_of self.new ≡ with_mark kind (setting_of self.old) (value_of self.old) }
+        ensures out { self.new.out ≡ self.old.out }
+        ensures layout { self.new.layout ≡ self.old.layout }
+        ensures stays { Stays self.old self.new }
+    {
+        let mut marked = false;
+        if self.out.colors_enabled() {
+            let pos = self.line.pos();
+            if let Some(helper) = &mut self.helper {
+                marked = helper.highlight_char(self.line.as_str(), pos, kind);
+            }
+        }
+        self.highlight_char = marked;
+    }
+
+    /// Draws the line behind a prompt, with the hint that is kept.
+    pub(crate) fn draw(&mut self, prompt: &str, given: bool) -> Result<(), ReadlineError>
+        ensures does { Does (drawn_behind prompt.now given) self.old self.new result }
+    {
+        let origin = Position { col: 0, row: 0 };
+        let start = self.out.calculate_position(prompt, origin);
+        let info = display_of(&self.hint);
+        let layout = self.out.compute_layout(start, given, &self.line, info);
+        let highlighter = highlighter_of(&self.helper, self.out.colors_enabled());
+        self.out.refresh_line(
+            prompt,
+            &self.line,
+            info,
+            Some(self.layout),
+            &layout,
+            highlighter,
+        )?;
+        self.layout = layout;
+        Ok(())
+    }
+
+    /// Draws the line with other information in place of the hint.
+    pub(crate) fn draw_with(&mut self, info: Option<&str>) -> Result<(), ReadlineError>
+        ensures does { Does (drawn_with (option_copied info.entry)) self.old self.new result }
+    {
+        let origin = Position { col: 0, row: 0 };
+        let start = self.out.calculate_position(self.prompt, origin);
+        let layout = self.out.compute_layout(start, true, &self.line, info);
+        let highlighter = highlighter_of(&self.helper, self.out.colors_enabled());
+        self.out.refresh_line(
+            self.prompt,
+            &self.line,
+            info,
+            Some(self.layout),
+            &layout,
+            highlighter,
+        )?;
+        self.layout = layout;
+        Ok(())
+    }
+
+    /// Draws the line with the hint that is kept. All is drawn anew, whatever the kind.
+    pub fn repaint(&mut self, _kind: RefreshKind) -> Result<(), ReadlineError>
+        ensures does { Does repainted self.old self.new result }
+    {
+        let prompt = self.prompt;
+        self.draw(prompt, true)
+    }
+
+    /// Asks the helper for the hint, and whether a character is highlighted.
+    pub(crate) fn ask_anew(&mut self) -> Result<(), ReadlineError>
+        ensures value { OnOk result (value_of self.new ≡ asked_anew (setting_of self.old) (value_of self.old)) }
+        ensures out { self.new.out ≡ self.old.out }
+        ensures layout { self.new.layout ≡ self.old.layout }
+        ensures stays { Stays self.old self.new }
+        ensures reason { IfErr result (λ e. reason_of false (HookFails self.new) e) }
+    {
+        self.ask_hint()?;
+        self.mark(CmdKind::Other);
+        Ok(())
+    }
+
+    /// Draws the line with a new hint.
+    pub(crate) fn refresh(&mut self) -> Result<(), ReadlineError>
+        ensures does { Does refreshed self.old self.new result }
+    {
+        self.ask_anew()?;
+        let prompt = self.prompt;
+        self.draw(prompt, true)
+    }
+
+    /// Draws the line with a new hint behind another prompt.
+    pub(crate) fn refresh_behind(&mut self, prompt: &str) -> Result<(), ReadlineError>
+        ensures does { Does (refreshed_behind prompt.now) self.old self.new result }
+    {
+        self.ask_anew()?;
+        self.draw(prompt, false)
+    }
+
+    /// Draws the line with a message, if there is one, in place of the hint.
+    pub(crate) fn tell(
+        &mut self,
+        message: Option<&str>,
+        kind: CmdKind,
+    ) -> Result<(), ReadlineError>
+        ensures does { Does (told (option_copied message.entry) kind) self.old self.new result }
+    {
+        self.hint = None;
+        self.mark(kind);
+        self.draw_with(message)
+    }
+
+    /// Moves the display's cursor to the text's.
+    pub(crate) fn show_cursor(&mut self) -> Result<(), ReadlineError>
+        ensures does { Does cursor_shown self.old self.new result }
+    {
+        let pos = self.line.pos();
+        let cursor = self
+            .out
+            .calculate_position(&self.line.as_str()[..pos], self.layout.prompt_size);
+        if self.layout.cursor == cursor {
+            return Ok(());
+        }
+        self.out.move_cursor(self.layout.cursor, cursor)?;
+        self.layout.cursor = cursor;
+        Ok(())
+    }
+
+    /// Moves the display's cursor to the text's. Where a character is highlighted, or was until now, the line is drawn
+    /// in its place, without hint and message.
+    pub fn move_cursor(&mut self, kind: CmdKind) -> Result<(), ReadlineError>
+        ensures does { Does (cursor_moved kind) self.old self.new result }
+    {
+        let was_marked = self.highlight_char;
+        self.mark(kind);
+        if was_marked || self.highlight_char {
+            self.draw_with(None)
+        } else {
+            self.show_cursor()
+        }
+    }
+
+    /// Moves the display's cursor to the drawing's end.
+    pub fn move_cursor_to_end(&mut self) -> Result<(), ReadlineError>
+        ensures does { Does moved_to_end self.old self.new result }
+    {
+        if self.layout.cursor == self.layout.end {
+            return Ok(());
+        }
+        self.out.move_cursor(self.layout.cursor, self.layout.end)?;
+        self.layout.cursor = self.layout.end;
+        Ok(())
+    }
+
+    /// Moves the display's cursor to its row's first cell. What is kept of the drawing stays.
+    pub fn move_cursor_at_leftmost(&mut self) -> Result<(), ReadlineError>
+        ensures makes { Makes Out.canvas ToLeftmost self.old.out self.new.out result }
+        ensures value { value_of self.new ≡ value_of self.old }
+        ensures layout { self.new.layout ≡ self.old.layout }
+        ensures stays { Stays self.old self.new }
+    {
+        self.out.move_cursor_at_leftmost()
+    }
+
+    pub(crate) fn beep(&mut self) -> Result<(), ReadlineError>
+        ensures does { Does beeped self.old self.new result }
+    {
+        self.out.beep()?;
+        Ok(())
+    }
+
+    /// Erases the display. What is kept of the drawing is as before the first one.
+    pub fn clear_screen(&mut self) -> Result<(), ReadlineError>
+        ensures does { Does cleared self.old self.new result }
+    {
+        self.out.clear_screen()?;
+        self.layout = Layout::new(self.layout.grapheme_cluster_mode);
+        Ok(())
+    }
+
+    /// Erases the display and draws the line.
+    pub(crate) fn clear_and_draw(&mut self) -> Result<(), ReadlineError>
+        ensures does { Does cleared_and_drawn self.old self.new result }
+    {
+        self.clear_screen()?;
+        self.refresh()?;
+        Ok(())
+    }
+
+    /// Shows a character that was typed at the end: its byte alone, where nothing stands behind it and it doesn't fill its
+    /// row.
+    pub(crate) fn show_short_typed(&mut self, ch: char) -> Result<(), ReadlineError>
+        ensures does { Does (λ s v. redrawn (Typed s.prompt ch v.line.text v.line.place) s v) self.old self.new result }
+    {
+        let columns = self.out.get_columns();
+        let col = self.layout.cursor.col;
+        if !self.layout.has_info && col < columns && col + 1 < columns {
+            let mut bytes = [0u8; 4];
+            self.out.write_and_flush(ch.encode_utf8(&mut bytes))?;
+            self.layout.cursor.col = col + 1;
+            self.layout.end = self.layout.cursor;
+            return Ok(());
+        }
+        self.draw_with(None)
+    }
+
+    /// Shows that so many characters were taken from the end: the rest of the row is erased, where they stood in it and
+    /// nothing stands behind them.
+    pub(crate) fn show_short_taken(&mut self, count: usize) -> Result<(), ReadlineError>
+        ensures does { Does (λ s v. redrawn (Taken s.prompt count v.line.text v.line.place) s v) self.old self.new result }
+    {
+        let end = self.layout.end;
+        if !self.layout.has_info
+            && self.layout.cursor.row == end.row
+            && count <= usize::from(end.col)
+        {
+            let end = Position {
+                col: end.col - count as u16,
+                row: end.row,
+            };
+            self.out.move_cursor(self.layout.cursor, end)?;
+            self.out.clear_to_eol()?;
+            self.layout.cursor = end;
+            self.layout.end = end;
+            return Ok(());
+        }
+        self.draw_with(None)
+    }
+
+    /// Draws the line without hint where another prompt than its own stands.
+    pub(crate) fn show_bare(&mut self) -> Result<(), ReadlineError>
+        ensures does { Does (λ s v. redrawn (Bared s.prompt v.line.text v.line.place) s v) self.old self.new result }
+    {
+        if self.layout.default_prompt {
+            return Ok(());
+        }
+        self.draw_with(None)
+    }
+}

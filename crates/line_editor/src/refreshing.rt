@@ -1,0 +1,1 @@
+//! A state as what the key tables see.

@@ -1,0 +1,130 @@
+//! What draws a line.
+ghost use Rattle.std.specs.Prelude.{◌≡◌, OnErr, IfErr, IsTrue, option_copied};
+ghost use Rattle.line_config.specs.declared.errors.ReadlineError.TheVariants.{Display};
+ghost use Rattle.line_editor.specs.Calls.{Canvas, Makes, Idles, old_row};
+ghost use Rattle.line_editor.specs.Calls.Call.{Draw, Move, Write, Beep, ClearScreen, ClearRows, ClearToEol, ToLeftmost};
+ghost use Rattle.line_editor.specs.Redraws.{layout_of, text_of};
+
+use line_buffer::{GraphemeClusterMode, Layout, LineBuffer, Position, Unit};
+use line_config::ReadlineError;
+use line_help::Highlighter;
+
+/// How much is drawn anew.
+#[derive(Clone, Copy, Debug, PartialEq, Eq)]
+pub enum RefreshKind {
+    /// What is behind the cursor, where nothing stands.
+    Min,
+    /// All that was drawn before is erased first.
+    All,
+}
+
+/// Draws a line on a display.
+///
+/// `canvas` is what is known of it: the step of each call that it makes, and of one that it refuses, whether the display
+/// has failed, and what it measures by. A call is refused only since the display has failed.
+pub trait Renderer: Drop {
+    ghost canvas: { Canvas Self };
+
+    /// Moves the cursor.
+    fn move_cursor(&mut self, old: Position, new: Position) -> Result<(), ReadlineError>
+        ensures { Makes canvas (Move old new) self.old self.new result };
+
+    /// Draws prompt, line, and hint or message behind it. Without an old layout nothing is erased: the cursor is on the
+    /// prompt's first cell, and the cells from there on are blank.
+    ///
+    /// A highlighter is handed in where the display has colours.
+    fn refresh_line<H: Highlighter>(
+        &mut self,
+        prompt: &str,
+        line: &LineBuffer,
+        hint: Option<&str>,
+        old_layout: Option<Layout>,
+        new_layout: &Layout,
+        highlighter: Option<&H>,
+    ) -> Result<(), ReadlineError>
+        ensures { Makes canvas (Draw (old_row old_layout) prompt.now line.now.text (text_of (option_copied hint.entry)) new_layout.now.end new_layout.now.cursor) self.old self.new result };
+
+    /// Writes a text at the cursor.
+    fn write_and_flush(&mut self, text: &str) -> Result<(), ReadlineError>
+        ensures { Makes canvas (Write text.now) self.old self.new result };
+
+    fn beep(&mut self) -> Result<(), ReadlineError>
+        ensures { Makes canvas Beep self.old self.new result };
+
+    /// Erases all, the cursor to the first cell.
+    fn clear_screen(&mut self) -> Result<(), ReadlineError>
+        ensures { Makes canvas ClearScreen self.old self.new result };
+
+    /// Erases the rows of a drawing, and all below.
+    fn clear_rows(&mut self, layout: &Layout) -> Result<(), ReadlineError>
+        ensures { Makes canvas (ClearRows layout.now.cursor.row) self.old self.new result };
+
+    /// Erases from the cursor to its row's end.
+    fn clear_to_eol(&mut self) -> Result<(), ReadlineError>
+        ensures { Makes canvas ClearToEol self.old self.new result };
+
+    /// Moves the cursor to its row's first cell, if the display left it elsewhere.
+    fn move_cursor_at_leftmost(&mut self) -> Result<(), ReadlineError>
+        ensures { Makes canvas ToLeftmost self.old self.new result };
+
+    /// What is drawn from now on is shown at once, when the update ends.
+    fn begin_synchronized_update(&mut self) -> Result<(), ReadlineError>
+        ensures { Idles canvas self.old self.new result }
+    {
+        Ok(())
+    }
+
+    fn end_synchronized_update(&mut self) -> Result<(), ReadlineError>
+        ensures { Idles canvas self.old self.new result }
+    {
+        Ok(())
+    }
+
+    /// Asks the display for its size anew.
+    fn update_size(&mut self);
+
+    fn get_columns(&self) -> Unit
+        ensures { result ≡ (canvas.ruler self.now).columns };
+
+    fn get_rows(&self) -> Unit;
+
+    fn colors_enabled(&self) -> bool
+        ensures { result ≡ (canvas.ruler self.now).colours };
+
+    fn grapheme_cluster_mode(&self) -> GraphemeClusterMode
+        ensures { result ≡ (canvas.ruler self.now).mode };
+
+    /// Where the drawing of a text from a place on ends.
+    fn calculate_position(&self, text: &str, orig: Position) -> Position
+        ensures { result ≡ (canvas.ruler self.now).measure text.now orig };
+
+    /// The layout of a line behind a prompt that ends at `prompt_size`, with a hint or message behind it. The end is that
+    /// of the whole drawing.
+    fn compute_layout(
+        &self,
+        prompt_size: Position,
+        default_prompt: bool,
+        line: &LineBuffer,
+        info: Option<&str>,
+    ) -> Layout
+        ensures { result ≡ layout_of (canvas.ruler self.now) prompt_size default_prompt line.now.text line.now.place (option_copied info.entry) }
+    {
+        let grapheme_cluster_mode = self.grapheme_cluster_mode();
+        let pos = line.pos();
+        let text = line.as_str();
+        let cursor = self.calculate_position(&text[..pos], prompt_size);
+        let end = self.calculate_position(text, prompt_size);
+        let (end, has_info) = match info {
+            None => (self.calculate_position("", end), false),
+            Some(info) => (self.calculate_position(info, end), true),
+        };
+        Layout {
+            grapheme_cluster_mode,
+            prompt_size,
+            default_prompt,
+            cursor,
+            end,
+            has_info,
+        }
+    }
+}

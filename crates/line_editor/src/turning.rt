@@ -1,0 +1,1 @@
+//! One turn of a line: a phrase, and its command.

@@ -1,0 +1,36 @@
+-- A line with the record of its texts, and what a call makes of both.
+use Rattle.std.specs.Prelude.{◌≡◌, ◌∷◌, List, Result, OnOk}
+use Rattle.line_buffer.specs.Event.{Event}
+use Rattle.line_buffer.specs.Line.{Line}
+use Rattle.line_record.specs.Held.{Held, ended}
+use Rattle.line_record.specs.Held.Held.{Opened}
+use Rattle.line_record.specs.Items.{Items, ItemsStand, held_on}
+use Rattle.line_record.specs.Runs.{recorded_all}
+
+pub record Written : Type 0 where
+  pub line : Line
+  pub held : List Held
+
+abbrev pub written : Line → Items → Written
+written line changes = record { line = line; held = held_on changes line.text }
+
+-- an edit by its events, and the line that it leaves
+abbrev pub edited : List Event → Line → Written → Written
+edited events line w = record { line = line; held = recorded_all events w.line.text w.held }
+
+-- a mark set, and all marks closed
+abbrev pub opened : Written → Written
+opened w = record { line = w.line; held = Opened w.line.text ∷ w.held }
+
+abbrev pub closed : Written → Written
+closed w = record { line = w.line; held = ended w.held }
+
+-- an edit that is undone as one
+abbrev pub grouped : (Written → Written) → Written → Written
+grouped edit w = closed (edit (opened w))
+
+-- a call that is answered has made the edit; the record stands on the line's text also where it was refused
+pub record Writes {A E : Type 0} (edit : Written → Written) (before after : Line) (old new : Items) (result : Result A E) : Type 0 where
+  pub line : OnOk result (after ≡ (edit (written before old)).line)
+  pub held : OnOk result (held_on new after.text ≡ (edit (written before old)).held)
+  pub stand : ItemsStand new after.text

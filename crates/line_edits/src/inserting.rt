@@ -1,0 +1,185 @@
+//! Texts put in.
+ghost use Rattle.std.specs.Prelude.{◌≡◌, ◌≤◌, ◌-◌, true, IfOk, OnOk, OnErr, IsCharBoundary};
+ghost use Rattle.line_buffer.specs.Insertions.{insert as insertion, yank as yanked_in};
+ghost use Rattle.line_record.specs.Items.{ItemsStand};
+ghost use Rattle.line_edits.specs.Edits.{typed, yanked, popped, put_behind, pop_in_group};
+ghost use Rattle.line_edits.specs.Plain.{is_plain};
+ghost use Rattle.line_edits.specs.Written.{Writes};
+
+use crate::plain::{is_plain, is_printable};
+use line_buffer::{LineBuffer, OutOfMemory, RepeatCount};
+use line_record::Changeset;
+use std::alloc::Global;
+
+pub(crate) fn insert_told(
+    alloc: Global,
+    line: &mut LineBuffer,
+    changes: &mut Changeset,
+    ch: char,
+    n: RepeatCount,
+) -> Result<Option<bool>, OutOfMemory>
+    requires { ItemsStand changes.old line.old.text }
+    ensures answer { IfOk result (λ a. a ≡ (insertion ch n line.old).answer) }
+    ensures writes { Writes (typed ch n) line.old line.new changes.old changes.new result }
+    ensures kept { OnErr result (line.new ≡ line.old) }
+{
+    let _text = line.as_str();
+    match line.insert(alloc, ch, n, changes) {
+        Ok(at_end) => Ok(at_end),
+        Err(refusal) => Err(refusal),
+    }
+}
+
+/// Inserts a character so many times. `None`: there is no room for it; else whether that is at the text's end.
+#[tactic(auto, using(crate::proofs::PlainLemmas::typed_plain))]
+pub fn insert_char(
+    alloc: Global,
+    line: &mut LineBuffer,
+    changes: &mut Changeset,
+    plain: &mut bool,
+    ch: char,
+    n: RepeatCount,
+) -> Result<Option<bool>, OutOfMemory>
+    requires stand { ItemsStand changes.old line.old.text }
+    requires plain { plain.old ≡ is_plain line.old.text }
+    ensures answer { IfOk result (λ a. a ≡ (insertion ch n line.old).answer) }
+    ensures writes { Writes (typed ch n) line.old line.new changes.old changes.new result }
+    ensures plain { plain.new ≡ is_plain line.new.text }
+{
+    let at_end = insert_told(alloc, line, changes, ch, n)?;
+    if n == 1 && *plain && is_printable(ch) {
+        return Ok(at_end);
+    }
+    *plain = is_plain(line.as_str());
+    Ok(at_end)
+}
+
+fn text_told(
+    alloc: Global,
+    line: &mut LineBuffer,
+    changes: &mut Changeset,
+    text: &str,
+) -> Result<(), OutOfMemory>
+    requires { ItemsStand changes.old line.old.text }
+    ensures writes { Writes (put_behind text.now) line.old line.new changes.old changes.new result }
+    ensures kept { OnErr result (line.new ≡ line.old) }
+{
+    let _text = line.as_str();
+    let at = line.pos();
+    match line.insert_str(alloc, at, text, changes) {
+        Ok(_) => Ok(()),
+        Err(refusal) => Err(refusal),
+    }
+}
+
+/// Puts a text at the cursor, which stays before it.
+pub fn insert_text(
+    alloc: Global,
+    line: &mut LineBuffer,
+    changes: &mut Changeset,
+    plain: &mut bool,
+    text: &str,
+) -> Result<(), OutOfMemory>
+    requires stand { ItemsStand changes.old line.old.text }
+    ensures writes { Writes (put_behind text.now) line.old line.new changes.old changes.new result }
+    ensures plain { plain.new ≡ is_plain line.new.text }
+{
+    let done = text_told(alloc, line, changes, text);
+    *plain = is_plain(line.as_str());
+    done
+}
+
+fn yank_told(
+    alloc: Global,
+    line: &mut LineBuffer,
+    changes: &mut Changeset,
+    text: &str,
+    n: RepeatCount,
+) -> Result<Option<bool>, OutOfMemory>
+    requires { ItemsStand changes.old line.old.text }
+    ensures answer { IfOk result (λ a. a ≡ (yanked_in text.now n line.old).answer) }
+    ensures writes { Writes (yanked text.now n) line.old line.new changes.old changes.new result }
+    ensures kept { OnErr result (line.new ≡ line.old) }
+{
+    let _text = line.as_str();
+    match line.yank(alloc, text, n, changes) {
+        Ok(at_end) => Ok(at_end),
+        Err(refusal) => Err(refusal),
+    }
+}
+
+/// Puts a text that isn't empty in so many times. `None`: it is empty, or there is no room for it.
+pub fn yank(
+    alloc: Global,
+    line: &mut LineBuffer,
+    changes: &mut Changeset,
+    plain: &mut bool,
+    text: &str,
+    n: RepeatCount,
+) -> Result<Option<bool>, OutOfMemory>
+    requires stand { ItemsStand changes.old line.old.text }
+    ensures answer { IfOk result (λ a. a ≡ (yanked_in text.now n line.old).answer) }
+    ensures writes { Writes (yanked text.now n) line.old line.new changes.old changes.new result }
+    ensures plain { plain.new ≡ is_plain line.new.text }
+{
+    let done = yank_told(alloc, line, changes, text, n);
+    *plain = is_plain(line.as_str());
+    done
+}
+
+fn pop_told(
+    alloc: Global,
+    line: &mut LineBuffer,
+    changes: &mut Changeset,
+    yank_size: usize,
+    text: &str,
+) -> Result<(), OutOfMemory>
+    requires size { yank_size ≤ line.old.place }
+    requires start { IsCharBoundary line.old.text (line.old.place - yank_size) }
+    requires stand { ItemsStand changes.old line.old.text }
+    ensures writes { Writes (popped yank_size text.now) line.old line.new changes.old changes.new result }
+{
+    let _text = line.as_str();
+    match line.yank_pop(alloc, yank_size, text, changes) {
+        Ok(_) => Ok(()),
+        Err(refusal) => Err(refusal),
+    }
+}
+
+fn pop_told_in_group(
+    alloc: Global,
+    line: &mut LineBuffer,
+    changes: &mut Changeset,
+    yank_size: usize,
+    text: &str,
+) -> Result<(), OutOfMemory>
+    requires size { yank_size ≤ line.old.place }
+    requires start { IsCharBoundary line.old.text (line.old.place - yank_size) }
+    requires stand { ItemsStand changes.old line.old.text }
+    ensures writes { Writes (pop_in_group yank_size text.now) line.old line.new changes.old changes.new result }
+{
+    changes.begin(alloc)?;
+    pop_told(alloc, line, changes, yank_size, text)?;
+    changes.end(alloc)?;
+    Ok(())
+}
+
+/// Puts a text in place of so many bytes before the cursor, in one group. They begin between two characters.
+pub fn yank_pop(
+    alloc: Global,
+    line: &mut LineBuffer,
+    changes: &mut Changeset,
+    plain: &mut bool,
+    yank_size: usize,
+    text: &str,
+) -> Result<(), OutOfMemory>
+    requires size { yank_size ≤ line.old.place }
+    requires start { IsCharBoundary line.old.text (line.old.place - yank_size) }
+    requires stand { ItemsStand changes.old line.old.text }
+    ensures writes { Writes (pop_in_group yank_size text.now) line.old line.new changes.old changes.new result }
+    ensures plain { plain.new ≡ is_plain line.new.text }
+{
+    let done = pop_told_in_group(alloc, line, changes, yank_size, text);
+    *plain = is_plain(line.as_str());
+    done
+}

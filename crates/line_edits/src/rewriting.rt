@@ -1,0 +1,103 @@
+//! The whole text exchanged, and what was recorded taken back.
+ghost use Rattle.std.specs.Prelude.{◌≡◌, max, IfOk, OnOk, IsCharBoundary};
+ghost use Rattle.line_record.specs.Held.{has_step};
+ghost use Rattle.line_record.specs.Items.{ItemsStand, held_on};
+ghost use Rattle.line_edits.specs.Edits.{updated, update_in_group, undone};
+ghost use Rattle.line_edits.specs.Plain.{is_plain};
+ghost use Rattle.line_edits.specs.Written.{Writes};
+
+use crate::plain::is_plain;
+use line_buffer::{LineBuffer, OutOfMemory, RepeatCount};
+use line_record::Changeset;
+use std::alloc::Global;
+
+fn put(
+    alloc: Global,
+    line: &mut LineBuffer,
+    changes: &mut Changeset,
+    text: &str,
+    pos: usize,
+) -> Result<(), OutOfMemory>
+    requires boundary { IsCharBoundary text.now pos }
+    requires stand { ItemsStand changes.old line.old.text }
+    ensures writes { Writes (updated text.now pos) line.old line.new changes.old changes.new result }
+{
+    let _text = line.as_str();
+    match line.update(alloc, text, pos, changes) {
+        Ok(()) => Ok(()),
+        Err(refusal) => Err(refusal),
+    }
+}
+
+fn put_in_group(
+    alloc: Global,
+    line: &mut LineBuffer,
+    changes: &mut Changeset,
+    text: &str,
+    pos: usize,
+) -> Result<(), OutOfMemory>
+    requires boundary { IsCharBoundary text.now pos }
+    requires stand { ItemsStand changes.old line.old.text }
+    ensures writes { Writes (update_in_group text.now pos) line.old line.new changes.old changes.new result }
+{
+    changes.begin(alloc)?;
+    put(alloc, line, changes, text, pos)?;
+    changes.end(alloc)?;
+    Ok(())
+}
+
+/// Exchanges the whole text, the cursor at a place of the new one.
+pub fn update(
+    alloc: Global,
+    line: &mut LineBuffer,
+    changes: &mut Changeset,
+    plain: &mut bool,
+    text: &str,
+    pos: usize,
+) -> Result<(), OutOfMemory>
+    requires boundary { IsCharBoundary text.now pos }
+    requires stand { ItemsStand changes.old line.old.text }
+    ensures writes { Writes (updated text.now pos) line.old line.new changes.old changes.new result }
+    ensures plain { plain.new ≡ is_plain line.new.text }
+{
+    let done = put(alloc, line, changes, text, pos);
+    *plain = is_plain(line.as_str());
+    done
+}
+
+/// The same in one group.
+pub fn update_grouped(
+    alloc: Global,
+    line: &mut LineBuffer,
+    changes: &mut Changeset,
+    plain: &mut bool,
+    text: &str,
+    pos: usize,
+) -> Result<(), OutOfMemory>
+    requires boundary { IsCharBoundary text.now pos }
+    requires stand { ItemsStand changes.old line.old.text }
+    ensures writes { Writes (update_in_group text.now pos) line.old line.new changes.old changes.new result }
+    ensures plain { plain.new ≡ is_plain line.new.text }
+{
+    let done = put_in_group(alloc, line, changes, text, pos);
+    *plain = is_plain(line.as_str());
+    done
+}
+
+/// Takes back the last `n` items that were recorded, 0 acting as 1. Answers whether a change was among them.
+pub fn undo(
+    alloc: Global,
+    line: &mut LineBuffer,
+    changes: &mut Changeset,
+    plain: &mut bool,
+    n: RepeatCount,
+) -> Result<bool, OutOfMemory>
+    requires stand { ItemsStand changes.old line.old.text }
+    ensures answer { IfOk result (λ b. b ≡ has_step (max n 1) (held_on changes.old line.old.text)) }
+    ensures writes { Writes (undone n) line.old line.new changes.old changes.new result }
+    ensures plain { plain.new ≡ is_plain line.new.text }
+{
+    let undone = changes.undo(alloc, line, n);
+    *plain = is_plain(line.as_str());
+    undone
+}
