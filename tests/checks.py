@@ -54,8 +54,8 @@ def placed_script():
     with open(stand_in, "w", encoding="utf-8") as it:
         it.write(f"#!/bin/sh\nmkdir -p out && cp {shlex.quote(PROGRAM)} out/keyline_program\n")
     os.chmod(stand_in, 0o755)
-    for kept in ("crates.txt", os.path.join("crates", "keyline_program", "src", "main.rt")):
-        shutil.copy(os.path.join(TOP, kept), os.path.join(folder.name, kept))
+    with open(os.path.join(folder.name, "crates.txt"), "w", encoding="utf-8") as it:
+        it.write("keyline_program:\n")
     os.environ["PATH"] = f"{folder.name}/bin:{os.environ['PATH']}"
     subprocess.run([script], stdin=subprocess.DEVNULL, capture_output=True, timeout=HUNG, check=True)
     return script

@@ -59,7 +59,15 @@ def impl_of(head):
     head = re.split(r"\bwhere\b", head)[0]
     trait, found, of = head.partition(" for ")
     trait, of = (trait, of) if found else ("", head)
-    return "impl", words(without_generics(of), ()), words(trait, parameters)
+    return "impl", named(of.strip(), parameters), words(trait, parameters)
+
+
+def named(of, parameters):
+    """A type that an impl is of, as rattle names it in a path."""
+    if of.startswith("("):
+        count = len([it for it in without_generics(of).strip("()").split(",") if it.strip()])
+        return f"Tuple{count}" if count else "Unit"
+    return "Any" if of in parameters else words(without_generics(of), ())
 
 
 def words(path, parameters):
@@ -104,6 +112,13 @@ def functions(text, module):
 
     inside(0, len(text), module, None)
     return found
+
+
+def shape(body):
+    """What a body's goals take their names from: its branches, calls and names, in their order."""
+    parts = r"\b(?:if|while|match)\b[^{]*|\b(?:let|for)\b[^=;{]*|\b(?:else|loop|return|break|continue)\b"
+    parts += r"|[^,{};]*=>|\?|&&|\|\||\b[a-z_]\w*!?\s*(?:::<[^>]*>)?(?=\()|[|][^|]*[|]"
+    return [re.sub(r"\s+", " ", it).strip() for it in re.findall(parts, blanked(body))]
 
 
 def body_of(text, at, end):

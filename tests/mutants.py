@@ -6,7 +6,8 @@ Such a file is written as those of must-fail/ are: a line `file: src/lib.rt` and
 libraries that `rt ci` left in crates/*/out. A wrong body passes where each function that it changes is refused for its
 own sake. It fails where a function is proved all the same, where it no longer fits or changes nothing, and where only a
 stored proof doesn't fit it any more, which says nothing of the contract: tests/mutants-by-hand.txt names those of
-which it is known otherwise that the contract refuses them. A function that is refused though nothing is wrong with it fails too.
+which it is known otherwise that the contract refuses them. A function that is refused though nothing is wrong with it
+fails too.
 
     tests/mutants.py [CRATE..]          all crates, or these
     tests/mutants.py --fit [CRATE..]    says in a second which wrong bodies no longer fit, and tries none
@@ -21,7 +22,7 @@ import sys
 import tempfile
 from concurrent.futures import ThreadPoolExecutor
 
-from functions import Sources, functions
+from functions import Sources, functions, shape
 
 TOP = os.path.dirname(os.path.dirname(os.path.realpath(__file__)))
 PARTS = ("src", "specs", "proofs")
@@ -38,14 +39,20 @@ class Edit:
 
     def __init__(self, path, sources):
         self.name = os.path.basename(path).removesuffix(".edit")
-        self.bodies = {}
+        self.bodies, self.shapely = {}, set()
         with open(path, encoding="utf-8") as it:
             texts = changed(it.read(), sources)
         for file, text in texts.items():
             for old, new in bodies_changed(sources, file, text):
                 self.bodies[file, sources.path(old)] = (old.body, new)
+                if shape(new) == shape(sources.texts[file][slice(*old.body)]):
+                    self.shapely.add(sources.path(old))
         if not self.bodies:
             raise Unfit("it changes nothing")
+
+    def keeps_shape(self, path):
+        """Whether a function's goals have the names that they had, since only values were changed."""
+        return path in self.shapely
 
     def paths(self):
         return [path for _, path in self.bodies]
@@ -227,6 +234,7 @@ class Said:
     FUNCTION = re.compile(r"(?m)^fn (\S+): (proved|not proved|no proof|could not tell)(.*)$")
     # A call of what is not proved is no fault of the function that makes it.
     CALLS = re.compile(r"\bit calls .*?, which (?:is|are) not proved")
+    UNPROVED = re.compile(r"(?s).*?did not prove (.*?)(?:; it calls.*|\Z)")
     OPEN = re.compile(r"(?m)^note: (src/\S+?):(\d+):\d+: it is not proved that .*?\(`([^`]+)`\)(.*)$")
     WAITS = re.compile(r"(?m)^note: `search` has not tried the goals of `([^`]+)`, which wait for a callee's proof")
     FRONT = re.compile(r"(?m)^(?:\./)?(src/[^\s:]+):(\d+):\d+: error\S* (.*)$")
@@ -262,18 +270,28 @@ class Said:
         """Why a function or a closure in it is refused for its own sake."""
         return [why for why in map(self.why, self.of(path)) if why]
 
-    def by_contract(self, path):
-        """Whether a goal that no stored answer is for shows what the function's contract refuses.
+    def goals(self, path):
+        """The open goals of a function but those of invariants, and whether values are known at which each is false."""
+        unproved = self.UNPROVED.match(self.why(path) or "")
+        found = dict.fromkeys(re.findall(r"`([^`]+)`", unproved[1]) if unproved else [], False)
+        found.update(self.open.get(path, {}))
+        return {it: false for it, false in found.items() if not re.match(r"loop|invariant|decreases|iterator", it)}
 
-        Such a goal is of a clause that was proved with no answer, or rattle knows values at which it is false.
+    def by_contract(self, path, keeps_shape):
+        """Whether an open goal shows that the function's contract refuses the body, and not just a stored proof.
+
+        Either values are known that make it false; or no stored answer is for its clause; or each stored answer still
+        fits, the goals have the names that they had, and none is for this one. The right body needed no answer there.
         """
         stored = self.crate.answered(path)
         if stored is None:
             return True
         clauses = {clause_of(it) for it in stored}
+        folder = "/".join(path.split("::")[1:])
+        fits = keeps_shape and not re.search(rf"(?m)^(?:\./)?proofs/{re.escape(folder)}/.*: error", self.text)
         return any(
-            not re.match(r"loop|invariant|decreases|iterator", goal) and (false or clause_of(goal) not in clauses)
-            for goal, false in self.open.get(path, {}).items()
+            false or clause_of(goal) not in clauses or fits and goal not in stored
+            for goal, false in self.goals(path).items()
         )
 
 
@@ -302,7 +320,7 @@ def judged(crate, group, said, by_hand):
                 faults.append(f"{path}: could not tell")
             elif not why:
                 faults.append(f"{path} is NOT REFUSED: it is proved with this body")
-            elif not said.by_contract(path):
+            elif not said.by_contract(path, edit.keeps_shape(path)):
                 told.append(f"{path}: only its stored proof does not fit this body, which says nothing of the contract")
                 if f"{crate.name}/{edit.name}" not in by_hand:
                     faults.append(told[-1])
@@ -330,7 +348,7 @@ def tried(crate, checker, jobs, by_hand):
         while left:
             group, count = left.pop(0), count + 1
             said = Said(crate, crate.texts(group), checker.check(crate, group, jobs, kept))
-            save(f"{crate.name}-{count}.log", said.text)
+            save(checker.top, f"{crate.name}-{count}.log", said.text)
             if said.lines:
                 # Where a callee in the same check is refused too, some goals are not tried: such a body has its own.
                 waiting = [it for it in group if len(group) > 1 and {*it.paths()} & said.waiting]
@@ -352,10 +370,11 @@ def refused_unread(said, group):
     return found or dict.fromkeys(group, " ".join(said.text.split("\n")[:3])[:300])
 
 
-def save(name, text):
+def save(top, name, text):
     """Keeps what a check said, for whoever looks into a failure."""
-    os.makedirs(os.path.join(TOP, "build", "mutants"), exist_ok=True)
-    with open(os.path.join(TOP, "build", "mutants", name), "w", encoding="utf-8") as it:
+    folder = os.path.join(top, "build", "mutants")
+    os.makedirs(folder, exist_ok=True)
+    with open(os.path.join(folder, name), "w", encoding="utf-8") as it:
         it.write(text)
 
 
@@ -397,7 +416,8 @@ def main(words):
         for crate, run in runs:
             found = run.result()
             count = len(crate.edits) + len(crate.unfit)
-            print(f"-- {crate.name}: {count} wrong bodies, checks {crate.checks}, {crate.seconds:.0f} s of processor", flush=True)
+            cost = f"checks {crate.checks}, {crate.seconds:.0f} s of processor"
+            print(f"-- {crate.name}: wrong bodies {count}, {cost}", flush=True)
             for well, name, text in found:
                 print(f"{'refused' if well else 'FAILED'} {name}: {text[:400]}", flush=True)
                 passed, failed = passed + well, failed + (not well)

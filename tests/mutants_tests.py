@@ -5,6 +5,7 @@ import tempfile
 
 import mutants
 from checks import run_all, same
+from functions import Sources, shape
 
 SOURCE = """//! Numbers, for wrong bodies.
 #![tactic(auto)]
@@ -136,6 +137,45 @@ def a_caller_is_not_blamed_for_its_callee():
     expect(small.judged(callee + caller), "small::fourfold", False, "nothing is wrong with it")
 
 
+def paths_as_rattle_prints_them():
+    small = Small()
+    small.write("crates/small/src/at/place.rt", """
+impl crate::Pair { fn other(&self) -> u16 { let c = '{'; /* } */ self.other } }
+impl<'a, T: Fn(u8) -> bool, const N: usize> From<Vec<&'a T>> for Kept<T, N> where T: Drop {
+    fn from(v: Vec<&T>) -> Self { "}" }
+}
+impl Show for (u8, u16) { fn show(&self) {} }
+impl Show for () { fn show(&self) {} }
+impl Show for &str { fn show(&self) {} }
+impl<T: Drop> Show for T { fn show(&self) {} }
+pub trait Show {
+    ghost seen : { ℕ }
+    fn show(&self) ensures { { a } ≡ { b } };
+    fn shown(&self) -> [u8; 2] { [0; 2] }
+}
+mod inner { fn f() { fn g() {} } }
+""")
+    sources = Sources(small.crate().folder, "small")
+    found = [sources.path(it).removeprefix("small::") for it in sources.found["src/at/place.rt"]]
+    same("paths", found, [
+        "Pair::other", "at::place::KeptFromVecRef::from", "at::place::Tuple2Show::show", "at::place::UnitShow::show",
+        "at::place::RefStrShow::show", "at::place::AnyShow::show", "at::place::Show::shown", "at::place::inner::f",
+    ])
+
+
+def a_body_keeps_its_shape():
+    for old, new, keeps in (
+        ("{ if a { f(b) } else { c } }", "{ if a { f(c + 1) } else { c } }", True),
+        ("{ if a { f(b) } else { c } }", "{ if !a { f(b) } else { c } }", False),
+        ("{ let a = f(b)?; a }", "{ let a = f(0)?; a }", True),
+        ("{ let a = f(b)?; a }", "{ let d = f(b)?; d }", False),
+        ("{ match a { Some(x) => x, None => 0 } }", "{ match a { Some(x) => x, None => 1 } }", True),
+        ("{ match a { Some(x) => x, None => 0 } }", "{ match a { Some(_) => 1, None => 0 } }", False),
+        ("{ a && b }", "{ a }", False),
+    ):
+        same(f"whether {new} has the shape of {old}", shape(new) == shape(old), keeps)
+
+
 def a_stored_proof_that_no_longer_fits():
     small = Small("added-once")
     small.write("crates/small/proofs/doubled/Answers.antt", "pub returns-clause-sum : goal.returns-clause-sum\n")
@@ -161,6 +201,8 @@ if __name__ == "__main__":
         edits_that_no_longer_fit,
         no_function_changed_twice_in_a_check,
         a_caller_is_not_blamed_for_its_callee,
+        paths_as_rattle_prints_them,
+        a_body_keeps_its_shape,
         a_stored_proof_that_no_longer_fits,
         what_the_prover_says,
     ])

@@ -1,7 +1,8 @@
 mod Rows
-pub mod LineLemmas
-pub mod Told
-pub mod KeyLemmas
 pub mod DrawnLemmas
-pub mod TurnLemmas
+pub mod KeyLemmas
+pub mod LineLemmas
 pub mod SessionLemmas
+pub mod Taken
+pub mod Told
+pub mod TurnLemmas

@@ -2,7 +2,8 @@
 use Rattle.std.proofs.Common.{◌≡◌, ℕ, Bool, IsTrue, List, [], ◌++◌, inl, refl, subst, sym, ◌∙◌, ap, append-nil}
 use Rattle.line_config.specs.declared.device.Last.{Last}
 use Rattle.line_config.specs.declared.device.Last.TheVariants.{End}
-use Rattle.keyline.specs.Calls.{Gives, Takes}
+use Rattle.line_config.specs.Feed.{Feed, Gives}
+use Rattle.line_config.specs.Sending.{Takes}
 use Rattle.keyline.specs.Keys.{readings}
 use Rattle.keyline.specs.Editing.{empty_line}
 use Rattle.keyline.specs.Drawing.{full_drawing, next_row}
@@ -10,17 +11,20 @@ use Rattle.keyline.specs.Session.{report_from, session, foreseen, Delivered, Sto
 use Rattle.keyline.specs.Turns.{Finishes, Stops}
 use Rattle.keyline.specs.declared.editor.Editor.{Editor}
 use Rattle.keyline.specs.declared.ending.Ending.{Ending}
-use Rattle.keyline.specs.declared.ending.Ending.TheVariants.{Eof, Reader, Lines}
+use Rattle.keyline.specs.declared.ending.Ending.TheVariants.{Eof, Reader, Display, Lines}
 use Rattle.keyline.proofs.Told.{Takes-none, Takes-then}
 
 not_both : (ending : Ending) → ending ≡ Reader → ending ≡ Lines → ⊥
 not_both ending is_reader is_lines = cc
 
-module _ {S D L : Type 0} (told : S → Bool) (coming : S → List ℕ) (steady : S → Bool) (last : S → Last)
+not_reading : (ending : Ending) → ending ≡ Reader → ending ≡ Display → ⊥
+not_reading ending is_reader is_display = cc
+
+module _ {S D L : Type 0} (feed : S → Feed)
     (shows : D → Bool) (shown : D → List ℕ) (writes : L → Bool) (written : L → List ℕ) where
   -- the first drawing failed: nothing is read
   pub stopped_at_once : (ending : Ending) (a b : Editor S D L) → b ≡ record a { line = b.line; display = b.display }
-      → Stopped a.page ending told coming writes written a.source b.source a.lines b.lines
+      → Stopped a.page ending feed writes written a.source b.source a.lines b.lines
   stopped_at_once ending a b kept =
       let source : b.source ≡ a.source = ap (λ e. e.source) kept in
       let lines : b.lines ≡ a.lines = ap (λ e. e.lines) kept in
@@ -30,6 +34,7 @@ module _ {S D L : Type 0} (told : S → Bool) (coming : S → List ℕ) (steady 
         torn = [];
         read = λ t. (rw source t, rw source refl);
         one_key = inl refl;
+        part = λ _. refl;
         wrote = Takes-none writes written _ _ lines;
         whole = λ _. refl;
         begun = ([], refl);
@@ -37,11 +42,11 @@ module _ {S D L : Type 0} (told : S → Bool) (coming : S → List ℕ) (steady 
 
   -- the turns behind the first drawing stopped
   pub stopped_in_turns : (ending : Ending) (a m b : Editor S D L) → m ≡ record a { line = m.line; display = m.display }
-      → m.line ≡ empty_line → Stops told coming steady last shows shown writes written ending m b
-      → Stopped a.page ending told coming writes written a.source b.source a.lines b.lines
+      → m.line ≡ empty_line → Stops feed shows shown writes written ending m b
+      → Stopped a.page ending feed writes written a.source b.source a.lines b.lines
   stopped_in_turns ending a m b begun empty stops =
-      let stops' : Stops told coming steady last shows shown writes written ending (record a { line = empty_line; display = m.display }) b =
-      let Q : Editor S D L → Type 0 = λ e. Stops told coming steady last shows shown writes written ending e b in
+      let stops' : Stops feed shows shown writes written ending (record a { line = empty_line; display = m.display }) b =
+      let Q : Editor S D L → Type 0 = λ e. Stops feed shows shown writes written ending e b in
       subst Q (begun ∙ ap (λ line. record a { line = line; display = m.display }) empty) stops in
       record {
         handled = stops'.handled;
@@ -49,6 +54,7 @@ module _ {S D L : Type 0} (told : S → Bool) (coming : S → List ℕ) (steady 
         torn = stops'.torn;
         read = stops'.read;
         one_key = stops'.one_key;
+        part = stops'.part;
         wrote = stops'.lines;
         whole = stops'.whole;
         begun = stops'.begun;
@@ -57,13 +63,13 @@ module _ {S D L : Type 0} (told : S → Bool) (coming : S → List ℕ) (steady 
   -- the source failed as it was foreseen
   pub delivered_failure : (ending : Ending) (a m b : Editor S D L) → m ≡ record a { line = m.line; display = m.display }
       → m.line ≡ empty_line → Takes shows shown a.display m.display (full_drawing a.page 0 empty_line)
-      → Stops told coming steady last shows shown writes written ending m b
-      → IsTrue (told a.source) → IsTrue (steady a.source) → ending ≡ Reader
-      → Delivered (session a.page (coming a.source) (foreseen (steady a.source) (last a.source))) ending coming shows shown writes written
+      → Stops feed shows shown writes written ending m b
+      → IsTrue (feed a.source).told → IsTrue (feed a.source).steady → ending ≡ Reader
+      → Delivered (session a.page (feed a.source).coming (foreseen (feed a.source).steady (feed a.source).last)) ending feed shows shown writes written
       b.source a.display b.display a.lines b.lines
   delivered_failure ending a m b begun empty drew stops t s reader =
-      let stops' : Stops told coming steady last shows shown writes written ending (record a { line = empty_line; display = m.display }) b =
-      let Q : Editor S D L → Type 0 = λ e. Stops told coming steady last shows shown writes written ending e b in
+      let stops' : Stops feed shows shown writes written ending (record a { line = empty_line; display = m.display }) b =
+      let Q : Editor S D L → Type 0 = λ e. Stops feed shows shown writes written ending e b in
       subst Q (begun ∙ ap (λ line. record a { line = line; display = m.display }) empty) stops in
       let foretold = stops'.foretold reader t s in
       let written_lines = (report_from a.page End empty_line (readings stops'.handled)).lines in
@@ -72,12 +78,12 @@ module _ {S D L : Type 0} (told : S → Bool) (coming : S → List ℕ) (steady 
       subst P (append-nil written_lines)
       (let P' : List ℕ → Type 0 = λ torn. Takes writes written a.lines b.lines (written_lines ++ torn) in
       subst P' (stops'.whole (λ is_lines. not_both ending reader is_lines)) stops'.lines) in
-      let report = report_from a.page (last a.source) empty_line (readings (coming a.source)) in
+      let report = report_from a.page (feed a.source).last empty_line (readings (feed a.source).coming) in
       let drawn : Takes shows shown a.display b.display (full_drawing a.page 0 empty_line ++ stops'.sent) =
       Takes-then shows shown _ _ _ (full_drawing a.page 0 empty_line) stops'.sent drew (stops'.drawn reader) in
       let sent : report.display ≡ stops'.sent = ap (λ report. report.display) foretold.0 ∙ append-nil stops'.sent in
       let lines : report.lines ≡ written_lines = ap (λ report. report.lines) foretold.0 ∙ append-nil written_lines in
-      let foreseen_is : foreseen (steady a.source) (last a.source) ≡ last a.source = rw s refl in
+      let foreseen_is : foreseen (feed a.source).steady (feed a.source).last ≡ (feed a.source).last = rw s refl in
       rw foreseen_is
       (record {
         ending_is = reader ∙ sym (ap (λ report. report.ending) foretold.0);
@@ -92,16 +98,16 @@ module _ {S D L : Type 0} (told : S → Bool) (coming : S → List ℕ) (steady 
   pub delivered_end : (a m n b : Editor S D L) → m ≡ record a { line = m.line; display = m.display } → m.line ≡ empty_line
       → b ≡ record n { display = b.display }
       → Takes shows shown a.display m.display (full_drawing a.page 0 empty_line)
-      → Finishes told coming steady last shows shown writes written m n → Takes shows shown n.display b.display next_row
-      → IsTrue (told a.source)
-      → Delivered (session a.page (coming a.source) (foreseen (steady a.source) (last a.source))) Eof coming shows shown writes written
+      → Finishes feed shows shown writes written m n → Takes shows shown n.display b.display next_row
+      → IsTrue (feed a.source).told
+      → Delivered (session a.page (feed a.source).coming (foreseen (feed a.source).steady (feed a.source).last)) Eof feed shows shown writes written
       b.source a.display b.display a.lines b.lines
   delivered_end a m n b begun empty closed drew finishes row t =
-      let finishes' : Finishes told coming steady last shows shown writes written (record a { line = empty_line; display = m.display }) n =
-      let Q : Editor S D L → Type 0 = λ e. Finishes told coming steady last shows shown writes written e n in
+      let finishes' : Finishes feed shows shown writes written (record a { line = empty_line; display = m.display }) n =
+      let Q : Editor S D L → Type 0 = λ e. Finishes feed shows shown writes written e n in
       subst Q (begun ∙ ap (λ line. record a { line = line; display = m.display }) empty) finishes in
       let written_lines = (report_from a.page End empty_line (readings finishes'.handled)).lines in
-      let report = report_from a.page (foreseen (steady a.source) (last a.source)) empty_line (readings (coming a.source)) in
+      let report = report_from a.page (foreseen (feed a.source).steady (feed a.source).last) empty_line (readings (feed a.source).coming) in
       let means = finishes'.means t in
       let drawing = full_drawing a.page 0 empty_line in
       let drawn : Takes shows shown a.display b.display (drawing ++ (finishes'.sent ++ next_row)) =
@@ -118,17 +124,17 @@ module _ {S D L : Type 0} (told : S → Bool) (coming : S → List ℕ) (steady 
             let P : List ℕ → Type 0 = λ bytes. Takes writes written a.lines b.lines bytes in
             subst P (sym lines)
             (let Q : L → Type 0 = λ lines. Takes writes written a.lines lines written_lines in subst Q (sym same_lines) finishes'.lines);
-        left = ap (λ e. coming e.source) closed ∙ sym (ap (λ report. report.unread) means);
+        left = ap (λ e. (feed e.source).coming) closed ∙ sym (ap (λ report. report.unread) means);
       }
 
   -- the display failed as it was closed
   pub stopped_at_close : (ending : Ending) (a m n b : Editor S D L) → m ≡ record a { line = m.line; display = m.display }
       → m.line ≡ empty_line → b ≡ record n { display = b.display }
-      → Finishes told coming steady last shows shown writes written m n
-      → Stopped a.page ending told coming writes written a.source b.source a.lines b.lines
-  stopped_at_close ending a m n b begun empty closed finishes =
-      let finishes' : Finishes told coming steady last shows shown writes written (record a { line = empty_line; display = m.display }) n =
-      let Q : Editor S D L → Type 0 = λ e. Finishes told coming steady last shows shown writes written e n in
+      → Finishes feed shows shown writes written m n → ending ≡ Display
+      → Stopped a.page ending feed writes written a.source b.source a.lines b.lines
+  stopped_at_close ending a m n b begun empty closed finishes is_display =
+      let finishes' : Finishes feed shows shown writes written (record a { line = empty_line; display = m.display }) n =
+      let Q : Editor S D L → Type 0 = λ e. Finishes feed shows shown writes written e n in
       subst Q (begun ∙ ap (λ line. record a { line = line; display = m.display }) empty) finishes in
       let same_lines : b.lines ≡ n.lines = ap (λ e. e.lines) closed in
       let same_source : b.source ≡ n.source = ap (λ e. e.source) closed in
@@ -138,9 +144,10 @@ module _ {S D L : Type 0} (told : S → Bool) (coming : S → List ℕ) (steady 
         in_hand = finishes'.in_hand;
         torn = [];
         read =
-            let P : S → Type 0 = λ source. Gives told coming a.source source (finishes'.handled ++ finishes'.in_hand) in
+            let P : S → Type 0 = λ source. Gives (feed a.source) (feed source) (finishes'.handled ++ finishes'.in_hand) in
             subst P (sym same_source) finishes'.read;
         one_key = finishes'.one_key;
+        part = λ is_reader. absurd (not_reading ending is_reader is_display);
         wrote =
             let Q : L → List ℕ → Type 0 = λ lines bytes. Takes writes written a.lines lines bytes in
             let one : Q n.lines (written_lines ++ []) = subst (Q n.lines) (sym (append-nil written_lines)) finishes'.lines in

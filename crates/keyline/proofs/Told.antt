@@ -1,9 +1,7 @@
--- Calls of a device, one after the other.
-use Rattle.std.proofs.Common.{◌≡◌, ℕ, Bool, true, false, refl, append-nil, List, [], ◌∷◌, ◌++◌, Option, Some, None, Result, Ok, Err, IsTrue, append_assoc, ◌∙◌, ap, sym}
-use Rattle.std.specs.Option.{option_to_list}
-use Rattle.line_config.specs.declared.device.DeviceFailed.{DeviceFailed}
-use Rattle.keyline.specs.Calls.{Gives, Takes, TakesSome}
-use Rattle.line_config.specs.Device.{AppendsSome}
+-- Calls of a sink, one after the other.
+use Rattle.std.proofs.Common.{◌≡◌, ℕ, Bool, true, false, refl, append-nil, List, [], ◌∷◌, ◌++◌, Result, Ok, Err, IsTrue, append_assoc, ◌∙◌, ap, sym}
+use Rattle.line_config.specs.Sending.{Takes, AppendsSome}
+use Rattle.keyline.specs.Calls.{TakesSome}
 use Rattle.std.specs.Result.{OnErr}
 
 -- what two calls of a sink took is taken in order
@@ -13,41 +11,6 @@ Takes-then told held a b c xs ys first second t =
     let one = first t in
     let two = second one.0 in
     (two.0, two.1 ∙ ap (λ zs. zs ++ ys) one.1 ∙ append_assoc (held a) xs ys)
-
--- what two calls of a source gave is given in order
-pub Gives-then : {S : Type 0} (told : S → Bool) (coming : S → List ℕ) (a b c : S) (xs ys : List ℕ)
-    → Gives told coming a b xs → Gives told coming b c ys → Gives told coming a c (xs ++ ys)
-Gives-then told coming a b c xs ys first second t =
-    let one = first t in
-    let two = second one.0 in
-    (two.0, one.1 ∙ ap (λ zs. xs ++ zs) two.1 ∙ sym (append_assoc xs ys (coming c)))
-
--- a call that gave a byte, and one that met the end
-pub Gives-byte : {S : Type 0} (told : S → Bool) (coming : S → List ℕ) (a b : S) (given : Option ℕ) (byte : ℕ)
-    → given ≡ Some byte → (IsTrue (told a) → coming a ≡ option_to_list given ++ coming b) → (IsTrue (told a) → IsTrue (told b))
-    → Gives told coming a b (byte ∷ [])
-Gives-byte told coming a b given byte is took stays t = (stays t, rw is at (took t))
-
-pub Gives-end : {S : Type 0} (told : S → Bool) (coming : S → List ℕ) (a b : S) (given : Option ℕ)
-    → given ≡ None → (IsTrue (told a) → coming a ≡ option_to_list given ++ coming b) → (IsTrue (told a) → IsTrue (told b))
-    → Gives told coming a b []
-Gives-end told coming a b given is took stays t = (stays t, rw is at (took t))
-
-abbrev pub answered : Option ℕ → Result (Option ℕ) DeviceFailed
-answered given = Ok given
-
--- nothing is left where the end is met
-pub nothing_left : {S : Type 0} (told : S → Bool) (coming : S → List ℕ) (a b : S) (given : Option ℕ)
-    → given ≡ None → (IsTrue (told a) → coming a ≡ option_to_list given ++ coming b)
-    → (IsTrue (told a) → answered given ≡ answered None → coming a ≡ []) → IsTrue (told a) → coming b ≡ []
-nothing_left told coming a b given is took ends t =
-    let same : coming a ≡ coming b = rw is at (took t) in
-    sym same ∙ ends t (ap answered is)
-
--- a call that failed took nothing
-pub Gives-failed : {S : Type 0} (told : S → Bool) (coming : S → List ℕ) (a b : S)
-    → (IsTrue (told a) → coming b ≡ coming a) → (IsTrue (told a) → IsTrue (told b)) → Gives told coming a b []
-Gives-failed told coming a b kept stays t = (stays t, sym (kept t))
 
 -- a write that succeeded, and a flush behind what was taken
 pub Takes-write : {D : Type 0} (told : D → Bool) (held : D → List ℕ) (a b : D) (bytes xs : List ℕ) → bytes ≡ xs

@@ -2,7 +2,9 @@
 use Rattle.std.proofs.Common.{◌≡◌, ℕ, Bool, true, false, IsTrue, List, [], ◌∷◌, ◌++◌, ◌⊎◌, inl, inr, refl, subst, sym, ◌∙◌, ap, append_assoc, append-nil}
 use Rattle.line_config.specs.declared.device.Last.{Last}
 use Rattle.line_config.specs.declared.device.Last.TheVariants.{End, Failed}
-use Rattle.keyline.specs.Calls.{Gives, Takes, TakesSome}
+use Rattle.line_config.specs.Feed.{Feed, Gives}
+use Rattle.line_config.specs.Sending.{Takes}
+use Rattle.keyline.specs.Calls.{TakesSome}
 use Rattle.keyline.specs.Keys.{readings, IsKey, IsCutOff}
 use Rattle.keyline.specs.Editing.{Edited, Effect, effect_of, empty_line}
 use Rattle.keyline.specs.Drawing.{Frame, full_drawing}
@@ -15,7 +17,8 @@ use Rattle.keyline.specs.declared.ending.Ending.{Ending}
 use Rattle.keyline.specs.declared.ending.Ending.TheVariants.{Reader, Lines}
 use Rattle.keyline.specs.declared.line.Outcome.{Outcome}
 use Rattle.keyline.specs.declared.line.Outcome.TheVariants.{Same, Changed, Accepted, Ended}
-use Rattle.keyline.proofs.Told.{Takes-none, Takes-then, Gives-then}
+use Rattle.line_config.proofs.FeedLemmas.{Gives-then}
+use Rattle.keyline.proofs.Told.{Takes-none, Takes-then}
 
 -- the line that was torn is the one that the command accepted
 pub torn_line : {L : Type 0} (told : L → Bool) (held : L → List ℕ) (a a' b : L) (effect : Effect) (outcome : Outcome) (line line' : Edited)
@@ -63,13 +66,13 @@ lines_of_key page line key command is_key =
     let whole : readings key ≡ record { command = command; behind = [] } ∷ [] = rw append-nil at (is_key []) in
     ap (λ keys. (report_from page End line keys).lines) whole ∙ lines_after page line effect.line effect.outcome []
 
-module _ {S D L : Type 0} (told : S → Bool) (coming : S → List ℕ) (steady : S → Bool) (last : S → Last)
+module _ {S D L : Type 0} (feed : S → Feed)
     (shows : D → Bool) (shown : D → List ℕ) (writes : L → Bool) (written : L → List ℕ) where
   -- the source failed: what it gave before is a key cut off
   pub stops_reading : (ending : Ending) (a b : Editor S D L) (cut : List ℕ) → b ≡ record a { source = b.source }
-      → Gives told coming a.source b.source cut → IsCutOff cut
-      → (IsTrue (told a.source) → IsTrue (steady a.source) → (coming b.source ≡ []) × (last a.source ≡ Failed))
-      → Stops told coming steady last shows shown writes written ending a b
+      → Gives (feed a.source) (feed b.source) cut → IsCutOff cut
+      → (IsTrue (feed a.source).told → IsTrue (feed a.source).steady → ((feed b.source).coming ≡ []) × ((feed a.source).last ≡ Failed))
+      → Stops feed shows shown writes written ending a b
   stops_reading ending a b cut kept gave is_cut broken =
       let no_lines : Takes writes written a.lines b.lines [] = Takes-none writes written _ _ (ap (λ e. e.lines) kept) in
       record {
@@ -79,21 +82,22 @@ module _ {S D L : Type 0} (told : S → Bool) (coming : S → List ℕ) (steady 
         torn = [];
         read = gave;
         one_key = inl is_cut;
+        part = λ _. is_cut;
         lines = no_lines;
         whole = λ _. refl;
         begun = ([], ap (λ keys. (report_from a.page End a.line keys).lines) is_cut);
         drawn = λ _. Takes-none shows shown _ _ (ap (λ e. e.display) kept);
         foretold = λ _ t s.
             let end = broken t s in
-            let all : coming a.source ≡ cut = (gave t).1 ∙ ap (λ bytes. cut ++ bytes) end.0 ∙ append-nil cut in
+            let all : (feed a.source).coming ≡ cut = (gave t).1 ∙ ap (λ bytes. cut ++ bytes) end.0 ∙ append-nil cut in
             (rw (end.1, all, is_cut) refl, end.0);
       }
 
   -- the source ended: what it gave before is a key cut off
   pub ends_reading : (a b : Editor S D L) (cut : List ℕ) → b ≡ record a { source = b.source }
-      → Gives told coming a.source b.source cut → IsCutOff cut → (IsTrue (told a.source) → coming b.source ≡ [])
-      → (IsTrue (told a.source) → IsTrue (steady a.source) → last a.source ≡ End)
-      → Ends told coming steady last shows shown writes written a b
+      → Gives (feed a.source) (feed b.source) cut → IsCutOff cut → (IsTrue (feed a.source).told → (feed b.source).coming ≡ [])
+      → (IsTrue (feed a.source).told → IsTrue (feed a.source).steady → (feed a.source).last ≡ End)
+      → Ends feed shows shown writes written a b
   ends_reading a b cut kept gave is_cut nothing ends = record {
     in_hand = cut;
     read = gave;
@@ -102,24 +106,24 @@ module _ {S D L : Type 0} (told : S → Bool) (coming : S → List ℕ) (steady 
     drawn = Takes-none shows shown _ _ (ap (λ e. e.display) kept);
     lines = Takes-none writes written _ _ (ap (λ e. e.lines) kept);
     means = λ t.
-        let end = foreseen_end (steady a.source) (last a.source) (ends t) in
+        let end = foreseen_end (feed a.source).steady (feed a.source).last (ends t) in
         let left = nothing t in
-        let all : coming a.source ≡ cut = (gave t).1 ∙ ap (λ bytes. cut ++ bytes) left ∙ append-nil cut in
+        let all : (feed a.source).coming ≡ cut = (gave t).1 ∙ ap (λ bytes. cut ++ bytes) left ∙ append-nil cut in
         rw (end, all, left, is_cut) refl;
   }
 
   -- a key ended the input
   pub ends_by_key : (a m b : Editor S D L) (key : List ℕ) (command : Command)
       → m ≡ record a { source = m.source } → b ≡ record m { line = b.line; display = b.display; lines = b.lines }
-      → Gives told coming a.source m.source key → IsKey key command
+      → Gives (feed a.source) (feed m.source) key → IsKey key command
       → effect_of command m.line ≡ record { outcome = Ended; line = b.line }
       → Takes shows shown m.display b.display [] → Takes writes written m.lines b.lines []
-      → Ends told coming steady last shows shown writes written a b
+      → Ends feed shows shown writes written a b
   ends_by_key a m b key command read obeyed gave is_key does_there drew wrote =
       let does : effect_of command a.line ≡ record { outcome = Ended; line = b.line } =
       ap (λ line. effect_of command line) (sym (ap (λ e. e.line) read)) ∙ does_there in
       let source : b.source ≡ m.source = ap (λ e. e.source) obeyed in
-      let here : Gives told coming a.source b.source key = rw source gave in
+      let here : Gives (feed a.source) (feed b.source) key = rw source gave in
       let lines_before : m.lines ≡ a.lines = ap (λ e. e.lines) read in
       let shown_before : m.display ≡ a.display = ap (λ e. e.display) read in
       record {
@@ -130,19 +134,19 @@ module _ {S D L : Type 0} (told : S → Bool) (coming : S → List ℕ) (steady 
         drawn = (let taken : Takes shows shown a.display b.display [] = rw shown_before at drew in taken);
         lines = (let taken : Takes writes written a.lines b.lines [] = rw lines_before at wrote in taken);
         means = λ t.
-            let last = foreseen (steady a.source) (last a.source) in
+            let last = foreseen (feed a.source).steady (feed a.source).last in
             rw (here t).1
-            (report_of_key a.page last a.line key (coming b.source) command is_key
-            ∙ ap (λ e. report_after a.page a.line e.outcome e.line (coming b.source) (λ next. report_from a.page last next (readings (coming b.source)))) does);
+            (report_of_key a.page last a.line key (feed b.source).coming command is_key
+            ∙ ap (λ e. report_after a.page a.line e.outcome e.line (feed b.source).coming (λ next. report_from a.page last next (readings (feed b.source).coming))) does);
       }
 
   -- a command stopped the session: its key is in hand
   pub stops_obeying : (ending : Ending) (a m b : Editor S D L) (key : List ℕ) (command : Command)
       → m ≡ record a { source = m.source } → b ≡ record m { line = b.line; display = b.display; lines = b.lines }
-      → Gives told coming a.source m.source key → IsKey key command → (ending ≡ Reader → ⊥)
+      → Gives (feed a.source) (feed m.source) key → IsKey key command → (ending ≡ Reader → ⊥)
       → (let effect = effect_of command m.line in TakesSome writes written m.lines b.lines (writing effect.outcome effect.line))
       → ((ending ≡ Lines → ⊥) → b.lines ≡ m.lines)
-      → Stops told coming steady last shows shown writes written ending a b
+      → Stops feed shows shown writes written ending a b
   stops_obeying ending a m b key command read obeyed gave is_key other torn_there untorn =
       let effect = effect_of command a.line in
       let lines_read : m.lines ≡ a.lines = ap (λ e. e.lines) read in
@@ -151,7 +155,7 @@ module _ {S D L : Type 0} (told : S → Bool) (coming : S → List ℕ) (steady 
       TakesSome writes written m.lines b.lines (writing (effect_of command line).outcome (effect_of command line).line) in
       subst P (ap (λ e. e.line) read) torn_there in
       let source : b.source ≡ m.source = ap (λ e. e.source) obeyed in
-      let gave' : Gives told coming a.source b.source key = rw source gave in
+      let gave' : Gives (feed a.source) (feed b.source) key = rw source gave in
       let made : (report_from a.page End a.line (readings key)).lines ≡ writing effect.outcome effect.line = lines_of_key a.page a.line key command is_key in
       elim (is_lines ending) [
         | inl is ↦ record {
@@ -161,6 +165,7 @@ module _ {S D L : Type 0} (told : S → Bool) (coming : S → List ℕ) (steady 
           torn = torn.0;
           read = gave';
           one_key = inr (command, is_key);
+          part = λ reader. absurd (other reader);
           lines = (let taken : Takes writes written a.lines b.lines torn.0 = rw lines_read at torn.3 in taken);
           whole = λ not. absurd (not is);
           begun = (torn.1, made ∙ torn.2);
@@ -174,6 +179,7 @@ module _ {S D L : Type 0} (told : S → Bool) (coming : S → List ℕ) (steady 
           torn = [];
           read = gave';
           one_key = inr (command, is_key);
+          part = λ reader. absurd (other reader);
           lines = Takes-none writes written _ _ (untorn not ∙ lines_read);
           whole = λ _. refl;
           begun = (writing effect.outcome effect.line, made);
@@ -186,10 +192,10 @@ module _ {S D L : Type 0} (told : S → Bool) (coming : S → List ℕ) (steady 
   pub stops_beginning : (ending : Ending) (a m n b : Editor S D L) (key : List ℕ) (command : Command)
       → m ≡ record a { source = m.source } → n ≡ record m { line = n.line; display = n.display; lines = n.lines }
       → b ≡ record n { line = b.line; display = b.display }
-      → Gives told coming a.source m.source key → IsKey key command → (ending ≡ Reader → ⊥)
+      → Gives (feed a.source) (feed m.source) key → IsKey key command → (ending ≡ Reader → ⊥)
       → effect_of command m.line ≡ record { outcome = Accepted; line = n.line }
       → Takes writes written m.lines n.lines (writing Accepted n.line)
-      → Stops told coming steady last shows shown writes written ending a b
+      → Stops feed shows shown writes written ending a b
   stops_beginning ending a m n b key command read obeyed begun gave is_key other does_there wrote =
       let does : effect_of command a.line ≡ record { outcome = Accepted; line = n.line } =
       ap (λ line. effect_of command line) (sym (ap (λ e. e.line) read)) ∙ does_there in
@@ -207,6 +213,7 @@ module _ {S D L : Type 0} (told : S → Bool) (coming : S → List ℕ) (steady 
         torn = [];
         read = rw (whole, source) gave;
         one_key = inl refl;
+        part = λ _. refl;
         lines = rw (made, append-nil) taken;
         whole = λ _. refl;
         begun = (
@@ -222,12 +229,12 @@ module _ {S D L : Type 0} (told : S → Bool) (coming : S → List ℕ) (steady 
   pub goes_accepting : (a m n b : Editor S D L) (key : List ℕ) (command : Command)
       → m ≡ record a { source = m.source } → n ≡ record m { line = n.line; display = n.display; lines = n.lines }
       → b ≡ record n { line = b.line; display = b.display }
-      → Gives told coming a.source m.source key → IsKey key command
+      → Gives (feed a.source) (feed m.source) key → IsKey key command
       → effect_of command m.line ≡ record { outcome = Accepted; line = n.line }
       → Takes shows shown m.display n.display (sending m.page m.line Accepted n.line)
       → Takes writes written m.lines n.lines (writing Accepted n.line)
       → Takes shows shown n.display b.display (full_drawing n.page 0 empty_line) → b.line ≡ empty_line
-      → Goes told coming shows shown writes written a b
+      → Goes feed shows shown writes written a b
   goes_accepting a m n b key command read obeyed begun gave is_key does_there sent wrote drew empty =
       let does : effect_of command a.line ≡ record { outcome = Accepted; line = n.line } =
       ap (λ line. effect_of command line) (sym (ap (λ e. e.line) read)) ∙ does_there in
@@ -269,10 +276,10 @@ not_reader ending display lines cause is =
     let wrong : false ≡ true = at_reader.0 in
     cc
 
-module _ {S D L : Type 0} (told : S → Bool) (coming : S → List ℕ) (steady : S → Bool) (last : S → Last)
+module _ {S D L : Type 0} (feed : S → Feed)
     (shows : D → Bool) (shown : D → List ℕ) (writes : L → Bool) (written : L → List ℕ) where
   -- nothing is taken yet
-  pub goes_nowhere : (a : Editor S D L) → Goes told coming shows shown writes written a a
+  pub goes_nowhere : (a : Editor S D L) → Goes feed shows shown writes written a a
   goes_nowhere a = record {
     taken = [];
     sent = [];
@@ -284,13 +291,13 @@ module _ {S D L : Type 0} (told : S → Bool) (coming : S → List ℕ) (steady 
   }
 
   -- turns, and then more turns
-  pub goes_on : (a m b : Editor S D L) → Goes told coming shows shown writes written a m → Goes told coming shows shown writes written m b
-      → Goes told coming shows shown writes written a b
+  pub goes_on : (a m b : Editor S D L) → Goes feed shows shown writes written a m → Goes feed shows shown writes written m b
+      → Goes feed shows shown writes written a b
   goes_on a m b first second = record {
     taken = first.taken ++ second.taken;
     sent = first.sent ++ second.sent;
     wrote = first.wrote ++ second.wrote;
-    read = Gives-then told coming _ _ _ first.taken second.taken first.read second.read;
+    read = Gives-then (feed a.source) (feed m.source) (feed b.source) first.taken second.taken first.read second.read;
     drawn = Takes-then shows shown _ _ _ first.sent second.sent first.drawn second.drawn;
     lines = Takes-then writes written _ _ _ first.wrote second.wrote first.lines second.lines;
     means = λ last following.
@@ -301,22 +308,22 @@ module _ {S D L : Type 0} (told : S → Bool) (coming : S → List ℕ) (steady 
   }
 
   -- the lines of the keys that were taken
-  lines_taken : (a m : Editor S D L) (goes : Goes told coming shows shown writes written a m) (following : List ℕ)
+  lines_taken : (a m : Editor S D L) (goes : Goes feed shows shown writes written a m) (following : List ℕ)
       → (report_from a.page End a.line (readings (goes.taken ++ following))).lines
       ≡ goes.wrote ++ (report_from m.page End m.line (readings following)).lines
   lines_taken a m goes following = ap (λ report. report.lines) (goes.means End following)
 
-  all_lines_taken : (a m : Editor S D L) (goes : Goes told coming shows shown writes written a m)
+  all_lines_taken : (a m : Editor S D L) (goes : Goes feed shows shown writes written a m)
       → (report_from a.page End a.line (readings goes.taken)).lines ≡ goes.wrote
   all_lines_taken a m goes =
       ap (λ bytes. (report_from a.page End a.line (readings bytes)).lines) (sym (append-nil goes.taken))
       ∙ lines_taken a m goes [] ∙ append-nil goes.wrote
 
   -- turns, and then the input ended
-  pub goes_and_ends : (a m b : Editor S D L) → Goes told coming shows shown writes written a m
-      → Ends told coming steady last shows shown writes written m b
-      → steady m.source ≡ steady a.source → last m.source ≡ last a.source
-      → Finishes told coming steady last shows shown writes written a b
+  pub goes_and_ends : (a m b : Editor S D L) → Goes feed shows shown writes written a m
+      → Ends feed shows shown writes written m b
+      → (feed m.source).steady ≡ (feed a.source).steady → (feed m.source).last ≡ (feed a.source).last
+      → Finishes feed shows shown writes written a b
   goes_and_ends a m b goes ends same_steady same_last =
       let all = all_lines_taken a m goes in
       let drawn : Takes shows shown a.display b.display goes.sent =
@@ -329,7 +336,7 @@ module _ {S D L : Type 0} (told : S → Bool) (coming : S → List ℕ) (steady 
         handled = goes.taken;
         in_hand = ends.in_hand;
         sent = goes.sent;
-        read = Gives-then told coming _ _ _ goes.taken ends.in_hand goes.read ends.read;
+        read = Gives-then (feed a.source) (feed m.source) (feed b.source) goes.taken ends.in_hand goes.read ends.read;
         one_key = ends.one_key;
         drawn = drawn;
         lines =
@@ -337,21 +344,21 @@ module _ {S D L : Type 0} (told : S → Bool) (coming : S → List ℕ) (steady 
         begun =
             lines_taken a m goes ends.in_hand ∙ ap (λ lines. goes.wrote ++ lines) ends.wrote ∙ append-nil goes.wrote ∙ sym all;
         means = λ t.
-            let last' = foreseen (steady a.source) (last a.source) in
+            let last' = foreseen (feed a.source).steady (feed a.source).last in
             let there = goes.read t in
             ap (λ bytes. report_from a.page last' a.line (readings bytes)) there.1
-            ∙ goes.means last' (coming m.source)
-            ∙ ap (λ foreseen. after goes.sent goes.wrote (report_from m.page foreseen m.line (readings (coming m.source))))
-            (ap (λ known. foreseen known (last a.source)) (sym same_steady) ∙ ap (λ behind. foreseen (steady m.source) behind) (sym same_last))
+            ∙ goes.means last' (feed m.source).coming
+            ∙ ap (λ foreseen. after goes.sent goes.wrote (report_from m.page foreseen m.line (readings (feed m.source).coming)))
+            (ap (λ known. foreseen known (feed a.source).last) (sym same_steady) ∙ ap (λ behind. foreseen (feed m.source).steady behind) (sym same_last))
             ∙ ap (λ report. after goes.sent goes.wrote report) (ends.means there.0)
-            ∙ ap (λ lines. after goes.sent lines (ended (coming b.source))) (sym all);
+            ∙ ap (λ lines. after goes.sent lines (ended (feed b.source).coming)) (sym all);
       }
 
   -- turns, and then a fault
-  pub goes_and_stops : (ending : Ending) (a m b : Editor S D L) → Goes told coming shows shown writes written a m
-      → Stops told coming steady last shows shown writes written ending m b
-      → steady m.source ≡ steady a.source → last m.source ≡ last a.source
-      → Stops told coming steady last shows shown writes written ending a b
+  pub goes_and_stops : (ending : Ending) (a m b : Editor S D L) → Goes feed shows shown writes written a m
+      → Stops feed shows shown writes written ending m b
+      → (feed m.source).steady ≡ (feed a.source).steady → (feed m.source).last ≡ (feed a.source).last
+      → Stops feed shows shown writes written ending a b
   goes_and_stops ending a m b goes stops same_steady same_last =
       let later = (report_from m.page End m.line (readings stops.handled)).lines in
       let made : (report_from a.page End a.line (readings (goes.taken ++ stops.handled))).lines ≡ goes.wrote ++ later = lines_taken a m goes stops.handled in
@@ -361,10 +368,11 @@ module _ {S D L : Type 0} (told : S → Bool) (coming : S → List ℕ) (steady 
         sent = goes.sent ++ stops.sent;
         torn = stops.torn;
         read =
-            let P : List ℕ → Type 0 = λ bytes. Gives told coming a.source b.source bytes in
+            let P : List ℕ → Type 0 = λ bytes. Gives (feed a.source) (feed b.source) bytes in
             subst P (sym (append_assoc goes.taken stops.handled stops.in_hand))
-            (Gives-then told coming _ _ _ goes.taken (stops.handled ++ stops.in_hand) goes.read stops.read);
+            (Gives-then (feed a.source) (feed m.source) (feed b.source) goes.taken (stops.handled ++ stops.in_hand) goes.read stops.read);
         one_key = stops.one_key;
+        part = stops.part;
         lines =
             let P : List ℕ → Type 0 = λ bytes. Takes writes written a.lines b.lines bytes in
             subst P (sym (ap (λ lines. lines ++ stops.torn) made ∙ append_assoc goes.wrote later stops.torn))
@@ -384,9 +392,9 @@ module _ {S D L : Type 0} (told : S → Bool) (coming : S → List ℕ) (steady 
         foretold = λ reader t s.
             let there = goes.read t in
             let later_on = stops.foretold reader there.0 (rw same_steady s) in (
-              ap (λ bytes. report_from a.page (last a.source) a.line (readings bytes)) there.1
-                  ∙ goes.means (last a.source) (coming m.source)
-                  ∙ ap (λ behind. after goes.sent goes.wrote (report_from m.page behind m.line (readings (coming m.source)))) (sym same_last)
+              ap (λ bytes. report_from a.page (feed a.source).last a.line (readings bytes)) there.1
+                  ∙ goes.means (feed a.source).last (feed m.source).coming
+                  ∙ ap (λ behind. after goes.sent goes.wrote (report_from m.page behind m.line (readings (feed m.source).coming))) (sym same_last)
                   ∙ ap (λ report. after goes.sent goes.wrote report) later_on.0
                   ∙ sym (after-after goes.sent stops.sent goes.wrote later (ended_by Failed))
                   ∙ ap (λ lines. after (goes.sent ++ stops.sent) lines (ended_by Failed)) (sym made),

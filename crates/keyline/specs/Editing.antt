@@ -26,7 +26,8 @@ changed line = record { outcome = Changed; line = line }
 
 -- the text with the character put at the place, and the cursor behind it
 abbrev pub inserted : ℕ → Edited → Edited
-inserted character line = record { text = insert line.text line.place character; place = line.place + 1 }
+inserted character line =
+    record { text = insert line.text line.place character; place = line.place + 1 }
 
 -- the line without the character at the place, the cursor there
 abbrev pub removed : ℕ → Edited → Edited
@@ -39,10 +40,12 @@ moved place line = record { text = line.text; place = place }
 abbrev pub effect_of : Command → Edited → Effect
 effect_of (Insert character) line = changed (inserted character line)
 effect_of Accept line = record { outcome = Accepted; line = line }
-effect_of Backspace line = if line.place == 0 then same line else changed (removed (line.place - 1) line)
+effect_of Backspace line = if line.place == 0 then same line else changed
+    (removed (line.place - 1) line)
 effect_of DeleteOrEnd line =
     if length line.text == 0 then record { outcome = Ended; line = line } else
     if nat_lt line.place (length line.text) then changed (removed line.place line) else same line
 effect_of Left line = if line.place == 0 then same line else changed (moved (line.place - 1) line)
-effect_of Right line = if nat_lt line.place (length line.text) then changed (moved (line.place + 1) line) else same line
+effect_of Right line = if nat_lt line.place (length line.text) then changed
+    (moved (line.place + 1) line) else same line
 effect_of Ignore line = same line

@@ -33,7 +33,8 @@ abbrev pub HasCause : Ending → Bool → Bool → Bool → Type 0
 HasCause Eof source display lines = (source ≡ false) × (display ≡ false) × (lines ≡ false)
 HasCause fault source display lines = FaultHasCause fault source display lines
 
--- the endings that the input gives: its end, and a failure that the list of a steady source foretells
+-- the endings that the input gives: its end, and a failure that the list of a steady source
+-- foretells
 abbrev pub IsMet : Bool → Ending → Type 0
 IsMet steady Eof = Unit {0}
 IsMet steady Reader = IsTrue steady

@@ -1,6 +1,7 @@
 -- From bytes to keys, and from keys to commands.
-use Rattle.std.specs.Prelude.{◌≡◌, ◌≢◌, ℕ, Bool, ◌&&◌, List, [], ◌∷◌, ◌++◌, nat_le, ◌==◌, if◌then◌else◌, map, IsTrue, Option, Some, None, Result, Ok, Err}
-use Rattle.keyline.specs.Calls.{Gives}
+use Rattle.std.specs.Prelude.{◌≡◌, ◌≢◌, ℕ, ◌<◌, ◌≤◌, Bool, ◌&&◌, List, [], ◌∷◌, ◌++◌, nat_le, ◌==◌, if◌then◌else◌, map, IsTrue, Option, Some, None, Result, Ok, Err, IfOk, IfSome, IfNone, OnErr, is_err}
+use Rattle.line_config.specs.declared.device.Last.TheVariants.{End, Failed}
+use Rattle.line_config.specs.Feed.{Feed, Gives}
 use Rattle.keyline.specs.declared.command.Command.{Command}
 use Rattle.keyline.specs.declared.command.Command.TheVariants.{Insert, Accept, Backspace, DeleteOrEnd, Left, Right, Ignore}
 
@@ -75,7 +76,8 @@ abbrev mutual
   -- behind ESC [
   pub readings_in_control : List ℕ → List Reading
   readings_in_control [] = []
-  readings_in_control (byte ∷ bytes) = record { command = command_of_final byte; behind = bytes } ∷ readings bytes
+  readings_in_control (byte ∷ bytes) = record { command = command_of_final byte; behind = bytes }
+      ∷ readings bytes
 
 -- the commands that the bytes mean
 abbrev pub commands_of : List ℕ → List Command
@@ -97,15 +99,32 @@ command_of_key _ = Ignore
 -- the bytes are one key that means the command, whatever follows
 abbrev pub IsKey : List ℕ → Command → Type 0
 IsKey key command =
-    (following : List ℕ) → readings (key ++ following) ≡ record { command = command; behind = following } ∷ readings following
+    (following : List ℕ) → readings (key ++ following)
+    ≡ record { command = command; behind = following } ∷ readings following
 
 -- the bytes are no whole key, nor a part of one behind which keys stand
 abbrev pub IsCutOff : List ℕ → Type 0
 IsCutOff bytes = readings bytes ≡ []
 
--- what is taken of a source: a key, all that is left of a key cut off, and at a failure a part of a key
-abbrev pub TakesKey : {S E : Type 0} → (S → Bool) → (S → List ℕ) → S → S → Result (Option Command) E → Type 0
-TakesKey told coming old new (Ok (Some command)) = (key : List ℕ) × Gives told coming old new key × IsKey key command
-TakesKey told coming old new (Ok None) =
-    (cut : List ℕ) × Gives told coming old new cut × IsCutOff cut × (IsTrue (told old) → coming new ≡ [])
-TakesKey told coming old new (Err _) = (cut : List ℕ) × Gives told coming old new cut × IsCutOff cut
+-- what is taken of a source: a key, all that is left of a key cut off, and at a failure a part of a
+-- key
+abbrev pub TakesKey : {E : Type 0} → Feed → Feed → Result (Option Command) E → Type 0
+TakesKey old new (Ok (Some command)) = (key : List ℕ) × Gives old new key × IsKey key command
+TakesKey old new (Ok None) =
+    (cut : List ℕ) × Gives old new cut × IsCutOff cut × (IsTrue old.told → new.coming ≡ [])
+TakesKey old new (Err _) = (cut : List ℕ) × Gives old new cut × IsCutOff cut
+
+-- a key is asked for: what the source tells by the answer, and what stays
+pub record ReadsKey {E : Type 0} (old new : Feed)
+    (result : Result (Option Command) E) : Type 0 where
+  pub typed : IfOk result (λ found. IfSome found IsTyped)
+  pub end : IsTrue old.told → IsTrue old.steady
+      → IfOk result (λ found. IfNone found (old.last ≡ End))
+  pub fault : IsTrue old.told → IsTrue old.steady
+      → OnErr result ((new.coming ≡ []) × (old.last ≡ Failed))
+  pub told : IsTrue old.told → IsTrue new.told
+  pub steady : new.steady ≡ old.steady
+  pub last : new.last ≡ old.last
+  pub failure : new.failed ≡ is_err result
+  pub falls : IfOk result (λ found. IfSome found (λ _. new.bound < old.bound))
+  pub keeps : new.bound ≤ old.bound

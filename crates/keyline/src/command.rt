@@ -1,8 +1,7 @@
 //! Key bytes and the commands that they mean.
 
-ghost use Rattle.std.specs.Prelude.{◌≡◌, [], ◌<◌, ◌≤◌, IsTrue, IfOk, IfSome, IfNone, OnErr, is_err};
-ghost use Rattle.line_config.specs.declared.device.Last.{Last};
-ghost use Rattle.keyline.specs.Keys.{IsTyped, TakesKey, command_of_byte, command_of_final};
+ghost use Rattle.std.specs.Prelude.{◌≡◌};
+ghost use Rattle.keyline.specs.Keys.{IsTyped, TakesKey, ReadsKey, command_of_byte, command_of_final};
 
 use line_config::{DeviceFailed, Source};
 
@@ -29,16 +28,8 @@ pub enum Command {
 
 /// Takes the next key of the source: its command, or none where the source ends before a whole key.
 pub(crate) fn next_command<S: Source>(source: &mut S) -> Result<Option<Command>, DeviceFailed>
-    ensures taken { TakesKey S.told S.coming source.old source.new result }
-    ensures typed { IfOk result (λ found. IfSome found IsTyped) }
-    ensures told { IsTrue (S.told source.old) → IsTrue (S.told source.new) }
-    ensures ended { IsTrue (S.told source.old) → IsTrue (S.steady source.old) → IfOk result (λ found. IfNone found (S.last source.old ≡ Last.End)) }
-    ensures broken { IsTrue (S.told source.old) → IsTrue (S.steady source.old) → OnErr result ((S.coming source.new ≡ []) × (S.last source.old ≡ Last.Failed)) }
-    ensures steady { S.steady source.new ≡ S.steady source.old }
-    ensures last { S.last source.new ≡ S.last source.old }
-    ensures failure { S.has_failed source.new ≡ is_err result }
-    ensures falls { IfOk result (λ found. IfSome found (λ _. S.bound source.new < S.bound source.old)) }
-    ensures keeps { S.bound source.new ≤ S.bound source.old }
+    ensures taken { TakesKey (S.feed source.old) (S.feed source.new) result }
+    ensures reads { ReadsKey (S.feed source.old) (S.feed source.new) result }
 {
     let Some(first) = source.next_byte()? else {
         return Ok(None);

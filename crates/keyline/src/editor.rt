@@ -2,13 +2,14 @@
 
 ghost use Rattle.std.specs.Prelude.{◌≡◌, IfOk, IfErr, OnOk, OnErr, IfSome, IfNone, IsTrue, true, false, is_err, [], ◌∷◌, ◌++◌, List, ℕ, ◌<◌, ◌≤◌};
 ghost use Rattle.line_config.specs.declared.device.Last.{Last};
-ghost use Rattle.keyline.specs.Calls.{Takes, TakesSome};
-ghost use Rattle.keyline.specs.Keys.{IsTyped, TakesKey};
+ghost use Rattle.line_config.specs.Sending.{Takes, Sends};
+ghost use Rattle.keyline.specs.Calls.{TakesSome};
+ghost use Rattle.keyline.specs.Keys.{IsTyped, TakesKey, ReadsKey};
 ghost use Rattle.keyline.specs.Editing.{effect_of, empty_line};
 ghost use Rattle.keyline.specs.Drawing.{full_drawing, cursor, end, move, next_row};
 ghost use Rattle.keyline.specs.Endings.{HasCause, FaultHasCause, IsMet};
 ghost use Rattle.keyline.specs.Session.{sending, writing, session, foreseen, Delivered, Stopped};
-ghost use Rattle.keyline.specs.Turns.{Goes, Ends, Finishes, Stops};
+ghost use Rattle.keyline.specs.Turns.{AllWork, Draws, IsCaused, Goes, Ends, Finishes, Stops};
 
 use crate::command::{Command, next_command};
 use crate::ending::Ending;
@@ -29,11 +30,9 @@ pub(crate) struct Editor<S, D, L> {
 impl<S: Source, D: Sink, L: Sink> Editor<S, D, L> {
     /// Draws the line over a drawing whose cursor stands in the row `row`.
     fn draw(&mut self, row: u16) -> Result<(), Ending>
-        requires { D.has_failed self.old.display ≡ false }
-        ensures shown { OnOk result (Takes D.told D.held self.old.display self.new.display (full_drawing self.old.page row self.old.line)) }
-        ensures works { OnOk result (D.has_failed self.new.display ≡ false) }
-        ensures fails { IfErr result (λ e. (e ≡ Ending.Display) × (D.has_failed self.new.display ≡ true)) }
-        ensures kept { self.new ≡ record self.old { display = self.new.display } }
+        ensures { Draws D.told D.held D.has_failed
+            (full_drawing self.old.page row self.old.line)
+            self.old self.new result }
     {
         match self.page.draw(&mut self.display, row, &self.line) {
             Ok(()) => Ok(()),
@@ -44,11 +43,15 @@ impl<S: Source, D: Sink, L: Sink> Editor<S, D, L> {
     /// Begins a line, with its first drawing.
     fn begin(&mut self) -> Result<(), Ending>
         requires { D.has_failed self.old.display ≡ false }
-        ensures shown { OnOk result (Takes D.told D.held self.old.display self.new.display (full_drawing self.old.page 0 empty_line)) }
+        ensures shown { OnOk result
+            (Takes D.told D.held self.old.display self.new.display
+            (full_drawing self.old.page 0 empty_line)) }
         ensures works { OnOk result (D.has_failed self.new.display ≡ false) }
-        ensures fails { IfErr result (λ ending. FaultHasCause ending false (D.has_failed self.new.display) false) }
+        ensures fails { IfErr result
+            (λ ending. FaultHasCause ending false (D.has_failed self.new.display) false) }
         ensures line { OnOk result (self.new.line ≡ empty_line) }
-        ensures kept { self.new ≡ record self.old { line = self.new.line; display = self.new.display } }
+        ensures kept { self.new
+            ≡ record self.old { line = self.new.line; display = self.new.display } }
     {
         self.line.clear()?;
         self.draw(0)?;
@@ -57,11 +60,10 @@ impl<S: Source, D: Sink, L: Sink> Editor<S, D, L> {
 
     /// Moves the display's cursor to the end of the line's drawing, and on to a new row.
     fn leave(&mut self) -> Result<(), Ending>
-        requires { D.has_failed self.old.display ≡ false }
-        ensures shown { OnOk result (Takes D.told D.held self.old.display self.new.display (move (cursor self.old.page self.old.line) (end self.old.page self.old.line) ++ next_row)) }
-        ensures works { OnOk result (D.has_failed self.new.display ≡ false) }
-        ensures fails { IfErr result (λ e. (e ≡ Ending.Display) × (D.has_failed self.new.display ≡ true)) }
-        ensures kept { self.new ≡ record self.old { display = self.new.display } }
+        ensures { Draws D.told D.held D.has_failed
+            (move (cursor self.old.page self.old.line) (end self.old.page self.old.line)
+            ++ next_row)
+            self.old self.new result }
     {
         let cursor = self.page.cursor(&self.line);
         let end = self.page.end(&self.line);
@@ -73,11 +75,7 @@ impl<S: Source, D: Sink, L: Sink> Editor<S, D, L> {
 
     /// Ends the display with a new row, where its cursor stands.
     fn close(&mut self) -> Result<(), Ending>
-        requires { D.has_failed self.old.display ≡ false }
-        ensures shown { OnOk result (Takes D.told D.held self.old.display self.new.display next_row) }
-        ensures works { OnOk result (D.has_failed self.new.display ≡ false) }
-        ensures fails { IfErr result (λ e. (e ≡ Ending.Display) × (D.has_failed self.new.display ≡ true)) }
-        ensures kept { self.new ≡ record self.old { display = self.new.display } }
+        ensures { Draws D.told D.held D.has_failed next_row self.old self.new result }
     {
         match send_row(&mut self.display) {
             Ok(()) => Ok(()),
@@ -88,10 +86,15 @@ impl<S: Source, D: Sink, L: Sink> Editor<S, D, L> {
     /// Writes the accepted line and a newline.
     fn write_line(&mut self) -> Result<(), Ending>
         requires { L.has_failed self.old.lines ≡ false }
-        ensures written { OnOk result (Takes L.told L.held self.old.lines self.new.lines (writing Outcome.Accepted self.old.line)) }
-        ensures torn { OnErr result (TakesSome L.told L.held self.old.lines self.new.lines (writing Outcome.Accepted self.old.line)) }
+        ensures written { OnOk result
+            (Takes L.told L.held self.old.lines self.new.lines
+            (writing Outcome.Accepted self.old.line)) }
+        ensures torn { OnErr result
+            (TakesSome L.told L.held self.old.lines self.new.lines
+            (writing Outcome.Accepted self.old.line)) }
         ensures works { OnOk result (L.has_failed self.new.lines ≡ false) }
-        ensures fails { IfErr result (λ e. (e ≡ Ending.Lines) × (L.has_failed self.new.lines ≡ true)) }
+        ensures fails { IfErr result
+            (λ e. (e ≡ Ending.Lines) × (L.has_failed self.new.lines ≡ true)) }
         ensures kept { self.new ≡ record self.old { lines = self.new.lines } }
     {
         match send_line(&mut self.lines, self.line.text()) {
@@ -105,14 +108,28 @@ impl<S: Source, D: Sink, L: Sink> Editor<S, D, L> {
         requires display { D.has_failed self.old.display ≡ false }
         requires lines { L.has_failed self.old.lines ≡ false }
         requires typed { IsTyped command }
-        ensures outcome { IfOk result (λ outcome. effect_of command self.old.line ≡ record { outcome = outcome; line = self.new.line }) }
-        ensures shown { IfOk result (λ outcome. Takes D.told D.held self.old.display self.new.display (sending self.old.page self.old.line outcome self.new.line)) }
-        ensures written { IfOk result (λ outcome. Takes L.told L.held self.old.lines self.new.lines (writing outcome self.new.line)) }
-        ensures works { OnOk result ((D.has_failed self.new.display ≡ false) × (L.has_failed self.new.lines ≡ false)) }
-        ensures torn { OnErr result (let effect = effect_of command self.old.line in TakesSome L.told L.held self.old.lines self.new.lines (writing effect.outcome effect.line)) }
-        ensures untorn { IfErr result (λ ending. (ending ≡ Ending.Lines → ⊥) → self.new.lines ≡ self.old.lines) }
-        ensures fails { IfErr result (λ ending. FaultHasCause ending false (D.has_failed self.new.display) (L.has_failed self.new.lines)) }
-        ensures kept { self.new ≡ record self.old { line = self.new.line; display = self.new.display; lines = self.new.lines } }
+        ensures outcome { IfOk result
+            (λ outcome. effect_of command self.old.line
+            ≡ record { outcome = outcome; line = self.new.line }) }
+        ensures shown { IfOk result
+            (λ outcome. Takes D.told D.held self.old.display self.new.display
+            (sending self.old.page self.old.line outcome self.new.line)) }
+        ensures written { IfOk result
+            (λ outcome. Takes L.told L.held self.old.lines self.new.lines
+            (writing outcome self.new.line)) }
+        ensures works { OnOk result
+            ((D.has_failed self.new.display ≡ false) × (L.has_failed self.new.lines ≡ false)) }
+        ensures torn { OnErr result
+            (let effect = effect_of command self.old.line in
+            TakesSome L.told L.held self.old.lines self.new.lines
+            (writing effect.outcome effect.line)) }
+        ensures untorn { IfErr result
+            (λ ending. (ending ≡ Ending.Lines → ⊥) → self.new.lines ≡ self.old.lines) }
+        ensures fails { IfErr result
+            (λ ending. FaultHasCause ending false (D.has_failed self.new.display)
+            (L.has_failed self.new.lines)) }
+        ensures kept { self.new
+            ≡ record self.old { line = self.new.line; display = self.new.display; lines = self.new.lines } }
     {
         let row = self.page.cursor(&self.line).row;
         let outcome = self.line.apply(command)?;
@@ -129,15 +146,9 @@ impl<S: Source, D: Sink, L: Sink> Editor<S, D, L> {
 
     /// The next command, or none at the end of the input.
     fn next(&mut self) -> Result<Option<Command>, Ending>
-        ensures taken { TakesKey S.told S.coming self.old.source self.new.source result }
-        ensures typed { IfOk result (λ found. IfSome found IsTyped) }
-        ensures ended { IsTrue (S.told self.old.source) → IsTrue (S.steady self.old.source) → IfOk result (λ found. IfNone found (S.last self.old.source ≡ Last.End)) }
-        ensures broken { IsTrue (S.told self.old.source) → IsTrue (S.steady self.old.source) → OnErr result ((S.coming self.new.source ≡ []) × (S.last self.old.source ≡ Last.Failed)) }
-        ensures steady { S.steady self.new.source ≡ S.steady self.old.source }
-        ensures last { S.last self.new.source ≡ S.last self.old.source }
-        ensures works { OnOk result (S.has_failed self.new.source ≡ false) }
-        ensures fails { IfErr result (λ ending. (ending ≡ Ending.Reader) × (S.has_failed self.new.source ≡ true)) }
-        ensures falls { IfOk result (λ found. IfSome found (λ _. S.bound self.new.source < S.bound self.old.source)) }
+        ensures taken { TakesKey (S.feed self.old.source) (S.feed self.new.source) result }
+        ensures reads { ReadsKey (S.feed self.old.source) (S.feed self.new.source) result }
+        ensures ending { IfErr result (λ ending. ending ≡ Ending.Reader) }
         ensures kept { self.new ≡ record self.old { source = self.new.source } }
     {
         match next_command(&mut self.source) {
@@ -150,14 +161,18 @@ impl<S: Source, D: Sink, L: Sink> Editor<S, D, L> {
     fn turn(&mut self) -> Result<bool, Ending>
         requires display { D.has_failed self.old.display ≡ false }
         requires lines { L.has_failed self.old.lines ≡ false }
-        ensures goes { IfOk result (λ on. on ≡ true → Goes S.told S.coming D.told D.held L.told L.held self.old self.new) }
-        ensures ends { IfOk result (λ on. on ≡ false → Ends S.told S.coming S.steady S.last D.told D.held L.told L.held self.old self.new) }
-        ensures stops { IfErr result (λ ending. Stops S.told S.coming S.steady S.last D.told D.held L.told L.held ending self.old self.new) }
-        ensures works { OnOk result ((S.has_failed self.new.source ≡ false) × (D.has_failed self.new.display ≡ false) × (L.has_failed self.new.lines ≡ false)) }
-        ensures fails { IfErr result (λ ending. FaultHasCause ending (S.has_failed self.new.source) (D.has_failed self.new.display) (L.has_failed self.new.lines)) }
-        ensures falls { IfOk result (λ on. on ≡ true → S.bound self.new.source < S.bound self.old.source) }
-        ensures steady { S.steady self.new.source ≡ S.steady self.old.source }
-        ensures last { S.last self.new.source ≡ S.last self.old.source }
+        ensures goes { IfOk result
+            (λ on. on ≡ true → Goes S.feed D.told D.held L.told L.held self.old self.new) }
+        ensures ends { IfOk result
+            (λ on. on ≡ false → Ends S.feed D.told D.held L.told L.held self.old self.new) }
+        ensures stops { IfErr result
+            (λ ending. Stops S.feed D.told D.held L.told L.held ending self.old self.new) }
+        ensures works { OnOk result (AllWork S.feed D.has_failed L.has_failed self.new) }
+        ensures fails { IfErr result (λ e. IsCaused S.feed D.has_failed L.has_failed e self.new) }
+        ensures falls { IfOk result
+            (λ on. on ≡ true → (S.feed self.new.source).bound < (S.feed self.old.source).bound) }
+        ensures steady { (S.feed self.new.source).steady ≡ (S.feed self.old.source).steady }
+        ensures last { (S.feed self.new.source).last ≡ (S.feed self.old.source).last }
         ensures page { self.new.page ≡ self.old.page }
     {
         let Some(command) = self.next()? else {
@@ -175,13 +190,13 @@ impl<S: Source, D: Sink, L: Sink> Editor<S, D, L> {
 
     /// Takes keys until the input ends.
     fn turns(&mut self) -> Result<(), Ending>
-        requires source { S.has_failed self.old.source ≡ false }
-        requires display { D.has_failed self.old.display ≡ false }
-        requires lines { L.has_failed self.old.lines ≡ false }
-        ensures finishes { OnOk result (Finishes S.told S.coming S.steady S.last D.told D.held L.told L.held self.old self.new) }
-        ensures stops { IfErr result (λ ending. Stops S.told S.coming S.steady S.last D.told D.held L.told L.held ending self.old self.new) }
-        ensures works { OnOk result ((S.has_failed self.new.source ≡ false) × (D.has_failed self.new.display ≡ false) × (L.has_failed self.new.lines ≡ false)) }
-        ensures fails { IfErr result (λ ending. FaultHasCause ending (S.has_failed self.new.source) (D.has_failed self.new.display) (L.has_failed self.new.lines)) }
+        requires { AllWork S.feed D.has_failed L.has_failed self.old }
+        ensures finishes { OnOk result
+            (Finishes S.feed D.told D.held L.told L.held self.old self.new) }
+        ensures stops { IfErr result
+            (λ ending. Stops S.feed D.told D.held L.told L.held ending self.old self.new) }
+        ensures works { OnOk result (AllWork S.feed D.has_failed L.has_failed self.new) }
+        ensures fails { IfErr result (λ e. IsCaused S.feed D.has_failed L.has_failed e self.new) }
     {
         while self.turn()? {}
         Ok(())
@@ -189,18 +204,26 @@ impl<S: Source, D: Sink, L: Sink> Editor<S, D, L> {
 
     /// Runs the session to the end of its input.
     fn work(&mut self) -> Result<(), Ending>
-        requires source { S.has_failed self.old.source ≡ false }
-        requires display { D.has_failed self.old.display ≡ false }
-        requires lines { L.has_failed self.old.lines ≡ false }
-        ensures delivered { IsTrue (S.told self.old.source) → OnOk result (
-            let report = session self.old.page (S.coming self.old.source) (foreseen (S.steady self.old.source) (S.last self.old.source)) in
-            Delivered report Ending.Eof S.coming D.told D.held L.told L.held self.new.source self.old.display self.new.display self.old.lines self.new.lines) }
-        ensures foretold { IsTrue (S.told self.old.source) → IsTrue (S.steady self.old.source) → IfErr result (λ ending. ending ≡ Ending.Reader →
-            let report = session self.old.page (S.coming self.old.source) (foreseen (S.steady self.old.source) (S.last self.old.source)) in
-            Delivered report ending S.coming D.told D.held L.told L.held self.new.source self.old.display self.new.display self.old.lines self.new.lines) }
-        ensures stopped { IfErr result (λ ending. Stopped self.old.page ending S.told S.coming L.told L.held self.old.source self.new.source self.old.lines self.new.lines) }
-        ensures works { OnOk result (HasCause Ending.Eof (S.has_failed self.new.source) (D.has_failed self.new.display) (L.has_failed self.new.lines)) }
-        ensures fails { IfErr result (λ ending. FaultHasCause ending (S.has_failed self.new.source) (D.has_failed self.new.display) (L.has_failed self.new.lines)) }
+        requires { AllWork S.feed D.has_failed L.has_failed self.old }
+        ensures delivered { IsTrue (S.feed self.old.source).told → OnOk result (
+            let report = session self.old.page (S.feed self.old.source).coming
+            (foreseen (S.feed self.old.source).steady (S.feed self.old.source).last) in
+            Delivered report Ending.Eof S.feed D.told D.held L.told L.held self.new.source
+            self.old.display self.new.display self.old.lines self.new.lines) }
+        ensures foretold { IsTrue (S.feed self.old.source).told
+            → IsTrue (S.feed self.old.source).steady
+            → IfErr result (λ ending. ending ≡ Ending.Reader →
+            let report = session self.old.page (S.feed self.old.source).coming
+            (foreseen (S.feed self.old.source).steady (S.feed self.old.source).last) in
+            Delivered report ending S.feed D.told D.held L.told L.held self.new.source
+            self.old.display self.new.display self.old.lines self.new.lines) }
+        ensures stopped { IfErr result
+            (λ ending. Stopped self.old.page ending S.feed L.told L.held self.old.source
+            self.new.source self.old.lines self.new.lines) }
+        ensures works { OnOk result
+            (HasCause Ending.Eof (S.feed self.new.source).failed (D.has_failed self.new.display)
+            (L.has_failed self.new.lines)) }
+        ensures fails { IfErr result (λ e. IsCaused S.feed D.has_failed L.has_failed e self.new) }
     {
         self.begin()?;
         self.turns()?;
@@ -210,14 +233,18 @@ impl<S: Source, D: Sink, L: Sink> Editor<S, D, L> {
 
     /// Runs the session to its ending.
     pub fn edit(&mut self) -> Ending
-        requires source { S.has_failed self.old.source ≡ false }
-        requires display { D.has_failed self.old.display ≡ false }
-        requires lines { L.has_failed self.old.lines ≡ false }
-        ensures delivered { IsTrue (S.told self.old.source) → IsMet (S.steady self.old.source) result →
-            let report = session self.old.page (S.coming self.old.source) (foreseen (S.steady self.old.source) (S.last self.old.source)) in
-            Delivered report result S.coming D.told D.held L.told L.held self.new.source self.old.display self.new.display self.old.lines self.new.lines }
-        ensures stopped { (result ≡ Ending.Eof → ⊥) → Stopped self.old.page result S.told S.coming L.told L.held self.old.source self.new.source self.old.lines self.new.lines }
-        ensures cause { HasCause result (S.has_failed self.new.source) (D.has_failed self.new.display) (L.has_failed self.new.lines) }
+        requires { AllWork S.feed D.has_failed L.has_failed self.old }
+        ensures delivered { IsTrue (S.feed self.old.source).told
+            → IsMet (S.feed self.old.source).steady result →
+            let report = session self.old.page (S.feed self.old.source).coming
+            (foreseen (S.feed self.old.source).steady (S.feed self.old.source).last) in
+            Delivered report result S.feed D.told D.held L.told L.held self.new.source
+            self.old.display self.new.display self.old.lines self.new.lines }
+        ensures stopped { (result ≡ Ending.Eof → ⊥)
+            → Stopped self.old.page result S.feed L.told L.held self.old.source self.new.source
+            self.old.lines self.new.lines }
+        ensures cause { HasCause result (S.feed self.new.source).failed
+            (D.has_failed self.new.display) (L.has_failed self.new.lines) }
     {
         match self.work() {
             Ok(()) => Ending::Eof,
@@ -228,9 +255,10 @@ impl<S: Source, D: Sink, L: Sink> Editor<S, D, L> {
 
 /// A text and a newline, flushed.
 fn send_line<L: Sink>(lines: &mut L, text: &str) -> Result<(), DeviceFailed>
-    ensures written { OnOk result (Takes L.told L.held lines.old lines.new (text.now ++ 0x0A ∷ [])) }
-    ensures torn { OnErr result (TakesSome L.told L.held lines.old lines.new (text.now ++ 0x0A ∷ [])) }
-    ensures failure { L.has_failed lines.new ≡ is_err result }
+    ensures sends { Sends L.told L.held L.has_failed (text.now ++ 0x0A ∷ []) lines.old
+        lines.new result }
+    ensures torn { OnErr result
+        (TakesSome L.told L.held lines.old lines.new (text.now ++ 0x0A ∷ [])) }
 {
     lines.write(text.as_bytes())?;
     lines.write(b"\n")?;
@@ -240,9 +268,8 @@ fn send_line<L: Sink>(lines: &mut L, text: &str) -> Result<(), DeviceFailed>
 
 /// The way to a drawing's end and a new row, flushed.
 fn send_way_out<D: Sink>(display: &mut D, from: Position, to: Position) -> Result<(), DeviceFailed>
-    requires { D.has_failed display.old ≡ false }
-    ensures sent { OnOk result (Takes D.told D.held display.old display.new (move from to ++ next_row)) }
-    ensures failure { D.has_failed display.new ≡ is_err result }
+    ensures { Sends D.told D.held D.has_failed (move from to ++ next_row) display.old
+        display.new result }
 {
     send_move(display, from, to)?;
     display.write(b"\r\n")?;
@@ -252,8 +279,7 @@ fn send_way_out<D: Sink>(display: &mut D, from: Position, to: Position) -> Resul
 
 /// A new row, flushed.
 fn send_row<D: Sink>(display: &mut D) -> Result<(), DeviceFailed>
-    ensures sent { OnOk result (Takes D.told D.held display.old display.new next_row) }
-    ensures failure { D.has_failed display.new ≡ is_err result }
+    ensures { Sends D.told D.held D.has_failed next_row display.old display.new result }
 {
     display.write(b"\r\n")?;
     display.flush()?;

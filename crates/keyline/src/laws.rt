@@ -2,7 +2,8 @@
 
 ghost use Rattle.keyline.specs.KeyLaws.{WholeKeysMeanTheirCommands, BytesAreKeys};
 
-/// Bytes that are read as whole keys mean the same commands whatever follows, so it never matters how they are cut.
+/// Bytes that are read as whole keys mean the same commands whatever follows, so it never matters
+/// how they are cut.
 pub fn whole_keys()
     ensures { WholeKeysMeanTheirCommands }
 {}

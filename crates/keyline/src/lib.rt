@@ -1,7 +1,9 @@
-//! A line editor: key bytes to accepted lines, with a display that shows the line while it is typed.
+//! A line editor: key bytes to accepted lines, with a display that shows the line while it is
+//! typed.
 //!
-//! A [`Session`] is opened over three devices (a source of key bytes, a display, a sink of lines) and run once, to its
-//! ending. Its contract says what it sends, what it writes and how it ends, by the definitions in `specs/`.
+//! A [`Session`] is opened over three devices (a source of key bytes, a display, a sink of lines)
+//! and run once, to its ending. Its contract says what it sends, what it writes and how it ends, by
+//! the definitions in `specs/`.
 #![tactic(auto)]
 
 pub mod command;

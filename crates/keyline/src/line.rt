@@ -84,7 +84,9 @@ impl Line {
 
     pub fn apply(&mut self, command: Command) -> Result<Outcome, OutOfMemory>
         requires { IsTyped command }
-        ensures ok { IfOk result (λ outcome. effect_of command self.old ≡ record { outcome = outcome; line = self.new }) }
+        ensures ok { IfOk result
+            (λ outcome. effect_of command self.old
+            ≡ record { outcome = outcome; line = self.new }) }
         ensures err { OnErr result (self.new ≡ self.old) }
     {
         match command {

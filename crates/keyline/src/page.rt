@@ -1,7 +1,7 @@
 //! A prompt and a line on rows of cells.
 
-ghost use Rattle.std.specs.Prelude.{◌≡◌, ◌≤◌, ◌<◌, ◌^◌, ◌∷◌, IfOk, OnOk, is_err, false};
-ghost use Rattle.keyline.specs.Calls.{Takes};
+ghost use Rattle.std.specs.Prelude.{◌≡◌, ◌≤◌, ◌<◌, ◌^◌, ◌∷◌, IfOk};
+ghost use Rattle.line_config.specs.Sending.{Sends};
 ghost use Rattle.keyline.specs.Drawing.{control, move, drawn, break_at, shown, full_drawing, cursor, end};
 
 use crate::line::Line;
@@ -56,9 +56,8 @@ impl Page {
 
     /// Draws prompt and line over a drawing whose cursor stands in the row `row`.
     pub fn draw<D: Sink>(&self, display: &mut D, row: u16, line: &Line) -> Result<(), DeviceFailed>
-        requires { D.has_failed display.old ≡ false }
-        ensures sent { OnOk result (Takes D.told D.held display.old display.new (full_drawing self.now row line.now)) }
-        ensures failure { D.has_failed display.new ≡ is_err result }
+        ensures { Sends D.told D.held D.has_failed (full_drawing self.now row line.now)
+            display.old display.new result }
     {
         send_control(display, row, b'A')?;
         display.write(b"\r\x1B[J")?;
@@ -70,9 +69,8 @@ impl Page {
 
     /// Prompt and line, from the prompt's first cell on.
     fn send_shown<D: Sink>(&self, display: &mut D, line: &Line) -> Result<(), DeviceFailed>
-        requires { D.has_failed display.old ≡ false }
-        ensures sent { OnOk result (Takes D.told D.held display.old display.new (shown self.now line.now)) }
-        ensures failure { D.has_failed display.new ≡ is_err result }
+        ensures { Sends D.told D.held D.has_failed (shown self.now line.now)
+            display.old display.new result }
     {
         display.write(b"\x1B[m")?;
         send_text(display, self.columns, 0, self.prompt.as_str())?;
@@ -87,7 +85,8 @@ impl Page {
     }
 }
 
-/// A text whose first character stands in cell `start`, a row break behind each character that fills a row.
+/// A text whose first character stands in cell `start`, a row break behind each character that
+/// fills a row.
 fn send_text<D: Sink>(
     display: &mut D,
     columns: u16,
@@ -96,9 +95,8 @@ fn send_text<D: Sink>(
 ) -> Result<(), DeviceFailed>
     requires columns { 2 ≤ columns }
     requires start { start < 2 ^ 63 }
-    requires works { D.has_failed display.old ≡ false }
-    ensures sent { OnOk result (Takes D.told D.held display.old display.new (drawn columns start text.now)) }
-    ensures failure { D.has_failed display.new ≡ is_err result }
+    ensures { Sends D.told D.held D.has_failed (drawn columns start text.now)
+        display.old display.new result }
 {
     for (index, byte) in text.as_bytes().iter().enumerate() {
         send_cell(display, columns, start + index + 1, *byte)?;
@@ -113,10 +111,9 @@ fn send_cell<D: Sink>(
     next: usize,
     character: u8,
 ) -> Result<(), DeviceFailed>
-    requires columns { 2 ≤ columns }
-    requires works { D.has_failed display.old ≡ false }
-    ensures sent { OnOk result (Takes D.told D.held display.old display.new (character ∷ break_at columns next)) }
-    ensures failure { D.has_failed display.new ≡ is_err result }
+    requires { 2 ≤ columns }
+    ensures { Sends D.told D.held D.has_failed (character ∷ break_at columns next)
+        display.old display.new result }
 {
     display.write(&[character])?;
     if next % usize::from(columns) == 0 {
@@ -131,9 +128,7 @@ pub(crate) fn send_move<D: Sink>(
     from: Position,
     to: Position,
 ) -> Result<(), DeviceFailed>
-    requires { D.has_failed display.old ≡ false }
-    ensures sent { OnOk result (Takes D.told D.held display.old display.new (move from to)) }
-    ensures failure { D.has_failed display.new ≡ is_err result }
+    ensures { Sends D.told D.held D.has_failed (move from to) display.old display.new result }
 {
     if to.row < from.row {
         send_control(display, from.row - to.row, b'A')?;
@@ -149,9 +144,7 @@ pub(crate) fn send_move<D: Sink>(
 
 /// A control sequence with a count, as the moves have; nothing for a count of 0.
 fn send_control<D: Sink>(display: &mut D, count: u16, last: u8) -> Result<(), DeviceFailed>
-    requires { D.has_failed display.old ≡ false }
-    ensures sent { OnOk result (Takes D.told D.held display.old display.new (control count last)) }
-    ensures failure { D.has_failed display.new ≡ is_err result }
+    ensures { Sends D.told D.held D.has_failed (control count last) display.old display.new result }
 {
     if count == 0 {
         return Ok(());

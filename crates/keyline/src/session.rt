@@ -1,7 +1,7 @@
 //! Sessions: from key bytes to accepted lines and display bytes.
 
 ghost use Rattle.std.specs.Prelude.{◌≡◌, ◌≤◌, IfOk, IsTrue, false, All};
-ghost use Rattle.keyline.specs.Calls.{Takes};
+ghost use Rattle.line_config.specs.Sending.{Takes};
 ghost use Rattle.keyline.specs.Endings.{HasCause, IsMet};
 ghost use Rattle.keyline.specs.Keys.{is_printable};
 ghost use Rattle.keyline.specs.Opened.{promised};
@@ -16,7 +16,8 @@ use line_config::{Sink, Source};
 use std::alloc::{AllocError, Global};
 use std::marker::Model;
 
-/// A session that is open: it reads keys from a source, draws on a display and writes accepted lines to a sink.
+/// A session that is open: it reads keys from a source, draws on a display and writes accepted
+/// lines to a sink.
 #[derive(Drop)]
 pub struct Session<S: Source, D: Sink, L: Sink> {
     page: Page,
@@ -32,9 +33,15 @@ impl<S: Source, D: Sink, L: Sink> Model for Session<S, D, L> {
 
     ghost Value = { Opened S D L };
 
-    ghost view = { λ s. record { frame = s.page; source = s.source; display = s.display; lines = s.lines } };
+    ghost view = { λ s. record {
+      frame = s.page;
+      source = s.source;
+      display = s.display;
+      lines = s.lines;
+    } };
 
-    ghost invariant = { λ s. (S.has_failed s.source ≡ false) × (D.has_failed s.display ≡ false) × (L.has_failed s.lines ≡ false) };
+    ghost invariant = { λ s. ((S.feed s.source).failed ≡ false) × (D.has_failed s.display ≡ false)
+        × (L.has_failed s.lines ≡ false) };
 }
 
 /// Why a session could not be opened.
@@ -80,7 +87,8 @@ pub struct Ended<S, D, L> {
 }
 
 impl<S: Source, D: Sink, L: Sink> Session<S, D, L> {
-    /// Opens a session: `prompt` is of printable ASCII, and rows have `columns` cells. No key is read, and nothing is drawn yet.
+    /// Opens a session: `prompt` is of printable ASCII, and rows have `columns` cells. No key is
+    /// read, and nothing is drawn yet.
     pub fn open(
         alloc: Global,
         prompt: &str,
@@ -95,10 +103,16 @@ impl<S: Source, D: Sink, L: Sink> Session<S, D, L> {
         L: Drop,
         requires prompt { All (λ byte. IsTrue (is_printable byte)) prompt.now }
         requires columns { (2 ≤ columns) × (columns ≤ 1000) }
-        requires source { S.has_failed source ≡ false }
+        requires source { (S.feed source).failed ≡ false }
         requires display { D.has_failed display ≡ false }
         requires lines { L.has_failed lines ≡ false }
-        ensures { IfOk result (λ s. s ≡ record { frame = record { prompt = prompt.now; columns = columns }; source = source; display = display; lines = lines }) }
+        ensures { IfOk result (λ s. s
+            ≡ record {
+              frame = record { prompt = prompt.now; columns = columns };
+              source = source;
+              display = display;
+              lines = lines;
+            }) }
     {
         Ok(Session {
             page: Page::new(alloc, prompt, columns)?,
@@ -109,18 +123,26 @@ impl<S: Source, D: Sink, L: Sink> Session<S, D, L> {
         })
     }
 
-    /// Reads keys, draws, and writes each accepted line and a newline, until the input ends or a fault stops it.
+    /// Reads keys, draws, and writes each accepted line and a newline, until the input ends or a
+    /// fault stops it.
     pub fn run(self) -> Ended<S, D, L>
-        ensures ending { IsTrue (S.told self.source) → IsMet (S.steady self.source) result.ending →
-            result.ending ≡ (promised S.coming S.steady S.last self).ending }
-        ensures display { IsTrue (S.told self.source) → IsMet (S.steady self.source) result.ending →
-            Takes D.told D.held self.display result.display (promised S.coming S.steady S.last self).display }
-        ensures lines { IsTrue (S.told self.source) → IsMet (S.steady self.source) result.ending →
-            Takes L.told L.held self.lines result.lines (promised S.coming S.steady S.last self).lines }
-        ensures unread { IsTrue (S.told self.source) → IsMet (S.steady self.source) result.ending →
-            S.coming result.source ≡ (promised S.coming S.steady S.last self).unread }
-        ensures stopped { (result.ending ≡ Ending.Eof → ⊥) → Stopped self.frame result.ending S.told S.coming L.told L.held self.source result.source self.lines result.lines }
-        ensures cause { HasCause result.ending (S.has_failed result.source) (D.has_failed result.display) (L.has_failed result.lines) }
+        ensures ending { IsTrue (S.feed self.source).told
+            → IsMet (S.feed self.source).steady result.ending →
+            result.ending ≡ (promised S.feed self).ending }
+        ensures display { IsTrue (S.feed self.source).told
+            → IsMet (S.feed self.source).steady result.ending →
+            Takes D.told D.held self.display result.display (promised S.feed self).display }
+        ensures lines { IsTrue (S.feed self.source).told
+            → IsMet (S.feed self.source).steady result.ending →
+            Takes L.told L.held self.lines result.lines (promised S.feed self).lines }
+        ensures unread { IsTrue (S.feed self.source).told
+            → IsMet (S.feed self.source).steady result.ending →
+            (S.feed result.source).coming ≡ (promised S.feed self).unread }
+        ensures stopped { (result.ending ≡ Ending.Eof → ⊥)
+            → Stopped self.frame result.ending S.feed L.told L.held self.source result.source
+            self.lines result.lines }
+        ensures cause { HasCause result.ending (S.feed result.source).failed
+            (D.has_failed result.display) (L.has_failed result.lines) }
     {
         let Session {
             page,

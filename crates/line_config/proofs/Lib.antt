@@ -1,3 +1,4 @@
 pub mod BufferLemmas
+pub mod FeedLemmas
 pub mod KnownLemmas
 pub mod Lent

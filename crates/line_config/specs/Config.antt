@@ -1,6 +1,7 @@
 -- The settings before any is set, and what two of the calls that set them make of their argument.
 use Rattle.std.specs.Prelude.{ℕ, Bool, true, false, Option, Some, None}
 use Rattle.line_buffer.specs.declared.layout.GraphemeClusterMode.TheVariants.{Unicode}
+use Rattle.line_config.specs.declared.builder.Builder.{Builder}
 use Rattle.line_config.specs.declared.config.Config.{Config}
 use Rattle.line_config.specs.declared.settings.BellStyle.TheVariants.{Audible}
 use Rattle.line_config.specs.declared.settings.HistoryDuplicates.{HistoryDuplicates}
@@ -34,6 +35,10 @@ default_config = record {
   enable_synchronized_output = true;
   enable_signals = false;
 }
+
+-- a builder of these settings
+abbrev pub built : Config → Builder
+built config = record { config = config }
 
 -- which lines are left out where repeated ones are ignored, or not
 abbrev pub duplicates_of : Bool → HistoryDuplicates

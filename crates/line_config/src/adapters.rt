@@ -1,6 +1,6 @@
 //! Devices over std's readers and writers, each with a fixed array.
 ghost use Rattle.std.specs.Prelude.{◌≡◌, ◌++◌, ◌-◌, ◌^◌, ◌≤◌, ◌<◌, [], false, option_to_list, length, take, is_err, IsErr, IsTrue, Ok, None, IfOk, IfSome, OnOk, OnErr};
-ghost use Rattle.line_config.specs.Device.{AppendsSome};
+ghost use Rattle.line_config.specs.Sending.{AppendsSome};
 ghost use Rattle.line_config.specs.Known.{known_bytes};
 ghost use Rattle.line_config.specs.Buffer.{bytes_in};
 ghost use Rattle.line_config.specs.declared.device.Last.TheVariants.{End};
@@ -39,8 +39,8 @@ impl<R: Read> ReadSource<R> {
     pub fn new(reader: R) -> Self
         ensures reader { reader_of result ≡ reader }
         ensures unread { unread_of result ≡ [] }
-        ensures bound { ⟦<ReadSource<R> as Source>⟧.bound result ≡ 2 ^ 63 - 1 }
-        ensures fresh { ⟦<ReadSource<R> as Source>⟧.has_failed result ≡ false }
+        ensures bound { (⟦<ReadSource<R> as Source>⟧.feed result).bound ≡ 2 ^ 63 - 1 }
+        ensures fresh { (⟦<ReadSource<R> as Source>⟧.feed result).failed ≡ false }
     {
         ReadSource {
             reader,
@@ -60,12 +60,15 @@ impl<R: Read> ReadSource<R> {
 
     fn take_byte(&mut self) -> Result<Option<u8>, DeviceFailed>
         ensures byte { IsTrue (source_told R.remaining self.old) → IfOk result (λ b.
-            source_coming R.remaining self.old ≡ option_to_list b ++ source_coming R.remaining self.new) }
+            source_coming R.remaining self.old ≡ option_to_list b
+            ++ source_coming R.remaining self.new) }
         ensures end { IsTrue (source_told R.remaining self.old) → result ≡ Ok None
             → source_coming R.remaining self.old ≡ [] }
         ensures err { IsTrue (source_told R.remaining self.old)
-            → OnErr result (source_coming R.remaining self.new ≡ source_coming R.remaining self.old) }
-        ensures told { IsTrue (source_told R.remaining self.old) → IsTrue (source_told R.remaining self.new) }
+            → OnErr result (source_coming R.remaining self.new
+            ≡ source_coming R.remaining self.old) }
+        ensures told { IsTrue (source_told R.remaining self.old)
+            → IsTrue (source_told R.remaining self.new) }
         ensures counts { IfOk result (λ b. IfSome b (λ _. self.old.given < self.new.given)) }
         ensures keeps { self.old.given ≤ self.new.given }
     {
@@ -86,17 +89,14 @@ impl<R: Read> ReadSource<R> {
 impl<R: Read> Source for ReadSource<R> {
     ghost use Rattle.line_config.specs.Adapters.{source_told, source_coming};
 
-    ghost told = { source_told R.remaining };
-
-    ghost coming = { source_coming R.remaining };
-
-    ghost last = { λ _. End };
-
-    ghost bound = { λ s. 2 ^ 63 - 1 - s.given };
-
-    ghost has_failed = { λ s. s.failed };
-
-    ghost steady = { λ _. false };
+    ghost feed = { λ s. record {
+      told = source_told R.remaining s;
+      steady = false;
+      coming = source_coming R.remaining s;
+      last = End;
+      bound = 2 ^ 63 - 1 - s.given;
+      failed = s.failed;
+    } };
 
     fn next_byte(&mut self) -> Result<Option<u8>, DeviceFailed> {
         if self.failed {
@@ -114,9 +114,9 @@ impl<R: Read> Source for ReadSource<R> {
 
 /// A sink over std's `Write`.
 ///
-/// What is written gathers in a fixed array, and goes to the writer where the array is full and at a
-/// flush: so what is drawn between two flushes is mostly one write of the system. Each error of the
-/// writer is a failure, as is a write that takes nothing, except that a call which a signal
+/// What is written gathers in a fixed array, and goes to the writer where the array is full and at
+/// a flush: so what is drawn between two flushes is mostly one write of the system. Each error of
+/// the writer is a failure, as is a write that takes nothing, except that a call which a signal
 /// interrupts is made anew.
 #[derive(Drop)]
 pub struct WriteSink<W> {
@@ -151,7 +151,8 @@ impl<W: Write> WriteSink<W> {
 
     // Puts as many of the bytes behind those that wait as there is room for, which is made first.
     fn gather(&mut self, bytes: &[u8]) -> Result<usize, DeviceFailed>
-        ensures told { IsTrue (sink_told W.contents self.old) → IsTrue (sink_told W.contents self.new) }
+        ensures told { IsTrue (sink_told W.contents self.old)
+            → IsTrue (sink_told W.contents self.new) }
         ensures ok { IsTrue (sink_told W.contents self.old) → IfOk result (λ n.
             sink_held W.contents self.new ≡ sink_held W.contents self.old ++ take n bytes.now) }
         ensures err { IsTrue (sink_told W.contents self.old)
@@ -166,11 +167,14 @@ impl<W: Write> WriteSink<W> {
     }
 
     fn gather_all(&mut self, bytes: &[u8]) -> Result<(), DeviceFailed>
-        ensures told { IsTrue (sink_told W.contents self.old) → IsTrue (sink_told W.contents self.new) }
+        ensures told { IsTrue (sink_told W.contents self.old)
+            → IsTrue (sink_told W.contents self.new) }
         ensures ok { IsTrue (sink_told W.contents self.old)
-            → OnOk result (sink_held W.contents self.new ≡ sink_held W.contents self.old ++ bytes.now) }
+            → OnOk result (sink_held W.contents self.new ≡ sink_held W.contents self.old
+            ++ bytes.now) }
         ensures begins { IsTrue (sink_told W.contents self.old)
-            → AppendsSome (sink_held W.contents self.old) bytes.now (sink_held W.contents self.new) }
+            → AppendsSome (sink_held W.contents self.old) bytes.now
+            (sink_held W.contents self.new) }
     {
         let mut rest = bytes;
         while !rest.is_empty() {
@@ -182,9 +186,9 @@ impl<W: Write> WriteSink<W> {
 
     // Sends what waits, and flushes the writer.
     fn send(&mut self) -> Result<(), DeviceFailed>
-        ensures told { IsTrue (sink_told W.contents self.old) → IsTrue (sink_told W.contents self.new) }
         ensures held { IsTrue (sink_told W.contents self.old)
-            → sink_held W.contents self.new ≡ sink_held W.contents self.old }
+            → IsTrue (sink_told W.contents self.new)
+            × (sink_held W.contents self.new ≡ sink_held W.contents self.old) }
         ensures sent { OnOk result (unsent_of self.new ≡ []) }
     {
         self.unsent.send_to(&mut self.writer)?;
@@ -213,7 +217,8 @@ impl<W: Write> Sink for WriteSink<W> {
     fn flush(&mut self) -> Result<(), DeviceFailed>
         ensures held { IsTrue (sink_told W.contents self.old)
             → sink_held W.contents self.new ≡ sink_held W.contents self.old }
-        ensures told { IsTrue (sink_told W.contents self.old) → IsTrue (sink_told W.contents self.new) }
+        ensures told { IsTrue (sink_told W.contents self.old)
+            → IsTrue (sink_told W.contents self.new) }
         ensures failure { self.new.failed ≡ is_err result }
         ensures for_good { IsTrue self.old.failed → IsErr result }
 

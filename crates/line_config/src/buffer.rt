@@ -64,10 +64,13 @@ impl<const N: usize> Buffer<N> {
     /// Takes what one read gives.
     pub(crate) fn fill_from<R: Read>(&mut self, reader: &mut R) -> Result<(), DeviceFailed>
         requires { bytes_in self.old ≡ [] }
-        ensures known { IsTrue (is_known (R.remaining reader.old)) → IsTrue (is_known (R.remaining reader.new)) }
+        ensures known { IsTrue (is_known (R.remaining reader.old))
+            → IsTrue (is_known (R.remaining reader.new)) }
         ensures bytes { IsTrue (is_known (R.remaining reader.old))
-            → known_bytes (R.remaining reader.old) ≡ bytes_in self.new ++ known_bytes (R.remaining reader.new) }
-        ensures end { OnOk result (bytes_in self.new ≡ [] → 0 < N → known_bytes (R.remaining reader.new) ≡ []) }
+            → known_bytes (R.remaining reader.old) ≡ bytes_in self.new
+            ++ known_bytes (R.remaining reader.new) }
+        ensures end { OnOk result
+            (bytes_in self.new ≡ [] → 0 < N → known_bytes (R.remaining reader.new) ≡ []) }
         ensures err { OnErr result (bytes_in self.new ≡ []) }
     {
         self.start = 0;
@@ -92,9 +95,11 @@ impl<const N: usize> Buffer<N> {
 
     /// Sends all that it holds. What a failure leaves unsent it still holds.
     pub(crate) fn send_to<W: Write>(&mut self, writer: &mut W) -> Result<(), DeviceFailed>
-        ensures known { IsTrue (is_known (W.contents writer.old)) → IsTrue (is_known (W.contents writer.new)) }
+        ensures known { IsTrue (is_known (W.contents writer.old))
+            → IsTrue (is_known (W.contents writer.new)) }
         ensures bytes { IsTrue (is_known (W.contents writer.old))
-            → known_bytes (W.contents writer.new) ++ bytes_in self.new ≡ known_bytes (W.contents writer.old) ++ bytes_in self.old }
+            → known_bytes (W.contents writer.new) ++ bytes_in self.new
+            ≡ known_bytes (W.contents writer.old) ++ bytes_in self.old }
         ensures sent { OnOk result (bytes_in self.new ≡ []) }
         ensures room { OnOk result (room_in self.new ≡ N) }
     {

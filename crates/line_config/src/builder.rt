@@ -1,7 +1,7 @@
 //! Making settings.
 ghost use Rattle.std.specs.Prelude.{◌≡◌, Ok};
 ghost use Rattle.std.proofs.Common.{refl};
-ghost use Rattle.line_config.specs.Config.{default_config, duplicates_of, timeout_of};
+ghost use Rattle.line_config.specs.Config.{built, default_config, duplicates_of, timeout_of};
 
 use crate::config::Config;
 use crate::configurer::Configurer;
@@ -34,7 +34,7 @@ impl Builder {
 
     /// Sets how many entries a history keeps at most.
     pub fn max_history_size(mut self, max_size: usize) -> Result<Self, ReadlineError>
-        ensures { result ≡ Ok (record { config = record self.config { max_history_size = max_size } }) }
+        ensures { result ≡ Ok (built (record self.config { max_history_size = max_size })) }
     {
         self.set_max_history_size(max_size)?;
         Ok(self)
@@ -42,7 +42,8 @@ impl Builder {
 
     /// Sets whether a line that equals the last entry is left out of the history.
     pub fn history_ignore_dups(mut self, yes: bool) -> Result<Self, ReadlineError>
-        ensures { result ≡ Ok (record { config = record self.config { history_duplicates = duplicates_of yes } }) }
+        ensures { result ≡ Ok (built
+            (record self.config { history_duplicates = duplicates_of yes })) }
     {
         self.set_history_ignore_dups(yes)?;
         Ok(self)
@@ -50,7 +51,7 @@ impl Builder {
 
     /// Sets whether a line that begins with whitespace is left out of the history.
     pub fn history_ignore_space(mut self, yes: bool) -> Self
-        ensures { result ≡ record { config = record self.config { history_ignore_space = yes } } }
+        ensures { result ≡ built (record self.config { history_ignore_space = yes }) }
     {
         self.set_history_ignore_space(yes);
         self
@@ -59,7 +60,7 @@ impl Builder {
     /// Sets what becomes of several candidates of a completion. A session keeps it and does nothing
     /// with it.
     pub fn completion_type(mut self, completion_type: CompletionType) -> Self
-        ensures { result ≡ record { config = record self.config { completion_type = completion_type } } }
+        ensures { result ≡ built (record self.config { completion_type = completion_type }) }
     {
         self.set_completion_type(completion_type);
         self
@@ -67,7 +68,7 @@ impl Builder {
 
     /// Sets whether all candidates are listed at once. A session keeps it and does nothing with it.
     pub fn completion_show_all_if_ambiguous(mut self, yes: bool) -> Self
-        ensures { result ≡ record { config = record self.config { completion_show_all_if_ambiguous = yes } } }
+        ensures { result ≡ built (record self.config { completion_show_all_if_ambiguous = yes }) }
     {
         self.set_completion_show_all_if_ambiguous(yes);
         self
@@ -76,7 +77,7 @@ impl Builder {
     /// Sets how many candidates are listed without asking first. A session keeps it and does
     /// nothing with it.
     pub fn completion_prompt_limit(mut self, limit: usize) -> Self
-        ensures { result ≡ record { config = record self.config { completion_prompt_limit = limit } } }
+        ensures { result ≡ built (record self.config { completion_prompt_limit = limit }) }
     {
         self.set_completion_prompt_limit(limit);
         self
@@ -85,7 +86,7 @@ impl Builder {
     /// Sets how long a key sequence that may go on is waited for, in milliseconds. Without a number
     /// it is waited for without end. A session keeps it and does nothing with it.
     pub fn keyseq_timeout(mut self, milliseconds: Option<u16>) -> Self
-        ensures { result ≡ record { config = record self.config { keyseq_timeout = milliseconds } } }
+        ensures { result ≡ built (record self.config { keyseq_timeout = milliseconds }) }
     {
         self.set_keyseq_timeout(milliseconds);
         self
@@ -94,7 +95,8 @@ impl Builder {
     /// Sets the keymap, and with it the timeout of key sequences: none for Emacs, 500 milliseconds
     /// for Vi.
     pub fn edit_mode(mut self, edit_mode: EditMode) -> Self
-        ensures { result ≡ record { config = record self.config { edit_mode = edit_mode; keyseq_timeout = timeout_of edit_mode } } }
+        ensures { result ≡ built
+            (record self.config { edit_mode = edit_mode; keyseq_timeout = timeout_of edit_mode }) }
     {
         self.set_edit_mode(edit_mode);
         self
@@ -102,7 +104,7 @@ impl Builder {
 
     /// Sets whether each line that a session gives is added to its history.
     pub fn auto_add_history(mut self, yes: bool) -> Self
-        ensures { result ≡ record { config = record self.config { auto_add_history = yes } } }
+        ensures { result ≡ built (record self.config { auto_add_history = yes }) }
     {
         self.set_auto_add_history(yes);
         self
@@ -110,7 +112,7 @@ impl Builder {
 
     /// Sets what a beep does.
     pub fn bell_style(mut self, bell_style: BellStyle) -> Self
-        ensures { result ≡ record { config = record self.config { bell_style = bell_style } } }
+        ensures { result ≡ built (record self.config { bell_style = bell_style }) }
     {
         self.set_bell_style(bell_style);
         self
@@ -118,7 +120,7 @@ impl Builder {
 
     /// Sets whether highlighting is drawn. A session keeps it and does nothing with it.
     pub fn color_mode(mut self, color_mode: ColorMode) -> Self
-        ensures { result ≡ record { config = record self.config { color_mode = color_mode } } }
+        ensures { result ≡ built (record self.config { color_mode = color_mode }) }
     {
         self.set_color_mode(color_mode);
         self
@@ -126,7 +128,7 @@ impl Builder {
 
     /// Sets how the terminal counts the columns of a grapheme cluster.
     pub fn grapheme_cluster_mode(mut self, mode: GraphemeClusterMode) -> Self
-        ensures { result ≡ record { config = record self.config { grapheme_cluster_mode = mode } } }
+        ensures { result ≡ built (record self.config { grapheme_cluster_mode = mode }) }
     {
         self.set_grapheme_cluster_mode(mode);
         self
@@ -134,7 +136,7 @@ impl Builder {
 
     /// Sets which files the editor works on. A session keeps it and does nothing with it.
     pub fn behavior(mut self, behavior: Behavior) -> Self
-        ensures { result ≡ record { config = record self.config { behavior = behavior } } }
+        ensures { result ≡ built (record self.config { behavior = behavior }) }
     {
         self.config.behavior = behavior;
         self
@@ -142,7 +144,7 @@ impl Builder {
 
     /// Sets how many columns a tab takes. A session keeps it and does nothing with it.
     pub fn tab_stop(mut self, columns: u8) -> Self
-        ensures { result ≡ record { config = record self.config { tab_stop = columns } } }
+        ensures { result ≡ built (record self.config { tab_stop = columns }) }
     {
         self.set_tab_stop(columns);
         self
@@ -150,7 +152,7 @@ impl Builder {
 
     /// Sets how many spaces a line is indented or dedented by.
     pub fn indent_size(mut self, spaces: u8) -> Self
-        ensures { result ≡ record { config = record self.config { indent_size = spaces } } }
+        ensures { result ≡ built (record self.config { indent_size = spaces }) }
     {
         self.set_indent_size(spaces);
         self
@@ -159,7 +161,7 @@ impl Builder {
     /// Sets whether the cursor is brought to the first column before a prompt. A session keeps it
     /// and does nothing with it.
     pub fn check_cursor_position(mut self, yes: bool) -> Self
-        ensures { result ≡ record { config = record self.config { check_cursor_position = yes } } }
+        ensures { result ≡ built (record self.config { check_cursor_position = yes }) }
     {
         self.set_check_cursor_position(yes);
         self
@@ -168,7 +170,7 @@ impl Builder {
     /// Sets whether the terminal is asked to mark what is pasted. A session keeps it and does
     /// nothing with it.
     pub fn bracketed_paste(mut self, yes: bool) -> Self
-        ensures { result ≡ record { config = record self.config { enable_bracketed_paste = yes } } }
+        ensures { result ≡ built (record self.config { enable_bracketed_paste = yes }) }
     {
         self.enable_bracketed_paste(yes);
         self
@@ -177,7 +179,7 @@ impl Builder {
     /// Sets whether the terminal's own signal keys stay on. A session keeps it and does nothing
     /// with it.
     pub fn enable_signals(mut self, yes: bool) -> Self
-        ensures { result ≡ record { config = record self.config { enable_signals = yes } } }
+        ensures { result ≡ built (record self.config { enable_signals = yes }) }
     {
         self.set_enable_signals(yes);
         self

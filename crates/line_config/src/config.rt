@@ -8,8 +8,8 @@ use crate::settings::{
 };
 use line_buffer::GraphemeClusterMode;
 
-/// The settings of an editor. They are changed by a [`Configurer`](crate::Configurer), and made by a
-/// [`Builder`].
+/// The settings of an editor. They are changed by a [`Configurer`](crate::Configurer), and made by
+/// a [`Builder`].
 #[derive(Clone, Debug, Drop, PartialEq, Eq)]
 pub struct Config {
     pub(crate) max_history_size: usize,

@@ -21,7 +21,8 @@ pub trait Configurer {
 
     /// The settings, to be changed.
     fn config_mut(&mut self) -> &mut Config
-        ensures* writes_back { sem 𝓛 (Lends Self.row config_row self.entry result (with_settings self.old)) }
+        ensures* writes_back { sem 𝓛
+            (Lends Self.row config_row self.entry result (with_settings self.old)) }
         ensures value { result.now ≡ settings self.old };
 
     /// Sets how many entries a history keeps at most.

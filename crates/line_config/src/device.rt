@@ -1,8 +1,7 @@
 //! Where bytes come from and go to: the traits `Source` and `Sink`.
-ghost use Rattle.std.specs.Prelude.{◌≡◌, ◌++◌, ◌<◌, ◌≤◌, ℕ, Bool, List, [], IsTrue, IfOk, IfSome, OnOk, OnErr, IsErr, is_err, option_to_list, Ok, None};
-ghost use Rattle.line_config.specs.declared.device.Last.{Last};
-ghost use Rattle.line_config.specs.declared.device.Last.TheVariants.{End};
-ghost use Rattle.line_config.specs.Device.{front_of, AppendsSome};
+ghost use Rattle.std.specs.Prelude.{◌≡◌, ◌++◌, ℕ, Bool, List, IsTrue, OnOk, IsErr, is_err};
+ghost use Rattle.line_config.specs.Feed.{Feed, GivesByte};
+ghost use Rattle.line_config.specs.Sending.{AppendsSome};
 
 use thiserror::Error;
 
@@ -22,54 +21,20 @@ pub struct DeviceFailed;
 
 /// A device that bytes come from, one at a time.
 ///
-/// A source over memory tells what it will give; one over a terminal can't. Where it is told, the
-/// bytes are given in order, whatever pieces they came in. A steady source fails only at a place that
-/// it can tell beforehand, and any other may fail at any call.
+/// `feed` is what is known of it. A source over memory tells what it will give; one over a terminal
+/// can't. Where it is told, the bytes are given in order, whatever pieces they came in. A steady
+/// source fails only at a place that it can tell beforehand, and any other may fail at any call.
 pub trait Source {
-    // Whether the bytes still to come are known.
-    ghost told: { Self → Bool };
+    ghost feed: { Self → Feed };
 
-    // The bytes still to come, where told.
-    ghost coming: { Self → List ℕ };
-
-    // What stands behind them, where steady. Any other source that comes to its end says the end.
-    ghost last: { Self → Last };
-
-    // No more bytes than this are still given: the measure of each loop that reads.
-    ghost bound: { Self → ℕ };
-
-    ghost has_failed: { Self → Bool };
-
-    // Whether it fails where `last` says so, and nowhere else.
-    ghost steady: { Self → Bool };
-
-    /// The next byte, or `None` at the end of the input.
+    /// The next byte, or `None` at the end of the input. A source that has failed fails at every
+    /// later call.
     fn next_byte(&mut self) -> Result<Option<u8>, DeviceFailed>
-        // What is given is the front of what was to come.
-        ensures byte { IsTrue (told self.old)
-            → IfOk result (λ b. coming self.old ≡ option_to_list b ++ coming self.new) }
-        ensures end { IsTrue (told self.old) → result ≡ Ok None → coming self.old ≡ [] }
-        ensures ends { IsTrue (told self.old) → result ≡ Ok None → last self.old ≡ End }
-        ensures err { IsTrue (told self.old) → OnErr result (coming self.new ≡ coming self.old) }
-        ensures front { IsTrue (told self.old) → IsTrue (steady self.old)
-            → result ≡ front_of (coming self.old) (last self.old) }
-
-        // What stays.
-        ensures told { IsTrue (told self.old) → IsTrue (told self.new) }
-        ensures steady { steady self.new ≡ steady self.old }
-        ensures last { last self.new ≡ last self.old }
-
-        // It fails exactly where it is marked so, and then for good.
-        ensures failure { has_failed self.new ≡ is_err result }
-        ensures for_good { IsTrue (has_failed self.old) → IsErr result }
-
-        // Only so many bytes are given.
-        ensures falls { IfOk result (λ b. IfSome b (λ _. bound self.new < bound self.old)) }
-        ensures keeps { bound self.new ≤ bound self.old };
+        ensures { GivesByte (feed self.old) (feed self.new) result };
 
     /// Whether the source has failed.
     fn failed(&self) -> bool
-        ensures { result ≡ has_failed self.now };
+        ensures { result ≡ (feed self.now).failed };
 }
 
 /// A device that bytes go to.

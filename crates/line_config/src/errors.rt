@@ -11,9 +11,9 @@ use thiserror::Error;
 
 /// Why no line is given.
 ///
-/// The first four are the input's own; the others are faults of a device, a helper, a handler or the
-/// memory. After `NotUtf8` and `PasteOutOfPlace`, and after the fault of a device, the reader or the
-/// device answers the same at each later call.
+/// The first four are the input's own; the others are faults of a device, a helper, a handler or
+/// the memory. After `NotUtf8` and `PasteOutOfPlace`, and after the fault of a device, the reader
+/// or the device answers the same at each later call.
 #[derive(Clone, Copy, Debug, PartialEq, Eq)]
 pub enum ReadlineError {
     /// The input ended, or the key for its end came on an empty line.

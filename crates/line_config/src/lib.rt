@@ -1,5 +1,5 @@
-//! What every part of the line editor shares: its settings, its refusals, and the devices that bytes
-//! come from and go to.
+//! What every part of the line editor shares: its settings, its refusals, and the devices that
+//! bytes come from and go to.
 #![tactic(auto)]
 
 pub mod adapters;

@@ -2,6 +2,7 @@
 ghost use Rattle.std.specs.Prelude.{◌≡◌, ◌++◌, ◌+◌, ◌<◌, [], true, false, is_err, length, vec_capacity, vec_len, IsErr, IsTrue, OnErr, OnOk};
 ghost use Rattle.line_config.specs.declared.device.Last.{Last};
 ghost use Rattle.line_config.specs.declared.device.Last.TheVariants.{End, Failed};
+ghost use Rattle.line_config.specs.Feed.{steady_feed};
 
 use crate::device::{DeviceFailed, Last, Sink, Source};
 use std::alloc::Global;
@@ -19,9 +20,7 @@ pub struct SliceSource<'a> {
 impl<'a> SliceSource<'a> {
     /// The bytes, and behind them the end. It never fails.
     pub fn new(bytes: &'a [u8]) -> Self
-        ensures coming { ⟦<SliceSource<'a> as Source>⟧.coming result ≡ bytes.entry.now }
-        ensures last { ⟦<SliceSource<'a> as Source>⟧.last result ≡ End }
-        ensures fresh { ⟦<SliceSource<'a> as Source>⟧.has_failed result ≡ false }
+        ensures { ⟦<SliceSource<'a> as Source>⟧.feed result ≡ steady_feed bytes.entry.now End }
     {
         SliceSource {
             bytes,
@@ -32,9 +31,7 @@ impl<'a> SliceSource<'a> {
 
     /// The bytes, and behind them a failure.
     pub fn failing_after(bytes: &'a [u8]) -> Self
-        ensures coming { ⟦<SliceSource<'a> as Source>⟧.coming result ≡ bytes.entry.now }
-        ensures last { ⟦<SliceSource<'a> as Source>⟧.last result ≡ Failed }
-        ensures fresh { ⟦<SliceSource<'a> as Source>⟧.has_failed result ≡ false }
+        ensures { ⟦<SliceSource<'a> as Source>⟧.feed result ≡ steady_feed bytes.entry.now Failed }
     {
         SliceSource {
             bytes,
@@ -45,17 +42,14 @@ impl<'a> SliceSource<'a> {
 }
 
 impl<'a> Source for SliceSource<'a> {
-    ghost told = { λ _. true };
-
-    ghost coming = { λ s. s.bytes.now };
-
-    ghost last = { λ s. s.last };
-
-    ghost bound = { λ s. length s.bytes.now };
-
-    ghost has_failed = { λ s. s.failed };
-
-    ghost steady = { λ _. true };
+    ghost feed = { λ s. record {
+      told = true;
+      steady = true;
+      coming = s.bytes.now;
+      last = s.last;
+      bound = length s.bytes.now;
+      failed = s.failed;
+    } };
 
     fn next_byte(&mut self) -> Result<Option<u8>, DeviceFailed> {
         if let Some((first, rest)) = self.bytes.split_first() {

@@ -16,12 +16,16 @@ const TRIES: u64 = u64::MAX;
 #[tactic(auto, using(crate::proofs::KnownLemmas::on_known))]
 pub(crate) fn read_retrying<R: Read>(reader: &mut R, buf: &mut [u8]) -> Result<usize, DeviceFailed>
     ensures bound { IfOk result (λ n. n ≤ length buf.new) }
-    ensures known { IsTrue (is_known (R.remaining reader.old)) → IsTrue (is_known (R.remaining reader.new)) }
+    ensures known { IsTrue (is_known (R.remaining reader.old))
+        → IsTrue (is_known (R.remaining reader.new)) }
     ensures bytes { IsTrue (is_known (R.remaining reader.old)) → IfOk result (λ n.
-        known_bytes (R.remaining reader.old) ≡ take n buf.new ++ known_bytes (R.remaining reader.new)) }
-    ensures end { IfOk result (λ n. n ≡ 0 → 0 < length buf.old → known_bytes (R.remaining reader.new) ≡ []) }
+        known_bytes (R.remaining reader.old) ≡ take n buf.new
+        ++ known_bytes (R.remaining reader.new)) }
+    ensures end { IfOk result
+        (λ n. n ≡ 0 → 0 < length buf.old → known_bytes (R.remaining reader.new) ≡ []) }
     ensures err { IsTrue (is_known (R.remaining reader.old))
-        → OnErr result (known_bytes (R.remaining reader.new) ≡ known_bytes (R.remaining reader.old)) }
+        → OnErr result (known_bytes (R.remaining reader.new)
+        ≡ known_bytes (R.remaining reader.old)) }
 {
     for _ in 0..TRIES {
         match reader.read(buf) {
@@ -38,9 +42,11 @@ pub(crate) fn read_retrying<R: Read>(reader: &mut R, buf: &mut [u8]) -> Result<u
 pub(crate) fn write_retrying<W: Write>(writer: &mut W, bytes: &[u8]) -> Result<usize, DeviceFailed>
     ensures bound { IfOk result (λ n. n ≤ length bytes.now) }
     ensures some { IfOk result (λ n. 0 < n) }
-    ensures known { IsTrue (is_known (W.contents writer.old)) → IsTrue (is_known (W.contents writer.new)) }
+    ensures known { IsTrue (is_known (W.contents writer.old))
+        → IsTrue (is_known (W.contents writer.new)) }
     ensures bytes { IsTrue (is_known (W.contents writer.old)) → IfOk result (λ n.
-        known_bytes (W.contents writer.new) ≡ known_bytes (W.contents writer.old) ++ take n bytes.now) }
+        known_bytes (W.contents writer.new) ≡ known_bytes (W.contents writer.old)
+        ++ take n bytes.now) }
     ensures err { IsTrue (is_known (W.contents writer.old))
         → OnErr result (known_bytes (W.contents writer.new) ≡ known_bytes (W.contents writer.old)) }
 {
@@ -58,7 +64,8 @@ pub(crate) fn write_retrying<W: Write>(writer: &mut W, bytes: &[u8]) -> Result<u
 // The writer's flush, made anew where a signal interrupts it.
 #[tactic(auto, using(crate::proofs::KnownLemmas::on_known))]
 pub(crate) fn flush_retrying<W: Write>(writer: &mut W) -> Result<(), DeviceFailed>
-    ensures known { IsTrue (is_known (W.contents writer.old)) → IsTrue (is_known (W.contents writer.new)) }
+    ensures known { IsTrue (is_known (W.contents writer.old))
+        → IsTrue (is_known (W.contents writer.new)) }
     ensures bytes { IsTrue (is_known (W.contents writer.old))
         → known_bytes (W.contents writer.new) ≡ known_bytes (W.contents writer.old) }
 {

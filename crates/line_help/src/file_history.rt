@@ -301,19 +301,19 @@ impl FileHistory {
         row: &mut Vec<u8>,
         escapes: bool,
     ) -> Result<bool, ReadlineError>
-        ensures answer { IsTrue (S.told source.old) → IsTrue (follows (S.steady source.old) result)
-            → let rows = rows_of (S.last source.old) (S.coming source.old) in
-            result ≡ outcome (S.last source.old) rows (takes_all self.old (entries_of escapes (good_rows rows))) }
-        ensures left { IsTrue (S.told source.old) → IsTrue (follows (S.steady source.old) result)
-            → self.new ≡ filed_with_all self.old (entries_of escapes (good_rows (rows_of (S.last source.old) (S.coming source.old)))) }
-        ensures part { IsTrue (S.told source.old)
-            → AddsSome (entries_of escapes (good_rows (rows_of (S.last source.old) (S.coming source.old)))) self.old self.new }
+        ensures answer { IsTrue (S.feed source.old).told → IsTrue (follows (S.feed source.old).steady result)
+            → let rows = rows_of (S.feed source.old).last (S.feed source.old).coming in
+            result ≡ outcome (S.feed source.old).last rows (takes_all self.old (entries_of escapes (good_rows rows))) }
+        ensures left { IsTrue (S.feed source.old).told → IsTrue (follows (S.feed source.old).steady result)
+            → self.new ≡ filed_with_all self.old (entries_of escapes (good_rows (rows_of (S.feed source.old).last (S.feed source.old).coming))) }
+        ensures part { IsTrue (S.feed source.old).told
+            → AddsSome (entries_of escapes (good_rows (rows_of (S.feed source.old).last (S.feed source.old).coming))) self.old self.new }
         ensures error { IfErr result (λ e. (e ≡ Memory) ⊎ ((e ≡ HistoryText) ⊎ (e ≡ Reader))) }
-        ensures failure { S.has_failed source.new ≡ says_reader result }
-        ensures told { IsTrue (S.told source.old) → IsTrue (S.told source.new) }
-        ensures steady { S.steady source.new ≡ S.steady source.old }
-        ensures last { S.last source.new ≡ S.last source.old }
-        ensures keeps { S.bound source.new ≤ S.bound source.old }
+        ensures failure { (S.feed source.new).failed ≡ says_reader result }
+        ensures told { IsTrue (S.feed source.old).told → IsTrue (S.feed source.new).told }
+        ensures steady { (S.feed source.new).steady ≡ (S.feed source.old).steady }
+        ensures last { (S.feed source.new).last ≡ (S.feed source.old).last }
+        ensures keeps { (S.feed source.new).bound ≤ (S.feed source.old).bound }
     {
         let mut whole = true;
         while read_row(source, row)? {
@@ -334,18 +334,18 @@ impl FileHistory {
         alloc: Global,
         source: &mut S,
     ) -> Result<bool, ReadlineError>
-        ensures answer { IsTrue (S.told source.old) → IsTrue (follows (S.steady source.old) result)
-            → result ≡ load_answer (S.last source.old) (rows_of (S.last source.old) (S.coming source.old)) self.old }
-        ensures left { IsTrue (S.told source.old) → IsTrue (follows (S.steady source.old) result)
-            → self.new ≡ load_leaves (S.last source.old) (rows_of (S.last source.old) (S.coming source.old)) self.old }
-        ensures part { IsTrue (S.told source.old)
-            → OnErr result (AddsSome (texts_of (good_rows (rows_of (S.last source.old) (S.coming source.old)))) self.old self.new) }
+        ensures answer { IsTrue (S.feed source.old).told → IsTrue (follows (S.feed source.old).steady result)
+            → result ≡ load_answer (S.feed source.old).last (rows_of (S.feed source.old).last (S.feed source.old).coming) self.old }
+        ensures left { IsTrue (S.feed source.old).told → IsTrue (follows (S.feed source.old).steady result)
+            → self.new ≡ load_leaves (S.feed source.old).last (rows_of (S.feed source.old).last (S.feed source.old).coming) self.old }
+        ensures part { IsTrue (S.feed source.old).told
+            → OnErr result (AddsSome (texts_of (good_rows (rows_of (S.feed source.old).last (S.feed source.old).coming))) self.old self.new) }
         ensures error { IfErr result (λ e. (e ≡ Memory) ⊎ ((e ≡ HistoryText) ⊎ (e ≡ Reader))) }
-        ensures failure { S.has_failed source.new ≡ says_reader result }
-        ensures told { IsTrue (S.told source.old) → IsTrue (S.told source.new) }
-        ensures steady { S.steady source.new ≡ S.steady source.old }
-        ensures last { S.last source.new ≡ S.last source.old }
-        ensures keeps { S.bound source.new ≤ S.bound source.old }
+        ensures failure { (S.feed source.new).failed ≡ says_reader result }
+        ensures told { IsTrue (S.feed source.old).told → IsTrue (S.feed source.new).told }
+        ensures steady { (S.feed source.new).steady ≡ (S.feed source.old).steady }
+        ensures last { (S.feed source.new).last ≡ (S.feed source.old).last }
+        ensures keeps { (S.feed source.new).bound ≤ (S.feed source.old).bound }
     {
         let mut row = Vec::new(alloc);
         if !read_row(source, &mut row)? {

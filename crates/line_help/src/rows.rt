@@ -18,17 +18,17 @@ fn drop_return(row: &mut Vec<u8>)
 }
 
 fn next_byte<S: Source>(source: &mut S) -> Result<Option<u8>, ReadlineError>
-    ensures byte { IsTrue (S.told source.old) → IfOk result (λ b. S.coming source.old ≡ option_to_list b ++ S.coming source.new) }
-    ensures end { IsTrue (S.told source.old) → result ≡ Ok None → (S.coming source.old ≡ []) × (S.last source.old ≡ End) }
-    ensures cut { IsTrue (S.told source.old) → IsTrue (S.steady source.old) → result ≡ Err Reader
-        → (S.coming source.old ≡ []) × (S.last source.old ≡ Failed) }
+    ensures byte { IsTrue (S.feed source.old).told → IfOk result (λ b. (S.feed source.old).coming ≡ option_to_list b ++ (S.feed source.new).coming) }
+    ensures end { IsTrue (S.feed source.old).told → result ≡ Ok None → ((S.feed source.old).coming ≡ []) × ((S.feed source.old).last ≡ End) }
+    ensures cut { IsTrue (S.feed source.old).told → IsTrue (S.feed source.old).steady → result ≡ Err Reader
+        → ((S.feed source.old).coming ≡ []) × ((S.feed source.old).last ≡ Failed) }
     ensures error { IfErr result (λ e. e ≡ Reader) }
-    ensures failure { S.has_failed source.new ≡ is_err result }
-    ensures told { IsTrue (S.told source.old) → IsTrue (S.told source.new) }
-    ensures steady { S.steady source.new ≡ S.steady source.old }
-    ensures last { S.last source.new ≡ S.last source.old }
-    ensures falls { IfOk result (λ b. IfSome b (λ _. S.bound source.new < S.bound source.old)) }
-    ensures keeps { S.bound source.new ≤ S.bound source.old }
+    ensures failure { (S.feed source.new).failed ≡ is_err result }
+    ensures told { IsTrue (S.feed source.old).told → IsTrue (S.feed source.new).told }
+    ensures steady { (S.feed source.new).steady ≡ (S.feed source.old).steady }
+    ensures last { (S.feed source.new).last ≡ (S.feed source.old).last }
+    ensures falls { IfOk result (λ b. IfSome b (λ _. (S.feed source.new).bound < (S.feed source.old).bound)) }
+    ensures keeps { (S.feed source.new).bound ≤ (S.feed source.old).bound }
 {
     match source.next_byte() {
         Ok(byte) => Ok(byte),
@@ -40,18 +40,18 @@ fn next_byte<S: Source>(source: &mut S) -> Result<Option<u8>, ReadlineError>
 /// right before the newline is no part of it.
 #[tactic(auto, using(crate::proofs::RowLemmas::row_ends))]
 pub(crate) fn read_row<S: Source>(source: &mut S, row: &mut Vec<u8>) -> Result<bool, ReadlineError>
-    ensures row { IsTrue (S.told source.old) → IfOk result (λ is_row. rows_of (S.last source.old) (S.coming source.old)
-        ≡ (if is_row then row.new.items ∷ rows_of (S.last source.old) (S.coming source.new) else [])) }
-    ensures end { IsTrue (S.told source.old) → result ≡ Ok false → S.last source.old ≡ End }
-    ensures cut { IsTrue (S.told source.old) → IsTrue (S.steady source.old) → result ≡ Err Reader
-        → (S.last source.old ≡ Failed) × (rows_of (S.last source.old) (S.coming source.old) ≡ []) }
+    ensures row { IsTrue (S.feed source.old).told → IfOk result (λ is_row. rows_of (S.feed source.old).last (S.feed source.old).coming
+        ≡ (if is_row then row.new.items ∷ rows_of (S.feed source.old).last (S.feed source.new).coming else [])) }
+    ensures end { IsTrue (S.feed source.old).told → result ≡ Ok false → (S.feed source.old).last ≡ End }
+    ensures cut { IsTrue (S.feed source.old).told → IsTrue (S.feed source.old).steady → result ≡ Err Reader
+        → ((S.feed source.old).last ≡ Failed) × (rows_of (S.feed source.old).last (S.feed source.old).coming ≡ []) }
     ensures error { IfErr result (λ e. (e ≡ Memory) ⊎ (e ≡ Reader)) }
-    ensures failure { S.has_failed source.new ≡ says_reader result }
-    ensures told { IsTrue (S.told source.old) → IsTrue (S.told source.new) }
-    ensures steady { S.steady source.new ≡ S.steady source.old }
-    ensures last { S.last source.new ≡ S.last source.old }
-    ensures falls { result ≡ Ok true → S.bound source.new < S.bound source.old }
-    ensures keeps { S.bound source.new ≤ S.bound source.old }
+    ensures failure { (S.feed source.new).failed ≡ says_reader result }
+    ensures told { IsTrue (S.feed source.old).told → IsTrue (S.feed source.new).told }
+    ensures steady { (S.feed source.new).steady ≡ (S.feed source.old).steady }
+    ensures last { (S.feed source.new).last ≡ (S.feed source.old).last }
+    ensures falls { result ≡ Ok true → (S.feed source.new).bound < (S.feed source.old).bound }
+    ensures keeps { (S.feed source.new).bound ≤ (S.feed source.old).bound }
 {
     row.clear();
     while let Some(byte) = next_byte(source)? {

@@ -4,11 +4,13 @@ use Rattle.std.proofs.lemmas.Bool.Decides.{nat_tests}
 use Rattle.line_config.specs.declared.device.Last.{Last}
 use Rattle.line_config.specs.declared.device.Last.TheVariants.{End, Failed}
 use Rattle.line_config.specs.declared.errors.ReadlineError.{ReadlineError}
+use Rattle.line_config.specs.declared.errors.ReadlineError.TheVariants.{Reader}
 use Rattle.line_config.specs.declared.settings.EditMode.{EditMode}
 use Rattle.line_config.specs.declared.settings.EditMode.TheVariants.{Emacs, Vi}
 use Rattle.line_keys.specs.Keys.{key_of, alt}
 use Rattle.line_screen.specs.Input.{Chars, Next, Over, AtFailure, char_at, behind_char, chars_of}
 use Rattle.line_screen.specs.KeyGrammar.{Readings, Key, Stops, esc, readings, in_escape, key_answer, left_after}
+use Rattle.line_screen.specs.KeyReading.{escape_from}
 use Rattle.line_screen.proofs.Stopping.{refusal_in}
 
 -- in Vi mode Esc is a key where another byte than [ and O follows
@@ -42,19 +44,23 @@ pub escape_and_failure : (mode : EditMode) (bytes : List ℕ) (last : Last) → 
     → in_escape mode bytes (chars_of bytes last) (readings mode (chars_of bytes last)) ≡ Stops AtFailure []
 escape_and_failure mode bytes last none failed = rw (none, failed) refl
 
--- in Emacs mode a byte follows that begins no character
-pub emacs_refused : (mode : EditMode) (bytes seen : List ℕ) (b : ℕ) (bs : List ℕ) (last after : Last) (e : ReadlineError) → mode ≡ Emacs
-    → seen ≡ b ∷ bs → seen ≡ bytes → after ≡ last → char_at (chars_of seen after) ≡ Err e
-    → key_answer (in_escape mode bytes (chars_of bytes last) (readings mode (chars_of bytes last))) ≡ Err e
-emacs_refused mode bytes seen b bs last after e emacs begins same lasts is =
-    let here : bytes ≡ b ∷ bs = sym same ∙ begins in
-    let at : char_at (chars_of (b ∷ bs) last) ≡ Err e = ap (λ xs. char_at (chars_of xs last)) (sym begins) ∙ ap (λ l. char_at (chars_of seen l)) (sym lasts) ∙ is in
-    rw (emacs, here) (alt_refused b bs (chars_of (b ∷ bs) last) (readings Emacs (chars_of (b ∷ bs) last)) e at)
+-- in Emacs mode a byte follows that begins no character, or the source fails in it
+pub emacs_refuses : (mode : EditMode) (bytes : List ℕ) (b : ℕ) (bs : List ℕ) (last : Last) (e : ReadlineError) → mode ≡ Emacs → bytes ≡ b ∷ bs
+    → char_at (chars_of bytes last) ≡ Err e → key_answer (escape_from mode bytes last) ≡ Err e
+emacs_refuses mode bytes b bs last e emacs begins is =
+    let at : char_at (chars_of (b ∷ bs) last) ≡ Err e = rw begins at is in
+    rw (emacs, begins) (alt_refused b bs (chars_of (b ∷ bs) last) (readings Emacs (chars_of (b ∷ bs) last)) e at)
 
-pub emacs_left : (mode : EditMode) (bytes seen : List ℕ) (b : ℕ) (bs : List ℕ) (last after : Last) (e : ReadlineError) → mode ≡ Emacs
-    → seen ≡ b ∷ bs → seen ≡ bytes → after ≡ last → char_at (chars_of seen after) ≡ Err e
-    → left_after (in_escape mode bytes (chars_of bytes last) (readings mode (chars_of bytes last))) ≡ behind_char (chars_of seen after)
-emacs_left mode bytes seen b bs last after e emacs begins same lasts is =
-    let here : bytes ≡ b ∷ bs = sym same ∙ begins in
-    let at : char_at (chars_of (b ∷ bs) last) ≡ Err e = ap (λ xs. char_at (chars_of xs last)) (sym begins) ∙ ap (λ l. char_at (chars_of seen l)) (sym lasts) ∙ is in
-    rw (emacs, here, lasts, begins) (alt_left b bs (chars_of (b ∷ bs) last) (readings Emacs (chars_of (b ∷ bs) last)) e at)
+pub emacs_leaves : (mode : EditMode) (bytes : List ℕ) (b : ℕ) (bs : List ℕ) (last : Last) (e : ReadlineError) → mode ≡ Emacs → bytes ≡ b ∷ bs
+    → char_at (chars_of bytes last) ≡ Err e → left_after (escape_from mode bytes last) ≡ behind_char (chars_of bytes last)
+emacs_leaves mode bytes b bs last e emacs begins is =
+    let at : char_at (chars_of (b ∷ bs) last) ≡ Err e = rw begins at is in
+    rw (emacs, begins) (alt_left b bs (chars_of (b ∷ bs) last) (readings Emacs (chars_of (b ∷ bs) last)) e at)
+
+emacs_cut : (read : List ℕ) → char_at (chars_of read Failed) ≡ Err Reader → key_answer (escape_from Emacs read Failed) ≡ Err Reader
+emacs_cut [] is = refl
+emacs_cut (b ∷ bs) is = alt_refused b bs (chars_of (b ∷ bs) Failed) (readings Emacs (chars_of (b ∷ bs) Failed)) Reader is
+
+pub emacs_cuts : (mode : EditMode) (read : List ℕ) → mode ≡ Emacs → char_at (chars_of read Failed) ≡ Err Reader
+    → key_answer (escape_from mode read Failed) ≡ Err Reader
+emacs_cuts mode read emacs is = rw emacs (emacs_cut read is)

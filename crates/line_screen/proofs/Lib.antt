@@ -1,3 +1,4 @@
+pub mod Cuts
 pub mod Draws
 pub mod EncodedChars
 pub mod Ends
@@ -12,6 +13,7 @@ pub mod LawLemmas
 pub mod Leading
 pub mod ListLemmas
 pub mod Moves
+pub mod Onward
 pub mod Outcomes
 pub mod Owed
 pub mod Pasting
@@ -23,4 +25,5 @@ pub mod Saturating
 pub mod Shift
 pub mod ShortLemmas
 pub mod Standing
+pub mod Steps
 pub mod Stopping

@@ -11,6 +11,7 @@ use Rattle.line_screen.specs.Input.{Stop, AtEnd, AtBad, AtFailure, Torn, Inside,
 use Rattle.line_screen.specs.KeyGrammar.{Readings, Key, Paste, Cut, Stops, readings, coming_of, key_answer, text_answer, item_of}
 use Rattle.line_screen.specs.Lasting.{is_lasting, kept_refusal}
 use Rattle.line_screen.specs.Reader.{coming_by}
+use Rattle.line_screen.specs.Reading.{IsKeyRefusal}
 
 pub stop_item : (stop : Stop) → refusal_of (item_of stop) ≡ stop_refusal stop
 stop_item AtEnd = refl
@@ -79,3 +80,17 @@ refused_left HistoryText failed r kind fails ends = absurd kind
 refused_left Helper failed r kind fails ends = absurd kind
 refused_left Handler failed r kind fails ends = absurd kind
 refused_left Memory failed r kind fails ends = rw fails refl
+
+-- a key's refusal is a reader's
+pub key_refusal : (why : ReadlineError) → IsKeyRefusal why → IsReaderRefusal why
+key_refusal Eof kind = tt
+key_refusal Interrupted kind = kind
+key_refusal NotUtf8 kind = tt
+key_refusal PasteOutOfPlace kind = tt
+key_refusal Reader kind = tt
+key_refusal Display kind = kind
+key_refusal Lines kind = kind
+key_refusal HistoryText kind = kind
+key_refusal Helper kind = kind
+key_refusal Handler kind = kind
+key_refusal Memory kind = absurd kind

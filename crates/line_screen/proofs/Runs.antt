@@ -3,7 +3,7 @@ use Rattle.std.proofs.Common.{◌≡◌, ℕ, ◌+◌, ◌<◌, ◌≤◌, ◌==
 use Rattle.std.proofs.lemmas.Bool.{ne_eqb, eqb-true, eqb-false}
 use Rattle.line_screen.specs.Drawing.{Item, break_if, left_col, sent_one, col_after_one, sent, col_after}
 use Rattle.line_screen.specs.Drawing.Item.{Letter}
-use Rattle.line_screen.specs.Sending.{Takes}
+use Rattle.line_config.specs.Sending.{Takes}
 
 pub sent-append : (columns : ℕ) (xs ys : List Item) (col : ℕ) → sent columns (xs ++ ys) col ≡ sent columns xs col ++ sent columns ys (col_after columns xs col)
 sent-append columns [] ys col = refl

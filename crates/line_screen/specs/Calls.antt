@@ -1,11 +1,12 @@
 -- The drawing calls of a screen, and the bytes of each.
-use Rattle.std.specs.Prelude.{ℕ, List, [], ◌∷◌, ◌++◌, Option, Some, None, option_map, Result, Ok, Err}
+use Rattle.std.specs.Prelude.{◌≡◌, ℕ, Bool, IsTrue, List, [], ◌∷◌, ◌++◌, Option, Some, None, option_map, Result, Ok, Err, IfErr, OnOk, OnErr}
 use Rattle.line_buffer.specs.declared.layout.GraphemeClusterMode.{GraphemeClusterMode}
 use Rattle.line_buffer.specs.declared.layout.Layout.{Layout}
 use Rattle.line_buffer.specs.declared.layout.Position.{Position}
 use Rattle.line_config.specs.declared.device.DeviceFailed.{DeviceFailed}
 use Rattle.line_config.specs.declared.errors.ReadlineError.{ReadlineError}
 use Rattle.line_config.specs.declared.errors.ReadlineError.TheVariants as Refusal
+use Rattle.line_config.specs.Sending.{Takes}
 use Rattle.line_config.specs.declared.settings.BellStyle.{BellStyle}
 use Rattle.line_config.specs.declared.settings.BellStyle.TheVariants.{Audible}
 use Rattle.line_screen.specs.Drawing.{drawing, full_drawing, cleared, move_bytes, erase_to_end, erase_to_row_end, go_home}
@@ -33,16 +34,21 @@ pub data Call : Type 0 where
   ClearRows : (row : ℕ) → Call
   ClearToEol : Call
 
-abbrev pub drawing_bytes : ℕ → (List ℕ → Option ℕ) → Option ℕ → List ℕ → List ℕ → List ℕ → Position → Position → List ℕ
-drawing_bytes columns wide None prompt line info finish cursor = drawing columns wide prompt line info finish cursor
-drawing_bytes columns wide (Some row) prompt line info finish cursor = full_drawing columns wide row prompt line info finish cursor
+abbrev pub drawing_bytes : ℕ → (List ℕ → Option ℕ) → Option ℕ → List ℕ → List ℕ → List ℕ → Position
+    → Position → List ℕ
+drawing_bytes columns wide None prompt line info finish cursor = drawing columns wide prompt line
+    info finish cursor
+drawing_bytes columns wide
+    (Some row) prompt line info finish cursor = full_drawing columns wide row prompt line info
+    finish cursor
 
 abbrev pub bell_bytes : BellStyle → List ℕ
 bell_bytes Audible = 0x07 ∷ []
 bell_bytes _ = []
 
 abbrev pub bytes_of : Screen → Call → List ℕ
-bytes_of s (Draw old prompt line info finish cursor) = drawing_bytes s.columns (cluster_width s.mode s.columns) old prompt line info finish cursor
+bytes_of s (Draw old prompt line info finish cursor) = drawing_bytes s.columns
+    (cluster_width s.mode s.columns) old prompt line info finish cursor
 bytes_of s (Move old new) = move_bytes old new
 bytes_of s (Write text) = text
 bytes_of s Beep = bell_bytes s.bell
@@ -58,3 +64,15 @@ old_row old = option_map (λ layout. layout.cursor.row) old
 abbrev pub display_answer : {A : Type 0} → Result A DeviceFailed → Result A ReadlineError
 display_answer (Ok x) = Ok x
 display_answer (Err e) = Err Refusal.Display
+
+-- a call of a screen: answered, its bytes were sent and the sink works as before; refused, the sink
+-- has failed. The screen stays as it is.
+pub record MakesCall {D A : Type 0} (told : D → Bool) (held : D → List ℕ) (failed : D → Bool)
+    (call : Call)
+    (old new : ScreenRenderer D) (result : Result A ReadlineError) : Type 0 where
+  pub sent : OnOk result (Takes told held (sink_of old) (sink_of new)
+      (bytes_of (screen_of old) call))
+  pub works : OnOk result (failed (sink_of new) ≡ failed (sink_of old))
+  pub fault : IfErr result (λ e. e ≡ Refusal.Display)
+  pub err : OnErr result (IsTrue (failed (sink_of new)))
+  pub screen : screen_of new ≡ screen_of old

@@ -21,12 +21,15 @@ pub record Inside (columns : ℕ) (at : Position) : Type 0 where
   pub row : at.row < 2 ^ 64
   pub col : at.col < columns
 
--- the bytes so far mean a display on which the view stands, with nothing else in its rows, and `over` in the rows above
-pub record Good (columns : ℕ) (wide : List ℕ → Option ℕ) (bytes : List ℕ) (over : List Placed) (w : View) : Type 0 where
+-- the bytes so far mean a display on which the view stands, with nothing else in its rows, and
+-- `over` in the rows above
+pub record Good (columns : ℕ) (wide : List ℕ → Option ℕ) (bytes : List ℕ) (over : List Placed)
+    (w : View) : Type 0 where
   pub display : Display
   pub stands : Stands columns (read columns wide start bytes) display
   pub inside : Inside columns w.place
-  pub cells : filter (from_top w.top) display.placed ≡ map (down_placed w.top) (cells_of columns wide w.shown)
+  pub cells : filter (from_top w.top) display.placed
+      ≡ map (down_placed w.top) (cells_of columns wide w.shown)
   pub cursor : display.cursor ≡ down w.top w.place
   pub over_is : filter (above w.top) display.placed ≡ over
 
@@ -37,7 +40,8 @@ empty_at top = record { shown = nothing; top = top; place = origin }
 -- ---- what a call asks for, and the view behind it
 
 -- a drawing of the value that is to be shown, with its end and its cursor
-pub record Redraws (columns : ℕ) (wide : List ℕ → Option ℕ) (a : View) (prompt line info : List ℕ) (finish cursor : Position) (b : View) : Type 0 where
+pub record Redraws (columns : ℕ) (wide : List ℕ → Option ℕ) (a : View) (prompt line info : List ℕ)
+    (finish cursor : Position) (b : View) : Type 0 where
   pub prompt_is : prompt ≡ b.shown.prompt
   pub line_is : line ≡ b.shown.line
   pub info_is : info ≡ b.shown.info
@@ -48,7 +52,8 @@ pub record Redraws (columns : ℕ) (wide : List ℕ → Option ℕ) (a : View) (
   pub finish_row : finish.row < 2 ^ 64
   pub cursor_row : cursor.row < 2 ^ 64
 
--- an older drawing is known by its cursor's row; without one nothing is shown, and the cursor is in the first cell
+-- an older drawing is known by its cursor's row; without one nothing is shown, and the cursor is in
+-- the first cell
 abbrev pub Replaces : Option ℕ → View → Type 0
 Replaces (Some row) a = row ≡ a.place.row
 Replaces None a = (a.shown ≡ nothing) × (a.place ≡ origin)
@@ -65,8 +70,10 @@ is_simple c = (c == 0x0A) || is_printable c
 abbrev pub typed : Shown → ℕ → Shown
 typed v c = record { prompt = v.prompt; line = v.line ++ c ∷ []; place = v.place + 1; info = [] }
 
--- a printable character of ASCII at the end of a simple line, not into the last column, with nothing behind the line
-pub record Types (columns : ℕ) (wide : List ℕ → Option ℕ) (a : View) (text : List ℕ) (b : View) : Type 0 where
+-- a printable character of ASCII at the end of a simple line, not into the last column, with
+-- nothing behind the line
+pub record Types (columns : ℕ) (wide : List ℕ → Option ℕ) (a : View) (text : List ℕ)
+    (b : View) : Type 0 where
   pub c : ℕ
   pub text_is : text ≡ c ∷ []
   pub printable : is_printable c ≡ true
@@ -75,10 +82,15 @@ pub record Types (columns : ℕ) (wide : List ℕ → Option ℕ) (a : View) (te
   pub simple : list_all is_simple a.shown.line ≡ true
   pub place_is : a.place ≡ cursor_of columns wide a.shown
   pub room : a.place.col + 1 < columns
-  pub view : b ≡ record { shown = typed a.shown c; top = a.top; place = cursor_of columns wide (typed a.shown c) }
+  pub view : b ≡ record {
+    shown = typed a.shown c;
+    top = a.top;
+    place = cursor_of columns wide (typed a.shown c);
+  }
 
 -- CR LF at the whole drawing's end
-pub record EndsLine (columns : ℕ) (wide : List ℕ → Option ℕ) (a : View) (text : List ℕ) (b : View) : Type 0 where
+pub record EndsLine (columns : ℕ) (wide : List ℕ → Option ℕ) (a : View) (text : List ℕ)
+    (b : View) : Type 0 where
   pub text_is : text ≡ row_break
   pub place_is : a.place ≡ finish_of columns wide a.shown
   pub view : b ≡ empty_at (a.top + (finish_of columns wide a.shown).row + 1)
@@ -86,8 +98,8 @@ pub record EndsLine (columns : ℕ) (wide : List ℕ → Option ℕ) (a : View) 
 abbrev pub cut_line : Shown → List ℕ → Shown
 cut_line v line = record { prompt = v.prompt; line = line; place = length line; info = [] }
 
--- printable ASCII at the end of a simple line, no more of it than the columns of the line's end, with nothing behind the
--- line: the cursor was moved to where it begins
+-- printable ASCII at the end of a simple line, no more of it than the columns of the line's end,
+-- with nothing behind the line: the cursor was moved to where it begins
 pub record Kills (columns : ℕ) (wide : List ℕ → Option ℕ) (a b : View) : Type 0 where
   pub line : List ℕ
   pub killed : List ℕ
@@ -100,7 +112,8 @@ pub record Kills (columns : ℕ) (wide : List ℕ → Option ℕ) (a b : View) :
   pub view : b ≡ record { shown = cut_line a.shown line; top = a.top; place = a.place }
 
 abbrev pub Leads : ℕ → (List ℕ → Option ℕ) → View → Call → View → Type 0
-Leads columns wide a (Draw old prompt line info finish cursor) b = Replaces old a × Redraws columns wide a prompt line info finish cursor b
+Leads columns wide a (Draw old prompt line info finish cursor) b = Replaces old a
+    × Redraws columns wide a prompt line info finish cursor b
 Leads columns wide a (Move old new) b = Moves columns a old new b
 Leads columns wide a (Write text) b = Types columns wide a text b ⊎ EndsLine columns wide a text b
 Leads columns wide a Beep b = b ≡ a

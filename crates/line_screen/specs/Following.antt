@@ -32,13 +32,15 @@ are_whole (Stops stop left) = is_end stop
 
 -- the readings, and others in the place of their end
 abbrev pub readings_then : Readings → List ℕ → Readings → Readings
-readings_then (Key k behind rest) more following = Key k (behind ++ more) (readings_then rest more following)
-readings_then (Paste text behind rest) more following = Paste text (behind ++ more) (readings_then rest more following)
+readings_then (Key k behind rest) more following = Key k (behind ++ more)
+    (readings_then rest more following)
+readings_then (Paste text behind rest) more following = Paste text (behind ++ more)
+    (readings_then rest more following)
 readings_then (Cut stop left) more following = Cut stop left
 readings_then (Stops stop left) more following = following
 
--- Where bytes are whole characters that read as whole keys and pasted texts, and the last isn't ESC, they read
--- so whatever follows them.
+-- Where bytes are whole characters that read as whole keys and pasted texts, and the last isn't
+-- ESC, they read so whatever follows them.
 abbrev pub WholeKeysStay : Type 0
 WholeKeysStay = (mode : EditMode) (bytes more : List ℕ) (last : Last)
     → IsTrue (are_whole_chars (chars_of bytes End)) → ends_in_esc 0 (chars_of bytes End) ≡ false

@@ -6,8 +6,8 @@ use Rattle.line_config.specs.declared.errors.ReadlineError.{ReadlineError}
 use Rattle.line_config.specs.declared.errors.ReadlineError.TheVariants.{Eof, Interrupted, NotUtf8, PasteOutOfPlace, Reader, Display, Lines, HistoryText, Helper, Handler, Memory}
 use Rattle.line_screen.specs.declared.reading.utf8.Awaited.{Awaited}
 
--- what stands behind the last character: the end, bytes that are no character, a source that failed,
--- one that failed inside a character, and the end inside a key
+-- what stands behind the last character: the end, bytes that are no character, a source that
+-- failed, one that failed inside a character, and the end inside a key
 pub data Stop : Type 0 where
   AtEnd : Stop
   AtBad : Stop
@@ -15,13 +15,14 @@ pub data Stop : Type 0 where
   Torn : Stop
   Inside : Stop
 
--- the characters, each with the bytes behind it, and what ends them with the bytes that are left then
+-- the characters, each with the bytes behind it, and what ends them with the bytes that are left
+-- then
 pub data Chars : Type 0 where
   Next : (c : ℕ) → (behind : List ℕ) → (rest : Chars) → Chars
   Over : (stop : Stop) → (left : List ℕ) → Chars
 
--- a row of RFC 3629's table of byte sequences: the first bytes, what is taken off them, the bytes that may
--- stand second, and how many bytes of 80 to BF follow that one
+-- a row of RFC 3629's table of byte sequences: the first bytes, what is taken off them, the bytes
+-- that may stand second, and how many bytes of 80 to BF follow that one
 pub record LeadRow : Type 0 where
   pub first : ℕ
   pub last : ℕ
@@ -47,7 +48,12 @@ abbrev pub lead_in : List LeadRow → ℕ → Option Awaited
 lead_in [] byte = None
 lead_in (row ∷ rows) byte =
     if nat_le row.first byte && nat_le byte row.last
-    then Some (record { value = byte - row.base; least = row.least; greatest = row.greatest; more = row.more })
+    then Some (record {
+      value = byte - row.base;
+      least = row.least;
+      greatest = row.greatest;
+      more = row.more;
+    })
     else lead_in rows byte
 
 -- six bits of the character's number come with each further byte
@@ -56,7 +62,12 @@ value_with value byte = value * 64 + (byte - 0x80)
 
 abbrev pub after_byte : Awaited → ℕ → Awaited
 after_byte awaited byte =
-    record { value = value_with awaited.value byte; least = 0x80; greatest = 0xBF; more = awaited.more - 1 }
+    record {
+      value = value_with awaited.value byte;
+      least = 0x80;
+      greatest = 0xBF;
+      more = awaited.more - 1;
+    }
 
 abbrev pub is_scalar : ℕ → Bool
 is_scalar c = nat_lt c 0xD800 || (nat_le 0xE000 c && nat_le c 0x10FFFF)
@@ -86,7 +97,8 @@ abbrev mutual
   in_char (Some awaited) [] last = Over (torn_at last) []
   in_char (Some awaited) (byte ∷ bytes) last =
       if nat_lt byte awaited.least || nat_lt awaited.greatest byte then Over AtBad bytes
-      else if awaited.more == 0 then char_then (value_with awaited.value byte) bytes (chars_of bytes last)
+      else if awaited.more == 0 then char_then (value_with awaited.value byte) bytes
+      (chars_of bytes last)
       else in_char (Some (after_byte awaited byte)) bytes last
 
 -- the refusal at which reading stops

@@ -1,4 +1,5 @@
--- Keys and pasted texts of the characters: control sequences and their names (ECMA-48, and the terminals' habits).
+-- Keys and pasted texts of the characters: control sequences and their names (ECMA-48, and the
+-- terminals' habits).
 use Rattle.std.specs.Prelude.{ℕ, ◌+◌, Bool, true, false, ◌&&◌, nat_le, ◌==◌, if◌then◌else◌, List, [], ◌∷◌, ◌++◌, take, Option, Some, None, Result, Ok, Err, slice_index}
 use Rattle.std.specs.Char.{encode_utf8}
 use Rattle.line_config.specs.declared.settings.EditMode.{EditMode}
@@ -30,7 +31,8 @@ row byte code = record { byte = byte; code = code }
 
 -- ESC [ and a final: A B C D H F Z
 abbrev pub final_rows : List CodeRow
-final_rows = row 0x41 Up ∷ row 0x42 Down ∷ row 0x43 Right ∷ row 0x44 Left ∷ row 0x48 Home ∷ row 0x46 End ∷ row 0x5A BackTab ∷ []
+final_rows = row 0x41 Up ∷ row 0x42 Down ∷ row 0x43 Right ∷ row 0x44 Left ∷ row 0x48 Home
+    ∷ row 0x46 End ∷ row 0x5A BackTab ∷ []
 
 -- ESC [ 1 ; modifiers and a final: A B C D F H P Q R S
 abbrev pub modified_rows : List CodeRow
@@ -41,7 +43,8 @@ modified_rows =
 -- ESC O and a character: A B C D H F M P Q R S
 abbrev pub third_rows : List CodeRow
 third_rows =
-    row 0x41 Up ∷ row 0x42 Down ∷ row 0x43 Right ∷ row 0x44 Left ∷ row 0x48 Home ∷ row 0x46 End ∷ row 0x4D Enter
+    row 0x41 Up ∷ row 0x42 Down ∷ row 0x43 Right ∷ row 0x44 Left ∷ row 0x48 Home ∷ row 0x46 End
+    ∷ row 0x4D Enter
     ∷ row 0x50 (F 1) ∷ row 0x51 (F 2) ∷ row 0x52 (F 3) ∷ row 0x53 (F 4) ∷ []
 
 -- ESC [ [ and a character: A to E
@@ -51,7 +54,8 @@ linux_rows = row 0x41 (F 1) ∷ row 0x42 (F 2) ∷ row 0x43 (F 3) ∷ row 0x44 (
 -- ESC [ digit ~
 abbrev pub digit_rows : List CodeRow
 digit_rows =
-    row 0x31 Home ∷ row 0x32 Insert ∷ row 0x33 Delete ∷ row 0x34 End ∷ row 0x35 PageUp ∷ row 0x36 PageDown
+    row 0x31 Home ∷ row 0x32 Insert ∷ row 0x33 Delete ∷ row 0x34 End ∷ row 0x35 PageUp
+    ∷ row 0x36 PageDown
     ∷ row 0x37 Home ∷ row 0x38 End ∷ []
 
 -- ESC [ 1 digit ~
@@ -75,7 +79,8 @@ pub record ModifierRow : Type 0 where
 
 abbrev pub modifiers_in : List ModifierRow → ℕ → Option Modifiers
 modifiers_in [] digit = None
-modifiers_in (row ∷ rows) digit = if digit == row.digit then Some (modifiers_of row.bits) else modifiers_in rows digit
+modifiers_in (row ∷ rows) digit = if digit == row.digit then Some
+    (modifiers_of row.bits) else modifiers_in rows digit
 
 abbrev pub modifier_rows : List ModifierRow
 modifier_rows =
@@ -107,7 +112,8 @@ numbered tens digit =
     else if tens == 0x32 then code_in twenty_rows digit
     else None
 
--- the key of a control sequence, by its parameters as they are written and its final: ~ is 7E, ; is 3B
+-- the key of a control sequence, by its parameters as they are written and its final: ~ is 7E, ; is
+-- 3B
 abbrev pub sequence_key : Parameters → ℕ → KeyEvent
 sequence_key Empty final = plain (code_in final_rows final)
 sequence_key (One a) final = if final == 0x7E then plain (code_in digit_rows a) else unknown
@@ -120,7 +126,8 @@ sequence_key (Three a b c) final =
     else if (final == 0x7E) && (a == 0x32) && (b == 0x30) then plain (code_in paste_rows c)
     else unknown
 sequence_key (Four a b c d) final =
-    if (c == 0x3B) && (final == 0x7E) then modified (numbered a b) (modifiers_in modifier_rows d) else unknown
+    if (c == 0x3B) && (final == 0x7E) then modified (numbered a b)
+    (modifiers_in modifier_rows d) else unknown
 sequence_key Longer final = unknown
 
 -- the parameters with one more character
@@ -167,8 +174,8 @@ put text after_return c =
     else if after_return && (c == 0x0A) then text
     else text ++ encode_utf8 c
 
--- keys and pasted texts in order, each with the bytes behind it; a pasted text that is cut off; and what ends
--- the keys. Both of these with the bytes that are left.
+-- keys and pasted texts in order, each with the bytes behind it; a pasted text that is cut off; and
+-- what ends the keys. Both of these with the bytes that are left.
 pub data Readings : Type 0 where
   Key : (k : KeyEvent) → (behind : List ℕ) → (rest : Readings) → Readings
   Paste : (text : List ℕ) → (behind : List ℕ) → (rest : Readings) → Readings
@@ -206,7 +213,8 @@ abbrev mutual
       else Key (key_of c none) behind (readings mode rest)
   readings mode (Over stop left) = Stops stop left
 
-  -- behind ESC: by the bytes that follow, the characters that they are, and the keys that they would be
+  -- behind ESC: by the bytes that follow, the characters that they are, and the keys that they
+  -- would be
   pub in_escape : EditMode → List ℕ → Chars → Readings → Readings
   in_escape mode here (Next c behind rest) again =
       if byte_is 0x5B here then in_bracket mode rest
@@ -217,7 +225,8 @@ abbrev mutual
 
   -- behind ESC O
   pub in_third : EditMode → Chars → Readings
-  in_third mode (Next c behind rest) = Key (plain (code_in third_rows c)) behind (readings mode rest)
+  in_third mode (Next c behind rest) = Key (plain (code_in third_rows c)) behind
+      (readings mode rest)
   in_third mode (Over stop left) = Stops (inside stop) left
 
   -- behind ESC [
@@ -231,7 +240,8 @@ abbrev mutual
 
   -- behind ESC [ [
   pub in_linux : EditMode → Chars → Readings
-  in_linux mode (Next c behind rest) = Key (plain (code_in linux_rows c)) behind (readings mode rest)
+  in_linux mode (Next c behind rest) = Key (plain (code_in linux_rows c)) behind
+      (readings mode rest)
   in_linux mode (Over stop left) = Stops (inside stop) left
 
   -- behind ESC [ and these parameters
@@ -249,13 +259,16 @@ abbrev mutual
       if is_intermediate c then in_unknown mode rest else Key unknown behind (readings mode rest)
   in_unknown mode (Over stop left) = Stops (inside stop) left
 
-  -- inside a pasted text: the text so far, whether CR came last, and how many characters of the marker
+  -- inside a pasted text: the text so far, whether CR came last, and how many characters of the
+  -- marker
   pub in_paste : EditMode → List ℕ → Bool → ℕ → Chars → Readings
   in_paste mode text after_return matched (Next c behind rest) =
       if c == slice_index marker matched then
-      (if matched == 5 then Paste text behind (readings mode rest) else in_paste mode text after_return (matched + 1) rest)
+      (if matched == 5 then Paste text behind
+      (readings mode rest) else in_paste mode text after_return (matched + 1) rest)
       else if c == 0x1B then in_paste mode (text ++ take matched marker) false 1 rest
-      else in_paste mode (put (text ++ take matched marker) (after_return && (matched == 0)) c) (c == 0x0D) 0 rest
+      else in_paste mode (put (text ++ take matched marker) (after_return && (matched == 0)) c)
+      (c == 0x0D) 0 rest
   in_paste mode text after_return matched (Over stop left) = Cut stop left
 
 -- what is read where a pasted text is owed or isn't

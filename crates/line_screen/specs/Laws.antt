@@ -20,8 +20,10 @@ FullDrawingShows =
     (s : Screen) → 2 ≤ s.columns → s.columns ≤ 1000
     → (bytes : List ℕ) (d : Display) → Stands s.columns (read s.columns (widths s) start bytes) d
     → (top old : ℕ) → d.cursor.row ≡ top + old → d.cursor.col < s.columns → old < 2 ^ 64
-    → (v : Shown) → (finish_of s.columns (widths s) v).row < 2 ^ 64 → (cursor_of s.columns (widths s) v).row < 2 ^ 64
-    → let new = full_drawing s.columns (widths s) old v.prompt v.line v.info (finish_of s.columns (widths s) v) (cursor_of s.columns (widths s) v) in
+    → (v : Shown) → (finish_of s.columns (widths s) v).row < 2 ^ 64
+    → (cursor_of s.columns (widths s) v).row < 2 ^ 64
+    → let new = full_drawing s.columns (widths s) old v.prompt v.line v.info
+    (finish_of s.columns (widths s) v) (cursor_of s.columns (widths s) v) in
     (e : Display)
     × Stands s.columns (read s.columns (widths s) start (bytes ++ new)) e
     × Shows s.columns (widths s) v top e
@@ -29,35 +31,43 @@ FullDrawingShows =
 
 -- before the first call nothing is shown
 abbrev pub StartIsEmpty : Type 0
-StartIsEmpty = (s : Screen) → 2 ≤ s.columns → s.columns ≤ 1000 → Good s.columns (widths s) [] [] (empty_at 0)
+StartIsEmpty = (s : Screen) → 2 ≤ s.columns → s.columns ≤ 1000
+    → Good s.columns (widths s) [] [] (empty_at 0)
 
--- a call leads from what is shown before it to what is shown behind it; what stands in the rows above stays, unless the
--- screen is cleared
+-- a call leads from what is shown before it to what is shown behind it; what stands in the rows
+-- above stays, unless the screen is cleared
 abbrev pub CallsLead : Type 0
 CallsLead =
-    (s : Screen) → 2 ≤ s.columns → s.columns ≤ 1000 → (bytes : List ℕ) (over : List Placed) (a b : View) (call : Call)
+    (s : Screen) → 2 ≤ s.columns → s.columns ≤ 1000
+    → (bytes : List ℕ) (over : List Placed) (a b : View) (call : Call)
     → Good s.columns (widths s) bytes over a → Leads s.columns (widths s) a call b
-    → (next : List Placed) × Good s.columns (widths s) (bytes ++ bytes_of s call) next b × (call ≢ ClearScreen → filter (above a.top) next ≡ over)
+    → (next : List Placed) × Good s.columns (widths s) (bytes ++ bytes_of s call) next b
+    × (call ≢ ClearScreen → filter (above a.top) next ≡ over)
 
 -- and so do calls one after the other
 abbrev pub ChainsLead : Type 0
 ChainsLead =
-    (s : Screen) → 2 ≤ s.columns → s.columns ≤ 1000 → (calls : List Call) (bytes : List ℕ) (over : List Placed) (a b : View)
+    (s : Screen) → 2 ≤ s.columns → s.columns ≤ 1000
+    → (calls : List Call) (bytes : List ℕ) (over : List Placed) (a b : View)
     → Good s.columns (widths s) bytes over a → FoldsTo (Leads s.columns (widths s)) a calls b
     → (next : List Placed) × Good s.columns (widths s) (bytes ++ flat_map (bytes_of s) calls) next b
 
--- the bytes so far have a meaning, with what stands above, and where the cursor is at its place in the line they show the
--- value
+-- the bytes so far have a meaning, with what stands above, and where the cursor is at its place in
+-- the line they show the value
 abbrev pub ShownIsMeant : Type 0
 ShownIsMeant =
-    (s : Screen) (bytes : List ℕ) (over : List Placed) (a : View) → Good s.columns (widths s) bytes over a
+    (s : Screen) (bytes : List ℕ) (over : List Placed) (a : View)
+    → Good s.columns (widths s) bytes over a
     → (d : Display) × (meaning s.columns (widths s) bytes ≡ Some d)
-    × (filter (from_top a.top) d.placed ≡ map (down_placed a.top) (cells_of s.columns (widths s) a.shown))
+    × (filter (from_top a.top) d.placed
+    ≡ map (down_placed a.top) (cells_of s.columns (widths s) a.shown))
     × (filter (above a.top) d.placed ≡ over)
-    × (a.place ≡ cursor_of s.columns (widths s) a.shown → Shows s.columns (widths s) a.shown a.top d)
+    × (a.place ≡ cursor_of s.columns (widths s) a.shown
+    → Shows s.columns (widths s) a.shown a.top d)
 
 -- what is shown stands in its cells, from the row `top` on, and every other cell there is blank
 abbrev pub CellsAreShown : Type 0
 CellsAreShown =
     (s : Screen) (v : Shown) (top : ℕ) (d : Display) → Shows s.columns (widths s) v top d
-    → (row col : ℕ) → cell_at d.placed (top + row) col ≡ cell_at (cells_of s.columns (widths s) v) row col
+    → (row col : ℕ) → cell_at d.placed (top + row) col
+    ≡ cell_at (cells_of s.columns (widths s) v) row col

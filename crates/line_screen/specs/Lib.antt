@@ -7,11 +7,13 @@ pub mod Drawing
 pub mod Following
 pub mod Input
 pub mod KeyGrammar
+pub mod KeyReading
 pub mod Lasting
 pub mod Laws
 pub mod Measure
 pub mod Pasting
 pub mod Reader
+pub mod Reading
 pub mod Sending
 pub mod Short
 pub mod Showing

@@ -12,7 +12,8 @@ use Rattle.line_screen.specs.Drawing.{text_items, after, next_row}
 -- taken alone it is one cluster, without control characters
 abbrev pub is_cluster : List ℕ → Bool
 is_cluster bytes =
-    (list_all is_text bytes && not (list_any is_control (chars bytes))) && (length (graphemes true bytes) == 1)
+    (list_all is_text bytes && not (list_any is_control (chars bytes))) &&
+    (length (graphemes true bytes) == 1)
 
 abbrev pub is_width : ℕ → ℕ → Bool
 is_width columns width = nat_lt 0 width && nat_le width columns
@@ -20,7 +21,8 @@ is_width columns width = nat_lt 0 width && nat_le width columns
 -- the columns of a text that is one cluster and can stand in a row
 abbrev pub cluster_width : GraphemeClusterMode → ℕ → List ℕ → Option ℕ
 cluster_width mode columns bytes =
-    if is_cluster bytes && is_width columns (width_of mode bytes) then Some (width_of mode bytes) else None
+    if is_cluster bytes && is_width columns (width_of mode bytes) then Some
+    (width_of mode bytes) else None
 
 -- a place behind a row's cells is the next row's first
 abbrev pub in_row : ℕ → Position → Position
@@ -32,4 +34,5 @@ saturated at = record { col = at.col; row = min at.row 65535 }
 
 -- where the drawing of a text from a place on ends
 abbrev pub measure_of : GraphemeClusterMode → ℕ → List ℕ → Position → Position
-measure_of mode columns text from = saturated (after columns (text_items (cluster_width mode columns) text) (in_row columns from))
+measure_of mode columns text from = saturated
+    (after columns (text_items (cluster_width mode columns) text) (in_row columns from))

@@ -29,18 +29,22 @@ without_returns_before_newlines (byte ∷ bytes) =
 
 -- CR LF, then CR, as newlines
 abbrev pub with_newlines : List ℕ → List ℕ
-with_newlines bytes = map (λ byte. if byte == 0x0D then 0x0A else byte) (without_returns_before_newlines bytes)
+with_newlines bytes = map (λ byte. if byte == 0x0D then 0x0A else byte)
+    (without_returns_before_newlines bytes)
 
--- The pasted text is what stands before the first end mark, with newlines; behind the mark the keys go on.
+-- The pasted text is what stands before the first end mark, with newlines; behind the mark the keys
+-- go on.
 abbrev pub PastedTextIsBeforeItsMark : Type 0
 PastedTextIsBeforeItsMark =
     (mode : EditMode) (text more : List ℕ) (last : Last) → IsUtf8 text → HaveNoMarker text
     → readings mode (chars_of (start_marker ++ text ++ marker ++ more) last)
-    ≡ Key paste_start (text ++ marker ++ more) (Paste (with_newlines text) more (readings mode (chars_of more last)))
+    ≡ Key paste_start (text ++ marker ++ more)
+    (Paste (with_newlines text) more (readings mode (chars_of more last)))
 
 -- Without an end mark the pasted text is cut off where the characters stop, as they do at the end.
 abbrev pub PastedTextIsCutOff : Type 0
 PastedTextIsCutOff =
     (mode : EditMode) (text more : List ℕ) (last : Last) (stop : Stop) (left : List ℕ)
     → IsUtf8 text → HaveNoMarker text → chars_of more last ≡ Over stop left
-    → readings mode (chars_of (start_marker ++ text ++ more) last) ≡ Key paste_start (text ++ more) (Cut stop left)
+    → readings mode (chars_of (start_marker ++ text ++ more) last)
+    ≡ Key paste_start (text ++ more) (Cut stop left)

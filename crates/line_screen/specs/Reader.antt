@@ -1,11 +1,11 @@
 -- What a reader of keys has still to give.
 use Rattle.std.specs.Prelude.{ℕ, Bool, true, false, List, Option, Some, None, Result, Err}
-use Rattle.line_config.specs.declared.device.Last.{Last}
 use Rattle.line_config.specs.declared.errors.ReadlineError.{ReadlineError}
 use Rattle.line_config.specs.declared.errors.ReadlineError.TheVariants.{PasteOutOfPlace, Reader}
+use Rattle.line_config.specs.Feed.{Feed}
 use Rattle.line_keys.specs.Coming.{Coming, Refused}
-use Rattle.line_screen.specs.Input.{Chars, char_at}
-use Rattle.line_screen.specs.Unread.{unread, chars}
+use Rattle.line_screen.specs.Input.{Chars, char_at, chars_of}
+use Rattle.line_screen.specs.Unread.{ahead}
 use Rattle.line_screen.specs.KeyGrammar.{Readings, read_from, coming_of}
 use Rattle.line_screen.specs.declared.reading.reader.KeyReader.{KeyReader}
 
@@ -15,13 +15,21 @@ source_of r = r.bytes.source
 abbrev pub kept_of : {S : Type 0} → KeyReader S → Option ℕ
 kept_of r = r.bytes.kept
 
--- the bytes that are still to be read: the one that is kept, and those of the source
-abbrev pub left_in : {S : Type 0} → (S → List ℕ) → KeyReader S → List ℕ
-left_in coming r = unread coming r.bytes
+-- what is known of the bytes that are still to be read: the one that is kept, and those of the
+-- source
+abbrev pub feed_in : {S : Type 0} → (S → Feed) → KeyReader S → Feed
+feed_in feed r = ahead feed r.bytes
+
+abbrev pub left_in : {S : Type 0} → (S → Feed) → KeyReader S → List ℕ
+left_in feed r = (feed_in feed r).coming
+
+-- their characters
+abbrev pub chars_in : {S : Type 0} → (S → Feed) → KeyReader S → Chars
+chars_in feed r = chars_of (feed_in feed r).coming (feed_in feed r).last
 
 -- what these bytes read as
-abbrev pub reads : {S : Type 0} → (S → List ℕ) → (S → Last) → KeyReader S → Readings
-reads coming last r = read_from r.mode r.owed (chars coming last r.bytes)
+abbrev pub reads : {S : Type 0} → (S → Feed) → KeyReader S → Readings
+reads feed r = read_from r.mode r.owed (chars_in feed r)
 
 -- a source that failed, and a call that was refused, are so for good
 abbrev pub coming_by : Bool → Option ReadlineError → Readings → Coming
@@ -29,10 +37,11 @@ coming_by true refused left = Refused Reader
 coming_by false (Some why) left = Refused why
 coming_by false None left = coming_of left
 
-abbrev pub coming_in : {S : Type 0} → (S → List ℕ) → (S → Last) → (S → Bool) → KeyReader S → Coming
-coming_in coming last failed r = coming_by (failed r.bytes.source) r.refused (reads coming last r)
+abbrev pub coming_in : {S : Type 0} → (S → Feed) → KeyReader S → Coming
+coming_in feed r = coming_by (feed_in feed r).failed r.refused (reads feed r)
 
--- the bytes that a call leaves: all of them where it is refused for what was before or comes out of place
+-- the bytes that a call leaves: all of them where it is refused for what was before or comes out of
+-- place
 abbrev pub left_by_call : Bool → Option ReadlineError → Bool → List ℕ → List ℕ → List ℕ
 left_by_call true refused misplaced before after = before
 left_by_call false (Some why) misplaced before after = before

@@ -1,6 +1,23 @@
--- What a call does to a sink that told its bytes.
-use Rattle.std.specs.Prelude.{◌≡◌, ℕ, Bool, List, ◌++◌, IsTrue}
+-- What a call that draws a text does to its sink, and the column behind the text.
+use Rattle.std.specs.Prelude.{◌≡◌, ℕ, ◌<◌, Bool, List, IsTrue, Result, IfOk, OnOk, OnErr}
+use Rattle.line_config.specs.declared.device.DeviceFailed.{DeviceFailed}
+use Rattle.line_config.specs.Sending.{Takes}
+use Rattle.line_screen.specs.Drawing.{Item, sent, col_after}
 
--- it stays told, and has taken these bytes behind what it held
-abbrev pub Takes : {D : Type 0} → (D → Bool) → (D → List ℕ) → D → D → List ℕ → Type 0
-Takes told held old new bytes = IsTrue (told old) → IsTrue (told new) × (held new ≡ held old ++ bytes)
+-- a call that is answered has sent these bytes, the sink works as before, and the answer is the
+-- column behind them, one of the row; a call that is refused says so because the sink has failed
+pub record SendsTo {D : Type 0} (bytes : List ℕ) (column columns : ℕ) (told : D → Bool)
+    (held : D → List ℕ)
+    (failed : D → Bool) (old new : D) (result : Result ℕ DeviceFailed) : Type 0 where
+  pub sent : OnOk result (Takes told held old new bytes)
+  pub works : OnOk result (failed new ≡ failed old)
+  pub err : OnErr result (IsTrue (failed new))
+  pub next : IfOk result (λ c. c ≡ column)
+  pub inside : IfOk result (λ c. c < columns)
+
+-- the same with the bytes of items, from a column on
+abbrev pub SendsItems : {D : Type 0} → List Item → ℕ → ℕ → (D → Bool) → (D → List ℕ) → (D → Bool)
+    → D → D → Result ℕ DeviceFailed → Type 0
+SendsItems items start columns told held failed old new result =
+    SendsTo (sent columns items start)
+    (col_after columns items start) columns told held failed old new result

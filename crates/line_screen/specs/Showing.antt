@@ -7,8 +7,8 @@ use Rattle.line_screen.specs.Display.{Placed, Display, Reading, put_letters, is_
 use Rattle.line_screen.specs.Display.Reading.{Text}
 use Rattle.line_screen.specs.Drawing.{Item, text_items, after, lay}
 
--- what was read means this display, and what follows may be a control character or a letter: the run of text that is
--- open is printable ASCII
+-- what was read means this display, and what follows may be a control character or a letter: the
+-- run of text that is open is printable ASCII
 pub record Stands (columns : ℕ) (r : Reading) (d : Display) : Type 0 where
   pub before : Display
   pub run : List ℕ
@@ -16,7 +16,8 @@ pub record Stands (columns : ℕ) (r : Reading) (d : Display) : Type 0 where
   pub printable : list_all is_printable run ≡ true
   pub shows : put_letters columns run before ≡ Some d
 
--- a prompt, a line, the place of the cursor in the line in bytes, and the hint or message behind the line
+-- a prompt, a line, the place of the cursor in the line in bytes, and the hint or message behind
+-- the line
 pub record Shown : Type 0 where
   pub prompt : List ℕ
   pub line : List ℕ
@@ -39,7 +40,8 @@ finish_of columns wide v = after columns (shown_items wide v) origin
 
 -- where the line's text before the place ends
 abbrev pub cursor_of : ℕ → (List ℕ → Option ℕ) → Shown → Position
-cursor_of columns wide v = after columns (text_items wide v.prompt ++ text_items wide (take v.place v.line)) origin
+cursor_of columns wide v = after columns
+    (text_items wide v.prompt ++ text_items wide (take v.place v.line)) origin
 
 -- moved down by so many rows
 abbrev pub down : ℕ → Position → Position
@@ -55,6 +57,7 @@ abbrev pub from_top : ℕ → Placed → Bool
 from_top top p = nat_le top p.row
 
 -- in the rows from `top` on stands the drawing of the value, and nothing else
-pub record Shows (columns : ℕ) (wide : List ℕ → Option ℕ) (v : Shown) (top : ℕ) (d : Display) : Type 0 where
+pub record Shows (columns : ℕ) (wide : List ℕ → Option ℕ) (v : Shown) (top : ℕ)
+    (d : Display) : Type 0 where
   pub cells : filter (from_top top) d.placed ≡ map (down_placed top) (cells_of columns wide v)
   pub cursor : d.cursor ≡ down top (cursor_of columns wide v)

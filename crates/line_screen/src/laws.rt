@@ -6,8 +6,8 @@ ghost use Rattle.line_screen.specs.Short.{TypingLeads, KillingLeads};
 ghost use Rattle.line_screen.specs.Laws.{FullDrawingShows, StartIsEmpty, CallsLead, ChainsLead, ShownIsMeant, CellsAreShown};
 ghost use Rattle.line_screen.specs.Pasting.{PastedTextIsBeforeItsMark, PastedTextIsCutOff};
 
-/// A full drawing shows the value that it was given, whatever stood from its top on, and keeps the rows
-/// above.
+/// A full drawing shows the value that it was given, whatever stood from its top on, and keeps the
+/// rows above.
 pub fn full_drawing()
     ensures { FullDrawingShows }
 {}
@@ -17,8 +17,9 @@ pub fn start()
     ensures { StartIsEmpty }
 {}
 
-/// A drawing, a move, the insertion of one byte, the erasure of a row's end, a beep, a clearing and CR LF
-/// lead, each where it may be asked for, from a display that shows one view to one that shows the next.
+/// A drawing, a move, the insertion of one byte, the erasure of a row's end, a beep, a clearing and
+/// CR LF lead, each where it may be asked for, from a display that shows one view to one that shows
+/// the next.
 pub fn calls()
     ensures { CallsLead }
 {}
@@ -28,8 +29,8 @@ pub fn short_insertions()
     ensures { TypingLeads }
 {}
 
-/// Where a short kill is offered, a move and the erasure of the row's end lead to the line without its
-/// end.
+/// Where a short kill is offered, a move and the erasure of the row's end lead to the line without
+/// its end.
 pub fn short_kills()
     ensures { KillingLeads }
 {}
@@ -54,13 +55,14 @@ pub fn encoded_characters_are_read()
     ensures { EncodedCharsAreRead }
 {}
 
-/// Each character that is read is a scalar value and came from its bytes alone. Where none is read the bytes are at
-/// their end, or cut off inside a character, or one of them fits no character.
+/// Each character that is read is a scalar value and came from its bytes alone. Where none is read
+/// the bytes are at their end, or cut off inside a character, or one of them fits no character.
 pub fn characters_are_encoded()
     ensures { CharsAreEncoded }
 {}
 
-/// Bytes that are whole keys and pasted texts read as these whatever follows them, unless the last one is ESC.
+/// Bytes that are whole keys and pasted texts read as these whatever follows them, unless the last
+/// one is ESC.
 #[tactic(auto, using(crate::proofs::FollowingLemmas::whole_keys_stay))]
 pub fn whole_keys_stay()
     ensures { WholeKeysStay }

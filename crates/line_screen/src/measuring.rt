@@ -14,8 +14,8 @@ use unicode_segmentation::UnicodeSegmentation;
 
 /// Where the drawing of a text ends that begins at a place, on rows of so many columns.
 ///
-/// Columns stay exact; rows are counted to 65,535. A place whose column isn't below the columns is the
-/// next row's first cell.
+/// Columns stay exact; rows are counted to 65,535. A place whose column isn't below the columns is
+/// the next row's first cell.
 pub fn measure(text: &str, from: Position, columns: Unit, mode: GraphemeClusterMode) -> Position
     requires low { 2 ≤ columns }
     requires high { columns ≤ 1000 }
@@ -65,7 +65,8 @@ fn step_right(grid: Grid, at: Position, count: Unit) -> Position
 
 fn after_cluster(grid: Grid, at: Position, cluster: &str) -> Position
     requires inside { at.col < grid.columns }
-    ensures place { result ≡ saturated (after grid.columns (item_of (cluster_width grid.mode grid.columns) cluster.now ∷ []) at) }
+    ensures place { result ≡ saturated
+        (after grid.columns (item_of (cluster_width grid.mode grid.columns) cluster.now ∷ []) at) }
     ensures inside { result.col < grid.columns }
 {
     if is_letter(cluster) {
@@ -97,7 +98,9 @@ fn after_letters(grid: Grid, from: Position, letters: &[u8]) -> Position
 
 fn after_clusters(grid: Grid, from: Position, row: &str) -> Position
     requires inside { from.col < grid.columns }
-    ensures place { result ≡ saturated (after grid.columns (map (item_of (cluster_width grid.mode grid.columns)) (graphemes true row.now)) from) }
+    ensures place { result ≡ saturated
+        (after grid.columns (map (item_of (cluster_width grid.mode grid.columns))
+        (graphemes true row.now)) from) }
     ensures inside { result.col < grid.columns }
 {
     let mut at = from;
@@ -109,7 +112,8 @@ fn after_clusters(grid: Grid, from: Position, row: &str) -> Position
 
 fn after_row(grid: Grid, from: Position, row: &str) -> Position
     requires inside { from.col < grid.columns }
-    ensures place { result ≡ saturated (after grid.columns (row_items (cluster_width grid.mode grid.columns) row.now) from) }
+    ensures place { result ≡ saturated
+        (after grid.columns (row_items (cluster_width grid.mode grid.columns) row.now) from) }
     ensures inside { result.col < grid.columns }
 {
     if is_printable_text(row) {
@@ -121,7 +125,9 @@ fn after_row(grid: Grid, from: Position, row: &str) -> Position
 
 fn after_next_row(grid: Grid, from: Position, is_first: bool, row: &str) -> Position
     requires inside { from.col < grid.columns }
-    ensures place { result ≡ saturated (after grid.columns (next_items (cluster_width grid.mode grid.columns) is_first row.now) from) }
+    ensures place { result ≡ saturated
+        (after grid.columns (next_items (cluster_width grid.mode grid.columns) is_first
+        row.now) from) }
     ensures inside { result.col < grid.columns }
 {
     if is_first {
@@ -133,7 +139,8 @@ fn after_next_row(grid: Grid, from: Position, is_first: bool, row: &str) -> Posi
 
 fn after_text(grid: Grid, from: Position, text: &str) -> Position
     requires inside { from.col < grid.columns }
-    ensures place { result ≡ saturated (after grid.columns (text_items (cluster_width grid.mode grid.columns) text.now) from) }
+    ensures place { result ≡ saturated
+        (after grid.columns (text_items (cluster_width grid.mode grid.columns) text.now) from) }
     ensures inside { result.col < grid.columns }
 {
     let mut at = from;

@@ -1,11 +1,9 @@
 //! The renderer: the calls by which an editor draws.
 
 ghost use Rattle.std.specs.Prelude.{◌≡◌, ◌≤◌, ◌++◌, ◌∷◌, [], IsTrue, OnOk, OnErr, IfErr, false};
-ghost use Rattle.line_config.specs.declared.errors.ReadlineError.TheVariants.{Display};
-ghost use Rattle.line_screen.specs.Calls.{Screen, screen_of, sink_of, bytes_of, old_row, display_answer};
+ghost use Rattle.line_screen.specs.Calls.{Screen, MakesCall, screen_of, sink_of, old_row, display_answer};
 ghost use Rattle.line_screen.specs.Calls.Call.{Draw, Move, Write, Beep, ClearScreen, ClearRows, ClearToEol};
 ghost use Rattle.line_screen.specs.Measure.{measure_of};
-ghost use Rattle.line_screen.specs.Sending.{Takes};
 
 use crate::drawing::sequences::{clear, go, send_flushed};
 use crate::drawing::whole::{Texts, draw};
@@ -17,8 +15,8 @@ use line_config::{BellStyle, DeviceFailed, ReadlineError, Sink};
 /// Draws a line on rows of so many columns by writing to a sink.
 ///
 /// A call writes its bytes piece by piece, keeps none of them and takes no memory. One that writes
-/// flushes the sink at its end. It answers `Display` where the sink failed, and nowhere else; what the
-/// sink then took is not known.
+/// flushes the sink at its end. It answers `Display` where the sink failed, and nowhere else; what
+/// the sink then took is not known.
 #[derive(Drop)]
 pub struct ScreenRenderer<D> {
     sink: D,
@@ -37,7 +35,8 @@ impl<D: Sink> ScreenRenderer<D> {
         requires low { 2 ≤ columns }
         requires high { columns ≤ 1000 }
         ensures sink { sink_of result ≡ sink }
-        ensures screen { screen_of result ≡ record { columns = columns; mode = grapheme_cluster_mode; bell = bell_style } }
+        ensures screen { screen_of result
+            ≡ record { columns = columns; mode = grapheme_cluster_mode; bell = bell_style } }
     {
         ScreenRenderer {
             sink,
@@ -86,7 +85,8 @@ impl<D: Sink> ScreenRenderer<D> {
 
     /// Where a text ends that is drawn from a place on: `measure` for this screen.
     pub fn calculate_position(&self, text: &str, from: Position) -> Position
-        ensures { result ≡ measure_of (screen_of self.now).mode (screen_of self.now).columns text.now from }
+        ensures { result ≡ measure_of (screen_of self.now).mode (screen_of self.now).columns
+            text.now from }
     {
         measure(text, from, self.grid.columns, self.grid.mode)
     }
@@ -101,8 +101,8 @@ impl<D: Sink> ScreenRenderer<D> {
     /// Draws prompt, line, and behind it the hint or message, an empty text where there is none.
     ///
     /// `old_layout` is that of the drawing in whose place the new one goes. Without one it begins at the
-    /// cursor, which is to stand in a row's first cell, with blank cells behind it. `new_layout` says
-    /// where the drawing ends and where its cursor goes.
+    /// cursor, which is to stand in a row's first cell, with blank cells behind it. `new_layout`
+    /// says where the drawing ends and where its cursor goes.
     pub fn refresh_line(
         &mut self,
         prompt: &str,
@@ -111,11 +111,9 @@ impl<D: Sink> ScreenRenderer<D> {
         old_layout: Option<Layout>,
         new_layout: &Layout,
     ) -> Result<(), ReadlineError>
-        ensures sent { OnOk result (Takes D.told D.held (sink_of self.old) (sink_of self.new) (bytes_of (screen_of self.old) (Draw (old_row old_layout) prompt.now line.now info.now new_layout.now.end new_layout.now.cursor))) }
-        ensures works { OnOk result (D.has_failed (sink_of self.new) ≡ D.has_failed (sink_of self.old)) }
-        ensures refusal { IfErr result (λ e. e ≡ Display) }
-        ensures err { OnErr result (IsTrue (D.has_failed (sink_of self.new))) }
-        ensures screen { screen_of self.new ≡ screen_of self.old }
+        ensures { MakesCall D.told D.held D.has_failed (Draw (old_row old_layout)
+            prompt.now line.now info.now new_layout.now.end new_layout.now.cursor)
+            self.old self.new result }
     {
         let row = old_layout.map(|layout| layout.cursor.row);
         let grid = self.grid;
@@ -132,33 +130,21 @@ impl<D: Sink> ScreenRenderer<D> {
 
     /// Moves the cursor from one cell of the drawing to another; writes nothing where they are one.
     pub fn move_cursor(&mut self, old: Position, new: Position) -> Result<(), ReadlineError>
-        ensures sent { OnOk result (Takes D.told D.held (sink_of self.old) (sink_of self.new) (bytes_of (screen_of self.old) (Move old new))) }
-        ensures works { OnOk result (D.has_failed (sink_of self.new) ≡ D.has_failed (sink_of self.old)) }
-        ensures refusal { IfErr result (λ e. e ≡ Display) }
-        ensures err { OnErr result (IsTrue (D.has_failed (sink_of self.new))) }
-        ensures screen { screen_of self.new ≡ screen_of self.old }
+        ensures { MakesCall D.told D.held D.has_failed (Move old new) self.old self.new result }
     {
         answer(go(&mut self.sink, old, new))
     }
 
     /// Writes a text as it is.
     pub fn write_and_flush(&mut self, text: &str) -> Result<(), ReadlineError>
-        ensures sent { OnOk result (Takes D.told D.held (sink_of self.old) (sink_of self.new) (bytes_of (screen_of self.old) (Write text.now))) }
-        ensures works { OnOk result (D.has_failed (sink_of self.new) ≡ D.has_failed (sink_of self.old)) }
-        ensures refusal { IfErr result (λ e. e ≡ Display) }
-        ensures err { OnErr result (IsTrue (D.has_failed (sink_of self.new))) }
-        ensures screen { screen_of self.new ≡ screen_of self.old }
+        ensures { MakesCall D.told D.held D.has_failed (Write text.now) self.old self.new result }
     {
         answer(send_flushed(&mut self.sink, text.as_bytes()))
     }
 
     /// Sounds the bell, where the screen is to be heard.
     pub fn beep(&mut self) -> Result<(), ReadlineError>
-        ensures sent { OnOk result (Takes D.told D.held (sink_of self.old) (sink_of self.new) (bytes_of (screen_of self.old) Beep)) }
-        ensures works { OnOk result (D.has_failed (sink_of self.new) ≡ D.has_failed (sink_of self.old)) }
-        ensures refusal { IfErr result (λ e. e ≡ Display) }
-        ensures err { OnErr result (IsTrue (D.has_failed (sink_of self.new))) }
-        ensures screen { screen_of self.new ≡ screen_of self.old }
+        ensures { MakesCall D.told D.held D.has_failed Beep self.old self.new result }
     {
         match self.bell_style {
             BellStyle::Audible => answer(send_flushed(&mut self.sink, b"\x07")),
@@ -168,22 +154,15 @@ impl<D: Sink> ScreenRenderer<D> {
 
     /// Goes to the display's first cell and erases all.
     pub fn clear_screen(&mut self) -> Result<(), ReadlineError>
-        ensures sent { OnOk result (Takes D.told D.held (sink_of self.old) (sink_of self.new) (bytes_of (screen_of self.old) ClearScreen)) }
-        ensures works { OnOk result (D.has_failed (sink_of self.new) ≡ D.has_failed (sink_of self.old)) }
-        ensures refusal { IfErr result (λ e. e ≡ Display) }
-        ensures err { OnErr result (IsTrue (D.has_failed (sink_of self.new))) }
-        ensures screen { screen_of self.new ≡ screen_of self.old }
+        ensures { MakesCall D.told D.held D.has_failed ClearScreen self.old self.new result }
     {
         answer(send_flushed(&mut self.sink, b"\x1B[H\x1B[J"))
     }
 
     /// Goes to the first row of a drawing and erases all from there on.
     pub fn clear_rows(&mut self, layout: &Layout) -> Result<(), ReadlineError>
-        ensures sent { OnOk result (Takes D.told D.held (sink_of self.old) (sink_of self.new) (bytes_of (screen_of self.old) (ClearRows layout.now.cursor.row))) }
-        ensures works { OnOk result (D.has_failed (sink_of self.new) ≡ D.has_failed (sink_of self.old)) }
-        ensures refusal { IfErr result (λ e. e ≡ Display) }
-        ensures err { OnErr result (IsTrue (D.has_failed (sink_of self.new))) }
-        ensures screen { screen_of self.new ≡ screen_of self.old }
+        ensures { MakesCall D.told D.held D.has_failed (ClearRows layout.now.cursor.row)
+            self.old self.new result }
     {
         let row = layout.cursor.row;
         answer(clear(&mut self.sink, row))
@@ -191,11 +170,7 @@ impl<D: Sink> ScreenRenderer<D> {
 
     /// Erases from the cursor to the end of its row.
     pub fn clear_to_eol(&mut self) -> Result<(), ReadlineError>
-        ensures sent { OnOk result (Takes D.told D.held (sink_of self.old) (sink_of self.new) (bytes_of (screen_of self.old) ClearToEol)) }
-        ensures works { OnOk result (D.has_failed (sink_of self.new) ≡ D.has_failed (sink_of self.old)) }
-        ensures refusal { IfErr result (λ e. e ≡ Display) }
-        ensures err { OnErr result (IsTrue (D.has_failed (sink_of self.new))) }
-        ensures screen { screen_of self.new ≡ screen_of self.old }
+        ensures { MakesCall D.told D.held D.has_failed ClearToEol self.old self.new result }
     {
         answer(send_flushed(&mut self.sink, b"\x1B[K"))
     }

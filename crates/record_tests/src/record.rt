@@ -1,12 +1,13 @@
-//! The kill ring, and a line with its undo record.
+//! A line with its undo record, and with a kill ring. A row is a call, and behind `=` what it answers and the line then,
+//! with `|` at the cursor. `line` begins with another line and a record in which nothing stands.
 
 ghost use Rattle.line_record.specs.Items.{ItemsStand};
 ghost use Rattle.line_record.specs.Props.{ItemsStand-prop};
 
-use line_buffer::{
-    DeleteListener, Direction, LineBuffer, Mode, NoListener, OutOfMemory, WordAction,
-};
+use line_buffer::{DeleteListener, LineBuffer, OutOfMemory, WordAction};
 use line_record::{Changeset, Joined, KillRing};
+use stand_ins::lines::{line_of, shown_of};
+use stand_ins::tables::{call_and_answer, word_and_rest};
 use std::alloc::Global;
 use std::process::Abort;
 use std::test::Fail;
@@ -21,9 +22,9 @@ struct Desk {
 }
 
 impl Desk {
-    fn new(alloc: Global, text: &str) -> Result<Self, OutOfMemory> {
-        let mut line = LineBuffer::with_capacity(alloc, 8)?.can_growth(true);
-        line.replace(alloc, 0..0, text, &mut NoListener)?;
+    /// A line that a table shows, and nothing in its record.
+    fn new(alloc: Global, shown: &str) -> Result<Self, OutOfMemory> {
+        let line = line_of(alloc, shown)?;
         let changes = Changeset::new(alloc)?;
         Ok(Desk {
             line,
@@ -32,6 +33,7 @@ impl Desk {
         })
     }
 
+    /// Types the characters one by one.
     fn put(&mut self, text: &str) -> Result<(), OutOfMemory> {
         for c in text.chars() {
             put_char(self.alloc, &mut self.line, &mut self.changes, c)?;
@@ -51,7 +53,7 @@ impl Desk {
         take_after(self.alloc, &mut self.line, &mut self.changes, n)
     }
 
-    fn raise(&mut self) -> Result<(), OutOfMemory> {
+    fn upcase(&mut self) -> Result<(), OutOfMemory> {
         raise(self.alloc, &mut self.line, &mut self.changes)
     }
 
@@ -70,6 +72,45 @@ impl Desk {
 
     fn redo(&mut self) -> Result<bool, OutOfMemory> {
         self.changes.redo(self.alloc, &mut self.line)
+    }
+
+    /// Makes a call; edits and motions answer nothing here.
+    fn ask(&mut self, call: &str, text: &str) -> Result<Option<bool>, Fail> {
+        match call {
+            "end" => return Ok(Some(self.end()?)),
+            "undo" => return Ok(Some(self.undo(text.parse()?)?)),
+            "redo" => return Ok(Some(self.redo()?)),
+            "line" => {}
+            "put" => self.put(text)?,
+            "paste" => self.paste(text)?,
+            "backspace" => self.backspace(text.parse()?)?,
+            "delete" => self.delete(text.parse()?)?,
+            "upcase" => self.upcase()?,
+            "to_start" => {
+                self.line.move_buffer_start();
+            }
+            "to_end" => {
+                self.line.move_buffer_end();
+            }
+            other => return Err(Fail::new(format_args!("no call: {other}"))),
+        }
+        Ok(None)
+    }
+
+    /// Makes a call, and answers what it answers and the line then.
+    fn step(&mut self, call: &str, text: &str) -> Result<String, Fail> {
+        let alloc = self.alloc;
+        if call == "begin" {
+            let before = self.begin()?;
+            let shown = shown_of(alloc, &self.line)?;
+            return Ok(format!(in alloc; "{before} {shown}")?);
+        }
+        let answer = self.ask(call, text)?;
+        let shown = shown_of(alloc, &self.line)?;
+        match answer {
+            Some(answer) => Ok(format!(in alloc; "{answer} {shown}")?),
+            None => Ok(shown),
+        }
     }
 }
 
@@ -138,248 +179,147 @@ fn raise(alloc: Global, line: &mut LineBuffer, changes: &mut Changeset) -> Resul
     Ok(())
 }
 
-#[test]
-fn kills_yanked_in_turn(rt: HostRuntime) -> Result<(), Fail> {
-    let alloc = rt.alloc();
-    let mut ring = KillRing::new(alloc, 2)?;
-    ring.kill(alloc, "ab", Mode::Append)?;
-    ring.reset();
-    ring.kill(alloc, "c", Mode::Append)?;
-    assert_eq!(rt; ring.yank_pop(), None);
-    assert_eq!(rt; ring.yank(), Some("c"));
-    assert_eq!(rt; ring.yank_pop(), Some((1, "ab")));
-    assert_eq!(rt; ring.yank_pop(), Some((2, "c")));
-    ring.kill(alloc, "d", Mode::Append)?;
-    assert_eq!(rt; ring.yank(), Some("d"));
-    assert_eq!(rt; ring.yank_pop(), Some((1, "c")));
-    Ok(())
-}
-
-#[test]
-fn kills_joined(rt: HostRuntime) -> Result<(), Fail> {
-    let alloc = rt.alloc();
-    let mut ring = KillRing::new(alloc, 3)?;
-    ring.kill(alloc, "b", Mode::Append)?;
-    ring.kill(alloc, "a", Mode::Prepend)?;
-    ring.kill(alloc, "c", Mode::Append)?;
-    assert_eq!(rt; ring.yank(), Some("abc"));
-    ring.delete(alloc, 0, "x", Direction::Forward)?;
-    assert_eq!(rt; ring.yank(), Some("abc"));
-    ring.start_killing();
-    ring.delete(alloc, 0, "x", Direction::Forward)?;
-    ring.delete(alloc, 0, "y", Direction::Backward)?;
-    ring.stop_killing();
-    assert_eq!(rt; ring.yank(), Some("yx"));
-    Ok(())
-}
-
-#[test]
-fn small_and_large_rings(rt: HostRuntime) -> Result<(), Fail> {
-    let alloc = rt.alloc();
-    let mut none = KillRing::new(alloc, 0)?;
-    none.kill(alloc, "a", Mode::Append)?;
-    assert_eq!(rt; none.yank(), None);
-    assert_eq!(rt; none.yank_pop(), None);
-
-    let mut one = KillRing::new(alloc, 1)?;
-    for text in ["a", "b"] {
-        one.reset();
-        one.kill(alloc, text, Mode::Append)?;
+/// Makes each row's call.
+fn plays(rt: &(impl AllocGlobal + Abort), rows: &str) -> Result<(), Fail> {
+    let mut desk = Desk::new(rt.alloc(), "")?;
+    for row in rows.lines() {
+        let Some((call, want)) = call_and_answer(row) else {
+            continue;
+        };
+        let (call, text) = word_and_rest(call);
+        if call == "line" {
+            desk = Desk::new(rt.alloc(), text)?;
+        }
+        let shown = desk.step(call, text)?;
+        assert_eq!(rt; shown.as_str(), want, "{row}");
     }
-    assert_eq!(rt; one.yank(), Some("b"));
-    assert_eq!(rt; one.yank_pop(), Some((1, "b")));
-
-    let mut many = KillRing::new(alloc, 60)?;
-    for n in 0..61 {
-        many.reset();
-        let text = format!(in alloc; "{n}")?;
-        many.kill(alloc, text.as_str(), Mode::Append)?;
-    }
-    assert_eq!(rt; many.yank(), Some("60"));
-    assert_eq!(rt; many.yank_pop(), Some((2, "59")));
-    for _ in 0..58 {
-        assert!(rt; many.yank_pop().is_some());
-    }
-    assert_eq!(rt; many.yank_pop(), Some((1, "60")));
     Ok(())
 }
 
 #[test]
 fn typed_words_undone(rt: HostRuntime) -> Result<(), Fail> {
-    let alloc = rt.alloc();
-    let mut desk = Desk::new(alloc, "")?;
-    desk.put("ab c")?;
-    assert!(rt; desk.undo(1)?);
-    assert_eq!(rt; desk.line.as_str(), "ab");
-    assert_eq!(rt; desk.line.pos(), 2);
-    assert!(rt; desk.undo(1)?);
-    assert_eq!(rt; desk.line.as_str(), "");
-    assert_eq!(rt; desk.line.pos(), 0);
-    assert!(rt; !desk.undo(1)?);
+    plays(
+        &rt,
+        "
+        put ab c = ab c|
+        undo 1 = true ab|
+        undo 1 = true |
+        undo 1 = false |
 
-    let mut all = Desk::new(alloc, "")?;
-    all.put("ab c")?;
-    assert!(rt; all.undo(9)?);
-    assert_eq!(rt; all.line.as_str(), "");
-    assert!(rt; all.redo()?);
-    assert_eq!(rt; all.line.as_str(), "ab");
-    assert_eq!(rt; all.line.pos(), 2);
-    assert!(rt; all.redo()?);
-    assert_eq!(rt; all.line.as_str(), "ab c");
-    assert!(rt; !all.redo()?);
-    assert!(rt; all.undo(0)?);
-    assert_eq!(rt; all.line.as_str(), "ab");
-    Ok(())
+        line | = |
+        put ab c = ab c|
+        undo 9 = true |
+        redo = true ab|
+        redo = true ab c|
+        redo = false ab c|
+        undo 0 = true ab|
+        ",
+    )
 }
 
 #[test]
 fn joins_at_each_edge(rt: HostRuntime) -> Result<(), Fail> {
-    let alloc = rt.alloc();
-    let mut desk = Desk::new(alloc, "abcd")?;
-    assert!(rt; desk.line.as_str().is_char_boundary(3));
-    desk.line.set_pos(3);
-    desk.backspace(1)?;
-    desk.backspace(1)?;
-    desk.delete(1)?;
-    assert_eq!(rt; desk.line.as_str(), "a");
-    assert!(rt; desk.undo(1)?);
-    assert_eq!(rt; desk.line.as_str(), "abcd");
-    assert_eq!(rt; desk.line.pos(), 4);
-    assert!(rt; desk.redo()?);
-    assert_eq!(rt; desk.line.as_str(), "a");
-    assert_eq!(rt; desk.line.pos(), 1);
+    plays(
+        &rt,
+        "
+        line abc|d = abc|d
+        backspace 1 = ab|d
+        backspace 1 = a|d
+        delete 1 = a|
+        undo 1 = true abcd|
+        redo = true a|
 
-    let mut two = Desk::new(alloc, "abc")?;
-    two.line.move_buffer_end();
-    two.backspace(1)?;
-    two.backspace(2)?;
-    assert!(rt; two.undo(1)?);
-    assert_eq!(rt; two.line.as_str(), "ab");
-    Ok(())
+        line abc| = abc|
+        backspace 1 = ab|
+        backspace 2 = |
+        undo 1 = true ab|
+        ",
+    )
 }
 
 #[test]
 fn pasted_text_joined_by_typing(rt: HostRuntime) -> Result<(), Fail> {
-    let alloc = rt.alloc();
-    let mut pasted = Desk::new(alloc, "")?;
-    pasted.put("a")?;
-    pasted.paste("b")?;
-    pasted.put("cß")?;
-    assert!(rt; pasted.undo(1)?);
-    assert_eq!(rt; pasted.line.as_str(), "a");
-    pasted.line.move_buffer_start();
-    pasted.put("x")?;
-    assert!(rt; !pasted.redo()?);
-    assert!(rt; pasted.undo(1)?);
-    assert_eq!(rt; pasted.line.as_str(), "a");
-    Ok(())
+    plays(
+        &rt,
+        "
+        put a = a|
+        paste b = ab|
+        put cß = abcß|
+        undo 1 = true a|
+        to_start = |a
+        put x = x|a
+        redo = false x|a
+        undo 1 = true |a
+        ",
+    )
 }
 
 #[test]
 fn groups_undone_as_one(rt: HostRuntime) -> Result<(), Fail> {
-    let alloc = rt.alloc();
-    let mut desk = Desk::new(alloc, "")?;
-    assert_eq!(rt; desk.begin()?, 0);
-    assert!(rt; !desk.end()?);
-    assert!(rt; !desk.undo(1)?);
+    plays(
+        &rt,
+        "
+        begin = 0 |
+        end = false |
+        undo 1 = false |
 
-    desk.put("a")?;
-    assert_eq!(rt; desk.begin()?, 1);
-    desk.put("b")?;
-    assert_eq!(rt; desk.begin()?, 3);
-    desk.put("c")?;
-    assert!(rt; desk.end()?);
-    assert!(rt; !desk.end()?);
-    assert_eq!(rt; desk.begin()?, 2);
-    assert!(rt; !desk.end()?);
-    desk.put("d")?;
-    assert!(rt; desk.undo(1)?);
-    assert_eq!(rt; desk.line.as_str(), "abc");
-    assert!(rt; desk.undo(1)?);
-    assert_eq!(rt; desk.line.as_str(), "a");
-    assert_eq!(rt; desk.line.pos(), 1);
-    assert!(rt; desk.redo()?);
-    assert_eq!(rt; desk.line.as_str(), "abc");
-    assert_eq!(rt; desk.line.pos(), 3);
-    assert!(rt; desk.undo(2)?);
-    assert_eq!(rt; desk.line.as_str(), "");
-    Ok(())
+        put a = a|
+        begin = 1 a|
+        put b = ab|
+        begin = 3 ab|
+        put c = abc|
+        end = true abc|
+        end = false abc|
+        begin = 2 abc|
+        end = false abc|
+        put d = abcd|
+        undo 1 = true abc|
+        undo 1 = true a|
+        redo = true abc|
+        undo 2 = true |
+        ",
+    )
 }
 
 #[test]
 fn open_marks_undone(rt: HostRuntime) -> Result<(), Fail> {
-    let alloc = rt.alloc();
-    let mut desk = Desk::new(alloc, "")?;
-    desk.put("a")?;
-    desk.begin()?;
-    desk.put("b")?;
-    assert!(rt; desk.undo(1)?);
-    assert_eq!(rt; desk.line.as_str(), "a");
-    assert!(rt; !desk.undo(1)?);
-    assert!(rt; !desk.redo()?);
-    assert!(rt; desk.redo()?);
-    assert_eq!(rt; desk.line.as_str(), "ab");
-    Ok(())
+    plays(
+        &rt,
+        "
+        put a = a|
+        begin = 1 a|
+        put b = ab|
+        undo 1 = true a|
+        undo 1 = false a|
+        redo = false a|
+        redo = true ab|
+        ",
+    )
 }
 
 #[test]
 fn each_kind_made_anew(rt: HostRuntime) -> Result<(), Fail> {
-    let alloc = rt.alloc();
-    let mut desk = Desk::new(alloc, "one two")?;
-    desk.line.move_buffer_start();
-    desk.raise()?;
-    assert!(rt; desk.undo(1)?);
-    assert_eq!(rt; desk.line.as_str(), "one two");
-    assert_eq!(rt; desk.line.pos(), 3);
-    desk.line.move_buffer_start();
-    assert!(rt; desk.redo()?);
-    assert_eq!(rt; desk.line.as_str(), "ONE two");
-    assert_eq!(rt; desk.line.pos(), 3);
+    plays(
+        &rt,
+        "
+        line |one two = |one two
+        upcase = ONE| two
+        undo 1 = true one| two
+        to_start = |one two
+        redo = true ONE| two
 
-    desk.line.move_buffer_end();
-    desk.paste("!!")?;
-    desk.backspace(1)?;
-    assert!(rt; desk.undo(2)?);
-    assert_eq!(rt; desk.line.as_str(), "ONE two");
-    assert_eq!(rt; desk.line.pos(), 7);
-    assert!(rt; desk.redo()?);
-    assert_eq!(rt; desk.line.as_str(), "ONE two!!");
-    assert_eq!(rt; desk.line.pos(), 9);
-    assert!(rt; desk.redo()?);
-    assert_eq!(rt; desk.line.as_str(), "ONE two!");
-    assert_eq!(rt; desk.line.pos(), 8);
-    assert!(rt; !desk.redo()?);
+        to_end = ONE two|
+        paste !! = ONE two!!|
+        backspace 1 = ONE two!|
+        undo 2 = true ONE two|
+        redo = true ONE two!!|
+        redo = true ONE two!|
+        redo = false ONE two!|
 
-    assert!(rt; desk.undo(u16::MAX)?);
-    assert_eq!(rt; desk.line.as_str(), "one two");
-    assert!(rt; !desk.undo(u16::MAX)?);
-    Ok(())
-}
-
-#[test]
-fn changes_recorded_by_themselves(rt: HostRuntime) -> Result<(), Fail> {
-    let alloc = rt.alloc();
-    let mut changes = Changeset::new(alloc)?;
-    assert!(rt; changes.last_insert(alloc)?.is_none());
-    changes.insert(alloc, 0, 'a')?;
-    changes.insert(alloc, 1, 'b')?;
-    assert_eq!(rt; changes.last_insert_text(), Some("ab"));
-    assert_eq!(rt; changes.begin(alloc)?, 1);
-    assert_eq!(rt; changes.last_insert_text(), None);
-    changes.replace(alloc, 0, "ab", "xyz")?;
-    changes.replace(alloc, 3, "", "!")?;
-    changes.insert_str(alloc, 4, "")?;
-    changes.delete(alloc, 4, "")?;
-    changes.replace(alloc, 4, "", "")?;
-    assert!(rt; changes.end(alloc)?);
-    assert_eq!(rt; changes.last_insert_text(), Some("xyz!"));
-    let copy = changes.try_clone(alloc)?;
-    changes.delete(alloc, 0, "x")?;
-    assert_eq!(rt; changes.last_insert_text(), None);
-    changes.truncate(1);
-    assert_eq!(rt; changes.last_insert_text(), Some("ab"));
-    assert_eq!(rt; copy.last_insert_text(), Some("xyz!"));
-    Ok(())
+        undo 65535 = true one| two
+        undo 65535 = false one| two
+        ",
+    )
 }
 
 #[test]
@@ -387,15 +327,14 @@ fn ring_and_record_told_together(rt: HostRuntime) -> Result<(), Fail> {
     let alloc = rt.alloc();
     let mut ring = KillRing::new(alloc, 2)?;
     let mut changes = Changeset::new(alloc)?;
-    let mut line = LineBuffer::with_capacity(alloc, 8)?.can_growth(true);
-    line.replace(alloc, 0..0, "one two", &mut NoListener)?;
+    let mut line = line_of(alloc, "one two|")?;
     {
         let mut both = Joined {
             first: &mut ring,
             second: &mut changes,
         };
         both.start_killing();
-        assert!(rt; line.kill_buffer(alloc, &mut both)? || line.is_cursor_at_end());
+        assert!(rt; !line.kill_buffer(alloc, &mut both)?);
         line.move_buffer_start();
         assert!(rt; line.kill_buffer(alloc, &mut both)?);
         both.stop_killing();

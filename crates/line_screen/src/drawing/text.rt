@@ -7,7 +7,8 @@ ghost use Rattle.line_screen.specs.Display.{is_printable};
 ghost use Rattle.line_screen.specs.Drawing.{item_of, row_items, next_items, text_items, break_if, break_unless, left_col, fitted_col, fenced, sent_one, col_after_one, sent, col_after};
 ghost use Rattle.line_screen.specs.Drawing.Item.{Letter, Cluster};
 ghost use Rattle.line_screen.specs.Measure.{cluster_width};
-ghost use Rattle.line_screen.specs.Sending.{Takes};
+ghost use Rattle.line_config.specs.Sending.{Sends};
+ghost use Rattle.line_screen.specs.Sending.{SendsTo, SendsItems};
 
 use crate::drawing::sequences::send;
 use crate::grid::{Grid, is_letter};
@@ -18,11 +19,9 @@ use unicode_segmentation::UnicodeSegmentation;
 /// Leaves a full row. Answers the column, as each function here does.
 fn leave_full<D: Sink>(sink: &mut D, grid: Grid, col: Unit) -> Result<Unit, DeviceFailed>
     requires inside { col ≤ grid.columns }
-    ensures sent { OnOk result (Takes D.told D.held sink.old sink.new (break_if (col == grid.columns))) }
-    ensures next { IfOk result (λ c. c ≡ left_col grid.columns col) }
-    ensures inside { IfOk result (λ c. c < grid.columns) }
-    ensures works { OnOk result (D.has_failed sink.new ≡ D.has_failed sink.old) }
-    ensures err { OnErr result (IsTrue (D.has_failed sink.new)) }
+    ensures { SendsTo (break_if (col == grid.columns))
+        (left_col grid.columns col)
+        grid.columns D.told D.held D.has_failed sink.old sink.new result }
 {
     if col == grid.columns {
         send(sink, b"\r\n")?;
@@ -40,11 +39,10 @@ fn make_room<D: Sink>(
 ) -> Result<Unit, DeviceFailed>
     requires inside { col < grid.columns }
     requires narrow { width ≤ grid.columns }
-    ensures sent { OnOk result (Takes D.told D.held sink.old sink.new (break_unless (nat_le (col + width) grid.columns))) }
+    ensures sends { Sends D.told D.held D.has_failed
+        (break_unless (nat_le (col + width) grid.columns)) sink.old sink.new result }
     ensures next { IfOk result (λ c. c ≡ fitted_col grid.columns width col) }
     ensures room { IfOk result (λ c. c + width ≤ grid.columns) }
-    ensures works { OnOk result (D.has_failed sink.new ≡ D.has_failed sink.old) }
-    ensures err { OnErr result (IsTrue (D.has_failed sink.new)) }
 {
     if col + width <= grid.columns {
         return Ok(col);
@@ -55,9 +53,7 @@ fn make_room<D: Sink>(
 
 /// The text of a cluster between two sequences that change nothing.
 fn send_fenced<D: Sink>(sink: &mut D, cluster: &str) -> Result<(), DeviceFailed>
-    ensures sent { OnOk result (Takes D.told D.held sink.old sink.new (fenced cluster.now)) }
-    ensures works { OnOk result (D.has_failed sink.new ≡ D.has_failed sink.old) }
-    ensures err { OnErr result (IsTrue (D.has_failed sink.new)) }
+    ensures { Sends D.told D.held D.has_failed (fenced cluster.now) sink.old sink.new result }
 {
     send(sink, b"\x1B[m")?;
     send(sink, cluster.as_bytes())?;
@@ -73,11 +69,9 @@ fn send_wide<D: Sink>(
 ) -> Result<Unit, DeviceFailed>
     requires inside { col < grid.columns }
     requires narrow { width ≤ grid.columns }
-    ensures sent { OnOk result (Takes D.told D.held sink.old sink.new (sent_one grid.columns (Cluster cluster.now width) col)) }
-    ensures next { IfOk result (λ c. c ≡ col_after_one grid.columns (Cluster cluster.now width) col) }
-    ensures inside { IfOk result (λ c. c < grid.columns) }
-    ensures works { OnOk result (D.has_failed sink.new ≡ D.has_failed sink.old) }
-    ensures err { OnErr result (IsTrue (D.has_failed sink.new)) }
+    ensures { SendsTo (sent_one grid.columns (Cluster cluster.now width) col)
+        (col_after_one grid.columns (Cluster cluster.now width) col)
+        grid.columns D.told D.held D.has_failed sink.old sink.new result }
 {
     let start = make_room(sink, grid, col, width)?;
     send_fenced(sink, cluster)?;
@@ -93,11 +87,8 @@ fn send_run<D: Sink>(
 ) -> Result<Unit, DeviceFailed>
     requires inside { col < grid.columns }
     requires room { col + length letters.now ≤ grid.columns }
-    ensures sent { OnOk result (Takes D.told D.held sink.old sink.new (sent grid.columns (map Letter letters.now) col)) }
-    ensures next { IfOk result (λ c. c ≡ col_after grid.columns (map Letter letters.now) col) }
-    ensures inside { IfOk result (λ c. c < grid.columns) }
-    ensures works { OnOk result (D.has_failed sink.new ≡ D.has_failed sink.old) }
-    ensures err { OnErr result (IsTrue (D.has_failed sink.new)) }
+    ensures { SendsItems (map Letter letters.now) col
+        grid.columns D.told D.held D.has_failed sink.old sink.new result }
 {
     send(sink, letters)?;
     leave_full(sink, grid, col + letters.len() as Unit)
@@ -111,11 +102,11 @@ fn send_cluster<D: Sink>(
     cluster: &str,
 ) -> Result<Unit, DeviceFailed>
     requires inside { col < grid.columns }
-    ensures sent { OnOk result (Takes D.told D.held sink.old sink.new (sent_one grid.columns (item_of (cluster_width grid.mode grid.columns) cluster.now) col)) }
-    ensures next { IfOk result (λ c. c ≡ col_after_one grid.columns (item_of (cluster_width grid.mode grid.columns) cluster.now) col) }
-    ensures inside { IfOk result (λ c. c < grid.columns) }
-    ensures works { OnOk result (D.has_failed sink.new ≡ D.has_failed sink.old) }
-    ensures err { OnErr result (IsTrue (D.has_failed sink.new)) }
+    ensures { SendsTo (sent_one grid.columns
+        (item_of (cluster_width grid.mode grid.columns) cluster.now) col)
+        (col_after_one grid.columns
+        (item_of (cluster_width grid.mode grid.columns) cluster.now) col)
+        grid.columns D.told D.held D.has_failed sink.old sink.new result }
 {
     if is_letter(cluster) {
         return send_run(sink, grid, col, cluster.as_bytes());
@@ -133,11 +124,8 @@ fn send_letters<D: Sink>(
     letters: &[u8],
 ) -> Result<Unit, DeviceFailed>
     requires inside { start < grid.columns }
-    ensures sent { OnOk result (Takes D.told D.held sink.old sink.new (sent grid.columns (map Letter letters.now) start)) }
-    ensures next { IfOk result (λ c. c ≡ col_after grid.columns (map Letter letters.now) start) }
-    ensures inside { IfOk result (λ c. c < grid.columns) }
-    ensures works { OnOk result (D.has_failed sink.new ≡ D.has_failed sink.old) }
-    ensures err { OnErr result (IsTrue (D.has_failed sink.new)) }
+    ensures { SendsItems (map Letter letters.now) start
+        grid.columns D.told D.held D.has_failed sink.old sink.new result }
 {
     let mut col = start;
     let mut rest = letters;
@@ -157,11 +145,9 @@ fn send_clusters<D: Sink>(
     row: &str,
 ) -> Result<Unit, DeviceFailed>
     requires inside { start < grid.columns }
-    ensures sent { OnOk result (Takes D.told D.held sink.old sink.new (sent grid.columns (map (item_of (cluster_width grid.mode grid.columns)) (graphemes true row.now)) start)) }
-    ensures next { IfOk result (λ c. c ≡ col_after grid.columns (map (item_of (cluster_width grid.mode grid.columns)) (graphemes true row.now)) start) }
-    ensures inside { IfOk result (λ c. c < grid.columns) }
-    ensures works { OnOk result (D.has_failed sink.new ≡ D.has_failed sink.old) }
-    ensures err { OnErr result (IsTrue (D.has_failed sink.new)) }
+    ensures { SendsItems (map (item_of (cluster_width grid.mode grid.columns))
+        (graphemes true row.now)) start
+        grid.columns D.told D.held D.has_failed sink.old sink.new result }
 {
     let mut col = start;
     for cluster in row.graphemes(true) {
@@ -173,11 +159,8 @@ fn send_clusters<D: Sink>(
 /// A row of the text: by characters where all are printable ASCII, else by clusters.
 fn send_row<D: Sink>(sink: &mut D, grid: Grid, start: Unit, row: &str) -> Result<Unit, DeviceFailed>
     requires inside { start < grid.columns }
-    ensures sent { OnOk result (Takes D.told D.held sink.old sink.new (sent grid.columns (row_items (cluster_width grid.mode grid.columns) row.now) start)) }
-    ensures next { IfOk result (λ c. c ≡ col_after grid.columns (row_items (cluster_width grid.mode grid.columns) row.now) start) }
-    ensures inside { IfOk result (λ c. c < grid.columns) }
-    ensures works { OnOk result (D.has_failed sink.new ≡ D.has_failed sink.old) }
-    ensures err { OnErr result (IsTrue (D.has_failed sink.new)) }
+    ensures { SendsItems (row_items (cluster_width grid.mode grid.columns) row.now) start
+        grid.columns D.told D.held D.has_failed sink.old sink.new result }
 {
     if is_printable_text(row) {
         send_letters(sink, grid, start, row.as_bytes())
@@ -194,11 +177,8 @@ fn send_next_row<D: Sink>(
     row: &str,
 ) -> Result<Unit, DeviceFailed>
     requires inside { start < grid.columns }
-    ensures sent { OnOk result (Takes D.told D.held sink.old sink.new (sent grid.columns (next_items (cluster_width grid.mode grid.columns) is_first row.now) start)) }
-    ensures next { IfOk result (λ c. c ≡ col_after grid.columns (next_items (cluster_width grid.mode grid.columns) is_first row.now) start) }
-    ensures inside { IfOk result (λ c. c < grid.columns) }
-    ensures works { OnOk result (D.has_failed sink.new ≡ D.has_failed sink.old) }
-    ensures err { OnErr result (IsTrue (D.has_failed sink.new)) }
+    ensures { SendsItems (next_items (cluster_width grid.mode grid.columns) is_first row.now) start
+        grid.columns D.told D.held D.has_failed sink.old sink.new result }
 {
     if is_first {
         return send_row(sink, grid, start, row);
@@ -215,11 +195,8 @@ pub(crate) fn send_text<D: Sink>(
     text: &str,
 ) -> Result<Unit, DeviceFailed>
     requires inside { start < grid.columns }
-    ensures sent { OnOk result (Takes D.told D.held sink.old sink.new (sent grid.columns (text_items (cluster_width grid.mode grid.columns) text.now) start)) }
-    ensures next { IfOk result (λ c. c ≡ col_after grid.columns (text_items (cluster_width grid.mode grid.columns) text.now) start) }
-    ensures inside { IfOk result (λ c. c < grid.columns) }
-    ensures works { OnOk result (D.has_failed sink.new ≡ D.has_failed sink.old) }
-    ensures err { OnErr result (IsTrue (D.has_failed sink.new)) }
+    ensures { SendsItems (text_items (cluster_width grid.mode grid.columns) text.now) start
+        grid.columns D.told D.held D.has_failed sink.old sink.new result }
 {
     let mut col = start;
     let mut is_first = true;

@@ -4,7 +4,8 @@ ghost use Rattle.std.specs.Prelude.{◌≡◌, ◌<◌, ◌++◌, [], IsTrue, On
 ghost use Rattle.line_screen.specs.Drawing.{plain, sent, col_after, text_items, shown_text, drawing};
 ghost use Rattle.line_screen.specs.Calls.{drawing_bytes};
 ghost use Rattle.line_screen.specs.Measure.{cluster_width};
-ghost use Rattle.line_screen.specs.Sending.{Takes};
+ghost use Rattle.line_config.specs.Sending.{Sends};
+ghost use Rattle.line_screen.specs.Sending.{SendsTo};
 
 use crate::drawing::sequences::{flush, send, send_cleared, send_move};
 use crate::drawing::text::send_text;
@@ -28,11 +29,11 @@ fn send_part<D: Sink>(
     text: &str,
 ) -> Result<Unit, DeviceFailed>
     requires inside { start < grid.columns }
-    ensures sent { OnOk result (Takes D.told D.held sink.old sink.new (plain ++ sent grid.columns (text_items (cluster_width grid.mode grid.columns) text.now) start)) }
-    ensures next { IfOk result (λ c. c ≡ col_after grid.columns (text_items (cluster_width grid.mode grid.columns) text.now) start) }
-    ensures inside { IfOk result (λ c. c < grid.columns) }
-    ensures works { OnOk result (D.has_failed sink.new ≡ D.has_failed sink.old) }
-    ensures err { OnErr result (IsTrue (D.has_failed sink.new)) }
+    ensures { SendsTo
+        (plain ++ sent grid.columns
+        (text_items (cluster_width grid.mode grid.columns) text.now) start)
+        (col_after grid.columns (text_items (cluster_width grid.mode grid.columns) text.now) start)
+        grid.columns D.told D.held D.has_failed sink.old sink.new result }
 {
     send(sink, b"\x1B[m")?;
     send_text(sink, grid, start, text)
@@ -40,9 +41,10 @@ fn send_part<D: Sink>(
 
 /// The three texts, each from where the one before ends.
 fn send_shown<D: Sink>(sink: &mut D, grid: Grid, texts: Texts) -> Result<(), DeviceFailed>
-    ensures sent { OnOk result (Takes D.told D.held sink.old sink.new (shown_text grid.columns (cluster_width grid.mode grid.columns) texts.entry.prompt.now texts.entry.line.now texts.entry.info.now)) }
-    ensures works { OnOk result (D.has_failed sink.new ≡ D.has_failed sink.old) }
-    ensures err { OnErr result (IsTrue (D.has_failed sink.new)) }
+    ensures { Sends D.told D.held D.has_failed
+        (shown_text grid.columns (cluster_width grid.mode grid.columns)
+        texts.entry.prompt.now texts.entry.line.now texts.entry.info.now)
+        sink.old sink.new result }
 {
     let prompt_end = send_part(sink, grid, 0, texts.prompt)?;
     let line_end = send_part(sink, grid, prompt_end, texts.line)?;
@@ -58,16 +60,17 @@ pub(crate) fn send_drawing<D: Sink>(
     end: Position,
     cursor: Position,
 ) -> Result<(), DeviceFailed>
-    ensures sent { OnOk result (Takes D.told D.held sink.old sink.new (drawing grid.columns (cluster_width grid.mode grid.columns) texts.entry.prompt.now texts.entry.line.now texts.entry.info.now end cursor)) }
-    ensures works { OnOk result (D.has_failed sink.new ≡ D.has_failed sink.old) }
-    ensures err { OnErr result (IsTrue (D.has_failed sink.new)) }
+    ensures { Sends D.told D.held D.has_failed
+        (drawing grid.columns (cluster_width grid.mode grid.columns)
+        texts.entry.prompt.now texts.entry.line.now texts.entry.info.now end cursor)
+        sink.old sink.new result }
 {
     send_shown(sink, grid, texts)?;
     send_move(sink, end, cursor)
 }
 
-/// A whole drawing, passed on: in the place of one whose cursor stands in its row `old_row`, or from
-/// the cursor on.
+/// A whole drawing, passed on: in the place of one whose cursor stands in its row `old_row`, or
+/// from the cursor on.
 pub(crate) fn draw<D: Sink>(
     sink: &mut D,
     grid: Grid,
@@ -76,9 +79,10 @@ pub(crate) fn draw<D: Sink>(
     end: Position,
     cursor: Position,
 ) -> Result<(), DeviceFailed>
-    ensures sent { OnOk result (Takes D.told D.held sink.old sink.new (drawing_bytes grid.columns (cluster_width grid.mode grid.columns) old_row texts.entry.prompt.now texts.entry.line.now texts.entry.info.now end cursor)) }
-    ensures works { OnOk result (D.has_failed sink.new ≡ D.has_failed sink.old) }
-    ensures err { OnErr result (IsTrue (D.has_failed sink.new)) }
+    ensures { Sends D.told D.held D.has_failed
+        (drawing_bytes grid.columns (cluster_width grid.mode grid.columns) old_row
+        texts.entry.prompt.now texts.entry.line.now texts.entry.info.now end cursor)
+        sink.old sink.new result }
 {
     if let Some(row) = old_row {
         send_cleared(sink, row)?;

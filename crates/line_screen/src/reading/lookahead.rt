@@ -1,12 +1,11 @@
 //! A source with one byte read ahead, and its characters.
 
-ghost use Rattle.std.specs.Prelude.{◌≡◌, ◌++◌, ◌<◌, ◌≤◌, ◌∷◌, [], Ok, Err, None, Some, IsTrue, IfOk, IfErr, IfSome, OnOk, OnErr, option_to_list, is_err, false};
-ghost use Rattle.line_config.specs.declared.device.Last.TheVariants.{End, Failed};
+ghost use Rattle.std.specs.Prelude.{◌≡◌, ◌<◌, ◌≤◌, ◌∷◌, [], Ok, Err, None, Some, IsTrue, IfOk, IfErr, OnOk, OnErr, false};
+ghost use Rattle.line_config.specs.declared.device.Last.TheVariants.{End};
 ghost use Rattle.line_config.specs.declared.errors.ReadlineError.TheVariants.{Eof, Reader};
 ghost use Rattle.line_config.specs.Refusals.{MetBy};
-ghost use Rattle.line_keys.specs.Faults.{IsReaderRefusal};
-ghost use Rattle.line_screen.specs.Input.{Next, Over, chars_of, in_char, char_at, behind_char, is_failure};
-ghost use Rattle.line_screen.specs.Unread.{unread, chars, bytes_bound};
+ghost use Rattle.line_screen.specs.Input.{chars_of, in_char, char_at, behind_char, is_failure};
+ghost use Rattle.line_screen.specs.Reading.{IsKeyRefusal, IsCut, ReadsByte, PeeksByte, ReadsChar};
 
 use crate::reading::utf8::Awaited;
 use line_config::{DeviceFailed, ReadlineError, Source};
@@ -19,26 +18,11 @@ pub(crate) struct Lookahead<S> {
 }
 
 impl<S: Source> Lookahead<S> {
+    ghost use Rattle.line_screen.specs.Unread.{ahead};
+
     /// The next byte: the one that is kept, where there is one.
     fn next_byte(&mut self) -> Result<Option<u8>, DeviceFailed>
-        ensures byte { IsTrue (S.told self.old.source)
-            → IfOk result (λ b. unread S.coming self.old ≡ option_to_list b ++ unread S.coming self.new) }
-        ensures end { IsTrue (S.told self.old.source) → result ≡ Ok None → unread S.coming self.old ≡ [] }
-        ensures ends { IsTrue (S.told self.old.source) → result ≡ Ok None → S.last self.old.source ≡ End }
-        ensures failing { IsTrue (S.told self.old.source) → IsTrue (S.steady self.old.source)
-            → OnErr result (unread S.coming self.old ≡ []) }
-        ensures fails { IsTrue (S.told self.old.source) → IsTrue (S.steady self.old.source)
-            → OnErr result (S.last self.old.source ≡ Failed) }
-        ensures spent { IsTrue (S.told self.old.source) → IsTrue (S.steady self.old.source)
-            → OnErr result (unread S.coming self.new ≡ []) }
-        ensures failure { S.has_failed self.old.source ≡ false → S.has_failed self.new.source ≡ is_err result }
-        ensures kept { self.new.kept ≡ None }
-        ensures reason { OnErr result (IsTrue (S.has_failed self.new.source)) }
-        ensures told { IsTrue (S.told self.old.source) → IsTrue (S.told self.new.source) }
-        ensures steady { S.steady self.new.source ≡ S.steady self.old.source }
-        ensures last { S.last self.new.source ≡ S.last self.old.source }
-        ensures falls { IfOk result (λ b. IfSome b (λ _. bytes_bound S.bound self.new < bytes_bound S.bound self.old)) }
-        ensures keeps { bytes_bound S.bound self.new ≤ bytes_bound S.bound self.old }
+        ensures { ReadsByte S.feed self.old self.new result }
     {
         match self.kept {
             Some(byte) => {
@@ -51,20 +35,7 @@ impl<S: Source> Lookahead<S> {
 
     /// The next byte, which stays unread.
     pub(crate) fn peek(&mut self) -> Result<Option<u8>, DeviceFailed>
-        ensures same { IsTrue (S.told self.old.source) → unread S.coming self.new ≡ unread S.coming self.old }
-        ensures kept { IfOk result (λ b. self.new.kept ≡ b) }
-        ensures end { IsTrue (S.told self.old.source) → result ≡ Ok None → unread S.coming self.old ≡ [] }
-        ensures ends { IsTrue (S.told self.old.source) → result ≡ Ok None → S.last self.old.source ≡ End }
-        ensures failing { IsTrue (S.told self.old.source) → IsTrue (S.steady self.old.source)
-            → OnErr result (unread S.coming self.old ≡ []) }
-        ensures fails { IsTrue (S.told self.old.source) → IsTrue (S.steady self.old.source)
-            → OnErr result (S.last self.old.source ≡ Failed) }
-        ensures failure { S.has_failed self.old.source ≡ false → S.has_failed self.new.source ≡ is_err result }
-        ensures reason { OnErr result (IsTrue (S.has_failed self.new.source)) }
-        ensures told { IsTrue (S.told self.old.source) → IsTrue (S.told self.new.source) }
-        ensures steady { S.steady self.new.source ≡ S.steady self.old.source }
-        ensures last { S.last self.new.source ≡ S.last self.old.source }
-        ensures keeps { bytes_bound S.bound self.new ≤ bytes_bound S.bound self.old }
+        ensures { PeeksByte S.feed self.old self.new result }
     {
         if self.kept.is_none() {
             self.kept = self.source.next_byte()?;
@@ -74,22 +45,34 @@ impl<S: Source> Lookahead<S> {
 
     /// A further byte of a character.
     fn further_byte(&mut self, awaited: Awaited) -> Result<u8, ReadlineError>
-        ensures ok { IsTrue (S.told self.old.source) → IfOk result (λ b. unread S.coming self.old ≡ b ∷ unread S.coming self.new) }
+        ensures ok { IsTrue (ahead S.feed self.old).told
+            → IfOk result (λ b. (ahead S.feed self.old).coming ≡ b
+            ∷ (ahead S.feed self.new).coming) }
         ensures least { IfOk result (λ b. awaited.least ≤ b) }
         ensures greatest { IfOk result (λ b. b ≤ awaited.greatest) }
-        ensures answer { IsTrue (S.told self.old.source) → MetBy (S.steady self.old.source) result
-            → IfErr result (λ e. char_at (in_char (Some awaited) (unread S.coming self.old) (S.last self.old.source)) ≡ Err e) }
-        ensures left { IsTrue (S.told self.old.source) → MetBy (S.steady self.old.source) result
-            → OnErr result (behind_char (in_char (Some awaited) (unread S.coming self.old) (S.last self.old.source)) ≡ unread S.coming self.new) }
+        ensures answer { IsTrue (ahead S.feed self.old).told
+            → MetBy (ahead S.feed self.old).steady result
+            → let bytes = (ahead S.feed self.old).coming in
+            let last = (ahead S.feed self.old).last in
+            IfErr result (λ e. char_at (in_char (Some awaited) bytes last) ≡ Err e) }
+        ensures left { IsTrue (ahead S.feed self.old).told
+            → MetBy (ahead S.feed self.old).steady result
+            → let bytes = (ahead S.feed self.old).coming in
+            let last = (ahead S.feed self.old).last in
+            OnErr result (behind_char (in_char (Some awaited) bytes last)
+            ≡ (ahead S.feed self.new).coming) }
+        ensures fault { IsTrue (ahead S.feed self.old).told → result ≡ Err Reader
+            → (ahead S.feed self.new).coming ≡ (ahead S.feed self.old).coming }
         ensures whole { result ≡ Err Eof → ⊥ }
-        ensures refused { IfErr result IsReaderRefusal }
-        ensures reason { result ≡ Err Reader → IsTrue (S.has_failed self.new.source) }
-        ensures failure { S.has_failed self.old.source ≡ false → S.has_failed self.new.source ≡ is_failure result }
+        ensures refused { IfErr result IsKeyRefusal }
+        ensures reason { result ≡ Err Reader → IsTrue (ahead S.feed self.new).failed }
+        ensures failure { (ahead S.feed self.old).failed ≡ false
+            → (ahead S.feed self.new).failed ≡ is_failure result }
         ensures kept { self.new.kept ≡ None }
-        ensures told { IsTrue (S.told self.old.source) → IsTrue (S.told self.new.source) }
-        ensures steady { S.steady self.new.source ≡ S.steady self.old.source }
-        ensures last { S.last self.new.source ≡ S.last self.old.source }
-        ensures keeps { bytes_bound S.bound self.new ≤ bytes_bound S.bound self.old }
+        ensures told { IsTrue (ahead S.feed self.old).told → IsTrue (ahead S.feed self.new).told }
+        ensures steady { (ahead S.feed self.new).steady ≡ (ahead S.feed self.old).steady }
+        ensures last { (ahead S.feed self.new).last ≡ (ahead S.feed self.old).last }
+        ensures keeps { (ahead S.feed self.new).bound ≤ (ahead S.feed self.old).bound }
     {
         match self.next_byte() {
             Ok(Some(byte)) if awaited.least <= byte && byte <= awaited.greatest => Ok(byte),
@@ -103,21 +86,10 @@ impl<S: Source> Lookahead<S> {
         requires count { awaited.more ≡ 0 }
         requires small { awaited.value < 1048576 }
         requires high { 0x80 ≤ awaited.least }
-        ensures ok { IsTrue (S.told self.old.source) → IfOk result (λ c.
-            in_char (Some awaited) (unread S.coming self.old) (S.last self.old.source) ≡ Next c (unread S.coming self.new) (chars S.coming S.last self.new)) }
-        ensures answer { IsTrue (S.told self.old.source) → MetBy (S.steady self.old.source) result
-            → result ≡ char_at (in_char (Some awaited) (unread S.coming self.old) (S.last self.old.source)) }
-        ensures left { IsTrue (S.told self.old.source) → MetBy (S.steady self.old.source) result
-            → behind_char (in_char (Some awaited) (unread S.coming self.old) (S.last self.old.source)) ≡ unread S.coming self.new }
+        ensures reads { ReadsChar S.feed (in_char (Some awaited)) self.old self.new result }
+        ensures cut { IsCut char_at (in_char (Some awaited))
+            (ahead S.feed self.old) (ahead S.feed self.new) result }
         ensures whole { result ≡ Err Eof → ⊥ }
-        ensures refused { IfErr result IsReaderRefusal }
-        ensures reason { result ≡ Err Reader → IsTrue (S.has_failed self.new.source) }
-        ensures failure { S.has_failed self.old.source ≡ false → S.has_failed self.new.source ≡ is_failure result }
-        ensures kept { self.new.kept ≡ None }
-        ensures told { IsTrue (S.told self.old.source) → IsTrue (S.told self.new.source) }
-        ensures steady { S.steady self.new.source ≡ S.steady self.old.source }
-        ensures last { S.last self.new.source ≡ S.last self.old.source }
-        ensures keeps { bytes_bound S.bound self.new ≤ bytes_bound S.bound self.old }
     {
         let byte = self.further_byte(awaited)?;
         match char::from_u32(awaited.value_with(byte)) {
@@ -131,21 +103,10 @@ impl<S: Source> Lookahead<S> {
         requires count { awaited.more ≡ 1 }
         requires small { awaited.value < 8192 }
         requires high { 0x80 ≤ awaited.least }
-        ensures ok { IsTrue (S.told self.old.source) → IfOk result (λ c.
-            in_char (Some awaited) (unread S.coming self.old) (S.last self.old.source) ≡ Next c (unread S.coming self.new) (chars S.coming S.last self.new)) }
-        ensures answer { IsTrue (S.told self.old.source) → MetBy (S.steady self.old.source) result
-            → result ≡ char_at (in_char (Some awaited) (unread S.coming self.old) (S.last self.old.source)) }
-        ensures left { IsTrue (S.told self.old.source) → MetBy (S.steady self.old.source) result
-            → behind_char (in_char (Some awaited) (unread S.coming self.old) (S.last self.old.source)) ≡ unread S.coming self.new }
+        ensures reads { ReadsChar S.feed (in_char (Some awaited)) self.old self.new result }
+        ensures cut { IsCut char_at (in_char (Some awaited))
+            (ahead S.feed self.old) (ahead S.feed self.new) result }
         ensures whole { result ≡ Err Eof → ⊥ }
-        ensures refused { IfErr result IsReaderRefusal }
-        ensures reason { result ≡ Err Reader → IsTrue (S.has_failed self.new.source) }
-        ensures failure { S.has_failed self.old.source ≡ false → S.has_failed self.new.source ≡ is_failure result }
-        ensures kept { self.new.kept ≡ None }
-        ensures told { IsTrue (S.told self.old.source) → IsTrue (S.told self.new.source) }
-        ensures steady { S.steady self.new.source ≡ S.steady self.old.source }
-        ensures last { S.last self.new.source ≡ S.last self.old.source }
-        ensures keeps { bytes_bound S.bound self.new ≤ bytes_bound S.bound self.old }
     {
         let byte = self.further_byte(awaited)?;
         self.one_more(awaited.after(byte))
@@ -156,21 +117,10 @@ impl<S: Source> Lookahead<S> {
         requires count { awaited.more ≡ 2 }
         requires small { awaited.value < 64 }
         requires high { 0x80 ≤ awaited.least }
-        ensures ok { IsTrue (S.told self.old.source) → IfOk result (λ c.
-            in_char (Some awaited) (unread S.coming self.old) (S.last self.old.source) ≡ Next c (unread S.coming self.new) (chars S.coming S.last self.new)) }
-        ensures answer { IsTrue (S.told self.old.source) → MetBy (S.steady self.old.source) result
-            → result ≡ char_at (in_char (Some awaited) (unread S.coming self.old) (S.last self.old.source)) }
-        ensures left { IsTrue (S.told self.old.source) → MetBy (S.steady self.old.source) result
-            → behind_char (in_char (Some awaited) (unread S.coming self.old) (S.last self.old.source)) ≡ unread S.coming self.new }
+        ensures reads { ReadsChar S.feed (in_char (Some awaited)) self.old self.new result }
+        ensures cut { IsCut char_at (in_char (Some awaited))
+            (ahead S.feed self.old) (ahead S.feed self.new) result }
         ensures whole { result ≡ Err Eof → ⊥ }
-        ensures refused { IfErr result IsReaderRefusal }
-        ensures reason { result ≡ Err Reader → IsTrue (S.has_failed self.new.source) }
-        ensures failure { S.has_failed self.old.source ≡ false → S.has_failed self.new.source ≡ is_failure result }
-        ensures kept { self.new.kept ≡ None }
-        ensures told { IsTrue (S.told self.old.source) → IsTrue (S.told self.new.source) }
-        ensures steady { S.steady self.new.source ≡ S.steady self.old.source }
-        ensures last { S.last self.new.source ≡ S.last self.old.source }
-        ensures keeps { bytes_bound S.bound self.new ≤ bytes_bound S.bound self.old }
     {
         let byte = self.further_byte(awaited)?;
         self.two_more(awaited.after(byte))
@@ -181,21 +131,10 @@ impl<S: Source> Lookahead<S> {
         requires count { awaited.more ≤ 2 }
         requires small { awaited.value < 32 }
         requires high { 0x80 ≤ awaited.least }
-        ensures ok { IsTrue (S.told self.old.source) → IfOk result (λ c.
-            in_char (Some awaited) (unread S.coming self.old) (S.last self.old.source) ≡ Next c (unread S.coming self.new) (chars S.coming S.last self.new)) }
-        ensures answer { IsTrue (S.told self.old.source) → MetBy (S.steady self.old.source) result
-            → result ≡ char_at (in_char (Some awaited) (unread S.coming self.old) (S.last self.old.source)) }
-        ensures left { IsTrue (S.told self.old.source) → MetBy (S.steady self.old.source) result
-            → behind_char (in_char (Some awaited) (unread S.coming self.old) (S.last self.old.source)) ≡ unread S.coming self.new }
+        ensures reads { ReadsChar S.feed (in_char (Some awaited)) self.old self.new result }
+        ensures cut { IsCut char_at (in_char (Some awaited))
+            (ahead S.feed self.old) (ahead S.feed self.new) result }
         ensures whole { result ≡ Err Eof → ⊥ }
-        ensures refused { IfErr result IsReaderRefusal }
-        ensures reason { result ≡ Err Reader → IsTrue (S.has_failed self.new.source) }
-        ensures failure { S.has_failed self.old.source ≡ false → S.has_failed self.new.source ≡ is_failure result }
-        ensures kept { self.new.kept ≡ None }
-        ensures told { IsTrue (S.told self.old.source) → IsTrue (S.told self.new.source) }
-        ensures steady { S.steady self.new.source ≡ S.steady self.old.source }
-        ensures last { S.last self.new.source ≡ S.last self.old.source }
-        ensures keeps { bytes_bound S.bound self.new ≤ bytes_bound S.bound self.old }
     {
         match awaited.more {
             0 => self.one_more(awaited),
@@ -204,27 +143,21 @@ impl<S: Source> Lookahead<S> {
         }
     }
 
-    /// The next character. At the end of the bytes the refusal is `Eof`; a character that is cut off by the end is
+    /// The next character. At the end of the bytes the refusal is `Eof`; a character that is cut
+    /// off by the end is
     /// `NotUtf8`.
     pub(crate) fn next_char(&mut self) -> Result<char, ReadlineError>
-        ensures ok { IsTrue (S.told self.old.source) → IfOk result (λ c.
-            chars S.coming S.last self.old ≡ Next c (unread S.coming self.new) (chars S.coming S.last self.new)) }
-        ensures answer { IsTrue (S.told self.old.source) → MetBy (S.steady self.old.source) result
-            → result ≡ char_at (chars S.coming S.last self.old) }
-        ensures left { IsTrue (S.told self.old.source) → MetBy (S.steady self.old.source) result
-            → behind_char (chars S.coming S.last self.old) ≡ unread S.coming self.new }
-        ensures end { IsTrue (S.told self.old.source) → result ≡ Err Eof → unread S.coming self.old ≡ [] }
-        ensures ended { IsTrue (S.told self.old.source) → result ≡ Err Eof → unread S.coming self.new ≡ [] }
-        ensures ends { IsTrue (S.told self.old.source) → result ≡ Err Eof → S.last self.old.source ≡ End }
-        ensures refused { IfErr result IsReaderRefusal }
-        ensures reason { result ≡ Err Reader → IsTrue (S.has_failed self.new.source) }
-        ensures failure { S.has_failed self.old.source ≡ false → S.has_failed self.new.source ≡ is_failure result }
-        ensures kept { self.new.kept ≡ None }
-        ensures told { IsTrue (S.told self.old.source) → IsTrue (S.told self.new.source) }
-        ensures steady { S.steady self.new.source ≡ S.steady self.old.source }
-        ensures last { S.last self.new.source ≡ S.last self.old.source }
-        ensures keeps { bytes_bound S.bound self.new ≤ bytes_bound S.bound self.old }
-        ensures falls { OnOk result (bytes_bound S.bound self.new < bytes_bound S.bound self.old) }
+        ensures reads { ReadsChar S.feed chars_of self.old self.new result }
+        ensures cut { IsCut char_at chars_of (ahead S.feed self.old)
+            (ahead S.feed self.new) result }
+        ensures end { IsTrue (ahead S.feed self.old).told → result ≡ Err Eof
+            → (ahead S.feed self.old).coming ≡ [] }
+        ensures ended { IsTrue (ahead S.feed self.old).told → result ≡ Err Eof
+            → (ahead S.feed self.new).coming ≡ [] }
+        ensures ends { IsTrue (ahead S.feed self.old).told → result ≡ Err Eof
+            → (ahead S.feed self.old).last ≡ End }
+        ensures falls { OnOk result
+            ((ahead S.feed self.new).bound < (ahead S.feed self.old).bound) }
     {
         let first = match self.next_byte() {
             Ok(Some(byte)) => byte,

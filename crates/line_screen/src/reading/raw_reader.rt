@@ -35,36 +35,46 @@ impl<S: Source> KeyReader<S> {
 impl<S: Source + Drop> RawReader for KeyReader<S> {
     ghost use Rattle.line_screen.specs.Input.{Next, behind_char};
     ghost use Rattle.line_screen.specs.KeyGrammar.{readings, coming_of, left_after};
-    ghost use Rattle.line_screen.specs.Unread.{bytes_bound, chars};
-    ghost use Rattle.line_screen.specs.Reader.{coming_in, kept_of, left_in, reads, left_by_call, char_answer};
+    ghost use Rattle.line_screen.specs.KeyReading.{CutsCall, CutsChar, IsMemoryKept};
+    ghost use Rattle.line_screen.specs.Reader.{feed_in, chars_in, coming_in, kept_of, left_in, reads, left_by_call, char_answer};
 
     type Buffer = u8;
 
-    ghost told = { λ r. S.told r.bytes.source };
+    ghost told = { λ r. (feed_in S.feed r).told };
 
-    ghost coming = { coming_in S.coming S.last S.has_failed };
+    ghost coming = { coming_in S.feed };
 
-    ghost bound = { λ r. bytes_bound S.bound r.bytes };
+    ghost bound = { λ r. (feed_in S.feed r).bound };
 
-    ghost steady = { λ r. S.steady r.bytes.source };
+    ghost steady = { λ r. (feed_in S.feed r).steady };
 
-    ghost reason = { λ r e. e ≡ Reader → IsTrue (S.has_failed r.bytes.source) };
+    ghost reason = { λ r e. e ≡ Reader → IsTrue (feed_in S.feed r).failed };
 
     ghost kept = { kept_of };
 
-    #[tactic(auto, using(crate::proofs::Owed::owed_key, crate::proofs::Outcomes::key_answered, crate::proofs::Outcomes::kept_left, crate::proofs::Outcomes::kept_refused, crate::proofs::Outcomes::refused_left, crate::proofs::Outcomes::at_end))]
+    #[tactic(auto, using(crate::proofs::Owed::owed_key, crate::proofs::Outcomes::key_answered, crate::proofs::Outcomes::kept_left, crate::proofs::Outcomes::kept_refused, crate::proofs::Outcomes::refused_left, crate::proofs::Outcomes::at_end, crate::proofs::Outcomes::key_refusal))]
     fn next_key(&mut self, _: bool) -> Result<KeyEvent, ReadlineError>
-        ensures answer { IsTrue (S.told self.old.bytes.source) → MetBy (S.steady self.old.bytes.source) result → result ≡ key_at (coming_in S.coming S.last S.has_failed self.old) }
-        ensures ok { IsTrue (S.told self.old.bytes.source) → IfOk result (λ k. coming_in S.coming S.last S.has_failed self.old ≡ Pressed k (coming_in S.coming S.last S.has_failed self.new)) }
-        ensures err { IsTrue (S.told self.old.bytes.source) → IfErr result (λ e. coming_in S.coming S.last S.has_failed self.new ≡ left_by e) }
-        ensures left { IsTrue (S.told self.old.bytes.source) → MetBy (S.steady self.old.bytes.source) result → left_in S.coming self.new
-            ≡ left_by_call (S.has_failed self.old.bytes.source) self.old.refused self.old.owed (left_in S.coming self.old) (left_after (reads S.coming S.last self.old)) }
+        ensures answer { IsTrue (feed_in S.feed self.old).told
+            → MetBy (feed_in S.feed self.old).steady result → result
+            ≡ key_at (coming_in S.feed self.old) }
+        ensures ok { IsTrue (feed_in S.feed self.old).told
+            → IfOk result (λ k. coming_in S.feed self.old ≡ Pressed k (coming_in S.feed self.new)) }
+        ensures err { IsTrue (feed_in S.feed self.old).told
+            → IfErr result (λ e. coming_in S.feed self.new ≡ left_by e) }
+        ensures left { IsTrue (feed_in S.feed self.old).told
+            → MetBy (feed_in S.feed self.old).steady result → left_in S.feed self.new
+            ≡ left_by_call (feed_in S.feed self.old).failed self.old.refused self.old.owed
+            (left_in S.feed self.old) (left_after (reads S.feed self.old)) }
+        ensures cut { CutsCall S.feed key_at self.old self.new result }
+        ensures memory { IsMemoryKept self.old result }
         ensures refused { IfErr result IsReaderRefusal }
-        ensures reason { IfErr result (λ e. e ≡ Reader → IsTrue (S.has_failed self.new.bytes.source)) }
-        ensures told { IsTrue (S.told self.old.bytes.source) → IsTrue (S.told self.new.bytes.source) }
-        ensures steady { S.steady self.new.bytes.source ≡ S.steady self.old.bytes.source }
-        ensures falls { OnOk result (bytes_bound S.bound self.new.bytes < bytes_bound S.bound self.old.bytes) }
-        ensures keeps { bytes_bound S.bound self.new.bytes ≤ bytes_bound S.bound self.old.bytes }
+        ensures reason { IfErr result (λ e. e ≡ Reader → IsTrue (feed_in S.feed self.new).failed) }
+        ensures told { IsTrue (feed_in S.feed self.old).told
+            → IsTrue (feed_in S.feed self.new).told }
+        ensures steady { (feed_in S.feed self.new).steady ≡ (feed_in S.feed self.old).steady }
+        ensures falls { OnOk result
+            ((feed_in S.feed self.new).bound < (feed_in S.feed self.old).bound) }
+        ensures keeps { (feed_in S.feed self.new).bound ≤ (feed_in S.feed self.old).bound }
     {
         if self.bytes.source.failed() {
             return Err(ReadlineError::Reader);
@@ -81,23 +91,35 @@ impl<S: Source + Drop> RawReader for KeyReader<S> {
         }
     }
 
-    #[tactic(auto, using(crate::proofs::Outcomes::kept_left, crate::proofs::Outcomes::kept_refused, crate::proofs::Outcomes::refused_left, crate::proofs::Outcomes::at_end))]
+    #[tactic(auto, using(crate::proofs::Outcomes::kept_left, crate::proofs::Outcomes::kept_refused, crate::proofs::Outcomes::refused_left, crate::proofs::Outcomes::at_end, crate::proofs::Outcomes::key_refusal))]
     fn next_char(&mut self) -> Result<char, ReadlineError>
-        ensures answer { IsTrue (S.told self.old.bytes.source) → MetBy (S.steady self.old.bytes.source) result
-            → result ≡ char_answer (S.has_failed self.old.bytes.source) self.old.refused self.old.owed (chars S.coming S.last self.old.bytes) }
-        ensures ok { IsTrue (S.told self.old.bytes.source) → IfOk result (λ c.
-            chars S.coming S.last self.old.bytes ≡ Next c (left_in S.coming self.new) (chars S.coming S.last self.new.bytes)) }
-        ensures rest { OnOk result (coming_in S.coming S.last S.has_failed self.new ≡ coming_of (readings self.old.mode (chars S.coming S.last self.new.bytes))) }
-        ensures left { IsTrue (S.told self.old.bytes.source) → MetBy (S.steady self.old.bytes.source) result → left_in S.coming self.new
-            ≡ left_by_call (S.has_failed self.old.bytes.source) self.old.refused self.old.owed (left_in S.coming self.old)
-            (behind_char (chars S.coming S.last self.old.bytes)) }
-        ensures err { IsTrue (S.told self.old.bytes.source) → IfErr result (λ e. coming_in S.coming S.last S.has_failed self.new ≡ left_by e) }
+        ensures answer { IsTrue (feed_in S.feed self.old).told
+            → MetBy (feed_in S.feed self.old).steady result
+            → result ≡ char_answer (feed_in S.feed self.old).failed self.old.refused self.old.owed
+            (chars_in S.feed self.old) }
+        ensures ok { IsTrue (feed_in S.feed self.old).told → IfOk result (λ c.
+            chars_in S.feed self.old
+            ≡ Next c (left_in S.feed self.new) (chars_in S.feed self.new)) }
+        ensures rest { OnOk result
+            (coming_in S.feed self.new
+            ≡ coming_of (readings self.old.mode (chars_in S.feed self.new))) }
+        ensures left { IsTrue (feed_in S.feed self.old).told
+            → MetBy (feed_in S.feed self.old).steady result → left_in S.feed self.new
+            ≡ left_by_call (feed_in S.feed self.old).failed self.old.refused self.old.owed
+            (left_in S.feed self.old)
+            (behind_char (chars_in S.feed self.old)) }
+        ensures err { IsTrue (feed_in S.feed self.old).told
+            → IfErr result (λ e. coming_in S.feed self.new ≡ left_by e) }
+        ensures cut { CutsChar S.feed self.old self.new result }
+        ensures memory { IsMemoryKept self.old result }
         ensures refused { IfErr result IsReaderRefusal }
-        ensures reason { IfErr result (λ e. e ≡ Reader → IsTrue (S.has_failed self.new.bytes.source)) }
-        ensures told { IsTrue (S.told self.old.bytes.source) → IsTrue (S.told self.new.bytes.source) }
-        ensures steady { S.steady self.new.bytes.source ≡ S.steady self.old.bytes.source }
-        ensures falls { OnOk result (bytes_bound S.bound self.new.bytes < bytes_bound S.bound self.old.bytes) }
-        ensures keeps { bytes_bound S.bound self.new.bytes ≤ bytes_bound S.bound self.old.bytes }
+        ensures reason { IfErr result (λ e. e ≡ Reader → IsTrue (feed_in S.feed self.new).failed) }
+        ensures told { IsTrue (feed_in S.feed self.old).told
+            → IsTrue (feed_in S.feed self.new).told }
+        ensures steady { (feed_in S.feed self.new).steady ≡ (feed_in S.feed self.old).steady }
+        ensures falls { OnOk result
+            ((feed_in S.feed self.new).bound < (feed_in S.feed self.old).bound) }
+        ensures keeps { (feed_in S.feed self.new).bound ≤ (feed_in S.feed self.old).bound }
     {
         if self.bytes.source.failed() {
             return Err(ReadlineError::Reader);
@@ -116,17 +138,26 @@ impl<S: Source + Drop> RawReader for KeyReader<S> {
 
     #[tactic(auto, using(crate::proofs::Owed::unowed_text, crate::proofs::Outcomes::text_answered, crate::proofs::Outcomes::kept_left, crate::proofs::Outcomes::kept_refused, crate::proofs::Outcomes::refused_left, crate::proofs::Outcomes::at_end))]
     fn read_pasted_text(&mut self, alloc: Global) -> Result<Text, ReadlineError>
-        ensures answer { IsTrue (S.told self.old.bytes.source) → MetBy (S.steady self.old.bytes.source) result → result ≡ paste_at (coming_in S.coming S.last S.has_failed self.old) }
-        ensures ok { IsTrue (S.told self.old.bytes.source) → IfOk result (λ t. coming_in S.coming S.last S.has_failed self.old ≡ Pasted t (coming_in S.coming S.last S.has_failed self.new)) }
-        ensures err { IsTrue (S.told self.old.bytes.source) → IfErr result (λ e. coming_in S.coming S.last S.has_failed self.new ≡ left_by e) }
-        ensures left { IsTrue (S.told self.old.bytes.source) → MetBy (S.steady self.old.bytes.source) result → left_in S.coming self.new
-            ≡ left_by_call (S.has_failed self.old.bytes.source) self.old.refused (not self.old.owed) (left_in S.coming self.old) (left_after (reads S.coming S.last self.old)) }
+        ensures answer { IsTrue (feed_in S.feed self.old).told
+            → MetBy (feed_in S.feed self.old).steady result → result
+            ≡ paste_at (coming_in S.feed self.old) }
+        ensures ok { IsTrue (feed_in S.feed self.old).told
+            → IfOk result (λ t. coming_in S.feed self.old ≡ Pasted t (coming_in S.feed self.new)) }
+        ensures err { IsTrue (feed_in S.feed self.old).told
+            → IfErr result (λ e. coming_in S.feed self.new ≡ left_by e) }
+        ensures left { IsTrue (feed_in S.feed self.old).told
+            → MetBy (feed_in S.feed self.old).steady result → left_in S.feed self.new
+            ≡ left_by_call (feed_in S.feed self.old).failed self.old.refused (not self.old.owed)
+            (left_in S.feed self.old) (left_after (reads S.feed self.old)) }
+        ensures cut { CutsCall S.feed paste_at self.old self.new result }
         ensures refused { IfErr result IsReaderRefusal }
-        ensures reason { IfErr result (λ e. e ≡ Reader → IsTrue (S.has_failed self.new.bytes.source)) }
-        ensures told { IsTrue (S.told self.old.bytes.source) → IsTrue (S.told self.new.bytes.source) }
-        ensures steady { S.steady self.new.bytes.source ≡ S.steady self.old.bytes.source }
-        ensures falls { OnOk result (bytes_bound S.bound self.new.bytes < bytes_bound S.bound self.old.bytes) }
-        ensures keeps { bytes_bound S.bound self.new.bytes ≤ bytes_bound S.bound self.old.bytes }
+        ensures reason { IfErr result (λ e. e ≡ Reader → IsTrue (feed_in S.feed self.new).failed) }
+        ensures told { IsTrue (feed_in S.feed self.old).told
+            → IsTrue (feed_in S.feed self.new).told }
+        ensures steady { (feed_in S.feed self.new).steady ≡ (feed_in S.feed self.old).steady }
+        ensures falls { OnOk result
+            ((feed_in S.feed self.new).bound < (feed_in S.feed self.old).bound) }
+        ensures keeps { (feed_in S.feed self.new).bound ≤ (feed_in S.feed self.old).bound }
     {
         if self.bytes.source.failed() {
             return Err(ReadlineError::Reader);

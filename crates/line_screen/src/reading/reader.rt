@@ -1,10 +1,6 @@
 //! Keys and pasted texts of a source of bytes.
 
-ghost use Rattle.std.specs.Prelude.{◌≡◌, ◌<◌, ◌≤◌, [], ◌∷◌, Ok, Err, None, Some, IsTrue, IfOk, IfErr, OnOk, OnErr, false};
-ghost use Rattle.line_config.specs.declared.device.Last.TheVariants.{End};
-ghost use Rattle.line_config.specs.declared.errors.ReadlineError.TheVariants.{Eof, Reader};
-ghost use Rattle.line_config.specs.Refusals.{MetBy};
-ghost use Rattle.line_keys.specs.Faults.{IsReaderRefusal};
+ghost use Rattle.std.specs.Prelude.{◌≡◌, ◌<◌, None, IsTrue, OnOk, false};
 ghost use Rattle.line_screen.specs.Lasting.{lasts};
 
 use crate::reading::lookahead::Lookahead;
@@ -35,8 +31,8 @@ impl<S: Source> KeyReader<S> {
 
     /// A reader of the source's bytes, with the keys of `mode`.
     pub fn new(source: S, mode: EditMode) -> Self
-        ensures coming { S.has_failed source ≡ false → coming_in S.coming S.last S.has_failed result
-            ≡ coming_of (readings mode (chars_of (S.coming source) (S.last source))) }
+        ensures coming { (S.feed source).failed ≡ false → coming_in S.feed result
+            ≡ coming_of (readings mode (chars_of (S.feed source).coming (S.feed source).last)) }
         ensures source { source_of result ≡ source }
         ensures kept { kept_of result ≡ None }
         ensures mode { result.mode ≡ mode }
@@ -65,33 +61,14 @@ impl<S> KeyReader<S> {
 }
 
 impl<S: Source> KeyReader<S> {
-    ghost use Rattle.line_screen.specs.Input.{is_failure};
-    ghost use Rattle.line_screen.specs.Unread.{unread, chars, bytes_bound};
-    ghost use Rattle.line_screen.specs.KeyGrammar.{Key, readings, in_escape, in_third, in_bracket, in_linux, in_control, in_unknown, in_paste, key_answer, text_answer, left_after, Paste};
-    ghost use Rattle.line_screen.specs.Reader.{left_in, reads};
+    ghost use Rattle.line_screen.specs.KeyReading.{ReadsKey, ReadsText, key_from, escape_from, third_from, bracket_from, linux_from, control_from, unknown_from, text_from};
+    ghost use Rattle.line_screen.specs.Reader.{feed_in};
     ghost use Rattle.line_screen.specs.declared.reading.sequence.Parameters.TheVariants.{One};
 
     /// The key of ESC `O` and a character.
     fn key_of_third(&mut self) -> Result<KeyEvent, ReadlineError>
         requires { self.old.owed ≡ false }
-        ensures ok { IsTrue (S.told self.old.bytes.source) → IfOk result (λ k.
-            in_third self.old.mode (chars S.coming S.last self.old.bytes) ≡ Key k (left_in S.coming self.new) (reads S.coming S.last self.new)) }
-        ensures answer { IsTrue (S.told self.old.bytes.source) → MetBy (S.steady self.old.bytes.source) result
-            → result ≡ key_answer (in_third self.old.mode (chars S.coming S.last self.old.bytes)) }
-        ensures left { IsTrue (S.told self.old.bytes.source) → MetBy (S.steady self.old.bytes.source) result
-            → left_after (in_third self.old.mode (chars S.coming S.last self.old.bytes)) ≡ left_in S.coming self.new }
-        ensures spent { IsTrue (S.told self.old.bytes.source) → result ≡ Err Eof → left_in S.coming self.new ≡ [] }
-        ensures ends { IsTrue (S.told self.old.bytes.source) → result ≡ Err Eof → S.last self.old.bytes.source ≡ End }
-        ensures owed { OnErr result (self.new.owed ≡ false) }
-        ensures mode { self.new.mode ≡ self.old.mode }
-        ensures past { self.new.refused ≡ self.old.refused }
-        ensures refused { IfErr result IsReaderRefusal }
-        ensures reason { result ≡ Err Reader → IsTrue (S.has_failed self.new.bytes.source) }
-        ensures failure { S.has_failed self.old.bytes.source ≡ false → S.has_failed self.new.bytes.source ≡ is_failure result }
-        ensures told { IsTrue (S.told self.old.bytes.source) → IsTrue (S.told self.new.bytes.source) }
-        ensures steady { S.steady self.new.bytes.source ≡ S.steady self.old.bytes.source }
-        ensures last { S.last self.new.bytes.source ≡ S.last self.old.bytes.source }
-        ensures keeps { bytes_bound S.bound self.new.bytes ≤ bytes_bound S.bound self.old.bytes }
+        ensures { ReadsKey S.feed (third_from self.old.mode) self.old self.new result }
     {
         let c = self.bytes.next_char()?;
         Ok(plain_key(third_code(c)))
@@ -100,24 +77,7 @@ impl<S: Source> KeyReader<S> {
     /// The key of ESC `[[` and a character.
     fn key_of_linux(&mut self) -> Result<KeyEvent, ReadlineError>
         requires { self.old.owed ≡ false }
-        ensures ok { IsTrue (S.told self.old.bytes.source) → IfOk result (λ k.
-            in_linux self.old.mode (chars S.coming S.last self.old.bytes) ≡ Key k (left_in S.coming self.new) (reads S.coming S.last self.new)) }
-        ensures answer { IsTrue (S.told self.old.bytes.source) → MetBy (S.steady self.old.bytes.source) result
-            → result ≡ key_answer (in_linux self.old.mode (chars S.coming S.last self.old.bytes)) }
-        ensures left { IsTrue (S.told self.old.bytes.source) → MetBy (S.steady self.old.bytes.source) result
-            → left_after (in_linux self.old.mode (chars S.coming S.last self.old.bytes)) ≡ left_in S.coming self.new }
-        ensures spent { IsTrue (S.told self.old.bytes.source) → result ≡ Err Eof → left_in S.coming self.new ≡ [] }
-        ensures ends { IsTrue (S.told self.old.bytes.source) → result ≡ Err Eof → S.last self.old.bytes.source ≡ End }
-        ensures owed { OnErr result (self.new.owed ≡ false) }
-        ensures mode { self.new.mode ≡ self.old.mode }
-        ensures past { self.new.refused ≡ self.old.refused }
-        ensures refused { IfErr result IsReaderRefusal }
-        ensures reason { result ≡ Err Reader → IsTrue (S.has_failed self.new.bytes.source) }
-        ensures failure { S.has_failed self.old.bytes.source ≡ false → S.has_failed self.new.bytes.source ≡ is_failure result }
-        ensures told { IsTrue (S.told self.old.bytes.source) → IsTrue (S.told self.new.bytes.source) }
-        ensures steady { S.steady self.new.bytes.source ≡ S.steady self.old.bytes.source }
-        ensures last { S.last self.new.bytes.source ≡ S.last self.old.bytes.source }
-        ensures keeps { bytes_bound S.bound self.new.bytes ≤ bytes_bound S.bound self.old.bytes }
+        ensures { ReadsKey S.feed (linux_from self.old.mode) self.old self.new result }
     {
         let c = self.bytes.next_char()?;
         Ok(plain_key(linux_code(c)))
@@ -126,24 +86,7 @@ impl<S: Source> KeyReader<S> {
     /// The key of ESC `[` and what follows.
     fn key_of_bracket(&mut self) -> Result<KeyEvent, ReadlineError>
         requires { self.old.owed ≡ false }
-        ensures ok { IsTrue (S.told self.old.bytes.source) → IfOk result (λ k.
-            in_bracket self.old.mode (chars S.coming S.last self.old.bytes) ≡ Key k (left_in S.coming self.new) (reads S.coming S.last self.new)) }
-        ensures answer { IsTrue (S.told self.old.bytes.source) → MetBy (S.steady self.old.bytes.source) result
-            → result ≡ key_answer (in_bracket self.old.mode (chars S.coming S.last self.old.bytes)) }
-        ensures left { IsTrue (S.told self.old.bytes.source) → MetBy (S.steady self.old.bytes.source) result
-            → left_after (in_bracket self.old.mode (chars S.coming S.last self.old.bytes)) ≡ left_in S.coming self.new }
-        ensures spent { IsTrue (S.told self.old.bytes.source) → result ≡ Err Eof → left_in S.coming self.new ≡ [] }
-        ensures ends { IsTrue (S.told self.old.bytes.source) → result ≡ Err Eof → S.last self.old.bytes.source ≡ End }
-        ensures owed { OnErr result (self.new.owed ≡ false) }
-        ensures mode { self.new.mode ≡ self.old.mode }
-        ensures past { self.new.refused ≡ self.old.refused }
-        ensures refused { IfErr result IsReaderRefusal }
-        ensures reason { result ≡ Err Reader → IsTrue (S.has_failed self.new.bytes.source) }
-        ensures failure { S.has_failed self.old.bytes.source ≡ false → S.has_failed self.new.bytes.source ≡ is_failure result }
-        ensures told { IsTrue (S.told self.old.bytes.source) → IsTrue (S.told self.new.bytes.source) }
-        ensures steady { S.steady self.new.bytes.source ≡ S.steady self.old.bytes.source }
-        ensures last { S.last self.new.bytes.source ≡ S.last self.old.bytes.source }
-        ensures keeps { bytes_bound S.bound self.new.bytes ≤ bytes_bound S.bound self.old.bytes }
+        ensures { ReadsKey S.feed (bracket_from self.old.mode) self.old self.new result }
     {
         let c = self.bytes.next_char()?;
         match c {
@@ -157,24 +100,8 @@ impl<S: Source> KeyReader<S> {
     /// The key of ESC `[`, a first parameter and what follows.
     fn key_of_control(&mut self, first: char) -> Result<KeyEvent, ReadlineError>
         requires { self.old.owed ≡ false }
-        ensures ok { IsTrue (S.told self.old.bytes.source) → IfOk result (λ k.
-            in_control self.old.mode (One first) (chars S.coming S.last self.old.bytes) ≡ Key k (left_in S.coming self.new) (reads S.coming S.last self.new)) }
-        ensures answer { IsTrue (S.told self.old.bytes.source) → MetBy (S.steady self.old.bytes.source) result
-            → result ≡ key_answer (in_control self.old.mode (One first) (chars S.coming S.last self.old.bytes)) }
-        ensures left { IsTrue (S.told self.old.bytes.source) → MetBy (S.steady self.old.bytes.source) result
-            → left_after (in_control self.old.mode (One first) (chars S.coming S.last self.old.bytes)) ≡ left_in S.coming self.new }
-        ensures spent { IsTrue (S.told self.old.bytes.source) → result ≡ Err Eof → left_in S.coming self.new ≡ [] }
-        ensures ends { IsTrue (S.told self.old.bytes.source) → result ≡ Err Eof → S.last self.old.bytes.source ≡ End }
-        ensures owed { OnErr result (self.new.owed ≡ false) }
-        ensures mode { self.new.mode ≡ self.old.mode }
-        ensures past { self.new.refused ≡ self.old.refused }
-        ensures refused { IfErr result IsReaderRefusal }
-        ensures reason { result ≡ Err Reader → IsTrue (S.has_failed self.new.bytes.source) }
-        ensures failure { S.has_failed self.old.bytes.source ≡ false → S.has_failed self.new.bytes.source ≡ is_failure result }
-        ensures told { IsTrue (S.told self.old.bytes.source) → IsTrue (S.told self.new.bytes.source) }
-        ensures steady { S.steady self.new.bytes.source ≡ S.steady self.old.bytes.source }
-        ensures last { S.last self.new.bytes.source ≡ S.last self.old.bytes.source }
-        ensures keeps { bytes_bound S.bound self.new.bytes ≤ bytes_bound S.bound self.old.bytes }
+        ensures { ReadsKey S.feed (control_from self.old.mode (One first))
+            self.old self.new result }
     {
         let mut written = Parameters::One(first);
         loop {
@@ -194,24 +121,7 @@ impl<S: Source> KeyReader<S> {
     /// The key of a control sequence with an intermediate character: none has a name.
     fn key_of_unknown(&mut self) -> Result<KeyEvent, ReadlineError>
         requires { self.old.owed ≡ false }
-        ensures ok { IsTrue (S.told self.old.bytes.source) → IfOk result (λ k.
-            in_unknown self.old.mode (chars S.coming S.last self.old.bytes) ≡ Key k (left_in S.coming self.new) (reads S.coming S.last self.new)) }
-        ensures answer { IsTrue (S.told self.old.bytes.source) → MetBy (S.steady self.old.bytes.source) result
-            → result ≡ key_answer (in_unknown self.old.mode (chars S.coming S.last self.old.bytes)) }
-        ensures left { IsTrue (S.told self.old.bytes.source) → MetBy (S.steady self.old.bytes.source) result
-            → left_after (in_unknown self.old.mode (chars S.coming S.last self.old.bytes)) ≡ left_in S.coming self.new }
-        ensures spent { IsTrue (S.told self.old.bytes.source) → result ≡ Err Eof → left_in S.coming self.new ≡ [] }
-        ensures ends { IsTrue (S.told self.old.bytes.source) → result ≡ Err Eof → S.last self.old.bytes.source ≡ End }
-        ensures owed { OnErr result (self.new.owed ≡ false) }
-        ensures mode { self.new.mode ≡ self.old.mode }
-        ensures past { self.new.refused ≡ self.old.refused }
-        ensures refused { IfErr result IsReaderRefusal }
-        ensures reason { result ≡ Err Reader → IsTrue (S.has_failed self.new.bytes.source) }
-        ensures failure { S.has_failed self.old.bytes.source ≡ false → S.has_failed self.new.bytes.source ≡ is_failure result }
-        ensures told { IsTrue (S.told self.old.bytes.source) → IsTrue (S.told self.new.bytes.source) }
-        ensures steady { S.steady self.new.bytes.source ≡ S.steady self.old.bytes.source }
-        ensures last { S.last self.new.bytes.source ≡ S.last self.old.bytes.source }
-        ensures keeps { bytes_bound S.bound self.new.bytes ≤ bytes_bound S.bound self.old.bytes }
+        ensures { ReadsKey S.feed (unknown_from self.old.mode) self.old self.new result }
     {
         loop {
             let c = self.bytes.next_char()?;
@@ -225,24 +135,7 @@ impl<S: Source> KeyReader<S> {
     #[tactic(auto, using(crate::proofs::Escapes::vi_keeps, crate::proofs::Escapes::emacs_alt, crate::proofs::Escapes::escape_at_end, crate::proofs::Escapes::escape_and_failure))]
     fn key_of_escape(&mut self) -> Result<KeyEvent, ReadlineError>
         requires { self.old.owed ≡ false }
-        ensures ok { IsTrue (S.told self.old.bytes.source) → IfOk result (λ k.
-            in_escape self.old.mode (left_in S.coming self.old) (chars S.coming S.last self.old.bytes) (readings self.old.mode (chars S.coming S.last self.old.bytes)) ≡ Key k (left_in S.coming self.new) (reads S.coming S.last self.new)) }
-        ensures answer { IsTrue (S.told self.old.bytes.source) → MetBy (S.steady self.old.bytes.source) result
-            → result ≡ key_answer (in_escape self.old.mode (left_in S.coming self.old) (chars S.coming S.last self.old.bytes) (readings self.old.mode (chars S.coming S.last self.old.bytes))) }
-        ensures left { IsTrue (S.told self.old.bytes.source) → MetBy (S.steady self.old.bytes.source) result
-            → left_after (in_escape self.old.mode (left_in S.coming self.old) (chars S.coming S.last self.old.bytes) (readings self.old.mode (chars S.coming S.last self.old.bytes))) ≡ left_in S.coming self.new }
-        ensures spent { IsTrue (S.told self.old.bytes.source) → result ≡ Err Eof → left_in S.coming self.new ≡ [] }
-        ensures ends { IsTrue (S.told self.old.bytes.source) → result ≡ Err Eof → S.last self.old.bytes.source ≡ End }
-        ensures owed { OnErr result (self.new.owed ≡ false) }
-        ensures mode { self.new.mode ≡ self.old.mode }
-        ensures past { self.new.refused ≡ self.old.refused }
-        ensures refused { IfErr result IsReaderRefusal }
-        ensures reason { result ≡ Err Reader → IsTrue (S.has_failed self.new.bytes.source) }
-        ensures failure { S.has_failed self.old.bytes.source ≡ false → S.has_failed self.new.bytes.source ≡ is_failure result }
-        ensures told { IsTrue (S.told self.old.bytes.source) → IsTrue (S.told self.new.bytes.source) }
-        ensures steady { S.steady self.new.bytes.source ≡ S.steady self.old.bytes.source }
-        ensures last { S.last self.new.bytes.source ≡ S.last self.old.bytes.source }
-        ensures keeps { bytes_bound S.bound self.new.bytes ≤ bytes_bound S.bound self.old.bytes }
+        ensures { ReadsKey S.feed (escape_from self.old.mode) self.old self.new result }
     {
         match self.bytes.peek() {
             Ok(Some(b'[')) => {
@@ -268,25 +161,9 @@ impl<S: Source> KeyReader<S> {
     /// The next key.
     pub(crate) fn key(&mut self) -> Result<KeyEvent, ReadlineError>
         requires { self.old.owed ≡ false }
-        ensures ok { IsTrue (S.told self.old.bytes.source) → IfOk result (λ k.
-            readings self.old.mode (chars S.coming S.last self.old.bytes) ≡ Key k (left_in S.coming self.new) (reads S.coming S.last self.new)) }
-        ensures answer { IsTrue (S.told self.old.bytes.source) → MetBy (S.steady self.old.bytes.source) result
-            → result ≡ key_answer (readings self.old.mode (chars S.coming S.last self.old.bytes)) }
-        ensures left { IsTrue (S.told self.old.bytes.source) → MetBy (S.steady self.old.bytes.source) result
-            → left_after (readings self.old.mode (chars S.coming S.last self.old.bytes)) ≡ left_in S.coming self.new }
-        ensures spent { IsTrue (S.told self.old.bytes.source) → result ≡ Err Eof → left_in S.coming self.new ≡ [] }
-        ensures ends { IsTrue (S.told self.old.bytes.source) → result ≡ Err Eof → S.last self.old.bytes.source ≡ End }
-        ensures owed { OnErr result (self.new.owed ≡ false) }
-        ensures mode { self.new.mode ≡ self.old.mode }
-        ensures past { self.new.refused ≡ self.old.refused }
-        ensures refused { IfErr result IsReaderRefusal }
-        ensures reason { result ≡ Err Reader → IsTrue (S.has_failed self.new.bytes.source) }
-        ensures failure { S.has_failed self.old.bytes.source ≡ false → S.has_failed self.new.bytes.source ≡ is_failure result }
-        ensures told { IsTrue (S.told self.old.bytes.source) → IsTrue (S.told self.new.bytes.source) }
-        ensures steady { S.steady self.new.bytes.source ≡ S.steady self.old.bytes.source }
-        ensures last { S.last self.new.bytes.source ≡ S.last self.old.bytes.source }
-        ensures keeps { bytes_bound S.bound self.new.bytes ≤ bytes_bound S.bound self.old.bytes }
-        ensures falls { OnOk result (bytes_bound S.bound self.new.bytes < bytes_bound S.bound self.old.bytes) }
+        ensures reads { ReadsKey S.feed (key_from self.old.mode) self.old self.new result }
+        ensures falls { OnOk result
+            ((feed_in S.feed self.new).bound < (feed_in S.feed self.old).bound) }
     {
         let c = self.bytes.next_char()?;
         if c == '\x1b' {
@@ -298,25 +175,9 @@ impl<S: Source> KeyReader<S> {
     /// The pasted text, up to the end mark.
     pub(crate) fn pasted_text(&mut self, alloc: Global) -> Result<Text, ReadlineError>
         requires { self.old.owed ≡ false }
-        ensures ok { IsTrue (S.told self.old.bytes.source) → IfOk result (λ text.
-            in_paste self.old.mode [] false 0 (chars S.coming S.last self.old.bytes) ≡ Paste text (left_in S.coming self.new) (reads S.coming S.last self.new)) }
-        ensures answer { IsTrue (S.told self.old.bytes.source) → MetBy (S.steady self.old.bytes.source) result
-            → result ≡ text_answer (in_paste self.old.mode [] false 0 (chars S.coming S.last self.old.bytes)) }
-        ensures left { IsTrue (S.told self.old.bytes.source) → MetBy (S.steady self.old.bytes.source) result
-            → left_after (in_paste self.old.mode [] false 0 (chars S.coming S.last self.old.bytes)) ≡ left_in S.coming self.new }
-        ensures spent { IsTrue (S.told self.old.bytes.source) → result ≡ Err Eof → left_in S.coming self.new ≡ [] }
-        ensures ends { IsTrue (S.told self.old.bytes.source) → result ≡ Err Eof → S.last self.old.bytes.source ≡ End }
-        ensures owed { OnErr result (self.new.owed ≡ false) }
-        ensures mode { self.new.mode ≡ self.old.mode }
-        ensures past { self.new.refused ≡ self.old.refused }
-        ensures refused { IfErr result IsReaderRefusal }
-        ensures reason { result ≡ Err Reader → IsTrue (S.has_failed self.new.bytes.source) }
-        ensures failure { S.has_failed self.old.bytes.source ≡ false → S.has_failed self.new.bytes.source ≡ is_failure result }
-        ensures told { IsTrue (S.told self.old.bytes.source) → IsTrue (S.told self.new.bytes.source) }
-        ensures steady { S.steady self.new.bytes.source ≡ S.steady self.old.bytes.source }
-        ensures last { S.last self.new.bytes.source ≡ S.last self.old.bytes.source }
-        ensures keeps { bytes_bound S.bound self.new.bytes ≤ bytes_bound S.bound self.old.bytes }
-        ensures falls { OnOk result (bytes_bound S.bound self.new.bytes < bytes_bound S.bound self.old.bytes) }
+        ensures reads { ReadsText S.feed (text_from self.old.mode) self.old self.new result }
+        ensures falls { OnOk result
+            ((feed_in S.feed self.new).bound < (feed_in S.feed self.old).bound) }
     {
         let mut text = String::new(alloc);
         let mut after_return = false;

@@ -6,7 +6,8 @@ ghost use Rattle.line_screen.specs.declared.reading.sequence.Parameters.TheVaria
 
 use line_keys::{KeyCode, KeyEvent, Modifiers};
 
-/// A control sequence's parameters as they are written. No key has more than four characters of them.
+/// A control sequence's parameters as they are written. No key has more than four characters of
+/// them.
 #[derive(Clone, Copy, Debug, PartialEq, Eq)]
 pub(crate) enum Parameters {
     Empty,

@@ -3,7 +3,8 @@
 ghost use Rattle.std.specs.Prelude.{◌≡◌, ◌<◌, ◌≤◌, ◌+◌, ◌*◌, IfSome};
 ghost use Rattle.line_screen.specs.Input.{lead_in, lead_rows, after_byte, value_with};
 
-/// What is still to come of a character: the next byte from `least` to `greatest`, then `more` of 80 to BF.
+/// What is still to come of a character: the next byte from `least` to `greatest`, then `more` of
+/// 80 to BF.
 #[derive(Clone, Copy, Debug, PartialEq, Eq)]
 pub(crate) struct Awaited {
     pub(crate) value: u32,

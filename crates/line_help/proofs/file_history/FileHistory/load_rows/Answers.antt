@@ -5,8 +5,8 @@ use Rattle.line_help.proofs.file_history.FileHistory.load_rows.Goals as goal
 
 pub loop-self-preserved-then-whole : goal.loop-self-preserved-then-whole
 loop-self-preserved-then-whole g c =
-    let last = g.S.Source.last c.args.source.now in
-    let rows = rows_of last (g.S.Source.coming c.read_row.new.source) in
+    let last = (g.S.Source.feed c.args.source.now).last in
+    let rows = rows_of last (g.S.Source.feed c.read_row.new.source).coming in
     let row = c.deref.result.now in
     let text = c.in_ok-added.ensures.text in
     let added = c.in_ok-added.ensures.added in
@@ -29,8 +29,8 @@ loop-self-preserved-then-whole g c =
 
 pub loop-self-preserved : goal.loop-self-preserved
 loop-self-preserved g c =
-    let last = g.S.Source.last c.args.source.now in
-    let rows = rows_of last (g.S.Source.coming c.read_row.new.source) in
+    let last = (g.S.Source.feed c.args.source.now).last in
+    let rows = rows_of last (g.S.Source.feed c.read_row.new.source).coming in
     let row = c.deref.result.now in
     let text = c.in_ok-added.ensures.text in
     let added = c.in_ok-added.ensures.added in

@@ -7,22 +7,22 @@ use Rattle.line_help.proofs.file_history.FileHistory.load_rows.Given as goal
 
 abbrev pub invariant-loop-self : goal.invariant-loop-self
 invariant-loop-self g l = record {
-  told : IsTrue (g.S.Source.told l.fn.source) → IsTrue (g.S.Source.told l.source);
-  steady : g.S.Source.steady l.source ≡ g.S.Source.steady l.fn.source;
-  last : g.S.Source.last l.source ≡ g.S.Source.last l.fn.source;
-  bound : g.S.Source.bound l.source ≤ g.S.Source.bound l.fn.source;
-  part : IsTrue (g.S.Source.told l.fn.source)
-      → Reached (entries_of l.escapes (good_rows (rows_of (g.S.Source.last l.fn.source) (g.S.Source.coming l.fn.source))))
-      (entries_of l.escapes (good_rows (rows_of (g.S.Source.last l.fn.source) (g.S.Source.coming l.source)))) l.fn.self l.self;
-  left : IsTrue (g.S.Source.told l.fn.source)
-      → filed_with_all l.self (entries_of l.escapes (good_rows (rows_of (g.S.Source.last l.fn.source) (g.S.Source.coming l.source))))
-      ≡ filed_with_all l.fn.self (entries_of l.escapes (good_rows (rows_of (g.S.Source.last l.fn.source) (g.S.Source.coming l.fn.source))));
-  answer : IsTrue (g.S.Source.told l.fn.source)
-      → outcome (g.S.Source.last l.fn.source) (rows_of (g.S.Source.last l.fn.source) (g.S.Source.coming l.source))
-      (l.whole && takes_all l.self (entries_of l.escapes (good_rows (rows_of (g.S.Source.last l.fn.source) (g.S.Source.coming l.source)))))
-      ≡ outcome (g.S.Source.last l.fn.source) (rows_of (g.S.Source.last l.fn.source) (g.S.Source.coming l.fn.source))
-      (takes_all l.fn.self (entries_of l.escapes (good_rows (rows_of (g.S.Source.last l.fn.source) (g.S.Source.coming l.fn.source)))));
+  told : IsTrue (g.S.Source.feed l.fn.source).told → IsTrue (g.S.Source.feed l.source).told;
+  steady : (g.S.Source.feed l.source).steady ≡ (g.S.Source.feed l.fn.source).steady;
+  last : (g.S.Source.feed l.source).last ≡ (g.S.Source.feed l.fn.source).last;
+  bound : (g.S.Source.feed l.source).bound ≤ (g.S.Source.feed l.fn.source).bound;
+  part : IsTrue (g.S.Source.feed l.fn.source).told
+      → Reached (entries_of l.escapes (good_rows (rows_of (g.S.Source.feed l.fn.source).last (g.S.Source.feed l.fn.source).coming)))
+      (entries_of l.escapes (good_rows (rows_of (g.S.Source.feed l.fn.source).last (g.S.Source.feed l.source).coming))) l.fn.self l.self;
+  left : IsTrue (g.S.Source.feed l.fn.source).told
+      → filed_with_all l.self (entries_of l.escapes (good_rows (rows_of (g.S.Source.feed l.fn.source).last (g.S.Source.feed l.source).coming)))
+      ≡ filed_with_all l.fn.self (entries_of l.escapes (good_rows (rows_of (g.S.Source.feed l.fn.source).last (g.S.Source.feed l.fn.source).coming)));
+  answer : IsTrue (g.S.Source.feed l.fn.source).told
+      → outcome (g.S.Source.feed l.fn.source).last (rows_of (g.S.Source.feed l.fn.source).last (g.S.Source.feed l.source).coming)
+      (l.whole && takes_all l.self (entries_of l.escapes (good_rows (rows_of (g.S.Source.feed l.fn.source).last (g.S.Source.feed l.source).coming))))
+      ≡ outcome (g.S.Source.feed l.fn.source).last (rows_of (g.S.Source.feed l.fn.source).last (g.S.Source.feed l.fn.source).coming)
+      (takes_all l.fn.self (entries_of l.escapes (good_rows (rows_of (g.S.Source.feed l.fn.source).last (g.S.Source.feed l.fn.source).coming))));
 }
 
 abbrev pub decreases-loop-self : goal.decreases-loop-self
-decreases-loop-self g l = g.S.Source.bound l.source
+decreases-loop-self g l = (g.S.Source.feed l.source).bound

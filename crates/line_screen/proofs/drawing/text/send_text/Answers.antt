@@ -26,22 +26,22 @@ loop-row-preserved g c =
     (left_takes wide text c.loop-row.is_first (length c.loop-row.yielded) _ c.in-Some.row.now turn.0 turn.1 (length_push c.loop-row.yielded c.in-Some.row))
     c.in_ok-col.ensures.sent c.in_ok-col.ensures.works c.in_ok-col.ensures.next c.in_ok-col.ensures.inside
 
-pub returns-clause-sent : goal.returns-clause-sent
-returns-clause-sent g c =
+pub returns : goal.returns
+returns g c =
     let wide = cluster_width c.args.grid.mode c.args.grid.columns in
     let text = c.args.text.now in
     let last = YieldsList-end (YieldsList-from_str_split 10 text (lit< tt) (cc) (cc) (cc)) c.loop-row.yielded _ c.loop-row.yielded_by _ _ c.in-None.is c.next.ensures.steps in
     let all : length (rows_of text) ≤ length c.loop-row.yielded = omega (arith, last.1) in
-    so_far_end g.D.Sink.told g.D.Sink.held g.D.Sink.has_failed c.args.grid.columns c.args.start
-    (text_items wide text) (left_from wide text c.loop-row.is_first (length c.loop-row.yielded)) c.args.sink.now c.loop-row.sink c.loop-row.col c.loop-row.invariant
-    (left_ends wide text c.loop-row.is_first (length c.loop-row.yielded) (drop_all (length c.loop-row.yielded) (rows_of text) all))
-
-pub returns-clause-next : goal.returns-clause-next
-returns-clause-next g c =
-    let wide = cluster_width c.args.grid.mode c.args.grid.columns in
-    let text = c.args.text.now in
-    let last = YieldsList-end (YieldsList-from_str_split 10 text (lit< tt) (cc) (cc) (cc)) c.loop-row.yielded _ c.loop-row.yielded_by _ _ c.in-None.is c.next.ensures.steps in
-    let all : length (rows_of text) ≤ length c.loop-row.yielded = omega (arith, last.1) in
-    so_far_column g.D.Sink.told g.D.Sink.held g.D.Sink.has_failed c.args.grid.columns c.args.start
-    (text_items wide text) (left_from wide text c.loop-row.is_first (length c.loop-row.yielded)) c.args.sink.now c.loop-row.sink c.loop-row.col c.loop-row.invariant
-    (left_ends wide text c.loop-row.is_first (length c.loop-row.yielded) (drop_all (length c.loop-row.yielded) (rows_of text) all))
+    let none = left_ends wide text c.loop-row.is_first (length c.loop-row.yielded) (drop_all (length c.loop-row.yielded) (rows_of text) all) in
+    let left = left_from wide text c.loop-row.is_first (length c.loop-row.yielded) in
+    record {
+      sent =
+          so_far_end g.D.Sink.told g.D.Sink.held g.D.Sink.has_failed c.args.grid.columns c.args.start
+          (text_items wide text) left c.args.sink.now c.loop-row.sink c.loop-row.col c.loop-row.invariant none;
+      works = c.loop-row.invariant.works;
+      err = tt;
+      next =
+          so_far_column g.D.Sink.told g.D.Sink.held g.D.Sink.has_failed c.args.grid.columns c.args.start
+          (text_items wide text) left c.args.sink.now c.loop-row.sink c.loop-row.col c.loop-row.invariant none;
+      inside = c.loop-row.invariant.inside;
+    }

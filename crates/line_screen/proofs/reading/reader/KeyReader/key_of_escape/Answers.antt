@@ -1,26 +1,44 @@
-use Rattle.std.proofs.Common.{◌∙◌, ◌++◌, sym, ap, option_to_list}
+use Rattle.std.proofs.Common.{◌≡◌, ◌++◌, ◌∷◌, refl, sym, ap, ◌∙◌, Ok, Some}
+use Rattle.std.specs.Option.{option_to_list}
 use Rattle.std.proofs.lemmas.Result.{err_from_is_err_and}
-use Rattle.line_screen.specs.Unread.{unread}
-use Rattle.line_screen.proofs.Escapes.{emacs_refused, emacs_left}
+use Rattle.line_screen.specs.KeyGrammar.{Key, key_answer}
+use Rattle.line_screen.specs.KeyReading.{escape_from, bracket_from, third_from}
+use Rattle.line_screen.specs.Reading.{IsKeyRefusal}
+use Rattle.line_screen.proofs.Escapes.{emacs_refuses, emacs_leaves, emacs_cuts}
+use Rattle.line_screen.proofs.Onward.{on_look, on_peek, on_reads, on_stops_at}
 use Rattle.line_screen.proofs.reading.reader.KeyReader.key_of_escape.Goals as goal
 
-pub returns-in_err-c-in-Emacs-clause-answer : goal.returns-in_err-c-in-Emacs-clause-answer
-returns-in_err-c-in-Emacs-clause-answer g c =
-    let p = err_from_is_err_and c.from_residual.result c.from_residual.ensures.1 in rw (p.1, p.2) (λ t met.
-    sym (emacs_refused c.args.self.now.mode (unread g.S.Source.coming c.args.self.now.bytes)
-    (unread g.S.Source.coming c.peek.new.self) c.in-Ok-Some.field-0-0 (g.S.Source.coming c.peek.new.self.source)
-    (g.S.Source.last c.args.self.now.bytes.source) (g.S.Source.last c.peek.new.self.source) _ c.in-Emacs.is
-    (ap (λ k. option_to_list k ++ g.S.Source.coming c.peek.new.self.source) (c.in-Ok-Some.ensures.kept ∙ c.in-Ok-Some.field-0-is))
-    (c.in-Ok-Some.ensures.same t) c.in-Ok-Some.ensures.last
-    (sym (c.in_err-c-in-Emacs.ensures.answer (c.in-Ok-Some.ensures.told t) (rw c.in-Ok-Some.ensures.steady met)))))
+pub returns-in-Ok-Some-eq91 : goal.returns-in-Ok-Some-eq91
+returns-in-Ok-Some-eq91 g c =
+    let feed = g.S.Source.feed in
+    let r = c.args.self.now in
+    on_reads feed (escape_from r.mode) Key key_answer IsKeyRefusal (bracket_from r.mode) r _ _ _
+    (on_peek feed (escape_from r.mode) (bracket_from r.mode) 0x5B r _ c.peek.new.self c.peek.result c.requires c.peek.ensures (cc) refl refl refl refl
+    (λ bytes last. refl))
+    c.key_of_bracket.ensures
 
-pub returns-in_err-c-in-Emacs-clause-left : goal.returns-in_err-c-in-Emacs-clause-left
-returns-in_err-c-in-Emacs-clause-left g c =
-    let p = err_from_is_err_and c.from_residual.result c.from_residual.ensures.1 in rw (p.1, p.2) (λ t met.
-    emacs_left c.args.self.now.mode (unread g.S.Source.coming c.args.self.now.bytes)
-    (unread g.S.Source.coming c.peek.new.self) c.in-Ok-Some.field-0-0 (g.S.Source.coming c.peek.new.self.source)
-    (g.S.Source.last c.args.self.now.bytes.source) (g.S.Source.last c.peek.new.self.source) _ c.in-Emacs.is
-    (ap (λ k. option_to_list k ++ g.S.Source.coming c.peek.new.self.source) (c.in-Ok-Some.ensures.kept ∙ c.in-Ok-Some.field-0-is))
-    (c.in-Ok-Some.ensures.same t) c.in-Ok-Some.ensures.last
-    (sym (c.in_err-c-in-Emacs.ensures.answer (c.in-Ok-Some.ensures.told t) (rw c.in-Ok-Some.ensures.steady met)))
-    ∙ c.in_err-c-in-Emacs.ensures.left (c.in-Ok-Some.ensures.told t) (rw c.in-Ok-Some.ensures.steady met))
+pub returns-in-Ok-Some-eq79 : goal.returns-in-Ok-Some-eq79
+returns-in-Ok-Some-eq79 g c =
+    let feed = g.S.Source.feed in
+    let r = c.args.self.now in
+    on_reads feed (escape_from r.mode) Key key_answer IsKeyRefusal (third_from r.mode) r _ _ _
+    (on_peek feed (escape_from r.mode) (third_from r.mode) 0x4F r _ c.peek.new.self c.peek.result c.requires c.peek.ensures (cc) refl refl refl refl
+    (λ bytes last. refl))
+    c.key_of_third.ensures
+
+pub returns-in_err-c-in-Emacs : goal.returns-in_err-c-in-Emacs
+returns-in_err-c-in-Emacs g c =
+    let p = err_from_is_err_and c.from_residual.result c.from_residual.ensures.1 in
+    let feed = g.S.Source.feed in
+    let r = c.args.self.now in
+    let seen = c.peek.new.self in
+    let byte = c.in-Ok-Some.field-0-0 in
+    let begins : option_to_list seen.kept ++ (feed seen.source).coming ≡ byte ∷ (feed seen.source).coming =
+    ap (λ k. option_to_list k ++ (feed seen.source).coming) (c.in-Ok-Some.ensures.kept ∙ c.in-Ok-Some.field-0-is) in
+    let char = c.in_err-c-in-Emacs.ensures in
+    rw (p.1, p.2)
+    (on_stops_at feed (escape_from r.mode) Key key_answer IsKeyRefusal (escape_from r.mode) r (record r { bytes = seen }) _ _
+    (emacs_refuses r.mode _ byte _ _ _ c.in-Emacs.is begins) (emacs_leaves r.mode _ byte _ _ _ c.in-Emacs.is begins)
+    (λ read. emacs_cuts r.mode read c.in-Emacs.is) (λ e kind. kind)
+    (on_look feed (escape_from r.mode) r (record r { bytes = seen }) _ c.requires c.in-Ok-Some.ensures refl refl refl refl)
+    char.reads refl refl refl char.ended char.ends char.cut)

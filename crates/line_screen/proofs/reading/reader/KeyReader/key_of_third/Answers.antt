@@ -1,15 +1,18 @@
-use Rattle.std.proofs.Common.{◌∙◌, sym}
+use Rattle.std.proofs.Common.{refl}
 use Rattle.std.proofs.lemmas.Result.{err_from_is_err_and}
-use Rattle.line_screen.specs.Unread.{chars}
+use Rattle.line_screen.specs.KeyGrammar.{Key, key_answer, in_third}
+use Rattle.line_screen.specs.KeyReading.{third_from}
+use Rattle.line_screen.specs.Reading.{IsKeyRefusal}
+use Rattle.line_screen.proofs.Onward.{on_here, on_stops}
 use Rattle.line_screen.proofs.Stopping.{third_refused, third_left}
 use Rattle.line_screen.proofs.reading.reader.KeyReader.key_of_third.Goals as goal
 
-pub returns-in_err-c-clause-answer : goal.returns-in_err-c-clause-answer
-returns-in_err-c-clause-answer g c =
-    let p = err_from_is_err_and c.from_residual.result c.from_residual.ensures.1 in rw (p.1, p.2) (λ t met.
-    sym (third_refused c.args.self.now.mode (chars g.S.Source.coming g.S.Source.last c.args.self.now.bytes) _ (sym (c.in_err-c.ensures.answer t met))))
-
-pub returns-in_err-c-clause-left : goal.returns-in_err-c-clause-left
-returns-in_err-c-clause-left g c =
-    let p = err_from_is_err_and c.from_residual.result c.from_residual.ensures.1 in rw (p.1, p.2) (λ t met.
-    third_left c.args.self.now.mode (chars g.S.Source.coming g.S.Source.last c.args.self.now.bytes) _ (sym (c.in_err-c.ensures.answer t met)) ∙ c.in_err-c.ensures.left t met)
+pub returns-in_err-c : goal.returns-in_err-c
+returns-in_err-c g c =
+    let p = err_from_is_err_and c.from_residual.result c.from_residual.ensures.1 in
+    let feed = g.S.Source.feed in
+    let r = c.args.self.now in
+    let char = c.in_err-c.ensures in
+    rw (p.1, p.2)
+    (on_stops feed (third_from r.mode) Key key_answer IsKeyRefusal (in_third r.mode) (third_refused r.mode) (third_left r.mode) (λ e kind. kind)
+    r r _ _ (on_here feed (third_from r.mode) r c.requires) char.reads refl refl refl char.ended char.ends char.cut)

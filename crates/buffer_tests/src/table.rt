@@ -1,0 +1,213 @@
+//! How a table is played. A row is `'ab|c' call = answer 'a|bc' events`: the line before, with `|` at the cursor, the
+//! call, what it answers, the line then, and what the listener was told. Without a line of its own a row goes on with the
+//! line that the row before it left.
+
+use crate::arguments::Arguments;
+use crate::log::Log;
+use line_buffer::{Layout, LineBuffer, OutOfMemory, Position};
+use stand_ins::lines::{line_of, shown_of};
+use stand_ins::tables::{call_and_answer, pictured};
+use std::alloc::{AllocError, Global};
+use std::process::Abort;
+use std::test::Fail;
+
+/// Plays rows, the first one on the empty line.
+pub(crate) fn plays(rt: &(impl AllocGlobal + Abort), rows: &str) -> Result<(), Fail> {
+    let mut line = line_of(rt.alloc(), "")?;
+    plays_on(rt, &mut line, rows)
+}
+
+/// Plays rows, the first one on this line.
+pub(crate) fn plays_on(
+    rt: &(impl AllocGlobal + Abort),
+    line: &mut LineBuffer,
+    rows: &str,
+) -> Result<(), Fail> {
+    for row in rows.lines() {
+        let Some((call, want)) = call_and_answer(row) else {
+            continue;
+        };
+        let call = begun(rt.alloc(), line, call)?;
+        let shown = step(rt.alloc(), line, call)?;
+        assert_eq!(rt; shown.as_str(), want, "{row}");
+    }
+    Ok(())
+}
+
+/// Takes the line that a row begins with, where it has one, and answers the call.
+pub(crate) fn begun<'a>(
+    alloc: Global,
+    line: &mut LineBuffer,
+    call: &'a str,
+) -> Result<&'a str, OutOfMemory> {
+    let Some(quoted) = call.strip_prefix('\'') else {
+        return Ok(call);
+    };
+    let (shown, call) = quoted.split_once('\'').unwrap_or((quoted, ""));
+    *line = line_of(alloc, shown)?;
+    Ok(call)
+}
+
+/// What a call answered, the line then, and the events.
+pub(crate) fn written(
+    alloc: Global,
+    answer: &str,
+    line: &LineBuffer,
+    log: &Log,
+) -> Result<String, OutOfMemory> {
+    let shown = shown_of(alloc, line)?;
+    let events = pictured(alloc, log.events.as_str())?;
+    let row = format!(in alloc; "{answer} '{shown}' {events}")?;
+    Ok(String::from_str(alloc, row.as_str().trim())?)
+}
+
+/// A text in quotes, or `none`.
+pub(crate) fn quoted(alloc: Global, text: Option<&str>) -> Result<String, AllocError> {
+    match text {
+        Some(text) => pictured(alloc, format!(in alloc; "'{text}'")?.as_str()),
+        None => String::from_str(alloc, "none"),
+    }
+}
+
+/// Makes a call, and answers what is then written.
+fn step(alloc: Global, line: &mut LineBuffer, call: &str) -> Result<String, Fail> {
+    let a = Arguments::of(call);
+    let mut log = Log::new(alloc);
+    let answer = answer(alloc, line, &a, &mut log)?;
+    Ok(written(alloc, answer.as_str(), line, &log)?)
+}
+
+/// Makes a call, and answers what it answers.
+fn answer(
+    alloc: Global,
+    line: &mut LineBuffer,
+    a: &Arguments<'_>,
+    log: &mut Log,
+) -> Result<String, Fail> {
+    if let Some(moved) = moved(line, a) {
+        return Ok(format!(in alloc; "{moved}")?);
+    }
+    if let Some(taken) = taken(alloc, line, a, log)? {
+        return Ok(format!(in alloc; "{taken}")?);
+    }
+    if let Some(changed) = changed(alloc, line, a, log)? {
+        return Ok(format!(in alloc; "{changed}")?);
+    }
+    match a.name {
+        "next_pos" => Ok(format!(in alloc; "{:?}", line.next_pos(a.n()))?),
+        "delete" => {
+            let text = line.delete(alloc, a.n(), log)?;
+            Ok(quoted(alloc, text.as_ref().map(|text| text.as_str()))?)
+        }
+        "update" | "replace" => exchanged(alloc, line, a, log),
+        _ => Ok(format!(in alloc; "{:?}", put(alloc, line, a, log)?)?),
+    }
+}
+
+/// Makes a motion, or answers where the cursor is; `None` where the call is another one.
+fn moved(line: &mut LineBuffer, a: &Arguments<'_>) -> Option<bool> {
+    let n = a.n();
+    Some(match a.name {
+        "move_forward" => line.move_forward(n),
+        "move_backward" => line.move_backward(n),
+        "move_home" => line.move_home(),
+        "move_end" => line.move_end(),
+        "move_buffer_start" => line.move_buffer_start(),
+        "move_buffer_end" => line.move_buffer_end(),
+        "move_to_prev_word" => line.move_to_prev_word(a.word, n),
+        "move_to_next_word" => line.move_to_next_word(a.at, a.word, n),
+        "move_to" => line.move_to(a.search, n),
+        "move_to_line_up" => line.move_to_line_up(n, &layout(a)),
+        "move_to_line_down" => line.move_to_line_down(n, &layout(a)),
+        "is_end_of_input" => line.is_end_of_input(),
+        "is_cursor_at_end" => line.is_cursor_at_end(),
+        _ => return None,
+    })
+}
+
+/// The layout behind a prompt that ends at a column.
+fn layout(a: &Arguments<'_>) -> Layout {
+    let mut layout = Layout::new(a.mode);
+    layout.prompt_size = Position {
+        col: a.column,
+        row: 0,
+    };
+    layout
+}
+
+/// Makes a deletion; `None` where the call is another one.
+fn taken(
+    alloc: Global,
+    line: &mut LineBuffer,
+    a: &Arguments<'_>,
+    log: &mut Log,
+) -> Result<Option<bool>, OutOfMemory> {
+    let n = a.n();
+    let taken = match a.name {
+        "backspace" => line.backspace(alloc, n, log),
+        "kill_line" => line.kill_line(alloc, log),
+        "kill_buffer" => line.kill_buffer(alloc, log),
+        "discard_line" => line.discard_line(alloc, log),
+        "discard_buffer" => line.discard_buffer(alloc, log),
+        "delete_prev_word" => line.delete_prev_word(alloc, a.word, n, log),
+        "delete_word" => line.delete_word(alloc, a.at, a.word, n, log),
+        "delete_to" => line.delete_to(alloc, a.search, n, log),
+        _ => return Ok(None),
+    };
+    Ok(Some(taken?))
+}
+
+/// Makes a change of what stands; `None` where the call is another one.
+fn changed(
+    alloc: Global,
+    line: &mut LineBuffer,
+    a: &Arguments<'_>,
+    log: &mut Log,
+) -> Result<Option<bool>, Fail> {
+    let changed = match a.name {
+        "transpose_chars" => line.transpose_chars(alloc, log),
+        "transpose_words" => line.transpose_words(alloc, a.n(), log),
+        "edit_word" => line.edit_word(alloc, a.action, log),
+        "indent" => line.indent(alloc, &a.movement(a.movement)?, a.amount, a.dedent, log),
+        _ => return Ok(None),
+    };
+    Ok(Some(changed?))
+}
+
+/// Puts text in at the cursor.
+fn put(
+    alloc: Global,
+    line: &mut LineBuffer,
+    a: &Arguments<'_>,
+    log: &mut Log,
+) -> Result<Option<bool>, Fail> {
+    let put = match a.name {
+        "insert" => line.insert(alloc, a.text.chars().next().unwrap_or(' '), a.n(), log),
+        "yank" => line.yank(alloc, a.text, a.n(), log),
+        "yank_pop" => {
+            let size = usize::from(a.n());
+            if size > line.pos() || !line.as_str().is_char_boundary(line.pos() - size) {
+                return Err(Fail::new("no text to exchange"));
+            }
+            line.yank_pop(alloc, size, a.text, log)
+        }
+        other => return Err(Fail::new(format_args!("no call: {other}"))),
+    };
+    Ok(put?)
+}
+
+/// Exchanges the whole text, or puts some in by `replace`. Answers nothing.
+fn exchanged(
+    alloc: Global,
+    line: &mut LineBuffer,
+    a: &Arguments<'_>,
+    log: &mut Log,
+) -> Result<String, Fail> {
+    let place = usize::from(a.n());
+    if a.name == "update" && a.text.is_char_boundary(place) {
+        line.update(alloc, a.text, place, log)?;
+    } else if line.as_str().is_char_boundary(place) {
+        line.replace(alloc, place..place, a.text, log)?;
+    }
+    Ok(String::new(alloc))
+}

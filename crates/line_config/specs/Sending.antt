@@ -1,0 +1,24 @@
+-- What calls do to a sink.
+use Rattle.std.specs.Prelude.{◌≡◌, ℕ, Bool, List, ◌++◌, IsTrue, Result, OnOk, OnErr}
+use Rattle.line_config.specs.declared.device.DeviceFailed.{DeviceFailed}
+
+-- a told sink stays told, and has taken these bytes behind what it held
+abbrev pub Takes : {D : Type 0} → (D → Bool) → (D → List ℕ) → D → D → List ℕ → Type 0
+Takes told held old new bytes = IsTrue (told old) → IsTrue (told new)
+    × (held new ≡ held old ++ bytes)
+
+-- what is held after is what was held before, and behind it a beginning of these bytes
+pub record AppendsSome (before bytes after : List ℕ) : Type 0 where
+  pub taken : List ℕ
+  pub rest : List ℕ
+  pub split : bytes ≡ taken ++ rest
+  pub held : after ≡ before ++ taken
+
+-- a call that is answered has sent these bytes, and the sink works as before; one that is refused
+-- says so because the sink has failed
+pub record Sends {D A : Type 0} (told : D → Bool) (held : D → List ℕ) (failed : D → Bool)
+    (bytes : List ℕ)
+    (old new : D) (result : Result A DeviceFailed) : Type 0 where
+  pub sent : OnOk result (Takes told held old new bytes)
+  pub works : OnOk result (failed new ≡ failed old)
+  pub err : OnErr result (IsTrue (failed new))

@@ -1,0 +1,245 @@
+-- A key or a pasted text, read part by part: what was read leads from one definition to the next.
+use Rattle.std.proofs.Common.{◌≡◌, ℕ, ◌+◌, ◌≤◌, Bool, true, false, IsTrue, List, [], ◌∷◌, ◌++◌, Option, Some, None, Result, Ok, Err, is_err, OnErr, IfOk, refl, sym, ap, ◌∙◌, subst, append_assoc, arith}
+use Rattle.std.specs.Char.{IsScalar, encode_utf8}
+use Rattle.std.specs.Option.{option_to_list}
+use Rattle.line_config.specs.declared.device.DeviceFailed.{DeviceFailed}
+use Rattle.line_config.specs.declared.device.Last.{Last}
+use Rattle.line_config.specs.declared.device.Last.TheVariants.{End, Failed}
+use Rattle.line_config.specs.declared.errors.ReadlineError.{ReadlineError}
+use Rattle.line_config.specs.declared.errors.ReadlineError.TheVariants.{Eof, Reader}
+use Rattle.line_config.specs.Feed.{Feed}
+use Rattle.line_config.specs.Refusals.{MetBy}
+use Rattle.line_screen.specs.declared.reading.lookahead.Lookahead.{Lookahead}
+use Rattle.line_screen.specs.declared.reading.reader.KeyReader.{KeyReader}
+use Rattle.line_screen.specs.Characters.{ReadsFirst}
+use Rattle.line_screen.specs.Input.{Chars, Next, chars_of, char_at, behind_char}
+use Rattle.line_screen.specs.KeyGrammar.{Readings, left_after}
+use Rattle.line_screen.specs.KeyReading.{ReadsPart}
+use Rattle.line_screen.specs.Reader.{feed_in, left_in}
+use Rattle.line_screen.specs.Reading.{Cut, IsCut, IsKeyRefusal, ReadsChar, PeeksByte}
+use Rattle.line_screen.specs.Unread.{ahead}
+use Rattle.line_screen.proofs.EncodedChars.{char_read}
+use Rattle.line_screen.proofs.ReadChars.{chars_are_encoded}
+use Rattle.line_screen.proofs.Runs.{if_ok}
+
+-- whatever follows what was read, it reads on by the second definition
+pub record Leads {R : Type 0} (d d' : List ℕ → Last → R) (before after : List ℕ) : Type 0 where
+  pub read : List ℕ
+  pub split : before ≡ read ++ after
+  pub same : (bytes : List ℕ) (last : Last) → d (read ++ bytes) last ≡ d' bytes last
+
+pub leads_is : {R : Type 0} (d d' : List ℕ → Last → R) (a b : List ℕ) (last : Last) → Leads d d' a b → d a last ≡ d' b last
+leads_is d d' a b last l = ap (λ bytes. d bytes last) l.split ∙ l.same b last
+
+leads_then : {R : Type 0} (d d' d'' : List ℕ → Last → R) (a b c : List ℕ) → Leads d d' a b → Leads d' d'' b c → Leads d d'' a c
+leads_then d d' d'' a b c one two =
+    record {
+      read = one.read ++ two.read;
+      split = one.split ∙ ap (λ bytes. one.read ++ bytes) two.split ∙ sym (append_assoc one.read two.read c);
+      same = λ bytes last.
+          ap (λ xs. d xs last) (append_assoc one.read two.read bytes) ∙ one.same (two.read ++ bytes) last ∙ two.same bytes last;
+    }
+
+leads_cut : {R A : Type 0} (answer : R → Result A ReadlineError) (d d' : List ℕ → Last → R) (a b c : List ℕ)
+    → Leads d d' a b → Cut answer d' b c → Cut answer d a c
+leads_cut answer d d' a b c one cut =
+    record {
+      read = one.read ++ cut.read;
+      split = one.split ∙ ap (λ bytes. one.read ++ bytes) cut.split ∙ sym (append_assoc one.read cut.read c);
+      fails = ap answer (one.same cut.read Failed) ∙ cut.fails;
+    }
+
+-- a character was read
+leads_char : (f : Chars → Readings) (g : List ℕ → Last → Readings) (c : ℕ) (before after : List ℕ) (last : Last)
+    → chars_of before last ≡ Next c after (chars_of after last)
+    → ((bytes : List ℕ) (last : Last) → f (Next c bytes (chars_of bytes last)) ≡ g bytes last)
+    → Leads (λ bytes last. f (chars_of bytes last)) g before after
+leads_char f g c before after last is goes =
+    let first : ReadsFirst last before (Next c after (chars_of after last)) = subst (ReadsFirst last before) is (chars_are_encoded before last) in
+    record {
+      read = encode_utf8 c;
+      split = first.1;
+      same = λ bytes last'. ap f (char_read c bytes last' first.0) ∙ goes bytes last';
+    }
+
+abbrev pub no_char : ReadlineError → Result ℕ ReadlineError
+no_char e = Err e
+
+abbrev refusal : (X : Type 0) → ReadlineError → Result X ReadlineError
+refusal X e = Err e
+
+-- a reader that has read on, and what leads there
+pub record On {S : Type 0} (feed : S → Feed) (d d' : List ℕ → Last → Readings) (a m : KeyReader S) : Type 0 where
+  pub leads : IsTrue (feed_in feed a).told → Leads d d' (left_in feed a) (left_in feed m)
+  pub told : IsTrue (feed_in feed a).told → IsTrue (feed_in feed m).told
+  pub steady : (feed_in feed m).steady ≡ (feed_in feed a).steady
+  pub last : (feed_in feed m).last ≡ (feed_in feed a).last
+  pub works : (feed_in feed a).failed ≡ false → (feed_in feed m).failed ≡ false
+  pub keeps : (feed_in feed m).bound ≤ (feed_in feed a).bound
+  pub mode : m.mode ≡ a.mode
+  pub past : m.refused ≡ a.refused
+  pub owed : m.owed ≡ false
+
+pub on_here : {S : Type 0} (feed : S → Feed) (d : List ℕ → Last → Readings) (a : KeyReader S) → a.owed ≡ false → On feed d d a a
+on_here feed d a none =
+    record {
+      leads = λ t. record { read = []; split = refl; same = λ bytes last. refl };
+      told = λ t. t;
+      steady = refl;
+      last = refl;
+      works = λ fine. fine;
+      keeps = omega arith;
+      mode = refl;
+      past = refl;
+      owed = none;
+    }
+
+module _ {S : Type 0} (feed : S → Feed) (d : List ℕ → Last → Readings) where
+  char_is : (c : ℕ) (m n : Lookahead S) → ReadsChar feed chars_of m n (Ok c) → IsTrue (ahead feed m).told
+      → chars_of (ahead feed m).coming (ahead feed m).last ≡ Next c (ahead feed n).coming (chars_of (ahead feed n).coming (ahead feed m).last)
+  char_is c m n char t =
+      char.ok t ∙ ap (λ last. Next c (ahead feed n).coming (chars_of (ahead feed n).coming last)) char.last
+
+  -- by one more character
+  pub on_char : (f : Chars → Readings) (g : List ℕ → Last → Readings) (c : ℕ) (a m b : KeyReader S)
+      → On feed d (λ bytes last. f (chars_of bytes last)) a m → ReadsChar feed chars_of m.bytes b.bytes (Ok c)
+      → b.mode ≡ m.mode → b.refused ≡ m.refused → b.owed ≡ m.owed
+      → ((bytes : List ℕ) (last : Last) → f (Next c bytes (chars_of bytes last)) ≡ g bytes last)
+      → On feed d g a b
+  on_char f g c a m b on char mode past owed goes =
+      record {
+        leads = λ t.
+            leads_then d (λ bytes last. f (chars_of bytes last)) g (left_in feed a) (left_in feed m) (left_in feed b) (on.leads t)
+            (leads_char f g c (left_in feed m) (left_in feed b) (feed_in feed m).last (char_is c m.bytes b.bytes char (on.told t)) goes);
+        told = λ t. char.told (on.told t);
+        steady = char.steady ∙ on.steady;
+        last = char.last ∙ on.last;
+        works = λ fine. char.failure (on.works fine);
+        keeps = let one = on.keeps in let two = char.keeps in omega arith;
+        mode = mode ∙ on.mode;
+        past = past ∙ on.past;
+        owed = owed ∙ on.owed;
+      }
+
+  -- by a byte that was seen before it was taken
+  pub on_peek : (g : List ℕ → Last → Readings) (byte : ℕ) (a b : KeyReader S) (n : Lookahead S) (r : Result (Option ℕ) DeviceFailed)
+      → a.owed ≡ false → PeeksByte feed a.bytes n r → r ≡ Ok (Some byte) → b.bytes ≡ record n { kept = None }
+      → b.mode ≡ a.mode → b.refused ≡ a.refused → b.owed ≡ a.owed
+      → ((bytes : List ℕ) (last : Last) → d (byte ∷ bytes) last ≡ g bytes last)
+      → On feed d g a b
+  on_peek g byte a b n r none peek is bytes mode past owed goes =
+      let kept : n.kept ≡ Some byte = rw is at peek.kept in
+      let fine : (feed_in feed a).failed ≡ false → (ahead feed n).failed ≡ false = rw is at peek.failure in
+      (record {
+        leads = λ t. record {
+          read = byte ∷ [];
+          split = sym (peek.read t) ∙ ap (λ k. option_to_list k ++ (feed n.source).coming) kept ∙ ap (λ l. byte ∷ (ahead feed l).coming) (sym bytes);
+          same = goes;
+        };
+        told = λ t. subst (λ l. IsTrue (ahead feed l).told) (sym bytes) (peek.told t);
+        steady = ap (λ l. (ahead feed l).steady) bytes ∙ peek.steady;
+        last = ap (λ l. (ahead feed l).last) bytes ∙ peek.last;
+        works = λ h. ap (λ l. (ahead feed l).failed) bytes ∙ fine h;
+        keeps =
+            let low = peek.keeps in
+            let all : (feed_in feed b).bound ≡ (feed n.source).bound + 0 = ap (λ l. (ahead feed l).bound) bytes in
+            omega arith;
+        mode = mode;
+        past = past;
+        owed = owed ∙ none;
+      })
+
+  -- by nothing: a byte was seen and is kept
+  pub on_look : (a b : KeyReader S) (r : Result (Option ℕ) DeviceFailed) → a.owed ≡ false → PeeksByte feed a.bytes b.bytes r
+      → is_err r ≡ false → b.mode ≡ a.mode → b.refused ≡ a.refused → b.owed ≡ a.owed → On feed d d a b
+  on_look a b r none peek fine mode past owed =
+      record {
+        leads = λ t. record { read = []; split = sym (peek.read t); same = λ bytes last. refl };
+        told = peek.told;
+        steady = peek.steady;
+        last = peek.last;
+        works = λ h. peek.failure h ∙ fine;
+        keeps = peek.keeps;
+        mode = mode;
+        past = past;
+        owed = owed ∙ none;
+      }
+
+  module _ {X : Type 0} (item : X → List ℕ → Readings → Readings) (answer_of : Readings → Result X ReadlineError)
+      (kinds : ReadlineError → Type 0) where
+    -- what is read from there on is read from the start
+    pub on_reads : (d' : List ℕ → Last → Readings) (a m b : KeyReader S) (r : Result X ReadlineError) → On feed d d' a m
+        → ReadsPart feed item answer_of kinds d' m b r → ReadsPart feed item answer_of kinds d a b r
+    on_reads d' a m b r on reads =
+        let same : IsTrue (feed_in feed a).told → d (left_in feed a) (feed_in feed a).last ≡ d' (left_in feed m) (feed_in feed m).last =
+        λ t. leads_is d d' (left_in feed a) (left_in feed m) (feed_in feed a).last (on.leads t) ∙ ap (d' (left_in feed m)) (sym on.last) in
+        let met : MetBy (feed_in feed a).steady r → MetBy (feed_in feed m).steady r = λ h. subst (λ s. MetBy s r) (sym on.steady) h in
+        record {
+          ok = λ t. if_ok r _ _ (λ x h. same t ∙ h) (reads.ok (on.told t));
+          answer = λ t h. reads.answer (on.told t) (met h) ∙ ap answer_of (sym (same t));
+          left = λ t h. ap left_after (same t) ∙ reads.left (on.told t) (met h);
+          spent = λ t h. reads.spent (on.told t) h;
+          ends = λ t h. sym on.last ∙ reads.ends (on.told t) h;
+          owed = reads.owed;
+          mode = reads.mode ∙ on.mode;
+          past = reads.past ∙ on.past;
+          refused = reads.refused;
+          reason = reads.reason;
+          failure = λ fine. reads.failure (on.works fine);
+          told = λ t. reads.told (on.told t);
+          steady = reads.steady ∙ on.steady;
+          last = reads.last ∙ on.last;
+          keeps = let one = on.keeps in let two = reads.keeps in omega arith;
+          cut = λ t is. leads_cut answer_of d d' (left_in feed a) (left_in feed m) (left_in feed b) (on.leads t) (reads.cut (on.told t) is);
+        }
+
+    same_refusal : (e e' : ReadlineError) → refusal X e ≡ refusal X e' → e ≡ e'
+    same_refusal e e' h = cc
+
+    -- no character stands there
+    pub on_stops_at : (d' : List ℕ → Last → Readings) (a m b : KeyReader S) (e : ReadlineError)
+        → (char_at (chars_of (left_in feed m) (feed_in feed m).last) ≡ Err e → answer_of (d' (left_in feed m) (feed_in feed m).last) ≡ Err e)
+        → (char_at (chars_of (left_in feed m) (feed_in feed m).last) ≡ Err e
+        → left_after (d' (left_in feed m) (feed_in feed m).last) ≡ behind_char (chars_of (left_in feed m) (feed_in feed m).last))
+        → ((read : List ℕ) → char_at (chars_of read Failed) ≡ Err Reader → answer_of (d' read Failed) ≡ Err Reader)
+        → ((e : ReadlineError) → IsKeyRefusal e → kinds e) → On feed d d' a m → ReadsChar feed chars_of m.bytes b.bytes (Err e)
+        → b.mode ≡ m.mode → b.refused ≡ m.refused → b.owed ≡ m.owed
+        → (IsTrue (feed_in feed m).told → no_char e ≡ no_char Eof → (feed_in feed b).coming ≡ [])
+        → (IsTrue (feed_in feed m).told → no_char e ≡ no_char Eof → (feed_in feed m).last ≡ End)
+        → IsCut char_at chars_of (feed_in feed m) (feed_in feed b) (no_char e)
+        → ReadsPart feed item answer_of kinds d a b (Err e)
+    on_stops_at d' a m b e refuses leaves cuts kind on char mode past owed spent ends cut =
+        on_reads d' a m b (Err e) on
+        (record {
+          ok = λ t. tt;
+          answer = λ t h. sym (refuses (sym (char.answer t h)));
+          left = λ t h. leaves (sym (char.answer t h)) ∙ char.left t h;
+          spent = λ t h. spent t (ap no_char (same_refusal e Eof h));
+          ends = λ t h. ends t (ap no_char (same_refusal e Eof h));
+          owed = owed ∙ on.owed;
+          mode = mode;
+          past = past;
+          refused = kind e char.refused;
+          reason = λ h. char.reason (ap no_char (same_refusal e Reader h));
+          failure = char.failure;
+          told = char.told;
+          steady = char.steady;
+          last = char.last;
+          keeps = char.keeps;
+          cut = λ t h.
+              let here = cut t (ap no_char (same_refusal e Reader h)) in
+              record { read = here.read; split = here.split; fails = cuts here.read here.fails };
+        })
+
+    pub on_stops : (f : Chars → Readings) → ((chars : Chars) (e : ReadlineError) → char_at chars ≡ Err e → answer_of (f chars) ≡ Err e)
+        → ((chars : Chars) (e : ReadlineError) → char_at chars ≡ Err e → left_after (f chars) ≡ behind_char chars)
+        → ((e : ReadlineError) → IsKeyRefusal e → kinds e) → (a m b : KeyReader S) (e : ReadlineError)
+        → On feed d (λ bytes last. f (chars_of bytes last)) a m → ReadsChar feed chars_of m.bytes b.bytes (Err e)
+        → b.mode ≡ m.mode → b.refused ≡ m.refused → b.owed ≡ m.owed
+        → (IsTrue (feed_in feed m).told → no_char e ≡ no_char Eof → (feed_in feed b).coming ≡ [])
+        → (IsTrue (feed_in feed m).told → no_char e ≡ no_char Eof → (feed_in feed m).last ≡ End)
+        → IsCut char_at chars_of (feed_in feed m) (feed_in feed b) (no_char e)
+        → ReadsPart feed item answer_of kinds d a b (Err e)
+    on_stops f refuses leaves kind a m b e =
+        on_stops_at (λ bytes last. f (chars_of bytes last)) a m b e (refuses (chars_of (left_in feed m) (feed_in feed m).last) e)
+        (leaves (chars_of (left_in feed m) (feed_in feed m).last) e) (λ read h. refuses (chars_of read Failed) Reader h) kind

@@ -1,0 +1,107 @@
+-- What a call that reads a part of a key or a pasted text makes of the reader, whether it is
+-- answered or refused.
+use Rattle.std.specs.Prelude.{◌≡◌, ℕ, ◌≤◌, false, IsTrue, List, [], Some, Result, Err, IfOk, IfErr, OnErr}
+use Rattle.line_config.specs.declared.device.Last.{Last}
+use Rattle.line_config.specs.declared.device.Last.TheVariants.{End}
+use Rattle.line_config.specs.declared.errors.ReadlineError.{ReadlineError}
+use Rattle.line_config.specs.declared.errors.ReadlineError.TheVariants.{Eof, Reader, Memory}
+use Rattle.line_config.specs.declared.settings.EditMode.{EditMode}
+use Rattle.line_config.specs.Feed.{Feed}
+use Rattle.line_config.specs.Refusals.{MetBy}
+use Rattle.line_keys.specs.declared.key.KeyEvent.{KeyEvent}
+use Rattle.line_keys.specs.Coming.{Coming}
+use Rattle.line_keys.specs.Faults.{IsReaderRefusal}
+use Rattle.line_screen.specs.Input.{Chars, chars_of, is_failure}
+use Rattle.line_screen.specs.KeyGrammar.{Readings, Key, Paste, readings, in_escape, in_third, in_bracket, in_linux, in_control, in_unknown, in_paste, key_answer, text_answer, left_after, read_from}
+use Rattle.line_screen.specs.Reader.{feed_in, left_in, reads, coming_by, char_answer}
+use Rattle.line_screen.specs.Reading.{IsKeyRefusal, IsCut}
+use Rattle.line_screen.specs.declared.reading.reader.KeyReader.{KeyReader}
+use Rattle.line_screen.specs.declared.reading.sequence.Parameters.{Parameters}
+
+-- what bytes read as from a place on: at a key, behind ESC, behind ESC O, behind ESC [, behind ESC
+-- [ [, behind ESC [ and parameters, behind an intermediate character, in a pasted text
+abbrev pub key_from : EditMode → List ℕ → Last → Readings
+key_from mode bytes last = readings mode (chars_of bytes last)
+
+abbrev pub escape_from : EditMode → List ℕ → Last → Readings
+escape_from mode bytes last = in_escape mode bytes (chars_of bytes last)
+    (readings mode (chars_of bytes last))
+
+abbrev pub third_from : EditMode → List ℕ → Last → Readings
+third_from mode bytes last = in_third mode (chars_of bytes last)
+
+abbrev pub bracket_from : EditMode → List ℕ → Last → Readings
+bracket_from mode bytes last = in_bracket mode (chars_of bytes last)
+
+abbrev pub linux_from : EditMode → List ℕ → Last → Readings
+linux_from mode bytes last = in_linux mode (chars_of bytes last)
+
+abbrev pub control_from : EditMode → Parameters → List ℕ → Last → Readings
+control_from mode written bytes last = in_control mode written (chars_of bytes last)
+
+abbrev pub unknown_from : EditMode → List ℕ → Last → Readings
+unknown_from mode bytes last = in_unknown mode (chars_of bytes last)
+
+abbrev pub text_from : EditMode → List ℕ → Last → Readings
+text_from mode bytes last = in_paste mode [] false 0 (chars_of bytes last)
+
+-- an item is read by a definition of readings, where the source's failure comes or is foretold: the
+-- item, the bytes left and what they read as are the definition's, or the refusal and the bytes
+-- left
+pub record ReadsPart {S X : Type 0} (feed : S → Feed) (item : X → List ℕ → Readings → Readings)
+    (answer_of : Readings → Result X ReadlineError) (IsRefusal : ReadlineError → Type 0)
+    (definition : List ℕ → Last → Readings) (old new : KeyReader S)
+    (result : Result X ReadlineError) : Type 0 where
+  pub ok : IsTrue (feed_in feed old).told
+      → IfOk result (λ x. definition (left_in feed old) (feed_in feed old).last
+      ≡ item x (left_in feed new) (reads feed new))
+  pub answer : IsTrue (feed_in feed old).told → MetBy (feed_in feed old).steady result
+      → result ≡ answer_of (definition (left_in feed old) (feed_in feed old).last)
+  pub left : IsTrue (feed_in feed old).told → MetBy (feed_in feed old).steady result
+      → left_after (definition (left_in feed old) (feed_in feed old).last) ≡ left_in feed new
+  pub spent : IsTrue (feed_in feed old).told → result ≡ Err Eof → left_in feed new ≡ []
+  pub ends : IsTrue (feed_in feed old).told → result ≡ Err Eof → (feed_in feed old).last ≡ End
+  pub owed : OnErr result (new.owed ≡ false)
+  pub mode : new.mode ≡ old.mode
+  pub past : new.refused ≡ old.refused
+  pub refused : IfErr result IsRefusal
+  pub reason : result ≡ Err Reader → IsTrue (feed_in feed new).failed
+  pub failure : (feed_in feed old).failed ≡ false → (feed_in feed new).failed ≡ is_failure result
+  pub told : IsTrue (feed_in feed old).told → IsTrue (feed_in feed new).told
+  pub steady : (feed_in feed new).steady ≡ (feed_in feed old).steady
+  pub last : (feed_in feed new).last ≡ (feed_in feed old).last
+  pub keeps : (feed_in feed new).bound ≤ (feed_in feed old).bound
+  pub cut : IsCut answer_of definition (feed_in feed old) (feed_in feed new) result
+
+abbrev pub ReadsKey : {S : Type 0} → (S → Feed) → (List ℕ → Last → Readings) → KeyReader S
+    → KeyReader S
+    → Result KeyEvent ReadlineError → Type 0
+ReadsKey feed definition old new result = ReadsPart feed Key key_answer IsKeyRefusal definition old
+    new result
+
+abbrev pub ReadsText : {S : Type 0} → (S → Feed) → (List ℕ → Last → Readings) → KeyReader S
+    → KeyReader S
+    → Result (List ℕ) ReadlineError → Type 0
+ReadsText feed definition old new result = ReadsPart feed Paste text_answer IsReaderRefusal
+    definition old new result
+
+-- a call of the reader that answers Reader was cut short by a failure of the source: now, or at an
+-- earlier call
+abbrev pub CutsCall : {S X : Type 0} → (S → Feed) → (Coming → Result X ReadlineError) → KeyReader S
+    → KeyReader S
+    → Result X ReadlineError → Type 0
+CutsCall feed answer_of old new result =
+    IsCut (λ left. answer_of (coming_by (feed_in feed old).failed old.refused left))
+    (λ bytes last. read_from old.mode old.owed (chars_of bytes last)) (feed_in feed old)
+    (feed_in feed new) result
+
+-- the same where a character is asked for
+abbrev pub CutsChar : {S : Type 0} → (S → Feed) → KeyReader S → KeyReader S → Result ℕ ReadlineError
+    → Type 0
+CutsChar feed old new result =
+    IsCut (λ chars. char_answer (feed_in feed old).failed old.refused old.owed chars) chars_of
+    (feed_in feed old) (feed_in feed new) result
+
+-- want of memory is an earlier call's
+abbrev pub IsMemoryKept : {S X : Type 0} → KeyReader S → Result X ReadlineError → Type 0
+IsMemoryKept old result = IfErr result (λ e. e ≡ Memory → old.refused ≡ Some Memory)

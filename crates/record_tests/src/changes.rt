@@ -1,0 +1,77 @@
+//! A record by itself, told of changes. A row is a call, behind `=` what it answers, and the last insertion as the
+//! record has it then, or `none`.
+
+use line_record::Changeset;
+use stand_ins::tables::{call_and_answer, word_and_rest};
+use std::alloc::Global;
+use std::process::Abort;
+use std::test::Fail;
+
+/// Tells of a change: a place, and one text or two; `''` is no text.
+fn told(alloc: Global, changes: &mut Changeset, call: &str, words: &str) -> Result<(), Fail> {
+    let (place, texts) = word_and_rest(words);
+    let place = place.parse::<usize>()?;
+    let (first, second) = word_and_rest(texts);
+    let first = first.trim_matches('\'');
+    let second = second.trim_matches('\'');
+    match call {
+        "insert" => changes.insert(alloc, place, first.chars().next().unwrap_or(' '))?,
+        "insert_str" => changes.insert_str(alloc, place, first)?,
+        "delete" => changes.delete(alloc, place, first)?,
+        "replace" => changes.replace(alloc, place, first, second)?,
+        "truncate" => changes.truncate(place),
+        other => return Err(Fail::new(format_args!("no call: {other}"))),
+    }
+    Ok(())
+}
+
+/// Makes a call, and answers what it answers.
+fn made(alloc: Global, changes: &mut Changeset, call: &str) -> Result<String, Fail> {
+    let (call, words) = word_and_rest(call);
+    match call {
+        "begin" => return Ok(format!(in alloc; "{} ", changes.begin(alloc)?)?),
+        "end" => return Ok(format!(in alloc; "{} ", changes.end(alloc)?)?),
+        "look" => {}
+        _ => told(alloc, changes, call, words)?,
+    }
+    Ok(String::new(alloc))
+}
+
+/// Makes each row's call.
+fn plays(rt: &(impl AllocGlobal + Abort), changes: &mut Changeset, rows: &str) -> Result<(), Fail> {
+    for row in rows.lines() {
+        let Some((call, want)) = call_and_answer(row) else {
+            continue;
+        };
+        let mut shown = made(rt.alloc(), changes, call)?;
+        let last = changes.last_insert(rt.alloc())?;
+        match (&last, changes.last_insert_text()) {
+            (Some(last), Some(text)) if last.as_str() == text => shown.push_str(text)?,
+            (None, None) => shown.push_str("none")?,
+            _ => shown.push_str("two answers")?,
+        }
+        assert_eq!(rt; shown.as_str(), want, "{row}");
+    }
+    Ok(())
+}
+
+#[test]
+fn changes_recorded_by_themselves(rt: HostRuntime) -> Result<(), Fail> {
+    let mut changes = Changeset::new(rt.alloc())?;
+    let told = "
+        look = none
+        insert 0 a = a
+        insert 1 b = ab
+        begin = 1 none
+        replace 0 ab xyz = xyz
+        replace 3 '' ! = xyz!
+        insert_str 4 '' = xyz!
+        delete 4 '' = xyz!
+        replace 4 '' '' = xyz!
+        end = true xyz!
+        ";
+    plays(&rt, &mut changes, told)?;
+    let mut copy = changes.try_clone(rt.alloc())?;
+    plays(&rt, &mut changes, "delete 0 x = none\ntruncate 1 = ab")?;
+    plays(&rt, &mut copy, "look = xyz!")
+}

@@ -1,0 +1,13 @@
+//! What `keyline` promises, at work: worked sessions, and sessions over devices that fail.
+#![tactic(auto)]
+
+#[cfg(test)]
+mod endings;
+#[cfg(test)]
+mod faults;
+#[cfg(test)]
+mod fixtures;
+#[cfg(test)]
+mod reading;
+#[cfg(test)]
+mod sessions;

@@ -1,0 +1,127 @@
+//! Readers and writers of std that give and take in pieces, are interrupted or fail, and that write down what they did.
+
+use crate::tables::word_and_rest;
+use std::cell::{Cell, RefCell};
+use std::io;
+use std::io::{ErrorKind, Read, Write};
+
+/// What a reader or a writer does at its calls, a word for each: the most bytes that it gives or takes, `interrupted` or
+/// `broken`. A word that ends in `..` is for all calls from there on; after the last word it gives or takes all there is.
+#[derive(Drop)]
+pub struct Turns<'a> {
+    left: &'a str,
+    calls: &'a Cell<usize>,
+}
+
+impl<'a> Turns<'a> {
+    /// The turns, with the place where calls are counted.
+    pub fn new(words: &'a str, calls: &'a Cell<usize>) -> Self {
+        Turns { left: words, calls }
+    }
+
+    /// How many bytes this call gives or takes at most.
+    fn next(&mut self) -> io::Result<usize> {
+        self.calls.set(self.calls.get().saturating_add(1));
+        let (word, behind) = word_and_rest(self.left);
+        let turn = match word.strip_suffix("..") {
+            Some(turn) => turn,
+            None => {
+                self.left = behind;
+                word
+            }
+        };
+        match turn {
+            "interrupted" => Err(io::Error::from(ErrorKind::Interrupted)),
+            "broken" => Err(io::Error::from(ErrorKind::BrokenPipe)),
+            most => Ok(most.parse::<usize>().unwrap_or(usize::MAX)),
+        }
+    }
+}
+
+/// A reader over a slice.
+#[derive(Drop)]
+pub struct Pieces<'a> {
+    pub bytes: &'a [u8],
+    pub turns: Turns<'a>,
+}
+
+impl Read for Pieces<'_> {
+    fn read(&mut self, buf: &mut [u8]) -> io::Result<usize> {
+        let most = self.turns.next()?;
+        let count = most.min(buf.len()).min(self.bytes.len());
+        let (given, left) = self.bytes.split_at(count);
+        buf[..count].copy_from_slice(given);
+        self.bytes = left;
+        Ok(count)
+    }
+}
+
+/// A writer into memory, with its turns at writes and at flushes.
+#[derive(Drop)]
+pub struct Taker<'a> {
+    pub taken: Vec<u8>,
+    pub turns: Turns<'a>,
+    pub flushes: Turns<'a>,
+}
+
+impl Write for Taker<'_> {
+    fn write(&mut self, buf: &[u8]) -> io::Result<usize> {
+        let count = self.turns.next()?.min(buf.len());
+        self.taken.extend_from_slice(&buf[..count])?;
+        Ok(count)
+    }
+
+    fn flush(&mut self) -> io::Result<()> {
+        self.flushes.next()?;
+        Ok(())
+    }
+}
+
+/// What several devices did, in its order: an entry is a name, a colon, the bytes and a semicolon.
+pub type Log = RefCell<Vec<u8>>;
+
+fn note(log: &Log, name: &str, bytes: &[u8]) -> io::Result<()> {
+    let Ok(mut entries) = log.try_borrow_mut() else {
+        return Err(io::Error::from(ErrorKind::Other));
+    };
+    for piece in [name.as_bytes(), b":".as_slice(), bytes, b";".as_slice()] {
+        entries.extend_from_slice(piece)?;
+    }
+    Ok(())
+}
+
+/// A reader that gives one byte at a call, and writes down `read`.
+#[derive(Drop)]
+pub struct LoggedReader<'a> {
+    pub bytes: &'a [u8],
+    pub log: &'a Log,
+}
+
+impl Read for LoggedReader<'_> {
+    fn read(&mut self, buf: &mut [u8]) -> io::Result<usize> {
+        let count = buf.len().min(self.bytes.len()).min(1);
+        let (given, left) = self.bytes.split_at(count);
+        note(self.log, "read", given)?;
+        buf[..count].copy_from_slice(given);
+        self.bytes = left;
+        Ok(count)
+    }
+}
+
+/// A writer that writes down what it takes under its name, and each flush.
+#[derive(Drop)]
+pub struct LoggedWriter<'a> {
+    pub name: &'static str,
+    pub log: &'a Log,
+}
+
+impl Write for LoggedWriter<'_> {
+    fn write(&mut self, buf: &[u8]) -> io::Result<usize> {
+        note(self.log, self.name, buf)?;
+        Ok(buf.len())
+    }
+
+    fn flush(&mut self) -> io::Result<()> {
+        note(self.log, self.name, b"flush")
+    }
+}

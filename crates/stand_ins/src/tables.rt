@@ -1,0 +1,112 @@
+//! The notation of tables of text.
+//!
+//! A row has a call, ` = `, and what it answers. A control character stands as its picture: `␛` is ESC, `␍` is CR, `␊` is
+//! LF; `␠` is a blank that would be lost at an end.
+
+use std::alloc::{AllocError, Global};
+
+/// The call of a row, and what it answers: nothing where no ` = ` stands in it. A blank line is no row.
+pub fn call_and_answer(row: &str) -> Option<(&str, &str)> {
+    if row.trim().is_empty() {
+        return None;
+    }
+    let (call, answer) = row.split_once(" = ").unwrap_or((row, ""));
+    Some((call.trim(), answer.trim()))
+}
+
+/// The first word, and what stands behind it.
+pub fn word_and_rest(text: &str) -> (&str, &str) {
+    let (word, rest) = text.split_once(' ').unwrap_or((text, ""));
+    (word, rest.trim_start_matches(' '))
+}
+
+// The character that a picture shows. Any other character shows itself.
+fn shown_by(picture: char) -> char {
+    match u32::from(picture) {
+        code @ 0x2400..=0x2420 => char::from_u32(code - 0x2400).unwrap_or(picture),
+        0x2421 => '\x7f',
+        _ => picture,
+    }
+}
+
+// The picture of a control character.
+fn picture_of(c: char) -> char {
+    match c {
+        '\0'..='\x1f' => char::from_u32(u32::from(c) + 0x2400).unwrap_or(c),
+        '\x7f' => '␡',
+        _ => c,
+    }
+}
+
+/// The text that is meant by one with pictures.
+pub fn meant(alloc: Global, shown: &str) -> Result<String, AllocError> {
+    let mut text = String::new(alloc);
+    for c in shown.chars() {
+        text.push(shown_by(c))?;
+    }
+    Ok(text)
+}
+
+/// A text with pictures in place of its control characters.
+pub fn pictured(alloc: Global, text: &str) -> Result<String, AllocError> {
+    let mut shown = String::new(alloc);
+    for c in text.chars() {
+        shown.push(picture_of(c))?;
+    }
+    Ok(shown)
+}
+
+/// The bytes that are meant: a text with pictures, in which `‹c3 28›` is the bytes C3 and 28.
+pub fn meant_bytes(alloc: Global, shown: &str) -> Result<Vec<u8>, AllocError> {
+    let mut bytes = Vec::new(alloc);
+    for piece in shown.split('‹') {
+        let (numbers, text) = piece.split_once('›').unwrap_or(("", piece));
+        for number in numbers.split_whitespace() {
+            bytes.push(u8::from_str_radix(number, 16).unwrap_or(b'?'))?;
+        }
+        bytes.extend_from_slice(meant(alloc, text)?.as_bytes())?;
+    }
+    Ok(bytes)
+}
+
+/// Bytes with pictures, and those that are no text by their numbers.
+pub fn pictured_bytes(alloc: Global, bytes: &[u8]) -> Result<String, AllocError> {
+    let mut shown = String::new(alloc);
+    for chunk in bytes.utf8_chunks() {
+        shown.push_str(pictured(alloc, chunk.valid())?.as_str())?;
+        for byte in chunk.invalid() {
+            write!(shown, "‹{byte:02x}›")?;
+        }
+    }
+    Ok(shown)
+}
+
+/// A line and a place in it, in bytes, which a bar marks: `ab|` is the end of `ab`, and `ab|+5` five bytes behind it.
+pub fn line_and_place(alloc: Global, marked: &str) -> Result<(String, usize), AllocError> {
+    let (before, behind) = marked.split_once('|').unwrap_or((marked, ""));
+    let mut line = meant(alloc, before)?;
+    let place = line.len();
+    let beyond: Option<usize> = behind
+        .strip_prefix('+')
+        .and_then(|digits| digits.parse().ok());
+    match beyond {
+        Some(count) => Ok((line, place.saturating_add(count))),
+        None => {
+            line.push_str(meant(alloc, behind)?.as_str())?;
+            Ok((line, place))
+        }
+    }
+}
+
+/// A line with pictures and a bar at the place.
+pub fn marked(alloc: Global, line: &str, place: usize) -> Result<String, AllocError> {
+    let (before, behind) = line.split_at_checked(place).unwrap_or((line, "+"));
+    let before = pictured(alloc, before)?;
+    let behind = pictured(alloc, behind)?;
+    format!(in alloc; "{before}|{behind}")
+}
+
+/// The text, or `nothing` for the empty one.
+pub fn or_nothing(text: &str) -> &str {
+    if text.is_empty() { "nothing" } else { text }
+}

@@ -1,0 +1,126 @@
+//! A sink of the tests, which fails as they ask.
+
+ghost use Rattle.std.specs.Prelude.{◌≡◌, ◌≤◌, ◌++◌, take, length};
+ghost use Rattle.stand_ins.specs.declared.tray.TheConstants.{SIZE};
+
+use line_config::{DeviceFailed, Sink};
+
+const SIZE: usize = 1024;
+
+/// A sink in a fixed array. It fails where the array or its room is full, having taken what fits,
+/// and at the call with the number `failing_call`, having taken half.
+#[derive(Drop)]
+pub struct Tray {
+    bytes: [u8; SIZE],
+    len: usize,
+    room: usize,
+    calls: usize,
+    failing_call: usize,
+    failed: bool,
+    failed_in_flush: bool,
+    pub ghost within: { len ≤ SIZE },
+}
+
+impl Tray {
+    /// A sink with room for so many bytes, and no more than its array has.
+    pub fn with_room(room: usize) -> Tray {
+        Tray {
+            bytes: [0; SIZE],
+            len: 0,
+            room,
+            calls: 0,
+            failing_call: usize::MAX,
+            failed: false,
+            failed_in_flush: false,
+        }
+    }
+
+    /// A sink whose call with this number fails, counted from 0 over writes and flushes.
+    pub fn failing_at(call: usize) -> Tray {
+        Tray {
+            failing_call: call,
+            bytes: [0; SIZE],
+            len: 0,
+            room: SIZE,
+            calls: 0,
+            failed: false,
+            failed_in_flush: false,
+        }
+    }
+
+    /// What it has taken.
+    pub fn bytes(&self) -> &[u8] {
+        let all = &self.bytes[..];
+        &all[..self.len]
+    }
+
+    /// Whether the call that failed was a flush.
+    pub fn failed_in_flush(&self) -> bool {
+        self.failed_in_flush
+    }
+
+    // Whether this call is the one that fails.
+    fn fails_now(&mut self) -> bool
+        ensures kept { self.new ≡ record self.old { calls = self.new.calls } }
+    {
+        let fails = self.calls == self.failing_call;
+        self.calls = self.calls.saturating_add(1);
+        fails
+    }
+
+    // Takes as many of the bytes as there is room for, and no more than `most`.
+    fn put(&mut self, bytes: &[u8], most: usize) -> usize
+        ensures held { take self.new.len self.new.bytes ≡ take self.old.len self.old.bytes ++ take result bytes.now }
+        ensures bound { result ≤ length bytes.now }
+    {
+        let end = self.len;
+        let count = most.min(bytes.len()).min(self.room).min(SIZE - end);
+        let all = &mut self.bytes[..];
+        all[end..end + count].copy_from_slice(&bytes[..count]);
+        self.len = end + count;
+        self.room -= count;
+        count
+    }
+}
+
+impl Sink for Tray {
+    ghost use Rattle.std.specs.Prelude.{true, take};
+
+    ghost told = { λ _. true };
+
+    ghost held = { λ s. take s.len s.bytes };
+
+    ghost has_failed = { λ s. s.failed };
+
+    fn write(&mut self, bytes: &[u8]) -> Result<(), DeviceFailed> {
+        if self.failed {
+            return Err(DeviceFailed);
+        }
+        let fails = self.fails_now();
+        let most = if fails { bytes.len() / 2 } else { bytes.len() };
+        let count = self.put(bytes, most);
+        self.failed = fails || count < bytes.len();
+        if self.failed {
+            Err(DeviceFailed)
+        } else {
+            Ok(())
+        }
+    }
+
+    fn flush(&mut self) -> Result<(), DeviceFailed> {
+        if self.failed {
+            return Err(DeviceFailed);
+        }
+        self.failed_in_flush = self.fails_now();
+        self.failed = self.failed_in_flush;
+        if self.failed {
+            Err(DeviceFailed)
+        } else {
+            Ok(())
+        }
+    }
+
+    fn failed(&self) -> bool {
+        self.failed
+    }
+}
