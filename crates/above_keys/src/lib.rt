@@ -16,7 +16,7 @@ pub fn second_cmd<R: RawReader, W: Refresher, D: Decides>(
     wrt: &mut W,
 ) -> Result<Cmd, ReadlineError>
     ensures bindings { input_state.new.custom_bindings ≡ input_state.old.custom_bindings }
-    ensures falls { OnOk result (R.bound rdr.new < R.bound rdr.old) }
+    ensures falls { OnOk result ((R.feed rdr.new).bound < (R.feed rdr.old).bound) }
 {
     let _first = input_state.next_cmd(alloc, rdr, wrt, false, true)?;
     input_state.next_cmd(alloc, rdr, wrt, false, true)
@@ -30,7 +30,7 @@ pub fn second_of_line<R: RawReader, W: Refresher>(
     rdr: &mut R,
     wrt: &mut W,
 ) -> Result<Cmd, ReadlineError>
-    ensures { OnOk result (R.bound rdr.new < R.bound rdr.old) }
+    ensures { OnOk result ((R.feed rdr.new).bound < (R.feed rdr.old).bound) }
 {
     let mut input_state = InputState::new(alloc, config, bindings)?;
     second_cmd(alloc, &mut input_state, rdr, wrt)

@@ -1,5 +1,5 @@
 //! Helpers of the tests, and prompts: a helper that has everything, and one that refuses every call.
-ghost use Rattle.std.specs.Prelude.{◌≡◌, None, true, false, IfOk, refl};
+ghost use Rattle.std.specs.Prelude.{◌≡◌, if◌then◌else◌, None, Some, true, false, IfOk, refl};
 ghost use Rattle.std.proofs.Common.{ap};
 ghost use Rattle.line_help.specs.Completion.{nothing_offered};
 ghost use Rattle.line_config.specs.declared.errors.HookFault.{HookFault};
@@ -68,9 +68,7 @@ impl Highlighter for Whole {
 
     ghost kept = { λ before after. (after.hinter ≡ before.hinter) × (after.validator ≡ before.validator) };
 
-    ghost styles = { λ self. ⟦<MatchingBracketHighlighter as Highlighter>⟧.styles self.highlighter };
-
-    ghost highlighting_fails = { λ self. ⟦<MatchingBracketHighlighter as Highlighter>⟧.highlighting_fails self.highlighter };
+    ghost shown_as = { λ self. ⟦<MatchingBracketHighlighter as Highlighter>⟧.shown_as self.highlighter };
 
     fn highlight<'l>(
         &self,
@@ -79,6 +77,29 @@ impl Highlighter for Whole {
         pos: usize,
     ) -> Result<CowStr<'l>, HookFault> {
         self.highlighter.highlight(alloc, line, pos)
+    }
+
+    fn highlight_prompt<'p>(
+        &self,
+        alloc: Global,
+        prompt: &'p str,
+        default: bool,
+    ) -> Result<CowStr<'p>, HookFault> {
+        self.highlighter.highlight_prompt(alloc, prompt, default)
+    }
+
+    fn highlight_hint<'h>(&self, alloc: Global, hint: &'h str) -> Result<CowStr<'h>, HookFault> {
+        self.highlighter.highlight_hint(alloc, hint)
+    }
+
+    fn highlight_candidate<'c>(
+        &self,
+        alloc: Global,
+        candidate: &'c str,
+        completion: CompletionType,
+    ) -> Result<CowStr<'c>, HookFault> {
+        self.highlighter
+            .highlight_candidate(alloc, candidate, completion)
     }
 
     fn highlight_char(&mut self, line: &str, pos: usize, kind: CmdKind) -> bool {
@@ -91,12 +112,18 @@ impl Validator for Whole {
 
     ghost validating_fails = { λ self. ⟦<MatchingBracketValidator as Validator>⟧.validating_fails self.validator };
 
+    ghost while_typing = { λ self. ⟦<MatchingBracketValidator as Validator>⟧.while_typing self.validator };
+
     fn validate(
         &self,
         alloc: Global,
         ctx: &ValidationContext<'_>,
     ) -> Result<ValidationResult, HookFault> {
         self.validator.validate(alloc, ctx)
+    }
+
+    fn validate_while_typing(&self) -> bool {
+        self.validator.validate_while_typing()
     }
 }
 
@@ -189,9 +216,7 @@ impl Highlighter for Refusing {
 
     ghost kept = { λ before after. after ≡ before };
 
-    ghost styles = { λ self part. true };
-
-    ghost highlighting_fails = { λ self text. self.fails };
+    ghost shown_as = { λ self part text. if self.fails then None else Some text };
 
     fn highlight<'l>(
         &self,
@@ -199,6 +224,28 @@ impl Highlighter for Refusing {
         _line: &'l str,
         _pos: usize,
     ) -> Result<CowStr<'l>, HookFault> {
+        Err(self.fault())
+    }
+
+    fn highlight_prompt<'p>(
+        &self,
+        _alloc: Global,
+        _prompt: &'p str,
+        _default: bool,
+    ) -> Result<CowStr<'p>, HookFault> {
+        Err(self.fault())
+    }
+
+    fn highlight_hint<'h>(&self, _alloc: Global, _hint: &'h str) -> Result<CowStr<'h>, HookFault> {
+        Err(self.fault())
+    }
+
+    fn highlight_candidate<'c>(
+        &self,
+        _alloc: Global,
+        _candidate: &'c str,
+        _completion: CompletionType,
+    ) -> Result<CowStr<'c>, HookFault> {
         Err(self.fault())
     }
 
@@ -212,12 +259,18 @@ impl Validator for Refusing {
 
     ghost validating_fails = { λ self text. self.fails };
 
+    ghost while_typing = { λ self. false };
+
     fn validate(
         &self,
         _alloc: Global,
         _ctx: &ValidationContext<'_>,
     ) -> Result<ValidationResult, HookFault> {
         Err(self.fault())
+    }
+
+    fn validate_while_typing(&self) -> bool {
+        false
     }
 }
 
@@ -337,7 +390,7 @@ fn helpers_that_refuse(rt: HostRuntime) -> Result<(), Fail> {
         );
         let hint = helper.hint(alloc, "a", 1, &Context::new(&history));
         assert_eq!(rt; hint.err(), Some(fault));
-        assert_eq!(rt; helper.highlight_hint(alloc, "a")?.as_str(), "a");
+        assert_eq!(rt; helper.highlight_hint(alloc, "a").err(), Some(fault));
     }
     Ok(())
 }

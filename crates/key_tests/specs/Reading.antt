@@ -1,9 +1,10 @@
 -- What the readers and lines of the tests mean.
-use Rattle.std.specs.Prelude.{⊤, ◌≡◌, [], ◌∷◌, ◌++◌, false, None, Some, map, is_some}
+use Rattle.std.specs.Prelude.{⊤, ◌≡◌, [], ◌∷◌, ◌++◌, false, true, None, Some, map, is_some, length}
 use Rattle.line_config.specs.declared.errors.ReadlineError.{ReadlineError}
 use Rattle.line_config.specs.declared.errors.ReadlineError.TheVariants.{Eof, Interrupted, NotUtf8, PasteOutOfPlace, Reader, Display, Lines, HistoryText, Helper, Handler, Memory}
 use Rattle.line_keys.specs.Coming.{Coming}
-use Rattle.line_keys.specs.Refreshing.{Shown, Ask}
+use Rattle.line_keys.specs.Feeds.{Feed}
+use Rattle.line_keys.specs.Refreshing.{Shown, Ask, Display as Displays}
 use Rattle.line_keys.specs.Refreshing as ask
 use Rattle.key_tests.specs.Typing.{coming_after, coming_unless}
 use Rattle.key_tests.specs.declared.keys.KeyList.{KeyList}
@@ -13,6 +14,15 @@ use Rattle.key_tests.specs.declared.refresher.PlainLine.{PlainLine}
 
 abbrev pub coming_of : KeyList → Coming
 coming_of r = coming_unless r.refused (coming_after r.typed.now r.cut r.after)
+
+abbrev pub feed_of : KeyList → Feed
+feed_of r = record {
+  told = true;
+  steady = true;
+  coming = coming_of r;
+  bound = length r.typed.now;
+  reason = λ e. e ≡ Reader → r.refused ≡ Some Reader;
+}
 
 -- ---- lines
 
@@ -48,3 +58,10 @@ HasReason l Lines = ⊥
 HasReason l HistoryText = ⊥
 HasReason l Helper = ⊥
 HasReason l Handler = ⊥
+
+abbrev pub display_of : Displays PlainLine
+display_of = record {
+  shown = shown_of;
+  asked = λ before a after. MakesRequest before a after × (shown_of after ≡ shown_after (shown_of before) a);
+  refused = λ before a e after. HasReason after e;
+}

@@ -89,21 +89,12 @@ impl<'t> KeyList<'t> {
 }
 
 impl RawReader for KeyList<'_> {
-    ghost use Rattle.std.specs.Prelude.{◌≡◌, true, None, Some, length};
-    ghost use Rattle.line_config.specs.declared.errors.ReadlineError.TheVariants.{Reader};
-    ghost use Rattle.key_tests.specs.Reading.{coming_of};
+    ghost use Rattle.std.specs.Prelude.{None};
+    ghost use Rattle.key_tests.specs.Reading.{feed_of};
 
     type Buffer = u8;
 
-    ghost told = { λ _. true };
-
-    ghost coming = { coming_of };
-
-    ghost bound = { λ r. length r.typed.now };
-
-    ghost steady = { λ _. true };
-
-    ghost reason = { λ r e. e ≡ Reader → r.refused ≡ Some Reader };
+    ghost feed = { feed_of };
 
     ghost kept = { λ _. None };
 

@@ -68,16 +68,9 @@ impl PlainLine {
 }
 
 impl Refresher for PlainLine {
-    ghost use Rattle.std.specs.Prelude.{◌≡◌};
-    ghost use Rattle.key_tests.specs.Reading.{shown_of, MakesRequest, shown_after, HasReason};
+    ghost use Rattle.key_tests.specs.Reading.{display_of};
 
-    ghost shown = { shown_of };
-
-    ghost rule = { λ _. shown_after };
-
-    ghost asked = { MakesRequest };
-
-    ghost reason = { HasReason };
+    ghost display = { display_of };
 
     fn refresh_line(&mut self) -> Result<(), ReadlineError> {
         self.keep(Request::Line)

@@ -1,12 +1,12 @@
 -- The boundaries of a row by their columns, from the last one back.
-use Rattle.std.proofs.Common.{◌≡◌, ℕ, ◌+◌, ◌-◌, ◌<◌, ◌≤◌, nat_le, min, Bool, true, false, cond, List, [], ◌∷◌, ◌++◌, length, map, filter, take, get_or, slice_range, Option, None, Some, refl, sym, ap, ◌∙◌, subst, arith, le_refl, append-nil, length-append, length-take, take_all, take-take, take-append-drop}
+use Rattle.std.proofs.Common.{◌≡◌, ℕ, ◌+◌, ◌-◌, ◌<◌, ◌≤◌, nat_le, min, Bool, true, false, cond, List, [], ◌∷◌, ◌++◌, length, map, filter, take, drop, get_or, slice_range, Option, None, Some, refl, sym, ap, ◌∙◌, subst, arith, le_refl, append-nil, length-append, length-take, take_all, take-take, take-append-drop}
 use Rattle.std.proofs.Math.ListN.{get_or-append}
-use Rattle.std.specs.Prelude.{option_map, unwrap_or, IsUtf8, IsCharBoundary, All}
+use Rattle.std.specs.Prelude.{option_map, unwrap_or, chars, IsUtf8, IsCharBoundary, All}
 use Rattle.std.specs.Int.{is_in_range}
 use Rattle.std.specs.List.{last_or, concat}
 use Rattle.std.proofs.lemmas.List.{drop_more, drop_all, map-append}
 use Rattle.std.proofs.lemmas.List.Elements.{filter-append}
-use Rattle.std.proofs.lemmas.Str.{IsUtf8-take, IsCharBoundary-from_take}
+use Rattle.std.proofs.lemmas.Str.{chars-append, IsUtf8-take, IsCharBoundary-from_take}
 use Rattle.std.proofs.lemmas.Bool.Decides.{nat_tests}
 use Rattle.unicode_segmentation.specs.Grapheme.{is_grapheme_break, graphemes}
 use Rattle.unicode_segmentation.specs.Segments.{with_offsets}
@@ -14,20 +14,28 @@ use Rattle.unicode_segmentation.proofs.SegmentsLemmas.{concat-segments, IsPieceO
 use Rattle.line_buffer.specs.declared.layout.GraphemeClusterMode.{GraphemeClusterMode}
 use Rattle.line_buffer.specs.Clusters.{clusters}
 use Rattle.line_buffer.specs.Columns.{place_at_column}
-use Rattle.line_buffer.specs.Width.{width_of}
-use Rattle.line_buffer.proofs.WidthLemmas.{width-printable_end}
+use Rattle.line_buffer.specs.Standing.{adds_up}
+use Rattle.line_buffer.specs.Width.{columns_of, width_of}
+use Rattle.line_buffer.proofs.WidthLemmas.{columns-adds_up}
 
--- ---- a text without its last character, where that is printable ASCII
+-- no number of columns that is shown is beyond what is counted
+pub enough : 65535 ≤ 18446744073709551615
+enough = omega arith
 
-pub without_printable : (mode : GraphemeClusterMode) (text : List ℕ) (end whole : ℕ) → IsUtf8 text → IsCharBoundary text end → end + 1 ≡ length text → is_in_range 0x20 0x7E (get_or text end 0) ≡ true
-    → whole ≡ width_of mode text → whole < 65535 → whole ≡ width_of mode (take end text) + 1
-without_printable mode text end whole u at last printable is low =
-    let inside : end < length text = omega arith in
-    let split : text ≡ take end text ++ get_or text end 0 ∷ [] =
-    sym (take-append-drop end text) ∙ ap (λ t. take end text ++ t) (drop_more text end 0 inside ∙ ap (λ t. get_or text end 0 ∷ t) (drop_all (end + 1) text (omega arith))) in
-    let longer : width_of mode text ≡ min (width_of mode (take end text) + 1) 65535 =
-    ap (width_of mode) split ∙ width-printable_end mode (take end text) (get_or text end 0) (IsUtf8-take text end u at) printable in
-    omega (arith, is, longer)
+-- ---- a text without its end, where that adds its own columns
+
+-- counted up to the most that a number can be
+abbrev pub counted : ℕ → GraphemeClusterMode → List ℕ → ℕ
+counted most mode text = min (columns_of mode (chars text)) most
+
+pub without_end : (mode : GraphemeClusterMode) (most : ℕ) (text : List ℕ) (end whole part : ℕ) → IsUtf8 text → IsCharBoundary text end → adds_up mode (chars (drop end text)) ≡ true
+    → whole ≡ counted most mode text → part ≡ counted most mode (drop end text) → whole < most → (part ≤ whole) × (whole - part ≡ counted most mode (take end text))
+without_end mode most text end whole part u at adds is part_is low =
+    let split : chars text ≡ chars (take end text) ++ chars (drop end text) =
+    ap chars (sym (take-append-drop end text)) ∙ chars-append (take end text) (drop end text) (IsUtf8-take text end u at) in
+    let sum : columns_of mode (chars text) ≡ columns_of mode (chars (take end text)) + columns_of mode (chars (drop end text)) =
+    ap (columns_of mode) split ∙ columns-adds_up mode (chars (take end text)) (chars (drop end text)) adds in
+    (omega (arith, sum, is, part_is, low), omega (arith, sum, is, part_is, low))
 
 -- ---- clusters tile their text
 
@@ -61,7 +69,7 @@ Tiles-append at (y ∷ xs) x h = let k = Tiles-append (y.0 + length y.1) xs x h.
 
 -- ---- the walk
 
-module _ (mode : GraphemeClusterMode) (first column : ℕ) (row : List ℕ) where
+module _ (mode : GraphemeClusterMode) (most : ℕ) (above : 65535 ≤ most) (first column : ℕ) (row : List ℕ) where
   abbrev measure_at : ℕ → ℕ × ℕ
   measure_at i = (i, first + width_of mode (take i row))
 
@@ -76,7 +84,7 @@ module _ (mode : GraphemeClusterMode) (first column : ℕ) (row : List ℕ) wher
 
   pub record WalksRow (left : List (ℕ × List ℕ)) (width : ℕ) : Type 0 where
     pub answer : place_at_column mode first column row ≡ reached (measures left)
-    pub width_is : width ≡ width_of mode (take (end_of 0 left) row)
+    pub width_is : width ≡ counted most mode (take (end_of 0 left) row)
     pub tiles : Tiles 0 left
     pub pieces : All (IsPieceOf row) left
 
@@ -88,13 +96,13 @@ module _ (mode : GraphemeClusterMode) (first column : ℕ) (row : List ℕ) wher
       by true (y ∷ ys) = refl
       by false ys = refl
 
-  pub walks_row_init : (width : ℕ) → IsUtf8 row → width ≡ width_of mode row → WalksRow (clusters row) width
+  pub walks_row_init : (width : ℕ) → IsUtf8 row → width ≡ counted most mode row → WalksRow (clusters row) width
   unfolding place_at_column
   walks_row_init width u e =
       let whole : end_of 0 (clusters row) ≡ length row = end_of-with_offsets 0 (graphemes true row) ∙ ap (λ t. 0 + length t) (concat-segments (is_grapheme_break true) row u) ∙ omega arith in
       record {
         answer = start_is_default (measure_at 0) (measures (clusters row)) refl;
-        width_is = e ∙ ap (width_of mode) (sym (take_all (length row) row (le_refl _)) ∙ ap (λ n. take n row) (sym whole));
+        width_is = e ∙ ap (counted most mode) (sym (take_all (length row) row (le_refl _)) ∙ ap (λ n. take n row) (sym whole));
         tiles = Tiles-with_offsets 0 (graphemes true row);
         pieces = All-IsPieceOf (is_grapheme_break true) row u;
       }
@@ -117,8 +125,8 @@ module _ (mode : GraphemeClusterMode) (first column : ℕ) (row : List ℕ) wher
 
   -- the cluster x is the last of those that are left
   module _ (old new : List (ℕ × List ℕ)) (x : ℕ × List ℕ) (came : old ≡ new ++ x ∷ []) (width : ℕ) (w : WalksRow old width) where
-    pub walks_row_at : width ≡ width_of mode (take (x.0 + length x.1) row)
-    walks_row_at = w.width_is ∙ ap (λ n. width_of mode (take n row)) (ap (end_of 0) came ∙ end_of-append 0 new x)
+    pub walks_row_at : width ≡ counted most mode (take (x.0 + length x.1) row)
+    walks_row_at = w.width_is ∙ ap (λ n. counted most mode (take n row)) (ap (end_of 0) came ∙ end_of-append 0 new x)
 
     pub walks_row_piece : IsPieceOf row x
     walks_row_piece =
@@ -129,21 +137,24 @@ module _ (mode : GraphemeClusterMode) (first column : ℕ) (row : List ℕ) wher
         at_seam [] y d = refl
         at_seam (z ∷ xs) y d = at_seam xs y d
 
-    pub walks_row_hit : first + width ≤ column → x.0 + length x.1 ≡ place_at_column mode first column row
+    shown : min width 65535 ≡ width_of mode (take (x.0 + length x.1) row)
+    shown = omega (arith, walks_row_at, above)
+
+    pub walks_row_hit : first + min width 65535 ≤ column → x.0 + length x.1 ≡ place_at_column mode first column row
     walks_row_hit h =
-        let ok : fits (measure_at (x.0 + length x.1)) ≡ true = ap (λ n. nat_le (first + n) column) (sym walks_row_at) ∙ yes (first + width) column h in
+        let ok : fits (measure_at (x.0 + length x.1)) ≡ true = ap (λ n. nat_le (first + n) column) (sym shown) ∙ yes (first + min width 65535) column h in
         sym (w.answer ∙ ap (λ l. reached (measures l)) came ∙ ap reached (measures-append new x) ∙ reached_hit (measures new) (measure_at (x.0 + length x.1)) ok)
       where
         yes : (a b : ℕ) → a ≤ b → nat_le a b ≡ true
         yes a b l = grind (arith, nat_tests)
 
-    pub walks_row_turn : (less : ℕ) → column < first + width → less ≡ width_of mode (take x.0 row) → WalksRow new less
+    pub walks_row_turn : (less : ℕ) → column < first + min width 65535 → less ≡ counted most mode (take x.0 row) → WalksRow new less
     walks_row_turn less h e =
-        let bad : fits (measure_at (x.0 + length x.1)) ≡ false = ap (λ n. nat_le (first + n) column) (sym walks_row_at) ∙ no (first + width) column h in
+        let bad : fits (measure_at (x.0 + length x.1)) ≡ false = ap (λ n. nat_le (first + n) column) (sym shown) ∙ no (first + min width 65535) column h in
         let cut = Tiles-append 0 new x (subst (Tiles 0) came w.tiles) in
         record {
           answer = w.answer ∙ ap (λ l. reached (measures l)) came ∙ ap reached (measures-append new x) ∙ reached_miss (measures new) (measure_at (x.0 + length x.1)) bad;
-          width_is = e ∙ ap (λ n. width_of mode (take n row)) cut.1;
+          width_is = e ∙ ap (λ n. counted most mode (take n row)) cut.1;
           tiles = cut.0;
           pieces = λ k d l. subst (IsPieceOf row) (fore new (x ∷ []) k d l) (subst (All (IsPieceOf row)) came w.pieces k d (omega (arith, length-append new (x ∷ []), l)));
         }
@@ -167,5 +178,6 @@ boundary_in_front row part start end u v e l m at =
     IsCharBoundary-from_take part start v (omega (arith, ap length e, length-take end row))
     (subst IsUtf8 (sym (ap (take start) e ∙ take-take start end row l)) (IsUtf8-take row start u at))
 
-pub width_in_front : (mode : GraphemeClusterMode) (row part : List ℕ) (start end : ℕ) → part ≡ take end row → start ≤ end → width_of mode (take start part) ≡ width_of mode (take start row)
-width_in_front mode row part start end e l = ap (width_of mode) (ap (take start) e ∙ take-take start end row l)
+pub counted_in_front : (most : ℕ) (mode : GraphemeClusterMode) (row part : List ℕ) (start end : ℕ) → part ≡ take end row → start ≤ end
+    → counted most mode (take start part) ≡ counted most mode (take start row)
+counted_in_front most mode row part start end e l = ap (counted most mode) (ap (take start) e ∙ take-take start end row l)

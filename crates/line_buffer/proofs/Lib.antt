@@ -20,6 +20,7 @@ pub mod RowStartLemmas
 pub mod RowStepLemmas
 pub mod RowWalkLemmas
 pub mod SpanLemmas
+pub mod StandingLemmas
 pub mod StopLemmas
 pub mod TranspositionLemmas
 pub mod WidthLemmas

@@ -46,6 +46,10 @@ stops_at_once takes refuses events never e s t a b split change h same = record 
   closed = reports_nothing takes t b;
 }
 
+-- what holds where the answer is an error
+pub on_refusal : {T E : Type 0} (r : Result T E) {P : Type 0} → P → OnErr r P
+on_refusal {T} {E} r {P} h = elim r as (λ r. OnErr r P) [ Ok x ↦ tt | Err x ↦ h ]
+
 -- the refused event, as another equation has it
 pub refused_as : {S : Type 0} (refuses : S → Event → S → Type 0) {e f : Event} {s t : S} → e ≡ f → (t ≡ s) ⊎ refuses s e t → (t ≡ s) ⊎ refuses s f t
 refused_as refuses {e} {f} {s} {t} same h = subst (λ x. (t ≡ s) ⊎ refuses s x t) same h

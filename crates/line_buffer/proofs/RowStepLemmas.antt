@@ -7,7 +7,7 @@ use Rattle.std.proofs.lemmas.List.Edits.{length-between}
 use Rattle.std.proofs.lemmas.Str.{IsCharBoundary-from_drop, IsCharBoundary-after_ascii, IsUtf8-drop}
 use Rattle.line_buffer.specs.declared.types.Movement.{Movement}
 use Rattle.line_buffer.specs.Event.{Event}
-use Rattle.line_buffer.specs.Indent.{covered, spaces, indent_events, rows_of, row_event, row_len, row_events}
+use Rattle.line_buffer.specs.Indent.{rows_covered, spaces, indent_events, rows_of, row_event, row_len, row_events}
 use Rattle.line_buffer.specs.Line.{Line}
 use Rattle.line_buffer.specs.Replay.{Replays, Reports, TellsOfChange, StopsAmong}
 use Rattle.line_buffer.specs.Replayed.{carried_line, carried_all}
@@ -65,8 +65,8 @@ pub record SomeChange (all : List Event) : Type 0 where
 
 pub indent_events-some : (movement : Movement) (amount : ℕ) (dedent : Bool) (l : Line) → SomeChange (indent_events movement amount dedent l)
 indent_events-some movement amount dedent l =
-    let first = row_start l.text (covered movement l).0 in
-    let text = slice_range l.text first (row_end l.text (covered movement l).1) in
+    let first = row_start l.text (rows_covered movement l).0 in
+    let text = slice_range l.text first (row_end l.text (rows_covered movement l).1) in
     let some = row_events-some (spaces amount) dedent first text in
     record {
       first = row_event (spaces amount) dedent first (take (prefix_len is_in_row text) text);

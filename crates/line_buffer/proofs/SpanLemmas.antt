@@ -19,7 +19,7 @@ use Rattle.line_buffer.specs.Hits.{hit_forward, hit_backward, past_cluster, hits
 use Rattle.line_buffer.specs.Line.{Line, text_before, text_after, moved_to, replaced}
 use Rattle.line_buffer.specs.Replay.{replacement}
 use Rattle.line_buffer.specs.Replayed.{replayed_all}
-use Rattle.line_buffer.specs.Transpositions.{between_clusters, clusters_at, transposes_chars, exchanged, transpose_chars_events, transpose_chars_line}
+use Rattle.line_buffer.specs.Transpositions.{between_clusters, clusters_at, transposes_chars, later_first, transpose_chars_events, transpose_chars_line}
 use Rattle.line_buffer.specs.Range.{deletion_events, deletion_line, kill_events, kill_line, IsSpanOf, up_to_cursor, from_cursor, around_cursor, to_row_end, from_row_start, search_range, range_of}
 use Rattle.line_buffer.specs.Rows.{is_in_row, row_start, row_end}
 use Rattle.line_buffer.specs.RowRanges.{behind_newlines, row_starts, starts_above, starts_below, row_close}
@@ -262,8 +262,8 @@ module _ (l : Line) (u : IsUtf8 l.text) (b : IsCharBoundary l.text l.place) wher
   pub transpose_chars_replays : replayed_all (transpose_chars_events l) l.text ≡ (transpose_chars_line l).text
   transpose_chars_replays = by_test (transposes_chars l)
     where
-      by_test : (t : Bool) → replayed_all (if t then replacement (clusters_at (between_clusters l)).0 (clusters_at (between_clusters l)).2 (exchanged (clusters_at (between_clusters l)) l.text) l.text ∷ [] else []) l.text
-          ≡ (if t then replaced (clusters_at (between_clusters l)).0 (clusters_at (between_clusters l)).2 (exchanged (clusters_at (between_clusters l)) l.text) l else l).text
+      by_test : (t : Bool) → replayed_all (if t then replacement (clusters_at (between_clusters l)).0 (clusters_at (between_clusters l)).2 (later_first (clusters_at (between_clusters l)) l.text) l.text ∷ [] else []) l.text
+          ≡ (if t then replaced (clusters_at (between_clusters l)).0 (clusters_at (between_clusters l)).2 (later_first (clusters_at (between_clusters l)) l.text) l else l).text
       by_test true =
           let s = between_span (l.place == length l.text) in
           replayed_all-one _ l.text ∙ replayed_replacement l.text _ _ _ s.0 s.1

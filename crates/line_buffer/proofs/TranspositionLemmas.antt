@@ -1,4 +1,4 @@
--- Two parts of a text exchanged, the later one first.
+-- Two parts of a text later_first, the later one first.
 use Rattle.std.proofs.Common.{◌≡◌, ℕ, ◌+◌, ◌-◌, ◌≤◌, List, [], ◌∷◌, ◌++◌, length, take, drop, sym, ap, ◌∙◌, subst, arith, append_assoc, length-append}
 use Rattle.std.specs.Prelude.{true, not, nat_lt, ◌==◌, IsUtf8, IsCharBoundary, slice_range}
 use Rattle.std.specs.List.{replace_range}
@@ -9,7 +9,7 @@ use Rattle.std.proofs.lemmas.Str.{IsUtf8-drop}
 use Rattle.line_buffer.specs.Event.{Event}
 use Rattle.line_buffer.specs.Replay.{Replays, StopsAmong, replacement}
 use Rattle.line_buffer.specs.Line.{Line}
-use Rattle.line_buffer.specs.Transpositions.{Pair, clusters_around, between_clusters, clusters_at, exchanged, transposes_chars, transpose_chars_events}
+use Rattle.line_buffer.specs.Transpositions.{Pair, clusters_around, between_clusters, clusters_at, later_first, transposes_chars, transpose_chars_events}
 use Rattle.line_buffer.proofs.CutLemmas.{at_seam}
 use Rattle.line_buffer.proofs.ReplayLemmas.{reports_one, stops_later, if_true}
 
@@ -27,13 +27,13 @@ pub transposes : (l : Line) (pos : ℕ) → pos ≡ l.place → (pos ≡ 0 → �
 transposes l pos at behind two = and_from (not (l.place == 0)) (nat_lt 1 (clusters_around l)) (grind (arith, nat_tests)) (sym two)
 
 -- the event of the exchange, as the code has its parts
-pub exchange_event : (l m : Line) (parts : ℕ × ℕ × ℕ) (swapped : List ℕ) → transposes_chars l ≡ true → parts ≡ clusters_at (between_clusters l) → m ≡ l → swapped ≡ exchanged parts m.text
+pub exchange_event : (l m : Line) (parts : ℕ × ℕ × ℕ) (swapped : List ℕ) → transposes_chars l ≡ true → parts ≡ clusters_at (between_clusters l) → m ≡ l → swapped ≡ later_first parts m.text
     → transpose_chars_events l ≡ replacement parts.0 parts.2 swapped m.text ∷ []
 exchange_event l m parts swapped holds is same made =
     let at = clusters_at (between_clusters l) in
-    if_true (transposes_chars l) (replacement at.0 at.2 (exchanged at l.text) l.text ∷ []) [] holds
-    ∙ ap (λ (p : ℕ × ℕ × ℕ). replacement p.0 p.2 (exchanged p l.text) l.text ∷ []) (sym is)
-    ∙ ap (λ (x : Line). replacement parts.0 parts.2 (exchanged parts x.text) x.text ∷ []) (sym same)
+    if_true (transposes_chars l) (replacement at.0 at.2 (later_first at l.text) l.text ∷ []) [] holds
+    ∙ ap (λ (p : ℕ × ℕ × ℕ). replacement p.0 p.2 (later_first p l.text) l.text ∷ []) (sym is)
+    ∙ ap (λ (x : Line). replacement parts.0 parts.2 (later_first parts x.text) x.text ∷ []) (sym same)
     ∙ ap (λ x. replacement parts.0 parts.2 x m.text ∷ []) (sym made)
 
 -- behind both parts there is still the same text

@@ -21,24 +21,18 @@ use Rattle.unicode_width.specs.Width.{str_width, char_width}
 use Rattle.unicode_width.proofs.Rules.{is_simple, is_simple_kind, str_width-printable, str_width-append_simple}
 use Rattle.line_buffer.specs.declared.layout.GraphemeClusterMode.{GraphemeClusterMode}
 use Rattle.line_buffer.specs.declared.layout.GraphemeClusterMode.TheVariants.{Unicode, WcWidth, NoZwj}
+use Rattle.line_buffer.specs.Standing.{stands_alone, adds_up}
 use Rattle.line_buffer.specs.Width.{char_columns_of, unjoined, columns_of, width_of}
+use Rattle.line_buffer.proofs.StandingLemmas.{all_simple}
 
 -- ---- sums that stop
 
-stops_from : {A : Type 0} (w : A → ℕ) (a : ℕ) (xs : List A) → a ≤ 65535 → fold (λ t x. min (t + w x) 65535) a xs ≡ min (a + sum_by w xs) 65535
-stops_from w a [] h = omega arith
-stops_from w a (x ∷ xs) h = stops_from w (min (a + w x) 65535) xs (omega arith) ∙ omega (arith, sum_by-cons w x xs)
+stops_from : {A : Type 0} (w : A → ℕ) (most a : ℕ) (xs : List A) → a ≤ most → fold (λ t x. min (t + w x) most) a xs ≡ min (a + sum_by w xs) most
+stops_from w most a [] h = omega arith
+stops_from w most a (x ∷ xs) h = stops_from w most (min (a + w x) most) xs (omega arith) ∙ omega (arith, sum_by-cons w x xs)
 
-pub stopped_sum : {A : Type 0} (w : A → ℕ) (xs : List A) → fold (λ t x. min (t + w x) 65535) 0 xs ≡ min (sum_by w xs) 65535
-stopped_sum w xs = stops_from w 0 xs (omega arith) ∙ omega arith
-
--- where each part stops too
-parts_from : {A : Type 0} (w : A → ℕ) (a : ℕ) (xs : List A) → a ≤ 65535 → fold (λ t x. min (t + min (w x) 65535) 65535) a xs ≡ min (a + sum_by w xs) 65535
-parts_from w a [] h = omega arith
-parts_from w a (x ∷ xs) h = parts_from w (min (a + min (w x) 65535) 65535) xs (omega arith) ∙ omega (arith, sum_by-cons w x xs)
-
-pub stopped_parts : {A : Type 0} (w : A → ℕ) (xs : List A) → fold (λ t x. min (t + min (w x) 65535) 65535) 0 xs ≡ min (sum_by w xs) 65535
-stopped_parts w xs = parts_from w 0 xs (omega arith) ∙ omega arith
+pub stopped_sum : {A : Type 0} (w : A → ℕ) (most : ℕ) (xs : List A) → fold (λ t x. min (t + w x) most) 0 xs ≡ min (sum_by w xs) most
+stopped_sum w most xs = stops_from w most 0 xs (omega arith) ∙ omega arith
 
 -- ---- a text cut at a character
 
@@ -124,63 +118,56 @@ YieldsList-from_split_char {s} c bs u text more pattern =
     ))
     s (pattern, λ _. subst IsUtf8 (sym text) u))
 
--- ---- one printable ASCII character more at the end is one column more
+-- ---- characters that stand alone add their own columns at the end
 
-printable_simple : (c : ℕ) → is_in_range 0x20 0x7E c ≡ true → list_all is_simple (c ∷ []) ≡ true
-printable_simple c h = ap (λ b. (b || (nat_lt 0xA0 c && is_simple_kind (kind c))) && true) h
+no_joiners : (ds : List ℕ) → list_all stands_alone ds ≡ true → All (λ d. (d == 0x200D) ≡ false) ds
+no_joiners [] h = All-nil (λ d. (d == 0x200D) ≡ false)
+no_joiners (d ∷ ds) h =
+    let parts = and_parts (stands_alone d) (list_all stands_alone ds) h in
+    All-cons (λ d. (d == 0x200D) ≡ false) d ds (other d parts.0) (no_joiners ds parts.1)
+  where
+    other : (d : ℕ) → stands_alone d ≡ true → (d == 0x200D) ≡ false
+    other d h = grind (arith, nat_tests)
 
-printable_width : (c : ℕ) → is_in_range 0x20 0x7E c ≡ true → str_width false (c ∷ []) ≡ 1
-printable_width c h = str_width-printable false (c ∷ []) (ap (λ b. b && true) h)
+text_longer : (cs ds : List ℕ) → list_all stands_alone ds ≡ true → str_width false (cs ++ ds) ≡ str_width false cs + str_width false ds
+text_longer cs ds h = str_width-append_simple false cs ds (all_simple ds h)
+
+-- of the parts between joiners the last one is longer by these characters
+data Longer (ds : List ℕ) : List (List ℕ) → List (List ℕ) → Type 0 where
+  only : (part : List ℕ) → Longer ds (part ∷ []) ((part ++ ds) ∷ [])
+  later : (part : List ℕ) (rest more : List (List ℕ)) → sum_by (str_width false) more ≡ sum_by (str_width false) rest + str_width false ds
+      → Longer ds (part ∷ rest) (part ∷ more)
+
+longer_sum : (ds : List ℕ) (xs ys : List (List ℕ)) → list_all stands_alone ds ≡ true → Longer ds xs ys
+    → sum_by (str_width false) ys ≡ sum_by (str_width false) xs + str_width false ds
+longer_sum ds xs ys h (only part) = omega (arith, sum_by-cons (str_width false) part [], sum_by-cons (str_width false) (part ++ ds) [], text_longer part ds h)
+longer_sum ds xs ys h (later part rest more e) = omega (arith, sum_by-cons (str_width false) part rest, sum_by-cons (str_width false) part more, e)
+
+longer_first : (ds : List ℕ) (x : ℕ) (xs ys : List (List ℕ)) → Longer ds xs ys → Longer ds (onto_first x xs) (onto_first x ys)
+longer_first ds x xs ys (only part) = only (x ∷ part)
+longer_first ds x xs ys (later part rest more e) = later (x ∷ part) rest more e
+
+longer_parts : (ds cs : List ℕ) → list_all stands_alone ds ≡ true → Longer ds (unjoined cs) (unjoined (cs ++ ds))
+longer_parts ds [] h = subst (Longer ds ([] ∷ [])) (sym (slice_split_none (λ d. d == 0x200D) ds (no_joiners ds h))) (only [])
+longer_parts ds (x ∷ cs) h = by (x == 0x200D) (unjoined cs) (unjoined (cs ++ ds)) (longer_parts ds cs h)
+  where
+    by : (b : Bool) (xs ys : List (List ℕ)) → Longer ds xs ys → Longer ds (cond b ([] ∷ xs) (onto_first x xs)) (cond b ([] ∷ ys) (onto_first x ys))
+    by true xs ys k = later [] xs ys (longer_sum ds xs ys h k)
+    by false xs ys k = longer_first ds x xs ys k
+
+unjoined_width : (ds : List ℕ) → list_all stands_alone ds ≡ true → sum_by (str_width false) (unjoined ds) ≡ str_width false ds
+unjoined_width ds h =
+    ap (sum_by (str_width false)) (slice_split_none (λ d. d == 0x200D) ds (no_joiners ds h)) ∙ omega (arith, sum_by-cons (str_width false) ds [])
+
+-- in each mode the columns of a text and of such characters behind it add up
+pub columns-adds_up : (mode : GraphemeClusterMode) (cs ds : List ℕ) → adds_up mode ds ≡ true → columns_of mode (cs ++ ds) ≡ columns_of mode cs + columns_of mode ds
+columns-adds_up Unicode cs ds h = text_longer cs ds h
+columns-adds_up WcWidth cs ds h = sum_by-append char_columns_of cs ds
+columns-adds_up NoZwj cs ds h = longer_sum ds (unjoined cs) (unjoined (cs ++ ds)) h (longer_parts ds cs h) ∙ ap (λ n. columns_of NoZwj cs + n) (sym (unjoined_width ds h))
 
 printable_alone : (c : ℕ) → is_in_range 0x20 0x7E c ≡ true → char_columns_of c ≡ 1
 unfolding char_width
 printable_alone c h = grind (arith, nat_tests)
-
-printable_text : (cs : List ℕ) (c : ℕ) → is_in_range 0x20 0x7E c ≡ true → str_width false (cs ++ c ∷ []) ≡ str_width false cs + 1
-printable_text cs c h = str_width-append_simple false cs (c ∷ []) (printable_simple c h) ∙ ap (λ n. str_width false cs + n) (printable_width c h)
-
--- of the parts between joiners the last one is longer
-data Longer (c : ℕ) : List (List ℕ) → List (List ℕ) → Type 0 where
-  only : (part : List ℕ) → Longer c (part ∷ []) ((part ++ c ∷ []) ∷ [])
-  later : (part : List ℕ) (rest more : List (List ℕ)) → sum_by (str_width false) more ≡ sum_by (str_width false) rest + 1 → Longer c (part ∷ rest) (part ∷ more)
-
-longer_sum : (c : ℕ) (xs ys : List (List ℕ)) → is_in_range 0x20 0x7E c ≡ true → Longer c xs ys → sum_by (str_width false) ys ≡ sum_by (str_width false) xs + 1
-longer_sum c xs ys h (only part) = omega (arith, sum_by-cons (str_width false) part [], sum_by-cons (str_width false) (part ++ c ∷ []) [], printable_text part c h)
-longer_sum c xs ys h (later part rest more e) = omega (arith, sum_by-cons (str_width false) part rest, sum_by-cons (str_width false) part more, e)
-
-longer_first : (c x : ℕ) (xs ys : List (List ℕ)) → Longer c xs ys → Longer c (onto_first x xs) (onto_first x ys)
-longer_first c x xs ys (only part) = only (x ∷ part)
-longer_first c x xs ys (later part rest more e) = later (x ∷ part) rest more e
-
-longer_parts : (c : ℕ) (cs : List ℕ) → is_in_range 0x20 0x7E c ≡ true → Longer c (unjoined cs) (unjoined (cs ++ c ∷ []))
-longer_parts c [] h = subst (Longer c ([] ∷ [])) (sym (slice_split_none (λ d. d == 0x200D) (c ∷ []) (All-cons (λ d. (d == 0x200D) ≡ false) c [] (not_joiner c h) (All-nil (λ d. (d == 0x200D) ≡ false))))) (only [])
-  where
-    not_joiner : (c : ℕ) → is_in_range 0x20 0x7E c ≡ true → (c == 0x200D) ≡ false
-    not_joiner c h = grind (arith, nat_tests)
-longer_parts c (x ∷ cs) h = by (x == 0x200D) (unjoined cs) (unjoined (cs ++ c ∷ [])) (longer_parts c cs h)
-  where
-    by : (b : Bool) (xs ys : List (List ℕ)) → Longer c xs ys → Longer c (cond b ([] ∷ xs) (onto_first x xs)) (cond b ([] ∷ ys) (onto_first x ys))
-    by true xs ys k = later [] xs ys (longer_sum c xs ys h k)
-    by false xs ys k = longer_first c x xs ys k
-
-columns-printable_end : (mode : GraphemeClusterMode) (cs : List ℕ) (c : ℕ) → is_in_range 0x20 0x7E c ≡ true → columns_of mode (cs ++ c ∷ []) ≡ columns_of mode cs + 1
-columns-printable_end Unicode cs c h = printable_text cs c h
-columns-printable_end WcWidth cs c h = sum_by-append char_columns_of cs (c ∷ []) ∙ omega (arith, sum_by-cons char_columns_of c [], printable_alone c h)
-columns-printable_end NoZwj cs c h = longer_sum c (unjoined cs) (unjoined (cs ++ c ∷ [])) h (longer_parts c cs h)
-
-one_char : (c : ℕ) → is_in_range 0x20 0x7E c ≡ true → chars (c ∷ []) ≡ c ∷ []
-one_char c h = let low : c < 128 = grind (arith, nat_tests) in chars-IsAscii (c ∷ []) (one_ascii c low)
-  where
-    one_ascii : (c : ℕ) → c < 128 → IsAscii (c ∷ [])
-    one_ascii c l zero = l
-    one_ascii c l (suc i) = omega arith
-
--- a text, by its bytes: in each mode a printable ASCII character at its end has a column
-pub width-printable_end : (mode : GraphemeClusterMode) (text : List ℕ) (c : ℕ) → IsUtf8 text → is_in_range 0x20 0x7E c ≡ true → width_of mode (text ++ c ∷ []) ≡ min (width_of mode text + 1) 65535
-width-printable_end mode text c u h =
-    let n : columns_of mode (chars (text ++ c ∷ [])) ≡ columns_of mode (chars text) + 1 =
-    ap (columns_of mode) (chars-append text (c ∷ []) u ∙ ap (λ l. chars text ++ l) (one_char c h)) ∙ columns-printable_end mode (chars text) c h in
-    omega (arith, n)
 
 -- ---- a text of printable ASCII has as many columns as characters
 

@@ -16,15 +16,15 @@ use Rattle.line_buffer.specs.RowRanges.{starts_above, starts_below}
 use Rattle.line_buffer.specs.Words.{prev_word, next_word}
 
 -- a place in the first row and one in the last row that a movement covers
-abbrev pub covered : Movement → Line → ℕ × ℕ
-covered (BackwardWord n word) l = (unwrap_or (prev_word word n l) l.place, l.place)
-covered (ForwardWord n at word) l = (l.place, unwrap_or (next_word at word n l) l.place)
-covered (LineUp n) l = (unwrap_or (nth_or_last n (starts_above l)) l.place, l.place)
-covered (LineDown n) l = (l.place, unwrap_or (nth_or_last n (starts_below l)) l.place)
-covered WholeBuffer l = (0, length l.text)
-covered BeginningOfBuffer l = (0, l.place)
-covered EndOfBuffer l = (l.place, length l.text)
-covered movement l = (l.place, l.place)
+abbrev pub rows_covered : Movement → Line → ℕ × ℕ
+rows_covered (BackwardWord n word) l = (unwrap_or (prev_word word n l) l.place, l.place)
+rows_covered (ForwardWord n at word) l = (l.place, unwrap_or (next_word at word n l) l.place)
+rows_covered (LineUp n) l = (unwrap_or (nth_or_last n (starts_above l)) l.place, l.place)
+rows_covered (LineDown n) l = (l.place, unwrap_or (nth_or_last n (starts_below l)) l.place)
+rows_covered WholeBuffer l = (0, length l.text)
+rows_covered BeginningOfBuffer l = (0, l.place)
+rows_covered EndOfBuffer l = (l.place, length l.text)
+rows_covered movement l = (l.place, l.place)
 
 -- the rows of a text, without their newlines
 abbrev pub rows_of : List ℕ → List (List ℕ)
@@ -52,8 +52,8 @@ spaces amount = repeat amount (32 ∷ [])
 
 abbrev pub indent_events : Movement → ℕ → Bool → Line → List Event
 indent_events movement amount dedent l =
-    let first = row_start l.text (covered movement l).0 in
-    let last = row_end l.text (covered movement l).1 in
+    let first = row_start l.text (rows_covered movement l).0 in
+    let last = row_end l.text (rows_covered movement l).1 in
     row_events (spaces amount) dedent first (rows_of (slice_range l.text first last))
 
 abbrev pub indent_line : Movement → ℕ → Bool → Line → Line

@@ -1,4 +1,4 @@
--- Two parts of a text exchanged: the clusters at the cursor, and the words around it.
+-- Two parts of a text later_first: the clusters at the cursor, and the words around it.
 use Rattle.std.specs.Prelude.{ℕ, ◌+◌, ◌==◌, ◌&&◌, not, nat_lt, nat_le, true, Bool, if◌then◌else◌, List, [], ◌∷◌, ◌++◌, length, slice_range}
 use Rattle.std.specs.List.{replace_range}
 use Rattle.unicode_segmentation.specs.Grapheme.{graphemes}
@@ -10,7 +10,7 @@ use Rattle.line_buffer.specs.Line.{Line, text_before, text_after, moved_to, repl
 use Rattle.line_buffer.specs.Replay.{replacement}
 use Rattle.line_buffer.specs.Words.{prev_word, next_word}
 
--- the cursor between the two clusters that are exchanged: one cluster back where it stands at the text's end
+-- the cursor between the two clusters that are later_first: one cluster back where it stands at the text's end
 abbrev pub between_clusters : Line → Line
 between_clusters l = if l.place == length l.text then moved_to (place_backward 1 l) l else l
 
@@ -27,18 +27,18 @@ abbrev pub transposes_chars : Line → Bool
 transposes_chars l = not (l.place == 0) && nat_lt 1 (clusters_around l)
 
 -- two neighbouring parts, the later one first
-abbrev pub exchanged : ℕ × ℕ × ℕ → List ℕ → List ℕ
-exchanged parts text = slice_range text parts.1 parts.2 ++ slice_range text parts.0 parts.1
+abbrev pub later_first : ℕ × ℕ × ℕ → List ℕ → List ℕ
+later_first parts text = slice_range text parts.1 parts.2 ++ slice_range text parts.0 parts.1
 
 abbrev pub transpose_chars_events : Line → List Event
 transpose_chars_events l =
     let parts = clusters_at (between_clusters l) in
-    if transposes_chars l then replacement parts.0 parts.2 (exchanged parts l.text) l.text ∷ [] else []
+    if transposes_chars l then replacement parts.0 parts.2 (later_first parts l.text) l.text ∷ [] else []
 
 abbrev pub transpose_chars_line : Line → Line
 transpose_chars_line l =
     let parts = clusters_at (between_clusters l) in
-    if transposes_chars l then replaced parts.0 parts.2 (exchanged parts l.text) l else l
+    if transposes_chars l then replaced parts.0 parts.2 (later_first parts l.text) l else l
 
 -- the cursor after the n-th later end of a word, and at the n-th earlier start of one
 unfoldable pub after_words : ℕ → Line → Line
@@ -69,7 +69,7 @@ words_around n l = record {
   second_end = (after_words n l).place;
 }
 
--- the later part is exchanged first, so that the earlier one still stands where it stood
+-- the later part is later_first first, so that the earlier one still stands where it stood
 abbrev pub swap_events : Pair → List ℕ → List Event
 swap_events p text =
     let first = slice_range text p.first_start p.first_end in

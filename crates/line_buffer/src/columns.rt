@@ -1,12 +1,13 @@
 //! Motions up and down by rows, which keep to the cursor's column as nearly as the clusters of the row allow.
 
-ghost use Rattle.std.specs.Prelude.{◌≡◌, take, is_some, IfSome, IsCharBoundary};
-ghost use Rattle.std.specs.Int.{is_in_range};
-ghost use Rattle.line_buffer.specs.Width.{width_of};
+ghost use Rattle.std.specs.Prelude.{◌≡◌, min, take, chars, is_some, IfSome, IsCharBoundary};
+ghost use Rattle.std.specs.List.{list_all};
+ghost use Rattle.line_buffer.specs.Width.{columns_of};
+ghost use Rattle.line_buffer.specs.Standing.{stands_alone, adds_up};
 ghost use Rattle.line_buffer.specs.Line.{moved_to};
 ghost use Rattle.line_buffer.specs.Columns.{place_at_column, first_column, cursor_column, place_in_row, line_up, line_down};
 
-use crate::layout::{Layout, Unit};
+use crate::layout::{GraphemeClusterMode, Layout, Unit};
 use crate::line_buffer::LineBuffer;
 use crate::rows::{first_row_end, last_row_start};
 use crate::types::RepeatCount;
@@ -23,39 +24,67 @@ fn row_first_column(layout: &Layout, start: usize) -> Unit
     }
 }
 
-/// A printable ASCII character.
-fn is_printable(byte: u8) -> bool
-    ensures { result ≡ is_in_range 0x20 0x7E byte }
+/// A character whose columns are its own, whatever stands before it.
+fn stands_alone(c: char) -> bool
+    ensures { result ≡ stands_alone c }
 {
-    matches!(byte, b' '..=b'~')
+    matches!(
+        c,
+        ' '..='~'
+            | '\u{A1}'..='\u{337}'
+            | '\u{339}'..='\u{5DB}'
+            | '\u{900}'..='\u{177F}'
+            | '\u{1E00}'..='\u{200C}'
+            | '\u{2010}'..='\u{2319}'
+            | '\u{2E80}'..='\u{A4FB}'
+            | '\u{A500}'..='\u{FB1D}'
+            | '\u{20000}'..='\u{3FFFD}'
+    )
 }
 
-/// The columns of a text up to a place, where those of the whole text are known: a printable ASCII character at its end has one.
-fn width_up_to(layout: &Layout, text: &str, end: usize, whole: Unit) -> Unit
-    requires boundary { IsCharBoundary text.now end }
-    requires whole { whole ≡ width_of layout.now.grapheme_cluster_mode text.now }
-    ensures { result ≡ width_of layout.now.grapheme_cluster_mode (take end text.now) }
+/// The columns of these characters add to those of any text before them.
+fn adds_up(mode: GraphemeClusterMode, text: &str) -> bool
+    ensures { result ≡ adds_up mode (chars text.now) }
 {
-    let bytes = text.as_bytes();
-    if end + 1 == bytes.len() && is_printable(bytes[end]) && whole < Unit::MAX {
-        whole - 1
+    match mode {
+        GraphemeClusterMode::WcWidth => true,
+        GraphemeClusterMode::Unicode | GraphemeClusterMode::NoZwj => all_stand_alone(text),
+    }
+}
+
+fn all_stand_alone(text: &str) -> bool
+    ensures { result ≡ list_all stands_alone (chars text.now) }
+{
+    text.chars().all(|c| stands_alone(c))
+}
+
+/// The columns of a text up to a place, where those of the whole text are known. What follows on the place is measured alone
+/// where it may be, and else the text before it.
+fn columns_up_to(mode: GraphemeClusterMode, text: &str, end: usize, whole: usize) -> usize
+    requires boundary { IsCharBoundary text.now end }
+    requires whole { whole ≡ min (columns_of mode (chars text.now)) usize.MAX }
+    ensures { result ≡ min (columns_of mode (chars (take end text.now))) usize.MAX }
+{
+    let rest = &text[end..];
+    if whole < usize::MAX && adds_up(mode, rest) {
+        whole - mode.columns(rest)
     } else {
-        layout.width(&text[..end])
+        mode.columns(&text[..end])
     }
 }
 
 /// The last place between the clusters of a row whose column isn't past the given one, the row's start where all are.
-fn boundary_at_column(layout: &Layout, row: &str, first: Unit, column: usize) -> usize
-    ensures value { result ≡ place_at_column layout.now.grapheme_cluster_mode first column row.now }
+fn boundary_at_column(mode: GraphemeClusterMode, row: &str, first: Unit, column: usize) -> usize
+    ensures value { result ≡ place_at_column mode first column row.now }
     ensures boundary { IsCharBoundary row.now result }
 {
-    let mut width = layout.width(row);
+    let mut width = mode.columns(row);
     for (start, cluster) in row.grapheme_indices(true).rev() {
         let end = start + cluster.len();
-        if usize::from(first) + usize::from(width) <= column {
+        if usize::from(first) + width.min(usize::from(Unit::MAX)) <= column {
             return end;
         }
-        width = width_up_to(layout, &row[..end], start, width);
+        width = columns_up_to(mode, &row[..end], start, width);
     }
     0
 }
@@ -81,7 +110,8 @@ impl LineBuffer {
         let column = self.column(layout);
         let rest = &self.buf[start..];
         let row = &rest[..first_row_end(rest)];
-        start + boundary_at_column(layout, row, row_first_column(layout, start), column)
+        let first = row_first_column(layout, start);
+        start + boundary_at_column(layout.grapheme_cluster_mode, row, first, column)
     }
 
     /// The place to which a motion up by n rows moves the cursor; none in the first row.

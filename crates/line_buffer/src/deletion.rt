@@ -43,10 +43,8 @@ impl LineBuffer {
         let Some(span) = span else {
             return Ok(false);
         };
-        match self.delete_directed(alloc, span.from..span.upto, span.direction, dl) {
-            Ok(()) => Ok(true),
-            Err(refusal) => Err(refusal),
-        }
+        self.delete_directed(alloc, span.from..span.upto, span.direction, dl)?;
+        Ok(true)
     }
 
     /// Takes out what a movement names, without a word of a kill.
@@ -83,10 +81,8 @@ impl LineBuffer {
     {
         let span = self.range_of(&Movement::ForwardChar(n));
         let text = self.copy_span(alloc, span)?;
-        match self.delete_span(alloc, span, dl) {
-            Ok(_) => Ok(text),
-            Err(refusal) => Err(refusal),
-        }
+        self.delete_span(alloc, span, dl)?;
+        Ok(text)
     }
 
     /// Takes out the n clusters before the cursor, fewer where fewer stand; false at the text's start.

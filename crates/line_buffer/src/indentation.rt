@@ -28,7 +28,7 @@ fn leading_len(row: &str, count: usize) -> usize
 impl LineBuffer {
     ghost use Rattle.std.specs.Prelude.{◌≡◌, ◌+◌, ◌≤◌, ◌⊎◌, true, [], length, slice_range, drop, IfOk, OnOk, OnErr, IsCharBoundary};
     ghost use Rattle.line_buffer.specs.declared.types.Direction.TheVariants.{Forward};
-    ghost use Rattle.line_buffer.specs.Indent.{leading, covered, rows_of, row_event, row_len, row_events, indent_events, indent_line};
+    ghost use Rattle.line_buffer.specs.Indent.{leading, rows_covered, rows_of, row_event, row_len, row_events, indent_events, indent_line};
     ghost use Rattle.line_buffer.specs.Settings.{SameSettings};
     ghost use Rattle.line_buffer.specs.Replay.{Replays, Reports, StopsAmong, deletion, insertion};
     ghost use Rattle.std.specs.List.{prefix_len};
@@ -50,11 +50,13 @@ impl LineBuffer {
         ensures refused { OnErr result ((cl.new ≡ cl.old) ⊎ C.refuses cl.old (insertion at margin.now) cl.new) }
         ensures kept { OnErr result (self.new ≡ self.old) }
     {
+        // Its contract says that the text is UTF-8.
         let _text = self.as_str();
         let place = self.pos();
         self.set_pos(at);
         match self.insert_str(alloc, at, margin, cl) {
             Ok(_) => {
+                // Its contract says that the length fits.
                 let _longest = self.len();
                 let carried = if at <= place {
                     place + margin.len()
@@ -88,15 +90,12 @@ impl LineBuffer {
         ensures refused { OnErr result (C.refuses cl.old (deletion at upto Forward self.old.text) cl.new) }
         ensures kept { OnErr result (self.new ≡ self.old) }
     {
+        // Its contract says that the text is UTF-8.
         let _text = self.as_str();
         let place = self.pos();
-        match self.delete_directed(alloc, at..upto, Direction::Forward, cl) {
-            Ok(()) => {
-                self.set_pos(place - (upto - at).min(place.saturating_sub(at)));
-                Ok(())
-            }
-            Err(refusal) => Err(refusal),
-        }
+        self.delete_directed(alloc, at..upto, Direction::Forward, cl)?;
+        self.set_pos(place - (upto - at).min(place.saturating_sub(at)));
+        Ok(())
     }
 
     /// Gives the row between two places its margin, or takes one away, and answers where the row ends then.
@@ -121,6 +120,7 @@ impl LineBuffer {
         ensures refused { OnErr result ((cl.new ≡ cl.old) ⊎ C.refuses cl.old (row_event margin.now dedent row.start (slice_range self.old.text row.start row.end)) cl.new) }
         ensures kept { OnErr result (self.new ≡ self.old) }
     {
+        // Its contract says that the length fits.
         let _longest = self.len();
         if dedent {
             let taken = self.margin_len(&row, margin.len());
@@ -128,6 +128,7 @@ impl LineBuffer {
             return Ok(row.end - taken);
         }
         self.insert_margin(alloc, row.start, margin, cl)?;
+        // Its contract says that the new length fits.
         let _longer = self.len();
         Ok(row.end + margin.len())
     }
@@ -177,6 +178,7 @@ impl LineBuffer {
         let mut at = rows.start;
         let mut last = rows.end;
         'rows: loop {
+            // Its contract says that the text is UTF-8.
             let _text = self.as_str();
             let end = self.row_end_before(at, last);
             let is_last = end == last;
@@ -184,6 +186,7 @@ impl LineBuffer {
             if is_last {
                 return Ok(());
             }
+            // Its contract says that the length fits.
             let _longest = self.len();
             last = last - end + changed;
             at = changed + 1;
@@ -211,12 +214,13 @@ impl LineBuffer {
     }
 
     /// A place in the first row and one in the last row that a movement covers.
-    fn covered(&self, movement: &Movement) -> (usize, usize)
-        ensures value { result ≡ covered movement.now self.now }
+    fn rows_covered(&self, movement: &Movement) -> (usize, usize)
+        ensures value { result ≡ rows_covered movement.now self.now }
         ensures order { result.0 ≤ result.1 }
         ensures start { IsCharBoundary self.now.text result.0 }
         ensures end { IsCharBoundary self.now.text result.1 }
     {
+        // Its contract says that the text is UTF-8.
         let _text = self.as_str();
         let place = self.pos();
         match movement {
@@ -252,12 +256,10 @@ impl LineBuffer {
         ensures stopped { OnErr result (StopsAmong C.takes C.refuses [] (indent_events movement.now amount dedent self.old) cl.old cl.new self.old.text self.new.text) }
         ensures settings { SameSettings self.old self.new }
     {
-        let (from, upto) = self.covered(movement);
+        let (from, upto) = self.rows_covered(movement);
         let rows = self.row_start_of(from)..self.row_end_of(upto);
         let margin = " ".repeat(alloc, usize::from(amount))?;
-        match self.change_rows(alloc, rows, margin.as_str(), dedent, cl) {
-            Ok(()) => Ok(true),
-            Err(refusal) => Err(refusal),
-        }
+        self.change_rows(alloc, rows, margin.as_str(), dedent, cl)?;
+        Ok(true)
     }
 }

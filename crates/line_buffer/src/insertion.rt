@@ -45,6 +45,7 @@ impl LineBuffer {
     fn has_room_for(&self, text: &str, n: RepeatCount) -> bool
         ensures { result ≡ has_room (length (repeat n text.now)) self.now }
     {
+        // Read, the limit is known to fit.
         let _limit = self.limit;
         match text.len().checked_mul(usize::from(n)) {
             Some(count) => self.has_room(count),
@@ -76,6 +77,7 @@ impl LineBuffer {
         ensures refused { OnErr result (D.refuses dl.old (deletion 0 (length self.old.text) Forward self.old.text) dl.new) }
         ensures kept { OnErr result (self.new ≡ self.old) }
     {
+        // Its contract says that the text is UTF-8.
         let _text = self.as_str();
         let end = self.len();
         self.delete_range(alloc, 0..end, dl)
@@ -117,13 +119,9 @@ impl LineBuffer {
     {
         let kept = self.kept(text);
         self.delete_all(alloc, cl)?;
-        match self.insert_str(alloc, 0, kept, cl) {
-            Ok(_) => {
-                self.set_pos(pos.min(kept.len()));
-                Ok(())
-            }
-            Err(refusal) => Err(refusal),
-        }
+        self.insert_str(alloc, 0, kept, cl)?;
+        self.set_pos(pos.min(kept.len()));
+        Ok(())
     }
 
     /// `insert_str` at the cursor, which takes the place behind the text.
@@ -140,16 +138,14 @@ impl LineBuffer {
         ensures refused { OnErr result ((cl.new ≡ cl.old) ⊎ C.refuses cl.old (insertion self.old.place text.now) cl.new) }
         ensures kept { OnErr result (self.new ≡ self.old) }
     {
+        // Its contract says that the text is UTF-8.
         let _text = self.as_str();
         let at = self.pos();
-        match self.insert_str(alloc, at, text, cl) {
-            Ok(at_end) => {
-                let _longest = self.len();
-                self.set_pos(at + text.len());
-                Ok(at_end)
-            }
-            Err(refusal) => Err(refusal),
-        }
+        let at_end = self.insert_str(alloc, at, text, cl)?;
+        // Its contract says that the length fits.
+        let _longest = self.len();
+        self.set_pos(at + text.len());
+        Ok(at_end)
     }
 
     /// Puts a character in at the cursor, which takes the place behind it.
@@ -188,10 +184,8 @@ impl LineBuffer {
         if !self.has_room(text.len()) {
             return Ok(None);
         }
-        match self.insert_at_cursor(alloc, text, cl) {
-            Ok(at_end) => Ok(Some(at_end)),
-            Err(refusal) => Err(refusal),
-        }
+        let at_end = self.insert_at_cursor(alloc, text, cl)?;
+        Ok(Some(at_end))
     }
 
     /// Puts n copies of a text in at the cursor where there is room for them.
@@ -243,10 +237,8 @@ impl LineBuffer {
             return Ok(None);
         }
         let at_end = self.is_cursor_at_end();
-        match self.insert_char(alloc, ch, cl) {
-            Ok(()) => Ok(Some(at_end)),
-            Err(refusal) => Err(refusal),
-        }
+        self.insert_char(alloc, ch, cl)?;
+        Ok(Some(at_end))
     }
 
     /// Puts n copies of a text in at the cursor, which takes the place behind them: whether that was at the text's end, or
@@ -297,9 +289,7 @@ impl LineBuffer {
         ensures settings { SameSettings self.old self.new }
     {
         self.delete_before(alloc, yank_size, cl)?;
-        match self.yank(alloc, text, 1, cl) {
-            Ok(answer) => Ok(answer),
-            Err(refusal) => Err(refusal),
-        }
+        let answer = self.yank(alloc, text, 1, cl)?;
+        Ok(answer)
     }
 }

@@ -2,10 +2,9 @@
 
 ghost use Rattle.std.specs.Prelude.{◌≡◌, ◌≤◌, min, false, chars, unwrap_or};
 ghost use Rattle.std.specs.Ordering.{as_partial_cmp};
-ghost use Rattle.unicode_width.specs.Width.{str_width};
 ghost use Rattle.line_buffer.specs.Cells.{origin};
 ghost use Rattle.line_buffer.specs.declared.layout.GraphemeClusterMode.TheVariants.{WcWidth, NoZwj};
-ghost use Rattle.line_buffer.specs.Width.{char_columns_of, width_of};
+ghost use Rattle.line_buffer.specs.Width.{char_columns_of, columns_of, width_of};
 ghost use Rattle.line_buffer.specs.CellOrder.{reading_order, reading_order_total, reading_order_agrees, reading_order_ties, reading_order_partial};
 
 use std::cmp::Ordering;
@@ -60,13 +59,6 @@ pub enum GraphemeClusterMode {
 /// Joins the emoji before and after it into one.
 const ZERO_WIDTH_JOINER: char = '\u{200D}';
 
-/// The columns of a text by its clusters.
-fn text_columns(text: &str) -> Unit
-    ensures { result ≡ min (str_width false (chars text.now)) 65535 }
-{
-    Unit::try_from(text.width()).unwrap_or(Unit::MAX)
-}
-
 /// The columns of a character by itself.
 fn char_columns(c: char) -> Unit
     ensures { result ≡ char_columns_of c }
@@ -78,33 +70,40 @@ fn char_columns(c: char) -> Unit
 }
 
 /// The columns of the characters of a text, each by itself.
-fn all_chars_columns(text: &str) -> Unit
-    ensures { result ≡ width_of WcWidth text.now }
+fn all_chars_columns(text: &str) -> usize
+    ensures { result ≡ min (columns_of WcWidth (chars text.now)) usize.MAX }
 {
-    text.chars()
-        .fold(0, |total: Unit, c| total.saturating_add(char_columns(c)))
+    text.chars().fold(0, |total: usize, c| {
+        total.saturating_add(usize::from(char_columns(c)))
+    })
 }
 
 /// The columns of the parts of a text between joiners, each by itself.
-fn unjoined_columns(text: &str) -> Unit
-    ensures { result ≡ width_of NoZwj text.now }
+fn unjoined_columns(text: &str) -> usize
+    ensures { result ≡ min (columns_of NoZwj (chars text.now)) usize.MAX }
 {
-    text.split(ZERO_WIDTH_JOINER).fold(
-        0,
-        |total: Unit, part| total.saturating_add(text_columns(part)),
-    )
+    text.split(ZERO_WIDTH_JOINER).fold(0, |total: usize, part| {
+        total.saturating_add(part.width())
+    })
 }
 
 impl GraphemeClusterMode {
+    /// The number of columns that a text takes, however many.
+    pub(crate) fn columns(&self, text: &str) -> usize
+        ensures { result ≡ min (columns_of self.now (chars text.now)) usize.MAX }
+    {
+        match self {
+            GraphemeClusterMode::Unicode => text.width(),
+            GraphemeClusterMode::WcWidth => all_chars_columns(text),
+            GraphemeClusterMode::NoZwj => unjoined_columns(text),
+        }
+    }
+
     /// The number of columns that a text takes, at most 65,535.
     pub fn width(&self, text: &str) -> Unit
         ensures { result ≡ width_of self.now text.now }
     {
-        match self {
-            GraphemeClusterMode::Unicode => text_columns(text),
-            GraphemeClusterMode::WcWidth => all_chars_columns(text),
-            GraphemeClusterMode::NoZwj => unjoined_columns(text),
-        }
+        Unit::try_from(self.columns(text)).unwrap_or(Unit::MAX)
     }
 }
 

@@ -109,9 +109,7 @@ impl LineBuffer {
         };
         let word = self.copy_part(alloc, start, end)?;
         let edited = recased(alloc, action, word.as_str())?;
-        match self.replace(alloc, start..end, edited.as_str(), cl) {
-            Ok(()) => Ok(true),
-            Err(refusal) => Err(refusal),
-        }
+        self.replace(alloc, start..end, edited.as_str(), cl)?;
+        Ok(true)
     }
 }

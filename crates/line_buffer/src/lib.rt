@@ -2,27 +2,28 @@
 //! listener follows each change.
 #![tactic(auto)]
 
-pub(crate) mod columns;
-pub mod deletion;
-pub mod edit;
-pub mod indentation;
-pub mod insertion;
+mod columns;
+mod deletion;
+mod edit;
+mod indentation;
+mod insertion;
 pub mod laws;
 pub mod layout;
-pub mod letter_case;
+mod letter_case;
 pub mod line_buffer;
 pub mod listener;
-pub mod motion;
-pub mod range;
-pub(crate) mod rows;
-pub mod search;
+mod motion;
+mod range;
+mod rows;
+mod search;
 pub mod short;
-pub mod transposition;
+mod transposition;
 pub mod types;
-pub mod words;
+mod words;
 
 pub use layout::{GraphemeClusterMode, Layout, Position, Unit};
 pub use line_buffer::{LineBuffer, MAX_LINE, OutOfMemory};
 pub use listener::{ChangeListener, DeleteListener, NoListener};
 pub use short::{is_printable_text, short_insertion, short_kill};
 pub use types::{Anchor, At, CharSearch, Direction, Mode, Movement, RepeatCount, Word, WordAction};
+pub use words::{is_alphanumeric, is_alphanumeric_cluster};

@@ -1,8 +1,9 @@
 //! The text and the place of the cursor in it.
 
-use std::alloc::{AllocError, Global};
+use std::alloc::{AllocError, AllocFailed, Global};
 use std::convert::AsStr;
 use std::marker::Model;
+use std::{error, fmt};
 
 /// The number of bytes that a line is given room for at first.
 pub const MAX_LINE: usize = 4096;
@@ -16,6 +17,25 @@ impl From<AllocError> for OutOfMemory {
         OutOfMemory
     }
 }
+
+/// What was to be kept is dropped.
+impl<T: Drop> From<AllocFailed<T>> for OutOfMemory {
+    fn from(_: AllocFailed<T>) -> Self {
+        OutOfMemory
+    }
+}
+
+impl fmt::Display for OutOfMemory {
+    ghost use Rattle.std.specs.Prelude.{Some, codes};
+
+    ghost output = { λ _. Some (codes "out of memory") };
+
+    fn fmt<W: fmt::Write>(&self, f: &mut fmt::Formatter<W>) -> fmt::Result {
+        f.write_str("out of memory")
+    }
+}
+
+impl error::Error for OutOfMemory {}
 
 /// A line that is being edited. Places are in bytes, and the cursor stands between two characters.
 #[derive(Debug, Drop)]

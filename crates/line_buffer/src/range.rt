@@ -78,6 +78,7 @@ impl LineBuffer {
         ensures value { result ≡ to_row_end from self.now }
         ensures span { IfSome result (λ s. IsSpanOf self.now.text s) }
     {
+        // Its contract says that the text is UTF-8.
         let _text = self.as_str();
         let end = self.row_end();
         let upto = if from < end {
@@ -114,6 +115,7 @@ impl LineBuffer {
         ensures value { result ≡ search_range search n self.now }
         ensures span { IfSome result (λ s. IsSpanOf self.now.text s) }
     {
+        // Its contract says that the length fits.
         let _longest = self.len();
         match search {
             CharSearch::Forward(c) => match self.hit_forward(c, n) {
@@ -134,6 +136,7 @@ impl LineBuffer {
         ensures value { result ≡ range_of movement.now self.now }
         ensures span { IfSome result (λ s. IsSpanOf self.now.text s) }
     {
+        // Its contract says that the text is UTF-8.
         let _text = self.as_str();
         let place = self.pos();
         match movement {

@@ -2,7 +2,7 @@
 
 ghost use Rattle.std.specs.Prelude.{◌≡◌, ◌≤◌, true, length, IfOk, IsCharBoundary, string_bytes};
 ghost use Rattle.unicode_segmentation.specs.Grapheme.{graphemes};
-ghost use Rattle.line_buffer.specs.Transpositions.{exchanged};
+ghost use Rattle.line_buffer.specs.Transpositions.{later_first};
 
 use crate::line_buffer::{LineBuffer, OutOfMemory};
 use crate::listener::ChangeListener;
@@ -19,7 +19,7 @@ fn cluster_count(text: &str) -> usize
 }
 
 /// Two neighbouring parts of a text, the later one first.
-fn exchanged(
+fn later_first(
     alloc: Global,
     text: &str,
     from: usize,
@@ -31,7 +31,7 @@ fn exchanged(
     requires from { IsCharBoundary text.now from }
     requires middle { IsCharBoundary text.now middle }
     requires upto { IsCharBoundary text.now upto }
-    ensures { IfOk result (λ t. string_bytes t ≡ exchanged (from, middle, upto) text.now) }
+    ensures { IfOk result (λ t. string_bytes t ≡ later_first (from, middle, upto) text.now) }
 {
     let mut made = String::with_capacity(alloc, upto - from)?;
     made.push_str(&text[middle..upto])?;
@@ -93,11 +93,9 @@ impl LineBuffer {
             return Ok(false);
         }
         let (from, middle, upto) = self.clusters_at_cursor();
-        let swapped = exchanged(alloc, self.as_str(), from, middle, upto)?;
-        match self.replace(alloc, from..upto, swapped.as_str(), cl) {
-            Ok(()) => Ok(true),
-            Err(refusal) => Err(refusal),
-        }
+        let swapped = later_first(alloc, self.as_str(), from, middle, upto)?;
+        self.replace(alloc, from..upto, swapped.as_str(), cl)?;
+        Ok(true)
     }
 
     /// Moves the cursor to the n-th later end of a word, where there is one, and answers its place.
@@ -154,16 +152,13 @@ impl LineBuffer {
     {
         let earlier = self.copy_part(alloc, first.start, first.end)?;
         let later = self.copy_part(alloc, second.start, second.end)?;
+        // Its contract says that the text is UTF-8.
         let _text = self.as_str();
         let end = second.end;
         self.replace(alloc, second, earlier.as_str(), cl)?;
-        match self.replace(alloc, first, later.as_str(), cl) {
-            Ok(()) => {
-                self.set_pos(end);
-                Ok(())
-            }
-            Err(refusal) => Err(refusal),
-        }
+        self.replace(alloc, first, later.as_str(), cl)?;
+        self.set_pos(end);
+        Ok(())
     }
 
     /// Exchanges the word at the cursor or after it, the n-th by its end, with the one n words before, and puts the cursor
@@ -187,9 +182,7 @@ impl LineBuffer {
         if first_start == second_start || second_start < first_end {
             return Ok(false);
         }
-        match self.swap(alloc, first_start..first_end, second_start..second_end, cl) {
-            Ok(()) => Ok(true),
-            Err(refusal) => Err(refusal),
-        }
+        self.swap(alloc, first_start..first_end, second_start..second_end, cl)?;
+        Ok(true)
     }
 }

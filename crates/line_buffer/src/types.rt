@@ -46,7 +46,7 @@ pub enum CharSearch {
 }
 
 /// A part of the text, or a place, relative to the cursor. Rows end at newlines.
-#[derive(Clone, Debug, PartialEq, Eq, Drop)]
+#[derive(Clone, Copy, Debug, PartialEq, Eq)]
 pub enum Movement {
     WholeLine,
     BeginningOfLine,

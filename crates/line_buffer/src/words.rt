@@ -24,8 +24,8 @@ pub enum Kind {
     Other,
 }
 
-/// Alphabetic, or a number of some kind, as UAX #29 has it.
-pub(crate) fn is_alphanumeric(c: char) -> bool
+/// A character of the words of Emacs and readline: Alphabetic, or a number of some kind (Nd, Nl, No).
+pub fn is_alphanumeric(c: char) -> bool
     ensures { result ≡ Segments.is_alphanumeric c }
 {
     is_alphabetic(c)
@@ -38,7 +38,7 @@ pub(crate) fn is_alphanumeric(c: char) -> bool
 }
 
 /// All characters of the cluster are alphanumeric.
-pub(crate) fn is_alphanumeric_cluster(cluster: &str) -> bool
+pub fn is_alphanumeric_cluster(cluster: &str) -> bool
     ensures { result ≡ Words.is_alphanumeric_cluster cluster.now }
 {
     cluster.chars().all(|c| is_alphanumeric(c))

@@ -65,8 +65,11 @@ abbrev pub accept : Edit
 accept = then_do bare validate
 
 -- a valid line is accepted, but text behind the cursor may forbid it
+abbrev pub accepts_found : Bool → ValidationResult → Line → Bool
+accepts_found middle found l = is_valid found && (middle || list_all is_whitespace (chars (text_after l)))
+
 abbrev pub accepts : Bool → Setting → Value → Bool
-accepts middle s v = is_valid (verdict s v) && (middle || list_all is_whitespace (chars (text_after v.line)))
+accepts middle s v = accepts_found middle (verdict s v) v.line
 
 -- a line that isn't accepted gets a newline, unless it is told what is wrong with it
 abbrev pub newline_if : Bool → ValidationResult → Edit

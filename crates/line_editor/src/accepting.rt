@@ -1,1 +1,162 @@
 //! Lines that are to be accepted.
+ghost use Rattle.std.specs.Prelude.{◌≡◌, false, IfOk, IfErr, OnOk, option_copied};
+
+use crate::renderer::Renderer;
+use crate::state::State;
+use line_config::{HookFault, ReadlineError};
+use line_help::{Helper, History, ValidationContext, ValidationResult, Validator};
+use line_keys::{CmdKind, Text};
+
+#[tactic(auto, using(crate::proofs::BegunLemmas::begun_none, crate::proofs::BegunLemmas::begun_refused))]
+impl<'p, 'h, Out: Renderer, H: Helper + Drop, Hi: History> State<'p, 'h, Out, H, Hi> {
+    ghost use Rattle.line_editor.specs.States.{value_of, setting_of, Does, Stays, reason_of, HookFails};
+    ghost use Rattle.line_editor.specs.Accepting.{bare, verdict, told_if, verdict_told, validate, accepts_found, newline, accept, accepts, newline_if, accept_or_insert, submitted};
+
+    /// Draws the line as it was typed, without hint and highlighted character, where one stands or the prompt isn't the
+    /// session's own.
+    pub(crate) fn bare_line(&mut self) -> Result<(), ReadlineError>
+        ensures does { Does bare self.old self.new result }
+    {
+        let stood = self.hint.is_some() || self.highlight_char;
+        self.hint = None;
+        self.mark(CmdKind::ForcedRefresh);
+        if stood || self.highlight_char {
+            self.draw_with(None)
+        } else {
+            self.show_bare()
+        }
+    }
+
+    /// What the helper finds of the line.
+    fn judge(&self) -> Result<ValidationResult, ReadlineError>
+        ensures verdict { IfOk result (λ found. found ≡ verdict (setting_of self.now) (value_of self.now)) }
+        ensures reason { IfErr result (λ e. reason_of false (HookFails self.now) e) }
+    {
+        let Some(helper) = &self.helper else {
+            return Ok(ValidationResult::Valid(None));
+        };
+        match helper.validate(self.alloc, &ValidationContext::new(self.line.as_str())) {
+            Ok(found) => Ok(found),
+            Err(HookFault::Failed) => Err(ReadlineError::Helper),
+            Err(HookFault::Memory) => Err(ReadlineError::Memory),
+        }
+    }
+
+    /// Tells what was found: of a line that isn't incomplete, where something is to be drawn anew or there is a message.
+    fn tell_verdict(
+        &mut self,
+        found: &ValidationResult,
+        draws: bool,
+    ) -> Result<(), ReadlineError>
+        ensures does { Does (verdict_told found.now draws) self.old self.new result }
+    {
+        match found {
+            ValidationResult::Incomplete => Ok(()),
+            ValidationResult::Invalid(text) => self.tell_if(draws, text, CmdKind::Other),
+            ValidationResult::Valid(text) => self.tell_if(draws, text, CmdKind::ForcedRefresh),
+        }
+    }
+
+    /// Tells a message, if there is one or something is to be drawn anew.
+    fn tell_if(
+        &mut self,
+        draws: bool,
+        text: &Option<Text>,
+        kind: CmdKind,
+    ) -> Result<(), ReadlineError>
+        ensures does { Does (told_if draws text.now kind) self.old self.new result }
+    {
+        if draws || text.is_some() {
+            self.tell(text_of(text), kind)?;
+        }
+        Ok(())
+    }
+
+    /// Asks the helper whether the line is whole. Where a message came, or a group was closed or a hint stands, the line
+    /// is drawn without hint and with the message. Where the helper refuses, the group that was opened for it stays open.
+    pub fn validate(&mut self) -> Result<ValidationResult, ReadlineError>
+        ensures does { Does validate self.old self.new result }
+        ensures verdict { IfOk result (λ found. found ≡ verdict (setting_of self.old) (value_of self.old)) }
+    {
+        if self.helper.is_none() {
+            return Ok(ValidationResult::Valid(None));
+        }
+        self.changes.begin(self.alloc)?;
+        let found = self.judge()?;
+        let ended = self.changes.end(self.alloc)?;
+        let draws = ended || self.hint.is_some();
+        self.tell_verdict(&found, draws)?;
+        Ok(found)
+    }
+
+    /// Draws the line as it was typed, and asks the helper whether it is whole.
+    pub(crate) fn accept(&mut self) -> Result<ValidationResult, ReadlineError>
+        ensures does { Does accept self.old self.new result }
+        ensures verdict { IfOk result (λ found. found ≡ verdict (setting_of self.old) (value_of self.old)) }
+        ensures line { OnOk result (self.new.line ≡ self.old.line) }
+    {
+        self.bare_line()?;
+        let found = self.validate()?;
+        Ok(found)
+    }
+
+    /// Whether a line of which this was found is accepted.
+    fn accepts_line(&self, found: &ValidationResult, middle: bool) -> bool
+        ensures { result ≡ accepts_found middle found.now self.now.line }
+    {
+        found.is_valid() && (middle || self.line.is_end_of_input())
+    }
+
+    /// Inserts a newline where the line isn't accepted and nothing else is told.
+    fn insert_newline(
+        &mut self,
+        accepted: bool,
+        found: &ValidationResult,
+    ) -> Result<(), ReadlineError>
+        ensures does { Does (newline_if accepted found.now) self.old self.new result }
+    {
+        if !accepted && (found.is_valid() || !found.has_message()) {
+            self.edit_insert('\n', 1)?;
+        }
+        Ok(())
+    }
+
+    /// Accepts a valid line, and inserts a newline into any other; whether it is accepted.
+    pub(crate) fn accept_or_insert(&mut self, middle: bool) -> Result<bool, ReadlineError>
+        ensures does { Does (accept_or_insert middle) self.old self.new result }
+        ensures accepted { IfOk result (λ b. b ≡ accepts middle (setting_of self.old) (value_of self.old)) }
+    {
+        let found = self.accept()?;
+        let accepted = self.accepts_line(&found, middle);
+        self.insert_newline(accepted, &found)?;
+        Ok(accepted)
+    }
+
+    /// Inserts a newline into a line that is drawn as it was typed.
+    pub(crate) fn newline(&mut self) -> Result<(), ReadlineError>
+        ensures does { Does newline self.old self.new result }
+    {
+        self.bare_line()?;
+        self.edit_insert('\n', 1)?;
+        Ok(())
+    }
+
+    /// The end of an accepted line: the cursor behind the text, then the display's behind the drawing.
+    pub(crate) fn submit(&mut self) -> Result<(), ReadlineError>
+        ensures does { Does submitted self.old self.new result }
+    {
+        self.edit_move_buffer_end(CmdKind::ForcedRefresh)?;
+        self.move_cursor_to_end()?;
+        Ok(())
+    }
+}
+
+/// A text, if there is one.
+fn text_of(text: &Option<Text>) -> Option<&str>
+    ensures { option_copied result ≡ text.now }
+{
+    match text {
+        Some(text) => Some(text.as_str()),
+        None => None,
+    }
+}

@@ -1,1 +1,50 @@
 //! The hint taken into the line.
+ghost use Rattle.std.specs.Prelude.{◌≡◌, option_map, option_copied, IfOk};
+
+use crate::renderer::Renderer;
+use crate::state::State;
+use line_config::ReadlineError;
+use line_edits::yank;
+use line_help::{Helper, Hint, History};
+
+#[tactic(auto, using(crate::proofs::BegunLemmas::begun_none, crate::proofs::BegunLemmas::begun_refused, crate::proofs::BegunLemmas::begun_made))]
+impl<'p, 'h, Out: Renderer, H: Helper + Drop, Hi: History> State<'p, 'h, Out, H, Hi> {
+    ghost use Rattle.line_editor.specs.States.{value_of, setting_of, Does};
+    ghost use Rattle.line_editor.specs.Drawing.{beeped, refreshed};
+    ghost use Rattle.line_editor.specs.Hinting.{complete_hint};
+    ghost use Rattle.line_editor.specs.Values.{then_do};
+
+    /// Beeps, and draws the line with a new hint.
+    fn beep_and_refresh(&mut self) -> Result<(), ReadlineError>
+        ensures does { Does (then_do beeped refreshed) self.old self.new result }
+    {
+        self.beep()?;
+        self.refresh()?;
+        Ok(())
+    }
+
+    /// Takes the hint into the line at the row's end.
+    pub(crate) fn complete_hint(&mut self) -> Result<(), ReadlineError>
+        ensures does { Does complete_hint self.old self.new result }
+    {
+        let Some(hint) = &self.hint else {
+            return Ok(());
+        };
+        self.line.move_end();
+        let Some(text) = hint.completion() else {
+            return self.beep_and_refresh();
+        };
+        let put = yank(
+            self.alloc,
+            &mut self.line,
+            &mut self.changes,
+            &mut self.plain,
+            text,
+            1,
+        )?;
+        if put.is_none() {
+            return self.beep_and_refresh();
+        }
+        self.refresh()
+    }
+}

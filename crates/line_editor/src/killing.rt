@@ -1,1 +1,104 @@
-//! What is killed.
+//! What is killed, and what is copied into the ring.
+ghost use Rattle.std.specs.Prelude.{◌≡◌, ◌==◌, ◌&&◌, nat_le, length, OnOk, IfErr};
+ghost use Rattle.line_config.specs.declared.errors.ReadlineError.{ReadlineError};
+
+use crate::renderer::Renderer;
+use crate::state::State;
+use line_buffer::{Mode, Movement};
+use line_config::ReadlineError;
+use line_edits::{kill, printable_from};
+use line_help::{Helper, History};
+use line_keys::Text;
+use line_record::KillRing;
+
+#[tactic(auto, using(crate::proofs::BegunLemmas::begun_none, crate::proofs::BegunLemmas::begun_refused))]
+impl<'p, 'h, Out: Renderer, H: Helper + Drop, Hi: History> State<'p, 'h, Out, H, Hi> {
+    ghost use Rattle.line_editor.specs.States.{value_of, setting_of, Does, Stays};
+    ghost use Rattle.line_edits.specs.Plain.{is_plain};
+    ghost use Rattle.line_editor.specs.Inserting.{is_bare};
+    ghost use Rattle.line_editor.specs.Killing.{kill, insert_text_if, replace, killed_into, copied_into};
+
+    /// Whether what was taken is all that is to be erased: printable characters from the end of a plain line, with neither
+    /// hint nor highlighted character, before and behind it.
+    fn stood_at_end(&self, printable: usize, was_bare: bool) -> bool
+        ensures { result ≡ (is_plain self.now.line.text && (nat_le printable (length self.now.line.text) && ((self.now.line.place == length self.now.line.text) && (was_bare && is_bare (value_of self.now))))) }
+    {
+        self.plain
+            && (printable <= self.line.len()
+                && (self.line.is_cursor_at_end() && (was_bare && self.is_bare())))
+    }
+
+    /// Kills what a movement names; the ring is told first, the record last. At the end of the line what was killed is
+    /// erased where that is enough.
+    pub fn edit_kill(
+        &mut self,
+        movement: &Movement,
+        ring: &mut KillRing,
+    ) -> Result<(), ReadlineError>
+        ensures does { Does (kill movement.now) self.old self.new result }
+        ensures ring { OnOk result (ring.new ≡ killed_into movement.now (value_of self.old) ring.old) }
+    {
+        let was_bare = self.is_bare();
+        let before = self.line.len();
+        let printable = printable_from(self.line.as_str());
+        let killed = kill(
+            self.alloc,
+            &mut self.line,
+            &mut self.changes,
+            &mut self.plain,
+            ring,
+            movement,
+        )?;
+        if !killed {
+            return Ok(());
+        }
+        let count = before - self.line.len();
+        self.ask_anew()?;
+        if self.stood_at_end(printable, was_bare) {
+            self.show_short_taken(count)
+        } else {
+            let prompt = self.prompt;
+            self.draw(prompt, true)
+        }
+    }
+
+    /// Puts a text at the cursor, if there is one.
+    fn insert_some(&mut self, text: &Option<Text>) -> Result<(), ReadlineError>
+        ensures does { Does (insert_text_if text.now) self.old self.new result }
+    {
+        if let Some(text) = text {
+            self.edit_insert_text(text.as_str())?;
+        }
+        Ok(())
+    }
+
+    /// Kills what a movement names, and puts a text there.
+    pub(crate) fn edit_replace(
+        &mut self,
+        movement: &Movement,
+        text: &Option<Text>,
+        ring: &mut KillRing,
+    ) -> Result<(), ReadlineError>
+        ensures does { Does (replace movement.now text.now) self.old self.new result }
+        ensures ring { OnOk result (ring.new ≡ killed_into movement.now (value_of self.old) ring.old) }
+    {
+        self.edit_kill(movement, ring)?;
+        self.insert_some(text)?;
+        Ok(())
+    }
+
+    /// Copies what a movement names into the ring.
+    pub(crate) fn copy_to_ring(
+        &self,
+        movement: &Movement,
+        ring: &mut KillRing,
+    ) -> Result<(), ReadlineError>
+        ensures ring { OnOk result (ring.new ≡ copied_into movement.now (value_of self.now) ring.old) }
+        ensures fault { IfErr result (λ e. e ≡ ReadlineError.Memory) }
+    {
+        if let Some(text) = self.line.copy(self.alloc, movement)? {
+            ring.kill(self.alloc, text.as_str(), Mode::Append)?;
+        }
+        Ok(())
+    }
+}

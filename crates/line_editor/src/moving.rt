@@ -1,1 +1,216 @@
 //! Motions of the cursor.
+ghost use Rattle.std.specs.Prelude.{◌≡◌, is_some, IfOk};
+ghost use Rattle.line_help.specs.History.{begins_with_space};
+
+use crate::renderer::Renderer;
+use crate::state::State;
+use line_buffer::{At, CharSearch, Layout, Movement, Position, RepeatCount, Word};
+use line_config::ReadlineError;
+use line_help::{Helper, History};
+use line_keys::CmdKind;
+
+#[tactic(auto, using(crate::proofs::BegunLemmas::begun_none, crate::proofs::BegunLemmas::begun_refused))]
+impl<'p, 'h, Out: Renderer, H: Helper + Drop, Hi: History> State<'p, 'h, Out, H, Hi> {
+    ghost use Rattle.line_buffer.specs.Columns.{line_up, line_down};
+    ghost use Rattle.line_editor.specs.States.{value_of, setting_of, Does};
+    ghost use Rattle.line_buffer.specs.declared.types.At.TheVariants.{Start};
+    ghost use Rattle.line_buffer.specs.declared.types.Word.TheVariants.{Big};
+    ghost use Rattle.line_editor.specs.Values.{then_do};
+    ghost use Rattle.line_editor.specs.Moving.{move_backward, move_forward, move_to_prev_word, move_to_next_word, move_to, move_line_up, move_line_down, move_home, move_end, move_buffer_start, move_buffer_end, move_to_first_print, move_by};
+
+    /// Moves back by clusters.
+    pub fn edit_move_backward(&mut self, n: RepeatCount) -> Result<(), ReadlineError>
+        ensures does { Does (move_backward n) self.old self.new result }
+    {
+        if self.line.move_backward(n) {
+            self.move_cursor(CmdKind::MoveCursor)?;
+        }
+        Ok(())
+    }
+
+    /// Moves on by clusters.
+    pub fn edit_move_forward(&mut self, n: RepeatCount) -> Result<(), ReadlineError>
+        ensures does { Does (move_forward n) self.old self.new result }
+    {
+        if self.line.move_forward(n) {
+            self.move_cursor(CmdKind::MoveCursor)?;
+        }
+        Ok(())
+    }
+
+    /// Moves to the row's start.
+    pub fn edit_move_home(&mut self) -> Result<(), ReadlineError>
+        ensures does { Does move_home self.old self.new result }
+    {
+        if self.line.move_home() {
+            self.move_cursor(CmdKind::MoveCursor)?;
+        }
+        Ok(())
+    }
+
+    /// Moves to the row's end.
+    pub fn edit_move_end(&mut self) -> Result<(), ReadlineError>
+        ensures does { Does move_end self.old self.new result }
+    {
+        if self.line.move_end() {
+            self.move_cursor(CmdKind::MoveCursor)?;
+        }
+        Ok(())
+    }
+
+    /// Moves to the text's start.
+    pub fn edit_move_buffer_start(&mut self) -> Result<(), ReadlineError>
+        ensures does { Does move_buffer_start self.old self.new result }
+    {
+        if self.line.move_buffer_start() {
+            self.move_cursor(CmdKind::MoveCursor)?;
+        }
+        Ok(())
+    }
+
+    /// Moves to the text's end.
+    pub fn edit_move_buffer_end(&mut self, kind: CmdKind) -> Result<(), ReadlineError>
+        ensures does { Does (move_buffer_end kind) self.old self.new result }
+    {
+        if self.line.move_buffer_end() {
+            self.move_cursor(kind)?;
+        }
+        Ok(())
+    }
+
+    /// Moves back to a word's start.
+    pub fn edit_move_to_prev_word(
+        &mut self,
+        word: Word,
+        n: RepeatCount,
+    ) -> Result<(), ReadlineError>
+        ensures does { Does (move_to_prev_word word n) self.old self.new result }
+    {
+        if self.line.move_to_prev_word(word, n) {
+            self.move_cursor(CmdKind::MoveCursor)?;
+        }
+        Ok(())
+    }
+
+    /// Moves on to a word.
+    pub fn edit_move_to_next_word(
+        &mut self,
+        at: At,
+        word: Word,
+        n: RepeatCount,
+    ) -> Result<(), ReadlineError>
+        ensures does { Does (move_to_next_word at word n) self.old self.new result }
+    {
+        if self.line.move_to_next_word(at, word, n) {
+            self.move_cursor(CmdKind::MoveCursor)?;
+        }
+        Ok(())
+    }
+
+    /// Moves to a character.
+    pub fn edit_move_to(
+        &mut self,
+        search: CharSearch,
+        n: RepeatCount,
+    ) -> Result<(), ReadlineError>
+        ensures does { Does (move_to search n) self.old self.new result }
+    {
+        if self.line.move_to(search, n) {
+            self.move_cursor(CmdKind::MoveCursor)?;
+        }
+        Ok(())
+    }
+
+    /// The layout behind the session's own prompt, of which motions by rows see the prompt's end.
+    fn prompt_layout(&self) -> Layout
+        ensures mode { result.grapheme_cluster_mode ≡ (setting_of self.now).mode }
+        ensures column { result.prompt_size.col ≡ (setting_of self.now).column }
+    {
+        let origin = Position { col: 0, row: 0 };
+        let mut layout = Layout::new(self.out.grapheme_cluster_mode());
+        layout.prompt_size = self.out.calculate_position(self.prompt, origin);
+        layout
+    }
+
+    /// Moves up by rows. Answers false in the first row.
+    pub fn edit_move_line_up(&mut self, n: RepeatCount) -> Result<bool, ReadlineError>
+        ensures does { Does (move_line_up n) self.old self.new result }
+        ensures answer { IfOk result (λ b. b ≡ is_some (line_up (setting_of self.old).mode (setting_of self.old).column n self.old.line)) }
+    {
+        let layout = self.prompt_layout();
+        if !self.line.move_to_line_up(n, &layout) {
+            return Ok(false);
+        }
+        self.move_cursor(CmdKind::MoveCursor)?;
+        Ok(true)
+    }
+
+    /// Moves down by rows. Answers false in the last row.
+    pub fn edit_move_line_down(&mut self, n: RepeatCount) -> Result<bool, ReadlineError>
+        ensures does { Does (move_line_down n) self.old self.new result }
+        ensures answer { IfOk result (λ b. b ≡ is_some (line_down (setting_of self.old).mode (setting_of self.old).column n self.old.line)) }
+    {
+        let layout = self.prompt_layout();
+        if !self.line.move_to_line_down(n, &layout) {
+            return Ok(false);
+        }
+        self.move_cursor(CmdKind::MoveCursor)?;
+        Ok(true)
+    }
+
+    /// Moves to the row's start, and on to the next word.
+    fn edit_move_home_and_on(&mut self) -> Result<(), ReadlineError>
+        ensures does { Does (then_do move_home (move_to_next_word Start Big 1)) self.old self.new result }
+    {
+        self.edit_move_home()?;
+        self.edit_move_to_next_word(At::Start, Word::Big, 1)?;
+        Ok(())
+    }
+
+    /// The same where the text begins with whitespace; else to the row's start alone.
+    fn edit_move_to_first_print(&mut self) -> Result<(), ReadlineError>
+        ensures does { Does move_to_first_print self.old self.new result }
+    {
+        if begins_with_space(self.line.as_str()) {
+            self.edit_move_home_and_on()
+        } else {
+            self.edit_move_home()
+        }
+    }
+
+    /// Moves as a movement says.
+    pub(crate) fn edit_move(&mut self, movement: &Movement) -> Result<(), ReadlineError>
+        ensures does { Does (move_by movement.now) self.old self.new result }
+    {
+        match movement {
+            Movement::WholeLine | Movement::WholeBuffer => {}
+            Movement::BeginningOfLine => self.edit_move_home()?,
+            Movement::EndOfLine => self.edit_move_end()?,
+            Movement::BackwardWord(n, word) => self.edit_move_to_prev_word(*word, *n)?,
+            Movement::ForwardWord(n, at, word) => self.edit_move_to_next_word(*at, *word, *n)?,
+            Movement::ViCharSearch(n, search) => self.edit_move_to(*search, *n)?,
+            Movement::ViFirstPrint => self.edit_move_to_first_print()?,
+            Movement::BackwardChar(n) => self.edit_move_backward(*n)?,
+            Movement::ForwardChar(n) => self.edit_move_forward(*n)?,
+            Movement::LineUp(n) => {
+                self.edit_move_line_up(*n)?;
+            }
+            Movement::LineDown(n) => {
+                self.edit_move_line_down(*n)?;
+            }
+            Movement::BeginningOfBuffer => self.edit_move_buffer_start()?,
+            Movement::EndOfBuffer => self.edit_move_buffer_end(CmdKind::MoveCursor)?,
+        }
+        Ok(())
+    }
+}
+
+/// Whether a text's first character is whitespace.
+fn begins_with_space(text: &str) -> bool
+    ensures { result ≡ begins_with_space text.now }
+{
+    match text.chars().next() {
+        Some(c) => c.is_whitespace(),
+        None => false,
+    }
+}

@@ -1,1 +1,223 @@
 //! The history in place of the line.
+ghost use Rattle.std.specs.Prelude.{◌≡◌, ◌≤◌, length, IfErr, OnOk};
+ghost use Rattle.line_config.specs.declared.errors.ReadlineError.{ReadlineError};
+
+use crate::renderer::Renderer;
+use crate::saved::SavedLine;
+use crate::state::State;
+use line_config::ReadlineError;
+use line_edits::{update, update_grouped};
+use line_help::{Helper, History, SearchDirection};
+
+#[tactic(auto, using(crate::proofs::BegunLemmas::begun_none, crate::proofs::BegunLemmas::begun_refused))]
+impl<'p, 'h, Out: Renderer, H: Helper + Drop, Hi: History> State<'p, 'h, Out, H, Hi> {
+    ghost use Rattle.line_editor.specs.States.{value_of, setting_of, Does, Stays};
+    ghost use Rattle.line_editor.specs.Remembering.{saved_now, restored, come_back, previous_entry, next_entry, first_entry, last_line, history_step, history_end, search_from, history_search};
+
+    /// Keeps the line for coming back to it.
+    pub fn backup(&mut self) -> Result<(), ReadlineError>
+        ensures value { OnOk result (value_of self.new ≡ saved_now (value_of self.old)) }
+        ensures out { self.new.out ≡ self.old.out }
+        ensures layout { self.new.layout ≡ self.old.layout }
+        ensures line { self.new.line ≡ self.old.line }
+        ensures place { self.new.ctx.place ≡ self.old.ctx.place }
+        ensures stays { Stays self.old self.new }
+        ensures fault { IfErr result (λ e. e ≡ ReadlineError.Memory) }
+    {
+        let pos = self.line.pos();
+        self.saved = SavedLine::copy(self.alloc, self.line.as_str(), pos)?;
+        Ok(())
+    }
+
+    /// Puts the kept line back, as one change.
+    pub fn restore(&mut self) -> Result<(), ReadlineError>
+        ensures value { OnOk result (value_of self.new ≡ restored (value_of self.old)) }
+        ensures out { self.new.out ≡ self.old.out }
+        ensures layout { self.new.layout ≡ self.old.layout }
+        ensures stays { Stays self.old self.new }
+        ensures fault { IfErr result (λ e. e ≡ ReadlineError.Memory) }
+    {
+        update(
+            self.alloc,
+            &mut self.line,
+            &mut self.changes,
+            &mut self.plain,
+            self.saved.text.as_str(),
+            self.saved.pos,
+        )?;
+        Ok(())
+    }
+
+    /// Back to the line that was left.
+    fn come_back(&mut self) -> Result<(), ReadlineError>
+        ensures does { Does come_back self.old self.new result }
+    {
+        let end = self.ctx.history().len();
+        self.ctx.set_history_index(end);
+        self.restore()?;
+        self.refresh()
+    }
+
+    fn edit_previous_entry(&mut self) -> Result<(), ReadlineError>
+        ensures does { Does previous_entry self.old self.new result }
+    {
+        let history = self.ctx.history();
+        let place = self.ctx.history_index();
+        if place == 0 {
+            return Ok(());
+        }
+        let Some(found) = history.get(place - 1, SearchDirection::Reverse) else {
+            return Ok(());
+        };
+        if place == history.len() {
+            self.backup()?;
+        }
+        self.ctx.set_history_index(place - 1);
+        update_grouped(
+            self.alloc,
+            &mut self.line,
+            &mut self.changes,
+            &mut self.plain,
+            found.entry,
+            found.entry.len(),
+        )?;
+        self.refresh()
+    }
+
+    fn edit_next_entry(&mut self) -> Result<(), ReadlineError>
+        ensures does { Does next_entry self.old self.new result }
+    {
+        let history = self.ctx.history();
+        let place = self.ctx.history_index();
+        if place == history.len() {
+            return Ok(());
+        }
+        if place + 1 == history.len() {
+            return self.come_back();
+        }
+        let Some(found) = history.get(place + 1, SearchDirection::Forward) else {
+            return Ok(());
+        };
+        self.ctx.set_history_index(place + 1);
+        update_grouped(
+            self.alloc,
+            &mut self.line,
+            &mut self.changes,
+            &mut self.plain,
+            found.entry,
+            found.entry.len(),
+        )?;
+        self.refresh()
+    }
+
+    /// One entry back, or one on. Leaving the history's end keeps the line, coming back to it restores it.
+    pub fn edit_history_next(&mut self, prev: bool) -> Result<(), ReadlineError>
+        ensures does { Does (history_step prev) self.old self.new result }
+    {
+        if prev {
+            self.edit_previous_entry()
+        } else {
+            self.edit_next_entry()
+        }
+    }
+
+    fn edit_first_entry(&mut self) -> Result<(), ReadlineError>
+        ensures does { Does first_entry self.old self.new result }
+    {
+        let history = self.ctx.history();
+        let place = self.ctx.history_index();
+        if place == 0 {
+            return Ok(());
+        }
+        let Some(found) = history.get(0, SearchDirection::Forward) else {
+            return Ok(());
+        };
+        if place == history.len() {
+            self.backup()?;
+        }
+        self.ctx.set_history_index(0);
+        update_grouped(
+            self.alloc,
+            &mut self.line,
+            &mut self.changes,
+            &mut self.plain,
+            found.entry,
+            found.entry.len(),
+        )?;
+        self.refresh()
+    }
+
+    fn edit_last_line(&mut self) -> Result<(), ReadlineError>
+        ensures does { Does last_line self.old self.new result }
+    {
+        if self.ctx.history_index() == self.ctx.history().len() {
+            return Ok(());
+        }
+        self.come_back()
+    }
+
+    /// The first entry, or the line that was left.
+    pub fn edit_history(&mut self, first: bool) -> Result<(), ReadlineError>
+        ensures does { Does (history_end first) self.old self.new result }
+    {
+        if first {
+            self.edit_first_entry()
+        } else {
+            self.edit_last_line()
+        }
+    }
+
+    /// The nearest entry from a place on that begins with the text before the cursor.
+    fn search_from(&mut self, dir: SearchDirection, place: usize) -> Result<(), ReadlineError>
+        requires { place ≤ length (setting_of self.old).entries }
+        ensures does { Does (search_from dir place) self.old self.new result }
+    {
+        let history = self.ctx.history();
+        self.ctx.set_history_index(place);
+        let pos = self.line.pos();
+        let Some(found) = history.starts_with(&self.line.as_str()[..pos], place, dir) else {
+            return self.beep();
+        };
+        let entry = entry_of(found.entry);
+        self.ctx.set_history_index(found.idx);
+        update_grouped(
+            self.alloc,
+            &mut self.line,
+            &mut self.changes,
+            &mut self.plain,
+            entry,
+            found.pos,
+        )?;
+        self.refresh()
+    }
+
+    /// The nearest entry before or behind the present one that begins with the text before the cursor. The place in the
+    /// history moves by one also where there is none.
+    pub fn edit_history_search(&mut self, dir: SearchDirection) -> Result<(), ReadlineError>
+        ensures does { Does (history_search dir) self.old self.new result }
+    {
+        let place = self.ctx.history_index();
+        let end = self.ctx.history().len();
+        match dir {
+            SearchDirection::Reverse => {
+                if place == 0 {
+                    return self.beep();
+                }
+                self.search_from(SearchDirection::Reverse, place - 1)
+            }
+            SearchDirection::Forward => {
+                if place == end {
+                    return self.beep();
+                }
+                self.search_from(SearchDirection::Forward, place + 1)
+            }
+        }
+    }
+}
+
+/// The text of an entry, which its history lends.
+fn entry_of<'a>(text: &'a str) -> &'a str
+    ensures { result.now ≡ text.now }
+{
+    text
+}

@@ -1,1 +1,103 @@
-//! Transpositions, letters, indentation, undo.
+//! Transpositions, letters in another case, indentation, and changes taken back.
+
+use crate::renderer::Renderer;
+use crate::state::State;
+use line_buffer::{Movement, RepeatCount, WordAction};
+use line_config::ReadlineError;
+use line_edits::{edit_word, indent, transpose_chars, transpose_words, undo};
+use line_help::{Helper, History};
+
+#[tactic(auto, using(crate::proofs::BegunLemmas::begun_none, crate::proofs::BegunLemmas::begun_refused))]
+impl<'p, 'h, Out: Renderer, H: Helper + Drop, Hi: History> State<'p, 'h, Out, H, Hi> {
+    ghost use Rattle.line_editor.specs.States.{Does};
+    ghost use Rattle.line_editor.specs.Rewording.{transpose_chars, transpose_words, edit_word, indent, undo};
+
+    /// Exchanges the clusters around the cursor.
+    pub fn edit_transpose_chars(&mut self) -> Result<(), ReadlineError>
+        ensures does { Does transpose_chars self.old self.new result }
+    {
+        let done = transpose_chars(
+            self.alloc,
+            &mut self.line,
+            &mut self.changes,
+            &mut self.plain,
+        )?;
+        if done {
+            self.refresh()?;
+        }
+        Ok(())
+    }
+
+    /// Exchanges words.
+    pub fn edit_transpose_words(&mut self, n: RepeatCount) -> Result<(), ReadlineError>
+        ensures does { Does (transpose_words n) self.old self.new result }
+    {
+        let before = self.line.pos();
+        let done = transpose_words(
+            self.alloc,
+            &mut self.line,
+            &mut self.changes,
+            &mut self.plain,
+            n,
+        )?;
+        if done || self.line.pos() != before {
+            self.refresh()?;
+        }
+        Ok(())
+    }
+
+    /// Sets a word's letters in another case.
+    pub fn edit_word(&mut self, action: WordAction) -> Result<(), ReadlineError>
+        ensures does { Does (edit_word action) self.old self.new result }
+    {
+        let done = edit_word(
+            self.alloc,
+            &mut self.line,
+            &mut self.changes,
+            &mut self.plain,
+            action,
+        )?;
+        if done {
+            self.refresh()?;
+        }
+        Ok(())
+    }
+
+    /// Moves rows in or out.
+    pub fn edit_indent(
+        &mut self,
+        movement: &Movement,
+        amount: u8,
+        dedent: bool,
+    ) -> Result<(), ReadlineError>
+        ensures does { Does (indent movement.now amount dedent) self.old self.new result }
+    {
+        indent(
+            self.alloc,
+            &mut self.line,
+            &mut self.changes,
+            &mut self.plain,
+            movement,
+            amount,
+            dedent,
+        )?;
+        self.refresh()
+    }
+
+    /// Takes back what was recorded last.
+    pub(crate) fn edit_undo(&mut self, n: RepeatCount) -> Result<(), ReadlineError>
+        ensures does { Does (undo n) self.old self.new result }
+    {
+        let undone = undo(
+            self.alloc,
+            &mut self.line,
+            &mut self.changes,
+            &mut self.plain,
+            n,
+        )?;
+        if undone {
+            self.refresh()?;
+        }
+        Ok(())
+    }
+}

@@ -1,1 +1,96 @@
-//! Texts yanked.
+//! Texts yanked from the ring, and exchanged.
+ghost use Rattle.std.specs.Prelude.{◌≡◌, slice_get};
+
+use crate::renderer::Renderer;
+use crate::state::State;
+use line_buffer::{Anchor, RepeatCount};
+use line_config::ReadlineError;
+use line_edits::{yank, yank_pop};
+use line_help::{Helper, History};
+use line_keys::{Decides, InputState};
+use line_record::KillRing;
+
+#[tactic(auto, using(crate::proofs::BegunLemmas::begun_none, crate::proofs::BegunLemmas::begun_refused))]
+impl<'p, 'h, Out: Renderer, H: Helper + Drop, Hi: History> State<'p, 'h, Out, H, Hi> {
+    ghost use Rattle.line_editor.specs.States.{Does};
+    ghost use Rattle.line_editor.specs.Yanking.{yank, yank_pop, yank_lent, pop_lent};
+    ghost use Rattle.line_keys.specs.Modes.{is_vi_command};
+    ghost use Rattle.line_record.specs.Ring.{yanked, turned, exchanged};
+
+    /// Puts a text in so many times, at the cursor or behind the cluster at it.
+    pub fn edit_yank<D: Decides>(
+        &mut self,
+        input_state: &InputState<'_, D>,
+        text: &str,
+        anchor: Anchor,
+        n: RepeatCount,
+    ) -> Result<(), ReadlineError>
+        ensures does { Does (yank (is_vi_command input_state.now.mode input_state.now.input_mode) text.now anchor n) self.old self.new result }
+    {
+        let stepped = match anchor {
+            Anchor::After => self.line.move_forward(1),
+            Anchor::Before => false,
+        };
+        let put = yank(
+            self.alloc,
+            &mut self.line,
+            &mut self.changes,
+            &mut self.plain,
+            text,
+            n,
+        )?;
+        if put.is_some() && input_state.is_vi_cmd_mode() {
+            self.line.move_backward(1);
+        }
+        if put.is_some() || stepped {
+            self.refresh()?;
+        }
+        Ok(())
+    }
+
+    /// Puts a text in place of the one that was yanked, where so many bytes stand before the cursor.
+    pub fn edit_yank_pop(&mut self, yank_size: usize, text: &str) -> Result<(), ReadlineError>
+        ensures does { Does (yank_pop yank_size text.now) self.old self.new result }
+    {
+        if !self.line.can_take_before(yank_size) {
+            return Ok(());
+        }
+        yank_pop(
+            self.alloc,
+            &mut self.line,
+            &mut self.changes,
+            &mut self.plain,
+            yank_size,
+            text,
+        )?;
+        self.refresh()
+    }
+
+    /// Yanks what the ring lends.
+    pub(crate) fn yank_from<D: Decides>(
+        &mut self,
+        ring: &mut KillRing,
+        input_state: &InputState<'_, D>,
+        anchor: Anchor,
+        n: RepeatCount,
+    ) -> Result<(), ReadlineError>
+        ensures does { Does (yank_lent (is_vi_command input_state.now.mode input_state.now.input_mode) anchor n (slice_get ring.old.slots ring.old.place)) self.old self.new result }
+        ensures ring { ring.new ≡ yanked ring.old }
+    {
+        if let Some(text) = ring.yank() {
+            self.edit_yank(input_state, text, anchor, n)?;
+        }
+        Ok(())
+    }
+
+    /// Puts the turned slot's text in place of the yanked one.
+    pub(crate) fn pop_from(&mut self, ring: &mut KillRing) -> Result<(), ReadlineError>
+        ensures does { Does (pop_lent (exchanged ring.old)) self.old self.new result }
+        ensures ring { ring.new ≡ turned ring.old }
+    {
+        if let Some((size, text)) = ring.yank_pop() {
+            self.edit_yank_pop(size, text)?;
+        }
+        Ok(())
+    }
+}

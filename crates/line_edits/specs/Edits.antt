@@ -1,8 +1,7 @@
 -- What each edit makes of a line and its record.
-use Rattle.std.specs.Prelude.{ℕ, ◌-◌, ◌&&◌, Bool, true, max, nat_le, if◌then◌else◌, List, [], ◌∷◌, ◌++◌, take, drop, length, Option, Some, None, is_some, unwrap_or, encode_utf8}
+use Rattle.std.specs.Prelude.{ℕ, Bool, true, max, if◌then◌else◌, List, [], ◌∷◌, take, drop, length, Option, Some, None, is_some, encode_utf8}
 use Rattle.unicode_segmentation.specs.Grapheme.{graphemes}
 use Rattle.line_buffer.specs.Clusters.{place_forward, place_backward}
-use Rattle.line_buffer.specs.Event.{Event}
 use Rattle.line_buffer.specs.Indent.{indent_events, indent_line}
 use Rattle.line_buffer.specs.Insertions.{Insertion, update_events, update_line, insert as insertion, yank as yanked_in, yank_pop as popped_in}
 use Rattle.line_buffer.specs.LetterCase.{edit_word_events, edit_word_line}
@@ -71,10 +70,18 @@ exchanged_for c n count w = stepped_back (typed c count (deleted n w))
 abbrev pub chars_replaced : ℕ → ℕ → Written → Written
 chars_replaced c n w = grouped (exchanged_for c n (clusters_after n w.line)) w
 
+-- nothing is done where none stands there
+abbrev pub replaced_if_any : ℕ → ℕ → Written → Written
+replaced_if_any c n w = if is_some (place_forward n w.line) then chars_replaced c n w else w
+
+-- a character put in place of what stands up to a place
+abbrev pub put_over : ℕ → ℕ → Written → Written
+put_over c end w = edited (replacement w.line.place end (encode_utf8 c) w.line.text ∷ []) (replaced w.line.place end (encode_utf8 c) w.line) w
+
 -- the cluster at the cursor written over, if there is one
 abbrev pub written_over : ℕ → Option ℕ → Written → Written
 written_over c None w = w
-written_over c (Some end) w = edited (replacement w.line.place end (encode_utf8 c) w.line.text ∷ []) (replaced w.line.place end (encode_utf8 c) w.line) w
+written_over c (Some end) w = put_over c end w
 
 abbrev pub overwritten : ℕ → Written → Written
 overwritten c w = written_over c (place_forward 1 w.line) w

@@ -1,37 +1,154 @@
 //! Clusters exchanged for characters.
-ghost use Rattle.std.specs.Prelude.{◌≡◌, is_some, IfOk, OnOk};
+ghost use Rattle.std.specs.Prelude.{◌≡◌, ◌≤◌, true, length, is_some, IfOk, IsCharBoundary};
+ghost use Rattle.unicode_segmentation.specs.Grapheme.{graphemes};
 ghost use Rattle.line_buffer.specs.Clusters.{place_forward};
 ghost use Rattle.line_record.specs.Items.{ItemsStand};
-ghost use Rattle.line_edits.specs.Edits.{chars_replaced, overwritten};
+ghost use Rattle.line_edits.specs.Edits.{deleted, clusters_after, exchanged_for, chars_replaced, replaced_if_any, put_over, overwritten};
 ghost use Rattle.line_edits.specs.Plain.{is_plain};
 ghost use Rattle.line_edits.specs.Written.{Writes};
 
+use crate::inserting::insert_told;
+use crate::plain::is_plain;
 use line_buffer::{LineBuffer, OutOfMemory, RepeatCount};
 use line_record::Changeset;
 use std::alloc::Global;
+use unicode_segmentation::UnicodeSegmentation;
+
+/// The number of grapheme clusters of a text.
+fn cluster_count(text: &str) -> usize
+    ensures { result ≡ length (graphemes true text.now) }
+{
+    text.graphemes(true).count()
+}
+
+/// How many of `n` clusters stand after the cursor.
+fn clusters_after(line: &LineBuffer, n: RepeatCount) -> RepeatCount
+    ensures value { result ≡ clusters_after n line.now }
+{
+    let count = cluster_count(&line.as_str()[line.pos()..]);
+    if count < usize::from(n) {
+        return count as RepeatCount;
+    }
+    n
+}
+
+fn delete_told(
+    alloc: Global,
+    line: &mut LineBuffer,
+    changes: &mut Changeset,
+    n: RepeatCount,
+) -> Result<(), OutOfMemory>
+    requires { ItemsStand changes.old line.old.text }
+    ensures writes { Writes (deleted n) line.old line.new changes.old changes.new result }
+{
+    let _text = line.as_str();
+    match line.delete(alloc, n, changes) {
+        Ok(taken) => {
+            drop(taken);
+            Ok(())
+        }
+        Err(refusal) => Err(refusal),
+    }
+}
+
+fn exchange(
+    alloc: Global,
+    line: &mut LineBuffer,
+    changes: &mut Changeset,
+    ch: char,
+    n: RepeatCount,
+) -> Result<(), OutOfMemory>
+    requires { ItemsStand changes.old line.old.text }
+    ensures writes { Writes (exchanged_for ch n (clusters_after n line.old)) line.old line.new changes.old changes.new result }
+{
+    let count = clusters_after(line, n);
+    delete_told(alloc, line, changes, n)?;
+    insert_told(alloc, line, changes, ch, count)?;
+    line.move_backward(1);
+    Ok(())
+}
+
+fn exchange_in_group(
+    alloc: Global,
+    line: &mut LineBuffer,
+    changes: &mut Changeset,
+    ch: char,
+    n: RepeatCount,
+) -> Result<(), OutOfMemory>
+    requires { ItemsStand changes.old line.old.text }
+    ensures writes { Writes (chars_replaced ch n) line.old line.new changes.old changes.new result }
+{
+    changes.begin(alloc)?;
+    exchange(alloc, line, changes, ch, n)?;
+    changes.end(alloc)?;
+    Ok(())
+}
 
 /// Exchanges up to `n` clusters after the cursor for a character each, in one group, the cursor on the last one.
 /// Answers whether any stands there; else nothing is done.
 pub fn replace_chars(
-    _alloc: Global,
-    _line: &mut LineBuffer,
-    _changes: &mut Changeset,
-    _plain: &mut bool,
-    _ch: char,
-    _n: RepeatCount,
+    alloc: Global,
+    line: &mut LineBuffer,
+    changes: &mut Changeset,
+    plain: &mut bool,
+    ch: char,
+    n: RepeatCount,
 ) -> Result<bool, OutOfMemory>
+    requires stand { ItemsStand changes.old line.old.text }
+    requires plain { plain.old ≡ is_plain line.old.text }
+    ensures answer { IfOk result (λ b. b ≡ is_some (place_forward n line.old)) }
+    ensures writes { Writes (replaced_if_any ch n) line.old line.new changes.old changes.new result }
+    ensures plain { plain.new ≡ is_plain line.new.text }
 {
-    Err(OutOfMemory)
+    if line.next_pos(n).is_none() {
+        return Ok(false);
+    }
+    let done = exchange_in_group(alloc, line, changes, ch, n);
+    *plain = is_plain(line.as_str());
+    done?;
+    Ok(true)
+}
+
+fn put_over(
+    alloc: Global,
+    line: &mut LineBuffer,
+    changes: &mut Changeset,
+    ch: char,
+    end: usize,
+) -> Result<(), OutOfMemory>
+    requires order { line.old.place ≤ end }
+    requires boundary { IsCharBoundary line.old.text end }
+    requires stand { ItemsStand changes.old line.old.text }
+    ensures writes { Writes (put_over ch end) line.old line.new changes.old changes.new result }
+{
+    let _text = line.as_str();
+    let at = line.pos();
+    let mut bytes = [0; 4];
+    match line.replace(alloc, at..end, ch.encode_utf8(&mut bytes), changes) {
+        Ok(()) => Ok(()),
+        Err(refusal) => Err(refusal),
+    }
 }
 
 /// Writes a character over the cluster at the cursor. Answers whether one stands there; else nothing is done.
 pub fn overwrite(
-    _alloc: Global,
-    _line: &mut LineBuffer,
-    _changes: &mut Changeset,
-    _plain: &mut bool,
-    _ch: char,
+    alloc: Global,
+    line: &mut LineBuffer,
+    changes: &mut Changeset,
+    plain: &mut bool,
+    ch: char,
 ) -> Result<bool, OutOfMemory>
+    requires stand { ItemsStand changes.old line.old.text }
+    requires plain { plain.old ≡ is_plain line.old.text }
+    ensures answer { IfOk result (λ b. b ≡ is_some (place_forward 1 line.old)) }
+    ensures writes { Writes (overwritten ch) line.old line.new changes.old changes.new result }
+    ensures plain { plain.new ≡ is_plain line.new.text }
 {
-    Err(OutOfMemory)
+    let Some(end) = line.next_pos(1) else {
+        return Ok(false);
+    };
+    let done = put_over(alloc, line, changes, ch, end);
+    *plain = is_plain(line.as_str());
+    done?;
+    Ok(true)
 }

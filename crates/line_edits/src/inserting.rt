@@ -11,7 +11,7 @@ use line_buffer::{LineBuffer, OutOfMemory, RepeatCount};
 use line_record::Changeset;
 use std::alloc::Global;
 
-fn insert_told(
+pub(crate) fn insert_told(
     alloc: Global,
     line: &mut LineBuffer,
     changes: &mut Changeset,

@@ -3,7 +3,7 @@ ghost use Rattle.std.specs.Prelude.{◌≡◌, is_some, IfOk, OnOk};
 ghost use Rattle.line_buffer.specs.LetterCase.{word_to_edit};
 ghost use Rattle.line_buffer.specs.Transpositions.{transposes_chars, transposes_words};
 ghost use Rattle.line_record.specs.Items.{ItemsStand};
-ghost use Rattle.line_edits.specs.Edits.{transpose_chars_in_group, transpose_words_in_group, edit_word_in_group, indented};
+ghost use Rattle.line_edits.specs.Edits.{chars_transposed, transpose_chars_in_group, words_transposed, transpose_words_in_group, word_edited, edit_word_in_group, indented};
 ghost use Rattle.line_edits.specs.Plain.{is_plain};
 ghost use Rattle.line_edits.specs.Written.{Writes};
 
@@ -11,6 +11,37 @@ use crate::plain::is_plain;
 use line_buffer::{LineBuffer, Movement, OutOfMemory, RepeatCount, WordAction};
 use line_record::Changeset;
 use std::alloc::Global;
+
+fn chars_told(
+    alloc: Global,
+    line: &mut LineBuffer,
+    changes: &mut Changeset,
+) -> Result<bool, OutOfMemory>
+    requires { ItemsStand changes.old line.old.text }
+    ensures answer { IfOk result (λ b. b ≡ transposes_chars line.old) }
+    ensures writes { Writes chars_transposed line.old line.new changes.old changes.new result }
+{
+    let _text = line.as_str();
+    match line.transpose_chars(alloc, changes) {
+        Ok(done) => Ok(done),
+        Err(refusal) => Err(refusal),
+    }
+}
+
+fn chars_in_group(
+    alloc: Global,
+    line: &mut LineBuffer,
+    changes: &mut Changeset,
+) -> Result<bool, OutOfMemory>
+    requires { ItemsStand changes.old line.old.text }
+    ensures answer { IfOk result (λ b. b ≡ transposes_chars line.old) }
+    ensures writes { Writes transpose_chars_in_group line.old line.new changes.old changes.new result }
+{
+    changes.begin(alloc)?;
+    let done = chars_told(alloc, line, changes)?;
+    changes.end(alloc)?;
+    Ok(done)
+}
 
 /// Exchanges the clusters around the cursor, in one group. Answers whether there are two.
 pub fn transpose_chars(
@@ -25,7 +56,42 @@ pub fn transpose_chars(
     ensures writes { Writes transpose_chars_in_group line.old line.new changes.old changes.new result }
     ensures plain { plain.new ≡ is_plain line.new.text }
 {
-    Err(OutOfMemory)
+    let done = chars_in_group(alloc, line, changes);
+    *plain = is_plain(line.as_str());
+    done
+}
+
+fn words_told(
+    alloc: Global,
+    line: &mut LineBuffer,
+    changes: &mut Changeset,
+    n: RepeatCount,
+) -> Result<bool, OutOfMemory>
+    requires { ItemsStand changes.old line.old.text }
+    ensures answer { IfOk result (λ b. b ≡ transposes_words n line.old) }
+    ensures writes { Writes (words_transposed n) line.old line.new changes.old changes.new result }
+{
+    let _text = line.as_str();
+    match line.transpose_words(alloc, n, changes) {
+        Ok(done) => Ok(done),
+        Err(refusal) => Err(refusal),
+    }
+}
+
+fn words_in_group(
+    alloc: Global,
+    line: &mut LineBuffer,
+    changes: &mut Changeset,
+    n: RepeatCount,
+) -> Result<bool, OutOfMemory>
+    requires { ItemsStand changes.old line.old.text }
+    ensures answer { IfOk result (λ b. b ≡ transposes_words n line.old) }
+    ensures writes { Writes (transpose_words_in_group n) line.old line.new changes.old changes.new result }
+{
+    changes.begin(alloc)?;
+    let done = words_told(alloc, line, changes, n)?;
+    changes.end(alloc)?;
+    Ok(done)
 }
 
 /// Exchanges the word at the cursor or after it with the one `n` words before it, in one group. Answers whether
@@ -43,7 +109,42 @@ pub fn transpose_words(
     ensures writes { Writes (transpose_words_in_group n) line.old line.new changes.old changes.new result }
     ensures plain { plain.new ≡ is_plain line.new.text }
 {
-    Err(OutOfMemory)
+    let done = words_in_group(alloc, line, changes, n);
+    *plain = is_plain(line.as_str());
+    done
+}
+
+fn word_told(
+    alloc: Global,
+    line: &mut LineBuffer,
+    changes: &mut Changeset,
+    action: WordAction,
+) -> Result<bool, OutOfMemory>
+    requires { ItemsStand changes.old line.old.text }
+    ensures answer { IfOk result (λ b. b ≡ is_some (word_to_edit line.old)) }
+    ensures writes { Writes (word_edited action) line.old line.new changes.old changes.new result }
+{
+    let _text = line.as_str();
+    match line.edit_word(alloc, action, changes) {
+        Ok(done) => Ok(done),
+        Err(refusal) => Err(refusal),
+    }
+}
+
+fn word_in_group(
+    alloc: Global,
+    line: &mut LineBuffer,
+    changes: &mut Changeset,
+    action: WordAction,
+) -> Result<bool, OutOfMemory>
+    requires { ItemsStand changes.old line.old.text }
+    ensures answer { IfOk result (λ b. b ≡ is_some (word_to_edit line.old)) }
+    ensures writes { Writes (edit_word_in_group action) line.old line.new changes.old changes.new result }
+{
+    changes.begin(alloc)?;
+    let done = word_told(alloc, line, changes, action)?;
+    changes.end(alloc)?;
+    Ok(done)
 }
 
 /// Sets the letters of the word at the cursor or after it in another case, in one group. Answers whether there is one.
@@ -60,7 +161,27 @@ pub fn edit_word(
     ensures writes { Writes (edit_word_in_group action) line.old line.new changes.old changes.new result }
     ensures plain { plain.new ≡ is_plain line.new.text }
 {
-    Err(OutOfMemory)
+    let done = word_in_group(alloc, line, changes, action);
+    *plain = is_plain(line.as_str());
+    done
+}
+
+fn rows_told(
+    alloc: Global,
+    line: &mut LineBuffer,
+    changes: &mut Changeset,
+    movement: &Movement,
+    amount: u8,
+    dedent: bool,
+) -> Result<(), OutOfMemory>
+    requires { ItemsStand changes.old line.old.text }
+    ensures writes { Writes (indented movement.now amount dedent) line.old line.new changes.old changes.new result }
+{
+    let _text = line.as_str();
+    match line.indent(alloc, movement, amount, dedent, changes) {
+        Ok(_) => Ok(()),
+        Err(refusal) => Err(refusal),
+    }
 }
 
 /// Moves the rows that a movement covers in or out by up to `amount` columns.
@@ -78,5 +199,7 @@ pub fn indent(
     ensures writes { Writes (indented movement.now amount dedent) line.old line.new changes.old changes.new result }
     ensures plain { plain.new ≡ is_plain line.new.text }
 {
-    Err(OutOfMemory)
+    let done = rows_told(alloc, line, changes, movement, amount, dedent);
+    *plain = is_plain(line.as_str());
+    done
 }

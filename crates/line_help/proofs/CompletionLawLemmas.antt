@@ -1,5 +1,5 @@
 -- The laws of completion.
-use Rattle.std.proofs.Common.{◌≡◌, ◌≢◌, ℕ, ◌≤◌, ◌&&◌, cond, Bool, true, false, List, [], ◌∷◌, ◌++◌, length, get_or, take, drop, nat_eq, Some, refl, sym, ap, ◌∙◌, arith, ne_eqb, append_assoc, length-append}
+use Rattle.std.proofs.Common.{◌≡◌, ◌≢◌, ℕ, ◌≤◌, ◌&&◌, cond, Bool, true, false, List, [], ◌∷◌, ◌++◌, length, take, drop, nat_eq, Some, refl, sym, ap, ◌∙◌, arith, ne_eqb, append_assoc, length-append}
 use Rattle.std.specs.Prelude.{encode_utf8_all, IsUtf8, IsCharBoundary}
 use Rattle.std.specs.Str.{chars, all_scalars}
 use Rattle.std.specs.Char.{IsScalar}
@@ -8,15 +8,14 @@ use Rattle.std.specs.List.{common_prefix_len}
 use Rattle.std.proofs.lemmas.List.{take-append-drop, take_at, take-take, append-nil}
 use Rattle.std.proofs.lemmas.List.Elements.{All-nil, All-cons, All-head, All-tail}
 use Rattle.std.proofs.lemmas.List.Sums.{common_prefix_len-le}
-use Rattle.std.proofs.lemmas.Option.{slice_get-get_or}
 use Rattle.std.proofs.lemmas.Str.{chars-encodes, encodes-chars, scalars-chars, IsUtf8-take, IsCharBoundary-from_take}
 use Rattle.line_buffer.specs.Insertions.{last_cut}
 use Rattle.line_help.specs.CommonPrefix.{common_beginning, common_to_all}
 use Rattle.line_help.proofs.CommonPrefixLemmas.{last_cut_le, last_cut_boundary, last_cut_greatest, alike, long}
-use Rattle.line_help.specs.CompletionLaws.{EscapesComeBack, Begins, CommonBeginningIsLongest, OpenQuotesStand}
+use Rattle.line_help.specs.CompletionLaws.{EscapesComeBack, Begins, CommonBeginningIsLongest}
 use Rattle.line_help.specs.Quotes.{unescaped, unescaped_chars, escaped_chars, escaped_by}
 use Rattle.line_help.specs.declared.quotes.Quote.TheVariants.{Double, Single, None as Unquoted}
-use Rattle.line_help.proofs.QuoteLemmas.{escaped_one, plain_char, StandsIn, unclosed_stands}
+use Rattle.line_help.proofs.QuoteLemmas.{escaped_one, plain_char}
 
 -- escapes, character by character
 read_back : (esc : ℕ) (breaks : ℕ → Bool) → breaks esc ≡ true → (cs : List ℕ) → unescaped_chars esc (escaped_chars esc breaks cs) ≡ cs
@@ -115,8 +114,3 @@ common_beginning_is_longest_holds text (other ∷ others) u =
           (common_is_longest text other front u v (All-head (Begins front) text (other ∷ others) all) (All-head (Begins front) other others rest))
           (All-tail (Begins front) other others rest)),
     )
-
-pub open_quotes_stand_holds : OpenQuotesStand
-open_quotes_stand_holds text place quote e =
-    let stands : StandsIn text (Some (place, quote)) = rw e at (unclosed_stands text) in
-    (get_or text place 0, slice_get-get_or text place 0 stands.0, stands.1)

@@ -5,7 +5,7 @@ use Rattle.std.proofs.lemmas.Bool.{ne_eqb}
 use Rattle.std.proofs.lemmas.List.{append-nil}
 use Rattle.std.proofs.lemmas.Str.{inside_one, length-encode, len_utf8_bounds}
 use lib.Utf8.{encode}
-use Rattle.line_help.specs.HistoryText.{unescaped}
+use Rattle.line_help.specs.HistoryText.{unescaped_row}
 
 -- what is still to be read where a backslash was taken or not
 abbrev pub pending : Bool → List ℕ → List ℕ
@@ -14,7 +14,7 @@ pending true rest = 92 ∷ rest
 
 -- the whole text where so much was put out and this is still to be read
 abbrev pub progress : Bool → List ℕ → List ℕ → Option (List ℕ)
-progress escape out rest = option_map (λ text. out ++ text) (unescaped (pending escape rest))
+progress escape out rest = option_map (λ text. out ++ text) (unescaped_row (pending escape rest))
 
 pub from_nothing : (o : Option (List ℕ)) → option_map (λ text. [] ++ text) o ≡ o
 from_nothing None = refl
@@ -24,16 +24,16 @@ map_twice : (out more : List ℕ) (o : Option (List ℕ)) → option_map (λ tex
 map_twice out more None = refl
 map_twice out more (Some text) = ap (λ t. Some t) (sym (append_assoc out more text))
 
-pub plain_byte : (b : ℕ) (bs : List ℕ) → b ≢ 92 → unescaped (b ∷ bs) ≡ option_map (λ text. b ∷ text) (unescaped bs)
+pub plain_byte : (b : ℕ) (bs : List ℕ) → b ≢ 92 → unescaped_row (b ∷ bs) ≡ option_map (λ text. b ∷ text) (unescaped_row bs)
 plain_byte b [] ne = rw (ne_eqb b 92 ne) refl
 plain_byte b (c ∷ bs) ne = rw (ne_eqb b 92 ne) refl
 
-plain_bytes : (xs rest : List ℕ) → ((k : ℕ) → k < length xs → get_or xs k 0 ≢ 92) → unescaped (xs ++ rest) ≡ option_map (λ text. xs ++ text) (unescaped rest)
-plain_bytes [] rest plain = sym (from_nothing (unescaped rest))
+plain_bytes : (xs rest : List ℕ) → ((k : ℕ) → k < length xs → get_or xs k 0 ≢ 92) → unescaped_row (xs ++ rest) ≡ option_map (λ text. xs ++ text) (unescaped_row rest)
+plain_bytes [] rest plain = sym (from_nothing (unescaped_row rest))
 plain_bytes (x ∷ xs) rest plain =
     plain_byte x (xs ++ rest) (plain 0 (omega arith))
     ∙ ap (λ o. option_map (λ text. x ∷ text) o) (plain_bytes xs rest (λ k h. plain (suc k) (omega arith)))
-    ∙ map_twice (x ∷ []) xs (unescaped rest)
+    ∙ map_twice (x ∷ []) xs (unescaped_row rest)
 
 -- an ASCII byte stands in no other character
 pub no_byte : (c b k : ℕ) → c ≢ b → b < 128 → k < length (encode_utf8 c) → get_or (encode_utf8 c) k 0 ≢ b
@@ -42,7 +42,7 @@ no_byte c b k ne small h e = ne (inside_one c [] (encode_utf8 c) k (sym (append-
 pub plain_char : (c : ℕ) (out rest : List ℕ) → c ≢ 92 → progress false out (encode_utf8 c ++ rest) ≡ progress false (out ++ encode_utf8 c) rest
 plain_char c out rest ne =
     ap (λ o. option_map (λ text. out ++ text) o) (plain_bytes (encode_utf8 c) rest (λ k h. no_byte c 92 k ne (omega arith) h))
-    ∙ map_twice out (encode_utf8 c) (unescaped rest)
+    ∙ map_twice out (encode_utf8 c) (unescaped_row rest)
 
 pub backslash_taken : (out rest : List ℕ) → progress false out (encode_utf8 92 ++ rest) ≡ progress true out rest
 unfolding encode
@@ -50,16 +50,16 @@ backslash_taken out rest = refl
 
 pub newline_read : (out rest : List ℕ) → progress true out (encode_utf8 110 ++ rest) ≡ progress false (out ++ encode_utf8 10) rest
 unfolding encode
-newline_read out rest = map_twice out (10 ∷ []) (unescaped rest)
+newline_read out rest = map_twice out (10 ∷ []) (unescaped_row rest)
 
 pub backslash_read : (out rest : List ℕ) → progress true out (encode_utf8 92 ++ rest) ≡ progress false (out ++ encode_utf8 92) rest
 unfolding encode
-backslash_read out rest = map_twice out (92 ∷ []) (unescaped rest)
+backslash_read out rest = map_twice out (92 ∷ []) (unescaped_row rest)
 
-wrong_byte : (c : ℕ) (bs : List ℕ) → c ≢ 110 → c ≢ 92 → unescaped (92 ∷ (c ∷ bs)) ≡ None
+wrong_byte : (c : ℕ) (bs : List ℕ) → c ≢ 110 → c ≢ 92 → unescaped_row (92 ∷ (c ∷ bs)) ≡ None
 wrong_byte c bs ne nf = rw (ne_eqb c 110 ne, ne_eqb c 92 nf) refl
 
-wrong_bytes : (xs rest : List ℕ) → 0 < length xs → get_or xs 0 0 ≢ 110 → get_or xs 0 0 ≢ 92 → unescaped (92 ∷ (xs ++ rest)) ≡ None
+wrong_bytes : (xs rest : List ℕ) → 0 < length xs → get_or xs 0 0 ≢ 110 → get_or xs 0 0 ≢ 92 → unescaped_row (92 ∷ (xs ++ rest)) ≡ None
 wrong_bytes [] rest some ne nf = absurd (omega arith)
 wrong_bytes (x ∷ xs) rest some ne nf = wrong_byte x (xs ++ rest) ne nf
 
@@ -68,7 +68,7 @@ wrong_char c out rest ne nf =
     let some : 0 < length (encode_utf8 c) = omega (arith, length-encode c, len_utf8_bounds c) in
     rw (wrong_bytes (encode_utf8 c) rest some (no_byte c 110 0 ne (omega arith) some) (no_byte c 92 0 nf (omega arith) some)) refl
 
-pub begun : (out row rest : List ℕ) → out ≡ [] → rest ≡ row → unescaped row ≡ progress false out rest
-begun out row rest e f = rw (e, f) (sym (from_nothing (unescaped row)))
+pub begun : (out row rest : List ℕ) → out ≡ [] → rest ≡ row → unescaped_row row ≡ progress false out rest
+begun out row rest e f = rw (e, f) (sym (from_nothing (unescaped_row row)))
 
 pub ruleset escape_steps = (plain_char, backslash_taken, newline_read, backslash_read, wrong_char, from_nothing)

@@ -8,8 +8,8 @@ use Rattle.std.proofs.lemmas.List.Sorted.{ranks_by}
 use Rattle.std.proofs.lemmas.List.Sums.{suffix_len_is}
 use Rattle.std.proofs.lemmas.Str.{IsCharBoundary-after_ascii}
 use Rattle.line_help.specs.Completion.{Offered}
-use Rattle.line_help.specs.Quotes.{closes, unclosed_quote}
-use Rattle.line_help.specs.FileNames.{Named, folder_len, begins_with, offered_name, offered_names, displayed_before}
+use Rattle.line_help.specs.Quotes.{closes_quote, unclosed_quote}
+use Rattle.line_help.specs.FileNames.{Named, folder_len, name_begins, offered_name, offered_names, displayed_before}
 use Rattle.line_help.specs.declared.quotes.Quote.{Quote}
 use Rattle.line_help.specs.declared.quotes.Quote.TheVariants.{Double, Single, None as Unquoted}
 use Rattle.line_help.proofs.QuoteLemmas.{StandsIn, unclosed_stands}
@@ -31,7 +31,7 @@ no_slash path none =
     omega (arith, len)
 
 -- behind an open quote a text may be cut
-close_is_ascii : (quote : Quote) (b : ℕ) → closes quote b ≡ true → b < 128
+close_is_ascii : (quote : Quote) (b : ℕ) → closes_quote quote b ≡ true → b < 128
 close_is_ascii Double b e = grind arith
 close_is_ascii Single b e = grind arith
 close_is_ascii Unquoted b e = cc
@@ -45,22 +45,22 @@ behind_quote text within u e =
 at_name : (all : List Named) (i : ℕ) (named : Named) → i < length all → named ≡ get_or all i named → drop i all ≡ named ∷ drop (i + 1) all
 at_name all i named inside is = rw (add-one, drop-cons all i named, ← is) refl
 
-pub name_taken : (quote : Quote) (folder name : List ℕ) (all : List Named) (i : ℕ) (named : Named) (done : List Offered) → i < length all → named ≡ get_or all i named → begins_with name named ≡ true
+pub name_taken : (quote : Quote) (folder name : List ℕ) (all : List Named) (i : ℕ) (named : Named) (done : List Offered) → i < length all → named ≡ get_or all i named → name_begins name named ≡ true
     → done ++ offered_names quote folder name (drop i all) ≡ (done ++ (offered_name quote folder named ∷ [])) ++ offered_names quote folder name (drop (i + 1) all)
 name_taken quote folder name all i named done inside is begins =
     rw (at_name all i named inside is, begins) (sym (append_assoc done (offered_name quote folder named ∷ []) (offered_names quote folder name (drop (i + 1) all))))
 
-pub name_skipped : (quote : Quote) (folder name : List ℕ) (all : List Named) (i : ℕ) (named : Named) → i < length all → named ≡ get_or all i named → begins_with name named ≡ false
+pub name_skipped : (quote : Quote) (folder name : List ℕ) (all : List Named) (i : ℕ) (named : Named) → i < length all → named ≡ get_or all i named → name_begins name named ≡ false
     → offered_names quote folder name (drop i all) ≡ offered_names quote folder name (drop (i + 1) all)
 name_skipped quote folder name all i named inside is begins = rw (at_name all i named inside is, begins) refl
 
-pub taken_turn : (quote : Quote) (folder name : List ℕ) (all : List Named) (i : ℕ) (named : Named) (done after : List Offered) (pair : Offered) → i < length all → named ≡ get_or all i named → begins_with name named ≡ true
+pub taken_turn : (quote : Quote) (folder name : List ℕ) (all : List Named) (i : ℕ) (named : Named) (done after : List Offered) (pair : Offered) → i < length all → named ≡ get_or all i named → name_begins name named ≡ true
     → done ++ offered_names quote folder name (drop i all) ≡ offered_names quote folder name all → after ≡ done ++ (pair ∷ []) → pair ≡ offered_name quote folder named
     → after ++ offered_names quote folder name (drop (i + 1) all) ≡ offered_names quote folder name all
 taken_turn quote folder name all i named done after pair inside is begins whole e f =
     rw (e, f) (sym (name_taken quote folder name all i named done inside is begins) ∙ whole)
 
-pub skipped_turn : (quote : Quote) (folder name : List ℕ) (all : List Named) (i : ℕ) (named : Named) (done after : List Offered) → i < length all → named ≡ get_or all i named → begins_with name named ≡ false
+pub skipped_turn : (quote : Quote) (folder name : List ℕ) (all : List Named) (i : ℕ) (named : Named) (done after : List Offered) → i < length all → named ≡ get_or all i named → name_begins name named ≡ false
     → done ++ offered_names quote folder name (drop i all) ≡ offered_names quote folder name all → after ≡ done
     → after ++ offered_names quote folder name (drop (i + 1) all) ≡ offered_names quote folder name all
 skipped_turn quote folder name all i named done after inside is begins whole e =

@@ -6,6 +6,7 @@ mod CompletionRows
 pub mod CourseLemmas
 pub mod EscapeLemmas
 pub mod FileNameLemmas
+pub mod FoundLemmas
 pub mod HighlightLemmas
 mod HistoryRows
 pub mod InTurnLemmas
@@ -14,6 +15,7 @@ pub mod MatchLemmas
 pub mod MessageLemmas
 pub mod NearestLemmas
 pub mod NewestLemmas
+pub mod OpenQuotes
 pub mod QuoteLemmas
 pub mod ReloadLemmas
 pub mod RowLemmas

@@ -5,7 +5,7 @@ use Rattle.std.proofs.lemmas.Str.{chars-append, chars_past_char, chars-nil, IsUt
 use Rattle.std.specs.Char.{IsScalar}
 use Rattle.std.specs.Prelude.{encode_utf8, encode_utf8_all}
 use Rattle.std.specs.Str.{chars}
-use Rattle.line_help.specs.Quotes.{unescaped_chars, escaped_chars, closes, escapes_in, escapes_at, quote_after, open_behind, unclosed_quote}
+use Rattle.line_help.specs.Quotes.{unescaped_chars, escaped_chars, closes_quote, escapes_in, escapes_at, quote_after, open_behind, unclosed_quote}
 use Rattle.line_help.specs.declared.quotes.Quote.{Quote}
 use Rattle.line_help.specs.declared.quotes.Quote.TheVariants.{Double, Single, None as Unquoted}
 
@@ -90,7 +90,7 @@ scanning false within place bs = open_behind within place bs
 scanning true within place [] = within
 scanning true within place (b ∷ bs) = open_behind within (place + 1) bs
 
-no_close : (quote : Quote) → escapes_in quote ≡ true → closes quote 92 ≡ false
+no_close : (quote : Quote) → escapes_in quote ≡ true → closes_quote quote 92 ≡ false
 no_close Double is = refl
 no_close Single is = cc
 no_close Unquoted is = refl
@@ -153,7 +153,7 @@ not_backslash b there ne = rw (ne_eqb b 92 ne) refl
 -- an open quote stands in the text: the byte at its place is one that closes its kind
 abbrev pub StandsIn : List ℕ → Option (ℕ × Quote) → Type 0
 StandsIn text None = Unit {0}
-StandsIn text (Some within) = (within.0 < length text) × (closes within.1 (get_or text within.0 0) ≡ true)
+StandsIn text (Some within) = (within.0 < length text) × (closes_quote within.1 (get_or text within.0 0) ≡ true)
 
 after_byte : (text : List ℕ) (place : ℕ) (within : Option (ℕ × Quote)) → place < length text → StandsIn text within → StandsIn text (quote_after place (get_or text place 0) within)
 after_byte text place None inside stands = go (get_or text place 0 == 34) refl (get_or text place 0 == 39) refl
@@ -162,7 +162,7 @@ after_byte text place None inside stands = go (get_or text place 0 == 34) refl (
     go true e b f = (inside, e)
     go false e true f = (inside, f)
     go false e false f = tt
-after_byte text place (Some within) inside stands = go (closes within.1 (get_or text place 0))
+after_byte text place (Some within) inside stands = go (closes_quote within.1 (get_or text place 0))
   where
     go : (a : Bool) → StandsIn text (cond a None (Some within))
     go true = tt

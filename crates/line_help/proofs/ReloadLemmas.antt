@@ -10,7 +10,7 @@ use Rattle.std.proofs.lemmas.Bool.Decides.{eqb_tells}
 use Rattle.std.proofs.lemmas.Str.{IsUtf8-append, IsUtf8-from_is_utf8, IsUtf8-nil, is_utf8-from_IsUtf8}
 use Rattle.line_config.specs.declared.device.Last.TheVariants.{End}
 use Rattle.line_help.specs.History.{Settings, Filed, begins_with_space, newest_is, filed_with, filed_with_all, nothing_filed, all_saved, newest}
-use Rattle.line_help.specs.HistoryText.{escaped, escaped_byte, unescaped, entry_of, entries_of, row_of, rows_text, rows_of, saved_text, header, without_return, good_rows, has_bad_row, load_leaves, text_to_append}
+use Rattle.line_help.specs.HistoryText.{escaped_entry, escaped_byte, unescaped_row, entry_of, entries_of, row_of, rows_text, rows_of, saved_text, header, without_return, good_rows, has_bad_row, load_leaves, text_to_append}
 use Rattle.line_help.specs.Laws.{Reload, ReloadAppended}
 use Rattle.line_help.specs.Loaded.{ends_in_return, CanComeBack, loaded, made_of}
 use Rattle.line_help.proofs.EscapeLemmas.{plain_byte, no_byte}
@@ -29,16 +29,16 @@ kind_of b = elim (eqb_tells b 10) [ inl h ↦ newline h.1 | inr h ↦ elim (eqb_
 plain_escaped : (b : ℕ) → (b == 10) ≡ false → b ≢ 92 → escaped_byte b ≡ b ∷ []
 plain_escaped b h k = rw (h, ne_eqb b 92 k) refl
 
-read_back : (text : List ℕ) → unescaped (escaped text) ≡ Some text
+read_back : (text : List ℕ) → unescaped_row (escaped_entry text) ≡ Some text
 read_back [] = refl
 read_back (b ∷ bs) =
     elim (kind_of b) [
       | newline e ↦ rw e (ap (λ o. option_map (λ t. 10 ∷ t) o) (read_back bs))
       | backslash e ↦ rw e (ap (λ o. option_map (λ t. 92 ∷ t) o) (read_back bs))
-      | plain h k ↦ rw (plain_escaped b h k) (plain_byte b (escaped bs) k ∙ ap (λ o. option_map (λ t. b ∷ t) o) (read_back bs))
+      | plain h k ↦ rw (plain_escaped b h k) (plain_byte b (escaped_entry bs) k ∙ ap (λ o. option_map (λ t. b ∷ t) o) (read_back bs))
     ]
 
-one_row : (text : List ℕ) → has_newline (escaped text) ≡ false
+one_row : (text : List ℕ) → has_newline (escaped_entry text) ≡ false
 one_row [] = refl
 one_row (b ∷ bs) =
     elim (kind_of b) [
@@ -47,7 +47,7 @@ one_row (b ∷ bs) =
       | plain h k ↦ rw (plain_escaped b h k, h) (one_row bs)
     ]
 
-escaped_some : (b : ℕ) (bs : List ℕ) → 0 < length (escaped (b ∷ bs))
+escaped_some : (b : ℕ) (bs : List ℕ) → 0 < length (escaped_entry (b ∷ bs))
 escaped_some b bs =
     elim (kind_of b) [
       | newline e ↦ rw e (omega arith)
@@ -59,7 +59,7 @@ ends_behind : (b : ℕ) (bs : List ℕ) → 0 < length bs → ends_in_return (b 
 ends_behind b [] some = absurd (omega arith)
 ends_behind b (c ∷ bs) some = refl
 
-same_end : (text : List ℕ) → ends_in_return (escaped text) ≡ ends_in_return text
+same_end : (text : List ℕ) → ends_in_return (escaped_entry text) ≡ ends_in_return text
 same_end [] = refl
 same_end (b ∷ []) =
     elim (kind_of b) [
@@ -70,9 +70,9 @@ same_end (b ∷ []) =
 same_end (b ∷ (c ∷ bs)) =
     let some = escaped_some c bs in
     elim (kind_of b) [
-      | newline e ↦ rw e (ends_behind 110 (escaped (c ∷ bs)) some ∙ same_end (c ∷ bs))
-      | backslash e ↦ rw e (ends_behind 92 (escaped (c ∷ bs)) some ∙ same_end (c ∷ bs))
-      | plain h k ↦ rw (plain_escaped b h k) (ends_behind b (escaped (c ∷ bs)) some ∙ same_end (c ∷ bs))
+      | newline e ↦ rw e (ends_behind 110 (escaped_entry (c ∷ bs)) some ∙ same_end (c ∷ bs))
+      | backslash e ↦ rw e (ends_behind 92 (escaped_entry (c ∷ bs)) some ∙ same_end (c ∷ bs))
+      | plain h k ↦ rw (plain_escaped b h k) (ends_behind b (escaped_entry (c ∷ bs)) some ∙ same_end (c ∷ bs))
     ]
 
 without_same : (row : List ℕ) → ends_in_return row ≡ false → without_return row ≡ row
@@ -80,16 +80,16 @@ without_same [] e = refl
 without_same (b ∷ []) e = rw e refl
 without_same (b ∷ (c ∷ bs)) e = ap (λ t. b ∷ t) (without_same (c ∷ bs) e)
 
-rows_back : (entries : List (List ℕ)) → CanComeBack entries → rows_of End (rows_text entries) ≡ map escaped entries
+rows_back : (entries : List (List ℕ)) → CanComeBack entries → rows_of End (rows_text entries) ≡ map escaped_entry entries
 rows_back [] can = refl
 rows_back (entry ∷ entries) can =
-    ap (λ t. rows_of End t) (append_assoc (escaped entry) (10 ∷ []) (rows_text entries))
-    ∙ cut_row End (escaped entry) (rows_text entries) (one_row entry)
-    ∙ ap (λ r. r ∷ rows_of End (rows_text entries)) (without_same (escaped entry) (same_end entry ∙ can.1))
-    ∙ ap (λ rs. escaped entry ∷ rs) (rows_back entries can.2)
+    ap (λ t. rows_of End t) (append_assoc (escaped_entry entry) (10 ∷ []) (rows_text entries))
+    ∙ cut_row End (escaped_entry entry) (rows_text entries) (one_row entry)
+    ∙ ap (λ r. r ∷ rows_of End (rows_text entries)) (without_same (escaped_entry entry) (same_end entry ∙ can.1))
+    ∙ ap (λ rs. escaped_entry entry ∷ rs) (rows_back entries can.2)
 
 -- what is escaped is UTF-8 where the text is
-plain_text : (xs : List ℕ) → ((k : ℕ) → k < length xs → get_or xs k 0 ≢ 10) → ((k : ℕ) → k < length xs → get_or xs k 0 ≢ 92) → escaped xs ≡ xs
+plain_text : (xs : List ℕ) → ((k : ℕ) → k < length xs → get_or xs k 0 ≢ 10) → ((k : ℕ) → k < length xs → get_or xs k 0 ≢ 92) → escaped_entry xs ≡ xs
 plain_text [] p q = refl
 plain_text (x ∷ xs) p q =
     rw (plain_escaped x (ne_eqb x 10 (p 0 (omega arith))) (q 0 (omega arith)))
@@ -103,11 +103,11 @@ backslash_utf8 : IsUtf8 (92 ∷ 92 ∷ [])
 unfolding is_utf8 chars encode
 backslash_utf8 = IsUtf8-from_is_utf8 (92 ∷ 92 ∷ []) refl
 
-newline_escaped : escaped (encode 10) ≡ 92 ∷ 110 ∷ []
+newline_escaped : escaped_entry (encode 10) ≡ 92 ∷ 110 ∷ []
 unfolding encode
 newline_escaped = refl
 
-backslash_escaped : escaped (encode 92) ≡ 92 ∷ 92 ∷ []
+backslash_escaped : escaped_entry (encode 92) ≡ 92 ∷ 92 ∷ []
 unfolding encode
 backslash_escaped = refl
 
@@ -118,7 +118,7 @@ both_true false b h = cc
 char_utf8 : (c : ℕ) → scalar c ≡ true → IsUtf8 (encode c)
 char_utf8 c e = (c ∷ [], (rw e refl, append-nil (encode c)))
 
-char_escaped : (c : ℕ) → scalar c ≡ true → IsUtf8 (escaped (encode c))
+char_escaped : (c : ℕ) → scalar c ≡ true → IsUtf8 (escaped_entry (encode c))
 char_escaped c s =
     elim (kind_of c) [
       | newline e ↦ rw (e, newline_escaped) newline_utf8
@@ -126,23 +126,23 @@ char_escaped c s =
       | plain h k ↦ rw (plain_text (encode c) (λ i l. no_byte c 10 i (eqb-false c 10 h) (omega arith) l) (λ i l. no_byte c 92 i k (omega arith) l)) (char_utf8 c s)
     ]
 
-chars_escaped : (cs : List ℕ) → scalars cs ≡ true → IsUtf8 (escaped (encodes cs))
+chars_escaped : (cs : List ℕ) → scalars cs ≡ true → IsUtf8 (escaped_entry (encodes cs))
 chars_escaped [] e = IsUtf8-nil
 chars_escaped (c ∷ cs) e =
     let p = both_true (scalar c) (scalars cs) e in
     rw (flat_map-append escaped_byte (encode c) (encodes cs))
-    (IsUtf8-append (escaped (encode c)) (escaped (encodes cs)) (char_escaped c p.0) (chars_escaped cs p.1))
+    (IsUtf8-append (escaped_entry (encode c)) (escaped_entry (encodes cs)) (char_escaped c p.0) (chars_escaped cs p.1))
 
-escaped_utf8 : (text : List ℕ) → is_utf8 text ≡ true → is_utf8 (escaped text) ≡ true
+escaped_utf8 : (text : List ℕ) → is_utf8 text ≡ true → is_utf8 (escaped_entry text) ≡ true
 escaped_utf8 text e =
     let u = IsUtf8-from_is_utf8 text e in
-    is_utf8-from_IsUtf8 (escaped text) (rw u.1.1 at (chars_escaped u.0 u.1.0))
+    is_utf8-from_IsUtf8 (escaped_entry text) (rw u.1.1 at (chars_escaped u.0 u.1.0))
 
-all_good : (entries : List (List ℕ)) → CanComeBack entries → good_rows (map escaped entries) ≡ map escaped entries
+all_good : (entries : List (List ℕ)) → CanComeBack entries → good_rows (map escaped_entry entries) ≡ map escaped_entry entries
 all_good [] can = refl
-all_good (entry ∷ entries) can = rw (escaped_utf8 entry can.0) (ap (λ rs. escaped entry ∷ rs) (all_good entries can.2))
+all_good (entry ∷ entries) can = rw (escaped_utf8 entry can.0) (ap (λ rs. escaped_entry entry ∷ rs) (all_good entries can.2))
 
-none_bad : (entries : List (List ℕ)) → CanComeBack entries → has_bad_row (map escaped entries) ≡ false
+none_bad : (entries : List (List ℕ)) → CanComeBack entries → has_bad_row (map escaped_entry entries) ≡ false
 none_bad [] can = refl
 none_bad (entry ∷ entries) can = rw (escaped_utf8 entry can.0) (none_bad entries can.2)
 
@@ -159,19 +159,19 @@ entry_step : (row : List ℕ) (rows : List (List ℕ)) → 0 < length row → en
 entry_step [] rows some = absurd (omega arith)
 entry_step (b ∷ bs) rows some = refl
 
-added_back : (h : Filed) (entries : List (List ℕ)) → filed_with_all h (entries_of true (map escaped entries)) ≡ filed_with_all h entries
+added_back : (h : Filed) (entries : List (List ℕ)) → filed_with_all h (entries_of true (map escaped_entry entries)) ≡ filed_with_all h entries
 added_back h [] = refl
 added_back h ([] ∷ entries) = added_back h entries ∙ ap (λ f. filed_with_all f entries) (sym (empty_ignored h))
 added_back h ((b ∷ bs) ∷ entries) =
-    ap (λ ls. filed_with_all h ls) (entry_step (escaped (b ∷ bs)) (map escaped entries) (escaped_some b bs)
-    ∙ ap (λ o. unwrap_or o (escaped (b ∷ bs)) ∷ entries_of true (map escaped entries)) (read_back (b ∷ bs)))
+    ap (λ ls. filed_with_all h ls) (entry_step (escaped_entry (b ∷ bs)) (map escaped_entry entries) (escaped_some b bs)
+    ∙ ap (λ o. unwrap_or o (escaped_entry (b ∷ bs)) ∷ entries_of true (map escaped_entry entries)) (read_back (b ∷ bs)))
     ∙ added_back (filed_with h (b ∷ bs)) entries
 
 pub saved_back : (settings : Settings) (entries : List (List ℕ)) → CanComeBack entries → loaded settings (saved_text entries) ≡ made_of settings entries
 saved_back settings entries can =
-    let rows : rows_of End (saved_text entries) ≡ header ∷ map escaped entries = cut_row End header (rows_text entries) refl ∙ ap (λ rs. header ∷ rs) (rows_back entries can) in
+    let rows : rows_of End (saved_text entries) ≡ header ∷ map escaped_entry entries = cut_row End header (rows_text entries) refl ∙ ap (λ rs. header ∷ rs) (rows_back entries can) in
     ap (λ rs. load_leaves End rs (nothing_filed settings)) rows
-    ∙ loaded_leaves End (nothing_filed settings) header (map escaped entries) header_is_utf8
+    ∙ loaded_leaves End (nothing_filed settings) header (map escaped_entry entries) header_is_utf8
     ∙ rw (none_bad entries can, all_good entries can) (ap (λ f. all_saved f) (added_back (nothing_filed settings) entries))
 
 text_is : (none : Bool) (text : List ℕ) → (if none then [] else text) ≢ [] → (if none then [] else text) ≡ text

@@ -7,20 +7,20 @@ abbrev pub all_kinds : List (ℕ × ℕ)
 all_kinds = (40, 41) ∷ ((91, 93) ∷ ((123, 125) ∷ []))
 
 -- whether a byte opens, or closes, one of these kinds; whether two bytes are the brackets of one kind
-abbrev pub opens : List (ℕ × ℕ) → ℕ → Bool
-opens kinds byte = list_any (λ kind. byte == kind.0) kinds
+abbrev pub opens_some : List (ℕ × ℕ) → ℕ → Bool
+opens_some kinds byte = list_any (λ kind. byte == kind.0) kinds
 
-abbrev pub closes : List (ℕ × ℕ) → ℕ → Bool
-closes kinds byte = list_any (λ kind. byte == kind.1) kinds
+abbrev pub closes_some : List (ℕ × ℕ) → ℕ → Bool
+closes_some kinds byte = list_any (λ kind. byte == kind.1) kinds
 
 abbrev pub are_kind : List (ℕ × ℕ) → ℕ → ℕ → Bool
 are_kind kinds opening closing = list_any (λ kind. (opening == kind.0) && (closing == kind.1)) kinds
 
 abbrev pub is_opening : ℕ → Bool
-is_opening byte = opens all_kinds byte
+is_opening byte = opens_some all_kinds byte
 
 abbrev pub is_closing : ℕ → Bool
-is_closing byte = closes all_kinds byte
+is_closing byte = closes_some all_kinds byte
 
 abbrev pub is_bracket : ℕ → Bool
 is_bracket byte = is_opening byte || is_closing byte
@@ -37,5 +37,5 @@ partner byte = partner_in all_kinds byte
 -- byte that is none of these brackets, or with an opening bracket, a balanced text and the closing bracket of that kind
 pub data Balanced (kinds : List (ℕ × ℕ)) : List ℕ → Type 0 where
   empty : Balanced kinds []
-  other : (byte : ℕ) (text : List ℕ) → opens kinds byte ≡ false → closes kinds byte ≡ false → Balanced kinds text → Balanced kinds (byte ∷ text)
+  other : (byte : ℕ) (text : List ℕ) → opens_some kinds byte ≡ false → closes_some kinds byte ≡ false → Balanced kinds text → Balanced kinds (byte ∷ text)
   pair : (opening closing : ℕ) (inner text : List ℕ) → are_kind kinds opening closing ≡ true → Balanced kinds inner → Balanced kinds text → Balanced kinds (opening ∷ (inner ++ (closing ∷ text)))

@@ -1,8 +1,8 @@
 -- Laws of completion, in words of their own.
-use Rattle.std.specs.Prelude.{◌≡◌, ◌≢◌, ℕ, Bool, IsTrue, List, ◌∷◌, ◌++◌, Some, IsUtf8, All, slice_get}
+use Rattle.std.specs.Prelude.{◌≡◌, ◌≢◌, ℕ, Bool, IsTrue, List, ◌∷◌, ◌++◌, Some, IsUtf8, All}
 use Rattle.std.specs.Char.{IsScalar}
 use Rattle.line_help.specs.CommonPrefix.{common_to_all}
-use Rattle.line_help.specs.Quotes.{unescaped, escaped, unclosed_quote, closes}
+use Rattle.line_help.specs.Quotes.{unescaped, escaped}
 use Rattle.line_help.specs.declared.quotes.Quote.{Quote}
 use Rattle.line_help.specs.declared.quotes.Quote.TheVariants.{Single}
 
@@ -21,8 +21,3 @@ CommonBeginningIsLongest = (text : List ℕ) (others : List (List ℕ)) → IsUt
     IsUtf8 (common_to_all text others)
     × All (Begins (common_to_all text others)) (text ∷ others)
     × ((front : List ℕ) → IsUtf8 front → All (Begins front) (text ∷ others) → Begins front (common_to_all text others))
-
--- an open quote is one of the text's own, of the kind that is answered
-abbrev pub OpenQuotesStand : Type 0
-OpenQuotesStand = (text : List ℕ) (place : ℕ) (quote : Quote) → unclosed_quote text ≡ Some (place, quote)
-    → (b : ℕ) × (slice_get text place ≡ Some b) × IsTrue (closes quote b)

@@ -67,12 +67,12 @@ offered_name quote folder named = record {
   replacement = escaped ((folder ++ named.name) ++ slash_of named.is_dir) (Some 92) (is_special quote) quote;
 }
 
-abbrev pub begins_with : List ℕ → Named → Bool
-begins_with name named = starts_with nat_eq named.name name
+abbrev pub name_begins : List ℕ → Named → Bool
+name_begins name named = starts_with nat_eq named.name name
 
 -- each listed name that begins as the typed one, in the order of the list
 abbrev pub offered_names : Quote → List ℕ → List ℕ → List Named → List Offered
-offered_names quote folder name all = map (offered_name quote folder) (filter (begins_with name) all)
+offered_names quote folder name all = map (offered_name quote folder) (filter (name_begins name) all)
 
 abbrev pub offered_for : (List ℕ → List Named) → Typed → List Offered
 offered_for list typed = offered_names typed.quote (folder_of typed.path) (name_of typed.path) (list (folder_of typed.path))

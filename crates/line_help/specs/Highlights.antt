@@ -1,30 +1,41 @@
 -- Highlighted texts: texts with control sequences between their characters.
-use Rattle.std.specs.Prelude.{◌≡◌, ℕ, ◌+◌, ◌&&◌, nat_le, nat_lt, Bool, true, false, if◌then◌else◌, List, [], ◌∷◌, ◌++◌, length, take, drop, codes, Option, Some, None}
+use Rattle.std.specs.Prelude.{◌≡◌, ◌⊎◌, ℕ, ◌+◌, ◌&&◌, nat_le, nat_lt, Bool, true, if◌then◌else◌, List, [], ◌∷◌, ◌++◌, length, take, drop, codes, Option, Some, None, Result, IfOk, IfErr}
 use Rattle.std.specs.List.{list_all}
+use Rattle.line_config.specs.declared.errors.HookFault.{HookFault}
+use Rattle.line_config.specs.declared.errors.HookFault.TheVariants.{Failed, Memory}
+use Rattle.line_config.specs.declared.settings.CompletionType.{CompletionType}
 use Rattle.line_keys.specs.declared.command.CmdKind.{CmdKind}
 use Rattle.line_keys.specs.declared.command.CmdKind.TheVariants.{MoveCursor, Other, ForcedRefresh}
 use Rattle.line_help.specs.Matching.{bracket_to_match, match_of}
 
 -- what a parameter of a control sequence is made of: digits and the signs : and ;
-abbrev pub is_parameter : ℕ → Bool
-is_parameter byte = nat_le 48 byte && nat_le byte 59
+abbrev pub is_style_parameter : ℕ → Bool
+is_style_parameter byte = nat_le 48 byte && nat_le byte 59
 
 -- the control sequence that says how what follows it is drawn (SGR): ESC [, parameters, m
 abbrev pub drawn_by : List ℕ → List ℕ
 drawn_by parameters = 27 ∷ (91 ∷ (parameters ++ (109 ∷ [])))
 
--- what a highlighted text is part of
-pub data Part : Type 0 where
-  OfLine : Part
-  OfPrompt : Part
-  OfHint : Part
-  OfCandidate : Part
+-- the part of the display that a text is shown in: the line, with the cursor's place in it; the prompt, and whether it is the
+-- line's own; the hint; a candidate, and the way of completing
+pub data DisplayPart : Type 0 where
+  OfLine : (place : ℕ) → DisplayPart
+  OfPrompt : (own : Bool) → DisplayPart
+  OfHint : DisplayPart
+  OfCandidate : (completion : CompletionType) → DisplayPart
 
 -- what is shown is the text with such sequences put in
 pub data Styled : List ℕ → List ℕ → Type 0 where
   nothing : Styled [] []
   byte : (b : ℕ) (text shown : List ℕ) → Styled text shown → Styled (b ∷ text) (b ∷ shown)
-  style : (parameters text shown : List ℕ) → list_all is_parameter parameters ≡ true → Styled text shown → Styled text (drawn_by parameters ++ shown)
+  style : (parameters text shown : List ℕ) → list_all is_style_parameter parameters ≡ true → Styled text shown → Styled text (drawn_by parameters ++ shown)
+
+-- what a call answers of a text that is to be shown as another one, or to fail: that one, which is the text with styles put
+-- in; Failed where it is to fail, and besides want of memory
+pub record Highlights {A : Type 0} (bytes : A → List ℕ) (text : List ℕ) (shown : Option (List ℕ)) (result : Result A HookFault) : Type 0 where
+  pub is : IfOk result (λ answer. shown ≡ Some (bytes answer))
+  pub styled : IfOk result (λ answer. Styled text (bytes answer))
+  pub fault : IfErr result (λ e. (e ≡ Memory) ⊎ ((e ≡ Failed) × (shown ≡ None)))
 
 -- bold and blue, and as before
 abbrev pub bold_blue : List ℕ
@@ -32,13 +43,6 @@ bold_blue = drawn_by (codes "1;34")
 
 abbrev pub plain_again : List ℕ
 plain_again = drawn_by (codes "0")
-
--- whether a part is the line
-abbrev pub styles_line : Part → Bool
-styles_line OfLine = true
-styles_line OfPrompt = false
-styles_line OfHint = false
-styles_line OfCandidate = false
 
 -- the line with the byte at a place in bold and blue
 abbrev pub with_bold_byte : List ℕ → Option (ℕ × ℕ) → List ℕ
@@ -53,6 +57,13 @@ match_to_show line (Some bracket) = if nat_le 2 (length line) && nat_lt bracket.
 -- the line with the match of this bracket in bold and blue
 abbrev pub with_match_shown : List ℕ → Option (ℕ × ℕ) → List ℕ
 with_match_shown line bracket = with_bold_byte line (match_to_show line bracket)
+
+-- the line so, all else as it is
+abbrev pub shown_with_match : Option (ℕ × ℕ) → DisplayPart → List ℕ → List ℕ
+shown_with_match bracket (OfLine place) text = with_match_shown text bracket
+shown_with_match bracket (OfPrompt own) text = text
+shown_with_match bracket OfHint text = text
+shown_with_match bracket (OfCandidate completion) text = text
 
 -- the bracket that is kept for the next drawing: none for a line's last one
 abbrev pub kept_bracket : List ℕ → ℕ → CmdKind → Option (ℕ × ℕ)

@@ -15,12 +15,12 @@ header = codes "#V2"
 abbrev pub escaped_byte : ℕ → List ℕ
 escaped_byte b = if b == 10 then 92 ∷ 110 ∷ [] else if b == 92 then 92 ∷ 92 ∷ [] else b ∷ []
 
-abbrev pub escaped : List ℕ → List ℕ
-escaped text = flat_map escaped_byte text
+abbrev pub escaped_entry : List ℕ → List ℕ
+escaped_entry text = flat_map escaped_byte text
 
 -- each entry a row, which a newline closes
 abbrev pub row_of : List ℕ → List ℕ
-row_of entry = escaped entry ++ 10 ∷ []
+row_of entry = escaped_entry entry ++ 10 ∷ []
 
 abbrev pub rows_text : List (List ℕ) → List ℕ
 rows_text entries = flat_map row_of entries
@@ -36,18 +36,18 @@ abbrev pub text_to_append : Filed → List ℕ
 text_to_append filed = if filed.unsaved == 0 then [] else rows_text (newest filed.unsaved filed.kept.entries)
 
 -- the text that an escaped one stands for: none where a backslash stands before anything else
-abbrev pub unescaped : List ℕ → Option (List ℕ)
-unescaped [] = Some []
-unescaped (b ∷ []) = if b == 92 then None else Some (b ∷ [])
-unescaped (b ∷ (c ∷ bs)) = if b == 92
-    then (if c == 110 then option_map (λ text. 10 ∷ text) (unescaped bs)
-    else if c == 92 then option_map (λ text. 92 ∷ text) (unescaped bs) else None)
-    else option_map (λ text. b ∷ text) (unescaped (c ∷ bs))
+abbrev pub unescaped_row : List ℕ → Option (List ℕ)
+unescaped_row [] = Some []
+unescaped_row (b ∷ []) = if b == 92 then None else Some (b ∷ [])
+unescaped_row (b ∷ (c ∷ bs)) = if b == 92
+    then (if c == 110 then option_map (λ text. 10 ∷ text) (unescaped_row bs)
+    else if c == 92 then option_map (λ text. 92 ∷ text) (unescaped_row bs) else None)
+    else option_map (λ text. b ∷ text) (unescaped_row (c ∷ bs))
 
 -- the entry of a row: the row as it stands where it has no escapes, or a wrong one
 abbrev pub entry_of : Bool → List ℕ → List ℕ
 entry_of false row = row
-entry_of true row = unwrap_or (unescaped row) row
+entry_of true row = unwrap_or (unescaped_row row) row
 
 abbrev pub begins_with_newline : List ℕ → Bool
 begins_with_newline [] = false

@@ -12,8 +12,10 @@ pub mod Iterated
 pub mod Laws
 pub mod Loaded
 pub mod Matching
+pub mod QuoteGrammar
 pub mod Quotes
 pub mod Search
+pub mod SearchLaws
 pub mod Sorting
 pub mod Validation
 pub mod WordBefore

@@ -19,14 +19,14 @@ abbrev pub bracket_near : List ℕ → ℕ → Option (ℕ × ℕ)
 bracket_near line pos = first_of_two (bracket_at line pos) (if pos == 0 then None else bracket_at line (pos - 1))
 
 -- whether something stands on the side on which the bracket's match would be
-abbrev pub has_room : List ℕ → ℕ × ℕ → Bool
-has_room line found = if is_closing found.0 then not (found.1 == 0) else not (found.1 == length line - 1)
+abbrev pub match_has_room : List ℕ → ℕ × ℕ → Bool
+match_has_room line found = if is_closing found.0 then not (found.1 == 0) else not (found.1 == length line - 1)
 
 -- the bracket whose match is to be shown: with the cursor behind the line, its last byte where that closes, and else
 -- the bracket near the cursor, if its match has room
 abbrev pub bracket_to_match : List ℕ → ℕ → Option (ℕ × ℕ)
 bracket_to_match line pos = if nat_le (length line) pos then where_it_is (λ found. is_closing found.0) (bracket_at line (length line - 1))
-    else where_it_is (has_room line) (bracket_near line pos)
+    else where_it_is (match_has_room line) (bracket_near line pos)
 
 -- how many brackets stand open behind a byte, where this many did before it; only those of one kind count
 abbrev pub unclosed_behind : ℕ → ℕ → ℕ → ℕ → ℕ

@@ -50,10 +50,10 @@ escapes_at None = true
 escapes_at (Some within) = escapes_in within.1
 
 -- the byte that closes a quote
-abbrev pub closes : Quote → ℕ → Bool
-closes Double b = b == 34
-closes Single b = b == 39
-closes Unquoted b = false
+abbrev pub closes_quote : Quote → ℕ → Bool
+closes_quote Double b = b == 34
+closes_quote Single b = b == 39
+closes_quote Unquoted b = false
 
 -- a byte at a place, which no backslash escapes, opens a quote, closes it or does neither
 abbrev pub opened_at : ℕ → ℕ → Option (ℕ × Quote)
@@ -61,7 +61,7 @@ opened_at place b = if b == 34 then Some (place, Double) else if b == 39 then So
 
 abbrev pub quote_after : ℕ → ℕ → Option (ℕ × Quote) → Option (ℕ × Quote)
 quote_after place b None = opened_at place b
-quote_after place b (Some within) = if closes within.1 b then None else Some within
+quote_after place b (Some within) = if closes_quote within.1 b then None else Some within
 
 -- the quote that is open behind these bytes, the first of which stands at a place
 abbrev pub open_behind : Option (ℕ × Quote) → ℕ → List ℕ → Option (ℕ × Quote)

@@ -1,13 +1,10 @@
 //! Highlighting the match of the bracket at the cursor.
-ghost use Rattle.std.specs.Prelude.{◌≡◌, ◌⊎◌, ◌<◌, ⊤, false, IsTrue, IfOk, IfErr, IfSome, is_some, string_bytes, slice_get, Some, None};
-ghost use Rattle.std.specs.Cow.{cow_str_bytes};
-ghost use Rattle.line_config.specs.declared.errors.HookFault.TheVariants.{Failed, Memory};
-ghost use Rattle.line_help.specs.Highlights.{Styled, kept_bracket, styles_line, match_to_show, with_bold_byte, with_match_shown};
-ghost use Rattle.line_help.specs.Highlights.Part.{OfLine};
+ghost use Rattle.std.specs.Prelude.{◌≡◌, ◌<◌, ⊤, IfOk, IfSome, is_some, string_bytes, slice_get, Some, None};
+ghost use Rattle.line_help.specs.Highlights.{kept_bracket, match_to_show, shown_with_match, with_bold_byte};
 
 use crate::brackets::{check_bracket, find_matching_bracket};
 use crate::highlight::Highlighter;
-use line_config::HookFault;
+use line_config::{CompletionType, HookFault};
 use line_keys::CmdKind;
 use std::alloc::{AllocError, Global};
 use std::borrow::CowStr;
@@ -52,28 +49,21 @@ impl MatchingBracketHighlighter {
     }
 }
 
+#[tactic(auto, using(crate::proofs::HighlightLemmas::plain))]
 impl Highlighter for MatchingBracketHighlighter {
     ghost marks = { λ self line pos kind. is_some (kept_bracket line pos kind) };
 
     ghost kept = { λ before after. ⊤ };
 
-    ghost styles = { λ self part. styles_line part };
-
-    ghost highlighting_fails = { λ self text. false };
+    ghost shown_as = { λ self part text. Some (shown_with_match self part text) };
 
     /// The line with the match of the kept bracket in bold and blue, if it has one.
-    #[tactic(auto, using(crate::proofs::HighlightLemmas::plain))]
     fn highlight<'l>(
         &self,
         alloc: Global,
         line: &'l str,
         _pos: usize,
-    ) -> Result<CowStr<'l>, HookFault>
-        ensures shown { IfOk result (λ shown. cow_str_bytes shown ≡ with_match_shown line.now self.now) }
-        ensures text { IfOk result (λ shown. Styled line.now (cow_str_bytes shown)) }
-        ensures plain { styles_line OfLine ≡ false → IfOk result (λ shown. cow_str_bytes shown ≡ line.now) }
-        ensures fault { IfErr result (λ e. (e ≡ Memory) ⊎ ((e ≡ Failed) × IsTrue false)) }
-    {
+    ) -> Result<CowStr<'l>, HookFault> {
         match self.match_in(line) {
             None => Ok(CowStr::Borrowed(line)),
             Some((matching, place)) => {
@@ -81,6 +71,28 @@ impl Highlighter for MatchingBracketHighlighter {
                 Ok(CowStr::Owned(shown))
             }
         }
+    }
+
+    fn highlight_prompt<'p>(
+        &self,
+        _alloc: Global,
+        prompt: &'p str,
+        _default: bool,
+    ) -> Result<CowStr<'p>, HookFault> {
+        Ok(CowStr::Borrowed(prompt))
+    }
+
+    fn highlight_hint<'h>(&self, _alloc: Global, hint: &'h str) -> Result<CowStr<'h>, HookFault> {
+        Ok(CowStr::Borrowed(hint))
+    }
+
+    fn highlight_candidate<'c>(
+        &self,
+        _alloc: Global,
+        candidate: &'c str,
+        _completion: CompletionType,
+    ) -> Result<CowStr<'c>, HookFault> {
+        Ok(CowStr::Borrowed(candidate))
     }
 
     /// Keeps the bracket whose match is to be shown, and tells whether there is one. A line's last drawing shows none.

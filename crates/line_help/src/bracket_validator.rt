@@ -27,12 +27,18 @@ impl Validator for MatchingBracketValidator {
 
     ghost validating_fails = { λ self text. false };
 
+    ghost while_typing = { λ self. false };
+
     fn validate(
         &self,
         alloc: Global,
         ctx: &ValidationContext<'_>,
     ) -> Result<ValidationResult, HookFault> {
         validate_brackets(alloc, ctx.input())
+    }
+
+    fn validate_while_typing(&self) -> bool {
+        false
     }
 }
 

@@ -1,7 +1,7 @@
 //! Escapes in a saved history: a newline stands as `\n`, a backslash as two.
 ghost use Rattle.std.specs.Prelude.{◌≡◌, ◌++◌, is_err, IsTrue, IfOk, IfErr, OnOk, option_map, string_bytes};
 ghost use Rattle.line_config.specs.declared.errors.ReadlineError.TheVariants.{HistoryText};
-ghost use Rattle.line_help.specs.HistoryText.{row_of, unescaped, entry_of};
+ghost use Rattle.line_help.specs.HistoryText.{row_of, unescaped_row, entry_of};
 
 use line_config::{ReadlineError, Sink};
 use std::alloc::{AllocError, Global};
@@ -42,7 +42,7 @@ pub(crate) fn write_row<S: Sink>(sink: &mut S, entry: &str) -> Result<(), Readli
 /// backslash.
 #[tactic(auto, using(crate::proofs::EscapeLemmas::escape_steps))]
 pub(crate) fn unescaped(alloc: Global, row: &str) -> Result<Option<String>, AllocError>
-    ensures { IfOk result (λ text. option_map string_bytes text ≡ unescaped row.now) }
+    ensures { IfOk result (λ text. option_map string_bytes text ≡ unescaped_row row.now) }
 {
     let mut text = String::with_capacity(alloc, row.len())?;
     let mut escape = false;

@@ -3,7 +3,7 @@ ghost use Rattle.std.specs.Prelude.{◌≡◌, ◌++◌, ◌⊎◌, ◌≤◌, �
 ghost use Rattle.std.specs.Cow.{cow_str_bytes};
 ghost use Rattle.line_config.specs.declared.errors.HookFault.TheVariants.{Failed, Memory};
 ghost use Rattle.line_help.specs.Completion.{Offered, Completion};
-ghost use Rattle.line_help.specs.FileNames.{Named, typed_of, quoted, is_special, typed_path, name_of, folder_of, slash_of, offered_name, offered_names, offered_for, begins_with, unsorted_completion, path_completion, displayed_before};
+ghost use Rattle.line_help.specs.FileNames.{Named, typed_of, quoted, is_special, typed_path, name_of, folder_of, slash_of, offered_name, offered_names, offered_for, name_begins, unsorted_completion, path_completion, displayed_before};
 ghost use Rattle.std.specs.List.Sorted.{IsSortedBy};
 ghost use Rattle.line_help.specs.Quotes.{escaped};
 
@@ -37,7 +37,7 @@ impl Model for Listed {
 
 impl Listed {
     fn begins_with(&self, name: &str) -> bool
-        ensures { result ≡ begins_with name.now self.now }
+        ensures { result ≡ name_begins name.now self.now }
     {
         self.name.as_str().starts_with(name)
     }

@@ -1,10 +1,9 @@
 //! Highlighting: lines, prompts, hints and candidates with styles.
-ghost use Rattle.std.specs.Prelude.{◌≡◌, ◌⊎◌, ℕ, List, Bool, false, IsTrue, IfOk, IfErr, box_value};
+ghost use Rattle.std.specs.Prelude.{◌≡◌, ℕ, List, Bool, Option, Some, false, box_value};
 ghost use Rattle.std.specs.Cow.{cow_str_bytes};
-ghost use Rattle.line_config.specs.declared.errors.HookFault.TheVariants.{Failed, Memory};
 ghost use Rattle.line_keys.specs.declared.command.CmdKind.{CmdKind};
-ghost use Rattle.line_help.specs.Highlights.{Styled, Part};
-ghost use Rattle.line_help.specs.Highlights.Part.{OfLine, OfPrompt, OfHint, OfCandidate};
+ghost use Rattle.line_help.specs.Highlights.{DisplayPart, Highlights};
+ghost use Rattle.line_help.specs.Highlights.DisplayPart.{OfLine, OfPrompt, OfHint, OfCandidate};
 
 use line_config::{CompletionType, HookFault};
 use line_keys::CmdKind;
@@ -14,7 +13,7 @@ use std::borrow::CowStr;
 /// What highlights a line and what is shown with it, for a display with colours.
 ///
 /// A highlighted text is the text with control sequences put in that change how characters are drawn, and so takes up the
-/// same columns.
+/// same columns. Each call answers what `shown_as` says of the text; want of memory may be answered besides.
 pub trait Highlighter {
     // Whether something in a line is highlighted, by line, place and reason of the drawing.
     ghost marks: { Self → List ℕ → ℕ → CmdKind → Bool };
@@ -22,66 +21,40 @@ pub trait Highlighter {
     // What `highlight_char` leaves of the highlighter.
     ghost kept: { Self → Self → Type 0 };
 
-    // Whether it puts styles into what is shown in a part of the display. Where it doesn't, that text stays as it is.
-    ghost styles: { Self → Part → Bool };
-
-    // Whether it fails at a text.
-    ghost highlighting_fails: { Self → List ℕ → Bool };
+    // What a text is shown as in a part of the display; none where highlighting it fails.
+    ghost shown_as: { Self → DisplayPart → List ℕ → Option (List ℕ) };
 
     /// The line, with the cursor at `pos`.
-    #[tactic(auto, using(crate::proofs::HighlightLemmas::plain))]
     fn highlight<'l>(
         &self,
-        _alloc: Global,
+        alloc: Global,
         line: &'l str,
-        _pos: usize,
+        pos: usize,
     ) -> Result<CowStr<'l>, HookFault>
-        ensures text { IfOk result (λ shown. Styled line.now (cow_str_bytes shown)) }
-        ensures plain { styles self.now OfLine ≡ false → IfOk result (λ shown. cow_str_bytes shown ≡ line.now) }
-        ensures fault { IfErr result (λ e. (e ≡ Memory) ⊎ ((e ≡ Failed) × IsTrue (highlighting_fails self.now line.now))) }
-    {
-        Ok(CowStr::Borrowed(line))
-    }
+        ensures { Highlights cow_str_bytes line.now (shown_as self.now (OfLine pos) line.now) result };
 
     /// The prompt: the line's own, or another one.
-    #[tactic(auto, using(crate::proofs::HighlightLemmas::plain))]
     fn highlight_prompt<'p>(
         &self,
-        _alloc: Global,
+        alloc: Global,
         prompt: &'p str,
-        _default: bool,
+        default: bool,
     ) -> Result<CowStr<'p>, HookFault>
-        ensures text { IfOk result (λ shown. Styled prompt.now (cow_str_bytes shown)) }
-        ensures plain { styles self.now OfPrompt ≡ false → IfOk result (λ shown. cow_str_bytes shown ≡ prompt.now) }
-        ensures fault { IfErr result (λ e. (e ≡ Memory) ⊎ ((e ≡ Failed) × IsTrue (highlighting_fails self.now prompt.now))) }
-    {
-        Ok(CowStr::Borrowed(prompt))
-    }
+        ensures { Highlights cow_str_bytes prompt.now (shown_as self.now (OfPrompt default) prompt.now) result };
 
     /// The hint.
-    #[tactic(auto, using(crate::proofs::HighlightLemmas::plain))]
-    fn highlight_hint<'h>(&self, _alloc: Global, hint: &'h str) -> Result<CowStr<'h>, HookFault>
-        ensures text { IfOk result (λ shown. Styled hint.now (cow_str_bytes shown)) }
-        ensures plain { styles self.now OfHint ≡ false → IfOk result (λ shown. cow_str_bytes shown ≡ hint.now) }
-        ensures fault { IfErr result (λ e. (e ≡ Memory) ⊎ ((e ≡ Failed) × IsTrue (highlighting_fails self.now hint.now))) }
-    {
-        Ok(CowStr::Borrowed(hint))
-    }
+    fn highlight_hint<'h>(&self, alloc: Global, hint: &'h str) -> Result<CowStr<'h>, HookFault>
+        ensures { Highlights cow_str_bytes hint.now (shown_as self.now OfHint hint.now) result };
 
     /// A candidate of a completion.
-    #[tactic(auto, using(crate::proofs::HighlightLemmas::plain))]
     fn highlight_candidate<'c>(
         &self,
-        _alloc: Global,
+        alloc: Global,
         candidate: &'c str,
-        _completion: CompletionType,
+        completion: CompletionType,
     ) -> Result<CowStr<'c>, HookFault>
-        ensures text { IfOk result (λ shown. Styled candidate.now (cow_str_bytes shown)) }
-        ensures plain { styles self.now OfCandidate ≡ false → IfOk result (λ shown. cow_str_bytes shown ≡ candidate.now) }
-        ensures fault { IfErr result (λ e. (e ≡ Memory) ⊎ ((e ≡ Failed) × IsTrue (highlighting_fails self.now candidate.now))) }
-    {
-        Ok(CowStr::Borrowed(candidate))
-    }
+        ensures { Highlights cow_str_bytes candidate.now
+            (shown_as self.now (OfCandidate completion) candidate.now) result };
 
     /// Whether something is highlighted in the line that is about to be drawn, with the cursor at `pos`. The answer depends on
     /// nothing but line, place and reason, and no call changes what later ones answer.
@@ -92,14 +65,44 @@ pub trait Highlighter {
 }
 
 /// Nothing is highlighted: every text stays as it is.
+#[tactic(auto, using(crate::proofs::HighlightLemmas::plain))]
 impl Highlighter for () {
     ghost marks = { λ self line pos kind. false };
 
     ghost kept = { λ before after. before ≡ after };
 
-    ghost styles = { λ self part. false };
+    ghost shown_as = { λ self part text. Some text };
 
-    ghost highlighting_fails = { λ self text. false };
+    fn highlight<'l>(
+        &self,
+        _alloc: Global,
+        line: &'l str,
+        _pos: usize,
+    ) -> Result<CowStr<'l>, HookFault> {
+        Ok(CowStr::Borrowed(line))
+    }
+
+    fn highlight_prompt<'p>(
+        &self,
+        _alloc: Global,
+        prompt: &'p str,
+        _default: bool,
+    ) -> Result<CowStr<'p>, HookFault> {
+        Ok(CowStr::Borrowed(prompt))
+    }
+
+    fn highlight_hint<'h>(&self, _alloc: Global, hint: &'h str) -> Result<CowStr<'h>, HookFault> {
+        Ok(CowStr::Borrowed(hint))
+    }
+
+    fn highlight_candidate<'c>(
+        &self,
+        _alloc: Global,
+        candidate: &'c str,
+        _completion: CompletionType,
+    ) -> Result<CowStr<'c>, HookFault> {
+        Ok(CowStr::Borrowed(candidate))
+    }
 
     fn highlight_char(&mut self, _line: &str, _pos: usize, _kind: CmdKind) -> bool {
         false
@@ -112,9 +115,7 @@ impl<H: Highlighter, A: Allocator> Highlighter for Box<H, A> {
 
     ghost kept = { λ before after. H.kept (box_value before) (box_value after) };
 
-    ghost styles = { λ held. H.styles (box_value held) };
-
-    ghost highlighting_fails = { λ held. H.highlighting_fails (box_value held) };
+    ghost shown_as = { λ held. H.shown_as (box_value held) };
 
     fn highlight<'l>(
         &self,

@@ -1,5 +1,7 @@
 //! Laws of histories, of brackets and of completion. Each is the contract of a function, which does nothing.
-ghost use Rattle.line_help.specs.CompletionLaws.{EscapesComeBack, CommonBeginningIsLongest, OpenQuotesStand};
+ghost use Rattle.line_help.specs.CompletionLaws.{EscapesComeBack, CommonBeginningIsLongest};
+ghost use Rattle.line_help.specs.QuoteGrammar.{UnclosedQuoteIsOpen};
+ghost use Rattle.line_help.specs.SearchLaws.{NearestIsFound};
 ghost use Rattle.line_help.specs.Laws.{Reload, ReloadAppended, TextKeepsUp, OpeningIsMatched, ClosingIsMatched, ValidIsBalanced, IncompleteIsBegun, InvalidIsLost, MessageNames};
 
 /// A saved text that isn't empty, loaded into a new history, gives the entries that adding the saved entries in order
@@ -19,6 +21,12 @@ pub fn reload_appended()
 /// same list, none of it new. No entry that is written may end in a carriage return.
 pub fn text_keeps_up()
     ensures { TextKeepsUp }
+{}
+
+/// A search of a history answers the nearest entry with the term, and the place in it: each entry on the way there lacks it.
+/// It answers nothing where no such entry is ahead.
+pub fn nearest_is_found()
+    ensures { NearestIsFound }
 {}
 
 /// What is answered as the match of an opening bracket is the one bracket that closes it: between the two the brackets of
@@ -63,7 +71,8 @@ pub fn common_beginning_is_longest()
     ensures { CommonBeginningIsLongest }
 {}
 
-/// Where a quote is open at a text's end, such a quote stands at the place that is answered.
-pub fn open_quotes_stand()
-    ensures { OpenQuotesStand }
+/// The quote that is found open at a text's end is the one after which nothing closes it, and before which each quote is
+/// closed; none is found where all are closed.
+pub fn unclosed_quote_is_open()
+    ensures { UnclosedQuoteIsOpen }
 {}

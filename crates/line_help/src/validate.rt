@@ -74,6 +74,9 @@ pub trait Validator {
     // Whether it fails at a text.
     ghost validating_fails: { Self → List ℕ → Bool };
 
+    // Whether it would be asked while the line is typed.
+    ghost while_typing: { Self → Bool };
+
     /// What it finds of the text, which depends on nothing but the text; want of memory may be answered besides.
     fn validate(
         &self,
@@ -85,9 +88,8 @@ pub trait Validator {
         ensures fault { IfErr result (λ e. (e ≡ Memory) ⊎ ((e ≡ Failed) × IsTrue (validating_fails self.now ctx.now.input.now))) };
 
     /// Whether it would be asked while the line is typed. Nothing asks it.
-    fn validate_while_typing(&self) -> bool {
-        false
-    }
+    fn validate_while_typing(&self) -> bool
+        ensures { result ≡ while_typing self.now };
 }
 
 /// Every text is valid, and nothing is told.
@@ -98,11 +100,17 @@ impl Validator for () {
 
     ghost validating_fails = { λ self text. false };
 
+    ghost while_typing = { λ self. false };
+
     fn validate(
         &self,
         _alloc: Global,
         _ctx: &ValidationContext<'_>,
     ) -> Result<ValidationResult, HookFault> {
         Ok(ValidationResult::Valid(None))
+    }
+
+    fn validate_while_typing(&self) -> bool {
+        false
     }
 }

@@ -3,7 +3,6 @@ use Rattle.std.proofs.Common.{◌≡◌, ◌↔◌, Bool, true, false, cond, ◌
 use Rattle.std.specs.Prelude.{IsSome, option_map, find as first_passing}
 use Rattle.std.proofs.lemmas.List.{take-append-drop}
 use Rattle.std.proofs.Math.Seq.{take-append_seam}
-use Rattle.line_keys.specs.declared.binding.Entry.{Entry}
 use Rattle.line_keys.specs.declared.key.KeyEvent.{KeyEvent}
 use Rattle.line_keys.specs.declared.events.Event.{Event}
 use Rattle.line_keys.specs.declared.events.Event.TheVariants.{Any, KeySeq, Mouse}
@@ -28,40 +27,40 @@ or_true true = refl
 or_true false = refl
 
 module _ {H : Type 0} where
-  still_some : (b : Bool) (x : Entry H) (later : Option (Entry H)) → IsSome (option_map (λ (y : Entry H). y.handler) later)
-      → IsSome (option_map (λ (y : Entry H). y.handler) (cond b (Some x) later))
+  still_some : (b : Bool) (x : Event × H) (later : Option (Event × H)) → IsSome (option_map (λ (y : Event × H). y.1) later)
+      → IsSome (option_map (λ (y : Event × H). y.1) (cond b (Some x) later))
   still_some true x later h = refl
   still_some false x later h = h
 
-  abbrev Continued : List KeyEvent → List (Entry H) → Type 0
+  abbrev Continued : List KeyEvent → List (Event × H) → Type 0
   Continued keys entries = (rest : List KeyEvent) × IsSome (find (KeySeq (keys ++ rest)) entries)
 
-  finds_by : (keys : List KeyEvent) (x : Entry H) (entries : List (Entry H)) (now later : Bool) → begins_with keys x.event ≡ now → (now || later) ≡ true
+  finds_by : (keys : List KeyEvent) (x : Event × H) (entries : List (Event × H)) (now later : Bool) → begins_with keys x.0 ≡ now → (now || later) ≡ true
       → (later ≡ true → Continued keys entries) → Continued keys (x ∷ entries)
   finds_by keys x entries true later is h tail =
-      let w = begins_as keys x.event is in
-      let same : has_event (KeySeq (keys ++ w.0)) x ≡ true = (same_event-decides x.event (KeySeq (keys ++ w.0))).1 w.1 in
+      let w = begins_as keys x.0 is in
+      let same : has_event (KeySeq (keys ++ w.0)) x ≡ true = (same_event-decides x.0 (KeySeq (keys ++ w.0))).1 w.1 in
       (w.0, rw same refl)
   finds_by keys x entries false later is h tail =
       let w = tail h in
       (w.0, still_some (has_event (KeySeq (keys ++ w.0)) x) x (first_passing (has_event (KeySeq (keys ++ w.0))) entries) w.1)
 
-  finds : (keys : List KeyEvent) (entries : List (Entry H)) → begins keys entries ≡ true → Continued keys entries
+  finds : (keys : List KeyEvent) (entries : List (Event × H)) → begins keys entries ≡ true → Continued keys entries
   finds keys [] h = absurd (true≢false (sym h))
-  finds keys (x ∷ entries) h = finds_by keys x entries (begins_with keys x.event) (begins keys entries) refl h (finds keys entries)
+  finds keys (x ∷ entries) h = finds_by keys x entries (begins_with keys x.0) (begins keys entries) refl h (finds keys entries)
 
-  found_by : (keys rest : List KeyEvent) (x : Entry H) (entries : List (Entry H)) (same : Bool) → has_event (KeySeq (keys ++ rest)) x ≡ same
-      → IsSome (option_map (λ (y : Entry H). y.handler) (cond same (Some x) (first_passing (has_event (KeySeq (keys ++ rest))) entries)))
+  found_by : (keys rest : List KeyEvent) (x : Event × H) (entries : List (Event × H)) (same : Bool) → has_event (KeySeq (keys ++ rest)) x ≡ same
+      → IsSome (option_map (λ (y : Event × H). y.1) (cond same (Some x) (first_passing (has_event (KeySeq (keys ++ rest))) entries)))
       → (IsSome (find (KeySeq (keys ++ rest)) entries) → begins keys entries ≡ true)
-      → (begins_with keys x.event || begins keys entries) ≡ true
+      → (begins_with keys x.0 || begins keys entries) ≡ true
   found_by keys rest x entries true is h tail =
-      let at : x.event ≡ KeySeq (keys ++ rest) = (same_event-decides x.event (KeySeq (keys ++ rest))).0 is in
+      let at : x.0 ≡ KeySeq (keys ++ rest) = (same_event-decides x.0 (KeySeq (keys ++ rest))).0 is in
       ap (λ (b : Bool). b || begins keys entries) (ap (begins_with keys) at ∙ as_begins keys rest)
-  found_by keys rest x entries false is h tail = ap (λ (b : Bool). begins_with keys x.event || b) (tail h) ∙ or_true (begins_with keys x.event)
+  found_by keys rest x entries false is h tail = ap (λ (b : Bool). begins_with keys x.0 || b) (tail h) ∙ or_true (begins_with keys x.0)
 
-  found : (keys rest : List KeyEvent) (entries : List (Entry H)) → IsSome (find (KeySeq (keys ++ rest)) entries) → begins keys entries ≡ true
+  found : (keys rest : List KeyEvent) (entries : List (Event × H)) → IsSome (find (KeySeq (keys ++ rest)) entries) → begins keys entries ≡ true
   found keys rest [] h = absurd (true≢false (sym h))
   found keys rest (x ∷ entries) h = found_by keys rest x entries (has_event (KeySeq (keys ++ rest)) x) refl h (found keys rest entries)
 
-  pub begins_both_ways : (keys : List KeyEvent) (entries : List (Entry H)) → IsTrue (begins keys entries) ↔ ((rest : List KeyEvent) × IsSome (find (KeySeq (keys ++ rest)) entries))
+  pub begins_both_ways : (keys : List KeyEvent) (entries : List (Event × H)) → IsTrue (begins keys entries) ↔ ((rest : List KeyEvent) × IsSome (find (KeySeq (keys ++ rest)) entries))
   begins_both_ways keys entries = (finds keys entries, λ w. found keys w.0 entries w.1)

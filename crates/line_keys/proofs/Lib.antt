@@ -1,13 +1,13 @@
-pub mod Asks
+pub mod Anew
 pub mod Beginnings
-pub mod EmacsCounts
+pub mod Deeds
 pub mod Equality
+pub mod Following
 pub mod Normal
 mod PhraseRows
 pub mod Places
-pub mod Refused
-pub mod Stops
+pub mod KeyReads
+pub mod Remembering
 mod Rows
-pub mod ViCounting
-pub mod ViPhrases
+pub mod Turns
 mod ViRows

@@ -1,6 +1,6 @@
 -- The place of an event's entry: what stands there, and what an edit there makes of the map.
-use Rattle.std.proofs.Common.{◌≡◌, ℕ, zero, suc, ◌<◌, ◌≤◌, Bool, true, false, cond, List, [], ◌∷◌, ◌++◌, Option, Some, None, length, get_or, set, refl, sym, ◌∙◌, ap, subst, arith, ltb, length-set}
-use Rattle.std.specs.Prelude.{position, remove, find as first_passing, IsFalse, option_map}
+use Rattle.std.proofs.Common.{◌≡◌, ℕ, zero, suc, ◌<◌, ◌≤◌, Bool, true, false, cond, List, [], ◌∷◌, ◌++◌, Option, Some, None, length, get_or, set, refl, sym, ◌∙◌, ap, subst, arith, ltb, length-set, true≢false}
+use Rattle.std.specs.Prelude.{⊤, IsSome, position, remove, find as first_passing, IsFalse, option_map}
 use Rattle.std.specs.List.{position_or_len, slice_get}
 use Rattle.std.specs.Option.{option_or}
 use Rattle.std.specs.Cmp.{decided}
@@ -11,8 +11,8 @@ use Rattle.std.proofs.lemmas.Option.{slice_get-get_or, slice_get_past}
 use Rattle.std.proofs.lemmas.Bool.Decides.{nat_tests}
 use Rattle.line_keys.specs.declared.events.Event.{Event}
 use Rattle.line_keys.specs.SameEvents.{same_event, same_event-decides}
-use Rattle.line_keys.specs.declared.binding.Entry.{Entry}
-use Rattle.line_keys.specs.Bound.{find, has_event, put_at, less_at, AreDistinct}
+use Rattle.line_keys.specs.Events.{normal_event}
+use Rattle.line_keys.specs.Bound.{find, has_event, put_at, less_at, AreDistinct, IsNormal, AreNormal, IsMap}
 
 -- ---- lists and tests of any kind
 
@@ -80,69 +80,69 @@ same_event-symm : (x y : Event) → same_event x y ≡ same_event y x
 same_event-symm = (decided same_event same_event-decides).symm
 
 -- the place of an event that is given by an equation
-pub place_of : {H : Type 0} (entries : List (Entry H)) (r e : Event) (o : Option ℕ) → r ≡ e → o ≡ position (has_event r) entries → position (has_event e) entries ≡ o
+pub place_of : {H : Type 0} (entries : List (Event × H)) (r e : Event) (o : Option ℕ) → r ≡ e → o ≡ position (has_event r) entries → position (has_event e) entries ≡ o
 place_of entries r e o is at = subst (λ (x : Event). position (has_event x) entries ≡ o) is (sym at)
 
-module _ {H : Type 0} (e : Event) (entries : List (Entry H)) where
-  pub place_below : (i : ℕ) (d : Entry H) → position (has_event e) entries ≡ Some i → i < length entries
+module _ {H : Type 0} (e : Event) (entries : List (Event × H)) where
+  pub place_below : (i : ℕ) (d : Event × H) → position (has_event e) entries ≡ Some i → i < length entries
   place_below i d at = (position-Some (has_event e) entries i d at).0
 
-  here : (i : ℕ) (d : Entry H) → position (has_event e) entries ≡ Some i → (get_or entries i d).event ≡ e
-  here i d at = (same_event-decides (get_or entries i d).event e).0 (position-Some (has_event e) entries i d at).1
+  here : (i : ℕ) (d : Event × H) → position (has_event e) entries ≡ Some i → (get_or entries i d).0 ≡ e
+  here i d at = (same_event-decides (get_or entries i d).0 e).0 (position-Some (has_event e) entries i d at).1
 
-  pub found_at : (i : ℕ) (d b : Entry H) → position (has_event e) entries ≡ Some i → b ≡ get_or entries i d → Some b.handler ≡ find e entries
-  found_at i d b at is = ap (λ (x : Entry H). Some x.handler) is ∙ sym (ap (option_map (λ (x : Entry H). x.handler)) (first_at (has_event e) entries i d at))
+  pub found_at : (i : ℕ) (d b : Event × H) → position (has_event e) entries ≡ Some i → b ≡ get_or entries i d → Some b.1 ≡ find e entries
+  found_at i d b at is = ap (λ (x : Event × H). Some x.1) is ∙ sym (ap (option_map (λ (x : Event × H). x.1)) (first_at (has_event e) entries i d at))
 
   pub found_nowhere : position (has_event e) entries ≡ None → None ≡ find e entries
-  found_nowhere at = sym (ap (option_map (λ (x : Entry H). x.handler)) (nothing_passes (has_event e) entries at))
+  found_nowhere at = sym (ap (option_map (λ (x : Event × H). x.1)) (nothing_passes (has_event e) entries at))
 
   -- another handler at the entry's place
-  set_by : (o : Event) (i : ℕ) (d b : Entry H) (same : Bool) → same_event e o ≡ same → position (has_event e) entries ≡ Some i → b.event ≡ (get_or entries i d).event
-      → find o (set entries i b) ≡ cond same (Some b.handler) (find o entries)
+  set_by : (o : Event) (i : ℕ) (d b : Event × H) (same : Bool) → same_event e o ≡ same → position (has_event e) entries ≡ Some i → b.0 ≡ (get_or entries i d).0
+      → find o (set entries i b) ≡ cond same (Some b.1) (find o entries)
   set_by o i d b true is at kept =
       let w = position-Some (has_event e) entries i d at in
       let first : position_or_len (has_event e) entries ≡ i = position_or_len_is (has_event e) entries i d (omega arith) w.2 (λ _. w.1) in
-      let passes : has_event e b ≡ true = (same_event-decides b.event e).1 (kept ∙ here i d at) in
-      subst (λ (x : Event). find x (set entries i b) ≡ Some b.handler) ((same_event-decides e o).0 is)
-      (ap (option_map (λ (x : Entry H). x.handler)) (find-set (has_event e) entries i b (sym first) w.0 passes))
+      let passes : has_event e b ≡ true = (same_event-decides b.0 e).1 (kept ∙ here i d at) in
+      subst (λ (x : Event). find x (set entries i b) ≡ Some b.1) ((same_event-decides e o).0 is)
+      (ap (option_map (λ (x : Event × H). x.1)) (find-set (has_event e) entries i b (sym first) w.0 passes))
   set_by o i d b false is at kept =
-      ap (option_map (λ (x : Entry H). x.handler))
-      (find_past (has_event o) entries i b d (other e o (get_or entries i d).event (here i d at) is) (other e o b.event (kept ∙ here i d at) is))
+      ap (option_map (λ (x : Event × H). x.1))
+      (find_past (has_event o) entries i b d (other e o (get_or entries i d).0 (here i d at) is) (other e o b.0 (kept ∙ here i d at) is))
 
-  pub bound_at_place : (i : ℕ) (d b : Entry H) → position (has_event e) entries ≡ Some i → b.event ≡ (get_or entries i d).event
-      → (o : Event) → find o (set entries i b) ≡ put_at e b.handler (λ x. find x entries) o
+  pub bound_at_place : (i : ℕ) (d b : Event × H) → position (has_event e) entries ≡ Some i → b.0 ≡ (get_or entries i d).0
+      → (o : Event) → find o (set entries i b) ≡ put_at e b.1 (λ x. find x entries) o
   bound_at_place i d b at kept o = set_by o i d b (same_event e o) refl at kept
 
   -- a new entry behind the others
-  pushed_by : (o : Event) (b : Entry H) (same : Bool) → same_event e o ≡ same → position (has_event e) entries ≡ None → b.event ≡ e
-      → find o (entries ++ b ∷ []) ≡ cond same (Some b.handler) (find o entries)
+  pushed_by : (o : Event) (b : Event × H) (same : Bool) → same_event e o ≡ same → position (has_event e) entries ≡ None → b.0 ≡ e
+      → find o (entries ++ b ∷ []) ≡ cond same (Some b.1) (find o entries)
   pushed_by o b true is at new =
-      let passes : has_event e b ≡ true = (same_event-decides b.event e).1 new in
+      let passes : has_event e b ≡ true = (same_event-decides b.0 e).1 new in
       let found : first_passing (has_event e) (entries ++ b ∷ []) ≡ Some b =
       find-append (has_event e) entries (b ∷ []) ∙ rw (nothing_passes (has_event e) entries at, passes) refl in
-      subst (λ (x : Event). find x (entries ++ b ∷ []) ≡ Some b.handler) ((same_event-decides e o).0 is) (ap (option_map (λ (x : Entry H). x.handler)) found)
+      subst (λ (x : Event). find x (entries ++ b ∷ []) ≡ Some b.1) ((same_event-decides e o).0 is) (ap (option_map (λ (x : Event × H). x.1)) found)
   pushed_by o b false is at new =
-      let fails : has_event o b ≡ false = other e o b.event new is in
-      ap (option_map (λ (x : Entry H). x.handler)) (find-append (has_event o) entries (b ∷ []) ∙ rw fails (or_nothing (first_passing (has_event o) entries)))
+      let fails : has_event o b ≡ false = other e o b.0 new is in
+      ap (option_map (λ (x : Event × H). x.1)) (find-append (has_event o) entries (b ∷ []) ∙ rw fails (or_nothing (first_passing (has_event o) entries)))
 
-  pub bound_behind : (b : Entry H) → position (has_event e) entries ≡ None → b.event ≡ e
-      → (o : Event) → find o (entries ++ b ∷ []) ≡ put_at e b.handler (λ x. find x entries) o
+  pub bound_behind : (b : Event × H) → position (has_event e) entries ≡ None → b.0 ≡ e
+      → (o : Event) → find o (entries ++ b ∷ []) ≡ put_at e b.1 (λ x. find x entries) o
   bound_behind b at new o = pushed_by o b (same_event e o) refl at new
 
   -- the entry taken out
-  removed_by : (o : Event) (i : ℕ) (d : Entry H) (same : Bool) → same_event e o ≡ same → position (has_event e) entries ≡ Some i → AreDistinct entries
+  removed_by : (o : Event) (i : ℕ) (d : Event × H) (same : Bool) → same_event e o ≡ same → position (has_event e) entries ≡ Some i → AreDistinct entries
       → find o (remove entries i) ≡ cond same None (find o entries)
   removed_by o i d true is at distinct =
       let w = position-Some (has_event e) entries i d at in
       let apart : (k : ℕ) → i < k → k < length entries → has_event e (get_or entries k d) ≡ false =
-      λ k l m. same_event-symm (get_or entries k d).event e ∙ subst (λ (x : Event). same_event x (get_or entries k d).event ≡ false) (here i d at) (distinct i k d l m) in
+      λ k l m. same_event-symm (get_or entries k d).0 e ∙ subst (λ (x : Event). same_event x (get_or entries k d).0 ≡ false) (here i d at) (distinct i k d l m) in
       subst (λ (x : Event). find x (remove entries i) ≡ None) ((same_event-decides e o).0 is)
-      (ap (option_map (λ (x : Entry H). x.handler)) (find-removed (has_event e) entries i d w.0 w.2 apart))
+      (ap (option_map (λ (x : Event × H). x.1)) (find-removed (has_event e) entries i d w.0 w.2 apart))
   removed_by o i d false is at distinct =
       let w = position-Some (has_event e) entries i d at in
-      ap (option_map (λ (x : Entry H). x.handler)) (find-remove (has_event o) entries i d w.0 (other e o (get_or entries i d).event (here i d at) is))
+      ap (option_map (λ (x : Event × H). x.1)) (find-remove (has_event o) entries i d w.0 (other e o (get_or entries i d).0 (here i d at) is))
 
-  pub unbound_at_place : (i : ℕ) (d : Entry H) → position (has_event e) entries ≡ Some i → AreDistinct entries
+  pub unbound_at_place : (i : ℕ) (d : Event × H) → position (has_event e) entries ≡ Some i → AreDistinct entries
       → (o : Event) → find o (remove entries i) ≡ less_at e (λ x. find x entries) o
   unbound_at_place i d at distinct o = removed_by o i d (same_event e o) refl at distinct
 
@@ -155,32 +155,80 @@ module _ {H : Type 0} (e : Event) (entries : List (Entry H)) where
 
 -- ---- no two entries have one event, after each edit
 
-event_kept : {H : Type 0} (entries : List (Entry H)) (i : ℕ) (d b : Entry H) → b.event ≡ (get_or entries i d).event
-    → (k : ℕ) (c : Entry H) → (get_or (set entries i b) k c).event ≡ (get_or entries k c).event
+event_kept : {H : Type 0} (entries : List (Event × H)) (i : ℕ) (d b : Event × H) → b.0 ≡ (get_or entries i d).0
+    → (k : ℕ) (c : Event × H) → (get_or (set entries i b) k c).0 ≡ (get_or entries k c).0
 event_kept [] i d b kept k c = refl
 event_kept (x ∷ entries) zero d b kept zero c = kept
 event_kept (x ∷ entries) zero d b kept (suc k) c = refl
 event_kept (x ∷ entries) (suc i) d b kept zero c = refl
 event_kept (x ∷ entries) (suc i) d b kept (suc k) c = event_kept entries i d b kept k c
 
-pub distinct_set : {H : Type 0} (entries : List (Entry H)) (i : ℕ) (d b : Entry H) → b.event ≡ (get_or entries i d).event → AreDistinct entries → AreDistinct (set entries i b)
+pub distinct_set : {H : Type 0} (entries : List (Event × H)) (i : ℕ) (d b : Event × H) → b.0 ≡ (get_or entries i d).0 → AreDistinct entries → AreDistinct (set entries i b)
 distinct_set {H} entries i d b kept distinct j k c l m =
     let first = event_kept entries i d b kept j c in
     let second = event_kept entries i d b kept k c in
-    let unchanged : same_event (get_or (set entries i b) j c).event (get_or (set entries i b) k c).event ≡ same_event (get_or entries j c).event (get_or entries k c).event =
+    let unchanged : same_event (get_or (set entries i b) j c).0 (get_or (set entries i b) k c).0 ≡ same_event (get_or entries j c).0 (get_or entries k c).0 =
     λ t. same_event (first t) (second t) in
-    unchanged ∙ distinct j k c l (omega (arith, length-set {A = Entry H}))
+    unchanged ∙ distinct j k c l (omega (arith, length-set {A = Event × H}))
 
-pub distinct_push : {H : Type 0} (e : Event) (entries : List (Entry H)) (b : Entry H) → position (has_event e) entries ≡ None → b.event ≡ e
+pub distinct_push : {H : Type 0} (e : Event) (entries : List (Event × H)) (b : Event × H) → position (has_event e) entries ≡ None → b.0 ≡ e
     → AreDistinct entries → AreDistinct (entries ++ b ∷ [])
 distinct_push {H} e entries b at new distinct =
-    all_pairs_push (λ (x y : Entry H). IsFalse (same_event x.event y.event)) entries b distinct
-    (λ k d h. subst (λ (x : Event). same_event (get_or entries k d).event x ≡ false) (sym new) (each_fails (has_event e) entries (nothing_passes (has_event e) entries at) k d h))
+    all_pairs_push (λ (x y : Event × H). IsFalse (same_event x.0 y.0)) entries b distinct
+    (λ k d h. subst (λ (x : Event). same_event (get_or entries k d).0 x ≡ false) (sym new) (each_fails (has_event e) entries (nothing_passes (has_event e) entries at) k d h))
 
-pub distinct_remove : {H : Type 0} (entries : List (Entry H)) (i : ℕ) → i < length entries → AreDistinct entries → AreDistinct (remove entries i)
-distinct_remove {H} entries i h distinct = all_pairs_remove (λ (x y : Entry H). IsFalse (same_event x.event y.event)) entries i h distinct
+pub distinct_remove : {H : Type 0} (entries : List (Event × H)) (i : ℕ) → i < length entries → AreDistinct entries → AreDistinct (remove entries i)
+distinct_remove {H} entries i h distinct = all_pairs_remove (λ (x y : Event × H). IsFalse (same_event x.0 y.0)) entries i h distinct
 
-pub distinct_either : {H : Type 0} (pushed : Bool) (entries more less : List (Entry H)) → entries ≡ cond pushed more less
+pub distinct_either : {H : Type 0} (pushed : Bool) (entries more less : List (Event × H)) → entries ≡ cond pushed more less
     → AreDistinct more → AreDistinct less → AreDistinct entries
-distinct_either {H} true entries more less is first second = subst (λ (x : List (Entry H)). AreDistinct x) (sym is) first
-distinct_either {H} false entries more less is first second = subst (λ (x : List (Entry H)). AreDistinct x) (sym is) second
+distinct_either {H} true entries more less is first second = subst (λ (x : List (Event × H)). AreDistinct x) (sym is) first
+distinct_either {H} false entries more less is first second = subst (λ (x : List (Event × H)). AreDistinct x) (sym is) second
+
+-- ---- each bound event is in its normal form, after each edit
+
+normal_set : {H : Type 0} (entries : List (Event × H)) (i : ℕ) (d b : Event × H) → i < length entries → b.0 ≡ (get_or entries i d).0 → AreNormal entries → AreNormal (set entries i b)
+normal_set [] i d b h kept normal = normal
+normal_set (x ∷ entries) zero d b h kept normal = (subst (λ (e : Event). IsNormal e) (sym kept) normal.0, normal.1)
+normal_set (x ∷ entries) (suc i) d b h kept normal = (normal.0, normal_set entries i d b (omega arith) kept normal.1)
+
+normal_push : {H : Type 0} (entries : List (Event × H)) (b : Event × H) → IsNormal b.0 → AreNormal entries → AreNormal (entries ++ b ∷ [])
+normal_push [] b is normal = (is, tt)
+normal_push (x ∷ entries) b is normal = (normal.0, normal_push entries b is normal.1)
+
+normal_remove : {H : Type 0} (entries : List (Event × H)) (i : ℕ) → AreNormal entries → AreNormal (remove entries i)
+normal_remove [] zero normal = normal
+normal_remove [] (suc i) normal = normal
+normal_remove (x ∷ entries) zero normal = normal.1
+normal_remove (x ∷ entries) (suc i) normal = (normal.0, normal_remove entries i normal.1)
+
+pub map_set : {H : Type 0} (entries : List (Event × H)) (i : ℕ) (d b : Event × H) → i < length entries → b.0 ≡ (get_or entries i d).0 → IsMap entries → IsMap (set entries i b)
+map_set entries i d b h kept is = record { distinct = distinct_set entries i d b kept is.distinct; normal = normal_set entries i d b h kept is.normal }
+
+pub map_push : {H : Type 0} (entries : List (Event × H)) (b : Event × H) → IsNormal b.0 → position (has_event b.0) entries ≡ None → IsMap entries → IsMap (entries ++ b ∷ [])
+map_push entries b normal at is = record { distinct = distinct_push b.0 entries b at refl is.distinct; normal = normal_push entries b normal is.normal }
+
+pub map_if : {H : Type 0} (pushed : Bool) (entries more less : List (Event × H)) → entries ≡ cond pushed more less → IsMap more → IsMap less → IsMap entries
+map_if true entries more less is first second = subst (λ x. IsMap x) (sym is) first
+map_if false entries more less is first second = subst (λ x. IsMap x) (sym is) second
+
+pub map_remove : {H : Type 0} (entries : List (Event × H)) (i : ℕ) → i < length entries → IsMap entries → IsMap (remove entries i)
+map_remove entries i h is = record { distinct = distinct_remove entries i h is.distinct; normal = normal_remove entries i is.normal }
+
+-- only an event in its normal form is bound to something
+normal_by : {H : Type 0} (e : Event) (x b : Event × H) (later : Option (Event × H)) (t : Bool) → has_event e x ≡ t → IsNormal x.0 → (later ≡ Some b → IsNormal e)
+    → cond t (Some x) later ≡ Some b → IsNormal e
+normal_by e x b later true same normal tail is = subst (λ (o : Event). IsNormal o) ((same_event-decides x.0 e).0 same) normal
+normal_by e x b later false same normal tail is = tail is
+
+found_normal : {H : Type 0} (e : Event) (entries : List (Event × H)) (b : Event × H) → AreNormal entries → first_passing (has_event e) entries ≡ Some b → IsNormal e
+found_normal e [] b normal is = cc
+found_normal e (x ∷ entries) b normal is = normal_by e x b (first_passing (has_event e) entries) (has_event e x) refl normal.0 (found_normal e entries b normal.1) is
+
+some_found : {H : Type 0} (e : Event) (entries : List (Event × H)) (o : Option (Event × H)) → AreNormal entries → first_passing (has_event e) entries ≡ o
+    → IsSome (option_map (λ (x : Event × H). x.1) o) → IsNormal e
+some_found e entries (Some b) normal is some = found_normal e entries b normal is
+some_found e entries None normal is some = absurd (true≢false (sym some))
+
+pub normal_if_found : {H : Type 0} (e : Event) (entries : List (Event × H)) → IsMap entries → IsSome (find e entries) → IsNormal e
+normal_if_found e entries is some = some_found e entries (first_passing (has_event e) entries) is.normal refl some

@@ -3,7 +3,6 @@ use Rattle.std.proofs.Common.{◌≡◌, ℕ, List, [], ◌∷◌, true, false, 
 use Rattle.std.specs.Prelude.{codes, Err}
 use Rattle.line_buffer.specs.declared.types.Movement.TheVariants.{ForwardChar, BackwardChar, EndOfLine}
 use Rattle.line_config.specs.declared.errors.ReadlineError.TheVariants.{Eof, PasteOutOfPlace}
-use Rattle.line_keys.specs.declared.binding.Entry.{Entry}
 use Rattle.line_keys.specs.declared.key.KeyCode.TheVariants.{Char, Esc, Tab, BackTab, Backspace, Enter, Null}
 use Rattle.line_keys.specs.declared.key.KeyEvent.{KeyEvent}
 use Rattle.line_keys.specs.declared.command.Cmd.TheVariants.{Insert, Kill, Replace, SelfInsert, Interrupt}
@@ -56,8 +55,8 @@ ctrl_x_ctrl_e = KeySeq (key_with (Char 88) ctrl ∷ key_with (Char 69) ctrl ∷ 
 bound_in_capitals : normal_event (KeySeq (key_with (Char 120) ctrl ∷ key_with (Char 101) ctrl ∷ [])) ≡ ctrl_x_ctrl_e
 bound_in_capitals = refl
 
-abbrev one_binding : List (Entry ℕ)
-one_binding = record { event = ctrl_x_ctrl_e; handler = 7 } ∷ []
+abbrev one_binding : List (Event × ℕ)
+one_binding = (ctrl_x_ctrl_e, 7) ∷ []
 
 begun_by_its_first_key : begins (key_with (Char 88) ctrl ∷ []) one_binding ≡ true
 begun_by_its_first_key = refl
@@ -75,9 +74,9 @@ not_found_as_it_was_typed = refl
 abbrev six : List KeyEvent
 six = key_with Backspace none ∷ key_with Backspace ctrl ∷ key_with Enter none ∷ key_with Enter ctrl ∷ key_with Tab none ∷ key_with Tab ctrl ∷ []
 
-abbrev numbered : List KeyEvent → ℕ → List (Entry ℕ)
+abbrev numbered : List KeyEvent → ℕ → List (Event × ℕ)
 numbered [] n = []
-numbered (k ∷ ks) n = record { event = normal_event (single k); handler = n } ∷ numbered ks (n + 1)
+numbered (k ∷ ks) n = (normal_event (single k), n) ∷ numbered ks (n + 1)
 
 six_bindings : map (λ k. find (single k) (numbered six 0)) six ≡ Some 0 ∷ Some 1 ∷ Some 2 ∷ Some 3 ∷ Some 4 ∷ Some 5 ∷ []
 six_bindings = refl

@@ -7,17 +7,22 @@ use Rattle.line_buffer.specs.declared.types.CharSearch.TheVariants.{Forward, Bac
 use Rattle.line_buffer.specs.declared.types.Movement.TheVariants.{BackwardChar, ForwardChar, ForwardWord, ViCharSearch, WholeLine}
 use Rattle.line_buffer.specs.declared.types.Word.TheVariants.{Vi as ViWord}
 use Rattle.line_config.specs.declared.settings.EditMode.TheVariants.{Vi}
+use Rattle.line_keys.specs.declared.command.Cmd.{Cmd}
 use Rattle.line_keys.specs.declared.command.Cmd.TheVariants.{Kill, Move, Noop, Replace, SelfInsert, Unknown}
 use Rattle.line_keys.specs.declared.command.InputMode.{InputMode}
 use Rattle.line_keys.specs.declared.command.InputMode.TheVariants.{Command, Insert, Replace as Overwriting}
 use Rattle.line_keys.specs.declared.key.KeyCode.TheVariants.{Char}
 use Rattle.line_keys.specs.Coming.{Coming, Pressed, Ends, End}
-use Rattle.line_keys.specs.Custom.{Custom}
+use Rattle.line_keys.specs.Answers.{Custom}
+use Rattle.line_keys.specs.Counts.{counting}
+use Rattle.line_keys.specs.Custom.{followed}
 use Rattle.line_keys.specs.Keys.{key_with, none, alt}
 use Rattle.line_keys.specs.Phrase.{phrase}
-use Rattle.line_keys.specs.Phrases.{Input, Phrase}
-use Rattle.line_keys.specs.Vi.{vi_command, vi_counted, vi_command_table, vi_operation, vi_search, vi_beyond_searches, vi_kept_search, vi_insert, vi_insert_table, vi_left}
-use Rattle.line_keys.specs.ViMotions.{vi_motion}
+use Rattle.line_keys.specs.Phrases.{Input}
+use Rattle.line_keys.specs.Played.{Played, played}
+use Rattle.line_keys.specs.Vi.{vi_command, vi_counted, vi_command_table, vi_insert, vi_insert_table, vi_left}
+use Rattle.line_keys.specs.ViMotions.{motion_of}
+use Rattle.line_keys.specs.ViTables.{deed_of}
 use Rattle.line_keys.specs.Refreshing.{Shown, Line, Prompted, DoneInserting}
 
 abbrev nothing_bound : Custom
@@ -34,53 +39,53 @@ abbrev typed : List ℕ → Coming
 typed [] = Ends End
 typed (c ∷ text) = Pressed (key_with (Char c) none) (typed text)
 
-abbrev read_by : Input → Option (List ℕ) → Coming → Phrase
-read_by input last c = phrase nothing_bound (λ shown ask. shown) input (empty_line last) c
+abbrev read_by : Input → Option (List ℕ) → Coming → Played Cmd
+read_by input last c = played (λ shown ask. shown) (empty_line last) input c (phrase nothing_bound input (empty_line last) c)
 
 -- from command mode, where nothing is remembered
-abbrev commanded : List ℕ → Phrase
+abbrev commanded : List ℕ → Played Cmd
 commanded text = read_by (in_mode Command) None (typed text)
 
 -- ---- operators and counts
 
 counts_are_multiplied : (commanded (codes "3d2w")).answer ≡ Ok (Kill (ForwardWord 6 Start ViWord))
-unfolding vi_command vi_counted vi_command_table vi_operation vi_search vi_beyond_searches vi_kept_search vi_motion vi_insert vi_insert_table vi_left
+unfolding counting followed vi_command vi_counted vi_command_table vi_insert vi_insert_table vi_left deed_of motion_of
 counts_are_multiplied = refl
 
 all_is_read : (commanded (codes "3d2w")).rest ≡ Ends End
-unfolding vi_command vi_counted vi_command_table vi_operation vi_search vi_beyond_searches vi_kept_search vi_motion vi_insert vi_insert_table vi_left
+unfolding counting followed vi_command vi_counted vi_command_table vi_insert vi_insert_table vi_left deed_of motion_of
 all_is_read = refl
 
 each_count_is_prompted : (commanded (codes "3d2w")).asks ≡ Prompted (codes "(arg: 3) ") ∷ Line ∷ Prompted (codes "(arg: 2) ") ∷ Line ∷ []
-unfolding vi_command vi_counted vi_command_table vi_operation vi_search vi_beyond_searches vi_kept_search vi_motion vi_insert vi_insert_table vi_left digits
+unfolding counting followed vi_command vi_counted vi_command_table vi_insert vi_insert_table vi_left deed_of motion_of digits
 each_count_is_prompted = refl
 
 the_greatest_count : (commanded (codes "9999d9999h")).answer ≡ Ok (Kill (BackwardChar 65535))
-unfolding vi_command vi_counted vi_command_table vi_operation vi_search vi_beyond_searches vi_kept_search vi_motion vi_insert vi_insert_table vi_left
+unfolding counting followed vi_command vi_counted vi_command_table vi_insert vi_insert_table vi_left deed_of motion_of
 the_greatest_count = refl
 
 a_change_keeps_the_blanks : (commanded (codes "cw")).answer ≡ Ok (Replace (ForwardWord 1 AfterEnd ViWord) None)
-unfolding vi_command vi_counted vi_command_table vi_operation vi_search vi_beyond_searches vi_kept_search vi_motion vi_insert vi_insert_table vi_left
+unfolding counting followed vi_command vi_counted vi_command_table vi_insert vi_insert_table vi_left deed_of motion_of
 a_change_keeps_the_blanks = refl
 
 a_change_of_the_row : (commanded (codes "cc")).answer ≡ Ok (Replace WholeLine None)
-unfolding vi_command vi_counted vi_command_table vi_operation vi_search vi_beyond_searches vi_kept_search vi_motion vi_insert vi_insert_table vi_left
+unfolding counting followed vi_command vi_counted vi_command_table vi_insert vi_insert_table vi_left deed_of motion_of
 a_change_of_the_row = refl
 
 a_change_by_no_motion : (commanded (codes "cz")).answer ≡ Ok Unknown
-unfolding vi_command vi_counted vi_command_table vi_operation vi_search vi_beyond_searches vi_kept_search vi_motion vi_insert vi_insert_table vi_left
+unfolding counting followed vi_command vi_counted vi_command_table vi_insert vi_insert_table vi_left deed_of motion_of
 a_change_by_no_motion = refl
 
 a_change_inserts : (commanded (codes "cw")).input.input_mode ≡ Insert
-unfolding vi_command vi_counted vi_command_table vi_operation vi_search vi_beyond_searches vi_kept_search vi_motion vi_insert vi_insert_table vi_left
+unfolding counting followed vi_command vi_counted vi_command_table vi_insert vi_insert_table vi_left deed_of motion_of
 a_change_inserts = refl
 
 a_change_by_no_motion_inserts : (commanded (codes "cz")).input.input_mode ≡ Insert
-unfolding vi_command vi_counted vi_command_table vi_operation vi_search vi_beyond_searches vi_kept_search vi_motion vi_insert vi_insert_table vi_left
+unfolding counting followed vi_command vi_counted vi_command_table vi_insert vi_insert_table vi_left deed_of motion_of
 a_change_by_no_motion_inserts = refl
 
 an_operator_behind_a_count_is_no_motion : (commanded (codes "d2d")).answer ≡ Ok Unknown
-unfolding vi_command vi_counted vi_command_table vi_operation vi_search vi_beyond_searches vi_kept_search vi_motion vi_insert vi_insert_table vi_left
+unfolding counting followed vi_command vi_counted vi_command_table vi_insert vi_insert_table vi_left deed_of motion_of
 an_operator_behind_a_count_is_no_motion = refl
 
 -- ---- searches
@@ -89,41 +94,41 @@ abbrev after_a_search : Input
 after_a_search = (commanded (codes "fx")).input
 
 a_search : (commanded (codes "fx")).answer ≡ Ok (Move (ViCharSearch 1 (Forward 120)))
-unfolding vi_command vi_counted vi_command_table vi_operation vi_search vi_beyond_searches vi_kept_search vi_motion vi_insert vi_insert_table vi_left
+unfolding counting followed vi_command vi_counted vi_command_table vi_insert vi_insert_table vi_left deed_of motion_of
 a_search = refl
 
 the_same_search : (read_by after_a_search None (typed (codes ";"))).answer ≡ Ok (Move (ViCharSearch 1 (Forward 120)))
-unfolding vi_command vi_counted vi_command_table vi_operation vi_search vi_beyond_searches vi_kept_search vi_motion vi_insert vi_insert_table vi_left
+unfolding counting followed vi_command vi_counted vi_command_table vi_insert vi_insert_table vi_left deed_of motion_of
 the_same_search = refl
 
 the_search_the_other_way : (read_by after_a_search None (typed (codes ","))).answer ≡ Ok (Move (ViCharSearch 1 (Backward 120)))
-unfolding vi_command vi_counted vi_command_table vi_operation vi_search vi_beyond_searches vi_kept_search vi_motion vi_insert vi_insert_table vi_left
+unfolding counting followed vi_command vi_counted vi_command_table vi_insert vi_insert_table vi_left deed_of motion_of
 the_search_the_other_way = refl
 
 no_search_is_remembered : (commanded (codes ";")).answer ≡ Ok Noop
-unfolding vi_command vi_counted vi_command_table vi_operation vi_search vi_beyond_searches vi_kept_search vi_motion vi_insert vi_insert_table vi_left
+unfolding counting followed vi_command vi_counted vi_command_table vi_insert vi_insert_table vi_left deed_of motion_of
 no_search_is_remembered = refl
 
 -- ---- the last change
 
 no_change_is_remembered : (commanded (codes ".")).answer ≡ Ok Noop
-unfolding vi_command vi_counted vi_command_table vi_operation vi_search vi_beyond_searches vi_kept_search vi_motion vi_insert vi_insert_table vi_left
+unfolding counting followed vi_command vi_counted vi_command_table vi_insert vi_insert_table vi_left deed_of motion_of
 no_change_is_remembered = refl
 
 abbrev after_replacing : Input
 after_replacing = (commanded (codes "R")).input
 
 replacing_turns_to_replace_mode : after_replacing.input_mode ≡ Overwriting
-unfolding vi_command vi_counted vi_command_table vi_operation vi_search vi_beyond_searches vi_kept_search vi_motion vi_insert vi_insert_table vi_left
+unfolding counting followed vi_command vi_counted vi_command_table vi_insert vi_insert_table vi_left deed_of motion_of
 replacing_turns_to_replace_mode = refl
 
 replaced_once_more : (text : List ℕ) → length text ≡ 70000
     → (read_by (record after_replacing { input_mode = Command }) (Some text) (typed (codes "."))).answer ≡ Ok (Replace (ForwardChar 65535) (Some text))
-unfolding vi_command vi_counted vi_command_table vi_operation vi_search vi_beyond_searches vi_kept_search vi_motion vi_insert vi_insert_table vi_left
+unfolding counting followed vi_command vi_counted vi_command_table vi_insert vi_insert_table vi_left deed_of motion_of
 replaced_once_more text long = rw long refl
 
 the_last_change_with_a_count : (read_by (commanded (codes "x")).input None (typed (codes "4."))).answer ≡ Ok (Kill (ForwardChar 4))
-unfolding vi_command vi_counted vi_command_table vi_operation vi_search vi_beyond_searches vi_kept_search vi_motion vi_insert vi_insert_table vi_left
+unfolding counting followed vi_command vi_counted vi_command_table vi_insert vi_insert_table vi_left deed_of motion_of
 the_last_change_with_a_count = refl
 
 -- ---- insert mode
@@ -132,17 +137,17 @@ abbrev alt_d_then_d : Coming
 alt_d_then_d = Pressed (key_with (Char 100) alt) (typed (codes "d"))
 
 alt_begins_a_command : (read_by (in_mode Insert) None alt_d_then_d).answer ≡ Ok (Kill WholeLine)
-unfolding vi_command vi_counted vi_command_table vi_operation vi_search vi_beyond_searches vi_kept_search vi_motion vi_insert vi_insert_table vi_left
+unfolding counting followed vi_command vi_counted vi_command_table vi_insert vi_insert_table vi_left deed_of motion_of
 alt_begins_a_command = refl
 
 alt_ends_inserting : (read_by (in_mode Insert) None alt_d_then_d).asks ≡ DoneInserting ∷ []
-unfolding vi_command vi_counted vi_command_table vi_operation vi_search vi_beyond_searches vi_kept_search vi_motion vi_insert vi_insert_table vi_left
+unfolding counting followed vi_command vi_counted vi_command_table vi_insert vi_insert_table vi_left deed_of motion_of
 alt_ends_inserting = refl
 
 typed_characters_go_on_with_a_change : (read_by (record (in_mode Insert) { last = Replace WholeLine None }) None (typed (codes "a"))).input.last ≡ Replace WholeLine None
-unfolding vi_command vi_counted vi_command_table vi_operation vi_search vi_beyond_searches vi_kept_search vi_motion vi_insert vi_insert_table vi_left
+unfolding counting followed vi_command vi_counted vi_command_table vi_insert vi_insert_table vi_left deed_of motion_of
 typed_characters_go_on_with_a_change = refl
 
 the_first_character_is_the_last_change : (read_by (in_mode Insert) None (typed (codes "a"))).input.last ≡ SelfInsert 1 97
-unfolding vi_command vi_counted vi_command_table vi_operation vi_search vi_beyond_searches vi_kept_search vi_motion vi_insert vi_insert_table vi_left
+unfolding counting followed vi_command vi_counted vi_command_table vi_insert vi_insert_table vi_left deed_of motion_of
 the_first_character_is_the_last_change = refl

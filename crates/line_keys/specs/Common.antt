@@ -11,11 +11,10 @@ use Rattle.line_keys.specs.declared.key.KeyCode.TheVariants.{BracketedPasteStart
 use Rattle.line_keys.specs.declared.key.KeyEvent.{KeyEvent}
 use Rattle.line_keys.specs.declared.keymap.custom.Followed.{Followed}
 use Rattle.line_keys.specs.declared.keymap.custom.Followed.TheVariants.{Bound, Unbound}
-use Rattle.line_keys.specs.Coming.{Coming}
-use Rattle.line_keys.specs.Custom.{Situation, following}
+use Rattle.line_keys.specs.Custom.{Situation, followed}
 use Rattle.line_keys.specs.Keys.{key_with, none}
 use Rattle.line_keys.specs.Modes.{is_emacs}
-use Rattle.line_keys.specs.Phrases.{Taken, answered, then_read, with_paste}
+use Rattle.line_keys.specs.Phrases.{Part, answered, and_then, with_paste}
 use Rattle.line_keys.specs.Refreshing.{Shown}
 use Rattle.line_keys.specs.SameKeys.{same_key}
 use Rattle.line_keys.specs.Signals.{signal_of}
@@ -66,21 +65,19 @@ abbrev pub bound_command : Followed → Cmd
 bound_command (Bound cmd) = cmd
 bound_command (Unbound second) = Unknown
 
-abbrev pub sequence : Situation → KeyEvent → Coming → Taken Cmd
-sequence s k c = then_read (λ f rest. answered (bound_command f) rest) (following s (k ∷ []) c)
+abbrev pub sequence : Situation → KeyEvent → Part Cmd
+sequence s k = and_then s.input s.shown (followed s k) (λ f input shown. answered (bound_command f))
 
 -- what no row has: the beginning of a paste, whose text is read, and custom sequences
-abbrev pub beyond_rows : Situation → KeyEvent → Coming → Taken Cmd
-beyond_rows s k c =
-    if same_key k (key_with BracketedPasteStart none) then with_paste (λ text rest. answered (Insert 1 text) rest) c
-    else sequence s k c
+abbrev pub beyond_rows : Situation → KeyEvent → Part Cmd
+beyond_rows s k = if same_key k (key_with BracketedPasteStart none) then with_paste (λ text. answered (Insert 1 text)) else sequence s k
 
-abbrev pub row_or : Taken Cmd → Coming → Option Cmd → Taken Cmd
-row_or other c (Some cmd) = answered cmd c
-row_or other c None = other
+abbrev pub row_or : Part Cmd → Option Cmd → Part Cmd
+row_or other (Some cmd) = answered cmd
+row_or other None = other
 
-abbrev pub common : Situation → KeyEvent → Coming → Taken Cmd
-common s k c = row_or (beyond_rows s k c) c (looked_up s k (common_rows s.input.mode))
+abbrev pub common : Situation → KeyEvent → Part Cmd
+common s k = row_or (beyond_rows s k) (looked_up s k (common_rows s.input.mode))
 
 -- the command of a key that the terminal has a meaning for; the end of input is one in an empty line alone
 abbrev pub if_empty : Shown → Option Cmd → Option Cmd

@@ -1,14 +1,17 @@
 -- Counts: how the digits before a key make one, with a prompt for each.
 use Rattle.std.specs.Prelude.{ℕ, ◌+◌, ◌-◌, ◌*◌, ◌==◌, nat_le, nat_lt, Bool, true, false, not, ◌&&◌, ◌||◌, List, [], ◌∷◌, ◌++◌, Option, Some, None, Ok, codes, decimal, if◌then◌else◌}
 use Rattle.line_config.specs.declared.errors.ReadlineError.TheVariants.{PasteOutOfPlace}
+use Rattle.line_config.specs.declared.settings.EditMode.{EditMode}
+use Rattle.line_config.specs.declared.settings.EditMode.TheVariants.{Emacs, Vi}
 use Rattle.line_keys.specs.declared.key.KeyCode.{KeyCode}
 use Rattle.line_keys.specs.declared.key.KeyCode.TheVariants.{Char}
 use Rattle.line_keys.specs.declared.key.KeyEvent.{KeyEvent}
 use Rattle.line_keys.specs.declared.keymap.count.Count.{Count}
 use Rattle.line_keys.specs.declared.keymap.count.Counted.{Counted}
-use Rattle.line_keys.specs.Coming.{Coming, Pressed, Pasted, CutOff, Ends, Refused, refusal_of}
+use Rattle.line_keys.specs.Coming.{Coming, Pressed, Pasted, CutOff, Ends as NoMore, Refused, refusal_of}
 use Rattle.line_keys.specs.Refreshing.{Line, Prompted}
-use Rattle.line_keys.specs.Phrases.{Input, Part, asking, stopped}
+use Rattle.line_keys.specs.Feeds.{Key}
+use Rattle.line_keys.specs.Phrases.{Script, Ends, Needs, Asks, Reads, Part, asking, refused}
 
 abbrev pub count_of : Bool → ℕ → Count
 count_of positive amount = record { amount = amount; positive = positive }
@@ -44,8 +47,32 @@ abbrev pub counted_code : Count → KeyCode → ℕ → Option Count
 counted_code c (Char char) modifiers = if (modifiers == 0) || (modifiers == 4) then counted_char c char else None
 counted_code c code modifiers = None
 
-abbrev pub counted_on : Count → KeyEvent → Option Count
-counted_on c k = counted_code c k.0 k.1.0
+abbrev pub emacs_counted_on : Count → KeyEvent → Option Count
+emacs_counted_on c k = counted_code c k.0 k.1.0
+
+-- the digit that a key without modifiers is: 30 is 0, 39 is 9
+abbrev pub digit_char : ℕ → Option ℕ
+digit_char char = if nat_le 0x30 char && nat_le char 0x39 then Some (char - 0x30) else None
+
+abbrev pub digit_code : KeyCode → ℕ → Option ℕ
+digit_code (Char char) modifiers = if modifiers == 0 then digit_char char else None
+digit_code code modifiers = None
+
+abbrev pub digit_of : KeyEvent → Option ℕ
+digit_of k = digit_code k.0 k.1.0
+
+-- one more digit of a count; any other key ends it
+abbrev pub one_more : Count → Option ℕ → Option Count
+one_more c (Some d) = Some (count_and c d)
+one_more c None = None
+
+abbrev pub vi_counted_on : Count → KeyEvent → Option Count
+vi_counted_on c k = one_more c (digit_of k)
+
+-- one more key of a count
+abbrev pub counted_on : EditMode → Count → KeyEvent → Option Count
+counted_on Emacs = emacs_counted_on
+counted_on Vi = vi_counted_on
 
 -- the count that a key begins in Emacs mode: Alt with a digit or a minus
 abbrev pub begun_char : ℕ → Option Count
@@ -62,14 +89,19 @@ abbrev pub begun_by : KeyEvent → Option Count
 begun_by k = begun_code k.0 k.1.0
 
 -- what a key is to a count so far: one more of its keys, or the one behind it, before which the line is drawn anew
-abbrev pub counting_by : (Count → Part Counted) → Input → Count → KeyEvent → Coming → Option Count → Part Counted
-counting_by more input c k rest (Some d) = more d
-counting_by more input c k rest None = record { answer = Ok (record { count = c; key = k }); input = input; asks = Line ∷ []; rest = rest }
+abbrev pub counting_by : (Count → Script Counted) → Count → KeyEvent → Option Count → Script Counted
+counting_by more c k (Some d) = more d
+counting_by more c k None = Asks Line (λ shown. Ends (Ok (record { count = c; key = k })))
 
 -- the rest of a count, with the keys that `on` says belong to it: before each further key a prompt is asked for
-abbrev pub counting : (Count → KeyEvent → Option Count) → Input → Count → Coming → Part Counted
-counting on input c (Pressed k rest) = asking (Prompted (prompt_for c)) (counting_by (λ d. counting on input d rest) input c k rest (on c k))
-counting on input c (Pasted text rest) = asking (Prompted (prompt_for c)) (stopped input PasteOutOfPlace)
-counting on input c (CutOff last) = asking (Prompted (prompt_for c)) (stopped input PasteOutOfPlace)
-counting on input c (Ends last) = asking (Prompted (prompt_for c)) (stopped input (refusal_of last))
-counting on input c (Refused why) = asking (Prompted (prompt_for c)) (stopped input why)
+abbrev pub counting_read : (Count → KeyEvent → Option Count) → Count → Part Counted
+counting_read on c (Pressed k rest) =
+    Reads Key rest (counting_by (λ d. Needs (Asks (Prompted (prompt_for d)) (λ shown. counting_read on d rest))) c k (on c k))
+counting_read on c (Pasted text rest) = refused PasteOutOfPlace
+counting_read on c (CutOff last) = refused PasteOutOfPlace
+counting_read on c (NoMore last) = refused (refusal_of last)
+counting_read on c (Refused why) = refused why
+
+-- a prompt takes memory
+unfoldable pub counting : (Count → KeyEvent → Option Count) → Count → Part Counted
+counting on c coming = Needs (asking (Prompted (prompt_for c)) (λ shown. counting_read on c) coming)

@@ -2,31 +2,20 @@
 use Rattle.std.specs.Prelude.{ℕ, Bool, List, [], ◌∷◌, ◌++◌, Option, Some, None, Result, Ok, Err, slice_get, if◌then◌else◌}
 use Rattle.line_config.specs.declared.errors.ReadlineError.{ReadlineError}
 use Rattle.line_config.specs.declared.errors.ReadlineError.TheVariants.{PasteOutOfPlace}
-use Rattle.line_keys.specs.declared.binding.Entry.{Entry}
 use Rattle.line_keys.specs.declared.command.Cmd.{Cmd}
 use Rattle.line_keys.specs.declared.events.Event.{Event}
 use Rattle.line_keys.specs.declared.events.Event.TheVariants.{Any, KeySeq}
 use Rattle.line_keys.specs.declared.key.KeyEvent.{KeyEvent}
 use Rattle.line_keys.specs.declared.keymap.custom.Followed.{Followed}
 use Rattle.line_keys.specs.declared.keymap.custom.Followed.TheVariants.{Bound, Unbound}
-use Rattle.line_keys.specs.Answers.{binds, command_by}
-use Rattle.line_keys.specs.Bound.{begins as some_begins}
-use Rattle.line_keys.specs.Coming.{Coming, Pressed, Pasted, CutOff, Ends, Refused, refusal_of}
+use Rattle.line_keys.specs.Answers.{Custom, answer_by}
+use Rattle.line_keys.specs.Coming.{Coming, Pressed, Pasted, CutOff, Ends as NoMore, Refused, refusal_of}
 use Rattle.line_keys.specs.Events.{single}
+use Rattle.line_keys.specs.Feeds.{Key}
 use Rattle.line_keys.specs.Handling.{Meaning, Showing}
-use Rattle.line_keys.specs.Phrases.{Input, Taken, answered, at_once, refused}
+use Rattle.line_keys.specs.Phrases.{Input, Script, Ends, Needs, Reads, Part, answered, deciding, refused}
 use Rattle.line_keys.specs.Refreshing.{Shown}
 use Rattle.line_keys.specs.Showing.{seen_of}
-
--- the bindings as plain functions
-pub record Custom : Type 0 where
-  -- what an event is bound to answers of what it is shown
-  pub answers : Event → Option Meaning
-  -- some bound sequence begins with these keys, or is these
-  pub begins : List KeyEvent → Bool
-
-abbrev pub custom_of : {D : Type 0} → List (Entry D) → (D → Meaning) → Custom
-custom_of entries means = record { answers = binds entries means; begins = λ keys. some_begins keys entries }
 
 -- all by which a key behind its count is decided
 pub record Situation : Type 0 where
@@ -43,11 +32,6 @@ situation custom input shown n positive = record { custom = custom; input = inpu
 abbrev pub shown_for : Situation → Event → Showing
 shown_for s e = record { event = e; count = s.n; positive = s.positive; seen = seen_of s.input.mode s.input.input_mode s.shown }
 
--- what is bound, if anything, answers a command, nothing, or a failure
-abbrev pub answer_by : Option Meaning → Showing → Result (Option Cmd) ReadlineError
-answer_by None s = Ok None
-answer_by (Some meaning) s = command_by (meaning s)
-
 -- the binding of one key, else that of any
 abbrev pub or_any : Custom → Option Meaning → Option Meaning
 or_any custom (Some meaning) = Some meaning
@@ -63,20 +47,24 @@ sequence_answer s keys = answer_by (s.custom.answers (KeySeq keys)) (shown_for s
 -- ---- sequences: while the keys so far begin a bound one, or are it, one more is read
 
 -- a command ends the sequence, and where there is none the sequence goes on
-abbrev pub bound_by : Taken Followed → Coming → Result (Option Cmd) ReadlineError → Taken Followed
-bound_by more rest (Ok (Some cmd)) = answered (Bound cmd) rest
-bound_by more rest (Ok None) = more
-bound_by more rest (Err e) = at_once (Err e) rest
+abbrev pub bound_by : Script Followed → Option Cmd → Part Followed
+bound_by more (Some cmd) rest = Ends (Ok (Bound cmd))
+bound_by more None rest = more
 
 -- the keys read in vain are lost, but for the second
-abbrev pub in_vain : List KeyEvent → Coming → Taken Followed
-in_vain keys rest = answered (Unbound (slice_get keys 1)) rest
+abbrev pub in_vain : List KeyEvent → Part Followed
+in_vain keys = answered (Unbound (slice_get keys 1))
 
-abbrev pub following : Situation → List KeyEvent → Coming → Taken Followed
+abbrev pub following : Situation → List KeyEvent → Part Followed
 following s keys (Pressed k rest) =
-    if s.custom.begins keys then bound_by (following s (keys ++ k ∷ []) rest) rest (sequence_answer s (keys ++ k ∷ []))
+    if s.custom.begins keys
+    then Reads Key rest (deciding (bound_by (following s (keys ++ k ∷ []) rest)) (sequence_answer s (keys ++ k ∷ [])) rest)
     else in_vain keys (Pressed k rest)
 following s keys (Pasted text rest) = if s.custom.begins keys then refused PasteOutOfPlace else in_vain keys (Pasted text rest)
 following s keys (CutOff last) = if s.custom.begins keys then refused PasteOutOfPlace else in_vain keys (CutOff last)
-following s keys (Ends last) = if s.custom.begins keys then refused (refusal_of last) else in_vain keys (Ends last)
+following s keys (NoMore last) = if s.custom.begins keys then refused (refusal_of last) else in_vain keys (NoMore last)
 following s keys (Refused why) = if s.custom.begins keys then refused why else in_vain keys (Refused why)
+
+-- the sequence that begins with this key, which is kept in memory
+unfoldable pub followed : Situation → KeyEvent → Part Followed
+followed s k c = Needs (following s (k ∷ []) c)

@@ -15,16 +15,15 @@ use Rattle.line_keys.specs.declared.keymap.count.Count.{Count}
 use Rattle.line_keys.specs.declared.keymap.count.Counted.{Counted}
 use Rattle.line_keys.specs.declared.keymap.custom.Followed.{Followed}
 use Rattle.line_keys.specs.declared.keymap.custom.Followed.TheVariants.{Bound, Unbound}
-use Rattle.line_keys.specs.Coming.{Coming}
-use Rattle.line_keys.specs.Commands.{standing}
 use Rattle.line_keys.specs.Common.{common, looked_up, row_or, terminal_command}
 use Rattle.line_keys.specs.Counts.{begun_by, counted_on, counting, no_count}
 use Rattle.line_keys.specs.Counts as count
-use Rattle.line_keys.specs.Custom.{Custom, Situation, situation, custom_answer, following}
+use Rattle.line_keys.specs.Answers.{Custom}
+use Rattle.line_keys.specs.Custom.{Situation, situation, custom_answer, followed}
 use Rattle.line_keys.specs.Keys.{key_with, modifiers_of, ctrl}
-use Rattle.line_keys.specs.Phrases.{Input, Taken, Phrase, answered, at_once, then_read, with_key, quiet, and_then}
-use Rattle.line_keys.specs.Redone.{redone}
-use Rattle.line_keys.specs.Refreshing.{Shown, Ask}
+use Rattle.line_keys.specs.Phrases.{Input, Part, Phrase, answered, deciding, from_key, and_then}
+use Rattle.line_keys.specs.Redone.{anew_or}
+use Rattle.line_keys.specs.Refreshing.{Shown}
 use Rattle.line_keys.specs.SameKeys.{same_key}
 use Rattle.line_keys.specs.Tables.{Row, row, times, signed, moves, kills, only, look}
 
@@ -113,13 +112,13 @@ abbrev pub second_command : ℕ → Bool → KeyEvent → Cmd
 second_command n positive k = unwrap_or (look empty n positive k ctrl_x_rows) Unknown
 
 -- the command behind a sequence read in vain: its second key decides, read now if it wasn't
-abbrev pub behind_ctrl_x : Situation → Followed → Coming → Taken Cmd
-behind_ctrl_x s (Bound cmd) rest = answered cmd rest
-behind_ctrl_x s (Unbound (Some k)) rest = answered (second_command s.n s.positive k) rest
-behind_ctrl_x s (Unbound None) rest = with_key (λ k later. answered (second_command s.n s.positive k) later) rest
+abbrev pub behind_ctrl_x : ℕ → Bool → Followed → Part Cmd
+behind_ctrl_x n positive (Bound cmd) = answered cmd
+behind_ctrl_x n positive (Unbound (Some k)) = answered (second_command n positive k)
+behind_ctrl_x n positive (Unbound None) = from_key (second_command n positive)
 
-abbrev pub ctrl_x : Situation → KeyEvent → Coming → Taken Cmd
-ctrl_x s k c = then_read (behind_ctrl_x s) (following s (k ∷ []) c)
+abbrev pub ctrl_x : Situation → KeyEvent → Part Cmd
+ctrl_x s k = and_then s.input s.shown (followed s k) (λ f input shown. behind_ctrl_x s.n s.positive f)
 
 -- the character of a key without modifiers
 abbrev pub char_code : KeyCode → ℕ → Option ℕ
@@ -135,46 +134,42 @@ searched n forward (Some c) = Move (ViCharSearch n (if forward then ForwardBefor
 searched n forward None = Unknown
 
 -- the character is that of the next key
-abbrev pub char_search : ℕ → Bool → Coming → Taken Cmd
-char_search n forward c = with_key (λ k rest. answered (searched n forward (plain_char k)) rest) c
+abbrev pub char_search : ℕ → Bool → Part Cmd
+char_search n forward = from_key (λ k. searched n forward (plain_char k))
 
 -- C-X is 58; C-] is 5D, and with Alt too it searches the other way
-abbrev pub emacs_beyond_rows : Situation → KeyEvent → Coming → Taken Cmd
-emacs_beyond_rows s k c =
-    if same_key k (key_with (Char 0x58) ctrl) then ctrl_x s k c
-    else if same_key k (key_with (Char 0x5D) ctrl) then char_search s.n s.positive c
-    else if same_key k (key_with (Char 0x5D) (modifiers_of 12)) then char_search s.n (not s.positive) c
-    else common s k c
+abbrev pub emacs_beyond_rows : Situation → KeyEvent → Part Cmd
+emacs_beyond_rows s k =
+    if same_key k (key_with (Char 0x58) ctrl) then ctrl_x s k
+    else if same_key k (key_with (Char 0x5D) ctrl) then char_search s.n s.positive
+    else if same_key k (key_with (Char 0x5D) (modifiers_of 12)) then char_search s.n (not s.positive)
+    else common s k
 
 -- a character is typed as often as the count says, but not less than no times
-abbrev pub typed_or : Situation → Taken Cmd → Coming → Option ℕ → Taken Cmd
-typed_or s other rest (Some c) = answered (if s.positive then SelfInsert s.n c else Unknown) rest
-typed_or s other rest None = other
+abbrev pub typed_or : Situation → Part Cmd → Option ℕ → Part Cmd
+typed_or s other (Some c) = answered (if s.positive then SelfInsert s.n c else Unknown)
+typed_or s other None = other
 
-abbrev pub emacs_command : Situation → KeyEvent → Coming → Taken Cmd
-emacs_command s k c = typed_or s (row_or (emacs_beyond_rows s k c) c (looked_up s k emacs_rows)) c (plain_char k)
+abbrev pub emacs_command : Situation → KeyEvent → Part Cmd
+emacs_command s k = typed_or s (row_or (emacs_beyond_rows s k) (looked_up s k emacs_rows)) (plain_char k)
 
--- a bound command, made as often as the count says
-abbrev pub made_anew : ℕ → Shown → Cmd → Cmd
-made_anew n shown cmd = if (standing cmd).repeats then redone (Some n) shown.last_insert cmd else cmd
+-- a bound command is made as often as the count says
+abbrev pub bound_or : Situation → Part Cmd → Option Cmd → Part Cmd
+bound_or s other (Some cmd) = anew_or cmd (Some s.n) s.shown cmd
+bound_or s other None = other
 
 -- a custom binding comes first, then the terminal's, then the table
-abbrev pub bound_or : Situation → Taken Cmd → Coming → Result (Option Cmd) ReadlineError → Taken Cmd
-bound_or s other c (Ok (Some cmd)) = answered (made_anew s.n s.shown cmd) c
-bound_or s other c (Ok None) = other
-bound_or s other c (Err e) = at_once (Err e) c
-
-abbrev pub emacs_decided : Situation → KeyEvent → Coming → Taken Cmd
-emacs_decided s k c = bound_or s (row_or (emacs_command s k c) c (terminal_command s.shown k)) c (custom_answer s k)
+abbrev pub emacs_decided : Situation → KeyEvent → Part Cmd
+emacs_decided s k = deciding (bound_or s (row_or (emacs_command s k) (terminal_command s.shown k))) (custom_answer s k)
 
 -- the key behind a count
-abbrev pub emacs_counted : Custom → Counted → Input → Shown → Coming → Phrase
-emacs_counted custom f input shown c = quiet input (emacs_decided (situation custom input shown (count.times f.count) f.count.positive) f.key c)
+abbrev pub emacs_counted : Custom → Counted → Input → Shown → Phrase
+emacs_counted custom f input shown = emacs_decided (situation custom input shown (count.times f.count) f.count.positive) f.key
 
-abbrev pub emacs_begun : Custom → (Shown → Ask → Shown) → Input → Shown → KeyEvent → Coming → Option Count → Phrase
-emacs_begun custom rule input shown k rest (Some c) = and_then rule shown (counting counted_on input c rest) (λ f kept shown rest. emacs_counted custom f input shown rest)
-emacs_begun custom rule input shown k rest None = emacs_counted custom (record { count = no_count; key = k }) input shown rest
+abbrev pub emacs_begun : Custom → Input → Shown → KeyEvent → Option Count → Phrase
+emacs_begun custom input shown k (Some c) = and_then input shown (counting (counted_on input.mode) c) (emacs_counted custom)
+emacs_begun custom input shown k None = emacs_counted custom (record { count = no_count; key = k }) input shown
 
 -- the phrase that begins with the key k
-abbrev pub emacs_phrase : Custom → (Shown → Ask → Shown) → Input → Shown → KeyEvent → Coming → Phrase
-emacs_phrase custom rule input shown k rest = emacs_begun custom rule input shown k rest (begun_by k)
+abbrev pub emacs_phrase : Custom → Input → Shown → KeyEvent → Phrase
+emacs_phrase custom input shown k = emacs_begun custom input shown k (begun_by k)

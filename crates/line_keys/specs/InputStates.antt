@@ -1,7 +1,8 @@
 -- The value of an input state, and what it makes of a key's surroundings.
 use Rattle.std.specs.Prelude.{ℕ, Bool}
 use Rattle.line_keys.specs.declared.keymap.InputState.{InputState}
-use Rattle.line_keys.specs.Custom.{Custom, custom_of, Situation, situation}
+use Rattle.line_keys.specs.Answers.{Custom, custom_of}
+use Rattle.line_keys.specs.Custom.{Situation, situation}
 use Rattle.line_keys.specs.Handling.{Meaning}
 use Rattle.line_keys.specs.Phrases.{Input}
 use Rattle.line_keys.specs.Refreshing.{Shown}
@@ -11,7 +12,7 @@ input_of s = record { mode = s.mode; input_mode = s.input_mode; last = s.last_cm
 
 -- its bindings; a handler's meaning is handed in, since it comes with its box
 abbrev pub custom_in : {D : Type 0} → InputState D → (D → Meaning) → Custom
-custom_in s means = custom_of s.custom_bindings.now.entries.items means
+custom_in s means = custom_of s.custom_bindings.now means
 
 abbrev pub situation_in : {D : Type 0} → InputState D → (D → Meaning) → Shown → ℕ → Bool → Situation
 situation_in s means shown n positive = situation (custom_in s means) (input_of s) shown n positive

@@ -1,12 +1,13 @@
--- Phrases: what one command takes of the input, what it asks of the display, and what it leaves.
-use Rattle.std.specs.Prelude.{ℕ, List, [], ◌∷◌, ◌++◌, Option, Result, Ok, Err, fold}
+-- Phrases: what one command takes of the input, asks of the display and keeps, step by step, and its answer.
+use Rattle.std.specs.Prelude.{ℕ, List, Option, Result, Ok, Err}
 use Rattle.line_buffer.specs.declared.types.CharSearch.{CharSearch}
 use Rattle.line_config.specs.declared.settings.EditMode.{EditMode}
 use Rattle.line_config.specs.declared.errors.ReadlineError.{ReadlineError}
 use Rattle.line_keys.specs.declared.command.Cmd.{Cmd}
 use Rattle.line_keys.specs.declared.command.InputMode.{InputMode}
 use Rattle.line_keys.specs.declared.key.KeyEvent.{KeyEvent}
-use Rattle.line_keys.specs.Coming.{Coming, Pressed, Pasted, CutOff, Ends, Refused, key_at, paste_at, left_by}
+use Rattle.line_keys.specs.Coming.{Coming, behind, key_at, from_key_at, paste_at, left_by}
+use Rattle.line_keys.specs.Feeds.{Item, Key, Paste}
 use Rattle.line_keys.specs.Refreshing.{Shown, Ask}
 
 -- what is kept from one command to the next
@@ -18,83 +19,84 @@ pub record Input : Type 0 where
   -- Vi's last search for a character, if there was one
   pub search : Option CharSearch
 
--- ---- what only reads
+-- ---- steps, in order, and the answer behind them
 
--- an answer, or the refusal at which reading stops, and what is left to come after either
-pub record Taken (X : Type 0) : Type 0 where
-  pub answer : Result X ReadlineError
-  pub rest : Coming
+pub data Script (X : Type 0) : Type 0 where
+  Ends : (answer : Result X ReadlineError) → Script X
+  -- memory is taken
+  Needs : (later : Script X) → Script X
+  -- asked of the display; what follows may depend on what is shown then
+  Asks : (ask : Ask) → (later : Shown → Script X) → Script X
+  -- a key or a paste is taken, or refused, and this is to come behind it
+  Reads : (item : Item) → (rest : Coming) → (later : Script X) → Script X
+  -- this is kept from now on
+  Becomes : (input : Input) → (later : Script X) → Script X
 
-abbrev pub answered : {X : Type 0} → X → Coming → Taken X
-answered x rest = record { answer = Ok x; rest = rest }
-
--- nothing is read
-abbrev pub at_once : {X : Type 0} → Result X ReadlineError → Coming → Taken X
-at_once r rest = record { answer = r; rest = rest }
-
--- reading is refused
-abbrev pub refused : {X : Type 0} → ReadlineError → Taken X
-refused e = record { answer = Err e; rest = left_by e }
-
--- what stands behind the next key or paste
-abbrev pub behind : Coming → Coming
-behind (Pressed k rest) = rest
-behind (Pasted text rest) = rest
-behind (CutOff last) = CutOff last
-behind (Ends last) = Ends last
-behind (Refused why) = Refused why
-
-abbrev pub read_by : {X Y : Type 0} → (X → Coming → Taken Y) → Result X ReadlineError → Coming → Taken Y
-read_by next (Ok x) rest = next x rest
-read_by next (Err e) rest = refused e
-
--- one key is read
-abbrev pub with_key : {Y : Type 0} → (KeyEvent → Coming → Taken Y) → Coming → Taken Y
-with_key next c = read_by next (key_at c) (behind c)
-
--- a pasted text is read
-abbrev pub with_paste : {Y : Type 0} → (List ℕ → Coming → Taken Y) → Coming → Taken Y
-with_paste next c = read_by next (paste_at c) (behind c)
-
-abbrev pub then_read_by : {X Y : Type 0} → (X → Coming → Taken Y) → Result X ReadlineError → Coming → Taken Y
-then_read_by next (Ok x) rest = next x rest
-then_read_by next (Err e) rest = record { answer = Err e; rest = rest }
-
--- one reading, then what its answer leads to
-abbrev pub then_read : {X Y : Type 0} → (X → Coming → Taken Y) → Taken X → Taken Y
-then_read next t = then_read_by next t.answer t.rest
-
--- ---- what asks too
-
--- a part of a phrase: also what is kept, and what was asked until the answer
-pub record Part (X : Type 0) : Type 0 where
-  pub answer : Result X ReadlineError
-  pub input : Input
-  pub asks : List Ask
-  pub rest : Coming
+-- the steps depend on what comes
+abbrev pub Part : Type 0 → Type 0
+Part X = Coming → Script X
 
 abbrev pub Phrase : Type 0
 Phrase = Part Cmd
 
--- a part that asks nothing and keeps what was kept
-abbrev pub quiet : {X : Type 0} → Input → Taken X → Part X
-quiet input t = record { answer = t.answer; input = input; asks = []; rest = t.rest }
+abbrev pub at_once : {X : Type 0} → Result X ReadlineError → Part X
+at_once r c = Ends r
 
--- reading is refused
-abbrev pub stopped : {X : Type 0} → Input → ReadlineError → Part X
-stopped input e = record { answer = Err e; input = input; asks = []; rest = left_by e }
+abbrev pub answered : {X : Type 0} → X → Part X
+answered x c = Ends (Ok x)
 
-abbrev pub asking : {X : Type 0} → Ask → Part X → Part X
-asking a p = record p { asks = a ∷ p.asks }
+-- an answer that takes memory
+abbrev pub granted : {X : Type 0} → X → Part X
+granted x c = Needs (Ends (Ok x))
 
--- the part behind the one that asked and is answered
-abbrev pub asked_before : {X : Type 0} → List Ask → Part X → Part X
-asked_before asks p = record p { asks = asks ++ p.asks }
+abbrev pub read_by : {X Y : Type 0} → Item → (X → Part Y) → Result X ReadlineError → Coming → Script Y
+read_by item next (Ok x) rest = Reads item rest (next x rest)
+read_by item next (Err e) rest = Reads item (left_by e) (Ends (Err e))
 
-abbrev pub then_by : {X Y : Type 0} → (Shown → Ask → Shown) → Shown → (X → Input → Shown → Coming → Part Y) → Result X ReadlineError → Input → List Ask → Coming → Part Y
-then_by rule shown next (Ok x) input asks rest = asked_before asks (next x input (fold rule shown asks) rest)
-then_by rule shown next (Err e) input asks rest = record { answer = Err e; input = input; asks = asks; rest = rest }
+abbrev pub with_read : {X Y : Type 0} → Item → (Coming → Result X ReadlineError) → (X → Part Y) → Part Y
+with_read item at next c = read_by item next (at c) (behind c)
 
--- a part, then what its answer leads to, to which all is shown as the asks left it
-abbrev pub and_then : {X Y : Type 0} → (Shown → Ask → Shown) → Shown → Part X → (X → Input → Shown → Coming → Part Y) → Part Y
-and_then rule shown p next = then_by rule shown next p.answer p.input p.asks p.rest
+-- reading a key is refused
+abbrev pub refused : {X : Type 0} → ReadlineError → Script X
+refused e = Reads Key (left_by e) (Ends (Err e))
+
+-- one key is read
+abbrev pub with_key : {Y : Type 0} → (KeyEvent → Part Y) → Part Y
+with_key = with_read Key key_at
+
+-- one key is read, and this is made of it
+abbrev pub from_key : {X : Type 0} → (KeyEvent → X) → Part X
+from_key f = with_read Key (from_key_at f) answered
+
+-- a pasted text is read
+abbrev pub with_paste : {Y : Type 0} → (List ℕ → Part Y) → Part Y
+with_paste = with_read Paste paste_at
+
+abbrev pub asking : {X : Type 0} → Ask → (Shown → Part X) → Part X
+asking ask next c = Asks ask (λ shown. next shown c)
+
+abbrev pub becoming : {X : Type 0} → Input → Part X → Part X
+becoming input next c = Becomes input (next c)
+
+abbrev pub decided_by : {X Y : Type 0} → (X → Part Y) → Result X ReadlineError → Part Y
+decided_by next (Ok x) = next x
+decided_by next (Err e) = at_once (Err e)
+
+-- what a binding answers, for which memory is taken, leads on
+abbrev pub deciding : {X Y : Type 0} → (X → Part Y) → Result X ReadlineError → Part Y
+deciding next r c = Needs (decided_by next r c)
+
+abbrev pub after_by : {X Y : Type 0} → (X → Input → Shown → Part Y) → Input → Shown → Coming → Result X ReadlineError → Script Y
+after_by next input shown c (Ok x) = next x input shown c
+after_by next input shown c (Err e) = Ends (Err e)
+
+abbrev pub after : {X Y : Type 0} → (X → Input → Shown → Part Y) → Input → Shown → Coming → Script X → Script Y
+after next input shown c (Ends r) = after_by next input shown c r
+after next input shown c (Needs later) = Needs (after next input shown c later)
+after next input shown c (Asks ask later) = Asks ask (λ seen. after next input seen c (later seen))
+after next input shown c (Reads item rest later) = Reads item rest (after next input shown rest later)
+after next input shown c (Becomes kept later) = Becomes kept (after next kept shown c later)
+
+-- a part, then what its answer leads to, to which all is shown and kept as the steps left it
+abbrev pub and_then : {X Y : Type 0} → Input → Shown → Part X → (X → Input → Shown → Part Y) → Part Y
+and_then input shown p next c = after next input shown c (p c)

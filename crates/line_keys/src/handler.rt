@@ -27,7 +27,7 @@ impl<'r> EventContext<'r> {
 
     /// What a line shows, in these modes.
     pub fn new<W: Refresher>(mode: EditMode, input_mode: InputMode, wrt: &'r W) -> Self
-        ensures { seen_in result ≡ seen_of mode input_mode (W.shown wrt.now) }
+        ensures { seen_in result ≡ seen_of mode input_mode (W.display.shown wrt.now) }
     {
         EventContext {
             mode,

@@ -6,13 +6,10 @@ pub mod custom;
 pub mod emacs;
 pub mod vi;
 
-ghost use Rattle.std.specs.Prelude.{◌≡◌, ◌<◌, ◌≤◌, IsTrue, IfOk, IfErr, OnOk, MatchResult, None, [], refl};
-ghost use Rattle.line_config.specs.declared.errors.ReadlineError.{ReadlineError};
-ghost use Rattle.line_config.specs.declared.settings.EditMode.TheVariants.{Emacs, Vi};
-ghost use Rattle.line_config.specs.Refusals.{MetBy};
-ghost use Rattle.line_keys.specs.Faults.{IsReaderRefusal};
-ghost use Rattle.line_keys.specs.Coming.{Pressed, key_at, left_by};
-ghost use Rattle.line_keys.specs.Refreshing.{Asked};
+ghost use Rattle.std.specs.Prelude.{◌≡◌, ◌<◌, OnOk, MatchResult, None};
+ghost use Rattle.line_keys.specs.Coming.{key_at};
+ghost use Rattle.line_keys.specs.Feeds.{Key, ReadsBy};
+ghost use Rattle.line_keys.specs.Follows.{Follows};
 
 use crate::binding::EventMap;
 use crate::command::{Cmd, InputMode};
@@ -40,8 +37,7 @@ impl<'b, D: Decides> InputState<'b, D> {
     ghost use Rattle.line_keys.specs.declared.command.Cmd.TheVariants.{Noop};
     ghost use Rattle.line_keys.specs.declared.command.InputMode.TheVariants.{Command, Insert};
     ghost use Rattle.line_keys.specs.InputStates.{input_of, custom_in};
-    ghost use Rattle.line_keys.specs.Phrase.{phrase};
-    ghost use Rattle.line_keys.specs.Reasons.{Because};
+    ghost use Rattle.line_keys.specs.Phrase.{phrase, begun};
     ghost use Rattle.line_keys.specs.Modes.{is_emacs, is_vi_command};
 
     /// A state in the mode of the configuration, which remembers nothing.
@@ -78,7 +74,7 @@ impl<'b, D: Decides> InputState<'b, D> {
     ///
     /// `single_esc_abort` is handed to the reader. Where `ignore_external_print` is set the first key is asked for as
     /// a key, else as a report of the terminal.
-    #[tactic(auto, using(crate::proofs::EmacsCounts::emacs_keeps, crate::proofs::Refused::reader_because, crate::proofs::Asks::Asked_none))]
+    #[tactic(auto, using(crate::proofs::Following::read_stops, crate::proofs::Following::read_follows))]
     pub fn next_cmd<R: RawReader, W: Refresher>(
         &mut self,
         alloc: Global,
@@ -87,20 +83,35 @@ impl<'b, D: Decides> InputState<'b, D> {
         single_esc_abort: bool,
         ignore_external_print: bool,
     ) -> Result<Cmd, ReadlineError>
-        ensures answer { IsTrue (R.told rdr.old) → MetBy (R.steady rdr.old) result → result ≡ (phrase (custom_in self.old D.decides) (W.rule wrt.old) (input_of self.old) (W.shown wrt.old) (R.coming rdr.old)).answer }
-        ensures rest { IsTrue (R.told rdr.old) → MetBy (R.steady rdr.old) result → R.coming rdr.new ≡ (phrase (custom_in self.old D.decides) (W.rule wrt.old) (input_of self.old) (W.shown wrt.old) (R.coming rdr.old)).rest }
-        ensures asks { IsTrue (R.told rdr.old) → MetBy (R.steady rdr.old) result → Asked W.asked W.shown W.rule wrt.old (phrase (custom_in self.old D.decides) (W.rule wrt.old) (input_of self.old) (W.shown wrt.old) (R.coming rdr.old)).asks wrt.new }
-        ensures input { IsTrue (R.told rdr.old) → MetBy (R.steady rdr.old) result → input_of self.new ≡ (phrase (custom_in self.old D.decides) (W.rule wrt.old) (input_of self.old) (W.shown wrt.old) (R.coming rdr.old)).input }
-        ensures mode { self.new.mode ≡ self.old.mode }
+        ensures phrase { let custom = custom_in self.old D.decides in
+            let input = input_of self.old in
+            let coming = (R.feed rdr.old).coming in
+            Follows W.display custom (phrase custom input (W.display.shown wrt.old) coming)
+            wrt.old input wrt.new (input_of self.new) (R.feed rdr.old) (R.feed rdr.new) result }
         ensures bindings { self.new.custom_bindings ≡ self.old.custom_bindings }
-        ensures reason { IfErr result (λ e. Because (R.reason rdr.new) (W.reason wrt.new) (custom_in self.old D.decides) e) }
-        ensures told { IsTrue (R.told rdr.old) → IsTrue (R.told rdr.new) }
-        ensures steady { R.steady rdr.new ≡ R.steady rdr.old }
-        ensures falls { OnOk result (R.bound rdr.new < R.bound rdr.old) }
-        ensures keeps { R.bound rdr.new ≤ R.bound rdr.old }
+        ensures falls { OnOk result ((R.feed rdr.new).bound < (R.feed rdr.old).bound) }
     {
         let single_esc_abort = self.single_esc_abort(single_esc_abort);
         let key = first_key(rdr, single_esc_abort, ignore_external_print)?;
+        self.begun(alloc, rdr, wrt, key)
+    }
+
+    // The command that begins with this key.
+    #[tactic(auto, using(crate::proofs::Following::as_follows))]
+    fn begun<R: RawReader, W: Refresher>(
+        &mut self,
+        alloc: Global,
+        rdr: &mut R,
+        wrt: &mut W,
+        key: KeyEvent,
+    ) -> Result<Cmd, ReadlineError>
+        ensures phrase { let custom = custom_in self.old D.decides in
+            let input = input_of self.old in
+            let coming = (R.feed rdr.old).coming in
+            Follows W.display custom (begun input.mode custom input (W.display.shown wrt.old) key coming)
+            wrt.old input wrt.new (input_of self.new) (R.feed rdr.old) (R.feed rdr.new) result }
+        ensures bindings { self.new.custom_bindings ≡ self.old.custom_bindings }
+    {
         match self.mode {
             EditMode::Emacs => self.emacs(alloc, rdr, wrt, key),
             EditMode::Vi => self.vi(alloc, rdr, wrt, key),
@@ -116,20 +127,13 @@ impl<'b, D: Decides> InputState<'b, D> {
 }
 
 /// The first key of a command.
+#[tactic(auto, using(crate::proofs::KeyReads::key_of_press, crate::proofs::KeyReads::no_press))]
 fn first_key<R: RawReader>(
     rdr: &mut R,
     single_esc_abort: bool,
     ignore_external_print: bool,
 ) -> Result<KeyEvent, ReadlineError>
-    ensures answer { IsTrue (R.told rdr.old) → MetBy (R.steady rdr.old) result → result ≡ key_at (R.coming rdr.old) }
-    ensures ok { IsTrue (R.told rdr.old) → IfOk result (λ k. R.coming rdr.old ≡ Pressed k (R.coming rdr.new)) }
-    ensures err { IsTrue (R.told rdr.old) → IfErr result (λ e. R.coming rdr.new ≡ left_by e) }
-    ensures refused { IfErr result IsReaderRefusal }
-    ensures reason { IfErr result (λ e. R.reason rdr.new e) }
-    ensures told { IsTrue (R.told rdr.old) → IsTrue (R.told rdr.new) }
-    ensures steady { R.steady rdr.new ≡ R.steady rdr.old }
-    ensures falls { OnOk result (R.bound rdr.new < R.bound rdr.old) }
-    ensures keeps { R.bound rdr.new ≤ R.bound rdr.old }
+    ensures { ReadsBy Key key_at (R.feed rdr.old) (R.feed rdr.new) result }
 {
     if ignore_external_print {
         return rdr.next_key(single_esc_abort);

@@ -2,8 +2,8 @@
 
 ghost use Rattle.std.specs.Prelude.{◌≡◌, IfOk, IfErr, length, min, unwrap_or, []};
 ghost use Rattle.line_config.specs.declared.errors.ReadlineError.{ReadlineError};
-ghost use Rattle.line_keys.specs.declared.command.Cmd.TheVariants.{Replace};
-ghost use Rattle.line_keys.specs.Redone.{redone, typed_anew, covered};
+ghost use Rattle.line_keys.specs.declared.command.Cmd.TheVariants.{Noop, Replace};
+ghost use Rattle.line_keys.specs.Redone.{Anew, redone, typed_anew, covered};
 
 use crate::command::{Cmd, recounted};
 use crate::refresh::Refresher;
@@ -13,6 +13,38 @@ use line_config::ReadlineError;
 use std::alloc::Global;
 
 impl Cmd {
+    /// The command made anew, with another count if one is given, where it can be made anew; else itself.
+    pub(crate) fn made_anew<W: Refresher>(
+        self,
+        alloc: Global,
+        wrt: &W,
+        new: Option<RepeatCount>,
+    ) -> Result<Self, ReadlineError>
+        ensures { Anew self self new (W.display.shown wrt.now) result }
+    {
+        if self.is_repeatable() {
+            self.redo(alloc, new, wrt)
+        } else {
+            Ok(self)
+        }
+    }
+
+    /// The command made anew, with another count if one is given; `Noop` where it can't be made anew.
+    pub(crate) fn repeated<W: Refresher>(
+        &self,
+        alloc: Global,
+        wrt: &W,
+        new: Option<RepeatCount>,
+    ) -> Result<Self, ReadlineError>
+        ensures { Anew Noop self.now new (W.display.shown wrt.now) result }
+    {
+        if self.is_repeatable() {
+            self.redo(alloc, new, wrt)
+        } else {
+            Ok(Cmd::Noop)
+        }
+    }
+
     /// The command as it is made anew, with another count if one is given.
     ///
     /// What was typed is typed anew as the text that was inserted last. A replacement whose text wasn't known takes
@@ -24,7 +56,7 @@ impl Cmd {
         new: Option<RepeatCount>,
         wrt: &W,
     ) -> Result<Self, ReadlineError>
-        ensures ok { IfOk result (λ c. c ≡ redone new (W.shown wrt.now).last_insert self.now) }
+        ensures ok { IfOk result (λ c. c ≡ redone new (W.display.shown wrt.now).last_insert self.now) }
         ensures err { IfErr result (λ e. e ≡ ReadlineError.Memory) }
     {
         let anew = match self {

@@ -1,10 +1,8 @@
 //! The side of the terminal from which keys come.
 
-ghost use Rattle.std.specs.Prelude.{◌≡◌, ℕ, ◌<◌, ◌≤◌, Bool, Option, IsTrue, IfOk, IfErr, OnOk};
-ghost use Rattle.line_config.specs.declared.errors.ReadlineError.{ReadlineError};
-ghost use Rattle.line_config.specs.Refusals.{MetBy};
-ghost use Rattle.line_keys.specs.Faults.{IsReaderRefusal};
-ghost use Rattle.line_keys.specs.Coming.{Coming, Pressed, Pasted, key_at, key_in, press_at, paste_at, left_by};
+ghost use Rattle.std.specs.Prelude.{◌≡◌, Option};
+ghost use Rattle.line_keys.specs.Coming.{key_at, press_at, paste_at};
+ghost use Rattle.line_keys.specs.Feeds.{Feed, Key, Paste, ReadsBy, SomeRead};
 ghost use Rattle.line_keys.specs.Signals.{signal_of};
 
 use crate::command::Cmd;
@@ -21,24 +19,16 @@ pub enum Event {
 
 /// A source of keys and pasted texts.
 ///
-/// Where a reader is `told`, contracts know what is still to come from it. Where it is `steady`, it fails only where
-/// that says so. `bound` falls with each key and each paste, so that every loop which reads ends. `reason` is what
-/// has happened to the reader where it refuses a call, and `kept` what it has read ahead.
+/// `feed` is what is known of it. Where it is `told`, that says what is still to come. Where it is `steady`, it fails only
+/// where that says so. `bound` falls with each key and each paste, so that every loop which reads ends. `reason` is what
+/// has happened to the reader where it refuses a call. `kept` is what it has read ahead.
 ///
 /// A refusal other than the end of input is for good: every later call is refused in the same way.
 pub trait RawReader {
     /// What `unbuffer` gives back.
     type Buffer;
 
-    ghost told: { Self → Bool };
-
-    ghost coming: { Self → Coming };
-
-    ghost bound: { Self → ℕ };
-
-    ghost steady: { Self → Bool };
-
-    ghost reason: { Self → ReadlineError → Type 0 };
+    ghost feed: { Self → Feed };
 
     ghost kept: { Self → Option Self.Buffer };
 
@@ -46,27 +36,12 @@ pub trait RawReader {
     ///
     /// Where a pasted text is owed, the refusal is `PasteOutOfPlace` and nothing is read.
     fn next_key(&mut self, single_esc_abort: bool) -> Result<KeyEvent, ReadlineError>
-        ensures answer { IsTrue (told self.old) → MetBy (steady self.old) result → result ≡ key_at (coming self.old) }
-        ensures ok { IsTrue (told self.old) → IfOk result (λ k. coming self.old ≡ Pressed k (coming self.new)) }
-        ensures err { IsTrue (told self.old) → IfErr result (λ e. coming self.new ≡ left_by e) }
-        ensures refused { IfErr result IsReaderRefusal }
-        ensures reason { IfErr result (λ e. reason self.new e) }
-        ensures told { IsTrue (told self.old) → IsTrue (told self.new) }
-        ensures steady { steady self.new ≡ steady self.old }
-        ensures falls { OnOk result (bound self.new < bound self.old) }
-        ensures keeps { bound self.new ≤ bound self.old };
+        ensures { ReadsBy Key key_at (feed self.old) (feed self.new) result };
 
     /// The next report of the terminal: a key.
+    #[tactic(auto, using(crate::proofs::KeyReads::made_of_read))]
     fn wait_for_input(&mut self, single_esc_abort: bool) -> Result<Event, ReadlineError>
-        ensures answer { IsTrue (told self.old) → MetBy (steady self.old) result → result ≡ press_at (coming self.old) }
-        ensures ok { IsTrue (told self.old) → IfOk result (λ e. coming self.old ≡ Pressed (key_in e) (coming self.new)) }
-        ensures err { IsTrue (told self.old) → IfErr result (λ e. coming self.new ≡ left_by e) }
-        ensures refused { IfErr result IsReaderRefusal }
-        ensures reason { IfErr result (λ e. reason self.new e) }
-        ensures told { IsTrue (told self.old) → IsTrue (told self.new) }
-        ensures steady { steady self.new ≡ steady self.old }
-        ensures falls { OnOk result (bound self.new < bound self.old) }
-        ensures keeps { bound self.new ≤ bound self.old }
+        ensures { ReadsBy Key press_at (feed self.old) (feed self.new) result }
     {
         let key = self.next_key(single_esc_abort)?;
         Ok(Event::KeyPress(key))
@@ -74,25 +49,12 @@ pub trait RawReader {
 
     /// The next character, whatever keys it would belong to. What is left to come after it each reader says for itself.
     fn next_char(&mut self) -> Result<char, ReadlineError>
-        ensures refused { IfErr result IsReaderRefusal }
-        ensures reason { IfErr result (λ e. reason self.new e) }
-        ensures told { IsTrue (told self.old) → IsTrue (told self.new) }
-        ensures steady { steady self.new ≡ steady self.old }
-        ensures falls { OnOk result (bound self.new < bound self.old) }
-        ensures keeps { bound self.new ≤ bound self.old };
+        ensures { SomeRead (feed self.old) (feed self.new) result };
 
     /// The text that the key `BracketedPasteStart` announced, asked for right after that key. At any other time the
     /// refusal is `PasteOutOfPlace` and nothing is read.
     fn read_pasted_text(&mut self, alloc: Global) -> Result<Text, ReadlineError>
-        ensures answer { IsTrue (told self.old) → MetBy (steady self.old) result → result ≡ paste_at (coming self.old) }
-        ensures ok { IsTrue (told self.old) → IfOk result (λ t. coming self.old ≡ Pasted t (coming self.new)) }
-        ensures err { IsTrue (told self.old) → IfErr result (λ e. coming self.new ≡ left_by e) }
-        ensures refused { IfErr result IsReaderRefusal }
-        ensures reason { IfErr result (λ e. reason self.new e) }
-        ensures told { IsTrue (told self.old) → IsTrue (told self.new) }
-        ensures steady { steady self.new ≡ steady self.old }
-        ensures falls { OnOk result (bound self.new < bound self.old) }
-        ensures keeps { bound self.new ≤ bound self.old };
+        ensures { ReadsBy Paste paste_at (feed self.old) (feed self.new) result };
 
     /// The command of a key that a terminal would send as a signal or as the end of input.
     fn find_binding(&self, key: &KeyEvent) -> Option<Cmd>

@@ -9,7 +9,7 @@ use Rattle.std.proofs.lemmas.List.Quantifiers.{position-Some}
 use Rattle.line_record.specs.Edit.{Edit, newest_of, all_taken_back, AllStandIn, undo_place, taken_back, StandsIn}
 use Rattle.line_record.specs.Held.{Held, has_mark, closes, grouped, ended}
 use Rattle.line_record.specs.Held.Held.{Stepped}
-use Rattle.line_record.specs.Items.{Item, changes_of, text_before, done_held, DoneStand, gathered, group_of, EndedBy}
+use Rattle.line_record.specs.Items.{Item, changes_of, before_item, done_held, DoneStand, gathered, group_of, EndedBy}
 use Rattle.line_record.specs.Items.Item.{Open, Lone, Group}
 use Rattle.line_record.specs.Stored.{is_open, item_from}
 use Rattle.line_record.proofs.StoredLemmas.{reverse_push}
@@ -45,14 +45,14 @@ free_mark : (items : List Item) (text : List ℕ) → has_open items ≡ false �
 unfolding has_open
 free_mark [] text h = refl
 free_mark (Open ∷ items) text h = cc
-free_mark (Lone c ∷ items) text h = free_mark items (text_before (Lone c) text) h
-free_mark (Group c cs ∷ items) text h = free_mark items (text_before (Group c cs) text) h
+free_mark (Lone c ∷ items) text h = free_mark items (before_item (Lone c) text) h
+free_mark (Group c cs ∷ items) text h = free_mark items (before_item (Group c cs) text) h
 
 marked : (newer older : List Item) (text : List ℕ) → has_mark (done_held (newer ++ (Open ∷ older)) text) ≡ true
 marked [] older text = refl
 marked (Open ∷ newer) older text = refl
-marked (Lone c ∷ newer) older text = marked newer older (text_before (Lone c) text)
-marked (Group c cs ∷ newer) older text = marked newer older (text_before (Group c cs) text)
+marked (Lone c ∷ newer) older text = marked newer older (before_item (Lone c) text)
+marked (Group c cs ∷ newer) older text = marked newer older (before_item (Group c cs) text)
 
 -- a step ends by what is held below it
 ended_step : Bool → Bool → List ℕ → ℕ → Edit → Bool → List Held → List Held → List Held
@@ -71,18 +71,18 @@ free_closes : (items : List Item) (text : List ℕ) → has_open items ≡ false
 unfolding has_open
 free_closes [] text h = refl
 free_closes (Open ∷ items) text h = cc
-free_closes (Lone c ∷ items) text h = free_mark items (text_before (Lone c) text) h
-free_closes (Group c cs ∷ items) text h = free_mark items (text_before (Group c cs) text) h
+free_closes (Lone c ∷ items) text h = free_mark items (before_item (Lone c) text) h
+free_closes (Group c cs ∷ items) text h = free_mark items (before_item (Group c cs) text) h
 
 free_ended : (items : List Item) (text : List ℕ) → has_open items ≡ false → ended (done_held items text) ≡ done_held items text
 unfolding has_open ended_step
 free_ended [] text h = refl
 free_ended (Open ∷ items) text h = cc
 free_ended (Lone c ∷ items) text h =
-    let t = text_before (Lone c) text in
+    let t = before_item (Lone c) text in
     ended_step_is t (undo_place c) c true (done_held items t) _ false false (free_closes items t h) (free_mark items t h) refl
 free_ended (Group c cs ∷ items) text h =
-    let t = text_before (Group c cs) text in
+    let t = before_item (Group c cs) text in
     ended_step_is t (undo_place c) (newest_of c cs) false (done_held items t) _ false false (free_closes items t h) (free_mark items t h) refl
 
 pub unmarked : (items : List Item) (text : List ℕ) → has_open items ≡ false → EndedAs items [] items text
@@ -123,7 +123,7 @@ closing (Open ∷ newer) older text h =
     subst (λ group. EndedAs (Open ∷ (newer ++ (Open ∷ older))) group (group_of group older) text) (sym (append-nil (gather newer)))
     (record { held = e.held; closes = e.closes; stand = λ k. e.stand k.1 })
 closing (Lone c ∷ newer) older text h =
-    let t = text_before (Lone c) text in
+    let t = before_item (Lone c) text in
     let e = closing newer older t h in
     record {
       held = closing_step c [] (gather newer) true (newer ++ (Open ∷ older)) older text (marked newer older t) e;
@@ -131,7 +131,7 @@ closing (Lone c ∷ newer) older text h =
       stand = λ k. closing_stand c [] (gather newer) (newer ++ (Open ∷ older)) older text e k.0 k.1;
     }
 closing (Group c cs ∷ newer) older text h =
-    let t = text_before (Group c cs) text in
+    let t = before_item (Group c cs) text in
     let e = closing newer older t h in
     record {
       held = closing_step c cs (gather newer) false (newer ++ (Open ∷ older)) older text (marked newer older t) e;

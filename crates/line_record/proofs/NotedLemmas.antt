@@ -9,7 +9,7 @@ use Rattle.line_buffer.specs.Replay.{Swaps}
 use Rattle.line_buffer.specs.declared.types.Direction.{Direction}
 use Rattle.line_record.specs.Edit.{Edit, place_of, removed_of, added_of, taken_back, exchanged_at, StandsAt, StandsIn}
 use Rattle.line_record.specs.Edit.Edit.{Inserted, Deleted, Replaced}
-use Rattle.line_record.specs.Held.{Held, step_of, stepped, stepped_on, stepped_if, recorded_in, change_of, joined_to, is_alphanumeric_cluster}
+use Rattle.line_record.specs.Held.{Held, step_of, stepped, stepped_on, stepped_if, recorded_in, change_of, joined_to, is_one_alphanumeric}
 use Rattle.line_record.specs.Items.{Item, Items, done_held, DoneStand, ItemsStand, held_on, ahead_on, noted, noted_on, noted_if, told_of, record_after, ahead_after, Recorded, RecordedIn}
 use Rattle.line_record.specs.Items.Item.{Open, Lone, Group}
 use Rattle.line_record.specs.Stored.{event_of}
@@ -134,7 +134,7 @@ joins_deletion at removed direction before after u w (Deleted place deleted) g e
     chosen_deletion (at == place) (at + length removed == place) at place removed deleted g (λ y. Follows y (taken_back (Deleted place deleted) before) after) refl refl
     (deletion_ahead at place removed deleted before after u w s)
     (deletion_behind at place removed deleted before after u w s)
-    (tested_deletion (is_alphanumeric_cluster removed) _ g e)
+    (tested_deletion (is_one_alphanumeric removed) _ g e)
 joins_deletion at removed direction before after u w (Inserted place text) g e s = cc
 joins_deletion at removed direction before after u w (Replaced place was is) g e s = cc
 

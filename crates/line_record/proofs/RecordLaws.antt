@@ -3,7 +3,7 @@ use Rattle.std.proofs.Common.{◌≡◌, ℕ, false, List, [], ◌∷◌, length
 use Rattle.std.specs.Prelude.{IsUtf8}
 use Rattle.line_record.specs.Held.{Held, text_back, ended, closes, has_mark}
 use Rattle.line_record.specs.Held.Held.{Opened, Stepped}
-use Rattle.line_record.specs.Items.{Item, changes_of, text_before, text_after, done_held, DoneStand}
+use Rattle.line_record.specs.Items.{Item, changes_of, before_item, after_item, done_held, DoneStand}
 use Rattle.line_record.specs.Laws.{text_after_all, RecordGivesTheText, EmptyGroupLeavesNothing, RedoGivesTheTextBack}
 use Rattle.line_record.proofs.StoredLemmas.{text_of-holding}
 use Rattle.line_record.proofs.UndoLemmas.{was_taken_back}
@@ -12,8 +12,8 @@ replayed_done : (items : List Item) (text : List ℕ) → DoneStand items text �
 replayed_done [] text h u = refl
 replayed_done (x ∷ items) text h u =
     let was = was_taken_back (changes_of x) text h.0 u in
-    ap (λ t. text_after x (text_after_all items (text_back (length (done_held items (text_before x text))) (done_held items (text_before x text)) t))) (text_of-holding x (text_before x text))
-    ∙ ap (text_after x) (replayed_done items (text_before x text) h.1 was.utf8) ∙ was.back
+    ap (λ t. after_item x (text_after_all items (text_back (length (done_held items (before_item x text))) (done_held items (before_item x text)) t))) (text_of-holding x (before_item x text))
+    ∙ ap (after_item x) (replayed_done items (before_item x text) h.1 was.utf8) ∙ was.back
 
 pub record_gives_the_text : RecordGivesTheText
 record_gives_the_text s text h u = replayed_done s.done text h.0 u

@@ -6,7 +6,7 @@ use Rattle.std.proofs.lemmas.List.{take-append-drop, length-map, map-append, map
 use Rattle.line_buffer.specs.Event.{Event}
 use Rattle.line_record.specs.Edit.{Edit, newest_of}
 use Rattle.line_record.specs.Held.{text_of, text_back, text_kept, first_held, inserted_by}
-use Rattle.line_record.specs.Items.{Item, text_before, holding, done_held, DoneStand, Items, ItemsStand, held_on, truncated}
+use Rattle.line_record.specs.Items.{Item, before_item, holding, done_held, DoneStand, Items, ItemsStand, held_on, truncated}
 use Rattle.line_record.specs.Items.Item.{Open, Lone, Group}
 use Rattle.line_record.specs.Stored.{joined_item, joined_items, item_from, item_inserted}
 
@@ -88,20 +88,20 @@ text_of-holding (Group c cs) text = refl
 
 pub length-done_held : (items : List Item) (text : List ℕ) → length (done_held items text) ≡ length items
 length-done_held [] text = refl
-length-done_held (x ∷ items) text = ap suc (length-done_held items (text_before x text))
+length-done_held (x ∷ items) text = ap suc (length-done_held items (before_item x text))
 
 -- the items that are left when some were taken off
 pub done_held-drop : (k : ℕ) (items : List Item) (text : List ℕ) → done_held (drop k items) (text_back k (done_held items text) text) ≡ drop k (done_held items text)
 done_held-drop zero items text = refl
 done_held-drop (suc k) [] text = refl
 done_held-drop (suc k) (x ∷ items) text =
-    ap (λ t. done_held (drop k items) (text_back k (done_held items (text_before x text)) t)) (text_of-holding x (text_before x text)) ∙ done_held-drop k items (text_before x text)
+    ap (λ t. done_held (drop k items) (text_back k (done_held items (before_item x text)) t)) (text_of-holding x (before_item x text)) ∙ done_held-drop k items (before_item x text)
 
 pub DoneStand-drop : (k : ℕ) (items : List Item) (text : List ℕ) → DoneStand items text → DoneStand (drop k items) (text_back k (done_held items text) text)
 DoneStand-drop zero items text h = h
 DoneStand-drop (suc k) [] text h = h
 DoneStand-drop (suc k) (x ∷ items) text h =
-    subst (λ t. DoneStand (drop k items) (text_back k (done_held items (text_before x text)) t)) (sym (text_of-holding x (text_before x text))) (DoneStand-drop k items (text_before x text) h.1)
+    subst (λ t. DoneStand (drop k items) (text_back k (done_held items (before_item x text)) t)) (sym (text_of-holding x (before_item x text))) (DoneStand-drop k items (before_item x text) h.1)
 
 newest_of-push : (c d : Edit) (cs : List Edit) → newest_of c (cs ++ (d ∷ [])) ≡ d
 newest_of-push c d [] = refl

@@ -6,7 +6,7 @@ use Rattle.std.specs.Prelude.{IsUtf8}
 use Rattle.line_buffer.specs.Line.{Line}
 use Rattle.line_record.specs.Edit.{Edit, place_of, removed_of, added_of, taken_back, made_anew, redo_place, StandsIn, all_taken_back, all_made_anew, AllStandIn, AllFitIn, newest_of}
 use Rattle.line_record.specs.Held.{Held, is_step, undone_line, line_back, has_step, ahead_back, remade_line, line_ahead, has_step_ahead, held_ahead}
-use Rattle.line_record.specs.Items.{Item, Items, changes_of, text_before, text_after, holding, done_held, undone_ahead, DoneStand, UndoneFit, ItemsStand, held_on, ahead_on, taken_back_in, made_anew_in, lines_back, lines_ahead, lines_back_one, lines_ahead_one, part_back, undo_one, redo_one, undo_many, many_back, many_change, is_change, nearest_is_change}
+use Rattle.line_record.specs.Items.{Item, Items, changes_of, before_item, after_item, holding, done_held, undone_ahead, DoneStand, UndoneFit, ItemsStand, held_on, ahead_on, taken_back_in, made_anew_in, lines_back, lines_ahead, lines_back_one, lines_ahead_one, part_back, undo_one, redo_one, undo_many, many_back, many_change, is_step_item, nearest_is_change}
 use Rattle.line_record.specs.Items.Item.{Open, Lone, Group}
 use Rattle.line_record.proofs.Exchange.{exchanged}
 use Rattle.line_record.proofs.StepLemmas.{lines_back_text, lines_ahead_text, lines_back_but_place}
@@ -44,7 +44,7 @@ was_made_anew (c ∷ cs) text h u =
       back = ap (taken_back c) above.back ∙ x.back;
     }
 
-item_back : (x : Item) (l : Line) → lines_back (changes_of x) l ≡ undone_line (holding x (text_before x l.text)) l
+item_back : (x : Item) (l : Line) → lines_back (changes_of x) l ≡ undone_line (holding x (before_item x l.text)) l
 item_back Open l = refl
 item_back (Lone c) l = refl
 item_back (Group c cs) l = ap (taken_back_in c) (lines_back_but_place cs l 0)
@@ -53,12 +53,12 @@ group_ahead : (c : Edit) (cs : List Edit) (l : Line) → lines_ahead (c ∷ cs) 
 group_ahead c [] l = refl
 group_ahead c (d ∷ cs) l = group_ahead d cs (made_anew_in c l)
 
-item_ahead : (x : Item) (l : Line) → lines_ahead (changes_of x) l ≡ remade_line (record { held = holding x l.text; text = text_after x l.text }) l
+item_ahead : (x : Item) (l : Line) → lines_ahead (changes_of x) l ≡ remade_line (record { held = holding x l.text; text = after_item x l.text }) l
 item_ahead Open l = refl
 item_ahead (Lone c) l = refl
 item_ahead (Group c cs) l = group_ahead c cs l
 
-is_step-holding : (x : Item) (text : List ℕ) → is_change x ≡ is_step (holding x text)
+is_step-holding : (x : Item) (text : List ℕ) → is_step_item x ≡ is_step (holding x text)
 is_step-holding Open text = refl
 is_step-holding (Lone c) text = refl
 is_step-holding (Group c cs) text = refl
@@ -77,7 +77,7 @@ undone_by zero done undone l h u = record { line = refl; held = refl; answer = r
 undone_by (suc n) [] undone l h u = record { line = refl; held = refl; answer = refl; ahead = refl; stand = tt; fit = λ f. f }
 undone_by (suc n) (x ∷ items) undone l h u =
     let below : Line = lines_back (changes_of x) l in
-    let t : List ℕ = text_before x l.text in
+    let t : List ℕ = before_item x l.text in
     let k : Held = holding x t in
     let e : below.text ≡ t = lines_back_text (changes_of x) l in
     let was = was_taken_back (changes_of x) l.text h.0 u in
@@ -87,11 +87,11 @@ undone_by (suc n) (x ∷ items) undone l h u =
       held = rest.held ∙ ap (λ s. drop n (done_held items s)) e;
       answer = ap (λ b. b || many_change n items) (is_step-holding x t) ∙ ap (λ b. is_step k || b) (rest.answer ∙ ap (λ s. has_step n (done_held items s)) e);
       ahead = rest.ahead
-          ∙ ap (λ s. ahead_back n (done_held items s) s (record { held = holding x s; text = text_after x s } ∷ undone_ahead undone (text_after x s))) e
+          ∙ ap (λ s. ahead_back n (done_held items s) s (record { held = holding x s; text = after_item x s } ∷ undone_ahead undone (after_item x s))) e
           ∙ ap (λ s. ahead_back n (done_held items t) t (record { held = k; text = s } ∷ undone_ahead undone s)) was.back
           ∙ ap (λ s. ahead_back n (done_held items t) s (record { held = k; text = l.text } ∷ undone_ahead undone l.text)) (sym (text_of-holding x t));
       stand = rest.stand;
-      fit = λ f. rest.fit (subst (AllFitIn (changes_of x)) (sym e) was.fit, subst (UndoneFit undone) (sym was.back ∙ sym (ap (text_after x) e)) f);
+      fit = λ f. rest.fit (subst (AllFitIn (changes_of x)) (sym e) was.fit, subst (UndoneFit undone) (sym was.back ∙ sym (ap (after_item x) e)) f);
     }
 
 -- what the loop of an undo has done
@@ -120,12 +120,12 @@ undo_turn_on : (end counter : ℕ) (first : Items) (done undone_items : List Ite
 undo_turn_on end counter first [] undone_items before after undone b u less is = cc
 undo_turn_on end counter first (x ∷ items) undone_items before after undone b u less is =
     let n : end - counter ≡ suc (end - (counter + 1)) = omega arith in
-    let same : b ≡ is_change x = cc in
+    let same : b ≡ is_step_item x = cc in
     record {
       bound = omega arith;
       items = sym (ap (λ k. undo_many k (x ∷ items) undone_items) n) ∙ u.items;
       line = sym (ap (λ k. many_back k (x ∷ items) after) n) ∙ u.line;
-      answer = ap (λ c. (undone || c) || many_change (end - (counter + 1)) items) same ∙ or_assoc undone (is_change x) (many_change (end - (counter + 1)) items)
+      answer = ap (λ c. (undone || c) || many_change (end - (counter + 1)) items) same ∙ or_assoc undone (is_step_item x) (many_change (end - (counter + 1)) items)
           ∙ sym (ap (λ k. undone || many_change k (x ∷ items)) n) ∙ u.answer;
       part = λ k j. u.part (suc k) j ∙ ap (λ i. part_back i j first.done before) (let e : counter + suc k ≡ counter + 1 + k = omega arith in e);
       stand = subst (DoneStand items) (sym (lines_back_text (changes_of x) after)) u.stand.1;
@@ -232,15 +232,15 @@ redone_on : (done undone : List Item) (l : Line) → DoneStand done l.text → U
     → RedoneAs (record { done = done; undone = undone }) (redo_one done undone) l (lines_ahead_one undone l)
 redone_on done [] l h f u = record { line = refl; held = refl; ahead = refl; stand = (h, tt); answer = λ b e. cc }
 redone_on done (x ∷ items) l h f u =
-    let e : (lines_ahead (changes_of x) l).text ≡ text_after x l.text = lines_ahead_text (changes_of x) l in
+    let e : (lines_ahead (changes_of x) l).text ≡ after_item x l.text = lines_ahead_text (changes_of x) l in
     let made = was_made_anew (changes_of x) l.text f.0 u in
     record {
       line = item_ahead x l;
-      held = ap (λ s. holding x (text_before x s) ∷ done_held done (text_before x s)) e
+      held = ap (λ s. holding x (before_item x s) ∷ done_held done (before_item x s)) e
           ∙ ap (λ s. holding x s ∷ done_held done s) made.back;
       ahead = ap (undone_ahead items) e;
-      stand = subst (λ s. (AllStandIn (changes_of x) s × DoneStand done (text_before x s)) × UndoneFit items s) (sym e) ((made.stand, subst (DoneStand done) (sym made.back) h), f.1);
-      answer = λ b i. (let same : b ≡ is_change x = cc in same) ∙ is_step-holding x l.text;
+      stand = subst (λ s. (AllStandIn (changes_of x) s × DoneStand done (before_item x s)) × UndoneFit items s) (sym e) ((made.stand, subst (DoneStand done) (sym made.back) h), f.1);
+      answer = λ b i. (let same : b ≡ is_step_item x = cc in same) ∙ is_step-holding x l.text;
     }
 
 pub redone_as : (first last : Items) (before after : Line) → last ≡ redo_one first.done first.undone → after ≡ lines_ahead_one first.undone before → ItemsStand first before.text

@@ -1,11 +1,11 @@
 -- The record of texts: steps and open marks, the newest first, and what each call makes of it.
-use Rattle.std.specs.Prelude.{ℕ, zero, suc, ◌+◌, ◌==◌, ◌&&◌, ◌||◌, not, Bool, true, false, if◌then◌else◌, List, [], ◌∷◌, ◌++◌, ◌-◌, drop, length, chars, encode_utf8, Option, Some, None}
-use Rattle.std.specs.List.{list_all}
+use Rattle.std.specs.Prelude.{ℕ, zero, suc, ◌+◌, ◌==◌, ◌&&◌, ◌||◌, not, Bool, true, false, if◌then◌else◌, List, [], ◌∷◌, ◌++◌, ◌-◌, drop, length, encode_utf8, Option, Some, None}
 use Rattle.unicode_segmentation.specs.Grapheme.{graphemes}
 use Rattle.unicode_segmentation.specs.Segments.{is_alphanumeric}
 use Rattle.line_buffer.specs.Event.{Event}
 use Rattle.line_buffer.specs.Event.Event.{StartKilling, StopKilling, Delete, InsertChar, InsertStr, Replace}
 use Rattle.line_buffer.specs.Line.{Line}
+use Rattle.line_buffer.specs.Words.{is_alphanumeric_cluster}
 use Rattle.line_record.specs.Edit.{Edit, undo_place, redo_place}
 use Rattle.line_record.specs.Edit.Edit.{Inserted, Deleted, Replaced}
 
@@ -20,8 +20,8 @@ text_of (Opened text) = text
 text_of (Stepped text place newest joinable) = text
 
 -- one cluster, its characters all alphanumeric
-abbrev pub is_alphanumeric_cluster : List ℕ → Bool
-is_alphanumeric_cluster text = (length (graphemes true text) == 1) && list_all is_alphanumeric (chars text)
+abbrev pub is_one_alphanumeric : List ℕ → Bool
+is_one_alphanumeric text = (length (graphemes true text) == 1) && is_alphanumeric_cluster text
 
 -- the change that an event tells of; an empty one is none
 abbrev pub change_of : Event → Option Edit
@@ -42,7 +42,7 @@ joined_char at c (Replaced place before after) = None
 -- an alphanumeric cluster deleted right behind a deletion, or right before it
 abbrev pub joined_deletion : ℕ → List ℕ → Edit → Option Edit
 joined_deletion at text (Deleted place deleted) =
-    if not (is_alphanumeric_cluster text) then None
+    if not (is_one_alphanumeric text) then None
     else if at == place then Some (Deleted place (deleted ++ text))
     else if at + length text == place then Some (Deleted at (text ++ deleted))
     else None

@@ -26,11 +26,11 @@ changes_of Open = []
 changes_of (Lone c) = c ∷ []
 changes_of (Group c cs) = c ∷ cs
 
-abbrev pub text_before : Item → List ℕ → List ℕ
-text_before x text = all_taken_back (changes_of x) text
+abbrev pub before_item : Item → List ℕ → List ℕ
+before_item x text = all_taken_back (changes_of x) text
 
-abbrev pub text_after : Item → List ℕ → List ℕ
-text_after x text = all_made_anew (changes_of x) text
+abbrev pub after_item : Item → List ℕ → List ℕ
+after_item x text = all_made_anew (changes_of x) text
 
 -- the line with a change taken back, the cursor at the change's place
 abbrev pub taken_back_in : Edit → Line → Line
@@ -68,19 +68,19 @@ holding (Group c cs) text = Stepped text (undo_place c) (newest_of c cs) false
 
 abbrev pub done_held : List Item → List ℕ → List Held
 done_held [] text = []
-done_held (x ∷ items) text = holding x (text_before x text) ∷ done_held items (text_before x text)
+done_held (x ∷ items) text = holding x (before_item x text) ∷ done_held items (before_item x text)
 
 abbrev pub undone_ahead : List Item → List ℕ → List Undone
 undone_ahead [] text = []
-undone_ahead (x ∷ items) text = record { held = holding x text; text = text_after x text } ∷ undone_ahead items (text_after x text)
+undone_ahead (x ∷ items) text = record { held = holding x text; text = after_item x text } ∷ undone_ahead items (after_item x text)
 
 abbrev pub DoneStand : List Item → List ℕ → Type 0
 DoneStand [] text = Unit {0}
-DoneStand (x ∷ items) text = AllStandIn (changes_of x) text × DoneStand items (text_before x text)
+DoneStand (x ∷ items) text = AllStandIn (changes_of x) text × DoneStand items (before_item x text)
 
 abbrev pub UndoneFit : List Item → List ℕ → Type 0
 UndoneFit [] text = Unit {0}
-UndoneFit (x ∷ items) text = AllFitIn (changes_of x) text × UndoneFit items (text_after x text)
+UndoneFit (x ∷ items) text = AllFitIn (changes_of x) text × UndoneFit items (after_item x text)
 
 -- the changes done can be taken back from the text, and those undone can be made anew on it
 abbrev pub ItemsStand : Items → List ℕ → Type 0
@@ -128,10 +128,10 @@ abbrev pub redo_one : List Item → List Item → Items
 redo_one done [] = record { done = done; undone = [] }
 redo_one done (x ∷ items) = record { done = x ∷ done; undone = items }
 
-abbrev pub is_change : Item → Bool
-is_change Open = false
-is_change (Lone c) = true
-is_change (Group c cs) = true
+abbrev pub is_step_item : Item → Bool
+is_step_item Open = false
+is_step_item (Lone c) = true
+is_step_item (Group c cs) = true
 
 -- the line with the nearest item taken back, or made anew
 abbrev pub lines_back_one : List Item → Line → Line
@@ -145,7 +145,7 @@ lines_ahead_one (x ∷ items) l = lines_ahead (changes_of x) l
 -- whether the nearest item is a step, if there is one
 abbrev pub nearest_is_change : List Item → Option Bool
 nearest_is_change [] = None
-nearest_is_change (x ∷ items) = Some (is_change x)
+nearest_is_change (x ∷ items) = Some (is_step_item x)
 
 -- several items in turn
 abbrev pub undo_many : ℕ → List Item → List Item → Items
@@ -161,7 +161,7 @@ many_back (suc n) (x ∷ items) l = many_back n items (lines_back (changes_of x)
 abbrev pub many_change : ℕ → List Item → Bool
 many_change zero items = false
 many_change (suc n) [] = false
-many_change (suc n) (x ∷ items) = is_change x || many_change n items
+many_change (suc n) (x ∷ items) = is_step_item x || many_change n items
 
 -- a change noted behind the items done
 abbrev pub noted_on : Option Edit → Edit → Edit → List Item → List Item

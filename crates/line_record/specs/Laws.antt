@@ -8,7 +8,7 @@ use Rattle.line_buffer.specs.declared.types.Movement.TheVariants.{EndOfLine, Beg
 use Rattle.line_record.specs.declared.kill_ring.Action.TheVariants.{Kill}
 use Rattle.line_record.specs.Held.{Held, Undone, text_back, ended, closes, has_mark, line_back, line_ahead, ahead_back, held_ahead}
 use Rattle.line_record.specs.Held.Held.{Opened}
-use Rattle.line_record.specs.Items.{Item, Items, ItemsStand, held_on, text_after}
+use Rattle.line_record.specs.Items.{Item, Items, ItemsStand, held_on, after_item}
 use Rattle.line_record.specs.Course.{Call, Course, begun_with, after_call, after_calls, IsAmong}
 use Rattle.line_record.specs.Course.Call.{Told, Begun, Ended, TakenBack, MadeAnew}
 use Rattle.line_record.specs.Kills.{RingCall, no_kills, all_kills_after, ring_after_all, newest_first}
@@ -31,7 +31,7 @@ UndoOfAllGivesTheFirstText =
 -- the text after all that was done, from a text on
 abbrev pub text_after_all : List Item → List ℕ → List ℕ
 text_after_all [] text = text
-text_after_all (x ∷ items) text = text_after x (text_after_all items text)
+text_after_all (x ∷ items) text = after_item x (text_after_all items text)
 
 -- the recorded changes, made on the text before the first of them, give the line's text
 abbrev pub RecordGivesTheText : Type 0

@@ -1,8 +1,8 @@
 //! One recorded change, which can be taken back and made anew.
 
 use crate::report::Report;
-use crate::words::{is_alphanumeric, is_alphanumeric_cluster};
-use line_buffer::{LineBuffer, NoListener, OutOfMemory};
+use crate::words::is_one_alphanumeric;
+use line_buffer::{LineBuffer, NoListener, OutOfMemory, is_alphanumeric};
 use std::alloc::Global;
 
 /// What was put in or taken out at a place, in bytes.
@@ -98,6 +98,7 @@ impl Change {
         ensures line { OnOk result (line.new ≡ record line.old { text = taken_back (edit_of self.now) line.old.text; place = undo_place (edit_of self.now) }) }
         ensures kept { OnErr result (line.new ≡ line.old) }
     {
+        // Its contract says that the length fits.
         let _longest = line.len();
         let (at, added) = (self.at(), self.added());
         line.replace(alloc, at..at + added.len(), self.removed(), &mut NoListener)
@@ -109,6 +110,7 @@ impl Change {
         ensures line { OnOk result (line.new ≡ record line.old { text = made_anew (edit_of self.now) line.old.text; place = redo_place (edit_of self.now) }) }
         ensures kept { OnErr result (line.new ≡ line.old) }
     {
+        // Its contract says that the length fits.
         let _longest = line.len();
         let (at, removed) = (self.at(), self.removed());
         line.replace(alloc, at..at + removed.len(), self.added(), &mut NoListener)
@@ -173,7 +175,7 @@ fn join_deletion(
     ensures value { OnOk result (Deleted at.new (string_bytes text.new) ≡ unwrap_or (joined_deletion idx more.now (Deleted at.old (string_bytes text.old))) (Deleted at.old (string_bytes text.old))) }
     ensures kept { OnErr result ((at.new ≡ at.old) × (string_bytes text.new ≡ string_bytes text.old)) }
 {
-    if !is_alphanumeric_cluster(more) {
+    if !is_one_alphanumeric(more) {
         return Ok(false);
     }
     if idx == *at {

@@ -32,7 +32,8 @@ impl Changeset {
     ghost use Rattle.line_record.specs.Items.{no_items, opened, truncated, told_of, ItemsStand, RecordedIn, held_on};
     ghost use Rattle.line_record.specs.Stored.{event_of};
 
-    /// A record in which nothing stands.
+    /// A record in which nothing stands. It takes no memory yet, and never refuses: the answer has the form of rustyline's
+    /// calls that make a part of the editor, all of which may want memory.
     pub fn new(alloc: Global) -> Result<Self, OutOfMemory>
         ensures { IfOk result (λ c. c ≡ no_items) }
     {
@@ -185,10 +186,8 @@ pub(crate) fn push_step(steps: &mut Vec<Step>, step: Step) -> Result<(), OutOfMe
     ensures ok { OnOk result (items_of steps.new.items ≡ item_of step ∷ items_of steps.old.items) }
     ensures kept { OnErr result (items_of steps.new.items ≡ items_of steps.old.items) }
 {
-    match steps.push(step) {
-        Ok(()) => Ok(()),
-        Err(_) => Err(OutOfMemory),
-    }
+    steps.push(step)?;
+    Ok(())
 }
 
 /// The steps with what is told behind them.
@@ -221,10 +220,7 @@ fn clone_steps(alloc: Global, steps: &[Step]) -> Result<Vec<Step>, OutOfMemory>
 {
     let mut clones = Vec::with_capacity(alloc, steps.len())?;
     for step in steps {
-        match clones.push(step.try_clone(alloc)?) {
-            Ok(()) => {}
-            Err(_) => return Err(OutOfMemory),
-        }
+        clones.push(step.try_clone(alloc)?)?;
     }
     Ok(clones)
 }
@@ -260,9 +256,7 @@ fn close_group(alloc: Global, steps: &mut Vec<Step>, mark: usize) -> Result<bool
         return Ok(false);
     }
     let closed = true;
-    if let Err(_) = steps.push(Step { closed, changes }) {
-        return Err(OutOfMemory);
-    }
+    steps.push(Step { closed, changes })?;
     Ok(true)
 }
 

@@ -171,10 +171,8 @@ fn put_slot(
         slots[index] = text;
         return Ok(());
     }
-    match slots.push(text) {
-        Ok(()) => Ok(()),
-        Err(_) => Err(OutOfMemory),
-    }
+    slots.push(text)?;
+    Ok(())
 }
 
 impl DeleteListener for KillRing {

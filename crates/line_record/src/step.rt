@@ -35,13 +35,11 @@ impl Step {
         ensures { IfOk result (λ s. item_of s ≡ Lone (edit_of change)) }
     {
         let mut changes = Vec::with_capacity(alloc, 1)?;
-        match changes.push(change) {
-            Ok(()) => Ok(Step {
-                closed: false,
-                changes,
-            }),
-            Err(_) => Err(OutOfMemory),
-        }
+        changes.push(change)?;
+        Ok(Step {
+            closed: false,
+            changes,
+        })
     }
 
     /// The same step in memory of its own.
@@ -134,10 +132,7 @@ pub(crate) fn copy_changes(
     ensures { OnOk result (edits_of to.new.items ≡ edits_of to.old.items ++ edits_of from.now) }
 {
     for change in from {
-        match to.push(change.try_clone(alloc)?) {
-            Ok(()) => {}
-            Err(_) => return Err(OutOfMemory),
-        }
+        to.push(change.try_clone(alloc)?)?;
     }
     Ok(())
 }

@@ -28,6 +28,7 @@ impl Changeset {
         ensures refused { OnErr result (self.new ≡ no_items) }
         ensures part { OnErr result ((k : ℕ) × (j : ℕ) × (k < max n 1) × (line.new ≡ part_back k j self.old.done line.old)) }
     {
+        // Its contract says that the text is UTF-8.
         let _text = line.as_str();
         let mut undone = false;
         for _ in 0..n.max(1) {
@@ -79,6 +80,7 @@ impl Changeset {
         ensures refused { OnErr result (self.new ≡ no_items) }
         ensures part { OnErr result ((j : ℕ) × (line.new ≡ part_ahead j self.old.undone line.old)) }
     {
+        // Its contract says that the text is UTF-8.
         let _text = line.as_str();
         match self.redo_item(alloc, line)? {
             Some(is_step) => Ok(is_step),

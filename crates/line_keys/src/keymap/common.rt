@@ -1,9 +1,8 @@
 //! The keys that both modes know.
 
-ghost use Rattle.std.specs.Prelude.{◌≡◌, ◌≤◌, IsTrue, IfErr, if◌then◌else◌};
-ghost use Rattle.line_config.specs.Refusals.{MetBy};
+ghost use Rattle.std.specs.Prelude.{◌≡◌, if◌then◌else◌};
 ghost use Rattle.line_buffer.specs.declared.types.Movement.TheVariants.{BackwardChar, ForwardChar};
-ghost use Rattle.line_keys.specs.Common.{common_rows, terminal_command};
+ghost use Rattle.line_keys.specs.Common.{bound_command, common_rows, terminal_command};
 ghost use Rattle.line_buffer.specs.declared.types.Anchor.TheVariants.{Before};
 ghost use Rattle.line_config.specs.declared.settings.EditMode.{EditMode};
 ghost use Rattle.line_keys.specs.declared.command.Cmd.TheVariants.{Yank, Unknown};
@@ -25,11 +24,12 @@ use std::alloc::Global;
 const PASTE: KeyEvent = KeyEvent(KeyCode::BracketedPasteStart, Modifiers::NONE);
 
 impl<D: Decides> InputState<'_, D> {
-    ghost use Rattle.line_keys.specs.InputStates.{custom_in, situation_in};
-    ghost use Rattle.line_keys.specs.Common.{common, beyond_rows};
-    ghost use Rattle.line_keys.specs.Reasons.{Because};
+    ghost use Rattle.line_keys.specs.InputStates.{situation_in};
+    ghost use Rattle.line_keys.specs.Common.{common, beyond_rows, sequence};
+    ghost use Rattle.line_keys.specs.Follows.{Follows};
 
     /// The command of a key that the mode's own table doesn't have.
+    #[tactic(auto, using(crate::proofs::Following::as_follows))]
     pub(crate) fn common<R: RawReader, W: Refresher>(
         &self,
         alloc: Global,
@@ -39,12 +39,9 @@ impl<D: Decides> InputState<'_, D> {
         n: RepeatCount,
         positive: bool,
     ) -> Result<Cmd, ReadlineError>
-        ensures answer { IsTrue (R.told rdr.old) → MetBy (R.steady rdr.old) result → result ≡ (common (situation_in self.now D.decides (W.shown wrt.now) n positive) key (R.coming rdr.old)).answer }
-        ensures rest { IsTrue (R.told rdr.old) → MetBy (R.steady rdr.old) result → R.coming rdr.new ≡ (common (situation_in self.now D.decides (W.shown wrt.now) n positive) key (R.coming rdr.old)).rest }
-        ensures reason { IfErr result (λ e. Because (R.reason rdr.new) (W.reason wrt.now) (custom_in self.now D.decides) e) }
-        ensures told { IsTrue (R.told rdr.old) → IsTrue (R.told rdr.new) }
-        ensures steady { R.steady rdr.new ≡ R.steady rdr.old }
-        ensures keeps { R.bound rdr.new ≤ R.bound rdr.old }
+        ensures { let s = situation_in self.now D.decides (W.display.shown wrt.now) n positive in
+            Follows W.display s.custom (common s key (R.feed rdr.old).coming)
+            wrt.now s.input wrt.now s.input (R.feed rdr.old) (R.feed rdr.new) result }
     {
         match common_row(self.mode, wrt, key, n, positive) {
             Some(cmd) => Ok(cmd),
@@ -53,7 +50,7 @@ impl<D: Decides> InputState<'_, D> {
     }
 
     // A pasted text, or the command of a custom sequence.
-    #[tactic(auto, using(crate::proofs::Refused::reader_because))]
+    #[tactic(auto, using(crate::proofs::Following::read_stops, crate::proofs::Following::read_follows, crate::proofs::Following::ends_follow, crate::proofs::Following::as_follows))]
     fn beyond_rows<R: RawReader, W: Refresher>(
         &self,
         alloc: Global,
@@ -63,21 +60,44 @@ impl<D: Decides> InputState<'_, D> {
         n: RepeatCount,
         positive: bool,
     ) -> Result<Cmd, ReadlineError>
-        ensures answer { IsTrue (R.told rdr.old) → MetBy (R.steady rdr.old) result → result ≡ (beyond_rows (situation_in self.now D.decides (W.shown wrt.now) n positive) key (R.coming rdr.old)).answer }
-        ensures rest { IsTrue (R.told rdr.old) → MetBy (R.steady rdr.old) result → R.coming rdr.new ≡ (beyond_rows (situation_in self.now D.decides (W.shown wrt.now) n positive) key (R.coming rdr.old)).rest }
-        ensures reason { IfErr result (λ e. Because (R.reason rdr.new) (W.reason wrt.now) (custom_in self.now D.decides) e) }
-        ensures told { IsTrue (R.told rdr.old) → IsTrue (R.told rdr.new) }
-        ensures steady { R.steady rdr.new ≡ R.steady rdr.old }
-        ensures keeps { R.bound rdr.new ≤ R.bound rdr.old }
+        ensures { let s = situation_in self.now D.decides (W.display.shown wrt.now) n positive in
+            Follows W.display s.custom (beyond_rows s key (R.feed rdr.old).coming)
+            wrt.now s.input wrt.now s.input (R.feed rdr.old) (R.feed rdr.new) result }
     {
         if key == PASTE {
             let text = rdr.read_pasted_text(alloc)?;
             return Ok(Cmd::Insert(1, text));
         }
-        match self.custom_seq_binding(alloc, rdr, wrt, key, n, positive)? {
-            Followed::Bound(cmd) => Ok(cmd),
-            Followed::Unbound(_) => Ok(Cmd::Unknown),
-        }
+        self.sequence(alloc, rdr, wrt, key, n, positive)
+    }
+
+    // The command of a custom sequence.
+    #[tactic(auto, using(crate::proofs::Following::then_stops, crate::proofs::Following::then_follows, crate::proofs::Following::ends_follow))]
+    fn sequence<R: RawReader, W: Refresher>(
+        &self,
+        alloc: Global,
+        rdr: &mut R,
+        wrt: &W,
+        key: KeyEvent,
+        n: RepeatCount,
+        positive: bool,
+    ) -> Result<Cmd, ReadlineError>
+        ensures { let s = situation_in self.now D.decides (W.display.shown wrt.now) n positive in
+            Follows W.display s.custom (sequence s key (R.feed rdr.old).coming)
+            wrt.now s.input wrt.now s.input (R.feed rdr.old) (R.feed rdr.new) result }
+    {
+        let followed = self.custom_seq_binding(alloc, rdr, wrt, key, n, positive)?;
+        Ok(bound_command(followed))
+    }
+}
+
+// The command that a custom sequence is bound to.
+fn bound_command(followed: Followed) -> Cmd
+    ensures { result ≡ bound_command followed }
+{
+    match followed {
+        Followed::Bound(cmd) => cmd,
+        Followed::Unbound(_) => Cmd::Unknown,
     }
 }
 
@@ -87,7 +107,7 @@ pub(crate) fn term_binding<R: RawReader, W: Refresher>(
     wrt: &W,
     key: KeyEvent,
 ) -> Option<Cmd>
-    ensures { result ≡ terminal_command (W.shown wrt.now) key }
+    ensures { result ≡ terminal_command (W.display.shown wrt.now) key }
 {
     match rdr.find_binding(&key) {
         Some(Cmd::EndOfFile) if !wrt.line().is_empty() => None,
@@ -132,7 +152,7 @@ fn common_row<W: Refresher>(
     n: RepeatCount,
     positive: bool,
 ) -> Option<Cmd>
-    ensures { result ≡ look (W.shown wrt.now) n positive key (common_rows mode) }
+    ensures { result ≡ look (W.display.shown wrt.now) n positive key (common_rows mode) }
 {
     let KeyEvent(code, modifiers) = key;
     match modifiers {
@@ -170,7 +190,7 @@ fn ctrl_row<W: Refresher>(
     n: RepeatCount,
     positive: bool,
 ) -> Option<Cmd>
-    ensures { result ≡ first_row (W.shown wrt.now) n positive code 8 (common_rows mode) }
+    ensures { result ≡ first_row (W.display.shown wrt.now) n positive code 8 (common_rows mode) }
 {
     match code {
         KeyCode::Char('D') if wrt.line().is_empty() => Some(Cmd::Unknown),

@@ -1,9 +1,8 @@
 //! Counts that are typed before a key.
 
-ghost use Rattle.std.specs.Prelude.{◌≡◌, ◌≤◌, ◌-◌, IsTrue, IfOk, IfErr, string_bytes};
+ghost use Rattle.std.specs.Prelude.{◌≡◌, ◌≤◌, ◌-◌, IfOk, IfErr, IfSome, string_bytes};
 ghost use Rattle.line_config.specs.declared.errors.ReadlineError.{ReadlineError};
-ghost use Rattle.line_config.specs.Refusals.{MetBy};
-ghost use Rattle.line_keys.specs.Counts.{begun_by, count_and, counted_on, no_count, prompt_for, times};
+ghost use Rattle.line_keys.specs.Counts.{begun_by, count_and, counted_on, digit_of, emacs_counted_on, no_count, prompt_for, times, vi_counted_on};
 
 use crate::flags::Modifiers;
 use crate::handler::Decides;
@@ -12,7 +11,7 @@ use crate::keymap::InputState;
 use crate::refresh::Refresher;
 use crate::tty::RawReader;
 use line_buffer::RepeatCount;
-use line_config::ReadlineError;
+use line_config::{EditMode, ReadlineError};
 use std::alloc::Global;
 
 /// A count as it is typed: its amount, and whether it isn't negative.
@@ -99,7 +98,7 @@ pub(crate) fn begun_by(key: KeyEvent) -> Option<Count>
             positive: false,
         }),
         KeyEvent(KeyCode::Char(c @ '0'..='9'), Modifiers::ALT) => Some(Count {
-            amount: digit_of(c),
+            amount: digit(c),
             positive: true,
         }),
         _ => None,
@@ -107,7 +106,7 @@ pub(crate) fn begun_by(key: KeyEvent) -> Option<Count>
 }
 
 // The digit that a character is.
-fn digit_of(c: char) -> RepeatCount
+fn digit(c: char) -> RepeatCount
     requires low { 48 ≤ c }
     requires high { c ≤ 57 }
     ensures { result ≡ c - 48 }
@@ -116,47 +115,74 @@ fn digit_of(c: char) -> RepeatCount
 }
 
 // The count with one more key of it in Emacs mode, if it is one: a digit, or a minus, which is dropped.
-fn counted_on(count: Count, key: KeyEvent) -> Option<Count>
-    ensures { result ≡ counted_on count key }
+fn emacs_counted_on(count: Count, key: KeyEvent) -> Option<Count>
+    ensures { result ≡ emacs_counted_on count key }
 {
     match key {
         KeyEvent(KeyCode::Char('-'), Modifiers::NONE | Modifiers::ALT) => Some(count),
         KeyEvent(KeyCode::Char(c @ '0'..='9'), Modifiers::NONE | Modifiers::ALT) => {
-            Some(count.with(digit_of(c)))
+            Some(count.with(digit(c)))
         }
         _ => None,
+    }
+}
+
+// The digit that a key without modifiers is.
+pub(crate) fn digit_of(key: KeyEvent) -> Option<RepeatCount>
+    ensures value { result ≡ digit_of key }
+    ensures small { IfSome result (λ d. d ≤ 9) }
+{
+    match key {
+        KeyEvent(KeyCode::Char(c @ '0'..='9'), Modifiers::NONE) => Some(digit(c)),
+        _ => None,
+    }
+}
+
+// The count with one more key of it in Vi mode, if it is a digit.
+fn vi_counted_on(count: Count, key: KeyEvent) -> Option<Count>
+    ensures { result ≡ vi_counted_on count key }
+{
+    match digit_of(key) {
+        Some(digit) => Some(count.with(digit)),
+        None => None,
+    }
+}
+
+// The count with one more key of it.
+fn counted_on(mode: EditMode, count: Count, key: KeyEvent) -> Option<Count>
+    ensures { result ≡ counted_on mode count key }
+{
+    match mode {
+        EditMode::Emacs => emacs_counted_on(count, key),
+        EditMode::Vi => vi_counted_on(count, key),
     }
 }
 
 impl<D: Decides> InputState<'_, D> {
     ghost use Rattle.line_keys.specs.InputStates.{input_of, custom_in};
     ghost use Rattle.line_keys.specs.Counts.{counting, counted_on};
-    ghost use Rattle.line_keys.specs.Reasons.{Because};
-    ghost use Rattle.line_keys.specs.Refreshing.{Asked};
+    ghost use Rattle.line_keys.specs.Follows.{Follows};
 
-    /// The rest of a count in Emacs mode, and the key behind it.
-    #[tactic(auto, using(crate::proofs::Stops::counting_stops, crate::proofs::Asks::Asked_none, crate::proofs::Asks::Asked_then, crate::proofs::Refused::reader_because, crate::proofs::Refused::display_because, crate::proofs::Refused::memory_because))]
-    pub(crate) fn emacs_digit_argument<R: RawReader, W: Refresher>(
+    /// The rest of a count, and the key behind it.
+    #[tactic(auto, using(crate::proofs::Following::memory_follows, crate::proofs::Turns::count_unasked, crate::proofs::Turns::count_stops, crate::proofs::Turns::count_goes_on, crate::proofs::Turns::count_ends, crate::proofs::Turns::count_undrawn), unfolding(crate::specs::Counts::counting))]
+    pub(crate) fn digit_argument<R: RawReader, W: Refresher>(
         &self,
         alloc: Global,
         rdr: &mut R,
         wrt: &mut W,
         begun: Count,
     ) -> Result<Counted, ReadlineError>
-        ensures answer { IsTrue (R.told rdr.old) → MetBy (R.steady rdr.old) result → result ≡ (counting counted_on (input_of self.now) begun (R.coming rdr.old)).answer }
-        ensures rest { IsTrue (R.told rdr.old) → MetBy (R.steady rdr.old) result → R.coming rdr.new ≡ (counting counted_on (input_of self.now) begun (R.coming rdr.old)).rest }
-        ensures asks { IsTrue (R.told rdr.old) → MetBy (R.steady rdr.old) result → Asked W.asked W.shown W.rule wrt.old (counting counted_on (input_of self.now) begun (R.coming rdr.old)).asks wrt.new }
-        ensures reason { IfErr result (λ e. Because (R.reason rdr.new) (W.reason wrt.new) (custom_in self.now D.decides) e) }
-        ensures told { IsTrue (R.told rdr.old) → IsTrue (R.told rdr.new) }
-        ensures steady { R.steady rdr.new ≡ R.steady rdr.old }
-        ensures keeps { R.bound rdr.new ≤ R.bound rdr.old }
+        ensures { let input = input_of self.now in
+            let script = counting (counted_on input.mode) begun (R.feed rdr.old).coming in
+            Follows W.display (custom_in self.now D.decides) script
+            wrt.old input wrt.new input (R.feed rdr.old) (R.feed rdr.new) result }
     {
         let mut count = begun;
         loop {
             let prompt = count.prompt(alloc)?;
             wrt.refresh_prompt_and_line(prompt.as_str())?;
-            let key = rdr.next_key(true)?;
-            match counted_on(count, key) {
+            let key = rdr.next_key(self.mode == EditMode::Emacs)?;
+            match counted_on(self.mode, count, key) {
                 Some(more) => count = more,
                 None => {
                     wrt.refresh_line()?;

@@ -1,8 +1,6 @@
 //! Custom bindings.
 
-ghost use Rattle.std.specs.Prelude.{◌≡◌, ◌≤◌, ◌∷◌, [], IsTrue, IfErr, option_map, option_copied, slice_get};
-ghost use Rattle.line_config.specs.Refusals.{MetBy};
-ghost use Rattle.line_keys.specs.Faults.{HadMemory};
+ghost use Rattle.std.specs.Prelude.{◌≡◌, slice_get};
 
 use crate::command::Cmd;
 use crate::events::{Event, Keys};
@@ -25,12 +23,14 @@ pub(crate) enum Followed {
 }
 
 impl<D: Decides> InputState<'_, D> {
-    ghost use Rattle.line_keys.specs.InputStates.{custom_in, situation_in};
-    ghost use Rattle.line_keys.specs.Custom.{answer_by, custom_answer, sequence_answer, shown_for, following};
-    ghost use Rattle.line_keys.specs.Reasons.{Because, BecauseBound};
+    ghost use Rattle.line_keys.specs.InputStates.{situation_in};
+    ghost use Rattle.line_keys.specs.Custom.{custom_answer, sequence_answer, shown_for, followed};
+    ghost use Rattle.line_keys.specs.Answers.{answer_by};
+    ghost use Rattle.line_keys.specs.Follows.{Follows, Decides as Decision};
+    ghost use Rattle.line_keys.specs.Faults.{HadMemory};
+    ghost use Rattle.std.specs.Prelude.{option_map, option_copied};
 
     /// The command of the key's own binding, else of that of any key.
-    #[tactic(auto, using(crate::proofs::Refused::either_because, crate::proofs::Refused::memory_bound))]
     pub(crate) fn custom_binding<W: Refresher>(
         &self,
         alloc: Global,
@@ -39,8 +39,8 @@ impl<D: Decides> InputState<'_, D> {
         n: RepeatCount,
         positive: bool,
     ) -> Result<Option<Cmd>, ReadlineError>
-        ensures answer { HadMemory result → result ≡ custom_answer (situation_in self.now D.decides (W.shown wrt.now) n positive) key }
-        ensures reason { IfErr result (λ e. BecauseBound (custom_in self.now D.decides) e) }
+        ensures { let s = situation_in self.now D.decides (W.display.shown wrt.now) n positive in
+            Decision s.custom (custom_answer s key) result }
     {
         let event = Event::from_key(alloc, key)?;
         let handler = match self.custom_bindings.get(&event) {
@@ -60,7 +60,9 @@ impl<D: Decides> InputState<'_, D> {
         n: RepeatCount,
         positive: bool,
     ) -> Result<Option<Cmd>, ReadlineError>
-        ensures { HadMemory result → result ≡ answer_by (option_map D.decides (option_copied handler.entry)) (shown_for (situation_in self.now D.decides (W.shown wrt.now) n positive) event.now) }
+        ensures { let s = situation_in self.now D.decides (W.display.shown wrt.now) n positive in
+            let bound = option_map D.decides (option_copied handler.entry) in
+            HadMemory result → result ≡ answer_by bound (shown_for s event.now) }
     {
         match handler {
             Some(handler) => {
@@ -73,7 +75,7 @@ impl<D: Decides> InputState<'_, D> {
 
     /// The command that a sequence of keys is bound to, which begins with this key: while the keys so far begin a bound
     /// sequence, or are it, one more is read.
-    #[tactic(auto, using(crate::proofs::Stops::following_stops, crate::proofs::Refused::reader_because, crate::proofs::Refused::memory_because, crate::proofs::Refused::binding_because, crate::proofs::Refused::had_if_met))]
+    #[tactic(auto, using(crate::proofs::Following::memory_follows, crate::proofs::Following::needs_follow, crate::proofs::Turns::sequence_over, crate::proofs::Turns::sequence_stops, crate::proofs::Turns::sequence_no_memory, crate::proofs::Turns::sequence_refused, crate::proofs::Turns::sequence_bound, crate::proofs::Turns::sequence_on), unfolding(crate::specs::Custom::followed))]
     pub(crate) fn custom_seq_binding<R: RawReader, W: Refresher>(
         &self,
         alloc: Global,
@@ -83,12 +85,9 @@ impl<D: Decides> InputState<'_, D> {
         n: RepeatCount,
         positive: bool,
     ) -> Result<Followed, ReadlineError>
-        ensures answer { IsTrue (R.told rdr.old) → MetBy (R.steady rdr.old) result → result ≡ (following (situation_in self.now D.decides (W.shown wrt.now) n positive) (key ∷ []) (R.coming rdr.old)).answer }
-        ensures rest { IsTrue (R.told rdr.old) → MetBy (R.steady rdr.old) result → R.coming rdr.new ≡ (following (situation_in self.now D.decides (W.shown wrt.now) n positive) (key ∷ []) (R.coming rdr.old)).rest }
-        ensures reason { IfErr result (λ e. Because (R.reason rdr.new) (W.reason wrt.now) (custom_in self.now D.decides) e) }
-        ensures told { IsTrue (R.told rdr.old) → IsTrue (R.told rdr.new) }
-        ensures steady { R.steady rdr.new ≡ R.steady rdr.old }
-        ensures keeps { R.bound rdr.new ≤ R.bound rdr.old }
+        ensures { let s = situation_in self.now D.decides (W.display.shown wrt.now) n positive in
+            Follows W.display s.custom (followed s key (R.feed rdr.old).coming)
+            wrt.now s.input wrt.now s.input (R.feed rdr.old) (R.feed rdr.new) result }
     {
         let mut keys = Vec::new(alloc);
         keys.push(key)?;
@@ -104,7 +103,6 @@ impl<D: Decides> InputState<'_, D> {
     }
 
     // The command that exactly these keys are bound to.
-    #[tactic(auto, using(crate::proofs::Refused::keys_because, crate::proofs::Refused::memory_bound))]
     fn sequence_command<W: Refresher>(
         &self,
         alloc: Global,
@@ -113,8 +111,8 @@ impl<D: Decides> InputState<'_, D> {
         n: RepeatCount,
         positive: bool,
     ) -> Result<Option<Cmd>, ReadlineError>
-        ensures answer { HadMemory result → result ≡ sequence_answer (situation_in self.now D.decides (W.shown wrt.now) n positive) keys.now }
-        ensures reason { IfErr result (λ e. BecauseBound (custom_in self.now D.decides) e) }
+        ensures { let s = situation_in self.now D.decides (W.display.shown wrt.now) n positive in
+            Decision s.custom (sequence_answer s keys.now) result }
     {
         let event = Event::KeySeq(Keys::try_from_slice(alloc, keys)?);
         self.decided(

@@ -1,10 +1,10 @@
 //! The keys of Emacs mode.
 
-ghost use Rattle.std.specs.Prelude.{◌≡◌, ◌≤◌, IsTrue, IfOk, IfErr, OnOk, false, if◌then◌else◌};
+ghost use Rattle.std.specs.Prelude.{◌≡◌, IfOk, IfErr, if◌then◌else◌};
 ghost use Rattle.line_config.specs.declared.errors.ReadlineError.{ReadlineError};
-ghost use Rattle.line_config.specs.Refusals.{MetBy};
-ghost use Rattle.line_keys.specs.Emacs.{back, ahead, emacs_rows, char_search, plain_char, second_command, made_anew};
-ghost use Rattle.line_keys.specs.Faults.{IsReaderRefusal};
+ghost use Rattle.line_keys.specs.Emacs.{back, ahead, emacs_rows, plain_char, searched, second_command};
+ghost use Rattle.line_keys.specs.Coming.{from_key_at};
+ghost use Rattle.line_keys.specs.Feeds.{Key, ReadsBy};
 ghost use Rattle.line_keys.specs.declared.command.Cmd.TheVariants.{Complete, CompleteBackward};
 ghost use Rattle.line_keys.specs.Tables.{look, first_row};
 ghost use Rattle.line_keys.specs.Refreshing.{Shown};
@@ -33,11 +33,12 @@ impl<D: Decides> InputState<'_, D> {
     ghost use Rattle.line_keys.specs.InputStates.{input_of, custom_in, situation_in};
     ghost use Rattle.line_keys.specs.Emacs.{emacs_phrase, emacs_decided, emacs_command, emacs_beyond_rows, ctrl_x};
     ghost use Rattle.line_keys.specs.Counts.{times};
-    ghost use Rattle.line_keys.specs.Reasons.{Because};
-    ghost use Rattle.line_keys.specs.Refreshing.{Asked};
+    ghost use Rattle.line_keys.specs.Follows.{Follows};
+    ghost use Rattle.line_keys.specs.declared.keymap.custom.Followed.{Followed};
+    ghost use Rattle.line_keys.specs.Emacs.{behind_ctrl_x};
 
     /// The command that begins with this key.
-    #[tactic(auto, using(crate::proofs::EmacsCounts::behind_count, crate::proofs::EmacsCounts::stopped_count, crate::proofs::Asks::Asked_none, crate::proofs::Asks::Asked_end))]
+    #[tactic(auto, using(crate::proofs::Following::then_stops, crate::proofs::Following::then_follows, crate::proofs::Following::as_follows))]
     pub(crate) fn emacs<R: RawReader, W: Refresher>(
         &self,
         alloc: Global,
@@ -45,17 +46,15 @@ impl<D: Decides> InputState<'_, D> {
         wrt: &mut W,
         key: KeyEvent,
     ) -> Result<Cmd, ReadlineError>
-        ensures answer { IsTrue (R.told rdr.old) → MetBy (R.steady rdr.old) result → result ≡ (emacs_phrase (custom_in self.now D.decides) (W.rule wrt.old) (input_of self.now) (W.shown wrt.old) key (R.coming rdr.old)).answer }
-        ensures rest { IsTrue (R.told rdr.old) → MetBy (R.steady rdr.old) result → R.coming rdr.new ≡ (emacs_phrase (custom_in self.now D.decides) (W.rule wrt.old) (input_of self.now) (W.shown wrt.old) key (R.coming rdr.old)).rest }
-        ensures asks { IsTrue (R.told rdr.old) → MetBy (R.steady rdr.old) result → Asked W.asked W.shown W.rule wrt.old (emacs_phrase (custom_in self.now D.decides) (W.rule wrt.old) (input_of self.now) (W.shown wrt.old) key (R.coming rdr.old)).asks wrt.new }
-        ensures reason { IfErr result (λ e. Because (R.reason rdr.new) (W.reason wrt.new) (custom_in self.now D.decides) e) }
-        ensures told { IsTrue (R.told rdr.old) → IsTrue (R.told rdr.new) }
-        ensures steady { R.steady rdr.new ≡ R.steady rdr.old }
-        ensures keeps { R.bound rdr.new ≤ R.bound rdr.old }
+        ensures { let custom = custom_in self.now D.decides in
+            let input = input_of self.now in
+            let script = emacs_phrase custom input (W.display.shown wrt.old) key (R.feed rdr.old).coming in
+            Follows W.display custom script
+            wrt.old input wrt.new input (R.feed rdr.old) (R.feed rdr.new) result }
     {
         match begun_by(key) {
             Some(begun) => {
-                let counted = self.emacs_digit_argument(alloc, rdr, wrt, begun)?;
+                let counted = self.digit_argument(alloc, rdr, wrt, begun)?;
                 self.emacs_decided(alloc, rdr, wrt, counted)
             }
             None => {
@@ -66,7 +65,7 @@ impl<D: Decides> InputState<'_, D> {
     }
 
     // The command of the key behind a count.
-    #[tactic(auto, using(crate::proofs::Refused::memory_because, crate::proofs::Refused::binding_because, crate::proofs::Refused::had_if_met))]
+    #[tactic(auto, using(crate::proofs::Following::decides_stop, crate::proofs::Following::decides_follow, crate::proofs::Anew::anew_follows, crate::proofs::Following::ends_follow, crate::proofs::Following::as_follows))]
     fn emacs_decided<R: RawReader, W: Refresher>(
         &self,
         alloc: Global,
@@ -74,18 +73,15 @@ impl<D: Decides> InputState<'_, D> {
         wrt: &W,
         counted: Counted,
     ) -> Result<Cmd, ReadlineError>
-        ensures answer { IsTrue (R.told rdr.old) → MetBy (R.steady rdr.old) result → result ≡ (emacs_decided (situation_in self.now D.decides (W.shown wrt.now) (times counted.count) counted.count.positive) counted.key (R.coming rdr.old)).answer }
-        ensures rest { IsTrue (R.told rdr.old) → MetBy (R.steady rdr.old) result → R.coming rdr.new ≡ (emacs_decided (situation_in self.now D.decides (W.shown wrt.now) (times counted.count) counted.count.positive) counted.key (R.coming rdr.old)).rest }
-        ensures reason { IfErr result (λ e. Because (R.reason rdr.new) (W.reason wrt.now) (custom_in self.now D.decides) e) }
-        ensures told { IsTrue (R.told rdr.old) → IsTrue (R.told rdr.new) }
-        ensures steady { R.steady rdr.new ≡ R.steady rdr.old }
-        ensures keeps { R.bound rdr.new ≤ R.bound rdr.old }
+        ensures { let s = situation_in self.now D.decides (W.display.shown wrt.now) (times counted.count) counted.count.positive in
+            Follows W.display s.custom (emacs_decided s counted.key (R.feed rdr.old).coming)
+            wrt.now s.input wrt.now s.input (R.feed rdr.old) (R.feed rdr.new) result }
     {
         let Counted { count, key } = counted;
         let n = count.times();
         let positive = count.positive;
         match self.custom_binding(alloc, wrt, key, n, positive)? {
-            Some(cmd) => made_anew(alloc, wrt, cmd, n),
+            Some(cmd) => cmd.made_anew(alloc, wrt, Some(n)),
             None => match term_binding(rdr, wrt, key) {
                 Some(cmd) => Ok(cmd),
                 None => self.emacs_command(alloc, rdr, wrt, key, n, positive),
@@ -94,6 +90,7 @@ impl<D: Decides> InputState<'_, D> {
     }
 
     // The command of the table.
+    #[tactic(auto, using(crate::proofs::Following::as_follows))]
     fn emacs_command<R: RawReader, W: Refresher>(
         &self,
         alloc: Global,
@@ -103,12 +100,9 @@ impl<D: Decides> InputState<'_, D> {
         n: RepeatCount,
         positive: bool,
     ) -> Result<Cmd, ReadlineError>
-        ensures answer { IsTrue (R.told rdr.old) → MetBy (R.steady rdr.old) result → result ≡ (emacs_command (situation_in self.now D.decides (W.shown wrt.now) n positive) key (R.coming rdr.old)).answer }
-        ensures rest { IsTrue (R.told rdr.old) → MetBy (R.steady rdr.old) result → R.coming rdr.new ≡ (emacs_command (situation_in self.now D.decides (W.shown wrt.now) n positive) key (R.coming rdr.old)).rest }
-        ensures reason { IfErr result (λ e. Because (R.reason rdr.new) (W.reason wrt.now) (custom_in self.now D.decides) e) }
-        ensures told { IsTrue (R.told rdr.old) → IsTrue (R.told rdr.new) }
-        ensures steady { R.steady rdr.new ≡ R.steady rdr.old }
-        ensures keeps { R.bound rdr.new ≤ R.bound rdr.old }
+        ensures { let s = situation_in self.now D.decides (W.display.shown wrt.now) n positive in
+            Follows W.display s.custom (emacs_command s key (R.feed rdr.old).coming)
+            wrt.now s.input wrt.now s.input (R.feed rdr.old) (R.feed rdr.new) result }
     {
         if let Some(c) = plain_char(key) {
             let cmd = if positive {
@@ -125,7 +119,7 @@ impl<D: Decides> InputState<'_, D> {
     }
 
     // The command of a key that reads on, or of one that no row of Emacs mode has.
-    #[tactic(auto, using(crate::proofs::Refused::reader_because))]
+    #[tactic(auto, using(crate::proofs::Following::whole_read, crate::proofs::Following::as_follows))]
     fn emacs_beyond_rows<R: RawReader, W: Refresher>(
         &self,
         alloc: Global,
@@ -135,12 +129,9 @@ impl<D: Decides> InputState<'_, D> {
         n: RepeatCount,
         positive: bool,
     ) -> Result<Cmd, ReadlineError>
-        ensures answer { IsTrue (R.told rdr.old) → MetBy (R.steady rdr.old) result → result ≡ (emacs_beyond_rows (situation_in self.now D.decides (W.shown wrt.now) n positive) key (R.coming rdr.old)).answer }
-        ensures rest { IsTrue (R.told rdr.old) → MetBy (R.steady rdr.old) result → R.coming rdr.new ≡ (emacs_beyond_rows (situation_in self.now D.decides (W.shown wrt.now) n positive) key (R.coming rdr.old)).rest }
-        ensures reason { IfErr result (λ e. Because (R.reason rdr.new) (W.reason wrt.now) (custom_in self.now D.decides) e) }
-        ensures told { IsTrue (R.told rdr.old) → IsTrue (R.told rdr.new) }
-        ensures steady { R.steady rdr.new ≡ R.steady rdr.old }
-        ensures keeps { R.bound rdr.new ≤ R.bound rdr.old }
+        ensures { let s = situation_in self.now D.decides (W.display.shown wrt.now) n positive in
+            Follows W.display s.custom (emacs_beyond_rows s key (R.feed rdr.old).coming)
+            wrt.now s.input wrt.now s.input (R.feed rdr.old) (R.feed rdr.new) result }
     {
         if key == CTRL_X {
             return self.ctrl_x(alloc, rdr, wrt, key, n, positive);
@@ -155,7 +146,7 @@ impl<D: Decides> InputState<'_, D> {
     }
 
     // The command of a custom sequence, else that of the second key, which is read if it wasn't.
-    #[tactic(auto, using(crate::proofs::Refused::reader_because))]
+    #[tactic(auto, using(crate::proofs::Following::then_stops, crate::proofs::Following::then_follows, crate::proofs::Following::whole_read, crate::proofs::Following::ends_follow))]
     fn ctrl_x<R: RawReader, W: Refresher>(
         &self,
         alloc: Global,
@@ -165,39 +156,31 @@ impl<D: Decides> InputState<'_, D> {
         n: RepeatCount,
         positive: bool,
     ) -> Result<Cmd, ReadlineError>
-        ensures answer { IsTrue (R.told rdr.old) → MetBy (R.steady rdr.old) result → result ≡ (ctrl_x (situation_in self.now D.decides (W.shown wrt.now) n positive) key (R.coming rdr.old)).answer }
-        ensures rest { IsTrue (R.told rdr.old) → MetBy (R.steady rdr.old) result → R.coming rdr.new ≡ (ctrl_x (situation_in self.now D.decides (W.shown wrt.now) n positive) key (R.coming rdr.old)).rest }
-        ensures reason { IfErr result (λ e. Because (R.reason rdr.new) (W.reason wrt.now) (custom_in self.now D.decides) e) }
-        ensures told { IsTrue (R.told rdr.old) → IsTrue (R.told rdr.new) }
-        ensures steady { R.steady rdr.new ≡ R.steady rdr.old }
-        ensures keeps { R.bound rdr.new ≤ R.bound rdr.old }
+        ensures { let s = situation_in self.now D.decides (W.display.shown wrt.now) n positive in
+            Follows W.display s.custom (ctrl_x s key (R.feed rdr.old).coming)
+            wrt.now s.input wrt.now s.input (R.feed rdr.old) (R.feed rdr.new) result }
     {
-        match self.custom_seq_binding(alloc, rdr, wrt, key, n, positive)? {
+        let followed = self.custom_seq_binding(alloc, rdr, wrt, key, n, positive)?;
+        match followed {
             Followed::Bound(cmd) => Ok(cmd),
             Followed::Unbound(Some(second)) => Ok(second_command(second, n, positive)),
-            Followed::Unbound(None) => {
-                let second = rdr.next_key(true)?;
-                Ok(second_command(second, n, positive))
-            }
+            Followed::Unbound(None) => read_second(rdr, n, positive),
         }
     }
 }
 
-// A bound command, made as often as the count says.
-fn made_anew<W: Refresher>(
-    alloc: Global,
-    wrt: &W,
-    cmd: Cmd,
+// The command of the second key behind Ctrl-X, which wasn't read yet.
+#[tactic(auto, using(crate::proofs::KeyReads::made_of_read, crate::proofs::KeyReads::not_made))]
+fn read_second<R: RawReader>(
+    rdr: &mut R,
     n: RepeatCount,
+    positive: bool,
 ) -> Result<Cmd, ReadlineError>
-    ensures ok { IfOk result (λ c. c ≡ made_anew n (W.shown wrt.now) cmd) }
-    ensures err { IfErr result (λ e. e ≡ ReadlineError.Memory) }
+    ensures { let given = from_key_at (second_command n positive) in
+        ReadsBy Key given (R.feed rdr.old) (R.feed rdr.new) result }
 {
-    if cmd.is_repeatable() {
-        cmd.redo(alloc, Some(n), wrt)
-    } else {
-        Ok(cmd)
-    }
+    let second = rdr.next_key(true)?;
+    Ok(second_command(second, n, positive))
 }
 
 // The character of a key without modifiers.
@@ -225,29 +208,32 @@ fn second_command(key: KeyEvent, n: RepeatCount, positive: bool) -> Cmd
 }
 
 // The move to right before the character that is typed next, or back to it.
+#[tactic(auto, using(crate::proofs::KeyReads::made_of_read, crate::proofs::KeyReads::not_made))]
 fn char_search<R: RawReader>(
     rdr: &mut R,
     n: RepeatCount,
     forward: bool,
 ) -> Result<Cmd, ReadlineError>
-    ensures answer { IsTrue (R.told rdr.old) → MetBy (R.steady rdr.old) result → result ≡ (char_search n forward (R.coming rdr.old)).answer }
-    ensures rest { IsTrue (R.told rdr.old) → MetBy (R.steady rdr.old) result → R.coming rdr.new ≡ (char_search n forward (R.coming rdr.old)).rest }
-    ensures refused { IfErr result IsReaderRefusal }
-    ensures reason { IfErr result (λ e. R.reason rdr.new e) }
-    ensures told { IsTrue (R.told rdr.old) → IsTrue (R.told rdr.new) }
-    ensures steady { R.steady rdr.new ≡ R.steady rdr.old }
-    ensures keeps { R.bound rdr.new ≤ R.bound rdr.old }
+    ensures { let given = from_key_at (λ k. searched n forward (plain_char k)) in
+        ReadsBy Key given (R.feed rdr.old) (R.feed rdr.new) result }
 {
     let key = rdr.next_key(false)?;
-    let Some(c) = plain_char(key) else {
-        return Ok(Cmd::Unknown);
+    Ok(searched(n, forward, plain_char(key)))
+}
+
+// The search for a character.
+fn searched(n: RepeatCount, forward: bool, sought: Option<char>) -> Cmd
+    ensures { result ≡ searched n forward sought }
+{
+    let Some(c) = sought else {
+        return Cmd::Unknown;
     };
     let search = if forward {
         CharSearch::ForwardBefore(c)
     } else {
         CharSearch::Backward(c)
     };
-    Ok(Cmd::Move(Movement::ViCharSearch(n, search)))
+    Cmd::Move(Movement::ViCharSearch(n, search))
 }
 
 // Back over words; for a negative count, forward.
@@ -274,7 +260,7 @@ fn ahead(n: RepeatCount, positive: bool) -> Movement
 
 // The rows of Emacs mode.
 fn emacs_row<W: Refresher>(wrt: &W, key: KeyEvent, n: RepeatCount, positive: bool) -> Option<Cmd>
-    ensures { result ≡ look (W.shown wrt.now) n positive key emacs_rows }
+    ensures { result ≡ look (W.display.shown wrt.now) n positive key emacs_rows }
 {
     let KeyEvent(code, modifiers) = key;
     match modifiers {
@@ -291,7 +277,7 @@ fn emacs_row<W: Refresher>(wrt: &W, key: KeyEvent, n: RepeatCount, positive: boo
 
 // The rows without modifiers. A hint is taken where the cursor stands right before it.
 fn plain_row<W: Refresher>(wrt: &W, code: KeyCode, n: RepeatCount, positive: bool) -> Option<Cmd>
-    ensures { result ≡ first_row (W.shown wrt.now) n positive code 0 emacs_rows }
+    ensures { result ≡ first_row (W.display.shown wrt.now) n positive code 0 emacs_rows }
 {
     match code {
         KeyCode::Esc => Some(Cmd::Abort),

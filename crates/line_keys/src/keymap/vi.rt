@@ -4,11 +4,10 @@ pub mod count;
 pub mod motion;
 pub mod table;
 
-ghost use Rattle.std.specs.Prelude.{◌≡◌, ◌≤◌, IsTrue, IfOk, IfErr, OnOk, true};
-ghost use Rattle.line_config.specs.declared.errors.ReadlineError.{ReadlineError};
-ghost use Rattle.line_config.specs.Refusals.{MetBy, IsFault};
-ghost use Rattle.line_keys.specs.Faults.{IsReaderRefusal};
-ghost use Rattle.line_keys.specs.Vi.{made_again, repeated, replacement, typed_in, move_or, marks};
+ghost use Rattle.std.specs.Prelude.{◌≡◌, true};
+ghost use Rattle.line_keys.specs.Coming.{from_key_at};
+ghost use Rattle.line_keys.specs.Feeds.{Key, ReadsBy};
+ghost use Rattle.line_keys.specs.Vi.{move_or, replacement, typed_in};
 
 use crate::command::{Cmd, InputMode};
 use crate::flags::Modifiers;
@@ -19,29 +18,26 @@ use crate::keymap::common::term_binding;
 use crate::keymap::count::{Count, Counted};
 use crate::keymap::emacs::plain_char;
 use crate::keymap::vi::count::{typed_count, vi_begun_by};
-use crate::keymap::vi::motion::{AGAIN, BACK_AGAIN, opposite, search_letter, searching};
-use crate::keymap::vi::table::{
-    Operator, Turn, alt_char, operator_of, vi_edit_row, vi_insert_row, vi_move_row, vi_turn,
-};
+use crate::keymap::vi::motion::{opposite, searching};
+use crate::keymap::vi::table::{Deed, Operator, alt_char, vi_command_row, vi_insert_row};
 use crate::refresh::Refresher;
 use crate::tty::RawReader;
 use line_buffer::{Movement, RepeatCount};
 use line_config::ReadlineError;
 use std::alloc::Global;
 
-const REPEAT: KeyEvent = KeyEvent(KeyCode::Char('.'), Modifiers::NONE);
-
-const REPLACE: KeyEvent = KeyEvent(KeyCode::Char('r'), Modifiers::NONE);
-
 impl<D: Decides> InputState<'_, D> {
-    ghost use Rattle.line_keys.specs.InputStates.{input_of, custom_in, situation_in};
+    ghost use Rattle.line_keys.specs.Commands.{standing};
     ghost use Rattle.line_keys.specs.Counts.{times};
-    ghost use Rattle.line_keys.specs.Refreshing.{Asked};
-    ghost use Rattle.line_keys.specs.Reasons.{Because};
+    ghost use Rattle.line_keys.specs.Follows.{Follows};
+    ghost use Rattle.line_keys.specs.InputStates.{input_of, custom_in, situation_in};
+    ghost use Rattle.line_keys.specs.Meant.{changes, command_of};
+    ghost use Rattle.line_keys.specs.Phrases.{and_then, becoming};
+    ghost use Rattle.line_keys.specs.Vi.{Remembers, changed, entered, is_new, operation, typed, vi_command, vi_command_table, vi_counted, vi_insert, vi_insert_table, vi_left, vi_phrase};
     ghost use Rattle.line_keys.specs.ViCounts.{typed_count};
-    ghost use Rattle.line_keys.specs.Vi.{vi_phrase, vi_command, vi_counted, vi_command_table, vi_operation, vi_search, entered, vi_beyond_searches, vi_kept_search, vi_insert, vi_insert_table, vi_left, in_mode, changed_by, typed_by};
 
     /// The command that begins with this key.
+    #[tactic(auto, using(crate::proofs::Following::as_follows))]
     pub(crate) fn vi<R: RawReader, W: Refresher>(
         &mut self,
         alloc: Global,
@@ -49,16 +45,12 @@ impl<D: Decides> InputState<'_, D> {
         wrt: &mut W,
         key: KeyEvent,
     ) -> Result<Cmd, ReadlineError>
-        ensures answer { IsTrue (R.told rdr.old) → MetBy (R.steady rdr.old) result → result ≡ (vi_phrase (custom_in self.old D.decides) (W.rule wrt.old) (input_of self.old) (W.shown wrt.old) key (R.coming rdr.old)).answer }
-        ensures rest { IsTrue (R.told rdr.old) → MetBy (R.steady rdr.old) result → R.coming rdr.new ≡ (vi_phrase (custom_in self.old D.decides) (W.rule wrt.old) (input_of self.old) (W.shown wrt.old) key (R.coming rdr.old)).rest }
-        ensures asks { IsTrue (R.told rdr.old) → MetBy (R.steady rdr.old) result → Asked W.asked W.shown W.rule wrt.old (vi_phrase (custom_in self.old D.decides) (W.rule wrt.old) (input_of self.old) (W.shown wrt.old) key (R.coming rdr.old)).asks wrt.new }
-        ensures input { IsTrue (R.told rdr.old) → MetBy (R.steady rdr.old) result → input_of self.new ≡ (vi_phrase (custom_in self.old D.decides) (W.rule wrt.old) (input_of self.old) (W.shown wrt.old) key (R.coming rdr.old)).input }
-        ensures mode { self.new.mode ≡ self.old.mode }
+        ensures phrase { let custom = custom_in self.old D.decides in
+            let input = input_of self.old in
+            let script = vi_phrase custom input (W.display.shown wrt.old) key (R.feed rdr.old).coming in
+            Follows W.display custom script
+            wrt.old input wrt.new (input_of self.new) (R.feed rdr.old) (R.feed rdr.new) result }
         ensures bindings { self.new.custom_bindings ≡ self.old.custom_bindings }
-        ensures reason { IfErr result (λ e. Because (R.reason rdr.new) (W.reason wrt.new) (custom_in self.old D.decides) e) }
-        ensures told { IsTrue (R.told rdr.old) → IsTrue (R.told rdr.new) }
-        ensures steady { R.steady rdr.new ≡ R.steady rdr.old }
-        ensures keeps { R.bound rdr.new ≤ R.bound rdr.old }
     {
         match self.input_mode {
             InputMode::Command => self.vi_command(alloc, rdr, wrt, key),
@@ -67,7 +59,7 @@ impl<D: Decides> InputState<'_, D> {
     }
 
     // The command that begins with this key in command mode.
-    #[tactic(auto, using(crate::proofs::Asks::Asked_both), unfolding(crate::specs::Vi::vi_command))]
+    #[tactic(auto, using(crate::proofs::Following::then_stops, crate::proofs::Following::then_follows, crate::proofs::Following::as_follows), unfolding(crate::specs::Vi::vi_command))]
     fn vi_command<R: RawReader, W: Refresher>(
         &mut self,
         alloc: Global,
@@ -75,29 +67,27 @@ impl<D: Decides> InputState<'_, D> {
         wrt: &mut W,
         key: KeyEvent,
     ) -> Result<Cmd, ReadlineError>
-        ensures answer { IsTrue (R.told rdr.old) → MetBy (R.steady rdr.old) result → result ≡ (vi_command (custom_in self.old D.decides) (W.rule wrt.old) (input_of self.old) (W.shown wrt.old) key (R.coming rdr.old)).answer }
-        ensures rest { IsTrue (R.told rdr.old) → MetBy (R.steady rdr.old) result → R.coming rdr.new ≡ (vi_command (custom_in self.old D.decides) (W.rule wrt.old) (input_of self.old) (W.shown wrt.old) key (R.coming rdr.old)).rest }
-        ensures asks { IsTrue (R.told rdr.old) → MetBy (R.steady rdr.old) result → Asked W.asked W.shown W.rule wrt.old (vi_command (custom_in self.old D.decides) (W.rule wrt.old) (input_of self.old) (W.shown wrt.old) key (R.coming rdr.old)).asks wrt.new }
-        ensures input { IsTrue (R.told rdr.old) → MetBy (R.steady rdr.old) result → input_of self.new ≡ (vi_command (custom_in self.old D.decides) (W.rule wrt.old) (input_of self.old) (W.shown wrt.old) key (R.coming rdr.old)).input }
-        ensures mode { self.new.mode ≡ self.old.mode }
+        ensures phrase { let custom = custom_in self.old D.decides in
+            let input = input_of self.old in
+            let script = vi_command custom key input (W.display.shown wrt.old) (R.feed rdr.old).coming in
+            Follows W.display custom script
+            wrt.old input wrt.new (input_of self.new) (R.feed rdr.old) (R.feed rdr.new) result }
         ensures bindings { self.new.custom_bindings ≡ self.old.custom_bindings }
-        ensures reason { IfErr result (λ e. Because (R.reason rdr.new) (W.reason wrt.new) (custom_in self.old D.decides) e) }
-        ensures told { IsTrue (R.told rdr.old) → IsTrue (R.told rdr.new) }
-        ensures steady { R.steady rdr.new ≡ R.steady rdr.old }
-        ensures keeps { R.bound rdr.new ≤ R.bound rdr.old }
     {
-        let count = Count::none();
         match vi_begun_by(key) {
             Some(begun) => {
-                let counted = self.vi_arg_digit(alloc, rdr, wrt, begun)?;
+                let counted = self.digit_argument(alloc, rdr, wrt, begun)?;
                 self.vi_counted(alloc, rdr, wrt, counted)
             }
-            None => self.vi_counted(alloc, rdr, wrt, Counted { count, key }),
+            None => {
+                let count = Count::none();
+                self.vi_counted(alloc, rdr, wrt, Counted { count, key })
+            }
         }
     }
 
     // The command of the key behind a count.
-    #[tactic(auto, using(crate::proofs::Asks::Asked_none, crate::proofs::Refused::memory_because, crate::proofs::Refused::custom_because, crate::proofs::Refused::had_if_met), unfolding(crate::specs::Vi::vi_counted))]
+    #[tactic(auto, using(crate::proofs::Following::decides_stop, crate::proofs::Following::decides_follow, crate::proofs::Anew::anew_follows, crate::proofs::Following::ends_follow, crate::proofs::Following::as_follows), unfolding(crate::specs::Vi::vi_counted))]
     fn vi_counted<R: RawReader, W: Refresher>(
         &mut self,
         alloc: Global,
@@ -105,119 +95,119 @@ impl<D: Decides> InputState<'_, D> {
         wrt: &mut W,
         counted: Counted,
     ) -> Result<Cmd, ReadlineError>
-        ensures answer { IsTrue (R.told rdr.old) → MetBy (R.steady rdr.old) result → result ≡ (vi_counted (custom_in self.old D.decides) (W.rule wrt.old) counted (input_of self.old) (W.shown wrt.old) (R.coming rdr.old)).answer }
-        ensures rest { IsTrue (R.told rdr.old) → MetBy (R.steady rdr.old) result → R.coming rdr.new ≡ (vi_counted (custom_in self.old D.decides) (W.rule wrt.old) counted (input_of self.old) (W.shown wrt.old) (R.coming rdr.old)).rest }
-        ensures asks { IsTrue (R.told rdr.old) → MetBy (R.steady rdr.old) result → Asked W.asked W.shown W.rule wrt.old (vi_counted (custom_in self.old D.decides) (W.rule wrt.old) counted (input_of self.old) (W.shown wrt.old) (R.coming rdr.old)).asks wrt.new }
-        ensures input { IsTrue (R.told rdr.old) → MetBy (R.steady rdr.old) result → input_of self.new ≡ (vi_counted (custom_in self.old D.decides) (W.rule wrt.old) counted (input_of self.old) (W.shown wrt.old) (R.coming rdr.old)).input }
-        ensures mode { self.new.mode ≡ self.old.mode }
+        ensures phrase { let custom = custom_in self.old D.decides in
+            let input = input_of self.old in
+            let script = vi_counted custom counted input (W.display.shown wrt.old) (R.feed rdr.old).coming in
+            Follows W.display custom script
+            wrt.old input wrt.new (input_of self.new) (R.feed rdr.old) (R.feed rdr.new) result }
         ensures bindings { self.new.custom_bindings ≡ self.old.custom_bindings }
-        ensures reason { IfErr result (λ e. Because (R.reason rdr.new) (W.reason wrt.new) (custom_in self.old D.decides) e) }
-        ensures told { IsTrue (R.told rdr.old) → IsTrue (R.told rdr.new) }
-        ensures steady { R.steady rdr.new ≡ R.steady rdr.old }
-        ensures keeps { R.bound rdr.new ≤ R.bound rdr.old }
     {
         let Counted { count, key } = counted;
-        if let Some(cmd) = self.custom_binding(alloc, wrt, key, count.times(), true)? {
-            let cmd = made_again(alloc, wrt, cmd, typed_count(count))?;
-            return Ok(cmd);
+        match self.custom_binding(alloc, wrt, key, count.times(), true)? {
+            Some(cmd) => cmd.made_anew(alloc, wrt, typed_count(count)),
+            None => match term_binding(rdr, wrt, key) {
+                Some(cmd) => Ok(cmd),
+                None => self.vi_changed(alloc, rdr, wrt, counted),
+            },
         }
-        if let Some(cmd) = term_binding(rdr, wrt, key) {
-            return Ok(cmd);
-        }
-        let cmd = self.vi_command_table(alloc, rdr, wrt, counted)?;
-        let cmd = self.changed_by(alloc, cmd)?;
-        Ok(cmd)
     }
 
-    // The command of the table: of a row, or of a key that turns to another mode.
-    #[tactic(auto, using(crate::proofs::Asks::Asked_none, crate::proofs::Refused::display_because), unfolding(crate::specs::Vi::vi_command_table))]
-    fn vi_command_table<R: RawReader, W: Refresher>(
+    // The command of the table, which is remembered if it is a change.
+    #[tactic(auto, using(crate::proofs::Following::then_stops, crate::proofs::Following::then_follows, crate::proofs::Remembering::remember_follows))]
+    fn vi_changed<R: RawReader, W: Refresher>(
         &mut self,
         alloc: Global,
         rdr: &mut R,
         wrt: &mut W,
         counted: Counted,
     ) -> Result<Cmd, ReadlineError>
-        ensures answer { IsTrue (R.told rdr.old) → MetBy (R.steady rdr.old) result → result ≡ (vi_command_table (W.rule wrt.old) (typed_count counted.count) (situation_in self.old D.decides (W.shown wrt.old) (times counted.count) true) counted.key (R.coming rdr.old)).answer }
-        ensures rest { IsTrue (R.told rdr.old) → MetBy (R.steady rdr.old) result → R.coming rdr.new ≡ (vi_command_table (W.rule wrt.old) (typed_count counted.count) (situation_in self.old D.decides (W.shown wrt.old) (times counted.count) true) counted.key (R.coming rdr.old)).rest }
-        ensures asks { IsTrue (R.told rdr.old) → MetBy (R.steady rdr.old) result → Asked W.asked W.shown W.rule wrt.old (vi_command_table (W.rule wrt.old) (typed_count counted.count) (situation_in self.old D.decides (W.shown wrt.old) (times counted.count) true) counted.key (R.coming rdr.old)).asks wrt.new }
-        ensures input { IsTrue (R.told rdr.old) → MetBy (R.steady rdr.old) result → input_of self.new ≡ (vi_command_table (W.rule wrt.old) (typed_count counted.count) (situation_in self.old D.decides (W.shown wrt.old) (times counted.count) true) counted.key (R.coming rdr.old)).input }
-        ensures mode { self.new.mode ≡ self.old.mode }
+        ensures phrase { let custom = custom_in self.old D.decides in
+            let input = input_of self.old in
+            let n = times counted.count in
+            let s = situation_in self.old D.decides (W.display.shown wrt.old) n true in
+            let script = and_then input s.shown (vi_command_table (typed_count counted.count) s counted.key) changed (R.feed rdr.old).coming in
+            Follows W.display custom script
+            wrt.old input wrt.new (input_of self.new) (R.feed rdr.old) (R.feed rdr.new) result }
         ensures bindings { self.new.custom_bindings ≡ self.old.custom_bindings }
-        ensures reason { IfErr result (λ e. Because (R.reason rdr.new) (W.reason wrt.new) (custom_in self.old D.decides) e) }
-        ensures told { IsTrue (R.told rdr.old) → IsTrue (R.told rdr.new) }
-        ensures steady { R.steady rdr.new ≡ R.steady rdr.old }
-        ensures keeps { R.bound rdr.new ≤ R.bound rdr.old }
     {
-        let n = counted.count.times();
-        if let Some(cmd) = vi_move_row(counted.key, n) {
-            return Ok(cmd);
-        }
-        if let Some(cmd) = vi_edit_row(counted.key, n) {
-            return Ok(cmd);
-        }
-        match vi_turn(counted.key, n) {
-            Some(turn) => {
-                let cmd = self.turned(wrt, turn)?;
+        let cmd = self.vi_done(alloc, rdr, wrt, counted)?;
+        self.changed_by(alloc, cmd)
+    }
+
+    // What the key's row says, or what is common to both modes.
+    #[tactic(auto, using(crate::proofs::Following::ask_stops, crate::proofs::Following::ask_follows, crate::proofs::Following::becomes_follows, crate::proofs::Following::then_stops, crate::proofs::Following::then_follows, crate::proofs::Following::silent_follows, crate::proofs::Following::whole_read, crate::proofs::Following::ends_follow, crate::proofs::Following::as_follows, crate::proofs::Anew::anew_follows), unfolding(crate::specs::Vi::vi_command_table))]
+    fn vi_done<R: RawReader, W: Refresher>(
+        &mut self,
+        alloc: Global,
+        rdr: &mut R,
+        wrt: &mut W,
+        counted: Counted,
+    ) -> Result<Cmd, ReadlineError>
+        ensures phrase { let custom = custom_in self.old D.decides in
+            let input = input_of self.old in
+            let n = times counted.count in
+            let s = situation_in self.old D.decides (W.display.shown wrt.old) n true in
+            let script = vi_command_table (typed_count counted.count) s counted.key (R.feed rdr.old).coming in
+            Follows W.display custom script
+            wrt.old input wrt.new (input_of self.new) (R.feed rdr.old) (R.feed rdr.new) result }
+        ensures bindings { self.new.custom_bindings ≡ self.old.custom_bindings }
+    {
+        let Counted { count, key } = counted;
+        let n = count.times();
+        match vi_command_row(key, n) {
+            Some(Deed::Give(cmd)) => Ok(cmd),
+            Some(Deed::Insert(cmd)) => {
+                self.input_mode = InputMode::Insert;
+                wrt.doing_insert()?;
                 Ok(cmd)
             }
-            None => self.vi_operation(alloc, rdr, wrt, counted),
+            Some(Deed::Turn(mode, cmd)) => {
+                self.input_mode = mode;
+                Ok(cmd)
+            }
+            Some(Deed::Operate(operator)) => self.vi_operation(alloc, rdr, wrt, key, n, operator),
+            Some(Deed::Search(search)) => {
+                let movement = self.vi_char_search(rdr, search, n)?;
+                Ok(move_or(Cmd::Unknown, movement))
+            }
+            Some(Deed::Again) => Ok(move_or(Cmd::Noop, searching(n, self.last_char_search))),
+            Some(Deed::Back) => {
+                let search = opposite(self.last_char_search);
+                Ok(move_or(Cmd::Noop, searching(n, search)))
+            }
+            Some(Deed::Repeat) => self.last_cmd.repeated(alloc, wrt, typed_count(count)),
+            Some(Deed::Replace) => replacement(rdr, n),
+            None => self.common(alloc, rdr, wrt, key, n, true),
         }
     }
 
-    // Another mode, and the command with which it begins.
-    #[tactic(auto, using(crate::proofs::Asks::Asked_none, crate::proofs::Asks::Asked_then))]
-    fn turned<W: Refresher>(&mut self, wrt: &mut W, turn: Turn) -> Result<Cmd, ReadlineError>
-        ensures answer { IfOk result (λ c. c ≡ turn.cmd) }
-        ensures asks { OnOk result (Asked W.asked W.shown W.rule wrt.old (marks turn.marked) wrt.new) }
-        ensures input { OnOk result (input_of self.new ≡ in_mode turn.mode (input_of self.old)) }
-        ensures mode { self.new.mode ≡ self.old.mode }
-        ensures bindings { self.new.custom_bindings ≡ self.old.custom_bindings }
-        ensures fault { IfErr result IsFault }
-        ensures reason { IfErr result (λ e. W.reason wrt.new e) }
-    {
-        self.input_mode = turn.mode;
-        if turn.marked {
-            wrt.doing_insert()?;
-        }
-        Ok(turn.cmd)
-    }
-
-    // The command of an operator with its motion, or of a key that is no operator.
-    #[tactic(auto, using(crate::proofs::Asks::Asked_none), unfolding(crate::specs::Vi::vi_operation))]
+    // The command of an operator with its motion. A change turns to insert mode before its motion is read.
+    #[tactic(auto, using(crate::proofs::Following::becomes_follows, crate::proofs::Following::then_stops, crate::proofs::Following::then_follows, crate::proofs::Following::ends_follow))]
     fn vi_operation<R: RawReader, W: Refresher>(
         &mut self,
         alloc: Global,
         rdr: &mut R,
         wrt: &mut W,
-        counted: Counted,
+        key: KeyEvent,
+        n: RepeatCount,
+        operator: Operator,
     ) -> Result<Cmd, ReadlineError>
-        ensures answer { IsTrue (R.told rdr.old) → MetBy (R.steady rdr.old) result → result ≡ (vi_operation (W.rule wrt.old) (typed_count counted.count) (situation_in self.old D.decides (W.shown wrt.old) (times counted.count) true) counted.key (R.coming rdr.old)).answer }
-        ensures rest { IsTrue (R.told rdr.old) → MetBy (R.steady rdr.old) result → R.coming rdr.new ≡ (vi_operation (W.rule wrt.old) (typed_count counted.count) (situation_in self.old D.decides (W.shown wrt.old) (times counted.count) true) counted.key (R.coming rdr.old)).rest }
-        ensures asks { IsTrue (R.told rdr.old) → MetBy (R.steady rdr.old) result → Asked W.asked W.shown W.rule wrt.old (vi_operation (W.rule wrt.old) (typed_count counted.count) (situation_in self.old D.decides (W.shown wrt.old) (times counted.count) true) counted.key (R.coming rdr.old)).asks wrt.new }
-        ensures input { IsTrue (R.told rdr.old) → MetBy (R.steady rdr.old) result → input_of self.new ≡ (vi_operation (W.rule wrt.old) (typed_count counted.count) (situation_in self.old D.decides (W.shown wrt.old) (times counted.count) true) counted.key (R.coming rdr.old)).input }
-        ensures mode { self.new.mode ≡ self.old.mode }
+        ensures phrase { let custom = custom_in self.old D.decides in
+            let input = input_of self.old in
+            let s = situation_in self.old D.decides (W.display.shown wrt.old) n true in
+            let within = entered (changes operator) input in
+            let script = becoming within (operation s key (command_of operator) within) (R.feed rdr.old).coming in
+            Follows W.display custom script
+            wrt.old input wrt.new (input_of self.new) (R.feed rdr.old) (R.feed rdr.new) result }
         ensures bindings { self.new.custom_bindings ≡ self.old.custom_bindings }
-        ensures reason { IfErr result (λ e. Because (R.reason rdr.new) (W.reason wrt.new) (custom_in self.old D.decides) e) }
-        ensures told { IsTrue (R.told rdr.old) → IsTrue (R.told rdr.new) }
-        ensures steady { R.steady rdr.new ≡ R.steady rdr.old }
-        ensures keeps { R.bound rdr.new ≤ R.bound rdr.old }
     {
-        match operator_of(counted.key) {
-            Some(operator) => {
-                self.enter(operator);
-                let n = counted.count.times();
-                let motion = self.vi_cmd_motion(alloc, rdr, wrt, counted.key, n)?;
-                Ok(operator.command(motion))
-            }
-            None => self.vi_search(alloc, rdr, wrt, counted),
-        }
+        self.enter(operator);
+        let motion = self.vi_cmd_motion(alloc, rdr, wrt, key, n)?;
+        Ok(operator.command(motion))
     }
 
-    // A change turns to insert mode before its motion is read.
     fn enter(&mut self, operator: Operator)
-        ensures input { input_of self.new ≡ entered operator (input_of self.old) }
-        ensures mode { self.new.mode ≡ self.old.mode }
+        ensures input { input_of self.new ≡ entered (changes operator) (input_of self.old) }
         ensures bindings { self.new.custom_bindings ≡ self.old.custom_bindings }
     {
         match operator {
@@ -226,96 +216,11 @@ impl<D: Decides> InputState<'_, D> {
         }
     }
 
-    // The command of a search, or of a key that is none.
-    #[tactic(auto, using(crate::proofs::Refused::reader_because), unfolding(crate::specs::Vi::vi_search))]
-    fn vi_search<R: RawReader, W: Refresher>(
-        &mut self,
-        alloc: Global,
-        rdr: &mut R,
-        wrt: &W,
-        counted: Counted,
-    ) -> Result<Cmd, ReadlineError>
-        ensures answer { IsTrue (R.told rdr.old) → MetBy (R.steady rdr.old) result → result ≡ (vi_search (typed_count counted.count) (situation_in self.old D.decides (W.shown wrt.now) (times counted.count) true) counted.key (R.coming rdr.old)).answer }
-        ensures rest { IsTrue (R.told rdr.old) → MetBy (R.steady rdr.old) result → R.coming rdr.new ≡ (vi_search (typed_count counted.count) (situation_in self.old D.decides (W.shown wrt.now) (times counted.count) true) counted.key (R.coming rdr.old)).rest }
-        ensures input { IsTrue (R.told rdr.old) → MetBy (R.steady rdr.old) result → input_of self.new ≡ (vi_search (typed_count counted.count) (situation_in self.old D.decides (W.shown wrt.now) (times counted.count) true) counted.key (R.coming rdr.old)).input }
-        ensures mode { self.new.mode ≡ self.old.mode }
-        ensures bindings { self.new.custom_bindings ≡ self.old.custom_bindings }
-        ensures reason { IfErr result (λ e. Because (R.reason rdr.new) (W.reason wrt.now) (custom_in self.old D.decides) e) }
-        ensures told { IsTrue (R.told rdr.old) → IsTrue (R.told rdr.new) }
-        ensures steady { R.steady rdr.new ≡ R.steady rdr.old }
-        ensures keeps { R.bound rdr.new ≤ R.bound rdr.old }
-    {
-        match search_letter(counted.key) {
-            Some(letter) => {
-                let search = self.vi_char_search(rdr, letter)?;
-                let movement = searching(counted.count.times(), search);
-                Ok(move_or(Cmd::Unknown, movement))
-            }
-            None => self.vi_beyond_searches(alloc, rdr, wrt, counted),
-        }
-    }
-
-    // The command of a key that goes by the last change, or is no search.
-    #[tactic(auto, using(crate::proofs::Refused::memory_because, crate::proofs::Refused::reader_because), unfolding(crate::specs::Vi::vi_beyond_searches))]
-    fn vi_beyond_searches<R: RawReader, W: Refresher>(
-        &self,
-        alloc: Global,
-        rdr: &mut R,
-        wrt: &W,
-        counted: Counted,
-    ) -> Result<Cmd, ReadlineError>
-        ensures answer { IsTrue (R.told rdr.old) → MetBy (R.steady rdr.old) result → result ≡ (vi_beyond_searches (typed_count counted.count) (situation_in self.now D.decides (W.shown wrt.now) (times counted.count) true) counted.key (R.coming rdr.old)).answer }
-        ensures rest { IsTrue (R.told rdr.old) → MetBy (R.steady rdr.old) result → R.coming rdr.new ≡ (vi_beyond_searches (typed_count counted.count) (situation_in self.now D.decides (W.shown wrt.now) (times counted.count) true) counted.key (R.coming rdr.old)).rest }
-        ensures reason { IfErr result (λ e. Because (R.reason rdr.new) (W.reason wrt.now) (custom_in self.now D.decides) e) }
-        ensures told { IsTrue (R.told rdr.old) → IsTrue (R.told rdr.new) }
-        ensures steady { R.steady rdr.new ≡ R.steady rdr.old }
-        ensures keeps { R.bound rdr.new ≤ R.bound rdr.old }
-    {
-        let Counted { count, key } = counted;
-        let n = count.times();
-        if key == REPEAT {
-            let cmd = repeated(alloc, wrt, &self.last_cmd, typed_count(count))?;
-            return Ok(cmd);
-        }
-        if key == REPLACE {
-            return replacement(rdr, n);
-        }
-        self.vi_kept_search(alloc, rdr, wrt, key, n)
-    }
-
-    // The command of a key that goes by the search that is kept, and of one that no row of Vi has.
-    #[tactic(auto, unfolding(crate::specs::Vi::vi_kept_search))]
-    fn vi_kept_search<R: RawReader, W: Refresher>(
-        &self,
-        alloc: Global,
-        rdr: &mut R,
-        wrt: &W,
-        key: KeyEvent,
-        n: RepeatCount,
-    ) -> Result<Cmd, ReadlineError>
-        ensures answer { IsTrue (R.told rdr.old) → MetBy (R.steady rdr.old) result → result ≡ (vi_kept_search (situation_in self.now D.decides (W.shown wrt.now) n true) key (R.coming rdr.old)).answer }
-        ensures rest { IsTrue (R.told rdr.old) → MetBy (R.steady rdr.old) result → R.coming rdr.new ≡ (vi_kept_search (situation_in self.now D.decides (W.shown wrt.now) n true) key (R.coming rdr.old)).rest }
-        ensures reason { IfErr result (λ e. Because (R.reason rdr.new) (W.reason wrt.now) (custom_in self.now D.decides) e) }
-        ensures told { IsTrue (R.told rdr.old) → IsTrue (R.told rdr.new) }
-        ensures steady { R.steady rdr.new ≡ R.steady rdr.old }
-        ensures keeps { R.bound rdr.new ≤ R.bound rdr.old }
-    {
-        if key == AGAIN {
-            return Ok(move_or(Cmd::Noop, searching(n, self.last_char_search)));
-        }
-        if key == BACK_AGAIN {
-            return Ok(move_or(Cmd::Noop, searching(n, opposite(self.last_char_search))));
-        }
-        self.common(alloc, rdr, wrt, key, n, true)
-    }
-
     // Each change is the last one.
     fn changed_by(&mut self, alloc: Global, cmd: Cmd) -> Result<Cmd, ReadlineError>
-        ensures ok { IfOk result (λ c. c ≡ cmd) }
-        ensures input { OnOk result (input_of self.new ≡ changed_by cmd (input_of self.old)) }
-        ensures mode { self.new.mode ≡ self.old.mode }
+        ensures remembers { let is = (standing cmd).is_change in
+            Remembers is cmd (input_of self.old) (input_of self.new) result }
         ensures bindings { self.new.custom_bindings ≡ self.old.custom_bindings }
-        ensures err { IfErr result (λ e. e ≡ ReadlineError.Memory) }
     {
         if cmd.is_repeatable_change() {
             self.last_cmd = cmd.try_clone(alloc)?;
@@ -324,7 +229,7 @@ impl<D: Decides> InputState<'_, D> {
     }
 
     // The command that begins with this key in insert and replace mode.
-    #[tactic(auto, using(crate::proofs::Asks::Asked_none, crate::proofs::Refused::memory_because, crate::proofs::Refused::custom_because, crate::proofs::Refused::had_if_met), unfolding(crate::specs::Vi::vi_insert))]
+    #[tactic(auto, using(crate::proofs::Following::decides_stop, crate::proofs::Following::decides_follow, crate::proofs::Anew::anew_follows, crate::proofs::Following::ends_follow, crate::proofs::Following::as_follows), unfolding(crate::specs::Vi::vi_insert))]
     fn vi_insert<R: RawReader, W: Refresher>(
         &mut self,
         alloc: Global,
@@ -332,31 +237,45 @@ impl<D: Decides> InputState<'_, D> {
         wrt: &mut W,
         key: KeyEvent,
     ) -> Result<Cmd, ReadlineError>
-        ensures answer { IsTrue (R.told rdr.old) → MetBy (R.steady rdr.old) result → result ≡ (vi_insert (custom_in self.old D.decides) (W.rule wrt.old) (input_of self.old) (W.shown wrt.old) key (R.coming rdr.old)).answer }
-        ensures rest { IsTrue (R.told rdr.old) → MetBy (R.steady rdr.old) result → R.coming rdr.new ≡ (vi_insert (custom_in self.old D.decides) (W.rule wrt.old) (input_of self.old) (W.shown wrt.old) key (R.coming rdr.old)).rest }
-        ensures asks { IsTrue (R.told rdr.old) → MetBy (R.steady rdr.old) result → Asked W.asked W.shown W.rule wrt.old (vi_insert (custom_in self.old D.decides) (W.rule wrt.old) (input_of self.old) (W.shown wrt.old) key (R.coming rdr.old)).asks wrt.new }
-        ensures input { IsTrue (R.told rdr.old) → MetBy (R.steady rdr.old) result → input_of self.new ≡ (vi_insert (custom_in self.old D.decides) (W.rule wrt.old) (input_of self.old) (W.shown wrt.old) key (R.coming rdr.old)).input }
-        ensures mode { self.new.mode ≡ self.old.mode }
+        ensures phrase { let custom = custom_in self.old D.decides in
+            let input = input_of self.old in
+            let script = vi_insert custom key input (W.display.shown wrt.old) (R.feed rdr.old).coming in
+            Follows W.display custom script
+            wrt.old input wrt.new (input_of self.new) (R.feed rdr.old) (R.feed rdr.new) result }
         ensures bindings { self.new.custom_bindings ≡ self.old.custom_bindings }
-        ensures reason { IfErr result (λ e. Because (R.reason rdr.new) (W.reason wrt.new) (custom_in self.old D.decides) e) }
-        ensures told { IsTrue (R.told rdr.old) → IsTrue (R.told rdr.new) }
-        ensures steady { R.steady rdr.new ≡ R.steady rdr.old }
-        ensures keeps { R.bound rdr.new ≤ R.bound rdr.old }
     {
-        if let Some(cmd) = self.custom_binding(alloc, wrt, key, 0, true)? {
-            let cmd = made_again(alloc, wrt, cmd, None)?;
-            return Ok(cmd);
+        match self.custom_binding(alloc, wrt, key, 0, true)? {
+            Some(cmd) => cmd.made_anew(alloc, wrt, None),
+            None => match term_binding(rdr, wrt, key) {
+                Some(cmd) => Ok(cmd),
+                None => self.vi_typed(alloc, rdr, wrt, key),
+            },
         }
-        if let Some(cmd) = term_binding(rdr, wrt, key) {
-            return Ok(cmd);
-        }
+    }
+
+    // The command of the table, which is remembered if it is a change of its own.
+    #[tactic(auto, using(crate::proofs::Following::then_stops, crate::proofs::Following::then_follows, crate::proofs::Remembering::remember_follows))]
+    fn vi_typed<R: RawReader, W: Refresher>(
+        &mut self,
+        alloc: Global,
+        rdr: &mut R,
+        wrt: &mut W,
+        key: KeyEvent,
+    ) -> Result<Cmd, ReadlineError>
+        ensures phrase { let custom = custom_in self.old D.decides in
+            let input = input_of self.old in
+            let shown = W.display.shown wrt.old in
+            let script = and_then input shown (vi_insert_table custom input shown key) typed (R.feed rdr.old).coming in
+            Follows W.display custom script
+            wrt.old input wrt.new (input_of self.new) (R.feed rdr.old) (R.feed rdr.new) result }
+        ensures bindings { self.new.custom_bindings ≡ self.old.custom_bindings }
+    {
         let cmd = self.vi_insert_table(alloc, rdr, wrt, key)?;
-        let cmd = self.typed_by(alloc, cmd)?;
-        Ok(cmd)
+        self.typed_by(alloc, cmd)
     }
 
     // The command of the table: of a character, or of a row.
-    #[tactic(auto, using(crate::proofs::Asks::Asked_none), unfolding(crate::specs::Vi::vi_insert_table))]
+    #[tactic(auto, using(crate::proofs::Following::ends_follow, crate::proofs::Following::as_follows), unfolding(crate::specs::Vi::vi_insert_table))]
     fn vi_insert_table<R: RawReader, W: Refresher>(
         &mut self,
         alloc: Global,
@@ -364,16 +283,12 @@ impl<D: Decides> InputState<'_, D> {
         wrt: &mut W,
         key: KeyEvent,
     ) -> Result<Cmd, ReadlineError>
-        ensures answer { IsTrue (R.told rdr.old) → MetBy (R.steady rdr.old) result → result ≡ (vi_insert_table (custom_in self.old D.decides) (W.rule wrt.old) (input_of self.old) (W.shown wrt.old) key (R.coming rdr.old)).answer }
-        ensures rest { IsTrue (R.told rdr.old) → MetBy (R.steady rdr.old) result → R.coming rdr.new ≡ (vi_insert_table (custom_in self.old D.decides) (W.rule wrt.old) (input_of self.old) (W.shown wrt.old) key (R.coming rdr.old)).rest }
-        ensures asks { IsTrue (R.told rdr.old) → MetBy (R.steady rdr.old) result → Asked W.asked W.shown W.rule wrt.old (vi_insert_table (custom_in self.old D.decides) (W.rule wrt.old) (input_of self.old) (W.shown wrt.old) key (R.coming rdr.old)).asks wrt.new }
-        ensures input { IsTrue (R.told rdr.old) → MetBy (R.steady rdr.old) result → input_of self.new ≡ (vi_insert_table (custom_in self.old D.decides) (W.rule wrt.old) (input_of self.old) (W.shown wrt.old) key (R.coming rdr.old)).input }
-        ensures mode { self.new.mode ≡ self.old.mode }
+        ensures phrase { let custom = custom_in self.old D.decides in
+            let input = input_of self.old in
+            let script = vi_insert_table custom input (W.display.shown wrt.old) key (R.feed rdr.old).coming in
+            Follows W.display custom script
+            wrt.old input wrt.new (input_of self.new) (R.feed rdr.old) (R.feed rdr.new) result }
         ensures bindings { self.new.custom_bindings ≡ self.old.custom_bindings }
-        ensures reason { IfErr result (λ e. Because (R.reason rdr.new) (W.reason wrt.new) (custom_in self.old D.decides) e) }
-        ensures told { IsTrue (R.told rdr.old) → IsTrue (R.told rdr.new) }
-        ensures steady { R.steady rdr.new ≡ R.steady rdr.old }
-        ensures keeps { R.bound rdr.new ≤ R.bound rdr.old }
     {
         if let Some(c) = plain_char(key) {
             return Ok(typed_in(self.input_mode, c));
@@ -385,7 +300,7 @@ impl<D: Decides> InputState<'_, D> {
     }
 
     // The command of a key that leaves insert mode, or of one that no row of it has.
-    #[tactic(auto, using(crate::proofs::Asks::Asked_none, crate::proofs::Asks::Asked_then, crate::proofs::Refused::display_because), unfolding(crate::specs::Vi::vi_left))]
+    #[tactic(auto, using(crate::proofs::Following::ask_stops, crate::proofs::Following::ask_follows, crate::proofs::Following::becomes_follows, crate::proofs::Following::ends_follow, crate::proofs::Following::as_follows), unfolding(crate::specs::Vi::vi_left))]
     fn vi_left<R: RawReader, W: Refresher>(
         &mut self,
         alloc: Global,
@@ -393,16 +308,12 @@ impl<D: Decides> InputState<'_, D> {
         wrt: &mut W,
         key: KeyEvent,
     ) -> Result<Cmd, ReadlineError>
-        ensures answer { IsTrue (R.told rdr.old) → MetBy (R.steady rdr.old) result → result ≡ (vi_left (custom_in self.old D.decides) (W.rule wrt.old) (input_of self.old) (W.shown wrt.old) key (R.coming rdr.old)).answer }
-        ensures rest { IsTrue (R.told rdr.old) → MetBy (R.steady rdr.old) result → R.coming rdr.new ≡ (vi_left (custom_in self.old D.decides) (W.rule wrt.old) (input_of self.old) (W.shown wrt.old) key (R.coming rdr.old)).rest }
-        ensures asks { IsTrue (R.told rdr.old) → MetBy (R.steady rdr.old) result → Asked W.asked W.shown W.rule wrt.old (vi_left (custom_in self.old D.decides) (W.rule wrt.old) (input_of self.old) (W.shown wrt.old) key (R.coming rdr.old)).asks wrt.new }
-        ensures input { IsTrue (R.told rdr.old) → MetBy (R.steady rdr.old) result → input_of self.new ≡ (vi_left (custom_in self.old D.decides) (W.rule wrt.old) (input_of self.old) (W.shown wrt.old) key (R.coming rdr.old)).input }
-        ensures mode { self.new.mode ≡ self.old.mode }
+        ensures phrase { let custom = custom_in self.old D.decides in
+            let input = input_of self.old in
+            let script = vi_left custom input (W.display.shown wrt.old) key (R.feed rdr.old).coming in
+            Follows W.display custom script
+            wrt.old input wrt.new (input_of self.new) (R.feed rdr.old) (R.feed rdr.new) result }
         ensures bindings { self.new.custom_bindings ≡ self.old.custom_bindings }
-        ensures reason { IfErr result (λ e. Because (R.reason rdr.new) (W.reason wrt.new) (custom_in self.old D.decides) e) }
-        ensures told { IsTrue (R.told rdr.old) → IsTrue (R.told rdr.new) }
-        ensures steady { R.steady rdr.new ≡ R.steady rdr.old }
-        ensures keeps { R.bound rdr.new ≤ R.bound rdr.old }
     {
         if let Some(c) = alt_char(key) {
             self.input_mode = InputMode::Command;
@@ -419,50 +330,14 @@ impl<D: Decides> InputState<'_, D> {
 
     // Each change is the last one, but for typed characters that go on with it.
     fn typed_by(&mut self, alloc: Global, cmd: Cmd) -> Result<Cmd, ReadlineError>
-        ensures ok { IfOk result (λ c. c ≡ cmd) }
-        ensures input { OnOk result (input_of self.new ≡ typed_by cmd (input_of self.old)) }
-        ensures mode { self.new.mode ≡ self.old.mode }
+        ensures remembers { let is = is_new cmd (input_of self.old) in
+            Remembers is cmd (input_of self.old) (input_of self.new) result }
         ensures bindings { self.new.custom_bindings ≡ self.old.custom_bindings }
-        ensures err { IfErr result (λ e. e ≡ ReadlineError.Memory) }
     {
         match (&self.last_cmd, &cmd) {
             (Cmd::Replace(..) | Cmd::SelfInsert(..), Cmd::SelfInsert(..)) => Ok(cmd),
             _ => self.changed_by(alloc, cmd),
         }
-    }
-}
-
-// A bound command, with another count if one was typed.
-fn made_again<W: Refresher>(
-    alloc: Global,
-    wrt: &W,
-    cmd: Cmd,
-    new: Option<RepeatCount>,
-) -> Result<Cmd, ReadlineError>
-    ensures ok { IfOk result (λ c. c ≡ made_again new (W.shown wrt.now) cmd) }
-    ensures err { IfErr result (λ e. e ≡ ReadlineError.Memory) }
-{
-    if cmd.is_repeatable() {
-        cmd.redo(alloc, new, wrt)
-    } else {
-        Ok(cmd)
-    }
-}
-
-// The last change once more, with another count if one was typed.
-fn repeated<W: Refresher>(
-    alloc: Global,
-    wrt: &W,
-    last: &Cmd,
-    new: Option<RepeatCount>,
-) -> Result<Cmd, ReadlineError>
-    ensures ok { IfOk result (λ c. c ≡ repeated new (W.shown wrt.now) last.now) }
-    ensures err { IfErr result (λ e. e ≡ ReadlineError.Memory) }
-{
-    if last.is_repeatable() {
-        last.redo(alloc, new, wrt)
-    } else {
-        Ok(Cmd::Noop)
     }
 }
 
@@ -486,21 +361,24 @@ fn typed_in(mode: InputMode, c: char) -> Cmd
 }
 
 // The character that is typed next, in place of those under the cursor.
+#[tactic(auto, using(crate::proofs::KeyReads::made_of_read, crate::proofs::KeyReads::not_made))]
 fn replacement<R: RawReader>(rdr: &mut R, n: RepeatCount) -> Result<Cmd, ReadlineError>
-    ensures answer { IsTrue (R.told rdr.old) → MetBy (R.steady rdr.old) result → result ≡ (replacement n (R.coming rdr.old)).answer }
-    ensures rest { IsTrue (R.told rdr.old) → MetBy (R.steady rdr.old) result → R.coming rdr.new ≡ (replacement n (R.coming rdr.old)).rest }
-    ensures refused { IfErr result IsReaderRefusal }
-    ensures reason { IfErr result (λ e. R.reason rdr.new e) }
-    ensures told { IsTrue (R.told rdr.old) → IsTrue (R.told rdr.new) }
-    ensures steady { R.steady rdr.new ≡ R.steady rdr.old }
-    ensures keeps { R.bound rdr.new ≤ R.bound rdr.old }
+    ensures { let given = from_key_at (replacement n) in
+        ReadsBy Key given (R.feed rdr.old) (R.feed rdr.new) result }
 {
     let key = rdr.next_key(false)?;
+    Ok(replaced_by(key, n))
+}
+
+// What the key behind the one for replacing gives.
+fn replaced_by(key: KeyEvent, n: RepeatCount) -> Cmd
+    ensures { result ≡ replacement n key }
+{
     if let Some(c) = plain_char(key) {
-        return Ok(Cmd::ReplaceChar(n, c));
+        return Cmd::ReplaceChar(n, c);
     }
     if key == KeyEvent::ESC {
-        return Ok(Cmd::Noop);
+        return Cmd::Noop;
     }
-    Ok(Cmd::Unknown)
+    Cmd::Unknown
 }

@@ -1,16 +1,16 @@
 //! Motions behind Vi's operators, and searches for a character.
 
-ghost use Rattle.std.specs.Prelude.{◌≡◌, ◌≤◌, IsTrue, IfErr};
-ghost use Rattle.line_config.specs.Refusals.{MetBy};
-ghost use Rattle.line_keys.specs.Faults.{IsReaderRefusal};
-ghost use Rattle.line_keys.specs.ViMotions.{motion_rows, change_rows, moved, searching};
+ghost use Rattle.std.specs.Prelude.{◌≡◌, option_map};
 ghost use Rattle.line_keys.specs.KeyRows.{given};
-ghost use Rattle.line_keys.specs.ViSearches.{opposite_of, search_letter, search_of};
+ghost use Rattle.line_keys.specs.ViMotions.{motion_rows, change_rows, motion_of};
+ghost use Rattle.line_keys.specs.ViSearches.{opposite_of, searching};
+ghost use Rattle.line_keys.specs.Meant.{motion_meant};
 
 use crate::flags::Modifiers;
 use crate::handler::Decides;
 use crate::key::{KeyCode, KeyEvent};
 use crate::keymap::InputState;
+use crate::keymap::count::Counted;
 use crate::keymap::emacs::plain_char;
 use crate::refresh::Refresher;
 use crate::tty::RawReader;
@@ -20,32 +20,39 @@ use std::alloc::Global;
 
 const CHANGE: KeyEvent = KeyEvent(KeyCode::Char('c'), Modifiers::NONE);
 
-/// The same search once more.
-pub(crate) const AGAIN: KeyEvent = KeyEvent(KeyCode::Char(';'), Modifiers::NONE);
+/// A way to search for a character.
+#[derive(Clone, Copy)]
+pub(crate) enum Search {
+    Forward,
+    ForwardBefore,
+    Backward,
+    BackwardAfter,
+}
 
-/// The same search the other way.
-pub(crate) const BACK_AGAIN: KeyEvent = KeyEvent(KeyCode::Char(','), Modifiers::NONE);
+impl Search {
+    ghost use Rattle.line_keys.specs.Meant.{search_of};
 
-/// The letter of a search that a key begins.
-pub(crate) fn search_letter(key: KeyEvent) -> Option<char>
-    ensures { result ≡ search_letter key }
-{
-    match key {
-        KeyEvent(KeyCode::Char(c @ ('f' | 't' | 'F' | 'T')), Modifiers::NONE) => Some(c),
-        _ => None,
+    fn to(self, c: char) -> CharSearch
+        ensures { result ≡ search_of self c }
+    {
+        match self {
+            Search::Forward => CharSearch::Forward(c),
+            Search::ForwardBefore => CharSearch::ForwardBefore(c),
+            Search::Backward => CharSearch::Backward(c),
+            Search::BackwardAfter => CharSearch::BackwardAfter(c),
+        }
     }
 }
 
-// The search for a character that a letter begins.
-fn search_of(letter: char, c: char) -> CharSearch
-    ensures { result ≡ search_of letter c }
-{
-    match letter {
-        'f' => CharSearch::Forward(c),
-        't' => CharSearch::ForwardBefore(c),
-        'F' => CharSearch::Backward(c),
-        _ => CharSearch::BackwardAfter(c),
-    }
+/// What a key is behind an operator.
+#[derive(Drop)]
+pub(crate) enum Motion {
+    Go(Movement),
+    Seek(Search),
+    /// The search that is kept, once more.
+    Again,
+    /// The search that is kept, the other way.
+    Back,
 }
 
 /// The search the other way.
@@ -69,69 +76,79 @@ pub(crate) fn searching(n: RepeatCount, search: Option<CharSearch>) -> Option<Mo
 }
 
 // The rows of motions.
-fn motion_row(key: KeyEvent, n: RepeatCount) -> Option<Movement>
-    ensures { result ≡ given n key motion_rows }
+fn motion_row(key: KeyEvent, n: RepeatCount) -> Option<Motion>
+    ensures { option_map motion_meant result ≡ given n key motion_rows }
 {
     use KeyCode as K;
     use KeyEvent as E;
     use Modifiers as M;
+    use Motion as G;
 
     match key {
-        E(K::Char('$'), M::NONE) => Some(Movement::EndOfLine),
-        E(K::Char('0'), M::NONE) => Some(Movement::BeginningOfLine),
-        E(K::Char('^'), M::NONE) => Some(Movement::ViFirstPrint),
-        E(K::Char('b'), M::NONE) => Some(Movement::BackwardWord(n, Word::Vi)),
-        E(K::Char('B'), M::NONE) => Some(Movement::BackwardWord(n, Word::Big)),
-        E(K::Char('e'), M::NONE) => Some(Movement::ForwardWord(n, At::AfterEnd, Word::Vi)),
-        E(K::Char('E'), M::NONE) => Some(Movement::ForwardWord(n, At::AfterEnd, Word::Big)),
+        E(K::Char('$'), M::NONE) => Some(G::Go(Movement::EndOfLine)),
+        E(K::Char('0'), M::NONE) => Some(G::Go(Movement::BeginningOfLine)),
+        E(K::Char('^'), M::NONE) => Some(G::Go(Movement::ViFirstPrint)),
+        E(K::Char('b'), M::NONE) => Some(G::Go(Movement::BackwardWord(n, Word::Vi))),
+        E(K::Char('B'), M::NONE) => Some(G::Go(Movement::BackwardWord(n, Word::Big))),
+        E(K::Char('e'), M::NONE) => Some(G::Go(Movement::ForwardWord(n, At::AfterEnd, Word::Vi))),
+        E(K::Char('E'), M::NONE) => Some(G::Go(Movement::ForwardWord(n, At::AfterEnd, Word::Big))),
+        E(K::Char('f'), M::NONE) => Some(G::Seek(Search::Forward)),
+        E(K::Char('t'), M::NONE) => Some(G::Seek(Search::ForwardBefore)),
+        E(K::Char('F'), M::NONE) => Some(G::Seek(Search::Backward)),
+        E(K::Char('T'), M::NONE) => Some(G::Seek(Search::BackwardAfter)),
+        E(K::Char(';'), M::NONE) => Some(G::Again),
+        E(K::Char(','), M::NONE) => Some(G::Back),
         E(K::Char('h'), M::NONE) | E(K::Char('H'), M::CTRL) | E::BACKSPACE => {
-            Some(Movement::BackwardChar(n))
+            Some(G::Go(Movement::BackwardChar(n)))
         }
-        E(K::Char('l' | ' '), M::NONE) => Some(Movement::ForwardChar(n)),
-        E(K::Char('j' | '+'), M::NONE) => Some(Movement::LineDown(n)),
-        E(K::Char('k' | '-'), M::NONE) => Some(Movement::LineUp(n)),
-        E(K::Char('w'), M::NONE) => Some(Movement::ForwardWord(n, At::Start, Word::Vi)),
-        E(K::Char('W'), M::NONE) => Some(Movement::ForwardWord(n, At::Start, Word::Big)),
+        E(K::Char('l' | ' '), M::NONE) => Some(G::Go(Movement::ForwardChar(n))),
+        E(K::Char('j' | '+'), M::NONE) => Some(G::Go(Movement::LineDown(n))),
+        E(K::Char('k' | '-'), M::NONE) => Some(G::Go(Movement::LineUp(n))),
+        E(K::Char('w'), M::NONE) => Some(G::Go(Movement::ForwardWord(n, At::Start, Word::Vi))),
+        E(K::Char('W'), M::NONE) => Some(G::Go(Movement::ForwardWord(n, At::Start, Word::Big))),
         _ => None,
     }
 }
 
 // The rows of motions of a change, which takes no blanks behind a word.
-fn change_row(key: KeyEvent, n: RepeatCount) -> Option<Movement>
-    ensures { result ≡ given n key change_rows }
+fn change_row(key: KeyEvent, n: RepeatCount) -> Option<Motion>
+    ensures { option_map motion_meant result ≡ given n key change_rows }
 {
     match key {
         KeyEvent(KeyCode::Char('w'), Modifiers::NONE) => {
-            Some(Movement::ForwardWord(n, At::AfterEnd, Word::Vi))
+            Some(Motion::Go(Movement::ForwardWord(n, At::AfterEnd, Word::Vi)))
         }
         KeyEvent(KeyCode::Char('W'), Modifiers::NONE) => {
-            Some(Movement::ForwardWord(n, At::AfterEnd, Word::Big))
+            Some(Motion::Go(Movement::ForwardWord(n, At::AfterEnd, Word::Big)))
         }
         _ => None,
     }
 }
 
-fn moved(changing: bool, key: KeyEvent, n: RepeatCount) -> Option<Movement>
-    ensures { result ≡ moved changing n key }
+// What a key is behind an operator, which may be a change.
+#[tactic(auto, using(crate::proofs::Deeds::change_first, crate::proofs::Deeds::motion_then), unfolding(crate::specs::ViMotions::motion_of))]
+fn motion_of(changing: bool, key: KeyEvent, n: RepeatCount) -> Option<Motion>
+    ensures { option_map motion_meant result ≡ motion_of changing n key }
 {
     if !changing {
         return motion_row(key, n);
     }
     match change_row(key, n) {
-        Some(movement) => Some(movement),
+        Some(motion) => Some(motion),
         None => motion_row(key, n),
     }
 }
 
 impl<D: Decides> InputState<'_, D> {
     ghost use Rattle.line_keys.specs.InputStates.{input_of, custom_in};
-    ghost use Rattle.line_keys.specs.Reasons.{Because};
-    ghost use Rattle.line_keys.specs.Refreshing.{Asked};
-    ghost use Rattle.line_keys.specs.ViMotions.{motion_at_once, motion_by, vi_motion};
+    ghost use Rattle.line_keys.specs.Follows.{Follows, silent};
+    ghost use Rattle.line_keys.specs.Meant.{search_of};
+    ghost use Rattle.line_keys.specs.ViMotions.{change, motion_done, vi_motion};
     ghost use Rattle.line_keys.specs.ViSearches.{sought};
+    ghost use Rattle.line_keys.specs.SameKeys.{same_key};
 
     /// The motion behind an operator's key; none where another key follows.
-    #[tactic(auto, using(crate::proofs::Asks::Asked_none, crate::proofs::Asks::Asked_both, crate::proofs::Refused::reader_because), unfolding(crate::specs::ViMotions::vi_motion))]
+    #[tactic(auto, using(crate::proofs::Following::read_stops, crate::proofs::Following::read_follows, crate::proofs::Following::then_stops, crate::proofs::Following::then_follows, crate::proofs::Following::silent_follows, crate::proofs::Following::ends_follow))]
     pub(crate) fn vi_cmd_motion<R: RawReader, W: Refresher>(
         &mut self,
         alloc: Global,
@@ -140,89 +157,64 @@ impl<D: Decides> InputState<'_, D> {
         operator: KeyEvent,
         n: RepeatCount,
     ) -> Result<Option<Movement>, ReadlineError>
-        ensures answer { IsTrue (R.told rdr.old) → MetBy (R.steady rdr.old) result → result ≡ (vi_motion (W.rule wrt.old) (W.shown wrt.old) operator n (input_of self.old) (R.coming rdr.old)).answer }
-        ensures rest { IsTrue (R.told rdr.old) → MetBy (R.steady rdr.old) result → R.coming rdr.new ≡ (vi_motion (W.rule wrt.old) (W.shown wrt.old) operator n (input_of self.old) (R.coming rdr.old)).rest }
-        ensures asks { IsTrue (R.told rdr.old) → MetBy (R.steady rdr.old) result → Asked W.asked W.shown W.rule wrt.old (vi_motion (W.rule wrt.old) (W.shown wrt.old) operator n (input_of self.old) (R.coming rdr.old)).asks wrt.new }
-        ensures input { IsTrue (R.told rdr.old) → MetBy (R.steady rdr.old) result → input_of self.new ≡ (vi_motion (W.rule wrt.old) (W.shown wrt.old) operator n (input_of self.old) (R.coming rdr.old)).input }
-        ensures mode { self.new.mode ≡ self.old.mode }
+        ensures motion { let input = input_of self.old in
+            let script = vi_motion operator n input (W.display.shown wrt.old) (R.feed rdr.old).coming in
+            Follows W.display (custom_in self.old D.decides) script
+            wrt.old input wrt.new (input_of self.new) (R.feed rdr.old) (R.feed rdr.new) result }
         ensures bindings { self.new.custom_bindings ≡ self.old.custom_bindings }
-        ensures reason { IfErr result (λ e. Because (R.reason rdr.new) (W.reason wrt.new) (custom_in self.old D.decides) e) }
-        ensures told { IsTrue (R.told rdr.old) → IsTrue (R.told rdr.new) }
-        ensures steady { R.steady rdr.new ≡ R.steady rdr.old }
-        ensures keeps { R.bound rdr.new ≤ R.bound rdr.old }
     {
         let key = rdr.next_key(false)?;
         if key == operator {
             return Ok(Some(Movement::WholeLine));
         }
-        let changing = operator == CHANGE;
         let counted = self.second_count(alloc, rdr, wrt, key, n)?;
-        self.motion_by(rdr, changing, counted.key, counted.count.amount)
+        self.counted_motion(rdr, operator, counted)
     }
 
-    // The motion of a key, which a search reads on for.
-    fn motion_by<R: RawReader>(
+    // The motion of the key behind a second count.
+    #[tactic(auto, using(crate::proofs::Following::as_follows, crate::proofs::Following::ends_follow))]
+    fn counted_motion<R: RawReader>(
         &mut self,
         rdr: &mut R,
-        changing: bool,
-        key: KeyEvent,
-        n: RepeatCount,
+        operator: KeyEvent,
+        counted: Counted,
     ) -> Result<Option<Movement>, ReadlineError>
-        ensures answer { IsTrue (R.told rdr.old) → MetBy (R.steady rdr.old) result → result ≡ (motion_by changing n key (input_of self.old) (R.coming rdr.old)).answer }
-        ensures rest { IsTrue (R.told rdr.old) → MetBy (R.steady rdr.old) result → R.coming rdr.new ≡ (motion_by changing n key (input_of self.old) (R.coming rdr.old)).rest }
-        ensures input { IsTrue (R.told rdr.old) → MetBy (R.steady rdr.old) result → input_of self.new ≡ (motion_by changing n key (input_of self.old) (R.coming rdr.old)).input }
-        ensures mode { self.new.mode ≡ self.old.mode }
+        ensures motion { let input = input_of self.old in
+            let given = motion_of (same_key operator change) counted.count.amount counted.key in
+            let script = motion_done counted.count.amount input given (R.feed rdr.old).coming in
+            Follows silent (custom_in self.old D.decides) script
+            tt input tt (input_of self.new) (R.feed rdr.old) (R.feed rdr.new) result }
         ensures bindings { self.new.custom_bindings ≡ self.old.custom_bindings }
-        ensures refused { IfErr result IsReaderRefusal }
-        ensures reason { IfErr result (λ e. R.reason rdr.new e) }
-        ensures told { IsTrue (R.told rdr.old) → IsTrue (R.told rdr.new) }
-        ensures steady { R.steady rdr.new ≡ R.steady rdr.old }
-        ensures keeps { R.bound rdr.new ≤ R.bound rdr.old }
     {
-        match search_letter(key) {
-            Some(letter) => {
-                let search = self.vi_char_search(rdr, letter)?;
-                Ok(searching(n, search))
-            }
-            None => Ok(self.motion_at_once(changing, key, n)),
+        let n = counted.count.amount;
+        match motion_of(operator == CHANGE, counted.key, n) {
+            Some(Motion::Go(movement)) => Ok(Some(movement)),
+            Some(Motion::Seek(search)) => self.vi_char_search(rdr, search, n),
+            Some(Motion::Again) => Ok(searching(n, self.last_char_search)),
+            Some(Motion::Back) => Ok(searching(n, opposite(self.last_char_search))),
+            None => Ok(None),
         }
     }
 
-    fn motion_at_once(&self, changing: bool, key: KeyEvent, n: RepeatCount) -> Option<Movement>
-        ensures { result ≡ motion_at_once changing n key (input_of self.now) }
-    {
-        if key == AGAIN {
-            return searching(n, self.last_char_search);
-        }
-        if key == BACK_AGAIN {
-            return searching(n, opposite(self.last_char_search));
-        }
-        moved(changing, key, n)
-    }
-
-    /// The search by this letter for the character that is typed next, which is remembered.
+    /// The movement to the character that is typed next, whose search is remembered.
+    #[tactic(auto, using(crate::proofs::Following::read_stops, crate::proofs::Following::read_follows, crate::proofs::Following::becomes_follows, crate::proofs::Following::ends_follow))]
     pub(crate) fn vi_char_search<R: RawReader>(
         &mut self,
         rdr: &mut R,
-        letter: char,
-    ) -> Result<Option<CharSearch>, ReadlineError>
-        ensures answer { IsTrue (R.told rdr.old) → MetBy (R.steady rdr.old) result → result ≡ (sought letter (input_of self.old) (R.coming rdr.old)).answer }
-        ensures rest { IsTrue (R.told rdr.old) → MetBy (R.steady rdr.old) result → R.coming rdr.new ≡ (sought letter (input_of self.old) (R.coming rdr.old)).rest }
-        ensures input { IsTrue (R.told rdr.old) → MetBy (R.steady rdr.old) result → input_of self.new ≡ (sought letter (input_of self.old) (R.coming rdr.old)).input }
-        ensures mode { self.new.mode ≡ self.old.mode }
+        search: Search,
+        n: RepeatCount,
+    ) -> Result<Option<Movement>, ReadlineError>
+        ensures sought { let input = input_of self.old in
+            Follows silent (custom_in self.old D.decides) (sought (search_of search) n input (R.feed rdr.old).coming)
+            tt input tt (input_of self.new) (R.feed rdr.old) (R.feed rdr.new) result }
         ensures bindings { self.new.custom_bindings ≡ self.old.custom_bindings }
-        ensures refused { IfErr result IsReaderRefusal }
-        ensures reason { IfErr result (λ e. R.reason rdr.new e) }
-        ensures told { IsTrue (R.told rdr.old) → IsTrue (R.told rdr.new) }
-        ensures steady { R.steady rdr.new ≡ R.steady rdr.old }
-        ensures keeps { R.bound rdr.new ≤ R.bound rdr.old }
     {
         let key = rdr.next_key(false)?;
         let Some(c) = plain_char(key) else {
             return Ok(None);
         };
-        let search = search_of(letter, c);
+        let search = search.to(c);
         self.last_char_search = Some(search);
-        Ok(Some(search))
+        Ok(Some(Movement::ViCharSearch(n, search)))
     }
 }

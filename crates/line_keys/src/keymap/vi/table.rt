@@ -1,25 +1,41 @@
 //! The rows of Vi's tables.
 
-ghost use Rattle.std.specs.Prelude.{◌≡◌, true, false};
+ghost use Rattle.std.specs.Prelude.{◌≡◌, option_map};
 ghost use Rattle.line_keys.specs.KeyRows.{given};
 ghost use Rattle.line_keys.specs.Tables.{look};
-ghost use Rattle.line_keys.specs.ViTables.{vi_move_rows, vi_edit_rows, vi_insert_rows, vi_turn_rows, operator_rows, turn_to};
-ghost use Rattle.line_keys.specs.Vi.{alt_char, operated_on};
+ghost use Rattle.line_keys.specs.ViTables.{Gives, vi_move_rows, vi_edit_rows, vi_insert_rows, vi_turn_rows, vi_reading_rows, deed_of};
+ghost use Rattle.line_keys.specs.Vi.{alt_char, operated};
+ghost use Rattle.line_keys.specs.Meant.{meant};
+ghost use Rattle.std.specs.Prelude.{ℕ, None, true};
+ghost use Rattle.line_keys.specs.ViTables.{Turns};
+ghost use Rattle.line_keys.specs.declared.command.Cmd.TheVariants.{Replace};
 ghost use Rattle.line_keys.specs.declared.command.InputMode.TheVariants.{Insert};
 
 use crate::command::{Cmd, InputMode};
 use crate::flags::Modifiers;
 use crate::key::{KeyCode, KeyEvent};
+use crate::keymap::vi::motion::Search;
 use crate::refresh::Refresher;
 use line_buffer::{Anchor, At, Movement, RepeatCount, Word};
 
-/// A command of command mode that turns to another mode.
+/// What a key of command mode does.
 #[derive(Drop)]
-pub(crate) struct Turn {
-    pub mode: InputMode,
-    /// The display is told that inserting begins.
-    pub marked: bool,
-    pub cmd: Cmd,
+pub(crate) enum Deed {
+    Give(Cmd),
+    /// Turns to insert mode, which the display is told.
+    Insert(Cmd),
+    /// Turns to a mode by a command that itself begins what is undone as one.
+    Turn(InputMode, Cmd),
+    Operate(Operator),
+    Search(Search),
+    /// The search that is kept, once more.
+    Again,
+    /// The search that is kept, the other way.
+    Back,
+    /// The last change once more.
+    Repeat,
+    /// The character that is typed next, in place of those under the cursor.
+    Replace,
 }
 
 /// What a motion follows.
@@ -33,9 +49,11 @@ pub(crate) enum Operator {
 }
 
 impl Operator {
+    ghost use Rattle.line_keys.specs.Meant.{command_of};
+
     /// What the operator makes of a motion.
     pub fn command(self, motion: Option<Movement>) -> Cmd
-        ensures { result ≡ operated_on self motion }
+        ensures { result ≡ operated (command_of self) motion }
     {
         let Some(movement) = motion else {
             return Cmd::Unknown;
@@ -47,23 +65,6 @@ impl Operator {
             Operator::Dedent => Cmd::Dedent(movement),
             Operator::Indent => Cmd::Indent(movement),
         }
-    }
-}
-
-/// The operator that a key is.
-pub(crate) fn operator_of(key: KeyEvent) -> Option<Operator>
-    ensures { result ≡ given 1 key operator_rows }
-{
-    let KeyEvent(KeyCode::Char(c), Modifiers::NONE) = key else {
-        return None;
-    };
-    match c {
-        'c' => Some(Operator::Change),
-        'd' => Some(Operator::Delete),
-        'y' => Some(Operator::Yank),
-        '<' => Some(Operator::Dedent),
-        '>' => Some(Operator::Indent),
-        _ => None,
     }
 }
 
@@ -79,7 +80,7 @@ pub(crate) fn alt_char(key: KeyEvent) -> Option<char>
 
 /// The rows of insert mode.
 pub(crate) fn vi_insert_row<W: Refresher>(wrt: &W, key: KeyEvent) -> Option<Cmd>
-    ensures { result ≡ look (W.shown wrt.now) 1 true key vi_insert_rows }
+    ensures { result ≡ look (W.display.shown wrt.now) 1 true key vi_insert_rows }
 {
     use KeyCode as K;
     use KeyEvent as E;
@@ -97,9 +98,9 @@ pub(crate) fn vi_insert_row<W: Refresher>(wrt: &W, key: KeyEvent) -> Option<Cmd>
     }
 }
 
-/// The rows of motions.
-pub(crate) fn vi_move_row(key: KeyEvent, n: RepeatCount) -> Option<Cmd>
-    ensures { result ≡ given n key vi_move_rows }
+// The rows of motions.
+fn vi_move_row(key: KeyEvent, n: RepeatCount) -> Option<Cmd>
+    ensures { option_map Gives result ≡ given n key vi_move_rows }
 {
     use KeyCode as K;
     use KeyEvent as E;
@@ -133,9 +134,9 @@ pub(crate) fn vi_move_row(key: KeyEvent, n: RepeatCount) -> Option<Cmd>
     }
 }
 
-/// The rows of edits that wait for no motion, and the rest.
-pub(crate) fn vi_edit_row(key: KeyEvent, n: RepeatCount) -> Option<Cmd>
-    ensures { result ≡ given n key vi_edit_rows }
+// The rows of edits that wait for no motion, and the rest.
+fn vi_edit_row(key: KeyEvent, n: RepeatCount) -> Option<Cmd>
+    ensures { option_map Gives result ≡ given n key vi_edit_rows }
 {
     use KeyCode as K;
     use KeyEvent as E;
@@ -159,51 +160,81 @@ pub(crate) fn vi_edit_row(key: KeyEvent, n: RepeatCount) -> Option<Cmd>
     }
 }
 
-/// The rows of command mode whose keys leave it.
-pub(crate) fn vi_turn(key: KeyEvent, n: RepeatCount) -> Option<Turn>
-    ensures { result ≡ given n key vi_turn_rows }
+// The rows whose keys leave command mode.
+fn vi_turn_row(key: KeyEvent, n: RepeatCount) -> Option<Deed>
+    ensures { option_map meant result ≡ given n key vi_turn_rows }
 {
     use KeyCode as K;
     use KeyEvent as E;
     use Modifiers as M;
 
     match key {
-        E(K::Char('a'), M::NONE) => Some(inserting(Cmd::Move(Movement::ForwardChar(n)))),
-        E(K::Char('A'), M::NONE) => Some(inserting(Cmd::Move(Movement::EndOfLine))),
-        E(K::Char('C'), M::NONE) => Some(replacing(Cmd::Replace(Movement::EndOfLine, None))),
-        E(K::Char('i'), M::NONE) => Some(inserting(Cmd::Noop)),
-        E(K::Char('I'), M::NONE) => Some(inserting(Cmd::Move(Movement::BeginningOfLine))),
-        E(K::Char('R'), M::NONE) => Some(Turn {
-            mode: InputMode::Replace,
-            marked: false,
-            cmd: Cmd::Replace(Movement::ForwardChar(0), None),
-        }),
-        E(K::Char('s'), M::NONE) => Some(replacing(Cmd::Replace(Movement::ForwardChar(n), None))),
-        E(K::Char('S'), M::NONE) => Some(replacing(Cmd::Replace(Movement::WholeLine, None))),
-        E(K::Char('R'), M::CTRL) => Some(replacing(Cmd::ReverseSearchHistory)),
-        E(K::Char('S'), M::CTRL) => Some(replacing(Cmd::ForwardSearchHistory)),
+        E(K::Char('a'), M::NONE) => Some(Deed::Insert(Cmd::Move(Movement::ForwardChar(n)))),
+        E(K::Char('A'), M::NONE) => Some(Deed::Insert(Cmd::Move(Movement::EndOfLine))),
+        E(K::Char('i'), M::NONE) => Some(Deed::Insert(Cmd::Noop)),
+        E(K::Char('I'), M::NONE) => Some(Deed::Insert(Cmd::Move(Movement::BeginningOfLine))),
+        E(K::Char('C'), M::NONE) => Some(replacing(Movement::EndOfLine)),
+        E(K::Char('s'), M::NONE) => Some(replacing(Movement::ForwardChar(n))),
+        E(K::Char('S'), M::NONE) => Some(replacing(Movement::WholeLine)),
+        E(K::Char('R'), M::NONE) => {
+            let cmd = Cmd::Replace(Movement::ForwardChar(0), None);
+            Some(Deed::Turn(InputMode::Replace, cmd))
+        }
+        E(K::Char('R'), M::CTRL) => {
+            Some(Deed::Turn(InputMode::Insert, Cmd::ReverseSearchHistory))
+        }
+        E(K::Char('S'), M::CTRL) => {
+            Some(Deed::Turn(InputMode::Insert, Cmd::ForwardSearchHistory))
+        }
         _ => None,
     }
 }
 
-// To insert mode, which the display is told.
-fn inserting(cmd: Cmd) -> Turn
-    ensures { result ≡ turn_to Insert true cmd }
+// To insert mode, where what is typed takes the range's place.
+fn replacing(range: Movement) -> Deed
+    ensures { meant result ≡ Turns Insert (Replace range None) }
 {
-    Turn {
-        mode: InputMode::Insert,
-        marked: true,
-        cmd,
+    Deed::Turn(InputMode::Insert, Cmd::Replace(range, None))
+}
+
+// The rows whose keys read on, or go by what is kept.
+fn vi_reading_row(key: KeyEvent) -> Option<Deed>
+    ensures { (n : ℕ) → option_map meant result ≡ given n key vi_reading_rows }
+{
+    let KeyEvent(KeyCode::Char(c), Modifiers::NONE) = key else {
+        return None;
+    };
+    match c {
+        'c' => Some(Deed::Operate(Operator::Change)),
+        'd' => Some(Deed::Operate(Operator::Delete)),
+        'y' => Some(Deed::Operate(Operator::Yank)),
+        '<' => Some(Deed::Operate(Operator::Dedent)),
+        '>' => Some(Deed::Operate(Operator::Indent)),
+        'f' => Some(Deed::Search(Search::Forward)),
+        't' => Some(Deed::Search(Search::ForwardBefore)),
+        'F' => Some(Deed::Search(Search::Backward)),
+        'T' => Some(Deed::Search(Search::BackwardAfter)),
+        ';' => Some(Deed::Again),
+        ',' => Some(Deed::Back),
+        '.' => Some(Deed::Repeat),
+        'r' => Some(Deed::Replace),
+        _ => None,
     }
 }
 
-// To insert mode, where the command itself begins what is undone as one.
-fn replacing(cmd: Cmd) -> Turn
-    ensures { result ≡ turn_to Insert false cmd }
+/// What a key of command mode does, by the count.
+#[tactic(auto, using(crate::proofs::Deeds::first_table, crate::proofs::Deeds::second_table, crate::proofs::Deeds::third_table, crate::proofs::Deeds::fourth_table))]
+pub(crate) fn vi_command_row(key: KeyEvent, n: RepeatCount) -> Option<Deed>
+    ensures { option_map meant result ≡ deed_of n key }
 {
-    Turn {
-        mode: InputMode::Insert,
-        marked: false,
-        cmd,
+    if let Some(cmd) = vi_move_row(key, n) {
+        return Some(Deed::Give(cmd));
+    }
+    if let Some(cmd) = vi_edit_row(key, n) {
+        return Some(Deed::Give(cmd));
+    }
+    match vi_turn_row(key, n) {
+        Some(deed) => Some(deed),
+        None => vi_reading_row(key),
     }
 }

@@ -28,5 +28,5 @@ returns-clause-items c =
     let count : length c.in_ok-changes.changes.items ≡ vec_len c.in_ok-changes.changes = search rules in
     let group = gathered_from item_of edit_of c.in_ok-changes.changes.items c.deref.result.now c.args.steps.now.items c.args.mark c.in_ok-changes.ensures c.deref.ensures.value in
     closed_pushed item_of c.push.new.self.items c.truncate.new.self.items _ (record { closed = true; changes = c.in_ok-changes.changes }) (edits_of c.in_ok-changes.changes.items) _
-    c.in_default.ensures.items c.truncate.ensures.items refl group
+    c.in_ok-push.ensures.items c.truncate.ensures.items refl group
     (some_gathered edit_of c.in_ok-changes.changes.items _ _ (sym c.if-is_empty.ensures) count group)

@@ -1,5 +1,7 @@
-use Rattle.std.proofs.Common.{refl}
-use Rattle.line_buffer.proofs.ReplayLemmas.{stops_for_memory_on}
+use Rattle.std.proofs.Common.{[], refl, rules}
+use Rattle.line_buffer.specs.Indent.{indent_events}
+use Rattle.line_buffer.specs.Replay.{StopsAmong}
+use Rattle.line_buffer.proofs.ReplayLemmas.{on_refusal, stops_for_memory_on}
 use Rattle.line_buffer.proofs.RowStepLemmas.{indent_events-some}
 use Rattle.line_buffer.proofs.line_buffer.LineBuffer.indent.Goals as goal
 
@@ -7,3 +9,9 @@ pub returns-in_err-margin-clause-stopped : goal.returns-in_err-margin-clause-sto
 returns-in_err-margin-clause-stopped g c =
     let some = indent_events-some c.args.movement.now c.args.amount c.args.dedent c.args.self.now in
     stops_for_memory_on _ _ _ _ some.never some.first _ _ _ some.events some.tells refl
+
+pub returns-in_err-change_rows-clause-stopped : goal.returns-in_err-change_rows-clause-stopped
+returns-in_err-change_rows-clause-stopped g c =
+    let stopped : StopsAmong g.C.DeleteListener.takes g.C.DeleteListener.refuses [] (indent_events c.args.movement.now c.args.amount c.args.dedent c.args.self.now)
+    c.args.cl.now c.change_rows.new.cl c.args.self.now.text c.change_rows.new.self.text = search rules in
+    on_refusal _ stopped

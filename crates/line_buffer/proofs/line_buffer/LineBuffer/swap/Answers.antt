@@ -4,7 +4,7 @@ use Rattle.std.proofs.Common.{length, sym, ap, subst, ◌∙◌, refl, arith}
 use Rattle.std.specs.Prelude.{IsCharBoundary, slice_range}
 use Rattle.line_buffer.specs.Replay.{replacement}
 use Rattle.line_buffer.proofs.CutLemmas.{before_replaced}
-use Rattle.line_buffer.proofs.ReplayLemmas.{refused_as, stops_at_once, stops_at_once_on, stops_for_memory_on}
+use Rattle.line_buffer.proofs.ReplayLemmas.{on_refusal, refused_as, stops_at_once, stops_at_once_on, stops_for_memory_on}
 use Rattle.line_buffer.proofs.TranspositionLemmas.{swap_stops, behind_both}
 use Rattle.line_buffer.proofs.line_buffer.LineBuffer.swap.Goals as goal
 
@@ -31,16 +31,16 @@ replace-requires-2-clause-end g c =
 
 pub set_pos-requires : goal.set_pos-requires
 set_pos-requires g c =
-    subst (λ l. IsCharBoundary l.text c.args.second.end) (sym (c.in-Ok.ensures.line))
+    subst (λ l. IsCharBoundary l.text c.args.second.end) (sym (c.in_ok-replace-2.ensures.line))
     (subst (λ l. IsCharBoundary (replace_range l.text c.args.first.start c.args.first.end c.as_str-2.result.now) c.args.second.end) (sym c.in_ok-replace.ensures.line)
     (behind_both c.args.self.now.text c.as_str.result.now c.as_str-2.result.now _ _ _ _ c.as_str-text.ensures.utf8 c.requires.second_end c.requires.first c.requires.apart c.requires.second
     (ap length (c.as_str.ensures.value ∙ c.in_ok-earlier.ensures) ∙ length-between _ _ _ c.requires.first_end.0)
     (ap length (c.as_str-2.ensures.value ∙ c.in_ok-later.ensures) ∙ length-between _ _ _ c.requires.second_end.0)))
 
-pub returns-clause-stopped : goal.returns-clause-stopped
-returns-clause-stopped g c =
-    swap_stops _ _ _ _ _ _ _ _ _ _ _ (c.as_str.ensures.value ∙ c.in_ok-earlier.ensures) c.in_ok-replace.ensures.told c.in_ok-replace.ensures.replays
+pub returns-in_err-replace-2-clause-stopped : goal.returns-in_err-replace-2-clause-stopped
+returns-in_err-replace-2-clause-stopped g c =
+    on_refusal _ (swap_stops _ _ _ _ _ _ _ _ _ _ _ (c.as_str.ensures.value ∙ c.in_ok-earlier.ensures) c.in_ok-replace.ensures.told c.in_ok-replace.ensures.replays
     (stops_at_once _ _ _ _ _ _ _ _ _ refl tt
     (refused_as g.C.DeleteListener.refuses (ap (λ x. replacement c.args.first.start c.args.first.end x c.replace.new.self.text) (c.as_str-2.ensures.value ∙ c.in_ok-later.ensures)
     ∙ ap (λ x. replacement c.args.first.start c.args.first.end (slice_range c.args.self.now.text c.args.second.start c.args.second.end) x)
-    (ap (λ l. l.text) c.in_ok-replace.ensures.line ∙ ap (replace_range c.args.self.now.text c.args.second.start c.args.second.end) (c.as_str.ensures.value ∙ c.in_ok-earlier.ensures))) c.in-Err.ensures.refused) (ap (λ l. l.text) c.in-Err.ensures.kept))
+    (ap (λ l. l.text) c.in_ok-replace.ensures.line ∙ ap (replace_range c.args.self.now.text c.args.second.start c.args.second.end) (c.as_str.ensures.value ∙ c.in_ok-earlier.ensures))) c.in_err-replace-2.ensures.refused) (ap (λ l. l.text) c.in_err-replace-2.ensures.kept)))

@@ -4,7 +4,7 @@ use Rattle.std.specs.List.{insert_slice}
 use Rattle.std.proofs.lemmas.List.{append-nil}
 use Rattle.std.proofs.lemmas.Str.{IsCharBoundary-start}
 use Rattle.line_buffer.specs.Replay.{insertion}
-use Rattle.line_buffer.proofs.ReplayLemmas.{refused_as, stops_at_once, stops_at_once_on, stops_later, reports_one}
+use Rattle.line_buffer.proofs.ReplayLemmas.{on_refusal, refused_as, stops_at_once, stops_at_once_on, stops_later, reports_one}
 use Rattle.line_buffer.proofs.line_buffer.LineBuffer.update.Goals as goal
 
 pub returns-in_err-delete_all-clause-stopped : goal.returns-in_err-delete_all-clause-stopped
@@ -19,11 +19,12 @@ insert_str-requires-clause-cursor g c =
 pub set_pos-requires : goal.set_pos-requires
 set_pos-requires g c =
     let same : c.insert_str.new.self.text ≡ c.kept-kept.result.now =
-    ap (λ l. l.text) c.in-Ok.ensures.line ∙ ap (λ l. insert_slice l.text 0 c.kept-kept.result.now) c.in_ok-delete_all.ensures.line
+    ap (λ l. l.text) c.in_ok-insert_str.ensures.line ∙ ap (λ l. insert_slice l.text 0 c.kept-kept.result.now) c.in_ok-delete_all.ensures.line
     ∙ append-nil c.kept-kept.result.now in
     subst (λ t. IsCharBoundary t c.min.result) (sym same) (subst (IsCharBoundary c.kept-kept.result.now) (sym c.min.ensures) (c.kept-kept.ensures.cursor c.args.pos c.requires))
 
-pub returns-in-Err-clause-stopped : goal.returns-in-Err-clause-stopped
-returns-in-Err-clause-stopped g c =
-    stops_later (reports_one _ _ _ _ _ _ c.in_ok-delete_all.ensures.told c.in_ok-delete_all.ensures.replays)
-    (stops_at_once _ _ _ _ _ _ _ _ _ refl tt (refused_as g.C.DeleteListener.refuses (ap (insertion 0) c.kept-kept.ensures.value) c.in-Err.ensures.refused) (ap (λ l. l.text) c.in-Err.ensures.kept))
+pub returns-in_err-insert_str-clause-stopped : goal.returns-in_err-insert_str-clause-stopped
+returns-in_err-insert_str-clause-stopped g c =
+    on_refusal _ (stops_later (reports_one _ _ _ _ _ _ c.in_ok-delete_all.ensures.told c.in_ok-delete_all.ensures.replays)
+    (stops_at_once _ _ _ _ _ _ _ _ _ refl tt (refused_as g.C.DeleteListener.refuses (ap (insertion 0) c.kept-kept.ensures.value) c.in_err-insert_str.ensures.refused)
+    (ap (λ l. l.text) c.in_err-insert_str.ensures.kept)))

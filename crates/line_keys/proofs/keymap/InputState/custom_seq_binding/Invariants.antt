@@ -1,15 +1,16 @@
-use Rattle.std.proofs.Common.{◌≡◌, ◌≤◌, ◌∷◌, [], IsTrue}
-use Rattle.line_keys.specs.Custom.{following}
+use Rattle.std.proofs.Common.{◌∷◌, []}
+use Rattle.line_keys.specs.Custom.{following, followed}
 use Rattle.line_keys.specs.InputStates.{situation_in}
+use Rattle.line_keys.specs.Follows.{Follows}
 use Rattle.line_keys.proofs.keymap.InputState.custom_seq_binding.Given as goal
 
+-- what follows the rest of the sequence follows the whole of it
 abbrev pub invariant-loop-alloc : goal.invariant-loop-alloc
 invariant-loop-alloc g l =
-    let here = situation_in l.fn.self g.D.Decides.decides (g.W.Refresher.shown l.fn.wrt) l.fn.n l.fn.positive in
-    (IsTrue (g.R.RawReader.told l.fn.rdr) → IsTrue (g.R.RawReader.told l.rdr))
-    × (IsTrue (g.R.RawReader.told l.fn.rdr) → following here (l.fn.key ∷ []) (g.R.RawReader.coming l.fn.rdr) ≡ following here l.keys.items (g.R.RawReader.coming l.rdr))
-    × (g.R.RawReader.steady l.rdr ≡ g.R.RawReader.steady l.fn.rdr)
-    × (g.R.RawReader.bound l.rdr ≤ g.R.RawReader.bound l.fn.rdr)
+    let s = situation_in l.fn.self g.D.Decides.decides (g.W.Refresher.display.shown l.fn.wrt) l.fn.n l.fn.positive in
+    (rdr : _) (result : _)
+    → Follows g.W.Refresher.display s.custom (following s l.keys.items (g.R.RawReader.feed l.rdr).coming) l.fn.wrt s.input l.fn.wrt s.input (g.R.RawReader.feed l.rdr) (g.R.RawReader.feed rdr) result
+    → Follows g.W.Refresher.display s.custom (followed s l.fn.key (g.R.RawReader.feed l.fn.rdr).coming) l.fn.wrt s.input l.fn.wrt s.input (g.R.RawReader.feed l.fn.rdr) (g.R.RawReader.feed rdr) result
 
 abbrev pub decreases-loop-alloc : goal.decreases-loop-alloc
-decreases-loop-alloc g l = g.R.RawReader.bound l.rdr
+decreases-loop-alloc g l = (g.R.RawReader.feed l.rdr).bound

@@ -1,15 +1,14 @@
-use Rattle.std.proofs.Common.{sym, subst, List}
-use Rattle.line_keys.specs.InputStates.{situation_in}
-use Rattle.line_keys.specs.Refreshing.{Ask, Asked}
-use Rattle.std.proofs.Common.{true}
-use Rattle.line_keys.specs.Counts.{times}
-use Rattle.line_keys.specs.ViCounts.{typed_count}
-use Rattle.line_keys.proofs.Asks.{Asked_none}
-use Rattle.line_keys.proofs.ViCounting.{operation_asks}
+use Rattle.std.proofs.Common.{ap, sym, Ok}
+use Rattle.line_keys.specs.declared.command.Cmd.{Cmd}
+use Rattle.line_keys.specs.InputStates.{input_of}
+use Rattle.line_keys.specs.Meant.{changes}
+use Rattle.line_keys.specs.Phrases.{Ends}
+use Rattle.line_keys.proofs.Following.{becomes_follows, then_follows, ends_follow}
+use Rattle.line_keys.proofs.Remembering.{entered_mode}
 use Rattle.line_keys.proofs.keymap.InputState.vi_operation.Goals as goal
 
-pub returns-in-None-clause-asks : goal.returns-in-None-clause-asks
-returns-in-None-clause-asks g c told met =
-    subst (λ (xs : List Ask). Asked g.W.Refresher.asked g.W.Refresher.shown g.W.Refresher.rule c.args.wrt.now xs c.args.wrt.now)
-    (sym (operation_asks (typed_count c.args.counted.count) (situation_in c.args.self.now g.D.Decides.decides (g.W.Refresher.shown c.args.wrt.now) (times c.args.counted.count) true) c.args.counted.key (g.R.RawReader.coming c.args.rdr.now) (g.W.Refresher.rule c.args.wrt.now) (sym c.in-None.ensures)))
-    (Asked_none g.W.Refresher.asked g.W.Refresher.shown g.W.Refresher.rule c.args.wrt.now)
+pub returns-clause-phrase : goal.returns-clause-phrase
+returns-clause-phrase g c =
+    becomes_follows _ _ _ _ _ _ _ _ _ _ _ (entered_mode (changes c.args.operator) (input_of c.args.self.now))
+    (then_follows _ _ _ _ _ _ _ _ _ _ _ _ _ _ _ (rw (c.enter.ensures.input, c.enter.ensures.bindings) at c.in_ok-motion.ensures.motion)
+    (ends_follow _ _ _ _ _ _ _ (ap (λ (y : Cmd). Ends (Ok y)) (sym c.command.ensures))))

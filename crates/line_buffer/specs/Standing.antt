@@ -1,0 +1,26 @@
+-- Characters whose columns are their own, whatever stands before them: none is a part of a ligature, a flag or an emoji.
+use Rattle.std.specs.Prelude.{ℕ, Bool, true, ◌||◌, List}
+use Rattle.std.specs.Int.{is_in_range}
+use Rattle.std.specs.List.{list_all}
+use Rattle.line_buffer.specs.declared.layout.GraphemeClusterMode.{GraphemeClusterMode}
+use Rattle.line_buffer.specs.declared.layout.GraphemeClusterMode.TheVariants.{Unicode, WcWidth, NoZwj}
+
+-- printable ASCII; Latin, Greek and Cyrillic with their marks, to Hebrew; the scripts of India, Thai, Georgian and Ethiopic;
+-- punctuation and symbols; Chinese, Japanese and Korean
+abbrev pub stands_alone : ℕ → Bool
+stands_alone c =
+    is_in_range 0x20 0x7E c
+    || (is_in_range 0xA1 0x337 c
+    || (is_in_range 0x339 0x5DB c
+    || (is_in_range 0x900 0x177F c
+    || (is_in_range 0x1E00 0x200C c
+    || (is_in_range 0x2010 0x2319 c
+    || (is_in_range 0x2E80 0xA4FB c
+    || (is_in_range 0xA500 0xFB1D c
+    || is_in_range 0x20000 0x3FFFD c)))))))
+
+-- at the end of a text such characters add their own columns; by `wcwidth` all characters do
+abbrev pub adds_up : GraphemeClusterMode → List ℕ → Bool
+adds_up Unicode cs = list_all stands_alone cs
+adds_up WcWidth cs = true
+adds_up NoZwj cs = list_all stands_alone cs

@@ -1,0 +1,40 @@
+use Rattle.std.proofs.Common.{◌≡◌, arith}
+use Rattle.std.specs.Prelude.{Err}
+use Rattle.line_keys.specs.Counts.{counting}
+use Rattle.line_keys.proofs.Following.{memory_follows}
+use Rattle.line_keys.proofs.Turns.{count_unasked, count_stops, count_goes_on, count_ends, count_undrawn}
+use Rattle.line_keys.proofs.keymap.InputState.digit_argument.Goals as goal
+
+pub returns-in_err-prompt : goal.returns-in_err-prompt
+unfolding counting
+returns-in_err-prompt g c =
+    let is : c.from_residual.result ≡ Err c.in_err-prompt.field-0.0 = grind arith in
+    rw is (c.loop-prompt.invariant _ _ _ (memory_follows _ _ _ _ _ _ _ c.in_err-prompt.ensures.err))
+
+pub returns-in_err-refresh_prompt_and_line : goal.returns-in_err-refresh_prompt_and_line
+returns-in_err-refresh_prompt_and_line g c =
+    let is : c.from_residual-in_err-refresh_prompt_and_line.result ≡ Err c.in_err-refresh_prompt_and_line.field-0.0 = grind arith in
+    rw is (c.loop-prompt.invariant _ _ _ (count_unasked _ _ _ _ _ _ _ _ _
+    (rw (c.as_str.ensures.value, c.in_ok-prompt.ensures.ok) at c.in_err-refresh_prompt_and_line.ensures)))
+
+pub returns-in_err-key : goal.returns-in_err-key
+returns-in_err-key g c =
+    let is : c.from_residual-in_err-key.result ≡ Err c.in_err-key.field-0.0 = grind arith in
+    rw is (c.loop-prompt.invariant _ _ _ (count_stops _ _ _ _ _ _ _ _ _ _
+    (rw (c.as_str.ensures.value, c.in_ok-prompt.ensures.ok) at c.in_ok-refresh_prompt_and_line.ensures) _ c.in_err-key.ensures))
+
+pub returns-in_err-refresh_line-in-None : goal.returns-in_err-refresh_line-in-None
+returns-in_err-refresh_line-in-None g c =
+    let is : c.from_residual-in_err-refresh_line-in-None.result ≡ Err c.in_err-refresh_line-in-None.field-0.0 = grind arith in
+    rw is (c.loop-prompt.invariant _ _ _ (count_undrawn _ _ _ _ _ _ _ _ _ _
+    (rw (c.as_str.ensures.value, c.in_ok-prompt.ensures.ok) at c.in_ok-refresh_prompt_and_line.ensures) _ _ _ c.in_ok-key.ensures c.in-None.ensures c.in_err-refresh_line-in-None.ensures))
+
+pub returns-in-None : goal.returns-in-None
+returns-in-None g c =
+    c.loop-prompt.invariant _ _ _ (count_ends _ _ _ _ _ _ _ _ _ _
+    (rw (c.as_str.ensures.value, c.in_ok-prompt.ensures.ok) at c.in_ok-refresh_prompt_and_line.ensures) _ _ _ c.in_ok-key.ensures c.in-None.ensures c.in_ok-refresh_line-in-None.ensures)
+
+pub loop-prompt-preserved : goal.loop-prompt-preserved
+loop-prompt-preserved g c wrt rdr result follows =
+    c.loop-prompt.invariant _ _ _ (count_goes_on _ _ _ _ _ _ _ _ _ _
+    (rw (c.as_str.ensures.value, c.in_ok-prompt.ensures.ok) at c.in_ok-refresh_prompt_and_line.ensures) _ _ _ _ _ c.in_ok-key.ensures c.in-Some.ensures follows)

@@ -1,0 +1,7 @@
+use Rattle.line_keys.proofs.Following.{then_follows}
+use Rattle.line_keys.proofs.Remembering.{remember_follows}
+use Rattle.line_keys.proofs.keymap.InputState.vi_changed.Goals as goal
+
+pub returns-clause-phrase : goal.returns-clause-phrase
+returns-clause-phrase g c =
+    then_follows _ _ _ _ _ _ _ _ _ _ _ _ _ _ _ c.in_ok-cmd.ensures.phrase (remember_follows _ _ _ _ _ _ _ _ _ c.changed_by.ensures.remembers)
