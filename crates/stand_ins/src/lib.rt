@@ -1,6 +1,7 @@
 //! What tests stand on: what stands in for the real thing, and the notation of their tables.
 #![tactic(auto)]
 
+pub mod commands;
 pub mod devices;
 pub mod handlers;
 pub mod key_names;

@@ -1,0 +1,24 @@
+//! What `line_editor` promises, at work: tables of text in which each row is a line and what is done to it.
+#![tactic(auto)]
+
+pub mod calls;
+pub mod helpers;
+
+#[cfg(test)]
+mod accepting;
+#[cfg(test)]
+mod desk;
+#[cfg(test)]
+mod faults;
+#[cfg(test)]
+mod inserting;
+#[cfg(test)]
+mod killing;
+#[cfg(test)]
+mod moving;
+#[cfg(test)]
+mod remembering;
+#[cfg(test)]
+mod rewording;
+#[cfg(test)]
+mod yanking;
