@@ -2,6 +2,11 @@
 #![tactic(auto)]
 
 pub mod devices;
+pub mod handlers;
+pub mod key_names;
 pub mod lines;
+pub mod reader_calls;
+pub mod readers;
+pub mod refreshers;
 pub mod tables;
 pub mod tray;

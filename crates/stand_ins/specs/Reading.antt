@@ -6,11 +6,11 @@ use Rattle.line_keys.specs.Coming.{Coming}
 use Rattle.line_keys.specs.Feeds.{Feed}
 use Rattle.line_keys.specs.Refreshing.{Shown, Ask, Display as Displays}
 use Rattle.line_keys.specs.Refreshing as ask
-use Rattle.key_tests.specs.Typing.{coming_after, coming_unless}
-use Rattle.key_tests.specs.declared.keys.KeyList.{KeyList}
-use Rattle.key_tests.specs.declared.refresher.Request.{Request}
-use Rattle.key_tests.specs.declared.refresher.Request.TheVariants.{Line, Message, Prompt, DoingInsert, DoneInserting}
-use Rattle.key_tests.specs.declared.refresher.PlainLine.{PlainLine}
+use Rattle.stand_ins.specs.Typing.{coming_after, coming_unless}
+use Rattle.stand_ins.specs.declared.readers.KeyList.{KeyList}
+use Rattle.stand_ins.specs.declared.refreshers.Request.{Request}
+use Rattle.stand_ins.specs.declared.refreshers.Request.TheVariants.{Line, Message, Prompt, DoingInsert, DoneInserting}
+use Rattle.stand_ins.specs.declared.refreshers.PlainLine.{PlainLine}
 
 abbrev pub coming_of : KeyList → Coming
 coming_of r = coming_unless r.refused (coming_after r.typed.now r.cut r.after)

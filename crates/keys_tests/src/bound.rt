@@ -1,25 +1,14 @@
 //! Emacs mode: bindings, handlers and key sequences.
 
+use crate::commands::{bind, bind_commands, way_named};
 use crate::tables::{Desk, each_row, leads_to};
 use crate::telling::Stage;
-use crate::typing::event;
-use key_tests::handlers::{HintOrKill, OneWay};
-use line_buffer::{Anchor, Movement};
-use line_config::{EditMode, ReadlineError};
-use line_keys::{Bindings, Cmd, EventHandler};
+use line_config::EditMode;
+use line_keys::{Bindings, EventHandler};
+use stand_ins::handlers::{HintOrKill, OneWay};
+use stand_ins::tables::call_and_answer;
 use std::alloc::Global;
 use std::test::Fail;
-
-/// Binds keys; without keys, any.
-pub(crate) fn bind(
-    alloc: Global,
-    bindings: &mut Bindings,
-    keys: &str,
-    handler: EventHandler,
-) -> Result<(), ReadlineError> {
-    let _ = bindings.bind_sequence(event(alloc, keys)?, handler)?;
-    Ok(())
-}
 
 fn desk<'b>(alloc: Global, bindings: &'b Bindings, stage: Stage) -> Desk<'b> {
     Desk {
@@ -30,22 +19,20 @@ fn desk<'b>(alloc: Global, bindings: &'b Bindings, stage: Stage) -> Desk<'b> {
     }
 }
 
-fn commands() -> [(&'static str, Cmd); 12] {
-    [
-        ("C-O", Cmd::SelfInsert(1, 'x')),
-        ("C-T", Cmd::Yank(2, Anchor::Before)),
-        ("C-K", Cmd::Undo(3)),
-        ("C-R", Cmd::Replace(Movement::ForwardChar(0), None)),
-        ("C-B", Cmd::Move(Movement::EndOfLine)),
-        ("C-C", Cmd::Repaint),
-        ("C-D", Cmd::Noop),
-        ("x", Cmd::Newline),
-        ("Esc", Cmd::AcceptLine),
-        ("A-7", Cmd::Abort),
-        ("5", Cmd::Abort),
-        ("C-w", Cmd::Abort),
-    ]
-}
+const COMMANDS_BOUND: &str = "
+    C-O            = SelfInsert(1, 'x')
+    C-T            = Yank(2, Before)
+    C-K            = Undo(3)
+    C-R            = Replace(ForwardChar(0), None)
+    C-B            = Move(EndOfLine)
+    C-C            = Repaint
+    C-D            = Noop
+    x              = Newline
+    Esc            = AcceptLine
+    A-7            = Abort
+    5              = Abort
+    C-w            = Abort
+";
 
 const COMMANDS: &str = "
     C-O            | SelfInsert(1, 'x')
@@ -86,9 +73,7 @@ const COMMANDS_AFTER_AN_INSERTION: &str = "
 fn keys_bound_to_commands(rt: HostRuntime) -> Result<(), Fail> {
     let alloc = rt.alloc();
     let mut bindings = Bindings::new(alloc)?;
-    for (keys, cmd) in commands() {
-        bind(alloc, &mut bindings, keys, EventHandler::from(cmd))?;
-    }
+    bind_commands(alloc, &mut bindings, COMMANDS_BOUND)?;
     each_row(&rt, &desk(alloc, &bindings, Stage::new("ab", 1)), COMMANDS)?;
     leads_to(
         &rt,
@@ -106,30 +91,26 @@ fn keys_bound_to_commands(rt: HostRuntime) -> Result<(), Fail> {
     Ok(())
 }
 
-fn sequences_to_commands() -> [(&'static str, Cmd); 9] {
-    [
-        ("C-x C-e", Cmd::Repaint),
-        ("C-X C-Y", Cmd::SelfInsert(1, 'x')),
-        ("C-X C-U C-F", Cmd::Newline),
-        ("F1 F2", Cmd::ClearScreen),
-        ("F1 F2 F5", Cmd::Complete),
-        ("F2 F2 F2", Cmd::Complete),
-        ("C-A C-B", Cmd::Complete),
-        ("x y", Cmd::Complete),
-        ("F3 F2 F1", Cmd::Complete),
-    ]
-}
+const SEQUENCES_TO_COMMANDS: &str = "
+    C-x C-e        = Repaint
+    C-X C-Y        = SelfInsert(1, 'x')
+    C-X C-U C-F    = Newline
+    F1 F2          = ClearScreen
+    F1 F2 F5       = Complete
+    F2 F2 F2       = Complete
+    C-A C-B        = Complete
+    x y            = Complete
+    F3 F2 F1       = Complete
+";
 
-fn sequences_to_handlers() -> [(&'static str, OneWay); 6] {
-    [
-        ("C-X C-A", OneWay::Count),
-        ("C-X C-B", OneWay::Fails),
-        ("C-X C-W", OneWay::WantsMemory),
-        ("C-X C-G", OneWay::Nothing),
-        ("F3 F2", OneWay::Nothing),
-        ("F4", OneWay::Nothing),
-    ]
-}
+const SEQUENCES_TO_HANDLERS: &str = "
+    C-X C-A        = Count
+    C-X C-B        = Fails
+    C-X C-W        = WantsMemory
+    C-X C-G        = Nothing
+    F3 F2          = Nothing
+    F4             = Nothing
+";
 
 const SEQUENCES: &str = "
     C-X C-E q          | Repaint; SelfInsert(1, 'q')
@@ -187,36 +168,34 @@ fn bound_sequences(rt: HostRuntime) -> Result<(), Fail> {
     let alloc = rt.alloc();
     let stage = Stage::new("ab", 1);
     let mut bindings = Bindings::new(alloc)?;
-    for (keys, cmd) in sequences_to_commands() {
-        bind(alloc, &mut bindings, keys, EventHandler::from(cmd))?;
-    }
-    for (keys, answer) in sequences_to_handlers() {
-        let handler = Box::new(alloc, answer)?;
-        bind(
-            alloc,
-            &mut bindings,
-            keys,
-            EventHandler::Conditional(handler),
-        )?;
+    bind_commands(alloc, &mut bindings, SEQUENCES_TO_COMMANDS)?;
+    for row in SEQUENCES_TO_HANDLERS.lines() {
+        if let Some((keys, way)) = call_and_answer(row) {
+            let handler = Box::new(alloc, way_named(way))?;
+            bind(
+                alloc,
+                &mut bindings,
+                keys,
+                EventHandler::Conditional(handler),
+            )?;
+        }
     }
     each_row(&rt, &desk(alloc, &bindings, stage), SEQUENCES)?;
     let mut one = Bindings::new(alloc)?;
-    bind(alloc, &mut one, "C-X C-E", EventHandler::from(Cmd::Repaint))?;
+    bind_commands(alloc, &mut one, "C-X C-E = Repaint")?;
     each_row(&rt, &desk(alloc, &one, stage), ONE_SEQUENCE)?;
     Ok(())
 }
 
-fn handlers() -> [(&'static str, OneWay); 7] {
-    [
-        ("C-O", OneWay::Count),
-        ("A-f", OneWay::Nothing),
-        ("C-X", OneWay::Nothing),
-        ("C-C", OneWay::Nothing),
-        ("F1", OneWay::Nothing),
-        ("x", OneWay::Fails),
-        ("C-V", OneWay::WantsMemory),
-    ]
-}
+const HANDLERS_BOUND: &str = "
+    C-O            = Count
+    A-f            = Nothing
+    C-X            = Nothing
+    C-C            = Nothing
+    F1             = Nothing
+    x              = Fails
+    C-V            = WantsMemory
+";
 
 const HANDLERS: &str = "
     C-O            | Undo(1)
@@ -242,14 +221,16 @@ const HANDLERS: &str = "
 fn keys_bound_to_handlers(rt: HostRuntime) -> Result<(), Fail> {
     let alloc = rt.alloc();
     let mut bindings = Bindings::new(alloc)?;
-    for (keys, answer) in handlers() {
-        let handler = Box::new(alloc, answer)?;
-        bind(
-            alloc,
-            &mut bindings,
-            keys,
-            EventHandler::Conditional(handler),
-        )?;
+    for row in HANDLERS_BOUND.lines() {
+        if let Some((keys, way)) = call_and_answer(row) {
+            let handler = Box::new(alloc, way_named(way))?;
+            bind(
+                alloc,
+                &mut bindings,
+                keys,
+                EventHandler::Conditional(handler),
+            )?;
+        }
     }
     let shown = Box::new(alloc, HintOrKill { most: 9 })?;
     bind(alloc, &mut bindings, "F2", EventHandler::Conditional(shown))?;
@@ -266,6 +247,12 @@ fn keys_bound_to_handlers(rt: HostRuntime) -> Result<(), Fail> {
     )?;
     Ok(())
 }
+
+const ANY_BOUND: &str = "
+                   = Noop
+    C-O            = Undo(3)
+    C-X C-E        = Repaint
+";
 
 const ANY: &str = "
     x                    | Noop
@@ -297,24 +284,11 @@ fn any_key_bound(rt: HostRuntime) -> Result<(), Fail> {
     let alloc = rt.alloc();
     let stage = Stage::new("ab", 1);
     let mut bindings = Bindings::new(alloc)?;
-    bind(alloc, &mut bindings, "", EventHandler::from(Cmd::Noop))?;
-    bind(
-        alloc,
-        &mut bindings,
-        "C-O",
-        EventHandler::from(Cmd::Undo(3)),
-    )?;
-    bind(
-        alloc,
-        &mut bindings,
-        "C-X C-E",
-        EventHandler::from(Cmd::Repaint),
-    )?;
+    bind_commands(alloc, &mut bindings, ANY_BOUND)?;
     let none = Box::new(alloc, OneWay::Nothing)?;
     bind(alloc, &mut bindings, "C-K", EventHandler::Conditional(none))?;
     each_row(&rt, &desk(alloc, &bindings, stage), ANY)?;
-    let typed = EventHandler::from(Cmd::SelfInsert(9, 'y'));
-    bind(alloc, &mut bindings, "", typed)?;
+    bind_commands(alloc, &mut bindings, " = SelfInsert(9, 'y')")?;
     each_row(&rt, &desk(alloc, &bindings, stage), ANY_OF_A_CHARACTER)?;
     let none = Box::new(alloc, OneWay::Nothing)?;
     bind(alloc, &mut bindings, "", EventHandler::Conditional(none))?;

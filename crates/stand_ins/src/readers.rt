@@ -1,7 +1,7 @@
 //! A reader over a list of keys and pasted texts.
 
 ghost use Rattle.std.specs.Prelude.{◌≡◌, IsTrue};
-ghost use Rattle.key_tests.specs.Typing.{refusal_after, kept_refusal, lasts};
+ghost use Rattle.stand_ins.specs.Typing.{refusal_after, kept_refusal, lasts};
 
 use line_config::ReadlineError;
 use line_keys::{Cmd, KeyCode, KeyEvent, Modifiers, RawReader, Text};
@@ -50,8 +50,8 @@ pub struct KeyList<'t> {
 
 impl<'t> KeyList<'t> {
     ghost use Rattle.line_keys.specs.Faults.{IsReaderRefusal};
-    ghost use Rattle.key_tests.specs.Reading.{coming_of};
-    ghost use Rattle.key_tests.specs.Typing.{coming_after};
+    ghost use Rattle.stand_ins.specs.Reading.{coming_of};
+    ghost use Rattle.stand_ins.specs.Typing.{coming_after};
 
     pub fn new(typed: &'t [Typed], cut: bool, after: After) -> Self
         ensures { coming_of result ≡ coming_after typed.now cut after }
@@ -90,7 +90,7 @@ impl<'t> KeyList<'t> {
 
 impl RawReader for KeyList<'_> {
     ghost use Rattle.std.specs.Prelude.{None};
-    ghost use Rattle.key_tests.specs.Reading.{feed_of};
+    ghost use Rattle.stand_ins.specs.Reading.{feed_of};
 
     type Buffer = u8;
 

@@ -52,6 +52,32 @@ pub(crate) fn each_row(rt: &impl Abort, desk: &Desk<'_>, table: &str) -> Result<
     Ok(())
 }
 
+/// Each row has a number of requests that the display answers and, behind a bar, what the keys lead to then.
+pub(crate) fn each_display(
+    rt: &impl Abort,
+    desk: &Desk<'_>,
+    keys: &str,
+    table: &str,
+) -> Result<(), ReadlineError> {
+    for row in table.lines() {
+        match row.split_once('|') {
+            Some((answered, wanted)) => {
+                let mut stage = desk.stage;
+                stage.answered = answered.trim().parse().ok();
+                let desk = Desk {
+                    alloc: desk.alloc,
+                    mode: desk.mode,
+                    bindings: desk.bindings,
+                    stage,
+                };
+                leads_to(rt, &desk, keys, wanted.trim())?;
+            }
+            None => is_blank(rt, row),
+        }
+    }
+    Ok(())
+}
+
 /// The three columns of a row.
 pub(crate) fn three_columns(row: &str) -> Option<(&str, &str, &str)> {
     let (first, rest) = row.split_once('|')?;

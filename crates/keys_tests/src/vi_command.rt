@@ -4,11 +4,11 @@ use crate::tables::{each_count, each_row};
 use crate::telling::Stage;
 use crate::typing::typed;
 use crate::vi_insert::desk;
-use key_tests::keys::KeyList;
-use key_tests::refresher::PlainLine;
 use line_buffer::Movement;
 use line_config::{Config, EditMode};
 use line_keys::{Bindings, Cmd, InputState, Text};
+use stand_ins::readers::KeyList;
+use stand_ins::refreshers::PlainLine;
 use std::test::Fail;
 
 // Keys of a count, what the display is asked for them, and the count. Esc leaves insert mode, in which a line begins.

@@ -3,8 +3,8 @@ use Rattle.std.specs.Prelude.{ℕ, ◌==◌, ◌&&◌, nat_lt, length, Some, Non
 use Rattle.line_buffer.specs.declared.types.Movement.TheVariants.{ForwardChar, BackwardChar}
 use Rattle.line_config.specs.declared.errors.HookFault.TheVariants.{Failed, Memory}
 use Rattle.line_keys.specs.declared.command.Cmd.TheVariants.{CompleteHint, Kill, TransposeWords, Undo}
-use Rattle.key_tests.specs.declared.handlers.OneWay.{OneWay}
-use Rattle.key_tests.specs.declared.handlers.OneWay.TheVariants.{Count, Nothing, Fails, WantsMemory}
+use Rattle.stand_ins.specs.declared.handlers.OneWay.{OneWay}
+use Rattle.stand_ins.specs.declared.handlers.OneWay.TheVariants.{Count, Nothing, Fails, WantsMemory}
 use Rattle.line_keys.specs.Handling.{Meaning}
 
 abbrev pub hint_or_kill : ℕ → Meaning

@@ -32,7 +32,7 @@ pub struct PlainLine {
 
 impl PlainLine {
     ghost use Rattle.std.specs.Prelude.{◌++◌, ◌∷◌, [], IfOk, IfErr, OnOk, length, false, None};
-    ghost use Rattle.key_tests.specs.Reading.{shown_of, MakesRequest, request_made, HasReason};
+    ghost use Rattle.stand_ins.specs.Reading.{shown_of, MakesRequest, request_made, HasReason};
 
     pub fn new(alloc: Global, text: Text) -> Self
         ensures { shown_of result ≡ record { line = text; place = length text; hinted = false; completion = None; last_insert = None } }
@@ -68,7 +68,7 @@ impl PlainLine {
 }
 
 impl Refresher for PlainLine {
-    ghost use Rattle.key_tests.specs.Reading.{display_of};
+    ghost use Rattle.stand_ins.specs.Reading.{display_of};
 
     ghost display = { display_of };
 

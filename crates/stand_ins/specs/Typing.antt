@@ -4,10 +4,10 @@ use Rattle.line_config.specs.declared.errors.ReadlineError.{ReadlineError}
 use Rattle.line_config.specs.declared.errors.ReadlineError.TheVariants.{Eof, NotUtf8, PasteOutOfPlace, Reader, Memory}
 use Rattle.line_keys.specs.Coming.{Coming, Pressed, Pasted, CutOff, Ends, Refused, LastItem}
 use Rattle.line_keys.specs.Coming as coming
-use Rattle.key_tests.specs.declared.keys.Typed.{Typed}
-use Rattle.key_tests.specs.declared.keys.Typed.TheVariants.{Key, Paste}
-use Rattle.key_tests.specs.declared.keys.After.{After}
-use Rattle.key_tests.specs.declared.keys.After.TheVariants.{End, Bad, Failed}
+use Rattle.stand_ins.specs.declared.readers.Typed.{Typed}
+use Rattle.stand_ins.specs.declared.readers.Typed.TheVariants.{Key, Paste}
+use Rattle.stand_ins.specs.declared.readers.After.{After}
+use Rattle.stand_ins.specs.declared.readers.After.TheVariants.{End, Bad, Failed}
 
 abbrev pub last_item : After → LastItem
 last_item End = coming.End

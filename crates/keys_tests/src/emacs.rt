@@ -1,6 +1,6 @@
 //! Emacs mode: each key with each count.
 
-use crate::tables::{Desk, each_count, each_row, leads_to};
+use crate::tables::{Desk, each_count, each_display, each_row, leads_to};
 use crate::telling::Stage;
 use line_config::EditMode;
 use line_keys::Bindings;
@@ -249,23 +249,18 @@ fn rows_with_conditions(rt: HostRuntime) -> Result<(), Fail> {
     Ok(())
 }
 
+// How many requests the display answers, and what the keys `A-- 2 C-B` lead to.
+const FAILING_DISPLAYS: &str = "
+    0 | Display left 2
+    1 | <-1> Display left 1
+    2 | <-1> <-2> Display left 0
+    3 | <-1> <-2> <line> Move(ForwardChar(2))
+";
+
 #[test]
 fn the_display_fails_at_each_call(rt: HostRuntime) -> Result<(), Fail> {
     let bindings = Bindings::new(rt.alloc())?;
-    let mut stage = Stage::new("ab", 1);
-    for (answered, wanted) in [
-        (0, "Display left 2"),
-        (1, "<-1> Display left 1"),
-        (2, "<-1> <-2> Display left 0"),
-        (3, "<-1> <-2> <line> Move(ForwardChar(2))"),
-    ] {
-        stage.answered = Some(answered);
-        leads_to(
-            &rt,
-            &desk(rt.alloc(), &bindings, stage),
-            "A-- 2 C-B",
-            wanted,
-        )?;
-    }
+    let desk = desk(rt.alloc(), &bindings, Stage::new("ab", 1));
+    each_display(&rt, &desk, "A-- 2 C-B", FAILING_DISPLAYS)?;
     Ok(())
 }

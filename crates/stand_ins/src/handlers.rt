@@ -21,7 +21,7 @@ pub enum OneWay {
 }
 
 impl ConditionalEventHandler for OneWay {
-    ghost use Rattle.key_tests.specs.Handlers.{one_way};
+    ghost use Rattle.stand_ins.specs.Handlers.{one_way};
 
     ghost meaning = { one_way };
 
@@ -51,7 +51,7 @@ pub struct HintOrKill {
 }
 
 impl ConditionalEventHandler for HintOrKill {
-    ghost use Rattle.key_tests.specs.Handlers.{hint_or_kill};
+    ghost use Rattle.stand_ins.specs.Handlers.{hint_or_kill};
 
     ghost meaning = { λ h. hint_or_kill h.most };
 

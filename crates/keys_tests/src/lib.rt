@@ -1,10 +1,14 @@
-//! Tests of how keys become commands, as tables.
+//! Tests of keys, bindings, and how keys become commands, as tables.
 #![tactic(auto)]
 
 #[cfg(test)]
 mod bound;
 #[cfg(test)]
+mod commands;
+#[cfg(test)]
 mod emacs;
+#[cfg(test)]
+mod key_rows;
 #[cfg(test)]
 mod tables;
 #[cfg(test)]

@@ -1,10 +1,10 @@
 //! What typed keys lead to, in words.
 
 use crate::typing::typed;
-use key_tests::keys::KeyList;
-use key_tests::refresher::{PlainLine, Request};
 use line_config::{Config, EditMode, ReadlineError};
 use line_keys::{Bindings, Cmd, InputState, Text};
+use stand_ins::readers::KeyList;
+use stand_ins::refreshers::{PlainLine, Request};
 use std::alloc::Global;
 
 /// The line that stands there when keys are typed.

@@ -1,12 +1,11 @@
 //! Vi: insert and replace mode.
 
-use crate::bound::bind;
-use crate::tables::{Desk, each_count, each_row, leads_to};
+use crate::commands::{bind, bind_commands, way_named};
+use crate::tables::{Desk, each_count, each_display, each_row, leads_to};
 use crate::telling::Stage;
-use key_tests::handlers::OneWay;
-use line_buffer::Movement;
 use line_config::EditMode;
-use line_keys::{Bindings, Cmd, EventHandler};
+use line_keys::{Bindings, EventHandler};
+use stand_ins::tables::call_and_answer;
 use std::alloc::Global;
 use std::test::Fail;
 
@@ -157,30 +156,26 @@ fn rows_with_conditions(rt: HostRuntime) -> Result<(), Fail> {
     Ok(())
 }
 
-fn commands() -> [(&'static str, Cmd); 8] {
-    [
-        ("C-O", Cmd::SelfInsert(2, 'y')),
-        ("C-T", Cmd::Kill(Movement::BackwardChar(2))),
-        ("C-N", Cmd::Undo(3)),
-        ("z", Cmd::Kill(Movement::ForwardChar(4))),
-        ("Esc", Cmd::AcceptLine),
-        ("3", Cmd::Abort),
-        ("C-X C-E", Cmd::Repaint),
-        ("C-X C-K", Cmd::Kill(Movement::EndOfLine)),
-    ]
-}
+const COMMANDS_BOUND: &str = "
+    C-O            = SelfInsert(2, 'y')
+    C-T            = Kill(BackwardChar(2))
+    C-N            = Undo(3)
+    z              = Kill(ForwardChar(4))
+    Esc            = AcceptLine
+    3              = Abort
+    C-X C-E        = Repaint
+    C-X C-K        = Kill(EndOfLine)
+";
 
-fn handlers() -> [(&'static str, OneWay); 7] {
-    [
-        ("C-L", OneWay::Count),
-        ("C-P", OneWay::Nothing),
-        ("C-X C-B", OneWay::Count),
-        ("C-X C-F", OneWay::Fails),
-        ("C-V", OneWay::WantsMemory),
-        ("A-w", OneWay::Nothing),
-        ("w", OneWay::Count),
-    ]
-}
+const HANDLERS_BOUND: &str = "
+    C-L            = Count
+    C-P            = Nothing
+    C-X C-B        = Count
+    C-X C-F        = Fails
+    C-V            = WantsMemory
+    A-w            = Nothing
+    w              = Count
+";
 
 // Bindings, first in insert mode and then, after ALT with `u`, in command mode.
 const BOUND: &str = "
@@ -226,17 +221,17 @@ const BOUND: &str = "
 fn bindings_in_vi(rt: HostRuntime) -> Result<(), Fail> {
     let alloc = rt.alloc();
     let mut bindings = Bindings::new(alloc)?;
-    for (keys, cmd) in commands() {
-        bind(alloc, &mut bindings, keys, EventHandler::from(cmd))?;
-    }
-    for (keys, answer) in handlers() {
-        let handler = Box::new(alloc, answer)?;
-        bind(
-            alloc,
-            &mut bindings,
-            keys,
-            EventHandler::Conditional(handler),
-        )?;
+    bind_commands(alloc, &mut bindings, COMMANDS_BOUND)?;
+    for row in HANDLERS_BOUND.lines() {
+        if let Some((keys, way)) = call_and_answer(row) {
+            let handler = Box::new(alloc, way_named(way))?;
+            bind(
+                alloc,
+                &mut bindings,
+                keys,
+                EventHandler::Conditional(handler),
+            )?;
+        }
     }
     each_row(&rt, &desk(alloc, &bindings, Stage::new("ab", 1)), BOUND)?;
     let mut stage = Stage::new("ab", 1);
@@ -250,30 +245,27 @@ fn bindings_in_vi(rt: HostRuntime) -> Result<(), Fail> {
     Ok(())
 }
 
+// How many requests the display answers, and what the keys `A-3 0 d 2 w` lead to.
+const FAILING_DISPLAYS: &str = "
+    0 | Display left 4
+    1 | <done> Display left 4
+    2 | <done> <3> Display left 3
+    3 | <done> <3> <30> Display left 2
+    4 | <done> <3> <30> <line> Display left 1
+    5 | <done> <3> <30> <line> <2> Display left 0
+    6 | <done> <3> <30> <line> <2> <line> Kill(ForwardWord(60, Start, Vi))
+";
+
 #[test]
 fn the_display_fails_at_each_call(rt: HostRuntime) -> Result<(), Fail> {
     let bindings = Bindings::new(rt.alloc())?;
     let mut stage = Stage::new("ab", 1);
-    for (answered, wanted) in [
-        (0, "Display left 4"),
-        (1, "<done> Display left 4"),
-        (2, "<done> <3> Display left 3"),
-        (3, "<done> <3> <30> Display left 2"),
-        (4, "<done> <3> <30> <line> Display left 1"),
-        (5, "<done> <3> <30> <line> <2> Display left 0"),
-        (
-            6,
-            "<done> <3> <30> <line> <2> <line> Kill(ForwardWord(60, Start, Vi))",
-        ),
-    ] {
-        stage.answered = Some(answered);
-        leads_to(
-            &rt,
-            &desk(rt.alloc(), &bindings, stage),
-            "A-3 0 d 2 w",
-            wanted,
-        )?;
-    }
+    each_display(
+        &rt,
+        &desk(rt.alloc(), &bindings, stage),
+        "A-3 0 d 2 w",
+        FAILING_DISPLAYS,
+    )?;
     stage.answered = Some(1);
     leads_to(
         &rt,
