@@ -7,7 +7,7 @@ use Rattle.line_config.specs.Refusals.{MetBy}
 use Rattle.line_keys.specs.declared.key.KeyEvent.{KeyEvent}
 use Rattle.line_keys.specs.Coming.{Coming, Pressed, Pasted, Refused, key_at, paste_at, left_by}
 use Rattle.line_keys.specs.Faults.{IsReaderRefusal}
-use Rattle.line_screen.specs.Input.{Next, char_at, behind_char, chars_of}
+use Rattle.line_screen.specs.Input.{Next, behind_char, chars_of}
 use Rattle.line_screen.specs.KeyGrammar.{left_after, read_from, readings, coming_of}
 use Rattle.line_screen.specs.Reader.{feed_in, left_in, chars_in, reads, coming_in, coming_by, left_by_call, char_answer}
 use Rattle.line_screen.specs.Reading.{IsCut}
