@@ -1,3 +1,4 @@
 pub mod Handlers
 pub mod Reading
 pub mod Typing
+pub mod Listening

@@ -6,6 +6,7 @@ pub mod devices;
 pub mod handlers;
 pub mod key_names;
 pub mod lines;
+pub mod listener;
 pub mod reader_calls;
 pub mod readers;
 pub mod refreshers;
