@@ -2,3 +2,6 @@ pub mod BegunLemmas
 pub mod DoesLemmas
 pub mod LeadLemmas
 pub mod CommandsLead
+pub mod ReturnLemmas
+pub mod UndoLemmas
+pub mod ReachLemmas

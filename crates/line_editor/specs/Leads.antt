@@ -28,14 +28,14 @@ abbrev pub Leads : Setting → Value → Effect → Type 0
 Leads s v e =
     (info : Option (List ℕ))
     → Turns s.prompt (sight_of s v info) e.redraws
-        (sight_of s e.value (info_after e.redraws info))
+    (sight_of s e.value (info_after e.redraws info))
 
 -- the display's cursor is at the drawing's end then
 abbrev pub LeadsToEnd : Setting → Value → Effect → Type 0
 LeadsToEnd s v e =
     (info : Option (List ℕ))
     → Turns s.prompt (sight_of s v info) e.redraws
-        (ended_sight (sight_of s e.value (info_after e.redraws info)))
+    (ended_sight (sight_of s e.value (info_after e.redraws info)))
 
 abbrev pub CommandLeads : Cmd → Setting → Value → Effect → Type 0
 CommandLeads Interrupt s v e = LeadsToEnd s v e

@@ -16,3 +16,5 @@ pub mod Yanking
 pub mod Asks
 pub mod Courses
 pub mod Leads
+pub mod Returns
+pub mod UndoAll

@@ -1,6 +1,8 @@
 //! Laws of the editor, each the contract of a function that does nothing.
 
 ghost use Rattle.line_editor.specs.Leads.{CommandsLead, SubmittingLeads, AsksLead};
+ghost use Rattle.line_editor.specs.Returns.{ComesBack};
+ghost use Rattle.line_editor.specs.UndoAll.{UndoReaches};
 
 /// What a command wants to be seen leads from a display that shows the value before to one that shows the value behind, so
 /// that nothing of an older drawing is left standing.
@@ -16,4 +18,15 @@ pub fn submitting_leads()
 /// What the key tables ask for leads to a display that shows the value, whatever stood there.
 pub fn asks_lead()
     ensures { AsksLead }
+{}
+
+/// Where the history's end is left by a step back or to the first entry, and later its end is come back to with no search
+/// between, line and cursor are as they were.
+pub fn come_back()
+    ensures { ComesBack }
+{}
+
+/// An undo by as many items as the record has, or more, gives the text that the record begins on.
+pub fn undo_reaches()
+    ensures { UndoReaches }
 {}
