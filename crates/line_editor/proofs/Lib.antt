@@ -1,2 +1,4 @@
 pub mod BegunLemmas
 pub mod DoesLemmas
+pub mod LeadLemmas
+pub mod CommandsLead

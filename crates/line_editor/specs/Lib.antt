@@ -15,3 +15,4 @@ pub mod Values
 pub mod Yanking
 pub mod Asks
 pub mod Courses
+pub mod Leads

@@ -8,6 +8,7 @@ mod drawing;
 mod hinting;
 mod inserting;
 mod killing;
+pub mod laws;
 mod moving;
 mod refreshing;
 mod remembering;
@@ -20,10 +21,9 @@ mod turning;
 mod yanking;
 
 pub use commands::Status;
-pub use renderer::{RefreshKind, Renderer};
-pub use state::State;
-
 pub use line_buffer::{
     Anchor, At, CharSearch, Direction, GraphemeClusterMode, Layout, LineBuffer, Mode, Movement,
     Position, RepeatCount, Unit, Word, WordAction,
 };
+pub use renderer::{RefreshKind, Renderer};
+pub use state::State;

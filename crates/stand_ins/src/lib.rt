@@ -3,6 +3,11 @@
 
 pub mod commands;
 pub mod devices;
+pub mod handlers;
+pub mod key_names;
 pub mod lines;
+pub mod reader_calls;
+pub mod readers;
+pub mod refreshers;
 pub mod tables;
 pub mod tray;

@@ -1,0 +1,277 @@
+-- Each command leads from its value to the next.
+use Rattle.std.proofs.Common.{◌≡◌, ℕ, zero, suc, ◌+◌, ◌-◌, ◌==◌, ◌||◌, not, max, Bool, true, false, List, [], ◌∷◌, ◌++◌, length, Option, Some, None, is_some, slice_get, refl, sym, ap, ◌∙◌, subst, if◌then◌else◌}
+use Rattle.std.proofs.lemmas.Bool.{eqb-true}
+use Rattle.line_buffer.specs.Clusters.{place_forward}
+use Rattle.line_buffer.specs.Columns.{line_up, line_down}
+use Rattle.line_buffer.specs.Insertions.{no_insertion, insertion_of, can_take_before, yank as yanked_in}
+use Rattle.line_buffer.specs.LetterCase.{word_to_edit, recase_line}
+use Rattle.line_buffer.specs.Line.{Line, moved_to}
+use Rattle.line_buffer.specs.Transpositions.{transposes_chars, transposes_words, transpose_words_line, after_words, before_words, first_word, swap_line, words_around}
+use Rattle.line_buffer.specs.declared.types.Anchor.{Anchor}
+use Rattle.line_buffer.specs.declared.types.Anchor.TheVariants.{After, Before}
+use Rattle.line_buffer.specs.declared.types.WordAction.{WordAction}
+use Rattle.line_buffer.specs.declared.types.WordAction.TheVariants.{Capitalize, Lowercase, Uppercase}
+use Rattle.line_edits.specs.Edits.{yanked, pop_in_group, overwritten, chars_replaced, indented, transpose_chars_in_group, transpose_words_in_group, edit_word_in_group, undone}
+use Rattle.line_edits.specs.Written.{opened, closed}
+use Rattle.line_help.specs.Hints.{Hinted}
+use Rattle.line_help.specs.Search.{Hit}
+use Rattle.line_help.specs.Validation.{is_valid, has_message}
+use Rattle.line_help.specs.declared.search.SearchDirection.{SearchDirection}
+use Rattle.line_help.specs.declared.search.SearchDirection.TheVariants.{Forward, Reverse}
+use Rattle.line_help.specs.declared.validate.ValidationResult.{ValidationResult}
+use Rattle.line_help.specs.declared.validate.ValidationResult.TheVariants.{Incomplete, Invalid, Valid}
+use Rattle.line_keys.specs.Refreshing.Ask.{Line as LineAsked, Message, Prompted, DoingInsert, DoneInserting}
+use Rattle.line_keys.specs.declared.command.Cmd.TheVariants.{Abort, AcceptLine, BeginningOfHistory, CapitalizeWord, ClearScreen, Complete, CompleteBackward, CompleteHint, Dedent, DowncaseWord, EndOfFile, EndOfHistory, ForwardSearchHistory, HistorySearchBackward, HistorySearchForward, Indent, Insert, Interrupt, Kill, Move, NextHistory, Noop, Repaint, Overwrite, PreviousHistory, QuotedInsert, ReplaceChar, Replace, ReverseSearchHistory, SelfInsert, Suspend, TransposeChars, TransposeWords, Undo, Unknown, UpcaseWord, ViYankTo, Yank, YankPop, LineUpOrPreviousHistory, LineDownOrNextHistory, Newline, AcceptOrInsertLine}
+use Rattle.line_keys.specs.declared.command.CmdKind.{CmdKind}
+use Rattle.line_keys.specs.declared.command.CmdKind.TheVariants.{ForcedRefresh, Other}
+use Rattle.line_record.specs.Held.{Held, has_step, line_back, closes}
+use Rattle.line_record.specs.Held.Held.{Opened, Stepped}
+use Rattle.line_record.specs.Ring.{exchanged}
+use Rattle.line_editor.specs.Accepting.{bared, bare, verdict, told_if, verdict_told, validate_by, validate, newline, accept, accepts, newline_if, accept_or_insert}
+use Rattle.line_editor.specs.Commands.{in_vi_command, line_up_or_previous, line_down_or_next}
+use Rattle.line_editor.specs.Hinting.{at_row_end, completed_by, complete_by}
+use Rattle.line_editor.specs.Inserting.{insert_char}
+use Rattle.line_editor.specs.Leads.{Reaches, Leads, CommandsLead, SubmittingLeads, AsksLead}
+use Rattle.line_editor.specs.Moving.{move_buffer_end}
+use Rattle.line_editor.specs.Redraws.Redraw.{Drawn, Bared, ToEnd}
+use Rattle.line_editor.specs.Remembering.{saved_now, at_place, restored, recalled, leaving, recall, history_step, history_end, found, history_search}
+use Rattle.line_editor.specs.Rewording.{transpose_chars, transpose_words, edit_word, undo}
+use Rattle.line_editor.specs.Sights.{sight_as, sight_of, ended_sight, Turns, info_after}
+use Rattle.line_editor.specs.Values.{Value, Setting, rewritten, at_line}
+use Rattle.line_editor.specs.Yanking.{anchored, steps, behind_yank, yanked_by, yank, yank_lent, pop_lent}
+use Rattle.line_editor.proofs.LeadLemmas.{turns_both, info_both, both_lead, either, refresh_leads, told_leads, rest_leads, beep_leads, clear_leads, refresh_if_leads, step_leads, motion_leads, none_if, insertion_leads, kill_leads, replace_leads}
+
+or_none : (a b : Bool) → (a || b) ≡ false → (a ≡ false) × (b ≡ false)
+or_none true b h = cc
+or_none false b h = (refl, h)
+
+not_none : (b : Bool) → not b ≡ false → b ≡ true
+not_none true h = refl
+not_none false h = cc
+
+if_none : {A : Type 0} (b : Bool) (x y : A) → b ≡ false → (if b then x else y) ≡ y
+if_none true x y h = cc
+if_none false x y h = refl
+
+found_none : (o : Option ℕ) (l : Line) → is_some o ≡ false → moved_to o l ≡ l
+found_none None l h = refl
+found_none (Some place) l h = cc
+
+-- ---- yanks
+
+no_yank : (text : List ℕ) (n : ℕ) (l : Line) (b : Bool)
+    → (let i = if b then no_insertion l else insertion_of text n l in is_some i.answer ≡ false → i.line ≡ l)
+no_yank text n l true h = refl
+no_yank text n l false h = none_if _ _ l _ h
+
+not_anchored : (anchor : Anchor) (l : Line) → steps anchor l ≡ false → anchored anchor l ≡ l
+not_anchored After l h = found_none (place_forward 1 l) l h
+not_anchored Before l h = refl
+
+yank_rests : (vi : Bool) (text : List ℕ) (n : ℕ) (v : Value) → is_some (yanked_in text n v.line).answer ≡ false → (yanked_by vi text n v).line ≡ v.line
+yank_rests vi text n v h =
+    let w = rewritten (yanked text n) v in
+    ap (λ (x : Value). x.line) (if_none (is_some (yanked_in text n v.line).answer) (at_line (behind_yank vi w.line) w) w h) ∙ no_yank text n v.line (length text == 0) h
+
+yank_leads : (vi : Bool) (text : List ℕ) (anchor : Anchor) (n : ℕ) (s : Setting) (v : Value) → Leads s v (yank vi text anchor n s v)
+yank_leads vi text anchor n s v =
+    let before = at_line (anchored anchor v.line) v in
+    either s v (is_some (yanked_in text n before.line).answer || steps anchor v.line) _ _ (λ e. refresh_leads s v (yanked_by vi text n before)) (λ e.
+    let parts = or_none _ _ e in
+    rest_leads s v (yanked_by vi text n before) (yank_rests vi text n before parts.0 ∙ not_anchored anchor v.line parts.1))
+
+lent_leads : (vi : Bool) (anchor : Anchor) (n : ℕ) (o : Option (List ℕ)) (s : Setting) (v : Value) → Leads s v (yank_lent vi anchor n o s v)
+lent_leads vi anchor n None s v = rest_leads s v v refl
+lent_leads vi anchor n (Some text) s v = yank_leads vi text anchor n s v
+
+pop_leads : (o : Option (ℕ × List ℕ)) (s : Setting) (v : Value) → Leads s v (pop_lent o s v)
+pop_leads None s v = rest_leads s v v refl
+pop_leads (Some lent) s v = either s v (can_take_before lent.0 v.line) _ _ (λ e. refresh_leads s v (rewritten (pop_in_group lent.0 lent.1) v)) (λ e. rest_leads s v v refl)
+
+-- ---- words
+
+chars_lead : (s : Setting) (v : Value) → Leads s v (transpose_chars s v)
+chars_lead s v = refresh_if_leads s v (rewritten transpose_chars_in_group v) (transposes_chars v.line) (λ e. if_none (transposes_chars v.line) _ v.line e)
+
+words_rest : (n : ℕ) (l : Line) → transposes_words n l ≡ false → (transpose_words_line n l).place ≡ l.place → transpose_words_line n l ≡ l
+unfolding after_words before_words
+words_rest n l h k =
+    let stays : transpose_words_line n l ≡ after_words 1 (first_word n l) = if_none (transposes_words n l) (swap_line (words_around n l) l) (after_words 1 (first_word n l)) h in
+    stays ∙ ap (λ place. record l { place = place }) (sym (ap (λ (x : Line). x.place) stays) ∙ k)
+
+words_lead : (n : ℕ) (s : Setting) (v : Value) → Leads s v (transpose_words n s v)
+words_lead n s v =
+    let w = rewritten (transpose_words_in_group n) v in
+    refresh_if_leads s v w (transposes_words n v.line || not (w.line.place == v.line.place)) (λ e.
+    let parts = or_none (transposes_words n v.line) _ e in
+    words_rest n v.line parts.0 (eqb-true w.line.place v.line.place (not_none _ parts.1)))
+
+recase_rests : (action : WordAction) (o : Option (ℕ × ℕ)) (l : Line) → is_some o ≡ false → recase_line action o l ≡ l
+recase_rests action None l h = refl
+recase_rests action (Some word) l h = cc
+
+word_leads : (action : WordAction) (s : Setting) (v : Value) → Leads s v (edit_word action s v)
+word_leads action s v = refresh_if_leads s v (rewritten (edit_word_in_group action) v) (is_some (word_to_edit v.line)) (recase_rests action (word_to_edit v.line) v.line)
+
+-- ---- undo
+
+undo_rests : (n : ℕ) (held : List Held) (l : Line) (first : List ℕ) → Reaches first held l.text → has_step n held ≡ false → line_back n held l ≡ l
+undo_rests zero held l first r h = refl
+undo_rests (suc n) [] l first r h = refl
+undo_rests (suc n) (Opened earlier ∷ held) l first r h =
+    undo_rests n held (record l { text = earlier }) first r.1 h ∙ ap (λ text. record l { text = text }) (sym r.0)
+undo_rests (suc n) (Stepped earlier place newest joinable ∷ held) l first r h = cc
+
+undo_leads : (n : ℕ) (s : Setting) (v : Value) (first : List ℕ) → Reaches first v.held v.line.text → Leads s v (undo n s v)
+undo_leads n s v first r = refresh_if_leads s v (rewritten (undone n) v) (has_step (max n 1) v.held) (undo_rests (max n 1) v.held v.line first r)
+
+-- ---- history
+
+recall_leads : (place : ℕ) (o : Option Hit) (s : Setting) (v w : Value) → w.line ≡ v.line → Leads s v (recall place o s w)
+recall_leads place None s v w h = rest_leads s v w h
+recall_leads place (Some hit) s v w h = refresh_leads s v (recalled hit.entry (length hit.entry) (at_place place w))
+
+leaving_rests : (v : Value) (b : Bool) → (if b then saved_now v else v).line ≡ v.line
+leaving_rests v true = refl
+leaving_rests v false = refl
+
+recall_left : (place : ℕ) (o : Option Hit) (s : Setting) (v : Value) → Leads s v (recall place o s (leaving s v))
+recall_left place o s v = recall_leads place o s v (leaving s v) (leaving_rests v (v.history == length s.entries))
+
+step_back_leads : (back : Bool) (s : Setting) (v : Value) → Leads s v (history_step back s v)
+step_back_leads true s v = either s v (v.history == 0) _ _ (λ e. rest_leads s v v refl) (λ e. recall_left (v.history - 1) _ s v)
+step_back_leads false s v =
+    either s v (v.history == length s.entries) _ _ (λ e. rest_leads s v v refl) (λ e.
+    either s v (v.history + 1 == length s.entries) _ _ (λ e. refresh_leads s v (restored (at_place (length s.entries) v))) (λ e. recall_leads (v.history + 1) _ s v v refl))
+
+end_leads : (first : Bool) (s : Setting) (v : Value) → Leads s v (history_end first s v)
+end_leads true s v = either s v (v.history == 0) _ _ (λ e. rest_leads s v v refl) (λ e. recall_left 0 _ s v)
+end_leads false s v =
+    either s v (v.history == length s.entries) _ _ (λ e. rest_leads s v v refl) (λ e. refresh_leads s v (restored (at_place (length s.entries) v)))
+
+found_leads : (o : Option Hit) (s : Setting) (v w : Value) → w.line ≡ v.line → Leads s v (found o s w)
+found_leads None s v w h = beep_leads s v w h
+found_leads (Some hit) s v w h = refresh_leads s v (recalled hit.entry hit.pos (at_place hit.idx w))
+
+search_leads : (dir : SearchDirection) (s : Setting) (v : Value) → Leads s v (history_search dir s v)
+search_leads Reverse s v = either s v (v.history == 0) _ _ (λ e. beep_leads s v v refl) (λ e. found_leads _ s v (at_place (v.history - 1) v) refl)
+search_leads Forward s v = either s v (v.history == length s.entries) _ _ (λ e. beep_leads s v v refl) (λ e. found_leads _ s v (at_place (v.history + 1) v) refl)
+
+-- ---- lines that are to be accepted
+
+bared_by : (s : Setting) (v w : Value) (b : Bool) → w.line ≡ v.line
+    → Leads s v (record { value = w; redraws = (if b then Drawn s.prompt true w.line.text w.line.place None else Bared s.prompt w.line.text w.line.place) ∷ [] })
+bared_by s v w true h info = record { fits = ((λ e. refl), tt); leads = refl }
+bared_by s v w false h info = record { fits = (refl, tt); leads = ap (λ (l : Line). sight_as s.prompt l.text l.place info) (sym h) }
+
+bare_leads : (s : Setting) (v : Value) → Leads s v (bare s v)
+bare_leads s v = bared_by s v (bared v s) (is_some v.hint || (v.marked || (bared v s).marked)) refl
+
+told_if_leads : (draws : Bool) (text : Option (List ℕ)) (kind : CmdKind) (s : Setting) (v w : Value) → w.line ≡ v.line → Leads s v (told_if draws text kind s w)
+told_if_leads draws text kind s v w h = either s v (draws || is_some text) _ _ (λ e. told_leads text kind s v w) (λ e. rest_leads s v w h)
+
+verdict_leads : (found : ValidationResult) (draws : Bool) (s : Setting) (v w : Value) → w.line ≡ v.line → Leads s v (verdict_told found draws s w)
+verdict_leads Incomplete draws s v w h = rest_leads s v w h
+verdict_leads (Invalid text) draws s v w h = told_if_leads draws text Other s v w h
+verdict_leads (Valid text) draws s v w h = told_if_leads draws text ForcedRefresh s v w h
+
+validate_leads : (judge : Option (List ℕ → ValidationResult)) (s : Setting) (v : Value) → Leads s v (validate_by judge s v)
+validate_leads None s v = rest_leads s v v refl
+validate_leads (Some judge) s v = verdict_leads (judge v.line.text) (closes v.held || is_some v.hint) s v (rewritten (λ w. closed (opened w)) v) refl
+
+accept_leads : (s : Setting) (v : Value) → Leads s v (accept s v)
+accept_leads s v = both_lead s v bare validate (bare_leads s v) (validate_leads s.judge s (bare s v).value)
+
+newline_leads : (s : Setting) (v : Value) → Leads s v (newline s v)
+newline_leads s v = both_lead s v bare (insert_char 10 1) (bare_leads s v) (insertion_leads 10 1 s (bare s v).value)
+
+newline_if_leads : (accepted : Bool) (found : ValidationResult) (s : Setting) (v : Value) → Leads s v (newline_if accepted found s v)
+newline_if_leads accepted found s v =
+    either s v accepted _ _ (λ e. rest_leads s v v refl) (λ e.
+    either s v (is_valid found || not (has_message found)) _ _ (λ e. insertion_leads 10 1 s v) (λ e. rest_leads s v v refl))
+
+accept_or_insert_leads : (middle : Bool) (s : Setting) (v : Value) → Leads s v (accept_or_insert middle s v)
+accept_or_insert_leads middle s v =
+    both_lead s v accept (newline_if (accepts middle s v) (verdict s v)) (accept_leads s v) (newline_if_leads (accepts middle s v) (verdict s v) s (accept s v).value)
+
+-- ---- hints
+
+completion_leads : (o : Option (List ℕ)) (s : Setting) (v w : Value) → Leads s v (completed_by o s w)
+completion_leads None s v w = λ info. record { fits = (tt, ((λ e. refl), tt)); leads = refl }
+completion_leads (Some text) s v w =
+    either s v (is_some (yanked_in text 1 w.line).answer) _ _ (λ e. refresh_leads s v (rewritten (yanked text 1) w)) (λ e info. record { fits = (tt, ((λ e. refl), tt)); leads = refl })
+
+hint_leads : (o : Option Hinted) (s : Setting) (v : Value) → Leads s v (complete_by o s v)
+hint_leads None s v = rest_leads s v v refl
+hint_leads (Some hint) s v = completion_leads hint.completion s v (at_row_end v)
+
+-- ---- rows, or the history
+
+up_leads : (n : ℕ) (s : Setting) (v : Value) → Leads s v (line_up_or_previous n s v)
+up_leads n s v = either s v (is_some (line_up s.mode s.column n v.line)) _ _ (λ e. step_leads _ _ _ s v refl) (λ e. step_back_leads true s v)
+
+down_leads : (n : ℕ) (s : Setting) (v : Value) → Leads s v (line_down_or_next n s v)
+down_leads n s v = either s v (is_some (line_down s.mode s.column n v.line)) _ _ (λ e. step_leads _ _ _ s v refl) (λ e. step_back_leads false s v)
+
+-- ---- the laws
+
+pub commands_lead : CommandsLead
+commands_lead m Abort s v first sound r = rest_leads s v v refl
+commands_lead m AcceptLine s v first sound r = accept_leads s v
+commands_lead m BeginningOfHistory s v first sound r = end_leads true s v
+commands_lead m CapitalizeWord s v first sound r = word_leads Capitalize s v
+commands_lead m ClearScreen s v first sound r = clear_leads s v
+commands_lead m Complete s v first sound r = rest_leads s v v refl
+commands_lead m CompleteBackward s v first sound r = rest_leads s v v refl
+commands_lead m CompleteHint s v first sound r = hint_leads v.hint s v
+commands_lead m (Dedent movement) s v first sound r = refresh_leads s v (rewritten (indented movement m.indent_size true) v)
+commands_lead m DowncaseWord s v first sound r = word_leads Lowercase s v
+commands_lead m EndOfFile s v first sound r = bare_leads s v
+commands_lead m EndOfHistory s v first sound r = end_leads false s v
+commands_lead m ForwardSearchHistory s v first sound r = rest_leads s v v refl
+commands_lead m HistorySearchBackward s v first sound r = search_leads Reverse s v
+commands_lead m HistorySearchForward s v first sound r = search_leads Forward s v
+commands_lead m (Indent movement) s v first sound r = refresh_leads s v (rewritten (indented movement m.indent_size false) v)
+commands_lead m (Insert n text) s v first sound r = yank_leads (in_vi_command m) text Before n s v
+commands_lead m Interrupt s v first sound r = λ info. record { fits = (tt, tt); leads = refl }
+commands_lead m (Kill movement) s v first sound r = kill_leads movement s v sound
+commands_lead m (Move movement) s v first sound r = motion_leads movement s v
+commands_lead m NextHistory s v first sound r = step_back_leads false s v
+commands_lead m Noop s v first sound r = rest_leads s v v refl
+commands_lead m Repaint s v first sound r = refresh_leads s v v
+commands_lead m (Overwrite c) s v first sound r = either s v (is_some (place_forward 1 v.line)) _ _ (λ e. refresh_leads s v (rewritten (overwritten c) v)) (λ e. rest_leads s v v refl)
+commands_lead m PreviousHistory s v first sound r = step_back_leads true s v
+commands_lead m QuotedInsert s v first sound r = rest_leads s v v refl
+commands_lead m (ReplaceChar n c) s v first sound r = either s v (is_some (place_forward n v.line)) _ _ (λ e. refresh_leads s v (rewritten (chars_replaced c n) v)) (λ e. rest_leads s v v refl)
+commands_lead m (Replace movement text) s v first sound r = replace_leads movement text s v sound
+commands_lead m ReverseSearchHistory s v first sound r = rest_leads s v v refl
+commands_lead m (SelfInsert n c) s v first sound r = insertion_leads c n s v
+commands_lead m Suspend s v first sound r = rest_leads s v v refl
+commands_lead m TransposeChars s v first sound r = chars_lead s v
+commands_lead m (TransposeWords n) s v first sound r = words_lead n s v
+commands_lead m (Undo n) s v first sound r = undo_leads n s v first r
+commands_lead m Unknown s v first sound r = rest_leads s v v refl
+commands_lead m UpcaseWord s v first sound r = word_leads Uppercase s v
+commands_lead m (ViYankTo movement) s v first sound r = rest_leads s v v refl
+commands_lead m (Yank n anchor) s v first sound r = lent_leads (in_vi_command m) anchor n (slice_get m.ring.slots m.ring.place) s v
+commands_lead m YankPop s v first sound r = pop_leads (exchanged m.ring) s v
+commands_lead m (LineUpOrPreviousHistory n) s v first sound r = up_leads n s v
+commands_lead m (LineDownOrNextHistory n) s v first sound r = down_leads n s v
+commands_lead m Newline s v first sound r = newline_leads s v
+commands_lead m (AcceptOrInsertLine middle) s v first sound r = accept_or_insert_leads middle s v
+
+pub submitting_leads : SubmittingLeads
+submitting_leads s v info =
+    let e = move_buffer_end ForcedRefresh s v in
+    let there = info_after e.redraws info in
+    let y = sight_of s e.value there in
+    let end : Turns s.prompt y (ToEnd ∷ []) (ended_sight y) = record { fits = (tt, tt); leads = refl } in
+    subst (λ i. Turns s.prompt (sight_of s v info) (e.redraws ++ (ToEnd ∷ [])) (ended_sight (sight_of s e.value i))) (sym (info_both e.redraws (ToEnd ∷ []) info))
+    (turns_both s.prompt (sight_of s v info) y (ended_sight y) e.redraws (ToEnd ∷ []) (step_leads ForcedRefresh _ _ s v refl info) end)
+
+pub asks_lead : AsksLead
+asks_lead LineAsked s v x = record { fits = ((λ e. refl), tt); leads = refl }
+asks_lead (Message text kind) s v x = record { fits = ((λ e. refl), tt); leads = refl }
+asks_lead (Prompted prompt) s v x = record { fits = ((λ e. cc), tt); leads = refl }
+asks_lead DoingInsert s v x = refl
+asks_lead DoneInserting s v x = refl

@@ -1,0 +1,280 @@
+-- What commands want to be seen leads from what is to be seen of the value before to the same of the value behind.
+use Rattle.std.proofs.Common.{◌≡◌, ℕ, ◌+◌, ◌-◌, ◌==◌, ◌||◌, not, ◌<◌, ◌≤◌, nat_le, nat_lt, Bool, true, false, List, [], ◌∷◌, ◌++◌, take, drop, length, length-append, take_all, Option, Some, None, IfSome, is_some, encode_utf8, refl, sym, ap, ◌∙◌, subst, append_assoc, append-nil, arith, if◌then◌else◌}
+use Rattle.std.specs.List.{list_all, insert_slice, replace_range}
+use Rattle.std.proofs.lemmas.Bool.{and_parts, eqb-true, ltb-true}
+use Rattle.std.proofs.lemmas.List.{drop_all, take-append-drop, length-drop, length-take}
+use Rattle.std.proofs.lemmas.Str.{encode_ascii}
+use Rattle.line_buffer.specs.Clusters.{place_forward, place_backward}
+use Rattle.line_buffer.specs.Columns.{line_up, line_down}
+use Rattle.line_buffer.specs.Event.{Event}
+use Rattle.line_buffer.specs.Event.Event.{InsertChar}
+use Rattle.line_buffer.specs.Hits.{search_place}
+use Rattle.line_buffer.specs.Insertions.{Insertion, insertion_by, insertion_of, no_insertion, put_at_cursor, insert as insertion}
+use Rattle.line_buffer.specs.Line.{Line, moved_to, cut_out}
+use Rattle.line_buffer.specs.Range.{IsSpanOf, range_of, deletion_line}
+use Rattle.line_buffer.specs.Rows.{row_start, row_end}
+use Rattle.line_buffer.specs.Short.{is_printable}
+use Rattle.line_buffer.specs.Words.{prev_word, next_word}
+use Rattle.line_buffer.specs.declared.range.Span.{Span}
+use Rattle.line_buffer.specs.declared.types.At.TheVariants.{Start}
+use Rattle.line_buffer.specs.declared.types.Movement.{Movement}
+use Rattle.line_buffer.specs.declared.types.Movement.TheVariants.{WholeLine, BeginningOfLine, EndOfLine, BackwardWord, ForwardWord, ViCharSearch, ViFirstPrint, BackwardChar, ForwardChar, LineUp, LineDown, WholeBuffer, BeginningOfBuffer, EndOfBuffer}
+use Rattle.line_buffer.specs.declared.types.Word.TheVariants.{Big}
+use Rattle.line_buffer.proofs.SpanLemmas as spans
+use Rattle.line_edits.specs.Edits.{typed, put_behind, killed}
+use Rattle.line_edits.specs.Plain.{is_plain}
+use Rattle.line_help.specs.History.{begins_with_space}
+use Rattle.line_keys.specs.declared.command.CmdKind.{CmdKind}
+use Rattle.line_keys.specs.declared.command.CmdKind.TheVariants.{MoveCursor}
+use Rattle.line_record.specs.Held.{Held}
+use Rattle.line_editor.specs.Drawing.{drawn, asked_anew, refreshed, told, cursor_moved, beeped, cleared_and_drawn}
+use Rattle.line_editor.specs.Inserting.{may_be_typed, show_typed, insert_char, insert_text}
+use Rattle.line_editor.specs.Killing.{may_be_taken, show_taken, kill, insert_text_if, replace}
+use Rattle.line_editor.specs.Leads.{Sound, Leads}
+use Rattle.line_editor.specs.Moving.{stepped, to_found, to_place, move_home, move_to_next_word, move_to_first_print, move_by}
+use Rattle.line_editor.specs.Redraws.{Redraw}
+use Rattle.line_editor.specs.Redraws.Redraw.{Drawn, Moved, Typed, Taken}
+use Rattle.line_editor.specs.Rewording.{refreshed_if}
+use Rattle.line_editor.specs.Sights.{Sight, sight_as, sight, sight_all, FitsAll, Turns, info_one, info_after, sight_of}
+use Rattle.line_editor.specs.Values.{Value, Setting, Effect, Edit, unchanged, then_do, rewritten, at_line, with_mark}
+
+-- ---- one after the other
+
+fits_both : (own : List ℕ) (x : Sight) (rs ss : List Redraw) → FitsAll own x rs → FitsAll own (sight_all x rs) ss → FitsAll own x (rs ++ ss)
+fits_both own x [] ss h k = k
+fits_both own x (r ∷ rs) ss h k = (h.0, fits_both own (sight x r) rs ss h.1 k)
+
+sight_both : (x : Sight) (rs ss : List Redraw) → sight_all x (rs ++ ss) ≡ sight_all (sight_all x rs) ss
+sight_both x [] ss = refl
+sight_both x (r ∷ rs) ss = sight_both (sight x r) rs ss
+
+pub info_both : (rs ss : List Redraw) (info : Option (List ℕ)) → info_after (rs ++ ss) info ≡ info_after ss (info_after rs info)
+info_both [] ss info = refl
+info_both (r ∷ rs) ss info = info_both rs ss (info_one info r)
+
+pub turns_both : (own : List ℕ) (x y z : Sight) (rs ss : List Redraw) → Turns own x rs y → Turns own y ss z → Turns own x (rs ++ ss) z
+turns_both own x y z rs ss h k = record {
+  fits = fits_both own x rs ss h.fits (subst (λ w. FitsAll own w ss) (sym h.leads) k.fits);
+  leads = sight_both x rs ss ∙ ap (λ w. sight_all w ss) h.leads ∙ k.leads;
+}
+
+pub both_lead : (s : Setting) (v : Value) (first second : Edit) → Leads s v (first s v) → Leads s (first s v).value (second s (first s v).value) → Leads s v (then_do first second s v)
+both_lead s v first second h k info =
+    let e = first s v in
+    let f = second s e.value in
+    let between = info_after e.redraws info in
+    subst (λ i. Turns s.prompt (sight_of s v info) (e.redraws ++ f.redraws) (sight_of s f.value i)) (sym (info_both e.redraws f.redraws info))
+    (turns_both s.prompt (sight_of s v info) (sight_of s e.value between) (sight_of s f.value (info_after f.redraws between)) e.redraws f.redraws (h info) (k between))
+
+-- one of two
+pub either : (s : Setting) (v : Value) (b : Bool) (e f : Effect) → (b ≡ true → Leads s v e) → (b ≡ false → Leads s v f) → Leads s v (if b then e else f)
+either s v true e f h k = h refl
+either s v false e f h k = k refl
+
+-- ---- drawn in full, or left as it stands
+
+pub refresh_leads : (s : Setting) (v w : Value) → Leads s v (refreshed s w)
+refresh_leads s v w info = record { fits = ((λ e. refl), tt); leads = refl }
+
+pub told_leads : (text : Option (List ℕ)) (kind : CmdKind) (s : Setting) (v w : Value) → Leads s v (told text kind s w)
+told_leads text kind s v w info = record { fits = ((λ e. refl), tt); leads = refl }
+
+pub rest_leads : (s : Setting) (v w : Value) → w.line ≡ v.line → Leads s v (unchanged s w)
+rest_leads s v w h info = record { fits = tt; leads = ap (λ (l : Line). sight_as s.prompt l.text l.place info) (sym h) }
+
+pub beep_leads : (s : Setting) (v w : Value) → w.line ≡ v.line → Leads s v (beeped s w)
+beep_leads s v w h info = record { fits = (tt, tt); leads = ap (λ (l : Line). sight_as s.prompt l.text l.place info) (sym h) }
+
+pub clear_leads : (s : Setting) (v : Value) → Leads s v (cleared_and_drawn s v)
+clear_leads s v info = record { fits = (tt, ((λ e. refl), tt)); leads = refl }
+
+pub refresh_if_leads : (s : Setting) (v w : Value) (b : Bool) → (b ≡ false → w.line ≡ v.line) → Leads s v (refreshed_if b s w)
+refresh_if_leads s v w b h = either s v b (refreshed s w) (unchanged s w) (λ e. refresh_leads s v w) (λ e. rest_leads s v w (h e))
+
+-- ---- the cursor
+
+shown_or_drawn : (s : Setting) (v w : Value) (b : Bool) → w.line.text ≡ v.line.text
+    → Leads s v (record { value = w; redraws = (if b then Drawn s.prompt true w.line.text w.line.place None else Moved w.line.text w.line.place) ∷ [] })
+shown_or_drawn s v w true h info = record { fits = ((λ e. refl), tt); leads = refl }
+shown_or_drawn s v w false h info = record { fits = (h, tt); leads = ap (λ t. sight_as s.prompt t w.line.place info) (sym h) }
+
+pub move_leads : (kind : CmdKind) (s : Setting) (v w : Value) → w.line.text ≡ v.line.text → Leads s v (cursor_moved kind s w)
+move_leads kind s v w h = shown_or_drawn s v (with_mark kind s w) (w.marked || (with_mark kind s w).marked) h
+
+pub step_leads : (kind : CmdKind) (moves : Bool) (l : Line) (s : Setting) (v : Value) → l.text ≡ v.line.text → Leads s v (stepped kind moves l s v)
+step_leads kind moves l s v h = either s v moves (cursor_moved kind s (at_line l v)) (unchanged s v) (λ e. move_leads kind s v (at_line l v) h) (λ e. rest_leads s v v refl)
+
+found_leads : (o : Option ℕ) (s : Setting) (v : Value) → Leads s v (to_found o s v)
+found_leads o s v = step_leads MoveCursor (is_some o) (moved_to o v.line) s v refl
+
+place_leads : (kind : CmdKind) (place : ℕ) (s : Setting) (v : Value) → Leads s v (to_place kind place s v)
+place_leads kind place s v = step_leads kind (not (place == v.line.place)) (record v.line { place = place }) s v refl
+
+first_print_leads : (s : Setting) (v : Value) → Leads s v (move_to_first_print s v)
+first_print_leads s v = either s v (begins_with_space v.line.text) (then_do move_home (move_to_next_word Start Big 1) s v) (move_home s v)
+    (λ e. both_lead s v move_home (move_to_next_word Start Big 1) (home v) (next (move_home s v).value)) (λ e. home v)
+  where
+    home : (v : Value) → Leads s v (move_home s v)
+    home v = place_leads MoveCursor (row_start v.line.text v.line.place) s v
+
+    next : (v : Value) → Leads s v (move_to_next_word Start Big 1 s v)
+    next v = found_leads (next_word Start Big 1 v.line) s v
+
+pub motion_leads : (m : Movement) (s : Setting) (v : Value) → Leads s v (move_by m s v)
+motion_leads WholeLine s v = rest_leads s v v refl
+motion_leads BeginningOfLine s v = place_leads MoveCursor (row_start v.line.text v.line.place) s v
+motion_leads EndOfLine s v = place_leads MoveCursor (row_end v.line.text v.line.place) s v
+motion_leads (BackwardWord n word) s v = found_leads (prev_word word n v.line) s v
+motion_leads (ForwardWord n at word) s v = found_leads (next_word at word n v.line) s v
+motion_leads (ViCharSearch n search) s v = found_leads (search_place search n v.line) s v
+motion_leads ViFirstPrint s v = first_print_leads s v
+motion_leads (BackwardChar n) s v = found_leads (place_backward n v.line) s v
+motion_leads (ForwardChar n) s v = found_leads (place_forward n v.line) s v
+motion_leads (LineUp n) s v = found_leads (line_up s.mode s.column n v.line) s v
+motion_leads (LineDown n) s v = found_leads (line_down s.mode s.column n v.line) s v
+motion_leads WholeBuffer s v = rest_leads s v v refl
+motion_leads BeginningOfBuffer s v = step_leads MoveCursor (not (v.line.place == 0)) (record v.line { place = 0 }) s v refl
+motion_leads EndOfBuffer s v = step_leads MoveCursor (not (v.line.place == length v.line.text)) (record v.line { place = length v.line.text }) s v refl
+
+-- ---- a typed character
+
+small : (c : ℕ) → is_printable c ≡ true → c < 128
+small c h = let parts = and_parts (nat_le 32 c) (nat_lt c 127) h in let k = ltb-true c 127 parts.1 in omega arith
+
+put_at_end : (text : List ℕ) (place : ℕ) (added : List ℕ) → place ≡ length text → insert_slice text place added ≡ text ++ added
+put_at_end text place added e =
+    append_assoc (take place text) added (drop place text)
+    ∙ ap (λ xs. xs ++ (added ++ drop place text)) (take_all place text (omega arith))
+    ∙ ap (λ xs. text ++ (added ++ xs)) (drop_all place text (omega arith))
+    ∙ ap (λ xs. text ++ xs) (append-nil added)
+
+typed_by : (s : Setting) (c n : ℕ) (v w : Value) (b : Bool) → may_be_typed c n v w ≡ b → (may_be_typed c n v w ≡ true → w.line ≡ put_at_cursor (encode_utf8 c) v.line)
+    → Leads s v (record { value = w; redraws = (if b then Typed s.prompt c w.line.text w.line.place else drawn s w) ∷ [] })
+typed_by s c n v w false e put info = record { fits = ((λ x. refl), tt); leads = refl }
+typed_by s c n v w true e put info =
+    let a = and_parts (n == 1) _ e in
+    let b = and_parts (v.line.place == length v.line.text) _ a.1 in
+    let d = and_parts (is_plain v.line.text) _ b.1 in
+    let f = and_parts (is_printable c) _ d.1 in
+    let one : encode_utf8 c ≡ c ∷ [] = encode_ascii c (small c f.0) in
+    let end = eqb-true v.line.place (length v.line.text) b.0 in
+    let text : w.line.text ≡ insert_slice v.line.text v.line.place (encode_utf8 c) = ap (λ (l : Line). l.text) (put e) in
+    let place : w.line.place ≡ v.line.place + length (encode_utf8 c) = ap (λ (l : Line). l.place) (put e) in
+    record {
+      fits = (
+        (
+          refl,
+          refl,
+          refl,
+          record {
+            printable = f.0;
+            simple = d.0;
+            end = end;
+            prompt_is = refl;
+            text_is = text ∙ put_at_end v.line.text v.line.place (encode_utf8 c) end ∙ ap (λ x. v.line.text ++ x) one;
+            behind = place ∙ ap (λ x. v.line.place + length x) one;
+          },
+        ),
+        tt,
+      );
+      leads = refl;
+    }
+
+pub none_if : (told : Event) (added : List ℕ) (l : Line) (b : Bool)
+    → (let i : Insertion = if b then record { answer = Some (l.place == length l.text); events = told ∷ []; line = put_at_cursor added l } else no_insertion l in is_some i.answer ≡ false → i.line ≡ l)
+none_if told added l true h = cc
+none_if told added l false h = refl
+
+some_if : (told : Event) (added : List ℕ) (l : Line) (b : Bool)
+    → (let i : Insertion = if b then record { answer = Some (l.place == length l.text); events = told ∷ []; line = put_at_cursor added l } else no_insertion l in is_some i.answer ≡ true → i.line ≡ put_at_cursor added l)
+some_if told added l true h = refl
+some_if told added l false h = cc
+
+no_typing : (c n : ℕ) (l : Line) (b : Bool)
+    → (let i : Insertion = if b then insertion_by (InsertChar l.place c) (encode_utf8 c) l else insertion_of (encode_utf8 c) n l in is_some i.answer ≡ false → i.line ≡ l)
+no_typing c n l true h = none_if _ _ l _ h
+no_typing c n l false h = none_if _ _ l _ h
+
+one_typed : (c n : ℕ) (l : Line) (b : Bool) → b ≡ true
+    → (let i : Insertion = if b then insertion_by (InsertChar l.place c) (encode_utf8 c) l else insertion_of (encode_utf8 c) n l in is_some i.answer ≡ true → i.line ≡ put_at_cursor (encode_utf8 c) l)
+one_typed c n l true one h = some_if _ _ l _ h
+one_typed c n l false one h = cc
+
+pub insertion_leads : (c n : ℕ) (s : Setting) (v : Value) → Leads s v (insert_char c n s v)
+insertion_leads c n s v =
+    let w = rewritten (typed c n) v in
+    either s v (is_some (insertion c n v.line).answer) (show_typed c n v s w) (unchanged s w)
+    (λ some. typed_by s c n v (asked_anew s w) (may_be_typed c n v (asked_anew s w)) refl (λ h. one_typed c n v.line (n == 1) (and_parts (n == 1) _ h).0 some))
+    (λ none. rest_leads s v w (no_typing c n v.line (n == 1) none))
+
+pub text_leads : (text : List ℕ) (s : Setting) (v : Value) → Leads s v (insert_text text s v)
+text_leads text s v = either s v (length text == 0) _ _ (λ e. rest_leads s v v refl) (λ e. refresh_leads s v (rewritten (put_behind text) v))
+
+-- ---- a kill
+
+nothing_in : (xs : List ℕ) → length xs ≡ 0 → xs ≡ []
+nothing_in [] h = refl
+nothing_in (x ∷ xs) h = absurd (omega arith)
+
+-- a part whose cut leaves the cursor at the text's end was the text's end
+cut_text : (text : List ℕ) (from upto : ℕ) → from ≤ upto → from ≡ length (replace_range text from upto []) → replace_range text from upto [] ≡ take from text
+cut_text text from upto order end =
+    let whole : replace_range text from upto [] ≡ take from text ++ drop upto text = append_assoc (take from text) [] (drop upto text) in
+    let count : length (replace_range text from upto []) ≡ length (take from text) + length (drop upto text) = ap length whole ∙ length-append (take from text) (drop upto text) in
+    let left = length-drop upto text in
+    let size = length-take from text in
+    let none : length (drop upto text) ≡ 0 = omega arith in
+    whole ∙ ap (λ xs. take from text ++ xs) (nothing_in (drop upto text) none) ∙ append-nil (take from text)
+
+taken_by : (s : Setting) (v w : Value) (from upto : ℕ) (b : Bool) → may_be_taken v w ≡ b → from ≤ upto
+    → w.line.text ≡ replace_range v.line.text from upto [] → w.line.place ≡ from
+    → Leads s v (record { value = w; redraws = (if b then Taken s.prompt (length v.line.text - length w.line.text) w.line.text w.line.place else drawn s w) ∷ [] })
+taken_by s v w from upto false e order text place info = record { fits = ((λ x. refl), tt); leads = refl }
+taken_by s v w from upto true e order text place info =
+    let before = v.line.text in
+    let now = w.line.text in
+    let a = and_parts (is_plain now) _ e in
+    let b = and_parts (list_all is_printable (drop (length now) before)) _ a.1 in
+    let d = and_parts (w.line.place == length now) _ b.1 in
+    let end = eqb-true w.line.place (length now) d.0 in
+    let at : from ≡ length now = sym place ∙ end in
+    let front : now ≡ take from before = text ∙ cut_text before from upto order (at ∙ ap length text) in
+    let whole : before ≡ now ++ drop (length now) before =
+    sym (take-append-drop (length now) before) ∙ ap (λ n. take n before ++ drop (length now) before) (sym at) ∙ ap (λ xs. xs ++ drop (length now) before) (sym front) in
+    record {
+      fits = (
+        (
+          refl,
+          refl,
+          record {
+            killed = drop (length now) before;
+            whole = whole;
+            count_is = sym (length-drop (length now) before);
+            simple = a.0;
+            printable = b.0;
+            prompt_is = refl;
+            end = end;
+          },
+        ),
+        tt,
+      );
+      leads = refl;
+    }
+
+killed_by : (s : Setting) (v : Value) (held : List Held) (o : Option Span) → IfSome o (IsSpanOf v.line.text)
+    → (let w : Value = record v { line = deletion_line o v.line; held = held } in
+    Leads s v (if is_some o then show_taken v s w else unchanged s w))
+killed_by s v held None h = rest_leads s v (record v { held = held }) refl
+killed_by s v held (Some span) h =
+    let w : Value = record v { line = cut_out span.from span.upto v.line; held = held } in
+    taken_by s v (asked_anew s w) span.from span.upto (may_be_taken v (asked_anew s w)) refl h.order refl refl
+
+pub kill_leads : (m : Movement) (s : Setting) (v : Value) → Sound v → Leads s v (kill m s v)
+kill_leads m s v sound = killed_by s v (rewritten (killed m) v).held (range_of m v.line) (spans.range_spans v.line sound.utf8 sound.boundary m)
+
+text_if_leads : (text : Option (List ℕ)) (s : Setting) (v : Value) → Leads s v (insert_text_if text s v)
+text_if_leads None s v = rest_leads s v v refl
+text_if_leads (Some text) s v = text_leads text s v
+
+pub replace_leads : (m : Movement) (text : Option (List ℕ)) (s : Setting) (v : Value) → Sound v → Leads s v (replace m text s v)
+replace_leads m text s v sound = both_lead s v (kill m) (insert_text_if text) (kill_leads m s v sound) (text_if_leads text s (kill m s v).value)

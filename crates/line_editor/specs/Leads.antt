@@ -1,0 +1,71 @@
+-- What commands want to be seen leads from the sight of the value before to that of the one behind.
+use Rattle.std.specs.Prelude.{◌≡◌, ℕ, false, List, [], ◌∷◌, Option, IsUtf8, IsCharBoundary}
+use Rattle.line_keys.specs.Refreshing.{Ask}
+use Rattle.line_keys.specs.Refreshing.Ask.{Line, Message, Prompted, DoingInsert, DoneInserting}
+use Rattle.line_keys.specs.declared.command.Cmd.{Cmd}
+use Rattle.line_keys.specs.declared.command.Cmd.TheVariants.{Interrupt}
+use Rattle.line_record.specs.Held.{Held}
+use Rattle.line_record.specs.Held.Held.{Opened, Stepped}
+use Rattle.line_editor.specs.Accepting.{submitted}
+use Rattle.line_editor.specs.Asks.{ask_effect}
+use Rattle.line_editor.specs.Commands.{Means, effect}
+use Rattle.line_editor.specs.Sights.{Sight, sight_with, sight_of, ended_sight, info_after, Turns}
+use Rattle.line_editor.specs.Values.{Value, Setting, Effect, shown_hint}
+
+-- its text is of whole characters, its place between two of them
+pub record Sound (v : Value) : Type 0 where
+  pub utf8 : IsUtf8 v.line.text
+  pub boundary : IsCharBoundary v.line.text v.line.place
+
+-- a record that gives a first text when all is taken back, each mark on the text that it was set at
+abbrev pub Reaches : List ℕ → List Held → List ℕ → Type 0
+Reaches first [] text = text ≡ first
+Reaches first (Opened earlier ∷ held) text = (text ≡ earlier) × Reaches first held earlier
+Reaches first (Stepped earlier place newest joinable ∷ held) text = Reaches first held earlier
+
+-- whatever information stands
+abbrev pub Leads : Setting → Value → Effect → Type 0
+Leads s v e =
+    (info : Option (List ℕ))
+    → Turns s.prompt (sight_of s v info) e.redraws
+        (sight_of s e.value (info_after e.redraws info))
+
+-- the display's cursor is at the drawing's end then
+abbrev pub LeadsToEnd : Setting → Value → Effect → Type 0
+LeadsToEnd s v e =
+    (info : Option (List ℕ))
+    → Turns s.prompt (sight_of s v info) e.redraws
+        (ended_sight (sight_of s e.value (info_after e.redraws info)))
+
+abbrev pub CommandLeads : Cmd → Setting → Value → Effect → Type 0
+CommandLeads Interrupt s v e = LeadsToEnd s v e
+CommandLeads cmd s v e = Leads s v e
+
+abbrev pub CommandsLead : Type 0
+CommandsLead =
+    (m : Means) (cmd : Cmd) (s : Setting) (v : Value) (first : List ℕ)
+    → Sound v → Reaches first v.held v.line.text
+    → CommandLeads cmd s v (effect m cmd s v)
+
+-- an accepted line leads to its end
+abbrev pub SubmittingLeads : Type 0
+SubmittingLeads = (s : Setting) (v : Value) → LeadsToEnd s v (submitted s v)
+
+abbrev pub LeadsFrom : Sight → Setting → Effect → Option (List ℕ) → Type 0
+LeadsFrom x s e info = Turns s.prompt x e.redraws (sight_of s e.value info)
+
+abbrev pub LeadsBehind : List ℕ → Sight → Setting → Effect → Option (List ℕ) → Type 0
+LeadsBehind prompt x s e info =
+    Turns s.prompt x e.redraws (sight_with false prompt e.value.line.text e.value.line.place info)
+
+-- whatever was seen, also a count's prompt; a mark draws nothing
+abbrev pub AskLeads : Ask → Sight → Setting → Effect → Type 0
+AskLeads Line x s e = LeadsFrom x s e (shown_hint e.value)
+AskLeads (Message text kind) x s e = LeadsFrom x s e text
+AskLeads (Prompted prompt) x s e = LeadsBehind prompt x s e (shown_hint e.value)
+AskLeads DoingInsert x s e = e.redraws ≡ []
+AskLeads DoneInserting x s e = e.redraws ≡ []
+
+abbrev pub AsksLead : Type 0
+AsksLead =
+    (ask : Ask) (s : Setting) (v : Value) (x : Sight) → AskLeads ask x s (ask_effect ask s v)
