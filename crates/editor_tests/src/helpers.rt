@@ -5,13 +5,14 @@ ghost use Rattle.line_help.specs.Completion.{nothing_offered};
 ghost use Rattle.line_help.specs.Hints.{history_hint};
 ghost use Rattle.line_config.specs.declared.errors.HookFault.TheVariants.{Memory};
 
-use line_config::HookFault;
+use line_config::{CompletionType, HookFault};
 use line_help::{
     Completer, Context, Helper, Highlighter, Hint, Hinter, History, HistoryHinter, ValidationContext,
     ValidationResult, Validator,
 };
 use line_keys::{CmdKind, Text};
 use std::alloc::Global;
+use std::borrow::CowStr;
 
 /// What is found of any text; those that tell do so by the helper's message.
 #[derive(Clone, Copy)]
@@ -135,9 +136,38 @@ impl Highlighter for Adviser {
 
     ghost kept = { λ before after. after ≡ before };
 
-    ghost styles = { λ self part. false };
+    ghost shown_as = { λ self part text. Some text };
 
-    ghost highlighting_fails = { λ self text. false };
+    fn highlight<'l>(
+        &self,
+        alloc: Global,
+        line: &'l str,
+        pos: usize,
+    ) -> Result<CowStr<'l>, HookFault> {
+        ().highlight(alloc, line, pos)
+    }
+
+    fn highlight_prompt<'p>(
+        &self,
+        alloc: Global,
+        prompt: &'p str,
+        default: bool,
+    ) -> Result<CowStr<'p>, HookFault> {
+        ().highlight_prompt(alloc, prompt, default)
+    }
+
+    fn highlight_hint<'h>(&self, alloc: Global, hint: &'h str) -> Result<CowStr<'h>, HookFault> {
+        ().highlight_hint(alloc, hint)
+    }
+
+    fn highlight_candidate<'c>(
+        &self,
+        alloc: Global,
+        candidate: &'c str,
+        completion: CompletionType,
+    ) -> Result<CowStr<'c>, HookFault> {
+        ().highlight_candidate(alloc, candidate, completion)
+    }
 
     fn highlight_char(&mut self, _line: &str, pos: usize, _kind: CmdKind) -> bool {
         pos == self.marked_at
@@ -150,6 +180,8 @@ impl Validator for Adviser {
     ghost verdict_of = { λ self text. verdict_said self.verdict self.message.now };
 
     ghost validating_fails = { λ self text. nat_le self.verdict_fails_at (length text) };
+
+    ghost while_typing = { λ self. false };
 
     fn validate(
         &self,
@@ -167,6 +199,10 @@ impl Validator for Adviser {
             Verdict::ValidTold => ValidationResult::Valid(Some(self.said(alloc)?)),
         };
         Ok(found)
+    }
+
+    fn validate_while_typing(&self) -> bool {
+        false
     }
 }
 
