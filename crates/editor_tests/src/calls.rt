@@ -128,10 +128,7 @@ fn drawing(
 ) -> Result<String, AllocError> {
     let mut call = format!(in alloc;
         "draw '{text}' at {},{} to {},{}",
-        new.cursor.row,
-        new.cursor.col,
-        new.end.row,
-        new.end.col
+        new.cursor.row, new.cursor.col, new.end.row, new.end.col
     )?;
     match old {
         None => call.push_str(" fresh")?,
@@ -150,13 +147,7 @@ impl Renderer for CallList {
     ghost canvas = { canvas_of };
 
     fn move_cursor(&mut self, old: Position, new: Position) -> Result<(), ReadlineError> {
-        self.note(format!(in self.alloc;
-            "move {},{} to {},{}",
-            old.row,
-            old.col,
-            new.row,
-            new.col
-        ))
+        self.note(format!(in self.alloc; "move {},{} to {},{}", old.row, old.col, new.row, new.col))
     }
 
     fn refresh_line<H: Highlighter>(

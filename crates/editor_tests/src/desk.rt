@@ -5,8 +5,8 @@ use crate::calls::CallList;
 use crate::helpers::Adviser;
 use line_buffer::Unit;
 use line_config::{Config, EditMode, ReadlineError};
-use line_editor::{RefreshKind, State};
 use line_editor::commands::{Status, execute};
+use line_editor::{RefreshKind, State};
 use line_help::{Context, History, MemHistory};
 use line_keys::{Bindings, Cmd, InputState};
 use line_record::{Changeset, KillRing};
@@ -92,7 +92,10 @@ fn make(
     execute(cmd, desk, input, ring, config)
 }
 
-fn status_of(alloc: Global, answer: Result<Status, ReadlineError>) -> Result<String, ReadlineError> {
+fn status_of(
+    alloc: Global,
+    answer: Result<Status, ReadlineError>,
+) -> Result<String, ReadlineError> {
     let text = match answer {
         Ok(Status::Proceed) => String::new(alloc),
         Ok(Status::Submit) => String::from_str(alloc, "Submit ")?,
@@ -168,7 +171,11 @@ fn columns_of(row: &str) -> Option<(&str, &str, &str)> {
 
 /// Each row has, behind ` = `, how the last command ends unless the line goes on, the line then, and behind ` / ` the calls
 /// of that command.
-pub(crate) fn draws(rt: &(impl AllocGlobal + Abort), stage: &Stage, table: &str) -> Result<(), Fail> {
+pub(crate) fn draws(
+    rt: &(impl AllocGlobal + Abort),
+    stage: &Stage,
+    table: &str,
+) -> Result<(), Fail> {
     for row in table.lines() {
         let Some((shown, commands, wanted)) = columns_of(row) else {
             assert!(rt; row.trim().is_empty(), "no row: {row}");
@@ -183,7 +190,11 @@ pub(crate) fn draws(rt: &(impl AllocGlobal + Abort), stage: &Stage, table: &str)
 
 /// Each row has, behind ` = `, the line then, what a yank would give, in quotes or `-`, and the line when one change is
 /// taken back.
-pub(crate) fn keeps(rt: &(impl AllocGlobal + Abort), stage: &Stage, table: &str) -> Result<(), Fail> {
+pub(crate) fn keeps(
+    rt: &(impl AllocGlobal + Abort),
+    stage: &Stage,
+    table: &str,
+) -> Result<(), Fail> {
     for row in table.lines() {
         let Some((shown, commands, wanted)) = columns_of(row) else {
             assert!(rt; row.trim().is_empty(), "no row: {row}");

@@ -7,8 +7,8 @@ ghost use Rattle.line_config.specs.declared.errors.HookFault.TheVariants.{Memory
 
 use line_config::{CompletionType, HookFault};
 use line_help::{
-    Completer, Context, Helper, Highlighter, Hint, Hinter, History, HistoryHinter, ValidationContext,
-    ValidationResult, Validator,
+    Completer, Context, Helper, Highlighter, Hint, Hinter, History, HistoryHinter,
+    ValidationContext, ValidationResult, Validator,
 };
 use line_keys::{CmdKind, Text};
 use std::alloc::Global;

@@ -1,15 +1,14 @@
 //! What `line_editor` promises, at work: tables of text in which each row is a line and what is done to it.
 #![tactic(auto)]
 
-pub mod calls;
-pub mod helpers;
-
 #[cfg(test)]
 mod accepting;
+pub mod calls;
 #[cfg(test)]
 mod desk;
 #[cfg(test)]
 mod faults;
+pub mod helpers;
 #[cfg(test)]
 mod inserting;
 #[cfg(test)]

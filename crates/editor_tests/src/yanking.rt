@@ -21,8 +21,7 @@ const YANKED: &str = "
 ";
 
 /// `one` and `two` are killed, each into a slot of its own, `one` last.
-const KILLED: &str =
-    "Kill BackwardWord 1 Emacs; Move BackwardChar 1; Kill BackwardWord 1 Emacs";
+const KILLED: &str = "Kill BackwardWord 1 Emacs; Move BackwardChar 1; Kill BackwardWord 1 Emacs";
 
 const POPPED: &str = "
     one two|: Yank 1 Before; YankPop = two|  / draw '> two| ' at 0,5 to 0,6

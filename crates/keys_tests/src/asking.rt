@@ -1,9 +1,9 @@
 //! How the first key of a command is asked for.
 
-use stand_ins::listener::Listener;
-use stand_ins::refreshers::PlainLine;
 use line_config::{Config, EditMode, ReadlineError};
 use line_keys::{Bindings, InputState, Text};
+use stand_ins::listener::Listener;
+use stand_ins::refreshers::PlainLine;
 use std::alloc::Global;
 
 // How the first key is asked for: as a report or not, and with which flag.

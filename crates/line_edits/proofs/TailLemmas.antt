@@ -44,8 +44,9 @@ module _ (p : ℕ → Bool) (xs : List ℕ) where
   step : (m : ℕ) → Tail m → Tail (m + 1)
   unfolding Tail
   step m before h i le = elim (leb_tells i m) [
-    inl x ↦ inside m i h x.1 (before (omega (arith, h)) i x.1) (p (get_or xs m 0)) refl
-    | inr x ↦ behind (m + 1) i h (omega (arith, x.1)) ]
+    | inl x ↦ inside m i h x.1 (before (omega (arith, h)) i x.1) (p (get_or xs m 0)) refl
+    | inr x ↦ behind (m + 1) i h (omega (arith, x.1))
+  ]
 
   upto : (n : ℕ) → Tail n
   unfolding Tail

@@ -12,6 +12,7 @@ returns-in-Ok-clause-writes c = record {
 
 pub returns-in-Err-clause-writes : goal.returns-in-Err-clause-writes
 returns-in-Err-clause-writes c = record {
-  line = tt; held = tt;
+  line = tt;
+  held = tt;
   stand = joined_stand_refused (λ s e t. t ≡ ring_step e s) (λ s e t. t ≡ s) c.requires c.as_str-text.ensures.utf8 c.in-Err.ensures.stopped;
 }
