@@ -1,7 +1,11 @@
+pub mod AcceptLemmas
 pub mod BegunLemmas
+pub mod CommandsLead
 pub mod DoesLemmas
 pub mod LeadLemmas
-pub mod CommandsLead
-pub mod ReturnLemmas
-pub mod UndoLemmas
 pub mod ReachLemmas
+pub mod RefusedLemmas
+pub mod ReturnLemmas
+pub mod RowLemmas
+pub mod TurnLemmas
+pub mod UndoLemmas
