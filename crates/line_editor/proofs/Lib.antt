@@ -5,3 +5,5 @@ pub mod CommandsLead
 pub mod ReturnLemmas
 pub mod UndoLemmas
 pub mod ReachLemmas
+pub mod ReplaysLemmas
+pub mod UndoAllLemmas
