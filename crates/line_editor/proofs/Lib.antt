@@ -5,7 +5,9 @@ pub mod DoesLemmas
 pub mod LeadLemmas
 pub mod ReachLemmas
 pub mod RefusedLemmas
+pub mod ReplaysLemmas
 pub mod ReturnLemmas
 pub mod RowLemmas
 pub mod TurnLemmas
+pub mod UndoAllLemmas
 pub mod UndoLemmas
