@@ -8,6 +8,7 @@ pub mod RefusedLemmas
 pub mod ReplaysLemmas
 pub mod ReturnLemmas
 pub mod RowLemmas
+mod Rows
 pub mod TurnLemmas
 pub mod UndoAllLemmas
 pub mod UndoLemmas
