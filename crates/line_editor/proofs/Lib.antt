@@ -7,3 +7,4 @@ pub mod UndoLemmas
 pub mod ReachLemmas
 pub mod ReplaysLemmas
 pub mod UndoAllLemmas
+mod Rows
