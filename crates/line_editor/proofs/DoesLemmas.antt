@@ -37,14 +37,19 @@ err_map : {A E : Type 0} {P Q : Type 0} (result : Result A E) → (P → Q) → 
 err_map (Ok x) f h = tt
 err_map (Err e) f h = f h
 
-is_err : {A E : Type 0} (e : E) (result : Result A E) → IsErrAnd result (λ x. x ≡ e) → result ≡ Err e
+pub is_err : {A E : Type 0} (e : E) (result : Result A E) → IsErrAnd result (λ x. x ≡ e) → result ≡ Err e
 is_err e (Ok x) h = elim h [ ]
 is_err e (Err x) h = ap Err h
 
 abbrev setting_by : Ruler → List ℕ → Option (Answers (Option Hinted)) → Option (List ℕ → ValidationResult) → Option (List ℕ → ℕ → CmdKind → Bool) → List (List ℕ) → Setting
 setting_by r prompt answers judge marks entries = record {
-  prompt = prompt; column = (r.measure prompt origin).col; mode = r.mode; hints = answers; judge = judge;
-  marks = if r.colours then marks else None; entries = entries;
+  prompt = prompt;
+  column = (r.measure prompt origin).col;
+  mode = r.mode;
+  hints = answers;
+  judge = judge;
+  marks = if r.colours then marks else None;
+  entries = entries;
 }
 
 module _ {Out H Hi K T : Type 0} {renderer : renderers.Renderer.Ghosts Out} {completer : completions.Completer.Ghosts H K} {candidate : completions.Candidate.Ghosts K}
@@ -60,8 +65,13 @@ module _ {Out H Hi K T : Type 0} {renderer : renderers.Renderer.Ghosts Out} {com
 
   pub stays_both : (s m t : State Out H Hi K T renderer completer candidate hinter hint highlighter validator history) → Stays s m → Stays m t → Stays s t
   stays_both s m t h k = record {
-    ruler = k.ruler ∙ h.ruler; prompt = k.prompt ∙ h.prompt; history_is = k.history_is ∙ h.history_is; hints_are = k.hints_are ∙ h.hints_are;
-    hinting_is = k.hinting_is ∙ h.hinting_is; verdicts_are = k.verdicts_are ∙ h.verdicts_are; validating_is = k.validating_is ∙ h.validating_is;
+    ruler = k.ruler ∙ h.ruler;
+    prompt = k.prompt ∙ h.prompt;
+    history_is = k.history_is ∙ h.history_is;
+    hints_are = k.hints_are ∙ h.hints_are;
+    hinting_is = k.hinting_is ∙ h.hinting_is;
+    verdicts_are = k.verdicts_are ∙ h.verdicts_are;
+    validating_is = k.validating_is ∙ h.validating_is;
     marks_are = k.marks_are ∙ h.marks_are;
   }
 
@@ -72,8 +82,8 @@ module _ {Out H Hi K T : Type 0} {renderer : renderers.Renderer.Ghosts Out} {com
 
   asked_is : {A : Type 0} (first second : Edit) (s m : State Out H Hi K T renderer completer candidate hinter hint highlighter validator history) (x : A) → Does first s m (Ok x)
       → asked (renderer.canvas.ruler m.out) m.layout (second (setting_of m) (value_of m)).redraws
-        ≡ asked (renderer.canvas.ruler s.out) (asked (renderer.canvas.ruler s.out) s.layout (first (setting_of s) (value_of s)).redraws).layout
-          (second (setting_of s) (first (setting_of s) (value_of s)).value).redraws
+      ≡ asked (renderer.canvas.ruler s.out) (asked (renderer.canvas.ruler s.out) s.layout (first (setting_of s) (value_of s)).redraws).layout
+      (second (setting_of s) (first (setting_of s) (value_of s)).value).redraws
   asked_is first second s m x h =
       ap (λ e. asked (renderer.canvas.ruler m.out) m.layout e.redraws) (second_is first second s m x h)
       ∙ ap (λ r. asked r m.layout (second (setting_of s) (first (setting_of s) (value_of s)).value).redraws) h.stays.ruler
@@ -111,10 +121,14 @@ module _ {Out H Hi K T : Type 0} {renderer : renderers.Renderer.Ghosts Out} {com
       let x : Effect = first (setting_of s) (value_of s) in
       let y : Effect = second (setting_of s) x.value in
       record {
-        value = tt; calls = tt; layout = tt; stays = h.stays; reason = h.reason;
+        value = tt;
+        calls = tt;
+        layout = tt;
+        stays = h.stays;
+        reason = h.reason;
         begun = subst (λ a. Begun renderer.canvas a.calls s.out t.out) (sym (asked_both (renderer.canvas.ruler s.out) s.layout x.redraws y.redraws))
             (begun_before renderer.canvas (asked (renderer.canvas.ruler s.out) s.layout x.redraws).calls
-              (asked (renderer.canvas.ruler s.out) (asked (renderer.canvas.ruler s.out) s.layout x.redraws).layout y.redraws).calls s.out t.out h.begun);
+            (asked (renderer.canvas.ruler s.out) (asked (renderer.canvas.ruler s.out) s.layout x.redraws).layout y.redraws).calls s.out t.out h.begun);
       }
 
   -- the same as a question mark hands the refusal on
@@ -127,3 +141,15 @@ module _ {Out H Hi K T : Type 0} {renderer : renderers.Renderer.Ghosts Out} {com
       → IsErrAnd result (λ y. y ≡ e) → Does first s m (Ok x) → Does {A = B} second m t (Err e) → Does (then_do first second) s t result
   does_both_by {A} {B} {C} first second s m t x e result is h k =
       subst (λ r. Does {A = C} (then_do first second) s t r) (sym (is_err e result is)) (does_both {B = C} first second s m t x (Err e) h (refused_as {A = B} {B = C} second m t e k))
+
+  -- an edit that does the same here
+  pub does_as : {A : Type 0} (edit other : Edit) (s t : State Out H Hi K T renderer completer candidate hinter hint highlighter validator history) (result : Result A ReadlineError)
+      → edit (setting_of s) (value_of s) ≡ other (setting_of s) (value_of s) → Does edit s t result → Does other s t result
+  does_as edit other s t result is h = record {
+    value = subst (λ x. OnOk result (value_of t ≡ x.value)) is h.value;
+    calls = subst (λ x. OnOk result (FoldsTo renderer.canvas.made s.out (asked (renderer.canvas.ruler s.out) s.layout x.redraws).calls t.out)) is h.calls;
+    layout = subst (λ x. OnOk result (t.layout ≡ (asked (renderer.canvas.ruler s.out) s.layout x.redraws).layout)) is h.layout;
+    stays = h.stays;
+    reason = h.reason;
+    begun = subst (λ x. OnErr result (Begun renderer.canvas (asked (renderer.canvas.ruler s.out) s.layout x.redraws).calls s.out t.out)) is h.begun;
+  }

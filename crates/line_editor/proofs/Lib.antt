@@ -1,10 +1,14 @@
+pub mod AcceptLemmas
 pub mod BegunLemmas
+pub mod CommandsLead
 pub mod DoesLemmas
 pub mod LeadLemmas
-pub mod CommandsLead
-pub mod ReturnLemmas
-pub mod UndoLemmas
 pub mod ReachLemmas
+pub mod RefusedLemmas
 pub mod ReplaysLemmas
-pub mod UndoAllLemmas
+pub mod ReturnLemmas
+pub mod RowLemmas
 mod Rows
+pub mod TurnLemmas
+pub mod UndoAllLemmas
+pub mod UndoLemmas

@@ -14,7 +14,11 @@ completion_in (Some h) = h.completion
 
 abbrev pub shown_in : Value → Shown
 shown_in v = record {
-  line = v.line.text; place = v.line.place; hinted = is_some v.hint; completion = completion_in v.hint; last_insert = last_inserted v.held;
+  line = v.line.text;
+  place = v.line.place;
+  hinted = is_some v.hint;
+  completion = completion_in v.hint;
+  last_insert = last_inserted v.held;
 }
 
 -- a group opened, and all groups closed

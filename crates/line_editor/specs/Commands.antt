@@ -7,6 +7,7 @@ use Rattle.line_config.specs.declared.errors.ReadlineError.{ReadlineError}
 use Rattle.line_config.specs.declared.errors.ReadlineError.TheVariants.{Interrupted, Eof}
 use Rattle.line_config.specs.declared.settings.EditMode.{EditMode}
 use Rattle.line_help.specs.declared.search.SearchDirection.TheVariants.{Forward, Reverse}
+use Rattle.line_keys.specs.Phrases.{Input}
 use Rattle.line_keys.specs.Modes.{is_emacs, is_vi_command}
 use Rattle.line_keys.specs.declared.command.Cmd.{Cmd}
 use Rattle.line_keys.specs.declared.command.Cmd.TheVariants.{Abort, AcceptLine, BeginningOfHistory, CapitalizeWord, ClearScreen, Complete, CompleteBackward, CompleteHint, Dedent, DowncaseWord, EndOfFile, EndOfHistory, ForwardSearchHistory, HistorySearchBackward, HistorySearchForward, Indent, Insert, Interrupt, Kill, Move, NextHistory, Noop, Repaint, Overwrite, PreviousHistory, QuotedInsert, ReplaceChar, Replace, ReverseSearchHistory, SelfInsert, Suspend, TransposeChars, TransposeWords, Undo, Unknown, UpcaseWord, ViYankTo, Yank, YankPop, LineUpOrPreviousHistory, LineDownOrNextHistory, Newline, AcceptOrInsertLine}
@@ -32,6 +33,9 @@ pub record Means : Type 0 where
   -- by how many columns a row is moved in or out
   pub indent_size : ℕ
   pub ring : Ring
+
+abbrev pub means_of : Input → ℕ → Ring → Means
+means_of input indent r = record { mode = input.mode; input_mode = input.input_mode; indent_size = indent; ring = r }
 
 abbrev pub in_vi_command : Means → Bool
 in_vi_command m = is_vi_command m.mode m.input_mode
@@ -88,11 +92,11 @@ ring_after YankPop v r = turned r
 ring_after cmd v r = r
 
 -- an empty line ends the session; in Vi another one is accepted
-abbrev pub end_of_file : EditMode → Value → Result Status ReadlineError
-end_of_file mode v = if length v.line.text == 0 then Err Eof else if is_emacs mode then Ok Proceed else Ok Submit
+abbrev pub end_of_file : Bool → Value → Result Status ReadlineError
+end_of_file emacs v = if length v.line.text == 0 then Err Eof else if emacs then Ok Proceed else Ok Submit
 
 abbrev pub outcome : Means → Cmd → Setting → Value → Result Status ReadlineError
-outcome m EndOfFile s v = end_of_file m.mode v
+outcome m EndOfFile s v = end_of_file (is_emacs m.mode) v
 outcome m AcceptLine s v = Ok Submit
 outcome m (AcceptOrInsertLine middle) s v = if accepts middle s v then Ok Submit else Ok Proceed
 outcome m Interrupt s v = Err Interrupted

@@ -40,8 +40,12 @@ fresh mode = record { grapheme_cluster_mode = mode; prompt_size = origin; defaul
 -- the end is measured on the whole line
 abbrev pub layout_of : Ruler → Position → Bool → List ℕ → ℕ → Option (List ℕ) → Layout
 layout_of r start given text place info = record {
-  grapheme_cluster_mode = r.mode; prompt_size = start; default_prompt = given;
-  cursor = r.measure (take place text) start; end = r.measure (text_of info) (r.measure text start); has_info = is_some info;
+  grapheme_cluster_mode = r.mode;
+  prompt_size = start;
+  default_prompt = given;
+  cursor = r.measure (take place text) start;
+  end = r.measure (text_of info) (r.measure text start);
+  has_info = is_some info;
 }
 
 abbrev pub full : Ruler → Layout → List ℕ → Bool → List ℕ → ℕ → Option (List ℕ) → Asked

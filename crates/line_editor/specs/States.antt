@@ -34,14 +34,21 @@ module _ {Out H Hi K T : Type 0} {renderer : renderers.Renderer.Ghosts Out} {com
     {hinter : hints.Hinter.Ghosts H T} {hint : hints.Hint.Ghosts T} {highlighter : highlights.Highlighter.Ghosts H} {validator : verdicts.Validator.Ghosts H} {history : histories.History.Ghosts Hi} where
   abbrev pub value_of : State Out H Hi K T renderer completer candidate hinter hint highlighter validator history → Value
   value_of s = record {
-    line = s.line; held = held_on s.changes s.line.text; saved = record { text = string_bytes s.saved.text; place = s.saved.pos };
-    history = s.ctx.place; hint = option_map hint.says s.hint; marked = s.highlight_char;
+    line = s.line;
+    held = held_on s.changes s.line.text;
+    saved = record { text = string_bytes s.saved.text; place = s.saved.pos };
+    history = s.ctx.place;
+    hint = option_map hint.says s.hint;
+    marked = s.highlight_char;
   }
 
   abbrev pub setting_of : State Out H Hi K T renderer completer candidate hinter hint highlighter validator history → Setting
   setting_of s = record {
-    prompt = s.prompt.now; column = ((renderer.canvas.ruler s.out).measure s.prompt.now origin).col; mode = (renderer.canvas.ruler s.out).mode;
-    hints = option_map hinter.hint_of s.helper; judge = option_map validator.verdict_of s.helper;
+    prompt = s.prompt.now;
+    column = ((renderer.canvas.ruler s.out).measure s.prompt.now origin).col;
+    mode = (renderer.canvas.ruler s.out).mode;
+    hints = option_map hinter.hint_of s.helper;
+    judge = option_map validator.verdict_of s.helper;
     marks = if (renderer.canvas.ruler s.out).colours then option_map highlighter.marks s.helper else None;
     entries = history.entries s.ctx.history.now;
   }

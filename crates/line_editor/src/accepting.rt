@@ -43,11 +43,7 @@ impl<'p, 'h, Out: Renderer, H: Helper + Drop, Hi: History> State<'p, 'h, Out, H,
     }
 
     /// Tells what was found: of a line that isn't incomplete, where something is to be drawn anew or there is a message.
-    fn tell_verdict(
-        &mut self,
-        found: &ValidationResult,
-        draws: bool,
-    ) -> Result<(), ReadlineError>
+    fn tell_verdict(&mut self, found: &ValidationResult, draws: bool) -> Result<(), ReadlineError>
         ensures does { Does (verdict_told found.now draws) self.old self.new result }
     {
         match found {

@@ -1,8 +1,155 @@
 //! What a command makes of a line.
+ghost use Rattle.std.specs.Prelude.{◌≡◌, IfOk, OnOk};
+ghost use Rattle.line_keys.specs.InputStates.{input_of};
+ghost use Rattle.line_editor.specs.Commands.{means_of};
+ghost use Rattle.line_editor.specs.Executing.{Executes};
+
+use crate::renderer::Renderer;
+use crate::state::State;
+use line_buffer::{Anchor, RepeatCount, WordAction};
+use line_config::{Config, ReadlineError};
+use line_help::{Helper, History, SearchDirection};
+use line_keys::{Cmd, Decides, InputState};
+use line_record::KillRing;
 
 /// Whether a line goes on.
 #[derive(Clone, Copy, Debug, PartialEq, Eq)]
 pub enum Status {
     Proceed,
     Submit,
+}
+
+#[tactic(auto, using(crate::proofs::BegunLemmas::begun_none))]
+impl<'p, 'h, Out: Renderer, H: Helper + Drop, Hi: History> State<'p, 'h, Out, H, Hi> {
+    ghost use Rattle.line_buffer.specs.Columns.{line_up, line_down};
+    ghost use Rattle.line_editor.specs.States.{value_of, setting_of, Does};
+    ghost use Rattle.line_editor.specs.Commands.{line_up_or_previous, line_down_or_next, effect, ring_after, outcome, end_of_file};
+
+    /// Moves up by rows; in the first row, one history entry back.
+    fn line_up_or_previous(&mut self, n: RepeatCount) -> Result<(), ReadlineError>
+        ensures does { Does (line_up_or_previous n) self.old self.new result }
+    {
+        if !self.edit_move_line_up(n)? {
+            self.edit_history_next(true)?;
+        }
+        Ok(())
+    }
+
+    /// Moves down by rows; in the last row, one history entry on.
+    fn line_down_or_next(&mut self, n: RepeatCount) -> Result<(), ReadlineError>
+        ensures does { Does (line_down_or_next n) self.old self.new result }
+    {
+        if !self.edit_move_line_down(n)? {
+            self.edit_history_next(false)?;
+        }
+        Ok(())
+    }
+
+    /// The end of the input on an empty line; in Vi another line is accepted.
+    fn end_of_file(&self, emacs: bool) -> Result<Status, ReadlineError>
+        ensures { result ≡ end_of_file emacs (value_of self.now) }
+    {
+        if self.line.is_empty() {
+            return Err(ReadlineError::Eof);
+        }
+        if emacs {
+            Ok(Status::Proceed)
+        } else {
+            Ok(Status::Submit)
+        }
+    }
+
+    /// Does what a command says, and answers how it ends.
+    pub(crate) fn perform<D: Decides>(
+        &mut self,
+        cmd: &Cmd,
+        input_state: &InputState<'_, D>,
+        ring: &mut KillRing,
+        indent: u8,
+    ) -> Result<Result<Status, ReadlineError>, ReadlineError>
+        ensures does { Does (effect (means_of (input_of input_state.now) indent ring.old) cmd.now) self.old self.new result }
+        ensures outcome { IfOk result (λ o. o ≡ outcome (means_of (input_of input_state.now) indent ring.old) cmd.now (setting_of self.old) (value_of self.old)) }
+        ensures ring { OnOk result (ring.new ≡ ring_after cmd.now (value_of self.old) ring.old) }
+    {
+        match cmd {
+            Cmd::SelfInsert(n, c) => self.edit_insert(*c, *n)?,
+            Cmd::Newline => self.newline()?,
+            Cmd::Insert(n, text) => {
+                self.edit_yank(input_state, text.as_str(), Anchor::Before, *n)?
+            }
+            Cmd::Yank(n, anchor) => self.yank_from(ring, input_state, *anchor, *n)?,
+            Cmd::YankPop => self.pop_from(ring)?,
+            Cmd::Move(movement) => self.edit_move(movement)?,
+            Cmd::Kill(movement) => self.edit_kill(movement, ring)?,
+            Cmd::Replace(movement, text) => self.edit_replace(movement, text, ring)?,
+            Cmd::ReplaceChar(n, c) => self.edit_replace_char(*c, *n)?,
+            Cmd::Overwrite(c) => self.edit_overwrite_char(*c)?,
+            Cmd::EndOfFile => {
+                self.bare_line()?;
+                return Ok(self.end_of_file(input_state.is_emacs_mode()));
+            }
+            Cmd::ClearScreen => self.clear_and_draw()?,
+            Cmd::Repaint => self.refresh()?,
+            Cmd::PreviousHistory => self.edit_history_next(true)?,
+            Cmd::NextHistory => self.edit_history_next(false)?,
+            Cmd::BeginningOfHistory => self.edit_history(true)?,
+            Cmd::EndOfHistory => self.edit_history(false)?,
+            Cmd::LineUpOrPreviousHistory(n) => self.line_up_or_previous(*n)?,
+            Cmd::LineDownOrNextHistory(n) => self.line_down_or_next(*n)?,
+            Cmd::HistorySearchBackward => self.edit_history_search(SearchDirection::Reverse)?,
+            Cmd::HistorySearchForward => self.edit_history_search(SearchDirection::Forward)?,
+            Cmd::TransposeChars => self.edit_transpose_chars()?,
+            Cmd::TransposeWords(n) => self.edit_transpose_words(*n)?,
+            Cmd::CapitalizeWord => self.edit_word(WordAction::Capitalize)?,
+            Cmd::DowncaseWord => self.edit_word(WordAction::Lowercase)?,
+            Cmd::UpcaseWord => self.edit_word(WordAction::Uppercase)?,
+            Cmd::ViYankTo(movement) => self.copy_to_ring(movement, ring)?,
+            Cmd::Undo(n) => self.edit_undo(*n)?,
+            Cmd::Indent(movement) => self.edit_indent(movement, indent, false)?,
+            Cmd::Dedent(movement) => self.edit_indent(movement, indent, true)?,
+            Cmd::CompleteHint => self.complete_hint()?,
+            Cmd::AcceptLine => {
+                self.accept()?;
+                return Ok(Ok(Status::Submit));
+            }
+            Cmd::AcceptOrInsertLine {
+                accept_in_the_middle,
+            } => {
+                if self.accept_or_insert(*accept_in_the_middle)? {
+                    return Ok(Ok(Status::Submit));
+                }
+            }
+            Cmd::Interrupt => {
+                self.move_cursor_to_end()?;
+                return Ok(Err(ReadlineError::Interrupted));
+            }
+            Cmd::Abort
+            | Cmd::Complete
+            | Cmd::CompleteBackward
+            | Cmd::ForwardSearchHistory
+            | Cmd::Noop
+            | Cmd::QuotedInsert
+            | Cmd::ReverseSearchHistory
+            | Cmd::Suspend
+            | Cmd::Unknown => {}
+        }
+        Ok(Ok(Status::Proceed))
+    }
+}
+
+/// Does what a command says. `Eof` and `Interrupted` are ends that commands have; any other refusal is a fault, behind which
+/// the state's text and record still fit each other.
+pub fn execute<'p, 'h, Out: Renderer, H: Helper + Drop, Hi: History, D: Decides>(
+    cmd: Cmd,
+    s: &mut State<'p, 'h, Out, H, Hi>,
+    input_state: &InputState<'_, D>,
+    kill_ring: &mut KillRing,
+    config: &Config,
+) -> Result<Status, ReadlineError>
+    ensures { Executes (means_of (input_of input_state.now) config.now.indent_size kill_ring.old) cmd s.old s.new kill_ring.new result }
+{
+    match s.perform(&cmd, input_state, kill_ring, config.indent_size()) {
+        Ok(answer) => answer,
+        Err(refusal) => Err(refusal),
+    }
 }

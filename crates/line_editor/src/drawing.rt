@@ -159,11 +159,7 @@ impl<'p, 'h, Out: Renderer, H: Helper + Drop, Hi: History> State<'p, 'h, Out, H,
     }
 
     /// Draws the line with a message, if there is one, in place of the hint.
-    pub(crate) fn tell(
-        &mut self,
-        message: Option<&str>,
-        kind: CmdKind,
-    ) -> Result<(), ReadlineError>
+    pub(crate) fn tell(&mut self, message: Option<&str>, kind: CmdKind) -> Result<(), ReadlineError>
         ensures does { Does (told (option_copied message.entry) kind) self.old self.new result }
     {
         self.hint = None;

@@ -14,13 +14,13 @@ mod refreshing;
 mod remembering;
 pub mod renderer;
 mod rewording;
-mod running;
 pub mod saved;
+mod starting;
 pub mod state;
 mod turning;
 mod yanking;
 
-pub use commands::Status;
+pub use commands::{Status, execute};
 pub use line_buffer::{
     Anchor, At, CharSearch, Direction, GraphemeClusterMode, Layout, LineBuffer, Mode, Movement,
     Position, RepeatCount, Unit, Word, WordAction,

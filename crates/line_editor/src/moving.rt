@@ -108,11 +108,7 @@ impl<'p, 'h, Out: Renderer, H: Helper + Drop, Hi: History> State<'p, 'h, Out, H,
     }
 
     /// Moves to a character.
-    pub fn edit_move_to(
-        &mut self,
-        search: CharSearch,
-        n: RepeatCount,
-    ) -> Result<(), ReadlineError>
+    pub fn edit_move_to(&mut self, search: CharSearch, n: RepeatCount) -> Result<(), ReadlineError>
         ensures does { Does (move_to search n) self.old self.new result }
     {
         if self.line.move_to(search, n) {

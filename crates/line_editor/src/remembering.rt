@@ -81,7 +81,8 @@ impl<'p, 'h, Out: Renderer, H: Helper + Drop, Hi: History> State<'p, 'h, Out, H,
             found.entry,
             found.entry.len(),
         )?;
-        self.refresh()
+        self.refresh()?;
+        Ok(())
     }
 
     fn edit_next_entry(&mut self) -> Result<(), ReadlineError>
@@ -144,7 +145,8 @@ impl<'p, 'h, Out: Renderer, H: Helper + Drop, Hi: History> State<'p, 'h, Out, H,
             found.entry,
             found.entry.len(),
         )?;
-        self.refresh()
+        self.refresh()?;
+        Ok(())
     }
 
     fn edit_last_line(&mut self) -> Result<(), ReadlineError>

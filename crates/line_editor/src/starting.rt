@@ -1,0 +1,86 @@
+//! A line's beginning.
+ghost use Rattle.std.specs.Prelude.{◌≡◌, [], true, false, None, IfOk, if◌then◌else◌, option_copied};
+ghost use Rattle.line_record.specs.Items.{no_items};
+
+use crate::drawing::highlighter_of;
+use crate::renderer::Renderer;
+use crate::saved::SavedLine;
+use crate::state::State;
+use line_buffer::{Layout, LineBuffer, MAX_LINE};
+use line_config::ReadlineError;
+use line_help::{Context, Helper, History};
+use line_record::Changeset;
+use std::alloc::Global;
+
+/// An empty line that grows as it needs to.
+pub(crate) fn empty_line(alloc: Global) -> Result<LineBuffer, ReadlineError>
+    ensures { IfOk result (λ l. l ≡ record { text = []; place = 0; growth = true; limit = 4096 }) }
+{
+    Ok(LineBuffer::with_capacity(alloc, MAX_LINE)?.can_growth(true))
+}
+
+impl<'p, 'h, Out: Renderer, H: Helper + Drop, Hi: History> State<'p, 'h, Out, H, Hi> {
+    ghost use Rattle.line_editor.specs.States.{value_of};
+    ghost use Rattle.line_editor.specs.Starts.{Starts};
+    ghost use Rattle.line_keys.specs.declared.command.CmdKind.TheVariants.{Other};
+
+    /// The state of an empty line with nothing drawn, at a place in the history.
+    pub fn new(
+        alloc: Global,
+        out: Out,
+        prompt: &'p str,
+        helper: Option<H>,
+        ctx: Context<'h, Hi>,
+    ) -> Result<Self, ReadlineError>
+        ensures { IfOk result (λ s. Starts out prompt.now helper ctx.entry.history.now ctx.entry.place s) }
+    {
+        let line = empty_line(alloc)?;
+        let changes = Changeset::new(alloc)?;
+        Ok(State::of_parts(alloc, line, changes, out, prompt, helper, ctx))
+    }
+
+    /// The same of an empty line and a record that stand already, so that no memory is taken.
+    pub(crate) fn of_parts(
+        alloc: Global,
+        line: LineBuffer,
+        changes: Changeset,
+        out: Out,
+        prompt: &'p str,
+        helper: Option<H>,
+        ctx: Context<'h, Hi>,
+    ) -> Self
+        requires line { line ≡ record { text = []; place = 0; growth = true; limit = 4096 } }
+        requires changes { changes ≡ no_items }
+        ensures { Starts out prompt.now helper ctx.entry.history.now ctx.entry.place result }
+    {
+        let layout = Layout::new(out.grapheme_cluster_mode());
+        State {
+            out,
+            line,
+            layout,
+            changes,
+            helper,
+            ctx,
+            hint: None,
+            highlight_char: false,
+            prompt,
+            saved: SavedLine::empty(alloc),
+            plain: true,
+            alloc,
+        }
+    }
+
+    /// The helper, where the display has colours.
+    pub fn highlighter(&self) -> Option<&H>
+        ensures { option_copied result ≡ (if (Out.canvas.ruler self.now.out).colours then self.now.helper else None) }
+    {
+        highlighter_of(&self.helper, self.out.colors_enabled())
+    }
+
+    /// Whether the prompt that was drawn last is the line's own.
+    pub fn is_default_prompt(&self) -> bool
+        ensures { result ≡ self.now.layout.default_prompt }
+    {
+        self.layout.default_prompt
+    }
+}
