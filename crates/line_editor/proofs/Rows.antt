@@ -1,6 +1,7 @@
--- The editor's definitions, computed at some lines: the calls asked of a display whose characters have one column each.
-use Rattle.std.proofs.Common.{◌≡◌, ℕ, ◌+◌, true, false, List, [], ◌∷◌, length, Some, None, refl}
-use Rattle.std.specs.Prelude.{codes}
+-- Whole lines, computed from their keys: the calls asked of a display whose characters have one column each, and the outcome.
+use Rattle.std.proofs.Common.{◌≡◌, ℕ, ◌+◌, true, false, List, [], ◌∷◌, ◌++◌, length, Some, None, refl}
+use Rattle.std.specs.Fmt.{digits}
+use Rattle.std.specs.Prelude.{codes, Ok, Err, if◌then◌else◌}
 use Rattle.unicode_segmentation.proofs.Computing.{unicode_segmentation}
 use Rattle.line_buffer.specs.Columns.{line_up, line_down}
 use Rattle.line_buffer.specs.RowRanges.{behind_newlines}
@@ -8,19 +9,27 @@ use Rattle.line_buffer.specs.Transpositions.{after_words, before_words}
 use Rattle.line_buffer.specs.Words.{starts_of, ends_of}
 use Rattle.line_buffer.specs.declared.layout.GraphemeClusterMode.TheVariants.{Unicode}
 use Rattle.line_buffer.specs.declared.layout.Position.{Position}
-use Rattle.line_buffer.specs.declared.types.Movement.TheVariants.{BackwardChar, BeginningOfLine}
-use Rattle.line_keys.specs.Refreshing.Ask.{Line, Prompted}
-use Rattle.line_keys.specs.declared.command.Cmd.TheVariants.{AcceptLine, HistorySearchBackward, LineDownOrNextHistory, LineUpOrPreviousHistory, Move, SelfInsert, TransposeWords}
-use Rattle.line_editor.specs.Accepting.{submitted}
-use Rattle.line_editor.specs.Asks.{ask_effect}
+use Rattle.line_config.specs.declared.errors.ReadlineError.TheVariants.{Eof}
+use Rattle.line_config.specs.declared.settings.EditMode.TheVariants.{Emacs}
+use Rattle.line_keys.specs.Answers.{Custom}
+use Rattle.line_keys.specs.Coming.{Coming, Pressed, Ends, End}
+use Rattle.line_keys.specs.Counts.{counting}
+use Rattle.line_keys.specs.Custom.{followed}
+use Rattle.line_keys.specs.Events.{begins_with, single}
+use Rattle.line_keys.specs.Keys.{key_with, none, ctrl, alt}
+use Rattle.line_keys.specs.Phrases.{Input}
+use Rattle.line_keys.specs.SameEvents.{same_event}
+use Rattle.line_keys.specs.declared.command.Cmd.TheVariants.{HistorySearchBackward, Noop}
+use Rattle.line_keys.specs.declared.command.InputMode.TheVariants.{Insert as Inserting}
+use Rattle.line_keys.specs.declared.key.KeyCode.TheVariants.{Char, Down, Enter, Left, Up}
+use Rattle.line_keys.specs.declared.key.KeyEvent.{KeyEvent}
+use Rattle.line_record.specs.Ring.{Ring}
 use Rattle.line_editor.specs.Calls.{Call, Ruler}
-use Rattle.line_editor.specs.Calls.Call.{Draw, Move as Moved, Write, Beep}
-use Rattle.line_editor.specs.Commands.{Means, effect}
-use Rattle.line_editor.specs.Drawing.{refreshed}
-use Rattle.line_editor.specs.Redraws.{asked, fresh}
-use Rattle.line_editor.specs.Returns.{Step}
-use Rattle.line_editor.specs.Returns.Step.{Done, Asked}
-use Rattle.line_editor.specs.Values.{Value, Setting, Edit, unchanged, then_do}
+use Rattle.line_editor.specs.Calls.Call.{Draw, Move, Write, Beep}
+use Rattle.line_editor.specs.Courses.{Turn, redraws_in}
+use Rattle.line_editor.specs.Lines.{Told, turn_of, line_from, line_of}
+use Rattle.line_editor.specs.Redraws.{Redraw, asked, fresh}
+use Rattle.line_editor.specs.Values.{Setting}
 
 -- ---- a display of eighty columns, and lines behind `> `
 
@@ -38,34 +47,26 @@ own = codes "> "
 abbrev with_entries : List (List ℕ) → Setting
 with_entries entries = record { prompt = own; column = 2; mode = Unicode; hints = None; judge = None; marks = None; entries = entries }
 
--- at the history's end
-abbrev new_line : List (List ℕ) → Value
-new_line entries = record {
-  line = record { text = []; place = 0; growth = true; limit = 4096 };
-  held = [];
-  saved = record { text = []; place = 0 };
-  history = length entries;
-  hint = None;
-  marked = false;
-}
+abbrev typed : ℕ → KeyEvent
+typed c = key_with (Char c) none
 
-abbrev one : Step → Edit
-one (Done m cmd) = effect m cmd
-one (Asked ask) = ask_effect ask
+abbrev emacs : Input
+emacs = record { mode = Emacs; input_mode = Inserting; last = Noop; search = None }
 
-abbrev all : List Step → Edit
-all [] = unchanged
-all (step ∷ steps) = then_do (one step) (all steps)
+abbrev nothing_bound : Custom
+nothing_bound = record { answers = λ e. None; begins = λ keys. false }
 
--- drawn first, then the steps
-abbrev begun : List Step → Edit
-begun steps = then_do refreshed (all steps)
+abbrev all_redraws : List Turn → List Redraw
+all_redraws [] = []
+all_redraws (turn ∷ turns) = redraws_in turn ++ all_redraws turns
 
-abbrev calls : List (List ℕ) → Edit → List Call
-calls entries edit = (asked plain (fresh Unicode) (edit (with_entries entries) (new_line entries)).redraws).calls
+abbrev calls : Told → List Call
+calls t = (asked plain (fresh Unicode) (all_redraws t.turns)).calls
 
-abbrev text : List (List ℕ) → Edit → List ℕ
-text entries edit = (edit (with_entries entries) (new_line entries)).value.line.text
+-- the input ends behind these keys
+abbrev pressed : List KeyEvent → Coming
+pressed [] = Ends End
+pressed (key ∷ more) = Pressed key (pressed more)
 
 abbrev at : ℕ → Position
 at column = record { col = column; row = 0 }
@@ -74,67 +75,79 @@ at column = record { col = column; row = 0 }
 abbrev draw : List ℕ → ℕ → ℕ → Call
 draw line finish cursor = Draw (Some 0) own line [] (at finish) (at cursor)
 
--- ---- a typed, left, enter
+-- whatever the ring holds
+module _ (r : Ring) where
+  abbrev line : List (List ℕ) → Custom → List KeyEvent → Told
+  line entries custom ks = line_of 12 (with_entries entries) custom 2 emacs r (pressed ks)
 
-module _ (m : Means) where
-  abbrev a_left_enter : Edit
-  a_left_enter = then_do (begun (Done m (SelfInsert 1 97) ∷ (Done m (Move (BackwardChar 1)) ∷ (Done m AcceptLine ∷ [])))) submitted
+  -- ---- a typed, left, enter
 
-  a_left_enter_calls : calls [] a_left_enter ≡ draw [] 2 2 ∷ (Write (codes "a") ∷ (Moved (at 3) (at 2) ∷ (Moved (at 2) (at 3) ∷ [])))
-  unfolding unicode_segmentation
+  abbrev a_left_enter : Told
+  a_left_enter = line [] nothing_bound (typed 0x61 ∷ key_with Left none ∷ key_with Enter none ∷ [])
+
+  a_left_enter_calls : calls a_left_enter ≡ draw [] 2 2 ∷ Write (codes "a") ∷ Move (at 3) (at 2) ∷ Move (at 2) (at 3) ∷ []
+  unfolding unicode_segmentation line_of line_from turn_of counting followed
   a_left_enter_calls = refl
 
-  a_left_enter_text : text [] a_left_enter ≡ codes "a"
-  unfolding unicode_segmentation
-  a_left_enter_text = refl
+  a_left_enter_outcome : a_left_enter.outcome ≡ Ok (codes "a")
+  unfolding unicode_segmentation line_of line_from turn_of counting followed
+  a_left_enter_outcome = refl
 
-  -- ---- a count of two, and x: the count's prompt, the session's own again, and both characters in one drawing
+  -- ---- a count of two before x: its prompt, the session's own again, and both characters in one drawing
 
-  abbrev two_x : List Step
-  two_x = Asked (Prompted (codes "(arg: 2) ")) ∷ (Asked Line ∷ (Done m (SelfInsert 2 120) ∷ []))
+  abbrev two_x : Told
+  two_x = line [] nothing_bound (key_with (Char 0x32) alt ∷ typed 0x78 ∷ [])
 
-  two_x_calls : calls [] (begun two_x) ≡ draw [] 2 2 ∷ (Draw (Some 0) (codes "(arg: 2) ") [] [] (at 9) (at 9) ∷ (draw [] 2 2 ∷ (draw (codes "xx") 4 4 ∷ [])))
-  unfolding unicode_segmentation
+  two_x_calls : calls two_x ≡ draw [] 2 2 ∷ Draw (Some 0) (codes "(arg: 2) ") [] [] (at 9) (at 9) ∷ draw [] 2 2 ∷ draw (codes "xx") 4 4 ∷ []
+  unfolding unicode_segmentation line_of line_from turn_of counting followed digits
   two_x_calls = refl
 
-  -- ---- one word alone transposed from its start: the cursor goes behind it, by a whole drawing
+  two_x_outcome : two_x.outcome ≡ Err Eof
+  unfolding unicode_segmentation line_of line_from turn_of counting followed digits
+  two_x_outcome = refl
 
-  abbrev lone_word : List Step
-  lone_word = Done m (SelfInsert 1 119) ∷ (Done m (Move BeginningOfLine) ∷ (Done m (TransposeWords 1) ∷ []))
+  -- ---- a lone word transposed from its start: the cursor goes behind it, by a whole drawing
 
-  lone_word_calls : calls [] (begun lone_word) ≡ draw [] 2 2 ∷ (Write (codes "w") ∷ (Moved (at 3) (at 2) ∷ (draw (codes "w") 3 3 ∷ [])))
-  unfolding unicode_segmentation after_words before_words starts_of ends_of
+  abbrev lone_word : Told
+  lone_word = line [] nothing_bound (typed 0x77 ∷ key_with (Char 0x41) ctrl ∷ key_with (Char 0x74) alt ∷ [])
+
+  lone_word_calls : calls lone_word ≡ draw [] 2 2 ∷ Write (codes "w") ∷ Move (at 3) (at 2) ∷ draw (codes "w") 3 3 ∷ []
+  unfolding unicode_segmentation line_of line_from turn_of counting followed after_words before_words starts_of ends_of
   lone_word_calls = refl
 
-  -- ---- a search in an empty history
+  -- ---- a key bound to a search, in an empty history
 
-  search_calls : calls [] (begun (Done m HistorySearchBackward ∷ [])) ≡ draw [] 2 2 ∷ (Beep ∷ [])
+  abbrev ctrl_o : Custom
+  ctrl_o = record {
+    answers = λ e. if same_event (single (key_with (Char 0x4F) ctrl)) e then Some (λ s. Ok (Some HistorySearchBackward)) else None;
+    begins = λ ks. begins_with ks (single (key_with (Char 0x4F) ctrl));
+  }
+
+  search_calls : calls (line [] ctrl_o (key_with (Char 0x4F) ctrl ∷ [])) ≡ draw [] 2 2 ∷ Beep ∷ []
+  unfolding unicode_segmentation line_of line_from turn_of counting followed
   search_calls = refl
 
   -- ---- up three times over two entries, and down twice
 
   abbrev entries : List (List ℕ)
-  entries = codes "line0" ∷ (codes "line1" ∷ [])
+  entries = codes "line0" ∷ codes "line1" ∷ []
 
-  abbrev up : Step
-  up = Done m (LineUpOrPreviousHistory 1)
+  abbrev up : KeyEvent
+  up = key_with Up none
 
-  abbrev down : Step
-  down = Done m (LineDownOrNextHistory 1)
+  abbrev down : KeyEvent
+  down = key_with Down none
 
-  abbrev typed : List Step → List Step
-  typed later = Done m (SelfInsert 1 99) ∷ (Done m (SelfInsert 1 117) ∷ (Done m (SelfInsert 1 114) ∷ later))
-
-  abbrev up_and_down : Edit
-  up_and_down = then_do (begun (typed (up ∷ (up ∷ (up ∷ (down ∷ (down ∷ (Done m AcceptLine ∷ [])))))))) submitted
+  abbrev up_and_down : Told
+  up_and_down = line entries nothing_bound (typed 0x63 ∷ typed 0x75 ∷ typed 0x72 ∷ up ∷ up ∷ up ∷ down ∷ down ∷ key_with Enter none ∷ [])
 
   -- the third step up draws nothing
-  up_and_down_calls : calls entries up_and_down
-      ≡ draw [] 2 2 ∷ (Write (codes "c") ∷ (Write (codes "u") ∷ (Write (codes "r")
-      ∷ (draw (codes "line1") 7 7 ∷ (draw (codes "line0") 7 7 ∷ (draw (codes "line1") 7 7 ∷ (draw (codes "cur") 5 5 ∷ [])))))))
-  unfolding unicode_segmentation line_up line_down behind_newlines
+  up_and_down_calls : calls up_and_down
+      ≡ draw [] 2 2 ∷ Write (codes "c") ∷ Write (codes "u") ∷ Write (codes "r")
+      ∷ draw (codes "line1") 7 7 ∷ draw (codes "line0") 7 7 ∷ draw (codes "line1") 7 7 ∷ draw (codes "cur") 5 5 ∷ []
+  unfolding unicode_segmentation line_of line_from turn_of counting followed line_up line_down behind_newlines
   up_and_down_calls = refl
 
-  up_and_down_text : text entries up_and_down ≡ codes "cur"
-  unfolding unicode_segmentation line_up line_down behind_newlines
-  up_and_down_text = refl
+  up_and_down_outcome : up_and_down.outcome ≡ Ok (codes "cur")
+  unfolding unicode_segmentation line_of line_from turn_of counting followed line_up line_down behind_newlines
+  up_and_down_outcome = refl
