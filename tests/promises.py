@@ -43,7 +43,8 @@ class Crate:
             if not file.endswith("/Lib.antt"):
                 self.specs.add("specs/" + os.path.basename(file).removesuffix(".antt"))
                 self.words.update(found[1] for found in map(NAMED.match, lines_of(file)) if found)
-                self.words.update(re.findall(r"^  (?:pub )?(\w+) :", "\n".join(lines_of(file)), re.M))
+                inner = r"^  (?:abbrev |unfoldable )?(?:pub )?(?:record |data )?(\w+)(?= [:({])"
+                self.words.update(re.findall(inner, "\n".join(lines_of(file)), re.M))
 
     def read_source(self, file, is_laws):
         owners, clauses = [], set()

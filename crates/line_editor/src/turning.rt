@@ -50,13 +50,7 @@ impl<'p, 'h, Out: Renderer, H: Helper + Drop, Hi: History> State<'p, 'h, Out, H,
         ensures falls { OnOk result ((R.feed rdr.new).bound < (R.feed rdr.old).bound) }
     {
         let alloc = self.alloc;
-        let cmd = input_state.next_cmd(
-            alloc,
-            rdr,
-            self,
-            single_esc_abort,
-            ignore_external_print,
-        )?;
+        let cmd = input_state.next_cmd(alloc, rdr, self, single_esc_abort, ignore_external_print)?;
         if begins_group(&cmd) {
             self.doing_insert()?;
         }
