@@ -31,16 +31,16 @@ module _ {S : Type 0} (d : Display S) (custom : Custom) where
     on w2 r second = then_follows d custom (phrase custom i (d.shown w) f.coming) begun cmd w w1 w2 i i1 i1 f f1 f1 r first second
 
     pub phrase_goes : begins_group cmd ≡ false → Follows d custom (line_phrase custom i (d.shown w) f.coming) w i w1 i1 f f1 (Ok cmd)
-    phrase_goes no = on w1 (Ok cmd) (ends_follow d custom (by_group (begins_group cmd) cmd) w1 i1 f1 cmd (ap (λ (b : Bool). by_group b cmd) no))
+    phrase_goes other = on w1 (Ok cmd) (ends_follow d custom (by_group (begins_group cmd) cmd) w1 i1 f1 cmd (ap (λ (b : Bool). by_group b cmd) other))
 
     pub phrase_begins : {A : Type 0} (u : A) (w2 : S) → begins_group cmd ≡ true → Draws d DoingInsert w1 w2 (Ok u) → Follows d custom (line_phrase custom i (d.shown w) f.coming) w i w2 i1 f f1 (Ok cmd)
-    phrase_begins u w2 yes draws = on w2 (Ok cmd) (as_follows d custom (by_group (begins_group cmd) cmd) (by_group true cmd) w1 w2 i1 i1 f1 f1 (Ok cmd)
+    phrase_begins u w2 does draws = on w2 (Ok cmd) (as_follows d custom (by_group (begins_group cmd) cmd) (by_group true cmd) w1 w2 i1 i1 f1 f1 (Ok cmd)
         (ask_follows d custom DoingInsert (λ seen c. Ends (Ok cmd)) u w1 w2 w2 i1 i1 f1 f1 (Ok cmd) draws (ends_follow d custom (Ends (Ok cmd)) w2 i1 f1 cmd refl))
-        (ap (λ (b : Bool). by_group b cmd) yes))
+        (ap (λ (b : Bool). by_group b cmd) does))
 
     pub phrase_unbegun : {A : Type 0} (w2 : S) (e : ReadlineError) (r : Result Cmd ReadlineError) → IsErrAnd r (λ x. x ≡ e) → begins_group cmd ≡ true → Draws {A = A} d DoingInsert w1 w2 (Err e)
         → Follows d custom (line_phrase custom i (d.shown w) f.coming) w i w2 i1 f f1 r
-    phrase_unbegun {A} w2 e r is yes draws = subst (λ (x : Result Cmd ReadlineError). Follows d custom (line_phrase custom i (d.shown w) f.coming) w i w2 i1 f f1 x) (sym (is_err e r is))
+    phrase_unbegun {A} w2 e r is does draws = subst (λ (x : Result Cmd ReadlineError). Follows d custom (line_phrase custom i (d.shown w) f.coming) w i w2 i1 f f1 x) (sym (is_err e r is))
         (on w2 (Err e) (as_follows d custom (by_group (begins_group cmd) cmd) (by_group true cmd) w1 w2 i1 i1 f1 f1 (Err e)
         (ask_stops {A = A} d custom DoingInsert (λ seen c. Ends (Ok cmd)) w1 w2 i1 f1 e draws)
-        (ap (λ (b : Bool). by_group b cmd) yes)))
+        (ap (λ (b : Bool). by_group b cmd) does)))

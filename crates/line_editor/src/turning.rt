@@ -53,6 +53,7 @@ impl<'p, 'h, Out: Renderer, H: Helper + Drop, Hi: History> State<'p, 'h, Out, H,
         let cmd = input_state.next_cmd(alloc, rdr, self, single_esc_abort, ignore_external_print)?;
         if begins_group(&cmd) {
             self.doing_insert()?;
+            return Ok(cmd);
         }
         Ok(cmd)
     }
