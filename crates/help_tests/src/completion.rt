@@ -9,7 +9,11 @@ use line_help::{
     Candidate, Completer, Context, FilenameCompleter, Listed, Lister, MemHistory, Pair, Quote,
     escape, extract_word, longest_common_prefix, unescape,
 };
+use stand_ins::tables::{
+    call_and_answer, line_and_place, marked, meant, or_nothing, word_and_rest,
+};
 use std::alloc::Global;
+use std::process::Abort;
 use std::test::Fail;
 
 /// Whether a character ends a word, as the completer of file names sees it.
@@ -35,8 +39,6 @@ fn ends_word(c: char) -> bool {
             | '\0'
     )
 }
-
-const BACKSLASH: Option<char> = Some('\\');
 
 /// One folder: a name and whether a folder bears it, for each.
 #[derive(Drop)]
@@ -85,237 +87,276 @@ impl Lister for Broken {
     }
 }
 
-/// The place and the candidates for the end of a line, each as `display=replacement`, a bar behind it.
-fn completed(
-    rt: &impl AllocGlobal,
-    lister: Folder,
+// The line with a bar where the completed word begins, and behind it each candidate with its replacement.
+fn told<C: Candidate>(
+    alloc: Global,
     line: &str,
-    sorted: bool,
-) -> Result<(usize, String), Fail> {
-    let completer = FilenameCompleter::new(lister);
-    let (start, pairs) = if sorted {
-        completer.complete_path(rt.alloc(), line, line.len())?
-    } else {
-        completer.complete_path_unsorted(rt.alloc(), line, line.len())?
-    };
-    let mut text = String::new(rt.alloc());
-    for pair in &pairs {
-        text.push_str(pair.display())?;
-        text.push('=')?;
-        text.push_str(pair.replacement())?;
-        text.push('|')?;
+    start: usize,
+    candidates: &[C],
+) -> Result<String, Fail> {
+    let mut said = marked(alloc, line, start)?;
+    for candidate in candidates {
+        let (display, replacement) = (candidate.display(), candidate.replacement());
+        write!(said, "; {display}→{replacement}")?;
     }
-    Ok((start, text))
+    Ok(said)
 }
+
+// Completes each row's line at its end, by the name of the call.
+fn completes_paths(
+    rt: &(impl AllocGlobal + Abort),
+    path: &'static str,
+    names: &'static [(&'static str, bool)],
+    table: &str,
+) -> Result<(), Fail> {
+    let completer = FilenameCompleter::new(Folder { path, names });
+    for row in table.lines() {
+        if let Some((call, answer)) = call_and_answer(row) {
+            let (call, line) = word_and_rest(call);
+            let (start, pairs) = match call {
+                "sorted" => completer.complete_path(rt.alloc(), line, line.len())?,
+                _ => completer.complete_path_unsorted(rt.alloc(), line, line.len())?,
+            };
+            let said = told(rt.alloc(), line, start, &pairs)?;
+            assert_eq!(rt; said.as_str(), answer, "{row}");
+        }
+    }
+    Ok(())
+}
+
+const IN_USR: &str = r#"
+    sorted ls /usr/lo               = ls |/usr/lo; local→/usr/local/; log→/usr/log
+    sorted ls /usr/m                = ls |/usr/m; my file→/usr/my\ file
+    sorted ls "/usr/m               = ls "|/usr/m; my file→/usr/my file
+    sorted ls '/usr/m               = ls '|/usr/m; my file→/usr/my file
+    sorted ls /usr/my\ f            = ls |/usr/my\ f; my file→/usr/my\ file
+    sorted ls "/usr/a               = ls "|/usr/a; a"$b`\'→/usr/a\"\$b\`\\'
+    sorted ls '/usr/a               = ls '|/usr/a; a"$b`\'→/usr/a"$b`\'
+    sorted ls /usr/a                = ls |/usr/a; a"$b`\'→/usr/a\"\$b\`\\\'
+    sorted ls "/usr/a\"             = ls "|/usr/a\"; a"$b`\'→/usr/a\"\$b\`\\'
+    sorted ls /usr/é                = ls |/usr/é; été→/usr/été/
+    sorted ls /usr/x                = ls |/usr/x
+    sorted ls /etc/l                = ls |/etc/l
+    sorted ls l                     = ls |l
+    sorted ls "it's" /usr/loc       = ls "it's" |/usr/loc; local→/usr/local/
+    sorted 'a' "b'c"d\" '/usr/loc   = 'a' "b'c"d\" '|/usr/loc; local→/usr/local/
+    sorted a;cat</usr/loc           = a;cat<|/usr/loc; local→/usr/local/
+"#;
+
+const IN_ORDER: &str = "
+    sorted                          = |; →/; B→B; a→a/; a→a; b→b
+    unsorted                        = |; b→b; a→a/; B→B; a→a; →/
+";
 
 #[test]
 fn paths(rt: HostRuntime) -> Result<(), Fail> {
-    let names: &'static [(&'static str, bool)] = &[
+    let in_usr: &'static [(&'static str, bool)] = &[
         ("local", true),
         ("log", false),
         ("my file", false),
         ("été", true),
         ("a\"$b`\\'", false),
     ];
-    let rows = [
-        ("ls /usr/lo", 3, "local=/usr/local/|log=/usr/log|"),
-        ("ls /usr/m", 3, "my file=/usr/my\\ file|"),
-        ("ls \"/usr/m", 4, "my file=/usr/my file|"),
-        ("ls '/usr/m", 4, "my file=/usr/my file|"),
-        ("ls /usr/my\\ f", 3, "my file=/usr/my\\ file|"),
-        ("ls \"/usr/a", 4, "a\"$b`\\'=/usr/a\\\"\\$b\\`\\\\'|"),
-        ("ls '/usr/a", 4, "a\"$b`\\'=/usr/a\"$b`\\'|"),
-        ("ls /usr/a", 3, "a\"$b`\\'=/usr/a\\\"\\$b\\`\\\\\\'|"),
-        ("ls \"/usr/a\\\"", 4, "a\"$b`\\'=/usr/a\\\"\\$b\\`\\\\'|"),
-        ("ls /usr/\u{e9}", 3, "été=/usr/été/|"),
-        ("ls /usr/x", 3, ""),
-        ("ls /etc/l", 3, ""),
-        ("ls l", 3, ""),
-        ("ls \"it's\" /usr/loc", 10, "local=/usr/local/|"),
-        ("'a' \"b'c\"d\\\" '/usr/loc", 14, "local=/usr/local/|"),
-        ("a;cat</usr/loc", 6, "local=/usr/local/|"),
-    ];
-    for (line, place, want) in rows {
-        let lister = Folder {
-            path: "/usr/",
-            names,
-        };
-        let (start, text) = completed(&rt, lister, line, true)?;
-        assert_eq!(rt; start, place, "{line:?}");
-        assert_eq!(rt; text.as_str(), want, "{line:?}");
-    }
-    Ok(())
-}
-
-#[test]
-fn orders(rt: HostRuntime) -> Result<(), Fail> {
-    let names: &'static [(&'static str, bool)] = &[
+    completes_paths(&rt, "/usr/", in_usr, IN_USR)?;
+    let here: &'static [(&'static str, bool)] = &[
         ("b", false),
         ("a", true),
         ("B", false),
         ("a", false),
         ("", true),
     ];
-    let rows = [
-        (true, "=/|B=B|a=a/|a=a|b=b|"),
-        (false, "b=b|a=a/|B=B|a=a|=/|"),
-    ];
-    for (sorted, want) in rows {
-        let (start, text) = completed(&rt, Folder { path: "", names }, "", sorted)?;
-        assert_eq!(rt; start, 0);
-        assert_eq!(rt; text.as_str(), want);
+    completes_paths(&rt, "", here, IN_ORDER)?;
+    completes_paths(&rt, "~/", &[], "    sorted ~/ = |~/")
+}
+
+// What a completer answers to a line with the cursor, and what all its candidates begin with.
+fn completed<C: Completer>(
+    rt: &(impl AllocGlobal + Abort),
+    completer: &C,
+    line: &str,
+) -> Result<String, Fail> {
+    let history = MemHistory::new(rt.alloc());
+    let (line, pos) = line_and_place(rt.alloc(), line)?;
+    let line = line.as_str();
+    assert!(rt; line.is_char_boundary(pos));
+    match completer.complete(rt.alloc(), line, pos, &Context::new(&history)) {
+        Ok((start, found)) => {
+            let mut said = told(rt.alloc(), line, start, &found)?;
+            if let Some(prefix) = longest_common_prefix(&found) {
+                write!(said, ", all with {prefix}")?;
+            }
+            Ok(said)
+        }
+        Err(fault) => Ok(format!(in rt.alloc(); "{fault:?}")?),
     }
-    let (start, text) = completed(
-        &rt,
-        Folder {
-            path: "~/",
-            names: &[],
-        },
-        "~/",
-        true,
-    )?;
-    assert_eq!(rt; start, 0);
-    assert!(rt; text.is_empty(), "an empty folder");
-    Ok(())
 }
 
 #[test]
 fn completers(rt: HostRuntime) -> Result<(), Fail> {
-    let alloc = rt.alloc();
-    let history = MemHistory::new(alloc);
-    let context = Context::new(&history);
-    let line = "cat lo";
-    let broken = FilenameCompleter::new(Broken);
-    assert!(rt;
-        broken
-            .complete(alloc, line, line.len(), &context)
-            .is_err_and(|fault| fault == HookFault::Failed)
-    );
+    let failed = completed(&rt, &FilenameCompleter::new(Broken), "cat lo|")?;
+    assert_eq!(rt; failed.as_str(), "Failed");
     let names: &'static [(&'static str, bool)] = &[("log", false), ("local", true)];
-    let completer = Box::new(alloc, FilenameCompleter::new(Folder { path: "", names }))?;
-    let (start, pairs) = completer.complete(alloc, line, line.len(), &context)?;
-    assert_eq!(rt; start, 4);
-    assert_eq!(rt; pairs.len(), 2);
-    assert!(rt; longest_common_prefix(&pairs) == Some("lo"));
-    for pair in &pairs {
-        let same = pair.try_clone(alloc)?;
-        assert_eq!(rt; same.display(), pair.display());
-        assert_eq!(rt; same.replacement(), pair.replacement());
-    }
-    assert!(rt;
-        ().complete(alloc, line, 2, &context)
-            .is_ok_and(|(start, found)| start == 0 && found.is_empty())
+    let completer = FilenameCompleter::new(Folder { path: "", names });
+    let found = completed(&rt, &Box::new(rt.alloc(), completer)?, "cat lo|")?;
+    assert_eq!(rt;
+        found.as_str(),
+        "cat |lo; local→local/; log→log, all with lo"
     );
+    let none = completed(&rt, &(), "ca|t lo")?;
+    assert_eq!(rt; none.as_str(), "|cat lo");
     Ok(())
+}
+
+#[test]
+fn candidates_copied(rt: HostRuntime) -> Result<(), Fail> {
+    let names: &'static [(&'static str, bool)] = &[("log", false), ("local", true)];
+    let completer = FilenameCompleter::new(Folder { path: "", names });
+    let (_, pairs) = completer.complete_path(rt.alloc(), "lo", 2)?;
+    let mut copies: Vec<Pair> = Vec::new(rt.alloc());
+    for pair in &pairs {
+        copies.push(pair.try_clone(rt.alloc())?)?;
+    }
+    let said = told(rt.alloc(), "lo", 0, &copies)?;
+    assert_eq!(rt; said.as_str(), "|lo; local→local/; log→log");
+    Ok(())
+}
+
+// A line in which the text from `[` to the cursor is replaced by what stands behind the colon; the line then.
+const UPDATES: &str = "
+    cat [lo| x : log  = cat log| x
+    cat [log| x :     = cat | x
+    cat [| x : été    = cat été| x
+";
+
+// A line with the cursor at a place.
+fn line_of(rt: &(impl AllocGlobal + Abort), text: &str, pos: usize) -> Result<LineBuffer, Fail> {
+    let mut line = LineBuffer::with_capacity(rt.alloc(), 64)?.can_growth(true);
+    line.replace(rt.alloc(), 0..0, text, &mut NoListener)?;
+    assert!(rt; line.as_str().is_char_boundary(pos));
+    line.set_pos(pos);
+    Ok(line)
+}
+
+// The line after an update, with its cursor.
+fn updated<C: Completer>(
+    rt: &(impl AllocGlobal + Abort),
+    completer: &C,
+    text: &str,
+    elected: &str,
+) -> Result<String, Fail> {
+    let (front, behind) = text.split_once('[').unwrap_or(("", text));
+    let start = front.len();
+    let (text, pos) = line_and_place(
+        rt.alloc(),
+        format!(in rt.alloc(); "{front}{behind}")?.as_str(),
+    )?;
+    let mut line = line_of(rt, text.as_str(), pos)?;
+    assert!(rt; start <= line.pos() && line.as_str().is_char_boundary(start));
+    completer.update(rt.alloc(), &mut line, start, elected, &mut NoListener)?;
+    Ok(marked(rt.alloc(), line.as_str(), line.pos())?)
 }
 
 #[test]
 fn updates(rt: HostRuntime) -> Result<(), Fail> {
-    let alloc = rt.alloc();
-    let mut line = LineBuffer::with_capacity(alloc, 64)?.can_growth(true);
-    line.insert_str(alloc, 0, "cat lo x", &mut NoListener)?;
-    let completer = Box::new(alloc, ())?;
-    for (pos, start, elected, want, place) in [
-        (6, 4, "log", "cat log x", 7),
-        (7, 4, "", "cat  x", 4),
-        (4, 4, "été", "cat été x", 9),
-    ] {
-        if line.as_str().is_char_boundary(pos) {
-            line.set_pos(pos);
+    let completer = Box::new(rt.alloc(), ())?;
+    for row in UPDATES.lines() {
+        if let Some((call, answer)) = call_and_answer(row) {
+            let (line, elected) = call.split_once(':').unwrap_or((call, ""));
+            let said = updated(&rt, &completer, line.trim(), elected.trim())?;
+            assert_eq!(rt; said.as_str(), answer, "{row}");
         }
-        if start <= line.pos() && line.as_str().is_char_boundary(start) {
-            completer.update(alloc, &mut line, start, elected, &mut NoListener)?;
-        }
-        assert_eq!(rt; line.as_str(), want);
-        assert_eq!(rt; line.pos(), place);
     }
     Ok(())
 }
 
+// Where the last word of a line begins, and the word; a text escaped, bare or in quotes; and unescaped. The character that
+// escapes stands first.
+const WORDS: &str = r#"
+    word \ ls '/usr/local/b         = ls '|/usr/local/b; /usr/local/b
+    word \ ls /User\ Information    = ls |/User\ Information; /User\ Information
+    word none ls /User\ Information = ls /User\ |Information; Information
+    word \                          = |;
+    word \ word                     = |word; word
+    word \ a␠                       = a |;
+    word \ a\\ b                    = a\|\ b; \ b
+    word \ \ a                      = |\ a; \ a
+    word \ é été                    = é |été; été
+    word \ a b␉c␊d"e\f'g`h@i$j>k<l=m;n|o&p{q(r␀s = a b␉c␊d"e\f'g`h@i$j>k<l=m;n|o&p{q(r␀|s; s
+    bare \ /usr/local/b             = /usr/local/b
+    bare \ /User Information        = /User\ Information
+    bare none a b                   = a b
+    bare é a b                      = aé b
+    bare \                          = nothing
+    double \ a\ b                   = a\\\ b
+    single \ a b                    = a b
+    unescape \ /usr/local/b         = /usr/local/b
+    unescape \ /User\ Information   = /User Information
+    unescape \ a\                   = a
+    unescape \ a\\                  = a\
+    unescape \ \é\                  = é
+    unescape none a\b               = a\b
+    unescape é aébé                 = ab
+"#;
+
+// What a call makes of a text.
+fn made(alloc: Global, call: &str, esc: Option<char>, text: &str) -> Result<String, Fail> {
+    let quote = match call {
+        "word" => {
+            let (start, word) = extract_word(text, text.len(), esc, ends_word);
+            let line = marked(alloc, text, start)?;
+            return Ok(format!(in alloc; "{line}; {word}")?);
+        }
+        "unescape" => return Ok(unescape(alloc, text, esc)?.into_owned(alloc)?),
+        "double" => Quote::Double,
+        "single" => Quote::Single,
+        _ => Quote::None,
+    };
+    let input = String::from_str(alloc, text)?;
+    Ok(escape(alloc, input, esc, ends_word, quote)?)
+}
+
 #[test]
-fn words(rt: HostRuntime) -> Result<(), Fail> {
-    let rows = [
-        ("ls '/usr/local/b", BACKSLASH, 4, "/usr/local/b"),
-        (
-            "ls /User\\ Information",
-            BACKSLASH,
-            3,
-            "/User\\ Information",
-        ),
-        ("ls /User\\ Information", None, 10, "Information"),
-        ("", BACKSLASH, 0, ""),
-        ("word", BACKSLASH, 0, "word"),
-        ("a ", BACKSLASH, 2, ""),
-        ("a\\\\ b", BACKSLASH, 2, "\\ b"),
-        ("\\ a", BACKSLASH, 0, "\\ a"),
-        ("é été", BACKSLASH, 3, "été"),
-        (
-            "a b\tc\nd\"e\\f'g`h@i$j>k<l=m;n|o&p{q(r\0s",
-            BACKSLASH,
-            36,
-            "s",
-        ),
-    ];
-    for (line, esc, place, want) in rows {
-        let (start, word) = extract_word(line, line.len(), esc, ends_word);
-        assert_eq!(rt; start, place, "{line:?}");
-        assert_eq!(rt; word, want, "{line:?}");
+fn words_and_escapes(rt: HostRuntime) -> Result<(), Fail> {
+    for row in WORDS.lines() {
+        if let Some((call, answer)) = call_and_answer(row) {
+            let (call, rest) = word_and_rest(call);
+            let (esc, text) = word_and_rest(rest);
+            let esc = if esc == "none" {
+                None
+            } else {
+                esc.chars().next()
+            };
+            let text = meant(rt.alloc(), text)?;
+            let said = made(rt.alloc(), call, esc, text.as_str())?;
+            assert_eq!(rt; or_nothing(said.as_str().trim()), answer, "{row}");
+        }
     }
     Ok(())
 }
 
-#[test]
-fn escapes(rt: HostRuntime) -> Result<(), Fail> {
-    let alloc = rt.alloc();
-    let rows = [
-        ("/usr/local/b", BACKSLASH, Quote::None, "/usr/local/b"),
-        (
-            "/User Information",
-            BACKSLASH,
-            Quote::None,
-            "/User\\ Information",
-        ),
-        ("a\\ b", BACKSLASH, Quote::Double, "a\\\\\\ b"),
-        ("a b", BACKSLASH, Quote::Single, "a b"),
-        ("a b", None, Quote::None, "a b"),
-        ("a b", Some('é'), Quote::None, "aé b"),
-        ("", BACKSLASH, Quote::None, ""),
-    ];
-    for (text, esc, quote, want) in rows {
-        let input = String::from_str(alloc, text)?;
-        let escaped = escape(alloc, input, esc, ends_word, quote)?;
-        assert_eq!(rt; escaped.as_str(), want, "{text:?}");
-    }
-    let rows = [
-        ("/usr/local/b", BACKSLASH, "/usr/local/b"),
-        ("/User\\ Information", BACKSLASH, "/User Information"),
-        ("a\\", BACKSLASH, "a"),
-        ("a\\\\", BACKSLASH, "a\\"),
-        ("\\é\\", BACKSLASH, "é"),
-        ("a\\b", None, "a\\b"),
-        ("aébé", Some('é'), "ab"),
-    ];
-    for (text, esc, want) in rows {
-        let plain = unescape(alloc, text, esc)?;
-        assert_eq!(rt; plain.as_str(), want, "{text:?}");
-    }
-    Ok(())
-}
+// Candidates, with a semicolon behind each, and what all of them begin with.
+const COMMON_PREFIXES: &str = "
+                            = none
+    User;                   = User
+    ;                       = nothing
+    User; Users;            = User
+    User; Users; ;          = none
+    fée; fête;              = f
+    été; êta;               = none
+    漢字b; 漢字ab; 漢字a;      = 漢字
+";
 
 #[test]
 fn common_prefixes(rt: HostRuntime) -> Result<(), Fail> {
-    let rows: [(&[&str], Option<&str>); 8] = [
-        (&[], None),
-        (&["User"], Some("User")),
-        (&[""], Some("")),
-        (&["User", "Users"], Some("User")),
-        (&["User", "Users", ""], None),
-        (&["fée", "fête"], Some("f")),
-        (&["été", "êta"], None),
-        (&["漢字b", "漢字ab", "漢字a"], Some("漢字")),
-    ];
-    for (candidates, want) in rows {
-        assert!(rt; longest_common_prefix(candidates) == want, "{want:?}");
+    for row in COMMON_PREFIXES.lines() {
+        if let Some((texts, answer)) = call_and_answer(row) {
+            let mut candidates: Vec<&str> = Vec::new(rt.alloc());
+            for text in texts.split_terminator(';') {
+                candidates.push(text.trim())?;
+            }
+            let said = longest_common_prefix(&candidates).map_or("none", or_nothing);
+            assert_eq!(rt; said, answer, "{row}");
+        }
     }
     assert_eq!(rt; "text".display(), "text");
     Ok(())

@@ -1,9 +1,11 @@
 //! Devices that fail at each byte in turn, and what a history is then.
 
-use crate::history::{saved, shown, with_lines};
+use crate::history::{answer_told, entries, saved, with_lines};
 use line_config::{Config, DeviceFailed, ReadlineError, Sink, SliceSource, Source, VecSink};
 use line_help::{FileHistory, History};
+use stand_ins::tables::{call_and_answer, meant_bytes, or_nothing, pictured_bytes};
 use std::alloc::Global;
+use std::process::Abort;
 use std::test::Fail;
 
 /// A sink that has room for so many bytes and one flush, which takes the place of a byte.
@@ -58,29 +60,56 @@ impl Sink for Narrow {
     }
 }
 
+// What the history `old` is after a source that failed behind these bytes: its entries, and what of them is new.
+const CUT_TEXTS: &str = r"
+                            = old|
+    #                       = old|
+    #V                      = old|
+    #V2                     = old|
+    #V2␊                    = old|
+    #V2␊a                   = old|
+    #V2␊a\                  = old|
+    #V2␊a\n                 = old|
+    #V2␊a\nb                = old|
+    #V2␊a\nb␊               = old|a␊b|, new a\nb␊
+    #V2␊a\nb␊c              = old|a␊b|, new a\nb␊
+    #V2␊a\nb␊c␊             = old|a␊b|c|, new a\nb␊c␊
+    #V2␊a\nb␊c␊d            = old|a␊b|c|, new a\nb␊c␊
+";
+
+// What a history answers twice to such a source, its entries after both, and what of them is new.
+fn after_failing_source(
+    rt: &(impl AllocGlobal + Abort),
+    history: &mut FileHistory,
+    bytes: &[u8],
+) -> Result<String, Fail> {
+    let mut source = SliceSource::failing_after(bytes);
+    let first = history.load_from(rt.alloc(), &mut source);
+    assert!(rt; first == Err(ReadlineError::Reader) && source.failed());
+    let left = entries(rt.alloc(), history)?;
+    let second = history.load_from(rt.alloc(), &mut source);
+    assert!(rt; second == Err(ReadlineError::Reader));
+    assert_eq!(rt; entries(rt.alloc(), history)?, left);
+    let mut said = left;
+    let mut sink = VecSink::new(rt.alloc());
+    history.append_to(&mut sink)?;
+    let new = pictured_bytes(rt.alloc(), sink.bytes())?;
+    if !new.is_empty() {
+        write!(said, ", new {new}")?;
+    }
+    Ok(said)
+}
+
 #[test]
 fn sources_that_fail_at_each_byte(rt: HostRuntime) -> Result<(), Fail> {
-    let text = b"#V2\na\\nb\nc\nd";
-    // The entries, and what of them is new.
-    let none = ("old|", "");
-    let one = ("old|a\nb|", "a\\nb\n");
-    let two = ("old|a\nb|c|", "a\\nb\nc\n");
-    let rows = [
-        none, none, none, none, none, none, none, none, none, one, one, two, two,
-    ];
-    for (count, (entries, new)) in rows.iter().enumerate() {
-        let mut history = with_lines(rt.alloc(), &["old"])?;
-        let _ = saved(&rt, &mut history)?;
-        let mut source = SliceSource::failing_after(&text[..count.min(text.len())]);
-        let answer = history.load_from(rt.alloc(), &mut source);
-        assert!(rt; answer == Err(ReadlineError::Reader), "after {count} bytes");
-        assert!(rt; source.failed());
-        assert_eq!(rt; shown(&rt, &history)?.as_str(), *entries);
-        assert!(rt; history.load_from(rt.alloc(), &mut source) == Err(ReadlineError::Reader));
-        assert_eq!(rt; shown(&rt, &history)?.as_str(), *entries);
-        let mut sink = VecSink::new(rt.alloc());
-        history.append_to(&mut sink)?;
-        assert_eq!(rt; sink.bytes(), new.as_bytes());
+    for row in CUT_TEXTS.lines() {
+        if let Some((text, answer)) = call_and_answer(row) {
+            let mut history = with_lines(rt.alloc(), "old|")?;
+            let _ = saved(rt.alloc(), &mut history)?;
+            let bytes = meant_bytes(rt.alloc(), text)?;
+            let said = after_failing_source(&rt, &mut history, &bytes)?;
+            assert_eq!(rt; said.as_str(), answer, "{row}");
+        }
     }
     Ok(())
 }
@@ -90,64 +119,100 @@ fn sources_that_fail_at_each_byte(rt: HostRuntime) -> Result<(), Fail> {
 fn bad_rows_before_a_failure(rt: HostRuntime) -> Result<(), Fail> {
     let mut history = FileHistory::new(rt.alloc());
     let mut source = SliceSource::failing_after(b"a\n\xff\nb");
-    assert!(rt; history.load_from(rt.alloc(), &mut source) == Err(ReadlineError::HistoryText));
+    assert_eq!(rt;
+        answer_told(history.load_from(rt.alloc(), &mut source)),
+        "HistoryText"
+    );
     assert!(rt; !source.failed());
-    assert_eq!(rt; shown(&rt, &history)?.as_str(), "a|");
+    assert_eq!(rt; entries(rt.alloc(), &history)?.as_str(), "a|");
     Ok(())
 }
 
-#[test]
-fn sinks_that_fail_at_each_byte_of_a_save(rt: HostRuntime) -> Result<(), Fail> {
-    let text = b"#V2\na\\\\\nb\\n\n".as_slice();
-    for room in 0..text.len() + 2 {
-        let mut history = with_lines(rt.alloc(), &["a\\", "b\n"])?;
-        let mut sink = Narrow::new(room);
-        let answer = history.save_to(&mut sink);
-        if room > text.len() {
-            assert!(rt; answer == Ok(()) && !sink.failed());
-            assert!(rt; saved(&rt, &mut history)?.bytes().is_empty());
-            continue;
+// A save to a sink with room for so many bytes, the first and the last such number: what it answers twice, the entries
+// then, and what a further save writes.
+const SAVES: &str = r"
+    0 12    = HistoryText, HistoryText, a\|b␊|, #V2␊a\\␊b\n␊
+    13 13   = fine, fine, a\|b␊|, nothing
+";
+
+// The same of an addition behind a saved text.
+const ADDITIONS: &str = r"
+    0 6     = HistoryText, HistoryText, a|b␊|c|, b\n␊c␊
+    7 7     = fine, fine, a|b␊|c|, nothing
+";
+
+/// Where the text of a history goes.
+#[derive(Clone, Copy)]
+enum Way {
+    Save,
+    Append,
+}
+
+// Writes the text, and tells the answer.
+fn write_to<S: Sink>(way: Way, history: &mut FileHistory, sink: &mut S) -> &'static str {
+    let answer = match way {
+        Way::Save => history.save_to(sink),
+        Way::Append => history.append_to(sink),
+    };
+    match answer {
+        Ok(()) => "fine",
+        Err(ReadlineError::HistoryText) => "HistoryText",
+        Err(_) => "another",
+    }
+}
+
+// What happens with so much room.
+fn with_room(
+    rt: &(impl AllocGlobal + Abort),
+    way: Way,
+    history: &mut FileHistory,
+    room: usize,
+) -> Result<String, Fail> {
+    let mut sink = Narrow::new(room);
+    let first = write_to(way, history, &mut sink);
+    assert_eq!(rt; sink.failed(), first != "fine");
+    let second = write_to(way, history, &mut sink);
+    let entries = entries(rt.alloc(), history)?;
+    let mut rest = VecSink::new(rt.alloc());
+    let _ = write_to(way, history, &mut rest);
+    let rest = pictured_bytes(rt.alloc(), rest.bytes())?;
+    let rest = or_nothing(rest.as_str());
+    Ok(format!(in rt.alloc(); "{first}, {second}, {entries}, {rest}")?)
+}
+
+// A history with entries that are to be written.
+fn to_be_written(alloc: Global, way: Way) -> Result<FileHistory, Fail> {
+    match way {
+        Way::Save => with_lines(alloc, r"a\|b␊|"),
+        Way::Append => {
+            let mut history = with_lines(alloc, "a|")?;
+            let _ = saved(alloc, &mut history)?;
+            history.add(alloc, "b\n")?;
+            history.add(alloc, "c")?;
+            Ok(history)
         }
-        assert!(rt;
-            answer == Err(ReadlineError::HistoryText),
-            "room for {room} bytes"
-        );
-        assert!(rt; sink.failed());
-        assert!(rt; history.save_to(&mut sink) == Err(ReadlineError::HistoryText));
-        assert_eq!(rt; shown(&rt, &history)?.as_str(), "a\\|b\n|");
-        assert_eq!(rt; saved(&rt, &mut history)?.bytes(), text);
+    }
+}
+
+// Tries each room of each row.
+fn fills(rt: &(impl AllocGlobal + Abort), way: Way, table: &str) -> Result<(), Fail> {
+    for row in table.lines() {
+        if let Some((rooms, answer)) = call_and_answer(row) {
+            let (first, last) = rooms.split_once(' ').ok_or("no rooms")?;
+            for room in first.parse::<usize>()?..=last.parse()? {
+                let mut history = to_be_written(rt.alloc(), way)?;
+                let said = with_room(rt, way, &mut history, room)?;
+                assert_eq!(rt; said.as_str(), answer, "room for {room} bytes");
+            }
+        }
     }
     Ok(())
 }
 
 #[test]
-fn sinks_that_fail_at_each_byte_of_an_addition(rt: HostRuntime) -> Result<(), Fail> {
-    let rows = b"b\\n\nc\n".as_slice();
-    for room in 0..rows.len() + 2 {
-        let mut history = with_lines(rt.alloc(), &["a"])?;
-        let _ = saved(&rt, &mut history)?;
-        history.add(rt.alloc(), "b\n")?;
-        history.add(rt.alloc(), "c")?;
-        let mut sink = Narrow::new(room);
-        let answer = history.append_to(&mut sink);
-        let mut again = VecSink::new(rt.alloc());
-        if room > rows.len() {
-            assert!(rt; answer == Ok(()) && !sink.failed());
-            history.append_to(&mut again)?;
-            assert!(rt; again.bytes().is_empty());
-            continue;
-        }
-        assert!(rt;
-            answer == Err(ReadlineError::HistoryText),
-            "room for {room} bytes"
-        );
-        assert!(rt; sink.failed());
-        assert!(rt; history.append_to(&mut sink) == Err(ReadlineError::HistoryText));
-        assert_eq!(rt; shown(&rt, &history)?.as_str(), "a|b\n|c|");
-        history.append_to(&mut again)?;
-        assert_eq!(rt; again.bytes(), rows);
-    }
-    Ok(())
+fn sinks_that_fail_at_each_byte(rt: HostRuntime) -> Result<(), Fail> {
+    fills(&rt, Way::Save, SAVES)?;
+    fills(&rt, Way::Append, ADDITIONS)
 }
 
 /// A sink that has failed isn't asked where nothing is new.

@@ -13,8 +13,10 @@ use line_help::{
     ValidationResult, Validator,
 };
 use line_keys::CmdKind;
+use stand_ins::tables::{call_and_answer, meant, pictured, word_and_rest};
 use std::alloc::Global;
 use std::borrow::CowStr;
+use std::process::Abort;
 use std::test::Fail;
 
 /// Hints from the history, brackets shown and validated, and no candidates.
@@ -302,28 +304,80 @@ fn verdict_after_drawing<H: Helper>(
     helper.validate(alloc, &ValidationContext::new(line))
 }
 
-/// The hint that a helper has for a line with the cursor at its end.
-fn hint_at_end<H: Helper>(
+// What a helper shows of a text.
+fn drawn<H: Helper>(
     alloc: Global,
     helper: &H,
+    call: &str,
+    text: &str,
+) -> Result<String, HookFault> {
+    let shown = match call {
+        "prompt" => helper.highlight_prompt(alloc, text, true)?,
+        "hint_shown" => helper.highlight_hint(alloc, text)?,
+        _ => helper.highlight(alloc, text, text.len())?,
+    };
+    let shown = pictured(alloc, shown.as_str())?;
+    Ok(format!(in alloc; "\"{shown}\"")?)
+}
+
+// What a helper has for a line with the cursor at its end: a hint, or the number of candidates.
+fn offered<H: Helper>(
+    alloc: Global,
+    helper: &H,
+    call: &str,
     line: &str,
-    history: &MemHistory,
-) -> Result<Option<String>, Fail> {
-    match helper.hint(alloc, line, line.len(), &Context::new(history))? {
-        Some(hint) => Ok(Some(String::from_str(alloc, hint.display())?)),
-        None => Ok(None),
+    context: &Context<'_, MemHistory>,
+) -> Result<String, HookFault> {
+    if call == "hint" {
+        let hint = helper.hint(alloc, line, line.len(), context)?;
+        let hint = hint.as_ref().map_or("none", |hint| hint.display());
+        return Ok(String::from_str(alloc, hint)?);
+    }
+    let (_, candidates) = helper.complete(alloc, line, line.len(), context)?;
+    let count = candidates.len();
+    Ok(format!(in alloc; "{count}")?)
+}
+
+// What a helper answers to a call.
+fn asked<H: Helper>(
+    alloc: Global,
+    helper: &mut H,
+    call: &str,
+    text: &str,
+    context: &Context<'_, MemHistory>,
+) -> Result<String, HookFault> {
+    match call {
+        "verdict" => {
+            let found = verdict_after_drawing(alloc, helper, text)?;
+            Ok(format!(in alloc; "{found:?}")?)
+        }
+        "hint" | "candidates" => offered(alloc, helper, call, text, context),
+        _ => drawn(alloc, helper, call, text),
     }
 }
 
-/// The number of candidates that a helper has at a line's end.
-fn candidates_at_end<H: Helper>(
-    alloc: Global,
-    helper: &H,
-    line: &str,
-    history: &MemHistory,
-) -> Result<usize, HookFault> {
-    let (_, candidates) = helper.complete(alloc, line, line.len(), &Context::new(history))?;
-    Ok(candidates.len())
+// Asks a helper each row's question, with one entry in the history.
+fn answers<H: Helper>(
+    rt: &(impl AllocGlobal + Abort),
+    helper: &mut H,
+    entry: &str,
+    table: &str,
+) -> Result<(), Fail> {
+    let mut history = MemHistory::new(rt.alloc());
+    history.add(rt.alloc(), entry)?;
+    for row in table.lines() {
+        if let Some((call, answer)) = call_and_answer(row) {
+            let (call, text) = word_and_rest(call);
+            let text = meant(rt.alloc(), text)?;
+            let context = Context::new(&history);
+            let said = match asked(rt.alloc(), helper, call, text.as_str(), &context) {
+                Ok(said) => said,
+                Err(fault) => format!(in rt.alloc(); "{fault:?}")?,
+            };
+            assert_eq!(rt; said.as_str(), answer, "{row}");
+        }
+    }
+    Ok(())
 }
 
 fn make_helper() -> Whole {
@@ -334,81 +388,58 @@ fn make_helper() -> Whole {
     }
 }
 
-#[test]
-fn a_helper_with_everything(rt: HostRuntime) -> Result<(), Fail> {
-    let alloc = rt.alloc();
-    let mut history = MemHistory::new(alloc);
-    history.add(alloc, "(hello)")?;
-    let mut helper = make_helper();
-    assert_eq!(rt;
-        verdict_after_drawing(alloc, &mut helper, "(a)")?,
-        ValidationResult::Valid(None)
-    );
-    assert_eq!(rt;
-        helper.highlight(alloc, "(a)", 3)?.as_str(),
-        "\x1b[1;34m(\x1b[0ma)"
-    );
-    assert_eq!(rt; helper.highlight_prompt(alloc, "> ", true)?.as_str(), "> ");
-    assert_eq!(rt;
-        verdict_after_drawing(alloc, &mut helper, "(a")?,
-        ValidationResult::Incomplete
-    );
-    let hint = hint_at_end(alloc, &helper, "(he", &history)?;
-    assert_eq!(rt; hint.ok_or("no hint")?.as_str(), "llo)");
-    assert_eq!(rt; candidates_at_end(alloc, &helper, "(he", &history)?, 0);
-    Ok(())
-}
+const EVERYTHING: &str = r#"
+    verdict (a)         = Valid(None)
+    highlight (a)       = "␛[1;34m(␛[0ma)"
+    prompt >␠           = "> "
+    verdict (a          = Incomplete
+    hint (he            = llo)
+    candidates (he      = 0
+"#;
+
+const NOTHING: &str = "
+    verdict (a]         = Valid(None)
+    hint he             = none
+    candidates he       = 0
+";
+
+const FAILED: &str = "
+    verdict a           = Failed
+    highlight a         = Failed
+    candidates a        = Failed
+    hint a              = Failed
+    hint_shown a        = Failed
+";
+
+const WANTS_MEMORY: &str = "
+    verdict a           = Memory
+    highlight a         = Memory
+    candidates a        = Memory
+    hint a              = Memory
+    hint_shown a        = Memory
+";
 
 #[test]
-fn the_helper_that_does_nothing(rt: HostRuntime) -> Result<(), Fail> {
-    let alloc = rt.alloc();
-    let mut history = MemHistory::new(alloc);
-    history.add(alloc, "hello")?;
-    assert_eq!(rt;
-        verdict_after_drawing(alloc, &mut (), "(a]")?,
-        ValidationResult::Valid(None)
-    );
-    assert!(rt; hint_at_end(alloc, &(), "he", &history)?.is_none());
-    assert_eq!(rt; candidates_at_end(alloc, &(), "he", &history)?, 0);
-    Ok(())
+fn what_helpers_answer(rt: HostRuntime) -> Result<(), Fail> {
+    answers(&rt, &mut make_helper(), "(hello)", EVERYTHING)?;
+    answers(&rt, &mut (), "hello", NOTHING)?;
+    answers(&rt, &mut Refusing { fails: true }, "a", FAILED)?;
+    answers(&rt, &mut Refusing { fails: false }, "a", WANTS_MEMORY)
 }
 
-#[test]
-fn helpers_that_refuse(rt: HostRuntime) -> Result<(), Fail> {
-    let alloc = rt.alloc();
-    let history = MemHistory::new(alloc);
-    for (fails, fault) in [(true, HookFault::Failed), (false, HookFault::Memory)] {
-        let mut helper = Refusing { fails };
-        assert_eq!(rt;
-            verdict_after_drawing(alloc, &mut helper, "a").err(),
-            Some(fault)
-        );
-        assert_eq!(rt; helper.highlight(alloc, "a", 0).err(), Some(fault));
-        assert_eq!(rt;
-            candidates_at_end(alloc, &helper, "a", &history).err(),
-            Some(fault)
-        );
-        let hint = helper.hint(alloc, "a", 1, &Context::new(&history));
-        assert_eq!(rt; hint.err(), Some(fault));
-        assert_eq!(rt; helper.highlight_hint(alloc, "a").err(), Some(fault));
-    }
-    Ok(())
-}
-
-fn both_texts<P: Prompt>(alloc: Global, prompt: &P) -> Result<(String, String), Fail> {
-    let raw = String::from_str(alloc, prompt.raw())?;
-    let styled = String::from_str(alloc, prompt.styled())?;
-    Ok((raw, styled))
+// A prompt in both versions.
+fn both_texts<P: Prompt>(alloc: Global, prompt: &P) -> Result<String, Fail> {
+    let (raw, styled) = (prompt.raw(), pictured(alloc, prompt.styled())?);
+    Ok(format!(in alloc; "\"{raw}\" \"{styled}\"")?)
 }
 
 #[test]
 fn prompts_in_both_versions(rt: HostRuntime) -> Result<(), Fail> {
-    let alloc = rt.alloc();
-    let (raw, styled) = both_texts(alloc, &"> ")?;
-    assert_eq!(rt; (raw.as_str(), styled.as_str()), ("> ", "> "));
-    let (raw, styled) = both_texts(alloc, &String::from_str(alloc, "é ")?)?;
-    assert_eq!(rt; (raw.as_str(), styled.as_str()), ("é ", "é "));
-    let (raw, styled) = both_texts(alloc, &("> ", "\x1b[1m> \x1b[m"))?;
-    assert_eq!(rt; (raw.as_str(), styled.as_str()), ("> ", "\x1b[1m> \x1b[m"));
+    let text = both_texts(rt.alloc(), &"> ")?;
+    assert_eq!(rt; text.as_str(), r#""> " "> ""#);
+    let text = both_texts(rt.alloc(), &String::from_str(rt.alloc(), "é ")?)?;
+    assert_eq!(rt; text.as_str(), r#""é " "é ""#);
+    let text = both_texts(rt.alloc(), &("> ", "\x1b[1m> \x1b[m"))?;
+    assert_eq!(rt; text.as_str(), r#""> " "␛[1m> ␛[m""#);
     Ok(())
 }

@@ -1,103 +1,127 @@
-//! Histories: worked rows, and texts of every kind.
+//! Histories, call by call. An entry has a bar behind it.
 
 use line_config::{Config, Configurer, ReadlineError, SliceSource, VecSink};
 use line_help::{
     Context, FileHistory, Hint, Hinter, History, HistoryHinter, MemHistory, SearchDirection,
+    SearchResult,
+};
+use stand_ins::tables::{
+    call_and_answer, line_and_place, marked, meant, meant_bytes, or_nothing, pictured,
+    pictured_bytes, word_and_rest,
 };
 use std::alloc::Global;
+use std::process::Abort;
 use std::test::Fail;
 
-/// The rows of a history, a bar behind each entry.
-pub(crate) fn shown(rt: &impl AllocGlobal, history: &FileHistory) -> Result<String, Fail> {
-    let mut text = String::new(rt.alloc());
-    for entry in history {
-        text.push_str(entry.as_str())?;
-        text.push('|')?;
+/// The entries of a history, a bar behind each.
+pub(crate) fn entries<H: History>(alloc: Global, history: &H) -> Result<String, Fail> {
+    let mut text = String::new(alloc);
+    for index in 0..history.len() {
+        if let Some(found) = history.get(index, SearchDirection::Forward) {
+            text.push_str(pictured(alloc, found.entry)?.as_str())?;
+            text.push('|')?;
+        }
     }
     Ok(text)
 }
 
-pub(crate) fn with_lines(alloc: Global, lines: &[&str]) -> Result<FileHistory, Fail> {
+/// A history to which these lines were added, each of which ends with a bar.
+pub(crate) fn with_lines(alloc: Global, lines: &str) -> Result<FileHistory, Fail> {
     let mut history = FileHistory::new(alloc);
-    for line in lines {
-        history.add(alloc, line)?;
+    for line in lines.split_terminator('|') {
+        history.add(alloc, meant(alloc, line)?.as_str())?;
     }
     Ok(history)
 }
 
-pub(crate) fn saved(rt: &impl AllocGlobal, history: &mut FileHistory) -> Result<VecSink, Fail> {
-    let mut sink = VecSink::new(rt.alloc());
+/// What a save of the history writes, where it is answered.
+pub(crate) fn saved(alloc: Global, history: &mut FileHistory) -> Result<String, Fail> {
+    let mut sink = VecSink::new(alloc);
     history.save_to(&mut sink)?;
-    Ok(sink)
+    Ok(pictured_bytes(alloc, sink.bytes())?)
+}
+
+/// What loading a text answers: whether the text was whole, or why it was refused.
+pub(crate) fn answer_told(answer: Result<bool, ReadlineError>) -> &'static str {
+    match answer {
+        Ok(true) => "whole",
+        Ok(false) => "part",
+        Err(ReadlineError::HistoryText) => "HistoryText",
+        Err(ReadlineError::Reader) => "Reader",
+        Err(_) => "another",
+    }
+}
+
+// A text that a new history loads; whether it was whole, the entries, and what of them is new then.
+const LOADED: &str = r"
+    #V2␊a\nb␊c\\d␊e\x␊         = whole a␊b|c\d|e\x|
+    a\nb␊                      = part a\nb|
+                               = part
+    #V2␊                       = whole
+    #V2                        = whole
+    #V2␍␊x␍␊␍␊y␍               = whole x|y␍|
+    ␊#V2␊a␊                    = part #V2|a|
+    #V2␊␊␊a␊                   = whole a|
+    #V2␊a␊a␊b␊                 = part a|b|
+    #V2␊a\                     = whole a\|
+    #V2␊\n\\n\q␊\\\n␊          = whole \n\\n\q|\␊|
+    a␍␍␊b                      = part a␍|b|
+    ‹ff›␊a␊                    = HistoryText
+    #V2␊a␊‹c3›␊b␊              = HistoryText a|, new #V2␊a␊
+    #V2␊a␊b␊‹e2 82›           = HistoryText a|b|, new #V2␊a␊b␊
+";
+
+// What a history answers to a text that it loads, its entries then, and what of them is new.
+fn loaded(alloc: Global, history: &mut FileHistory, text: &[u8]) -> Result<String, Fail> {
+    let answer = answer_told(history.load_from(alloc, &mut SliceSource::new(text)));
+    let entries = entries(alloc, history)?;
+    let new = saved(alloc, history)?;
+    let mark = if new.is_empty() { "" } else { ", new " };
+    Ok(format!(in alloc; "{answer} {entries}{mark}{new}")?)
 }
 
 #[test]
 fn texts_that_are_loaded(rt: HostRuntime) -> Result<(), Fail> {
-    let rows: [(&[u8], &str, bool); 12] = [
-        (b"#V2\na\\nb\nc\\\\d\ne\\x\n", "a\nb|c\\d|e\\x|", true),
-        (b"a\\nb\n", "a\\nb|", false),
-        (b"", "", false),
-        (b"#V2\n", "", true),
-        (b"#V2", "", true),
-        (b"#V2\r\nx\r\n\r\ny\r", "x|y\r|", true),
-        (b"\n#V2\na\n", "#V2|a|", false),
-        (b"#V2\n\n\na\n", "a|", true),
-        (b"#V2\na\na\nb\n", "a|b|", false),
-        (b"#V2\na\\", "a\\|", true),
-        (b"#V2\n\\n\\\\n\\q\n\\\\\\n\n", "\\n\\\\n\\q|\\\n|", true),
-        (b"a\r\r\nb", "a\r|b|", false),
-    ];
-    for (text, entries, whole) in rows {
-        let mut history = FileHistory::new(rt.alloc());
-        let answer = history.load_from(rt.alloc(), &mut SliceSource::new(text));
-        assert!(rt; answer == Ok(whole));
-        assert_eq!(rt; shown(&rt, &history)?.as_str(), entries);
-        let rest = saved(&rt, &mut history)?;
-        assert!(rt; rest.bytes().is_empty());
+    for row in LOADED.lines() {
+        if let Some((text, answer)) = call_and_answer(row) {
+            let text = meant_bytes(rt.alloc(), text)?;
+            let said = loaded(rt.alloc(), &mut FileHistory::new(rt.alloc()), &text)?;
+            assert_eq!(rt; said.as_str().trim(), answer, "{row}");
+        }
     }
     Ok(())
 }
 
-#[test]
-fn texts_that_are_refused(rt: HostRuntime) -> Result<(), Fail> {
-    let rows: [(&[u8], &str, &[u8]); 3] = [
-        (b"\xff\na\n", "", b""),
-        (b"#V2\na\n\xc3\nb\n", "a|", b"#V2\na\n"),
-        (b"#V2\na\nb\n\xe2\x82", "a|b|", b"#V2\na\nb\n"),
-    ];
-    for (text, entries, new) in rows {
-        let mut history = FileHistory::new(rt.alloc());
-        let answer = history.load_from(rt.alloc(), &mut SliceSource::new(text));
-        assert!(rt; answer == Err(ReadlineError::HistoryText));
-        assert_eq!(rt; shown(&rt, &history)?.as_str(), entries);
-        assert_eq!(rt; saved(&rt, &mut history)?.bytes(), new);
-    }
-    Ok(())
-}
+// A text that is loaded by histories with these settings: the most entries, and what is ignored.
+const SETTINGS_TEXT: &str = "#V2␊a␊a␊ b␊\u{3000}c␊d␊";
+
+const SETTINGS: &str = "
+    100                 = whole a|a| b|\u{3000}c|d|
+    100 repeated        = part a| b|\u{3000}c|d|
+    100 spaces          = part a|a|d|
+    100 spaces repeated = part a|d|
+    2                   = whole \u{3000}c|d|
+    1                   = whole d|
+    1 spaces repeated   = part d|
+    0                   = part
+";
 
 /// Loading goes by the history's own settings, as adding does.
 #[test]
 fn texts_under_other_settings(rt: HostRuntime) -> Result<(), Fail> {
-    let text = b"#V2\na\na\n b\n\xe3\x80\x80c\nd\n".as_slice();
-    // The size, whether spaces and whether repeated lines are ignored, the entries, and whether all were taken.
-    let rows = [
-        (100, false, false, "a|a| b|\u{3000}c|d|", true),
-        (100, false, true, "a| b|\u{3000}c|d|", false),
-        (100, true, false, "a|a|d|", false),
-        (100, true, true, "a|d|", false),
-        (2, false, false, "\u{3000}c|d|", true),
-        (1, false, false, "d|", true),
-        (1, true, true, "d|", false),
-        (0, false, false, "", false),
-    ];
-    for (size, spaces, repeated, entries, whole) in rows {
-        let mut history = FileHistory::new(rt.alloc());
-        history.set_max_len(size);
-        history.ignore_space(spaces);
-        history.ignore_dups(repeated);
-        let answer = history.load_from(rt.alloc(), &mut SliceSource::new(text));
-        assert!(rt; answer == Ok(whole), "size {size}");
-        assert_eq!(rt; shown(&rt, &history)?.as_str(), entries);
+    let text = meant_bytes(rt.alloc(), SETTINGS_TEXT)?;
+    for row in SETTINGS.lines() {
+        if let Some((settings, answer)) = call_and_answer(row) {
+            let (size, ignored) = word_and_rest(settings);
+            let mut history = FileHistory::new(rt.alloc());
+            history.set_max_len(size.parse()?);
+            history.ignore_space(ignored.contains("spaces"));
+            history.ignore_dups(ignored.contains("repeated"));
+            let answered = answer_told(history.load_from(rt.alloc(), &mut SliceSource::new(&text)));
+            let entries = entries(rt.alloc(), &history)?;
+            let said = format!(in rt.alloc(); "{answered} {entries}")?;
+            assert_eq!(rt; said.as_str().trim(), answer, "{row}");
+        }
     }
     Ok(())
 }
@@ -110,172 +134,280 @@ fn histories_of_a_configuration(rt: HostRuntime) -> Result<(), Fail> {
     let _ = config.set_history_ignore_dups(false);
     config.set_history_ignore_space(true);
     let mut history = FileHistory::with_config(rt.alloc(), &config);
-    for line in ["a", "b", "b", " c"] {
+    for line in "a|b|b| c|".split_terminator('|') {
         history.add(rt.alloc(), line)?;
     }
-    assert_eq!(rt; shown(&rt, &history)?.as_str(), "b|b|");
+    assert_eq!(rt; entries(rt.alloc(), &history)?.as_str(), "b|b|");
     Ok(())
 }
 
-/// What is appended behind a saved text, with more lines added than the history keeps, and the first of them like the last
-/// one saved: the list comes back all the same, and so it does after a second round.
-#[test]
-fn appended_texts_come_back(rt: HostRuntime) -> Result<(), Fail> {
-    let alloc = rt.alloc();
-    let mut history = FileHistory::new(alloc);
-    history.set_max_len(2);
-    history.add(alloc, "a")?;
-    history.add(alloc, "b")?;
-    let mut text = VecSink::new(alloc);
-    history.save_to(&mut text)?;
-    for (lines, entries, whole) in [
-        (["c", "b", "d"], "b|d|", "#V2\na\nb\nb\nd\n"),
-        (["d", "\n", "e"], "\n|e|", "#V2\na\nb\nb\nd\n\\n\ne\n"),
-    ] {
-        for line in lines {
-            history.add(alloc, line)?;
+// Where a search found an entry: the place of the entry, and the entry with a bar at the place in it.
+fn hit_told(alloc: Global, found: Option<SearchResult<'_>>) -> Result<String, Fail> {
+    match found {
+        Some(found) => {
+            let (place, entry) = (found.idx, marked(alloc, found.entry, found.pos)?);
+            Ok(format!(in alloc; "{place} {entry}")?)
         }
-        history.append_to(&mut text)?;
-        assert_eq!(rt; text.bytes(), whole.as_bytes());
-        history = FileHistory::new(alloc);
-        history.set_max_len(2);
-        let answer = history.load_from(alloc, &mut SliceSource::new(text.bytes()));
-        assert!(rt; answer == Ok(false), "a repeated row is ignored");
-        assert_eq!(rt; shown(&rt, &history)?.as_str(), entries);
-        assert!(rt; saved(&rt, &mut history)?.bytes().is_empty());
+        None => Ok(String::from_str(alloc, "none")?),
+    }
+}
+
+// Changes a history, and tells what it answers and the entries then.
+fn changed<H: History>(
+    alloc: Global,
+    history: &mut H,
+    call: &str,
+    text: &str,
+) -> Result<String, Fail> {
+    let text = meant(alloc, text)?;
+    let text = text.as_str();
+    let answer = match call {
+        "add" => Some(history.add(alloc, text)?),
+        "add_owned" => Some(history.add_owned(alloc, String::from_str(alloc, text)?)?),
+        _ => None,
+    };
+    match call {
+        "max_len" => history.set_max_len(text.parse().unwrap_or(usize::MAX)),
+        "ignore_dups" => history.ignore_dups(text == "yes"),
+        "ignore_space" => history.ignore_space(text == "yes"),
+        "clear" => history.clear(),
+        _ => {}
+    }
+    let entries = entries(alloc, history)?;
+    let answer = answer.map_or("", |added| if added { "added " } else { "ignored " });
+    Ok(format!(in alloc; "{answer}{entries}")?)
+}
+
+// Looks an entry up, as `search forward 3 line` does from the place 3 on; or changes the history.
+fn answered<H: History>(
+    alloc: Global,
+    history: &mut H,
+    call: &str,
+    text: &str,
+) -> Result<String, Fail> {
+    let (dir, rest) = word_and_rest(text);
+    let (place, term) = word_and_rest(rest);
+    let place = place.parse().unwrap_or(0);
+    let dir = if dir == "forward" {
+        SearchDirection::Forward
+    } else {
+        SearchDirection::Reverse
+    };
+    match call {
+        "search" => hit_told(alloc, history.search(term, place, dir)),
+        "starts_with" => hit_told(alloc, history.starts_with(term, place, dir)),
+        "get" => hit_told(alloc, history.get(place, dir)),
+        _ => changed(alloc, history, call, text),
+    }
+}
+
+// A history with the text that it is saved to.
+#[derive(Drop)]
+struct Desk {
+    alloc: Global,
+    history: FileHistory,
+    file: VecSink,
+}
+
+impl Desk {
+    // Makes a call, and tells what it answers: of a save what it writes, and of an addition the whole text then.
+    fn play(&mut self, call: &str, text: &str) -> Result<String, Fail> {
+        match call {
+            "save" => self.save(),
+            "append" => {
+                self.history.append_to(&mut self.file)?;
+                Ok(pictured_bytes(self.alloc, self.file.bytes())?)
+            }
+            "reload" => {
+                self.history = FileHistory::new(self.alloc);
+                self.history.set_max_len(2);
+                loaded(self.alloc, &mut self.history, self.file.bytes())
+            }
+            _ => answered(self.alloc, &mut self.history, call, text),
+        }
+    }
+
+    // A save that writes nothing leaves the text as it is.
+    fn save(&mut self) -> Result<String, Fail> {
+        let mut sink = VecSink::new(self.alloc);
+        self.history.save_to(&mut sink)?;
+        let written = pictured_bytes(self.alloc, sink.bytes())?;
+        if !written.is_empty() {
+            self.file = sink;
+        }
+        Ok(written)
+    }
+}
+
+// Makes each row's call on a history with these lines.
+fn plays(rt: &(impl AllocGlobal + Abort), lines: &str, table: &str) -> Result<(), Fail> {
+    let mut desk = Desk {
+        alloc: rt.alloc(),
+        history: with_lines(rt.alloc(), lines)?,
+        file: VecSink::new(rt.alloc()),
+    };
+    for row in table.lines() {
+        if let Some((call, answer)) = call_and_answer(row) {
+            let (call, text) = word_and_rest(call);
+            let said = desk.play(call, text)?;
+            assert_eq!(rt; or_nothing(said.as_str().trim()), answer, "{row}");
+        }
     }
     Ok(())
 }
 
-#[test]
-fn saving_and_appending(rt: HostRuntime) -> Result<(), Fail> {
-    let alloc = rt.alloc();
-    let mut history = with_lines(alloc, &["x\\y"])?;
-    assert_eq!(rt;
-        saved(&rt, &mut history)?.bytes(),
-        b"#V2\nx\\\\y\n".as_slice()
-    );
-    assert!(rt; saved(&rt, &mut history)?.bytes().is_empty());
-    history.add(alloc, "z")?;
-    let mut sink = VecSink::new(alloc);
-    history.append_to(&mut sink)?;
-    assert_eq!(rt; sink.bytes(), b"z\n".as_slice());
-    history.append_to(&mut sink)?;
-    assert_eq!(rt; sink.bytes(), b"z\n".as_slice());
-    history.add(alloc, "new")?;
-    history.clear();
-    assert!(rt; history.is_empty() && saved(&rt, &mut history)?.bytes().is_empty());
+// The same of a history in memory.
+fn plays_in_memory<H: History>(
+    rt: &(impl AllocGlobal + Abort),
+    history: &mut H,
+    table: &str,
+) -> Result<(), Fail> {
+    for row in table.lines() {
+        if let Some((call, answer)) = call_and_answer(row) {
+            let (call, text) = word_and_rest(call);
+            let said = answered(rt.alloc(), history, call, text)?;
+            assert_eq!(rt; or_nothing(said.as_str().trim()), answer, "{row}");
+        }
+    }
     Ok(())
 }
+
+const SAVED: &str = r"
+    save                = #V2␊x\\y␊
+    save                = nothing
+    add z               = added x\y|z|
+    append              = #V2␊x\\y␊z␊
+    append              = #V2␊x\\y␊z␊
+    add new             = added x\y|z|new|
+    clear               = nothing
+    save                = nothing
+";
+
+// What is appended behind a saved text, with more lines added than the history keeps, and the first of them like the last
+// one saved: the list comes back all the same, and so it does after a second round, where a repeated row is ignored.
+const APPENDED: &str = r"
+    max_len 2           = nothing
+    add a               = added a|
+    add b               = added a|b|
+    save                = #V2␊a␊b␊
+    add c               = added b|c|
+    add b               = added c|b|
+    add d               = added b|d|
+    append              = #V2␊a␊b␊b␊d␊
+    reload              = part b|d|
+    add d               = ignored b|d|
+    add ␊               = added d|␊|
+    add e               = added ␊|e|
+    append              = #V2␊a␊b␊b␊d␊\n␊e␊
+    reload              = part ␊|e|
+";
+
+const SEARCHES: &str = "
+    search reverse 1 line       = 1 |line2
+    search reverse 1 none       = none
+    search reverse 1            = none
+    search reverse 3 line       = none
+    search reverse 2 1          = 0 line|1
+    search forward 0 3          = 2 line|3
+    search forward 1 1          = none
+    starts_with reverse 2 line  = 2 line|3
+    starts_with reverse 2 ine   = none
+    max_len 1                   = line3|
+    save                        = #V2␊line3␊
+";
+
+#[test]
+fn histories_with_texts(rt: HostRuntime) -> Result<(), Fail> {
+    plays(&rt, r"x\y|", SAVED)?;
+    plays(&rt, "", APPENDED)?;
+    plays(&rt, "line1|line2|line3|", SEARCHES)
+}
+
+const FOUR_ADDED: &str = "
+    ignore_space yes    = nothing
+    add line2           = added line2|
+    add line2           = ignored line2|
+    add                 = ignored line2|
+    add ␠line3          = ignored line2|
+    add \u{3000}line3   = ignored line2|
+    add line3           = added line2|line3|
+    add line2           = added line2|line3|line2|
+    ignore_dups no      = line2|line3|line2|
+    add_owned line2     = added line2|line3|line2|line2|
+";
+
+const TWO_KEPT: &str = "
+    max_len 2           = line2|line2|
+    ignore_space no     = line2|line2|
+    add ␠a              = added line2| a|
+";
+
+const ONE_KEPT: &str = "
+    max_len 0           = nothing
+    add b               = ignored
+    max_len 1           = nothing
+    add b               = added b|
+    add c               = added c|
+    get forward 0       = 0 |c
+    get forward 1       = none
+    clear               = nothing
+";
 
 #[test]
 fn lines_that_are_added(rt: HostRuntime) -> Result<(), Fail> {
-    let alloc = rt.alloc();
-    let mut history = MemHistory::with_config(alloc, &Config::default());
-    history.ignore_space(true);
-    let rows = [
-        ("line2", true),
-        ("line2", false),
-        ("", false),
-        (" line3", false),
-        ("\u{3000}line3", false),
-        ("line3", true),
-        ("line2", true),
-    ];
-    for (line, added) in rows {
-        assert!(rt; history.add(alloc, line) == Ok(added), "{line:?}");
-    }
-    history.ignore_dups(false);
-    assert!(rt; history.add_owned(alloc, String::from_str(alloc, "line2")?) == Ok(true));
+    let mut history = MemHistory::with_config(rt.alloc(), &Config::default());
+    plays_in_memory(&rt, &mut history, FOUR_ADDED)?;
     assert_eq!(rt; history.len(), 4);
-    assert!(rt; history.iter().count() == 4);
-    history.set_max_len(2);
-    history.ignore_space(false);
-    assert!(rt; history.add(alloc, " a") == Ok(true));
+    assert_eq!(rt; history.iter().count(), 4);
+    plays_in_memory(&rt, &mut history, TWO_KEPT)?;
     assert_eq!(rt; history.len(), 2);
-    if history.len() == 2 {
-        assert_eq!(rt; history[0].as_str(), "line2");
-        assert_eq!(rt; history[1].as_str(), " a");
-    }
-    history.set_max_len(0);
-    assert!(rt; history.is_empty());
-    assert!(rt; history.add(alloc, "b") == Ok(false));
-    history.set_max_len(1);
-    assert!(rt; history.add(alloc, "b") == Ok(true) && history.add(alloc, "c") == Ok(true));
-    assert!(rt;
-        history
-            .get(0, SearchDirection::Forward)
-            .is_some_and(|found| found.entry == "c")
-    );
-    assert!(rt; history.get(1, SearchDirection::Forward).is_none());
-    history.clear();
+    assert_eq!(rt; history[1].as_str(), " a");
+    plays_in_memory(&rt, &mut history, ONE_KEPT)?;
     assert!(rt; history.is_empty());
     Ok(())
 }
 
-#[test]
-fn searches(rt: HostRuntime) -> Result<(), Fail> {
-    use SearchDirection::{Forward, Reverse};
-    let mut history = with_lines(rt.alloc(), &["line1", "line2", "line3"])?;
-    let rows = [
-        ("line", 1, Reverse, Some((1, 0))),
-        ("none", 1, Reverse, None),
-        ("", 1, Reverse, None),
-        ("line", 3, Reverse, None),
-        ("1", 2, Reverse, Some((0, 4))),
-        ("3", 0, Forward, Some((2, 4))),
-        ("1", 1, Forward, None),
-    ];
-    for (term, start, direction, want) in rows {
-        let found = history.search(term, start, direction);
-        let found = found.map(|hit| (hit.idx, hit.pos));
-        assert!(rt; found == want, "{term:?} from {start}");
+// A line with the cursor; the hint of the only entry, as it is shown and as it is taken.
+const HINTS: &str = r#"
+    hello|          = " world", takes " world"
+    hello world|    = none
+    hell|o          = none
+    |               = none
+    help|           = none
+"#;
+
+// What a hinter has for a line.
+fn hint_told<Hi: Hinter>(
+    rt: &(impl AllocGlobal + Abort),
+    hinter: &Hi,
+    line: &str,
+    context: &Context<'_, FileHistory>,
+) -> Result<String, Fail> {
+    let (line, pos) = line_and_place(rt.alloc(), line)?;
+    assert!(rt; pos <= line.len());
+    match hinter.hint(rt.alloc(), line.as_str(), pos, context)? {
+        Some(hint) => {
+            let (shown, taken) = (hint.display(), hint.completion().unwrap_or("none"));
+            Ok(format!(in rt.alloc(); "{shown:?}, takes {taken:?}")?)
+        }
+        None => Ok(String::from_str(rt.alloc(), "none")?),
     }
-    let found = history
-        .starts_with("line", 2, Reverse)
-        .map(|hit| (hit.idx, hit.pos));
-    assert!(rt; found == Some((2, 4)));
-    assert!(rt; history.starts_with("ine", 2, Reverse).is_none());
-    history.set_max_len(1);
-    assert_eq!(rt; shown(&rt, &history)?.as_str(), "line3|");
-    assert_eq!(rt;
-        saved(&rt, &mut history)?.bytes(),
-        b"#V2\nline3\n".as_slice()
-    );
-    Ok(())
 }
 
 #[test]
 fn hints(rt: HostRuntime) -> Result<(), Fail> {
-    let alloc = rt.alloc();
-    let history = with_lines(alloc, &["hello world"])?;
+    let history = with_lines(rt.alloc(), "hello world|")?;
     let mut context = Context::new(&history);
     assert_eq!(rt; context.history_index(), 1);
-    let rows = [
-        ("hello", 5, Some(" world")),
-        ("hello world", 11, None),
-        ("hello", 4, None),
-        ("", 0, None),
-        ("help", 4, None),
-    ];
-    for (line, pos, want) in rows {
-        let hint = match HistoryHinter::new().hint(alloc, line, pos, &context) {
-            Ok(hint) => hint,
-            Err(_) => None,
-        };
-        assert_eq!(rt; hint.is_some(), want.is_some(), "{line:?}");
-        if let (Some(hint), Some(want)) = (hint, want) {
-            assert_eq!(rt; hint.display(), want);
-            assert!(rt; hint.completion() == Some(want));
+    for row in HINTS.lines() {
+        if let Some((line, answer)) = call_and_answer(row) {
+            let said = hint_told(&rt, &HistoryHinter::new(), line, &context)?;
+            assert_eq!(rt; said.as_str(), answer, "{row}");
+            let none = hint_told(&rt, &(), line, &context)?;
+            assert_eq!(rt; none.as_str(), "none", "{row}");
         }
-        assert!(rt;
-            ().hint(alloc, line, pos, &context)
-                .is_ok_and(|hint| hint.is_none())
-        );
     }
-    if !context.history().is_empty() {
-        context.set_history_index(0);
-    }
+    context.set_history_index(0);
     assert_eq!(rt; context.history_index(), 0);
     Ok(())
 }

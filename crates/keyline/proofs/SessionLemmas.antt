@@ -1,6 +1,5 @@
 -- A whole session: the first drawing, the turns, and the end.
 use Rattle.std.proofs.Common.{◌≡◌, ℕ, Bool, IsTrue, List, [], ◌++◌, inl, refl, subst, sym, ◌∙◌, ap, append-nil}
-use Rattle.line_config.specs.declared.device.Last.{Last}
 use Rattle.line_config.specs.declared.device.Last.TheVariants.{End}
 use Rattle.line_config.specs.Feed.{Feed, Gives}
 use Rattle.line_config.specs.Sending.{Takes}

@@ -1,5 +1,5 @@
 -- What two or three calls of a source gave.
-use Rattle.std.proofs.Common.{◌≡◌, ℕ, [], ◌∷◌, ◌++◌, Option, Some, None, Ok, Err}
+use Rattle.std.proofs.Common.{◌≡◌, ℕ, [], ◌∷◌, Option, Some, None, Ok, Err}
 use Rattle.line_config.specs.declared.device.DeviceFailed.{DeviceFailed}
 use Rattle.line_config.specs.Feed.{Feed, Gives, GivesByte}
 use Rattle.line_config.proofs.FeedLemmas.{Gives-then, Gives-byte, Gives-end, Gives-fault}

@@ -1,5 +1,5 @@
 -- Calls of a sink, one after the other.
-use Rattle.std.proofs.Common.{◌≡◌, ℕ, Bool, true, false, refl, append-nil, List, [], ◌∷◌, ◌++◌, Result, Ok, Err, IsTrue, append_assoc, ◌∙◌, ap, sym}
+use Rattle.std.proofs.Common.{◌≡◌, ℕ, Bool, true, false, refl, append-nil, List, [], ◌++◌, Result, Ok, Err, IsTrue, append_assoc, ◌∙◌, ap, sym}
 use Rattle.line_config.specs.Sending.{Takes, AppendsSome}
 use Rattle.keyline.specs.Calls.{TakesSome}
 use Rattle.std.specs.Result.{OnErr}

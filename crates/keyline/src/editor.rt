@@ -129,7 +129,11 @@ impl<S: Source, D: Sink, L: Sink> Editor<S, D, L> {
             (λ ending. FaultHasCause ending false (D.has_failed self.new.display)
             (L.has_failed self.new.lines)) }
         ensures kept { self.new
-            ≡ record self.old { line = self.new.line; display = self.new.display; lines = self.new.lines } }
+            ≡ record self.old {
+              line = self.new.line;
+              display = self.new.display;
+              lines = self.new.lines;
+            } }
     {
         let row = self.page.cursor(&self.line).row;
         let outcome = self.line.apply(command)?;

@@ -2,9 +2,8 @@
 use Rattle.std.proofs.Common.{◌≡◌, ℕ, ◌+◌, ◌-◌, ◌<◌, ◌≤◌, nat_le, min, Bool, true, false, cond, List, [], ◌∷◌, ◌++◌, length, map, filter, take, drop, get_or, slice_range, Option, None, Some, refl, sym, ap, ◌∙◌, subst, arith, le_refl, append-nil, length-append, length-take, take_all, take-take, take-append-drop}
 use Rattle.std.proofs.Math.ListN.{get_or-append}
 use Rattle.std.specs.Prelude.{option_map, unwrap_or, chars, IsUtf8, IsCharBoundary, All}
-use Rattle.std.specs.Int.{is_in_range}
 use Rattle.std.specs.List.{last_or, concat}
-use Rattle.std.proofs.lemmas.List.{drop_more, drop_all, map-append}
+use Rattle.std.proofs.lemmas.List.{map-append}
 use Rattle.std.proofs.lemmas.List.Elements.{filter-append}
 use Rattle.std.proofs.lemmas.Str.{chars-append, IsUtf8-take, IsCharBoundary-from_take}
 use Rattle.std.proofs.lemmas.Bool.Decides.{nat_tests}

@@ -1,9 +1,11 @@
 pub mod ChainLemmas
 pub mod ColumnLemmas
 mod ColumnRows
+pub mod CutLaws
 pub mod CutLemmas
 pub mod EditLaws
 pub mod HitLemmas
+pub mod IndentLaws
 pub mod IndentLemmas
 pub mod InsertionLemmas
 pub mod JoinLemmas

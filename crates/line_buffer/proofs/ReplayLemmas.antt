@@ -1,5 +1,5 @@
 -- Calls of several events: what they make of a listener and of a text, and what is left where one is refused.
-use Rattle.std.proofs.Common.{◌≡◌, Bool, true, false, ℕ, ◌+◌, ◌-◌, arith, take, drop, List, [], ◌∷◌, ◌++◌, ◌⊎◌, inl, inr, refl, sym, subst, ap, ◌∙◌, append_assoc}
+use Rattle.std.proofs.Common.{◌≡◌, Bool, true, false, ℕ, ◌+◌, ◌-◌, arith, take, drop, List, [], ◌∷◌, ◌++◌, ◌⊎◌, inl, refl, sym, subst, ap, ◌∙◌, append_assoc}
 use Rattle.std.specs.Prelude.{if◌then◌else◌, Result, Ok, Err, OnErr, IsUtf8, IsCharBoundary}
 use Rattle.std.specs.List.{replace_range, insert_slice}
 use Rattle.line_buffer.specs.Event.{Event}

@@ -1,5 +1,5 @@
 -- Sums of columns that stop at the most that a number of columns can be, and the parts of a text between joiners.
-use Rattle.std.proofs.Common.{lit<, ◌≡◌, ℕ, zero, suc, ◌||◌, nat_lt, ◌+◌, ◌<◌, ◌≤◌, ◌==◌, min, Bool, true, false, cond, ◌&&◌, List, [], ◌∷◌, ◌++◌, length, take, drop, Option, None, Some, refl, sym, ap, ◌∙◌, subst, arith, append_assoc, take-append-drop}
+use Rattle.std.proofs.Common.{lit<, ◌≡◌, ℕ, zero, suc, ◌+◌, ◌<◌, ◌≤◌, ◌==◌, min, Bool, true, false, cond, ◌&&◌, List, [], ◌∷◌, ◌++◌, length, take, drop, Option, None, Some, refl, sym, ap, ◌∙◌, subst, arith, append_assoc, take-append-drop}
 use Rattle.std.specs.Prelude.{chars, encode_utf8, encode_utf8_all, sum_by, IsUtf8, MatchOption, All}
 use Rattle.std.specs.Int.{is_in_range}
 use Rattle.std.specs.List.{fold, slice_split, onto_first, list_all}
@@ -13,12 +13,11 @@ use Rattle.std.proofs.lemmas.Iterator.Splits.{YieldsList-from_shown_while}
 use Rattle.std.proofs.lemmas.List.Elements.{All-nil, All-cons}
 use Rattle.std.proofs.lemmas.List.Splits.{slice_split_none, slice_split_at}
 use Rattle.std.proofs.lemmas.List.Sums.{sum_by-cons, sum_by-append}
-use Rattle.std.proofs.lemmas.Str.{chars-encodes, chars_from_encodes, encodes-chars, scalars-chars, cons_from_encodes, len_utf8_bounds, chars-append, chars-IsAscii}
+use Rattle.std.proofs.lemmas.Str.{chars-encodes, chars_from_encodes, encodes-chars, scalars-chars, cons_from_encodes, len_utf8_bounds, chars-IsAscii}
 use lib.Utf8.{scalar, scalars}
 use borrow.Author.Tests.{eq-eqb}
-use Rattle.unicode_width.specs.Kind.{kind}
 use Rattle.unicode_width.specs.Width.{str_width, char_width}
-use Rattle.unicode_width.proofs.Rules.{is_simple, is_simple_kind, str_width-printable, str_width-append_simple}
+use Rattle.unicode_width.proofs.Rules.{str_width-printable, str_width-append_simple}
 use Rattle.line_buffer.specs.declared.layout.GraphemeClusterMode.{GraphemeClusterMode}
 use Rattle.line_buffer.specs.declared.layout.GraphemeClusterMode.TheVariants.{Unicode, WcWidth, NoZwj}
 use Rattle.line_buffer.specs.Standing.{stands_alone, adds_up}

@@ -14,13 +14,19 @@ abbrev pub same_cell : Position → Position → Bool
 same_cell x y = (x.col == y.col) && (x.row == y.row)
 
 pub reading_order_total : IsTotalOrder reading_order
-reading_order_total = then_total (on_total (λ p. p.row) nat_cmp_total) (on_total (λ p. p.col) nat_cmp_total)
+reading_order_total =
+    then_total (on_total (λ p. p.row) nat_cmp_total) (on_total (λ p. p.col) nat_cmp_total)
 
 pub reading_order_agrees : Agrees (as_partial_cmp reading_order) reading_order
 reading_order_agrees x y = refl
 
 pub reading_order_ties : (x y : Position) → same_cell x y ≡ eq_by_cmp reading_order x y
-reading_order_ties x y = and_comm (x.col == y.col) (x.row == y.row) ∙ both_tied (x.row == y.row) (x.col == y.col) (nat_cmp x.row y.row) (nat_cmp x.col y.col) (unsigned_ties x.row y.row) (unsigned_ties x.col y.col)
+reading_order_ties x y =
+    and_comm (x.col == y.col) (x.row == y.row)
+    ∙ both_tied (x.row == y.row) (x.col == y.col) (nat_cmp x.row y.row) (nat_cmp x.col y.col)
+    (unsigned_ties x.row y.row) (unsigned_ties x.col y.col)
 
 pub reading_order_partial : IsPartialOrder same_cell (as_partial_cmp reading_order)
-reading_order_partial = partial_order_from_agreeing_total reading_order reading_order_total reading_order_agrees reading_order_ties
+reading_order_partial =
+    partial_order_from_agreeing_total reading_order reading_order_total reading_order_agrees
+    reading_order_ties

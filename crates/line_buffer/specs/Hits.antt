@@ -31,7 +31,8 @@ past_cluster l = unwrap_or (place_forward 1 l) l.place
 
 -- the n-th place of a character behind the cluster at the cursor
 abbrev pub hit_forward : ℕ → ℕ → Line → Option ℕ
-hit_forward c n l = option_map (λ i. past_cluster l + i) (nth_or_last n (hits c (drop (past_cluster l) l.text)))
+hit_forward c n l =
+    option_map (λ i. past_cluster l + i) (nth_or_last n (hits c (drop (past_cluster l) l.text)))
 
 -- and before the cursor, the nearest first
 abbrev pub hit_backward : ℕ → ℕ → Line → Option ℕ
@@ -56,4 +57,5 @@ abbrev pub search_place : CharSearch → ℕ → Line → Option ℕ
 search_place (Forward c) n l = hit_forward c n l
 search_place (ForwardBefore c) n l = option_map (λ i. last_char (take i l.text)) (hit_forward c n l)
 search_place (Backward c) n l = hit_backward c n l
-search_place (BackwardAfter c) n l = option_map (λ i. i + length (encode_utf8 c)) (hit_backward c n l)
+search_place (BackwardAfter c) n l =
+    option_map (λ i. i + length (encode_utf8 c)) (hit_backward c n l)

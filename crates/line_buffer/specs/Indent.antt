@@ -36,16 +36,20 @@ leading count row = encode_utf8_all (take count (take_while is_whitespace (chars
 
 -- what is told of the row that starts at a place: it gets the margin, or loses at most as many characters
 abbrev pub row_event : List ℕ → Bool → ℕ → List ℕ → Event
-row_event margin dedent at row = if dedent then Delete at (leading (length margin) row) Forward else insertion at margin
+row_event margin dedent at row =
+    if dedent then Delete at (leading (length margin) row) Forward else insertion at margin
 
 -- how long the row is afterwards
 abbrev pub row_len : List ℕ → Bool → List ℕ → ℕ
-row_len margin dedent row = if dedent then length row - length (leading (length margin) row) else length row + length margin
+row_len margin dedent row =
+    if dedent then length row - length (leading (length margin) row) else length row + length margin
 
 -- one event for each row, the first row first, where that one starts at a place
 unfoldable pub row_events : List ℕ → Bool → ℕ → List (List ℕ) → List Event
 row_events margin dedent at [] = []
-row_events margin dedent at (row ∷ rows) = row_event margin dedent at row ∷ row_events margin dedent (at + row_len margin dedent row + 1) rows
+row_events margin dedent at (row ∷ rows) =
+    row_event margin dedent at row
+    ∷ row_events margin dedent (at + row_len margin dedent row + 1) rows
 
 abbrev pub spaces : ℕ → List ℕ
 spaces amount = repeat amount (32 ∷ [])

@@ -9,7 +9,8 @@ use Rattle.line_buffer.specs.Replay.{deletion, insertion}
 
 -- the byte at a place goes on with the character before it
 abbrev pub is_inside_char : List ℕ → ℕ → Bool
-is_inside_char text at = nat_lt at (length text) && nat_le 128 (slice_index text at) && nat_lt (slice_index text at) 192
+is_inside_char text at =
+    nat_lt at (length text) && nat_le 128 (slice_index text at) && nat_lt (slice_index text at) 192
 
 -- the greatest place up to `room` at which the text may be cut
 unfoldable pub last_cut : List ℕ → ℕ → ℕ
@@ -22,13 +23,16 @@ has_room count l = l.growth || nat_le (length l.text + count) l.limit
 
 -- the whole text, or the longest beginning in whole characters that the limit lets stand
 abbrev pub kept_text : List ℕ → Line → List ℕ
-kept_text text l = if l.growth || nat_le (length text) l.limit then text else take (last_cut text l.limit) text
+kept_text text l =
+    if l.growth || nat_le (length text) l.limit then text else take (last_cut text l.limit) text
 
 abbrev pub update_events : List ℕ → Line → List Event
-update_events text l = deletion 0 (length l.text) Forward l.text ∷ (insertion 0 (kept_text text l) ∷ [])
+update_events text l =
+    deletion 0 (length l.text) Forward l.text ∷ (insertion 0 (kept_text text l) ∷ [])
 
 abbrev pub update_line : List ℕ → ℕ → Line → Line
-update_line text pos l = record l { text = kept_text text l; place = min pos (length (kept_text text l)) }
+update_line text pos l =
+    record l { text = kept_text text l; place = min pos (length (kept_text text l)) }
 
 -- what a call that may find no room answers, what it tells, and the line that it leaves
 pub record Insertion : Type 0 where
@@ -42,12 +46,17 @@ no_insertion l = record { answer = None; events = []; line = l }
 
 -- a text put in at the cursor, the cursor behind it
 abbrev pub put_at_cursor : List ℕ → Line → Line
-put_at_cursor added l = record l { text = insert_slice l.text l.place added; place = l.place + length added }
+put_at_cursor added l =
+    record l { text = insert_slice l.text l.place added; place = l.place + length added }
 
 -- where there is room for the text it is put in; the answer is whether that is at the text's end
 abbrev pub insertion_by : Event → List ℕ → Line → Insertion
 insertion_by told added l =
-    if has_room (length added) l then record { answer = Some (l.place == length l.text); events = told ∷ []; line = put_at_cursor added l }
+    if has_room (length added) l then record {
+      answer = Some (l.place == length l.text);
+      events = told ∷ [];
+      line = put_at_cursor added l;
+    }
     else no_insertion l
 
 -- n copies of a text
@@ -56,7 +65,9 @@ insertion_of text n l = insertion_by (insertion l.place (repeat n text)) (repeat
 
 -- n copies of a character
 abbrev pub insert : ℕ → ℕ → Line → Insertion
-insert c n l = if n == 1 then insertion_by (InsertChar l.place c) (encode_utf8 c) l else insertion_of (encode_utf8 c) n l
+insert c n l =
+    if n == 1 then insertion_by (InsertChar l.place c) (encode_utf8 c) l
+    else insertion_of (encode_utf8 c) n l
 
 -- n copies of a text that isn't empty
 abbrev pub yank : List ℕ → ℕ → Line → Insertion

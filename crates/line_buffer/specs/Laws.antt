@@ -1,11 +1,14 @@
 -- Laws of the edits.
-use Rattle.std.specs.Prelude.{◌≡◌, ℕ, Bool, true, false, IsTrue, List, [], ◌∷◌, is_some, Option, option_map, option_to_list}
+use Rattle.std.specs.Prelude.{◌≡◌, ◌≤◌, ℕ, Bool, true, false, IsTrue, IsUtf8, All, List, [], ◌∷◌, ◌++◌, length, drop, map, if◌then◌else◌, is_some, Option, option_map, option_to_list}
 use Rattle.line_buffer.specs.declared.types.Movement.{Movement}
 use Rattle.line_buffer.specs.declared.types.Movement.TheVariants.{WholeLine, BeginningOfLine, EndOfLine}
 use Rattle.line_buffer.specs.Event.{Event}
 use Rattle.line_buffer.specs.Event.Event.{Delete}
+use Rattle.line_buffer.specs.Indent.{leading, row_events}
+use Rattle.line_buffer.specs.Insertions.{kept_text}
 use Rattle.line_buffer.specs.Line.{Line}
 use Rattle.line_buffer.specs.Range.{range_of, copied_range, span_text, kill_events}
+use Rattle.line_buffer.specs.Replayed.{replayed_all}
 
 -- not by a row and not to the end of one, where a kill takes the newline and a copy doesn't
 abbrev pub leaves_rows_whole : Movement → Bool
@@ -27,4 +30,40 @@ deleted_texts (e ∷ es) = deleted_texts es
 abbrev pub KillsWhatIsCopied : Type 0
 KillsWhatIsCopied =
     (movement : Movement) (l : Line) → IsTrue (leaves_rows_whole movement)
-    → (is_some (range_of movement l) ≡ is_some (copied_text movement l)) × (deleted_texts (kill_events movement l) ≡ option_to_list (copied_text movement l))
+    → (is_some (range_of movement l) ≡ is_some (copied_text movement l))
+    × (deleted_texts (kill_events movement l) ≡ option_to_list (copied_text movement l))
+
+-- of the beginnings of a text in whole characters, the longest that is no longer than a limit
+pub record IsLongestThatFits (text kept : List ℕ) (limit : ℕ) : Type 0 where
+  pub rest : List ℕ
+  pub begins : text ≡ kept ++ rest
+  pub whole : IsUtf8 kept
+  pub fits : length kept ≤ limit
+  pub longest : (other more : List ℕ) → text ≡ other ++ more → IsUtf8 other → length other ≤ limit
+      → length other ≤ length kept
+
+-- a line without leave to grow keeps that of a new text
+abbrev pub KeepsTheLongestThatFits : Type 0
+KeepsTheLongestThatFits =
+    (text : List ℕ) (l : Line) → IsUtf8 text → l.growth ≡ false
+    → IsLongestThatFits text (kept_text text l) l.limit
+
+-- rows with their newlines between
+unfoldable pub row_text : List (List ℕ) → List ℕ
+row_text [] = []
+row_text (row ∷ []) = row
+row_text (row ∷ (next ∷ rows)) = row ++ 10 ∷ row_text (next ∷ rows)
+
+-- the margin before a row, or the row without as much whitespace at its front
+abbrev pub moved_row : List ℕ → Bool → List ℕ → List ℕ
+moved_row margin dedent row =
+    if dedent then drop (length (leading (length margin) row)) row else margin ++ row
+
+-- what is told of rows in a text gives each its margin, or takes it, and changes nothing before them or after
+abbrev pub RowsGetTheirMargin : Type 0
+RowsGetTheirMargin =
+    (margin : List ℕ) (dedent : Bool) (before after : List ℕ) (rows : List (List ℕ))
+    → All IsUtf8 rows
+    → replayed_all (row_events margin dedent (length before) rows)
+    (before ++ (row_text rows ++ after))
+    ≡ before ++ (row_text (map (moved_row margin dedent) rows) ++ after)

@@ -14,7 +14,9 @@ use Rattle.line_buffer.specs.Words.{is_alphanumeric_cluster, next_word}
 
 -- the place of the first cluster of a word at the cursor or after it
 abbrev pub word_at_or_after : Line → Option ℕ
-word_at_or_after l = option_map (λ x. l.place + x.0) (find (λ x. is_alphanumeric_cluster x.1) (clusters (text_after l)))
+word_at_or_after l =
+    option_map (λ x. l.place + x.0)
+    (find (λ x. is_alphanumeric_cluster x.1) (clusters (text_after l)))
 
 -- where the word that starts at the cursor ends
 abbrev pub end_of_word : Line → ℕ
@@ -22,10 +24,12 @@ end_of_word l = unwrap_or (next_word AfterEnd Emacs 1 l) l.place
 
 -- that word's place and end, if there is one
 abbrev pub word_to_edit : Line → Option (ℕ × ℕ)
-word_to_edit l = option_map (λ start. (start, end_of_word (record l { place = start }))) (word_at_or_after l)
+word_to_edit l =
+    option_map (λ start. (start, end_of_word (record l { place = start }))) (word_at_or_after l)
 
 abbrev pub first_cluster_len : List ℕ → ℕ
-first_cluster_len word = unwrap_or (option_map (λ x. x.0 + length x.1) (last_or None (take 1 (clusters word)))) 0
+first_cluster_len word =
+    unwrap_or (option_map (λ x. x.0 + length x.1) (last_or None (take 1 (clusters word)))) 0
 
 -- how many bytes at the front of a word are raised, the others being lowered
 abbrev pub raised_len : WordAction → List ℕ → ℕ
@@ -35,15 +39,19 @@ raised_len Uppercase word = length word
 
 -- the letters of ASCII alone
 abbrev pub recased : WordAction → List ℕ → List ℕ
-recased action word = str_to_ascii_uppercase (take (raised_len action word) word) ++ str_to_ascii_lowercase (drop (raised_len action word) word)
+recased action word =
+    str_to_ascii_uppercase (take (raised_len action word) word)
+    ++ str_to_ascii_lowercase (drop (raised_len action word) word)
 
 abbrev pub recase_events : WordAction → Option (ℕ × ℕ) → Line → List Event
 recase_events action None l = []
-recase_events action (Some word) l = replacement word.0 word.1 (recased action (slice_range l.text word.0 word.1)) l.text ∷ []
+recase_events action (Some word) l =
+    replacement word.0 word.1 (recased action (slice_range l.text word.0 word.1)) l.text ∷ []
 
 abbrev pub recase_line : WordAction → Option (ℕ × ℕ) → Line → Line
 recase_line action None l = l
-recase_line action (Some word) l = replaced word.0 word.1 (recased action (slice_range l.text word.0 word.1)) l
+recase_line action (Some word) l =
+    replaced word.0 word.1 (recased action (slice_range l.text word.0 word.1)) l
 
 abbrev pub edit_word_events : WordAction → Line → List Event
 edit_word_events action l = recase_events action (word_to_edit l) l

@@ -20,7 +20,8 @@ moved_to found l = record l { place = unwrap_or found l.place }
 
 -- new text in place of a range, the cursor after it
 abbrev pub replaced : ℕ → ℕ → List ℕ → Line → Line
-replaced from upto added l = record l { text = replace_range l.text from upto added; place = from + length added }
+replaced from upto added l =
+    record l { text = replace_range l.text from upto added; place = from + length added }
 
 -- a range taken out, the cursor at its start
 abbrev pub cut_out : ℕ → ℕ → Line → Line

@@ -31,14 +31,16 @@ from_cursor upto l = record { from = l.place; upto = upto; direction = Forward }
 
 -- what may lie on both sides of the cursor goes back where it ends there
 abbrev pub around_cursor : ℕ → ℕ → Line → Span
-around_cursor from upto l = record { from = from; upto = upto; direction = if upto == l.place then Backward else Forward }
+around_cursor from upto l =
+    record { from = from; upto = upto; direction = if upto == l.place then Backward else Forward }
 
 -- from a place of the cursor's row to the row's end; at that end the newline, if one is there
 abbrev pub to_row_end : ℕ → Line → Option Span
 to_row_end from l =
     let upto = row_end l.text l.place in
     if nat_lt from upto then Some (record { from = from; upto = upto; direction = Forward })
-    else (if nat_lt upto (length l.text) then Some (record { from = from; upto = upto + 1; direction = Forward }) else None)
+    else (if nat_lt upto (length l.text)
+    then Some (record { from = from; upto = upto + 1; direction = Forward }) else None)
 
 -- from the row's start to the cursor; at that start the newline before, if one is there
 abbrev pub from_row_start : Line → Option Span
@@ -49,10 +51,12 @@ from_row_start l =
 
 -- as far as a character that is found: with it, or up to it
 abbrev pub search_range : CharSearch → ℕ → Line → Option Span
-search_range (Onto c) n l = option_map (λ i. from_cursor (i + length (encode_utf8 c)) l) (hit (Onto c) n l)
+search_range (Onto c) n l =
+    option_map (λ i. from_cursor (i + length (encode_utf8 c)) l) (hit (Onto c) n l)
 search_range (ForwardBefore c) n l = option_map (λ i. from_cursor i l) (hit (ForwardBefore c) n l)
 search_range (BackOnto c) n l = option_map (λ i. up_to_cursor i l) (hit (BackOnto c) n l)
-search_range (BackwardAfter c) n l = option_map (λ i. up_to_cursor (i + length (encode_utf8 c)) l) (hit (BackwardAfter c) n l)
+search_range (BackwardAfter c) n l =
+    option_map (λ i. up_to_cursor (i + length (encode_utf8 c)) l) (hit (BackwardAfter c) n l)
 
 abbrev pub range_of : Movement → Line → Option Span
 range_of WholeLine l = to_row_end (row_start l.text l.place) l
@@ -66,9 +70,11 @@ range_of (BackwardChar n) l = option_map (λ i. up_to_cursor i l) (place_backwar
 range_of (ForwardChar n) l = option_map (λ i. from_cursor i l) (place_forward n l)
 range_of (LineUp n) l = option_map (λ r. around_cursor r.0 r.1 l) (rows_up n l)
 range_of (LineDown n) l = option_map (λ r. around_cursor r.0 r.1 l) (rows_down n l)
-range_of WholeBuffer l = if length l.text == 0 then None else Some (around_cursor 0 (length l.text) l)
+range_of WholeBuffer l =
+    if length l.text == 0 then None else Some (around_cursor 0 (length l.text) l)
 range_of BeginningOfBuffer l = if l.place == 0 then None else Some (up_to_cursor 0 l)
-range_of EndOfBuffer l = if l.place == length l.text then None else Some (from_cursor (length l.text) l)
+range_of EndOfBuffer l =
+    if l.place == length l.text then None else Some (from_cursor (length l.text) l)
 
 -- the same but for the newlines at the ends of a row: what is copied
 abbrev pub copied_range : Movement → Line → Option Span
@@ -76,7 +82,8 @@ copied_range WholeLine l =
     let from = row_start l.text l.place in
     let upto = row_end l.text l.place in
     if from == upto then None else Some (record { from = from; upto = upto; direction = Forward })
-copied_range BeginningOfLine l = if row_start l.text l.place == l.place then None else from_row_start l
+copied_range BeginningOfLine l =
+    if row_start l.text l.place == l.place then None else from_row_start l
 copied_range EndOfLine l = if l.place == row_end l.text l.place then None else to_row_end l.place l
 copied_range movement l = range_of movement l
 

@@ -25,7 +25,8 @@ Replays (Replace at removed added) before after = Swaps at removed added before 
 -- what events in order make of a text
 abbrev pub ReplaysAll : List Event → List ℕ → List ℕ → Type 0
 ReplaysAll [] before after = after ≡ before
-ReplaysAll (e ∷ es) before after = (between : List ℕ) × Replays e before between × ReplaysAll es between after
+ReplaysAll (e ∷ es) before after =
+    (between : List ℕ) × Replays e before between × ReplaysAll es between after
 
 -- what events in order make of a listener
 abbrev pub TakesAll : {S : Type 0} → (S → Event → S → Type 0) → S → List Event → S → Type 0
@@ -33,7 +34,8 @@ TakesAll takes s [] t = t ≡ s
 TakesAll {S} takes s (e ∷ es) t = (u : S) × takes s e u × TakesAll takes u es t
 
 -- the listener took the events in order, and they lead from one text to the other
-pub record Reports {S : Type 0} (takes : S → Event → S → Type 0) (events : List Event) (s t : S) (before after : List ℕ) : Type 0 where
+pub record Reports {S : Type 0} (takes : S → Event → S → Type 0) (events : List Event) (s t : S)
+    (before after : List ℕ) : Type 0 where
   pub told : TakesAll takes s events t
   pub replays : ReplaysAll events before after
 
@@ -45,7 +47,8 @@ TellsOfChange e = Unit {0}
 
 -- memory was wanting at one of the events: those before it were done, and led to the text that is left; for that one the line
 -- found none, or the listener refused it; those after it never come. What closes the call was told in the end
-pub record StopsAmong {S : Type 0} (takes refuses : S → Event → S → Type 0) (closing events : List Event)
+pub record StopsAmong {S : Type 0} (takes refuses : S → Event → S → Type 0)
+    (closing events : List Event)
     (s t : S) (before after : List ℕ) : Type 0 where
   pub done : List Event
   pub refused : Event

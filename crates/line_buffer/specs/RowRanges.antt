@@ -27,8 +27,11 @@ row_close text at = min (row_end text at + 1) (length text)
 
 -- from the start of the n-th row above, the first where fewer stand, to the end of the cursor's row
 abbrev pub rows_up : ℕ → Line → Option (ℕ × ℕ)
-rows_up n l = option_map (λ start. (start, row_close l.text l.place)) (nth_or_last n (starts_above l))
+rows_up n l =
+    option_map (λ start. (start, row_close l.text l.place)) (nth_or_last n (starts_above l))
 
 -- from the start of the cursor's row to the end of the n-th row below, the last where fewer stand
 abbrev pub rows_down : ℕ → Line → Option (ℕ × ℕ)
-rows_down n l = option_map (λ start. (row_start l.text l.place, row_close l.text start)) (nth_or_last n (starts_below l))
+rows_down n l =
+    option_map (λ start. (row_start l.text l.place, row_close l.text start))
+    (nth_or_last n (starts_below l))

@@ -10,7 +10,8 @@ is_printable c = nat_le 0x20 c && nat_lt c 0x7F
 -- behind one printable character of ASCII, unless it would stand in the row's last column
 abbrev pub behind_typed : ℕ → ℕ → Position → Option Position
 behind_typed columns c end =
-    if is_printable c && nat_lt (end.col + 1) columns then Some (record { col = end.col + 1; row = end.row }) else None
+    if is_printable c && nat_lt (end.col + 1) columns
+    then Some (record { col = end.col + 1; row = end.row }) else None
 
 -- before the last characters, where these are printable ASCII and stand in one row
 abbrev pub before_killed : List ℕ → Position → Option Position

@@ -16,7 +16,8 @@ between_clusters l = if l.place == length l.text then moved_to (place_backward 1
 
 -- where the cluster before a place starts, the place, and where the cluster after it ends
 abbrev pub clusters_at : Line → ℕ × ℕ × ℕ
-clusters_at l = ((moved_to (place_backward 1 l) l).place, l.place, (moved_to (place_forward 1 l) l).place)
+clusters_at l =
+    ((moved_to (place_backward 1 l) l).place, l.place, (moved_to (place_forward 1 l) l).place)
 
 -- how many clusters stand before the cursor and after it, each text cut by itself
 abbrev pub clusters_around : Line → ℕ
@@ -33,7 +34,8 @@ later_first parts text = slice_range text parts.1 parts.2 ++ slice_range text pa
 abbrev pub transpose_chars_events : Line → List Event
 transpose_chars_events l =
     let parts = clusters_at (between_clusters l) in
-    if transposes_chars l then replacement parts.0 parts.2 (later_first parts l.text) l.text ∷ [] else []
+    if transposes_chars l then replacement parts.0 parts.2 (later_first parts l.text) l.text ∷ []
+    else []
 
 abbrev pub transpose_chars_line : Line → Line
 transpose_chars_line l =
@@ -75,14 +77,19 @@ swap_events p text =
     let first = slice_range text p.first_start p.first_end in
     let second = slice_range text p.second_start p.second_end in
     replacement p.second_start p.second_end first text
-    ∷ (replacement p.first_start p.first_end second (replace_range text p.second_start p.second_end first) ∷ [])
+    ∷ (replacement p.first_start p.first_end second
+    (replace_range text p.second_start p.second_end first) ∷ [])
 
 -- the cursor after both
 abbrev pub swap_line : Pair → Line → Line
 swap_line p l =
     let first = slice_range l.text p.first_start p.first_end in
     let second = slice_range l.text p.second_start p.second_end in
-    record l { text = replace_range (replace_range l.text p.second_start p.second_end first) p.first_start p.first_end second; place = p.second_end }
+    record l {
+      text = replace_range
+          (replace_range l.text p.second_start p.second_end first) p.first_start p.first_end second;
+      place = p.second_end;
+    }
 
 abbrev pub are_apart : Pair → Bool
 are_apart p = not (p.first_start == p.second_start) && nat_le p.first_end p.second_start
@@ -91,8 +98,10 @@ abbrev pub transposes_words : ℕ → Line → Bool
 transposes_words n l = are_apart (words_around n l)
 
 abbrev pub transpose_words_events : ℕ → Line → List Event
-transpose_words_events n l = if transposes_words n l then swap_events (words_around n l) l.text else []
+transpose_words_events n l =
+    if transposes_words n l then swap_events (words_around n l) l.text else []
 
 -- where the words aren't two, the cursor stays after the first
 abbrev pub transpose_words_line : ℕ → Line → Line
-transpose_words_line n l = if transposes_words n l then swap_line (words_around n l) l else after_words 1 (first_word n l)
+transpose_words_line n l =
+    if transposes_words n l then swap_line (words_around n l) l else after_words 1 (first_word n l)

@@ -106,4 +106,5 @@ prev_word word n l = nth_or_last n (stops_back word (text_before l))
 
 -- the place of the n-th later word
 abbrev pub next_word : At → Word → ℕ → Line → Option ℕ
-next_word at word n l = option_map (λ i. l.place + i) (nth_or_last n (stops_forward at word (text_after l)))
+next_word at word n l =
+    option_map (λ i. l.place + i) (nth_or_last n (stops_forward at word (text_after l)))

@@ -1,4 +1,5 @@
-//! Motions up and down by rows, which keep to the cursor's column as nearly as the clusters of the row allow.
+//! Motions up and down by rows, which keep to the cursor's column as nearly as the clusters of the
+//! row allow.
 
 ghost use Rattle.std.specs.Prelude.{◌≡◌, min, take, chars, is_some, IfSome, IsCharBoundary};
 ghost use Rattle.std.specs.List.{list_all};
@@ -58,8 +59,8 @@ fn all_stand_alone(text: &str) -> bool
     text.chars().all(|c| stands_alone(c))
 }
 
-/// The columns of a text up to a place, where those of the whole text are known. What follows on the place is measured alone
-/// where it may be, and else the text before it.
+/// The columns of a text up to a place, where those of the whole text are known. What follows on
+/// the place is measured alone where it may be, and else the text before it.
 fn columns_up_to(mode: GraphemeClusterMode, text: &str, end: usize, whole: usize) -> usize
     requires boundary { IsCharBoundary text.now end }
     requires whole { whole ≡ min (columns_of mode (chars text.now)) usize.MAX }
@@ -73,7 +74,8 @@ fn columns_up_to(mode: GraphemeClusterMode, text: &str, end: usize, whole: usize
     }
 }
 
-/// The last place between the clusters of a row whose column isn't past the given one, the row's start where all are.
+/// The last place between the clusters of a row whose column isn't past the given one, the row's
+/// start where all are.
 fn boundary_at_column(mode: GraphemeClusterMode, row: &str, first: Unit, column: usize) -> usize
     ensures value { result ≡ place_at_column mode first column row.now }
     ensures boundary { IsCharBoundary row.now result }
@@ -93,7 +95,8 @@ impl LineBuffer {
     /// The column of the cursor.
     #[tactic(auto, unfolding(crate::specs::Columns::cursor_column))]
     fn column(&self, layout: &Layout) -> usize
-        ensures { result ≡ cursor_column layout.now.grapheme_cluster_mode layout.now.prompt_size.col self.now }
+        ensures { result ≡ cursor_column layout.now.grapheme_cluster_mode layout.now.prompt_size.col
+            self.now }
     {
         let start = last_row_start(&self.buf[..self.pos]);
         let first = row_first_column(layout, start);
@@ -104,7 +107,9 @@ impl LineBuffer {
     #[tactic(auto, unfolding(crate::specs::Columns::place_in_row))]
     fn place_below_column(&self, layout: &Layout, start: usize) -> usize
         requires { IsCharBoundary self.now.text start }
-        ensures value { result ≡ place_in_row layout.now.grapheme_cluster_mode layout.now.prompt_size.col (cursor_column layout.now.grapheme_cluster_mode layout.now.prompt_size.col self.now) self.now.text start }
+        ensures value { result ≡ place_in_row layout.now.grapheme_cluster_mode
+            layout.now.prompt_size.col (cursor_column layout.now.grapheme_cluster_mode
+            layout.now.prompt_size.col self.now) self.now.text start }
         ensures boundary { IsCharBoundary self.now.text result }
     {
         let column = self.column(layout);
@@ -117,7 +122,8 @@ impl LineBuffer {
     /// The place to which a motion up by n rows moves the cursor; none in the first row.
     #[tactic(auto, unfolding(crate::specs::Columns::line_up))]
     fn line_up_pos(&self, n: RepeatCount, layout: &Layout) -> Option<usize>
-        ensures value { result ≡ line_up layout.now.grapheme_cluster_mode layout.now.prompt_size.col n self.now }
+        ensures value { result ≡ line_up layout.now.grapheme_cluster_mode layout.now.prompt_size.col
+            n self.now }
         ensures boundary { IfSome result (λ pos. IsCharBoundary self.now.text pos) }
     {
         let start = self.start_above(n)?;
@@ -127,7 +133,8 @@ impl LineBuffer {
     /// The place to which a motion down by n rows moves the cursor; none in the last row.
     #[tactic(auto, unfolding(crate::specs::Columns::line_down))]
     fn line_down_pos(&self, n: RepeatCount, layout: &Layout) -> Option<usize>
-        ensures value { result ≡ line_down layout.now.grapheme_cluster_mode layout.now.prompt_size.col n self.now }
+        ensures value { result ≡ line_down layout.now.grapheme_cluster_mode
+            layout.now.prompt_size.col n self.now }
         ensures boundary { IfSome result (λ pos. IsCharBoundary self.now.text pos) }
     {
         let start = self.start_below(n)?;
@@ -136,8 +143,10 @@ impl LineBuffer {
 
     /// Moves the cursor up by n rows, or to the first row; false in the first row, and by no rows.
     pub fn move_to_line_up(&mut self, n: RepeatCount, layout: &Layout) -> bool
-        ensures answer { result ≡ is_some (line_up layout.now.grapheme_cluster_mode layout.now.prompt_size.col n self.old) }
-        ensures line { self.new ≡ moved_to (line_up layout.now.grapheme_cluster_mode layout.now.prompt_size.col n self.old) self.old }
+        ensures answer { result ≡ is_some (line_up layout.now.grapheme_cluster_mode
+            layout.now.prompt_size.col n self.old) }
+        ensures line { self.new ≡ moved_to (line_up layout.now.grapheme_cluster_mode
+            layout.now.prompt_size.col n self.old) self.old }
     {
         let Some(pos) = self.line_up_pos(n, layout) else {
             return false;
@@ -148,8 +157,10 @@ impl LineBuffer {
 
     /// Moves the cursor down by n rows, or to the last row; false in the last row, and by no rows.
     pub fn move_to_line_down(&mut self, n: RepeatCount, layout: &Layout) -> bool
-        ensures answer { result ≡ is_some (line_down layout.now.grapheme_cluster_mode layout.now.prompt_size.col n self.old) }
-        ensures line { self.new ≡ moved_to (line_down layout.now.grapheme_cluster_mode layout.now.prompt_size.col n self.old) self.old }
+        ensures answer { result ≡ is_some (line_down layout.now.grapheme_cluster_mode
+            layout.now.prompt_size.col n self.old) }
+        ensures line { self.new ≡ moved_to (line_down layout.now.grapheme_cluster_mode
+            layout.now.prompt_size.col n self.old) self.old }
     {
         let Some(pos) = self.line_down_pos(n, layout) else {
             return false;

@@ -34,10 +34,12 @@ impl LineBuffer {
     ) -> Result<bool, OutOfMemory>
         requires { IfSome span (λ s. IsSpanOf self.old.text s) }
         ensures answer { IfOk result (λ b. b ≡ is_some span) }
-        ensures told { OnOk result (Reports D.takes (deletion_events span self.old) dl.old dl.new self.old.text self.new.text) }
+        ensures told { OnOk result (Reports D.takes (deletion_events span self.old) dl.old dl.new
+            self.old.text self.new.text) }
         ensures line { OnOk result (self.new ≡ deletion_line span self.old) }
         ensures shrinks { length self.new.text ≤ length self.old.text }
-        ensures stopped { OnErr result (StopsAmong D.takes D.refuses [] (deletion_events span self.old) dl.old dl.new self.old.text self.new.text) }
+        ensures stopped { OnErr result (StopsAmong D.takes D.refuses []
+            (deletion_events span self.old) dl.old dl.new self.old.text self.new.text) }
         ensures kept { OnErr result (self.new ≡ self.old) }
     {
         let Some(span) = span else {
@@ -55,28 +57,39 @@ impl LineBuffer {
         dl: &mut D,
     ) -> Result<bool, OutOfMemory>
         ensures answer { IfOk result (λ b. b ≡ is_some (range_of movement.now self.old)) }
-        ensures told { OnOk result (Reports D.takes (deletion_events (range_of movement.now self.old) self.old) dl.old dl.new self.old.text self.new.text) }
-        ensures line { OnOk result (self.new ≡ deletion_line (range_of movement.now self.old) self.old) }
+        ensures told { OnOk result (Reports D.takes (deletion_events
+            (range_of movement.now self.old) self.old) dl.old dl.new self.old.text self.new.text) }
+        ensures line { OnOk result (self.new ≡ deletion_line (range_of movement.now self.old)
+            self.old) }
         ensures shrinks { length self.new.text ≤ length self.old.text }
-        ensures stopped { OnErr result (StopsAmong D.takes D.refuses [] (deletion_events (range_of movement.now self.old) self.old) dl.old dl.new self.old.text self.new.text) }
+        ensures stopped { OnErr result (StopsAmong D.takes D.refuses []
+            (deletion_events (range_of movement.now self.old) self.old) dl.old dl.new self.old.text
+            self.new.text) }
         ensures kept { OnErr result (self.new ≡ self.old) }
     {
         let span = self.range_of(movement);
         self.delete_span(alloc, span, dl)
     }
 
-    /// Takes out the n clusters after the cursor, fewer where fewer stand, and answers them; `None` at the text's end.
+    /// Takes out the n clusters after the cursor, fewer where fewer stand, and answers them; `None`
+    /// at the text's end.
     pub fn delete<D: DeleteListener>(
         &mut self,
         alloc: Global,
         n: RepeatCount,
         dl: &mut D,
     ) -> Result<Option<String>, OutOfMemory>
-        ensures answer { IfOk result (λ t. option_map string_bytes t ≡ option_map (λ s. span_text s self.old) (range_of (ForwardChar n) self.old)) }
-        ensures told { OnOk result (Reports D.takes (deletion_events (range_of (ForwardChar n) self.old) self.old) dl.old dl.new self.old.text self.new.text) }
-        ensures line { OnOk result (self.new ≡ deletion_line (range_of (ForwardChar n) self.old) self.old) }
+        ensures answer { IfOk result (λ t. option_map string_bytes t ≡ option_map
+            (λ s. span_text s self.old) (range_of (ForwardChar n) self.old)) }
+        ensures told { OnOk result (Reports D.takes (deletion_events
+            (range_of (ForwardChar n) self.old) self.old) dl.old dl.new
+            self.old.text self.new.text) }
+        ensures line { OnOk result (self.new ≡ deletion_line (range_of (ForwardChar n) self.old)
+            self.old) }
         ensures shrinks { length self.new.text ≤ length self.old.text }
-        ensures stopped { OnErr result (StopsAmong D.takes D.refuses [] (deletion_events (range_of (ForwardChar n) self.old) self.old) dl.old dl.new self.old.text self.new.text) }
+        ensures stopped { OnErr result (StopsAmong D.takes D.refuses []
+            (deletion_events (range_of (ForwardChar n) self.old) self.old) dl.old dl.new
+            self.old.text self.new.text) }
         ensures kept { OnErr result (self.new ≡ self.old) }
     {
         let span = self.range_of(&Movement::ForwardChar(n));
@@ -85,7 +98,8 @@ impl LineBuffer {
         Ok(text)
     }
 
-    /// Takes out the n clusters before the cursor, fewer where fewer stand; false at the text's start.
+    /// Takes out the n clusters before the cursor, fewer where fewer stand; false at the text's
+    /// start.
     pub fn backspace<D: DeleteListener>(
         &mut self,
         alloc: Global,
@@ -93,10 +107,15 @@ impl LineBuffer {
         dl: &mut D,
     ) -> Result<bool, OutOfMemory>
         ensures answer { IfOk result (λ b. b ≡ is_some (range_of (BackwardChar n) self.old)) }
-        ensures told { OnOk result (Reports D.takes (deletion_events (range_of (BackwardChar n) self.old) self.old) dl.old dl.new self.old.text self.new.text) }
-        ensures line { OnOk result (self.new ≡ deletion_line (range_of (BackwardChar n) self.old) self.old) }
+        ensures told { OnOk result (Reports D.takes (deletion_events
+            (range_of (BackwardChar n) self.old) self.old) dl.old dl.new self.old.text
+            self.new.text) }
+        ensures line { OnOk result (self.new ≡ deletion_line (range_of (BackwardChar n) self.old)
+            self.old) }
         ensures shrinks { length self.new.text ≤ length self.old.text }
-        ensures stopped { OnErr result (StopsAmong D.takes D.refuses [] (deletion_events (range_of (BackwardChar n) self.old) self.old) dl.old dl.new self.old.text self.new.text) }
+        ensures stopped { OnErr result (StopsAmong D.takes D.refuses []
+            (deletion_events (range_of (BackwardChar n) self.old) self.old) dl.old dl.new
+            self.old.text self.new.text) }
         ensures kept { OnErr result (self.new ≡ self.old) }
     {
         self.delete_by(alloc, &Movement::BackwardChar(n), dl)
@@ -109,10 +128,14 @@ impl LineBuffer {
         dl: &mut D,
     ) -> Result<bool, OutOfMemory>
         ensures answer { IfOk result (λ b. b ≡ is_some (range_of EndOfLine self.old)) }
-        ensures told { OnOk result (Reports D.takes (deletion_events (range_of EndOfLine self.old) self.old) dl.old dl.new self.old.text self.new.text) }
-        ensures line { OnOk result (self.new ≡ deletion_line (range_of EndOfLine self.old) self.old) }
+        ensures told { OnOk result (Reports D.takes (deletion_events (range_of EndOfLine self.old)
+            self.old) dl.old dl.new self.old.text self.new.text) }
+        ensures line { OnOk result (self.new ≡ deletion_line (range_of EndOfLine self.old)
+            self.old) }
         ensures shrinks { length self.new.text ≤ length self.old.text }
-        ensures stopped { OnErr result (StopsAmong D.takes D.refuses [] (deletion_events (range_of EndOfLine self.old) self.old) dl.old dl.new self.old.text self.new.text) }
+        ensures stopped { OnErr result (StopsAmong D.takes D.refuses []
+            (deletion_events (range_of EndOfLine self.old) self.old) dl.old dl.new self.old.text
+            self.new.text) }
         ensures kept { OnErr result (self.new ≡ self.old) }
     {
         self.delete_by(alloc, &Movement::EndOfLine, dl)
@@ -125,26 +148,36 @@ impl LineBuffer {
         dl: &mut D,
     ) -> Result<bool, OutOfMemory>
         ensures answer { IfOk result (λ b. b ≡ is_some (range_of EndOfBuffer self.old)) }
-        ensures told { OnOk result (Reports D.takes (deletion_events (range_of EndOfBuffer self.old) self.old) dl.old dl.new self.old.text self.new.text) }
-        ensures line { OnOk result (self.new ≡ deletion_line (range_of EndOfBuffer self.old) self.old) }
+        ensures told { OnOk result (Reports D.takes (deletion_events (range_of EndOfBuffer self.old)
+            self.old) dl.old dl.new self.old.text self.new.text) }
+        ensures line { OnOk result (self.new ≡ deletion_line (range_of EndOfBuffer self.old)
+            self.old) }
         ensures shrinks { length self.new.text ≤ length self.old.text }
-        ensures stopped { OnErr result (StopsAmong D.takes D.refuses [] (deletion_events (range_of EndOfBuffer self.old) self.old) dl.old dl.new self.old.text self.new.text) }
+        ensures stopped { OnErr result (StopsAmong D.takes D.refuses []
+            (deletion_events (range_of EndOfBuffer self.old) self.old) dl.old dl.new self.old.text
+            self.new.text) }
         ensures kept { OnErr result (self.new ≡ self.old) }
     {
         self.delete_by(alloc, &Movement::EndOfBuffer, dl)
     }
 
-    /// Takes out the row up to the cursor, at its start the newline before; false at the text's start.
+    /// Takes out the row up to the cursor, at its start the newline before; false at the text's
+    /// start.
     pub fn discard_line<D: DeleteListener>(
         &mut self,
         alloc: Global,
         dl: &mut D,
     ) -> Result<bool, OutOfMemory>
         ensures answer { IfOk result (λ b. b ≡ is_some (range_of BeginningOfLine self.old)) }
-        ensures told { OnOk result (Reports D.takes (deletion_events (range_of BeginningOfLine self.old) self.old) dl.old dl.new self.old.text self.new.text) }
-        ensures line { OnOk result (self.new ≡ deletion_line (range_of BeginningOfLine self.old) self.old) }
+        ensures told { OnOk result (Reports D.takes (deletion_events
+            (range_of BeginningOfLine self.old) self.old) dl.old dl.new
+            self.old.text self.new.text) }
+        ensures line { OnOk result (self.new ≡ deletion_line (range_of BeginningOfLine self.old)
+            self.old) }
         ensures shrinks { length self.new.text ≤ length self.old.text }
-        ensures stopped { OnErr result (StopsAmong D.takes D.refuses [] (deletion_events (range_of BeginningOfLine self.old) self.old) dl.old dl.new self.old.text self.new.text) }
+        ensures stopped { OnErr result (StopsAmong D.takes D.refuses []
+            (deletion_events (range_of BeginningOfLine self.old) self.old) dl.old dl.new
+            self.old.text self.new.text) }
         ensures kept { OnErr result (self.new ≡ self.old) }
     {
         self.delete_by(alloc, &Movement::BeginningOfLine, dl)
@@ -157,10 +190,15 @@ impl LineBuffer {
         dl: &mut D,
     ) -> Result<bool, OutOfMemory>
         ensures answer { IfOk result (λ b. b ≡ is_some (range_of BeginningOfBuffer self.old)) }
-        ensures told { OnOk result (Reports D.takes (deletion_events (range_of BeginningOfBuffer self.old) self.old) dl.old dl.new self.old.text self.new.text) }
-        ensures line { OnOk result (self.new ≡ deletion_line (range_of BeginningOfBuffer self.old) self.old) }
+        ensures told { OnOk result (Reports D.takes (deletion_events
+            (range_of BeginningOfBuffer self.old) self.old) dl.old dl.new self.old.text
+            self.new.text) }
+        ensures line { OnOk result (self.new ≡ deletion_line (range_of BeginningOfBuffer self.old)
+            self.old) }
         ensures shrinks { length self.new.text ≤ length self.old.text }
-        ensures stopped { OnErr result (StopsAmong D.takes D.refuses [] (deletion_events (range_of BeginningOfBuffer self.old) self.old) dl.old dl.new self.old.text self.new.text) }
+        ensures stopped { OnErr result (StopsAmong D.takes D.refuses []
+            (deletion_events (range_of BeginningOfBuffer self.old) self.old) dl.old dl.new
+            self.old.text self.new.text) }
         ensures kept { OnErr result (self.new ≡ self.old) }
     {
         self.delete_by(alloc, &Movement::BeginningOfBuffer, dl)
@@ -175,10 +213,15 @@ impl LineBuffer {
         dl: &mut D,
     ) -> Result<bool, OutOfMemory>
         ensures answer { IfOk result (λ b. b ≡ is_some (range_of (BackwardWord n word) self.old)) }
-        ensures told { OnOk result (Reports D.takes (deletion_events (range_of (BackwardWord n word) self.old) self.old) dl.old dl.new self.old.text self.new.text) }
-        ensures line { OnOk result (self.new ≡ deletion_line (range_of (BackwardWord n word) self.old) self.old) }
+        ensures told { OnOk result (Reports D.takes (deletion_events
+            (range_of (BackwardWord n word) self.old) self.old) dl.old dl.new self.old.text
+            self.new.text) }
+        ensures line { OnOk result (self.new ≡ deletion_line
+            (range_of (BackwardWord n word) self.old) self.old) }
         ensures shrinks { length self.new.text ≤ length self.old.text }
-        ensures stopped { OnErr result (StopsAmong D.takes D.refuses [] (deletion_events (range_of (BackwardWord n word) self.old) self.old) dl.old dl.new self.old.text self.new.text) }
+        ensures stopped { OnErr result (StopsAmong D.takes D.refuses []
+            (deletion_events (range_of (BackwardWord n word) self.old) self.old) dl.old dl.new
+            self.old.text self.new.text) }
         ensures kept { OnErr result (self.new ≡ self.old) }
     {
         self.delete_by(alloc, &Movement::BackwardWord(n, word), dl)
@@ -193,17 +236,24 @@ impl LineBuffer {
         n: RepeatCount,
         dl: &mut D,
     ) -> Result<bool, OutOfMemory>
-        ensures answer { IfOk result (λ b. b ≡ is_some (range_of (ForwardWord n at word) self.old)) }
-        ensures told { OnOk result (Reports D.takes (deletion_events (range_of (ForwardWord n at word) self.old) self.old) dl.old dl.new self.old.text self.new.text) }
-        ensures line { OnOk result (self.new ≡ deletion_line (range_of (ForwardWord n at word) self.old) self.old) }
+        ensures answer { IfOk result (λ b. b ≡ is_some (range_of (ForwardWord n at word)
+            self.old)) }
+        ensures told { OnOk result (Reports D.takes (deletion_events
+            (range_of (ForwardWord n at word) self.old) self.old) dl.old dl.new self.old.text
+            self.new.text) }
+        ensures line { OnOk result (self.new ≡ deletion_line
+            (range_of (ForwardWord n at word) self.old) self.old) }
         ensures shrinks { length self.new.text ≤ length self.old.text }
-        ensures stopped { OnErr result (StopsAmong D.takes D.refuses [] (deletion_events (range_of (ForwardWord n at word) self.old) self.old) dl.old dl.new self.old.text self.new.text) }
+        ensures stopped { OnErr result (StopsAmong D.takes D.refuses []
+            (deletion_events (range_of (ForwardWord n at word) self.old) self.old) dl.old dl.new
+            self.old.text self.new.text) }
         ensures kept { OnErr result (self.new ≡ self.old) }
     {
         self.delete_by(alloc, &Movement::ForwardWord(n, at, word), dl)
     }
 
-    /// Takes out what lies up to the n-th place of a character, by the search with it or without; false where there is none.
+    /// Takes out what lies up to the n-th place of a character, by the search with it or without;
+    /// false where there is none.
     pub fn delete_to<D: DeleteListener>(
         &mut self,
         alloc: Global,
@@ -211,18 +261,24 @@ impl LineBuffer {
         n: RepeatCount,
         dl: &mut D,
     ) -> Result<bool, OutOfMemory>
-        ensures answer { IfOk result (λ b. b ≡ is_some (range_of (ViCharSearch n search) self.old)) }
-        ensures told { OnOk result (Reports D.takes (deletion_events (range_of (ViCharSearch n search) self.old) self.old) dl.old dl.new self.old.text self.new.text) }
-        ensures line { OnOk result (self.new ≡ deletion_line (range_of (ViCharSearch n search) self.old) self.old) }
+        ensures answer { IfOk result (λ b. b ≡ is_some (range_of (ViCharSearch n search)
+            self.old)) }
+        ensures told { OnOk result (Reports D.takes (deletion_events
+            (range_of (ViCharSearch n search) self.old) self.old) dl.old dl.new self.old.text
+            self.new.text) }
+        ensures line { OnOk result (self.new ≡ deletion_line
+            (range_of (ViCharSearch n search) self.old) self.old) }
         ensures shrinks { length self.new.text ≤ length self.old.text }
-        ensures stopped { OnErr result (StopsAmong D.takes D.refuses [] (deletion_events (range_of (ViCharSearch n search) self.old) self.old) dl.old dl.new self.old.text self.new.text) }
+        ensures stopped { OnErr result (StopsAmong D.takes D.refuses []
+            (deletion_events (range_of (ViCharSearch n search) self.old) self.old) dl.old dl.new
+            self.old.text self.new.text) }
         ensures kept { OnErr result (self.new ≡ self.old) }
     {
         self.delete_by(alloc, &Movement::ViCharSearch(n, search), dl)
     }
 
-    /// Takes out what a movement names and tells it as killed text, a movement by clusters as text that was deleted.
-    /// False where it names nothing.
+    /// Takes out what a movement names and tells it as killed text, a movement by clusters as text
+    /// that was deleted. False where it names nothing.
     pub fn kill<D: DeleteListener>(
         &mut self,
         alloc: Global,
@@ -230,10 +286,12 @@ impl LineBuffer {
         dl: &mut D,
     ) -> Result<bool, OutOfMemory>
         ensures answer { IfOk result (λ b. b ≡ is_some (range_of movement.now self.old)) }
-        ensures told { OnOk result (Reports D.takes (kill_events movement.now self.old) dl.old dl.new self.old.text self.new.text) }
+        ensures told { OnOk result (Reports D.takes (kill_events movement.now self.old) dl.old
+            dl.new self.old.text self.new.text) }
         ensures line { OnOk result (self.new ≡ kill_line movement.now self.old) }
         ensures shrinks { length self.new.text ≤ length self.old.text }
-        ensures stopped { OnErr result (StopsAmong D.takes D.refuses (kill_closing movement.now) (kill_events movement.now self.old) dl.old dl.new self.old.text self.new.text) }
+        ensures stopped { OnErr result (StopsAmong D.takes D.refuses (kill_closing movement.now)
+            (kill_events movement.now self.old) dl.old dl.new self.old.text self.new.text) }
         ensures kept { OnErr result (self.new ≡ self.old) }
     {
         if goes_by_clusters(movement) {
@@ -245,10 +303,11 @@ impl LineBuffer {
         killed
     }
 
-    /// A text of its own of what a movement names: of a row without its newline, and of the rest of a row or of what
-    /// stands before the cursor in it `None` where that is nothing.
+    /// A text of its own of what a movement names: of a row without its newline, and of the rest of
+    /// a row or of what stands before the cursor in it `None` where that is nothing.
     pub fn copy(&self, alloc: Global, movement: &Movement) -> Result<Option<String>, OutOfMemory>
-        ensures { IfOk result (λ t. option_map string_bytes t ≡ option_map (λ s. span_text s self.now) (copied_range movement.now self.now)) }
+        ensures { IfOk result (λ t. option_map string_bytes t ≡ option_map
+            (λ s. span_text s self.now) (copied_range movement.now self.now)) }
     {
         let span = self.copied_range(movement);
         self.copy_span(alloc, span)
@@ -257,7 +316,8 @@ impl LineBuffer {
     /// A text of its own of a part, if there is one.
     fn copy_span(&self, alloc: Global, span: Option<Span>) -> Result<Option<String>, OutOfMemory>
         requires { IfSome span (λ s. IsSpanOf self.now.text s) }
-        ensures text { IfOk result (λ t. option_map string_bytes t ≡ option_map (λ s. span_text s self.now) span) }
+        ensures text { IfOk result (λ t. option_map string_bytes t ≡ option_map
+            (λ s. span_text s self.now) span) }
         ensures some { OnErr result (is_some span ≡ true) }
     {
         let Some(span) = span else {

@@ -13,8 +13,8 @@ impl LineBuffer {
     ghost use Rattle.line_buffer.specs.Replay.{Replays, deletion, insertion, replacement};
     ghost use Rattle.line_buffer.specs.declared.types.Direction.TheVariants.{Forward};
 
-    /// Puts `text` in place of a range, with the cursor after it. The range, in bytes, begins and ends between characters,
-    /// which `as_str().is_char_boundary` tells.
+    /// Puts `text` in place of a range, with the cursor after it. The range, in bytes, begins and
+    /// ends between characters, which `as_str().is_char_boundary` tells.
     pub fn replace<C: ChangeListener>(
         &mut self,
         alloc: Global,
@@ -25,10 +25,13 @@ impl LineBuffer {
         requires order { range.start ≤ range.end }
         requires start { IsCharBoundary self.old.text range.start }
         requires end { IsCharBoundary self.old.text range.end }
-        ensures told { OnOk result (C.takes cl.old (replacement range.start range.end text.now self.old.text) cl.new) }
-        ensures replays { OnOk result (Replays (replacement range.start range.end text.now self.old.text) self.old.text self.new.text) }
+        ensures told { OnOk result (C.takes cl.old (replacement range.start range.end text.now
+            self.old.text) cl.new) }
+        ensures replays { OnOk result (Replays (replacement range.start range.end text.now
+            self.old.text) self.old.text self.new.text) }
         ensures line { OnOk result (self.new ≡ replaced range.start range.end text.now self.old) }
-        ensures refused { OnErr result ((cl.new ≡ cl.old) ⊎ C.refuses cl.old (replacement range.start range.end text.now self.old.text) cl.new) }
+        ensures refused { OnErr result ((cl.new ≡ cl.old) ⊎ C.refuses cl.old
+            (replacement range.start range.end text.now self.old.text) cl.new) }
         ensures kept { OnErr result (self.new ≡ self.old) }
     {
         self.buf.reserve(text.len())?;
@@ -38,8 +41,8 @@ impl LineBuffer {
         Ok(())
     }
 
-    /// Puts `text` at a place, the cursor keeping its own; true where it was put at the end. The cursor's place must lie
-    /// between two characters of the new text.
+    /// Puts `text` at a place, the cursor keeping its own; true where it was put at the end. The
+    /// cursor's place must lie between two characters of the new text.
     pub fn insert_str<C: ChangeListener>(
         &mut self,
         alloc: Global,
@@ -51,9 +54,11 @@ impl LineBuffer {
         requires cursor { IsCharBoundary (insert_slice self.old.text idx text.now) self.old.place }
         ensures answer { IfOk result (λ at_end. at_end ≡ (idx == length self.old.text)) }
         ensures told { OnOk result (C.takes cl.old (insertion idx text.now) cl.new) }
-        ensures replays { OnOk result (Replays (insertion idx text.now) self.old.text self.new.text) }
+        ensures replays { OnOk result (Replays (insertion idx text.now) self.old.text
+            self.new.text) }
         ensures line { OnOk result (self.new ≡ put_in idx text.now self.old) }
-        ensures refused { OnErr result ((cl.new ≡ cl.old) ⊎ C.refuses cl.old (insertion idx text.now) cl.new) }
+        ensures refused { OnErr result ((cl.new ≡ cl.old) ⊎ C.refuses cl.old
+            (insertion idx text.now) cl.new) }
         ensures kept { OnErr result (self.new ≡ self.old) }
     {
         let at_end = idx == self.buf.len();
@@ -63,7 +68,8 @@ impl LineBuffer {
         Ok(at_end)
     }
 
-    /// Takes a range out, with the cursor at its start. The range begins and ends between characters.
+    /// Takes a range out, with the cursor at its start. The range begins and ends between
+    /// characters.
     pub fn delete_range<D: DeleteListener>(
         &mut self,
         alloc: Global,
@@ -73,10 +79,13 @@ impl LineBuffer {
         requires order { range.start ≤ range.end }
         requires start { IsCharBoundary self.old.text range.start }
         requires end { IsCharBoundary self.old.text range.end }
-        ensures told { OnOk result (D.takes dl.old (deletion range.start range.end Forward self.old.text) dl.new) }
-        ensures replays { OnOk result (Replays (deletion range.start range.end Forward self.old.text) self.old.text self.new.text) }
+        ensures told { OnOk result (D.takes dl.old (deletion range.start range.end Forward
+            self.old.text) dl.new) }
+        ensures replays { OnOk result (Replays (deletion range.start range.end Forward
+            self.old.text) self.old.text self.new.text) }
         ensures line { OnOk result (self.new ≡ cut_out range.start range.end self.old) }
-        ensures refused { OnErr result (D.refuses dl.old (deletion range.start range.end Forward self.old.text) dl.new) }
+        ensures refused { OnErr result (D.refuses dl.old
+            (deletion range.start range.end Forward self.old.text) dl.new) }
         ensures kept { OnErr result (self.new ≡ self.old) }
     {
         self.delete_directed(alloc, range, Direction::Forward, dl)
@@ -93,10 +102,13 @@ impl LineBuffer {
         requires order { range.start ≤ range.end }
         requires start { IsCharBoundary self.old.text range.start }
         requires end { IsCharBoundary self.old.text range.end }
-        ensures told { OnOk result (D.takes dl.old (deletion range.start range.end direction self.old.text) dl.new) }
-        ensures replays { OnOk result (Replays (deletion range.start range.end direction self.old.text) self.old.text self.new.text) }
+        ensures told { OnOk result (D.takes dl.old (deletion range.start range.end direction
+            self.old.text) dl.new) }
+        ensures replays { OnOk result (Replays (deletion range.start range.end direction
+            self.old.text) self.old.text self.new.text) }
         ensures line { OnOk result (self.new ≡ cut_out range.start range.end self.old) }
-        ensures refused { OnErr result (D.refuses dl.old (deletion range.start range.end direction self.old.text) dl.new) }
+        ensures refused { OnErr result (D.refuses dl.old
+            (deletion range.start range.end direction self.old.text) dl.new) }
         ensures kept { OnErr result (self.new ≡ self.old) }
     {
         dl.delete(

@@ -45,9 +45,11 @@ impl LineBuffer {
     ) -> Result<(), OutOfMemory>
         requires { IsCharBoundary self.old.text at }
         ensures told { OnOk result (C.takes cl.old (insertion at margin.now) cl.new) }
-        ensures replays { OnOk result (Replays (insertion at margin.now) self.old.text self.new.text) }
+        ensures replays { OnOk result (Replays (insertion at margin.now) self.old.text
+            self.new.text) }
         ensures line { OnOk result (self.new ≡ carried_line (insertion at margin.now) self.old) }
-        ensures refused { OnErr result ((cl.new ≡ cl.old) ⊎ C.refuses cl.old (insertion at margin.now) cl.new) }
+        ensures refused { OnErr result ((cl.new ≡ cl.old) ⊎ C.refuses cl.old
+            (insertion at margin.now) cl.new) }
         ensures kept { OnErr result (self.new ≡ self.old) }
     {
         // Its contract says that the text is UTF-8.
@@ -84,10 +86,14 @@ impl LineBuffer {
         requires order { at ≤ upto }
         requires start { IsCharBoundary self.old.text at }
         requires end { IsCharBoundary self.old.text upto }
-        ensures told { OnOk result (C.takes cl.old (deletion at upto Forward self.old.text) cl.new) }
-        ensures replays { OnOk result (Replays (deletion at upto Forward self.old.text) self.old.text self.new.text) }
-        ensures line { OnOk result (self.new ≡ carried_line (deletion at upto Forward self.old.text) self.old) }
-        ensures refused { OnErr result (C.refuses cl.old (deletion at upto Forward self.old.text) cl.new) }
+        ensures told { OnOk result (C.takes cl.old (deletion at upto Forward self.old.text)
+            cl.new) }
+        ensures replays { OnOk result (Replays (deletion at upto Forward self.old.text)
+            self.old.text self.new.text) }
+        ensures line { OnOk result (self.new ≡ carried_line (deletion at upto Forward self.old.text)
+            self.old) }
+        ensures refused { OnErr result (C.refuses cl.old (deletion at upto Forward self.old.text)
+            cl.new) }
         ensures kept { OnErr result (self.new ≡ self.old) }
     {
         // Its contract says that the text is UTF-8.
@@ -98,7 +104,8 @@ impl LineBuffer {
         Ok(())
     }
 
-    /// Gives the row between two places its margin, or takes one away, and answers where the row ends then.
+    /// Gives the row between two places its margin, or takes one away, and answers where the row
+    /// ends then.
     fn change_row<C: ChangeListener>(
         &mut self,
         alloc: Global,
@@ -110,14 +117,21 @@ impl LineBuffer {
         requires order { row.start ≤ row.end }
         requires start { IsCharBoundary self.old.text row.start }
         requires end { IsCharBoundary self.old.text row.end }
-        ensures answer { IfOk result (λ end. end ≡ row.start + row_len margin.now dedent (slice_range self.old.text row.start row.end)) }
+        ensures answer { IfOk result (λ end. end ≡ row.start + row_len margin.now dedent
+            (slice_range self.old.text row.start row.end)) }
         ensures later { IfOk result (λ end. row.start ≤ end) }
         ensures bound { IfOk result (λ end. end ≤ length self.new.text) }
         ensures rest { IfOk result (λ end. drop end self.new.text ≡ drop row.end self.old.text) }
-        ensures told { OnOk result (C.takes cl.old (row_event margin.now dedent row.start (slice_range self.old.text row.start row.end)) cl.new) }
-        ensures replays { OnOk result (Replays (row_event margin.now dedent row.start (slice_range self.old.text row.start row.end)) self.old.text self.new.text) }
-        ensures line { OnOk result (self.new ≡ carried_line (row_event margin.now dedent row.start (slice_range self.old.text row.start row.end)) self.old) }
-        ensures refused { OnErr result ((cl.new ≡ cl.old) ⊎ C.refuses cl.old (row_event margin.now dedent row.start (slice_range self.old.text row.start row.end)) cl.new) }
+        ensures told { OnOk result (C.takes cl.old (row_event margin.now dedent row.start
+            (slice_range self.old.text row.start row.end)) cl.new) }
+        ensures replays { OnOk result (Replays (row_event margin.now dedent row.start
+            (slice_range self.old.text row.start row.end)) self.old.text self.new.text) }
+        ensures line { OnOk result (self.new ≡ carried_line
+            (row_event margin.now dedent row.start (slice_range self.old.text row.start row.end))
+            self.old) }
+        ensures refused { OnErr result ((cl.new ≡ cl.old) ⊎ C.refuses cl.old
+            (row_event margin.now dedent row.start (slice_range self.old.text row.start row.end))
+            cl.new) }
         ensures kept { OnErr result (self.new ≡ self.old) }
     {
         // Its contract says that the length fits.
@@ -138,7 +152,8 @@ impl LineBuffer {
         requires order { row.now.start ≤ row.now.end }
         requires start { IsCharBoundary self.now.text row.now.start }
         requires end { IsCharBoundary self.now.text row.now.end }
-        ensures value { slice_range self.now.text row.now.start (row.now.start + result) ≡ leading count (slice_range self.now.text row.now.start row.now.end) }
+        ensures value { slice_range self.now.text row.now.start (row.now.start + result) ≡ leading
+            count (slice_range self.now.text row.now.start row.now.end) }
         ensures boundary { IsCharBoundary self.now.text (row.now.start + result) }
         ensures bound { row.now.start + result ≤ row.now.end }
     {
@@ -170,9 +185,16 @@ impl LineBuffer {
         requires order { rows.start ≤ rows.end }
         requires start { IsCharBoundary self.old.text rows.start }
         requires end { IsCharBoundary self.old.text rows.end }
-        ensures told { OnOk result (Reports C.takes (row_events margin.now dedent rows.start (rows_of (slice_range self.old.text rows.start rows.end))) cl.old cl.new self.old.text self.new.text) }
-        ensures line { OnOk result (self.new ≡ carried_all (row_events margin.now dedent rows.start (rows_of (slice_range self.old.text rows.start rows.end))) self.old) }
-        ensures stopped { OnErr result (StopsAmong C.takes C.refuses [] (row_events margin.now dedent rows.start (rows_of (slice_range self.old.text rows.start rows.end))) cl.old cl.new self.old.text self.new.text) }
+        ensures told { OnOk result (Reports C.takes (row_events margin.now dedent rows.start
+            (rows_of (slice_range self.old.text rows.start rows.end))) cl.old cl.new self.old.text
+            self.new.text) }
+        ensures line { OnOk result (self.new ≡ carried_all
+            (row_events margin.now dedent rows.start
+            (rows_of (slice_range self.old.text rows.start rows.end))) self.old) }
+        ensures stopped { OnErr result (StopsAmong C.takes C.refuses []
+            (row_events margin.now dedent rows.start
+            (rows_of (slice_range self.old.text rows.start rows.end))) cl.old cl.new self.old.text
+            self.new.text) }
         ensures settings { SameSettings self.old self.new }
     {
         let mut at = rows.start;
@@ -239,9 +261,9 @@ impl LineBuffer {
         }
     }
 
-    /// Gives each row that a movement covers `amount` spaces at its start, or takes away at most as much whitespace; by a
-    /// movement within a row, or one that finds nothing, the cursor's row alone. The cursor stays before the text that
-    /// follows on it. Always true.
+    /// Gives each row that a movement covers `amount` spaces at its start, or takes away at most as
+    /// much whitespace; by a movement within a row, or one that finds nothing, the cursor's row
+    /// alone. The cursor stays before the text that follows on it. Always true.
     pub fn indent<C: ChangeListener>(
         &mut self,
         alloc: Global,
@@ -251,9 +273,12 @@ impl LineBuffer {
         cl: &mut C,
     ) -> Result<bool, OutOfMemory>
         ensures answer { IfOk result (λ b. b ≡ true) }
-        ensures told { OnOk result (Reports C.takes (indent_events movement.now amount dedent self.old) cl.old cl.new self.old.text self.new.text) }
+        ensures told { OnOk result (Reports C.takes (indent_events movement.now amount dedent
+            self.old) cl.old cl.new self.old.text self.new.text) }
         ensures line { OnOk result (self.new ≡ indent_line movement.now amount dedent self.old) }
-        ensures stopped { OnErr result (StopsAmong C.takes C.refuses [] (indent_events movement.now amount dedent self.old) cl.old cl.new self.old.text self.new.text) }
+        ensures stopped { OnErr result (StopsAmong C.takes C.refuses []
+            (indent_events movement.now amount dedent self.old) cl.old cl.new self.old.text
+            self.new.text) }
         ensures settings { SameSettings self.old self.new }
     {
         let (from, upto) = self.rows_covered(movement);

@@ -57,7 +57,8 @@ impl LineBuffer {
     fn kept<'t>(&self, text: &'t str) -> &'t str
         ensures value { result.now ≡ kept_text text.now self.now }
         ensures utf8 { IsUtf8 result.now }
-        ensures cursor { (pos : ℕ) → IsCharBoundary text.now pos → IsCharBoundary result.now (min pos (length result.now)) }
+        ensures cursor { (pos : ℕ) → IsCharBoundary text.now pos → IsCharBoundary result.now
+            (min pos (length result.now)) }
     {
         if self.can_growth || text.len() <= self.limit {
             return text;
@@ -71,10 +72,13 @@ impl LineBuffer {
         alloc: Global,
         dl: &mut D,
     ) -> Result<(), OutOfMemory>
-        ensures told { OnOk result (D.takes dl.old (deletion 0 (length self.old.text) Forward self.old.text) dl.new) }
-        ensures replays { OnOk result (Replays (deletion 0 (length self.old.text) Forward self.old.text) self.old.text self.new.text) }
+        ensures told { OnOk result (D.takes dl.old (deletion 0 (length self.old.text) Forward
+            self.old.text) dl.new) }
+        ensures replays { OnOk result (Replays (deletion 0 (length self.old.text) Forward
+            self.old.text) self.old.text self.new.text) }
         ensures line { OnOk result (self.new ≡ record self.old { text = []; place = 0 }) }
-        ensures refused { OnErr result (D.refuses dl.old (deletion 0 (length self.old.text) Forward self.old.text) dl.new) }
+        ensures refused { OnErr result (D.refuses dl.old
+            (deletion 0 (length self.old.text) Forward self.old.text) dl.new) }
         ensures kept { OnErr result (self.new ≡ self.old) }
     {
         // Its contract says that the text is UTF-8.
@@ -92,18 +96,21 @@ impl LineBuffer {
     ) -> Result<(), OutOfMemory>
         requires count { count ≤ self.old.place }
         requires start { IsCharBoundary self.old.text (self.old.place - count) }
-        ensures told { OnOk result (D.takes dl.old (deletion (self.old.place - count) self.old.place Forward self.old.text) dl.new) }
-        ensures replays { OnOk result (Replays (deletion (self.old.place - count) self.old.place Forward self.old.text) self.old.text self.new.text) }
+        ensures told { OnOk result (D.takes dl.old (deletion (self.old.place - count) self.old.place
+            Forward self.old.text) dl.new) }
+        ensures replays { OnOk result (Replays (deletion (self.old.place - count) self.old.place
+            Forward self.old.text) self.old.text self.new.text) }
         ensures line { OnOk result (self.new ≡ without_before count self.old) }
-        ensures refused { OnErr result (D.refuses dl.old (deletion (self.old.place - count) self.old.place Forward self.old.text) dl.new) }
+        ensures refused { OnErr result (D.refuses dl.old
+            (deletion (self.old.place - count) self.old.place Forward self.old.text) dl.new) }
         ensures kept { OnErr result (self.new ≡ self.old) }
     {
         let end = self.pos();
         self.delete_range(alloc, end - count..end, dl)
     }
 
-    /// Exchanges the whole text, with the cursor at `pos` of the new one. Without leave to grow the longest beginning
-    /// that fits into the limit is kept, with the cursor at most at its end.
+    /// Exchanges the whole text, with the cursor at `pos` of the new one. Without leave to grow the
+    /// longest beginning that fits into the limit is kept, with the cursor at most at its end.
     pub fn update<C: ChangeListener>(
         &mut self,
         alloc: Global,
@@ -112,9 +119,11 @@ impl LineBuffer {
         cl: &mut C,
     ) -> Result<(), OutOfMemory>
         requires { IsCharBoundary text.now pos }
-        ensures told { OnOk result (Reports C.takes (update_events text.now self.old) cl.old cl.new self.old.text self.new.text) }
+        ensures told { OnOk result (Reports C.takes (update_events text.now self.old) cl.old cl.new
+            self.old.text self.new.text) }
         ensures line { OnOk result (self.new ≡ update_line text.now pos self.old) }
-        ensures stopped { OnErr result (StopsAmong C.takes C.refuses [] (update_events text.now self.old) cl.old cl.new self.old.text self.new.text) }
+        ensures stopped { OnErr result (StopsAmong C.takes C.refuses []
+            (update_events text.now self.old) cl.old cl.new self.old.text self.new.text) }
         ensures settings { SameSettings self.old self.new }
     {
         let kept = self.kept(text);
@@ -133,9 +142,11 @@ impl LineBuffer {
     ) -> Result<bool, OutOfMemory>
         ensures answer { IfOk result (λ at_end. at_end ≡ (self.old.place == length self.old.text)) }
         ensures told { OnOk result (C.takes cl.old (insertion self.old.place text.now) cl.new) }
-        ensures replays { OnOk result (Replays (insertion self.old.place text.now) self.old.text self.new.text) }
+        ensures replays { OnOk result (Replays (insertion self.old.place text.now) self.old.text
+            self.new.text) }
         ensures line { OnOk result (self.new ≡ put_at_cursor text.now self.old) }
-        ensures refused { OnErr result ((cl.new ≡ cl.old) ⊎ C.refuses cl.old (insertion self.old.place text.now) cl.new) }
+        ensures refused { OnErr result ((cl.new ≡ cl.old) ⊎ C.refuses cl.old
+            (insertion self.old.place text.now) cl.new) }
         ensures kept { OnErr result (self.new ≡ self.old) }
     {
         // Its contract says that the text is UTF-8.
@@ -156,9 +167,11 @@ impl LineBuffer {
         cl: &mut C,
     ) -> Result<(), OutOfMemory>
         ensures told { OnOk result (C.takes cl.old (InsertChar self.old.place ch) cl.new) }
-        ensures replays { OnOk result (Replays (InsertChar self.old.place ch) self.old.text self.new.text) }
+        ensures replays { OnOk result (Replays (InsertChar self.old.place ch) self.old.text
+            self.new.text) }
         ensures line { OnOk result (self.new ≡ put_at_cursor (encode_utf8 ch) self.old) }
-        ensures refused { OnErr result ((cl.new ≡ cl.old) ⊎ C.refuses cl.old (InsertChar self.old.place ch) cl.new) }
+        ensures refused { OnErr result ((cl.new ≡ cl.old) ⊎ C.refuses cl.old
+            (InsertChar self.old.place ch) cl.new) }
         ensures kept { OnErr result (self.new ≡ self.old) }
     {
         self.buf.reserve(ch.len_utf8())?;
@@ -175,10 +188,16 @@ impl LineBuffer {
         text: &str,
         cl: &mut C,
     ) -> Result<Option<bool>, OutOfMemory>
-        ensures answer { IfOk result (λ a. a ≡ (insertion_by (insertion self.old.place text.now) text.now self.old).answer) }
-        ensures told { OnOk result (Reports C.takes (insertion_by (insertion self.old.place text.now) text.now self.old).events cl.old cl.new self.old.text self.new.text) }
-        ensures line { OnOk result (self.new ≡ (insertion_by (insertion self.old.place text.now) text.now self.old).line) }
-        ensures stopped { OnErr result (StopsAmong C.takes C.refuses [] (insertion_by (insertion self.old.place text.now) text.now self.old).events cl.old cl.new self.old.text self.new.text) }
+        ensures answer { IfOk result (λ a. a ≡ (insertion_by (insertion self.old.place text.now)
+            text.now self.old).answer) }
+        ensures told { OnOk result (Reports C.takes (insertion_by
+            (insertion self.old.place text.now) text.now self.old).events cl.old cl.new
+            self.old.text self.new.text) }
+        ensures line { OnOk result (self.new ≡ (insertion_by (insertion self.old.place text.now)
+            text.now self.old).line) }
+        ensures stopped { OnErr result (StopsAmong C.takes C.refuses []
+            (insertion_by (insertion self.old.place text.now) text.now self.old).events cl.old
+            cl.new self.old.text self.new.text) }
         ensures kept { OnErr result (self.new ≡ self.old) }
     {
         if !self.has_room(text.len()) {
@@ -197,9 +216,11 @@ impl LineBuffer {
         cl: &mut C,
     ) -> Result<Option<bool>, OutOfMemory>
         ensures answer { IfOk result (λ a. a ≡ (insertion_of text.now n self.old).answer) }
-        ensures told { OnOk result (Reports C.takes (insertion_of text.now n self.old).events cl.old cl.new self.old.text self.new.text) }
+        ensures told { OnOk result (Reports C.takes (insertion_of text.now n self.old).events cl.old
+            cl.new self.old.text self.new.text) }
         ensures line { OnOk result (self.new ≡ (insertion_of text.now n self.old).line) }
-        ensures stopped { OnErr result (StopsAmong C.takes C.refuses [] (insertion_of text.now n self.old).events cl.old cl.new self.old.text self.new.text) }
+        ensures stopped { OnErr result (StopsAmong C.takes C.refuses []
+            (insertion_of text.now n self.old).events cl.old cl.new self.old.text self.new.text) }
         ensures kept { OnErr result (self.new ≡ self.old) }
     {
         if n == 1 {
@@ -214,8 +235,8 @@ impl LineBuffer {
         self.insert_where_room(alloc, added.as_str(), cl)
     }
 
-    /// Puts n copies of a character in at the cursor, which takes the place behind them: whether that was at the text's
-    /// end, or `None` where the line has no leave to grow as far.
+    /// Puts n copies of a character in at the cursor, which takes the place behind them: whether
+    /// that was at the text's end, or `None` where the line has no leave to grow as far.
     pub fn insert<C: ChangeListener>(
         &mut self,
         alloc: Global,
@@ -224,9 +245,11 @@ impl LineBuffer {
         cl: &mut C,
     ) -> Result<Option<bool>, OutOfMemory>
         ensures answer { IfOk result (λ a. a ≡ (insert ch n self.old).answer) }
-        ensures told { OnOk result (Reports C.takes (insert ch n self.old).events cl.old cl.new self.old.text self.new.text) }
+        ensures told { OnOk result (Reports C.takes (insert ch n self.old).events cl.old cl.new
+            self.old.text self.new.text) }
         ensures line { OnOk result (self.new ≡ (insert ch n self.old).line) }
-        ensures stopped { OnErr result (StopsAmong C.takes C.refuses [] (insert ch n self.old).events cl.old cl.new self.old.text self.new.text) }
+        ensures stopped { OnErr result (StopsAmong C.takes C.refuses []
+            (insert ch n self.old).events cl.old cl.new self.old.text self.new.text) }
         ensures kept { OnErr result (self.new ≡ self.old) }
     {
         if n != 1 {
@@ -241,8 +264,9 @@ impl LineBuffer {
         Ok(Some(at_end))
     }
 
-    /// Puts n copies of a text in at the cursor, which takes the place behind them: whether that was at the text's end, or
-    /// `None` where the text is empty or the line has no leave to grow as far.
+    /// Puts n copies of a text in at the cursor, which takes the place behind them: whether that
+    /// was at the text's end, or `None` where the text is empty or the line has no leave to grow as
+    /// far.
     pub fn yank<C: ChangeListener>(
         &mut self,
         alloc: Global,
@@ -251,9 +275,11 @@ impl LineBuffer {
         cl: &mut C,
     ) -> Result<Option<bool>, OutOfMemory>
         ensures answer { IfOk result (λ a. a ≡ (yank text.now n self.old).answer) }
-        ensures told { OnOk result (Reports C.takes (yank text.now n self.old).events cl.old cl.new self.old.text self.new.text) }
+        ensures told { OnOk result (Reports C.takes (yank text.now n self.old).events cl.old cl.new
+            self.old.text self.new.text) }
         ensures line { OnOk result (self.new ≡ (yank text.now n self.old).line) }
-        ensures stopped { OnErr result (StopsAmong C.takes C.refuses [] (yank text.now n self.old).events cl.old cl.new self.old.text self.new.text) }
+        ensures stopped { OnErr result (StopsAmong C.takes C.refuses []
+            (yank text.now n self.old).events cl.old cl.new self.old.text self.new.text) }
         ensures kept { OnErr result (self.new ≡ self.old) }
     {
         if text.is_empty() {
@@ -262,7 +288,8 @@ impl LineBuffer {
         self.insert_copies(alloc, text, n, cl)
     }
 
-    /// Whether `count` bytes stand before the cursor, the first of which begins a character: what `yank_pop` asks for.
+    /// Whether `count` bytes stand before the cursor, the first of which begins a character: what
+    /// `yank_pop` asks for.
     pub fn can_take_before(&self, count: usize) -> bool
         ensures value { result ≡ can_take_before count self.now }
         ensures size { result ≡ true → count ≤ self.now.place }
@@ -272,7 +299,8 @@ impl LineBuffer {
         count <= place && self.as_str().is_char_boundary(place - count)
     }
 
-    /// `yank` of one text in place of the `yank_size` bytes before the cursor; `None` where only these are taken.
+    /// `yank` of one text in place of the `yank_size` bytes before the cursor; `None` where only
+    /// these are taken.
     pub fn yank_pop<C: ChangeListener>(
         &mut self,
         alloc: Global,
@@ -283,9 +311,12 @@ impl LineBuffer {
         requires size { yank_size ≤ self.old.place }
         requires start { IsCharBoundary self.old.text (self.old.place - yank_size) }
         ensures answer { IfOk result (λ a. a ≡ (yank_pop yank_size text.now self.old).answer) }
-        ensures told { OnOk result (Reports C.takes (yank_pop yank_size text.now self.old).events cl.old cl.new self.old.text self.new.text) }
+        ensures told { OnOk result (Reports C.takes (yank_pop yank_size text.now self.old).events
+            cl.old cl.new self.old.text self.new.text) }
         ensures line { OnOk result (self.new ≡ (yank_pop yank_size text.now self.old).line) }
-        ensures stopped { OnErr result (StopsAmong C.takes C.refuses [] (yank_pop yank_size text.now self.old).events cl.old cl.new self.old.text self.new.text) }
+        ensures stopped { OnErr result (StopsAmong C.takes C.refuses []
+            (yank_pop yank_size text.now self.old).events cl.old cl.new
+            self.old.text self.new.text) }
         ensures settings { SameSettings self.old self.new }
     {
         self.delete_before(alloc, yank_size, cl)?;

@@ -125,7 +125,15 @@ pub struct Layout {
 impl Layout {
     /// The layout before anything is drawn.
     pub fn new(grapheme_cluster_mode: GraphemeClusterMode) -> Self
-        ensures { result ≡ record { grapheme_cluster_mode = grapheme_cluster_mode; prompt_size = origin; default_prompt = false; cursor = origin; end = origin; has_info = false } }
+        ensures { result ≡ record {
+          grapheme_cluster_mode = grapheme_cluster_mode;
+          prompt_size
+              = origin;
+          default_prompt = false;
+          cursor = origin;
+          end = origin;
+          has_info = false;
+        } }
     {
         let origin = Position { col: 0, row: 0 };
         Layout {

@@ -15,7 +15,8 @@ use unicode_segmentation::UnicodeSegmentation;
 
 /// The place of the first cluster of a word.
 fn first_alphanumeric(text: &str) -> Option<usize>
-    ensures value { result ≡ option_map (λ x. x.0) (find (λ x. Words.is_alphanumeric_cluster x.1) (clusters text.now)) }
+    ensures value { result ≡ option_map (λ x. x.0) (find (λ x. Words.is_alphanumeric_cluster x.1)
+        (clusters text.now)) }
     ensures boundary { IfSome result (λ i. IsCharBoundary text.now i) }
 {
     for (i, cluster) in text.grapheme_indices(true) {
@@ -90,8 +91,9 @@ impl LineBuffer {
         Some((start, end))
     }
 
-    /// Puts the letters of the word at the cursor or after it into another case, those of ASCII alone, with the cursor
-    /// behind the word; false where there is none. A capitalized word has its first cluster raised and the rest lowered.
+    /// Puts the letters of the word at the cursor or after it into another case, those of ASCII
+    /// alone, with the cursor behind the word; false where there is none. A capitalized word has
+    /// its first cluster raised and the rest lowered.
     pub fn edit_word<C: ChangeListener>(
         &mut self,
         alloc: Global,
@@ -99,9 +101,11 @@ impl LineBuffer {
         cl: &mut C,
     ) -> Result<bool, OutOfMemory>
         ensures answer { IfOk result (λ b. b ≡ is_some (word_to_edit self.old)) }
-        ensures told { OnOk result (Reports C.takes (edit_word_events action self.old) cl.old cl.new self.old.text self.new.text) }
+        ensures told { OnOk result (Reports C.takes (edit_word_events action self.old) cl.old cl.new
+            self.old.text self.new.text) }
         ensures line { OnOk result (self.new ≡ edit_word_line action self.old) }
-        ensures stopped { OnErr result (StopsAmong C.takes C.refuses [] (edit_word_events action self.old) cl.old cl.new self.old.text self.new.text) }
+        ensures stopped { OnErr result (StopsAmong C.takes C.refuses []
+            (edit_word_events action self.old) cl.old cl.new self.old.text self.new.text) }
         ensures kept { OnErr result (self.new ≡ self.old) }
     {
         let Some((start, end)) = self.word_to_edit() else {

@@ -1,5 +1,5 @@
-//! The text of a line that is being edited, with the place of its cursor: motions, edits, and the events by which a
-//! listener follows each change.
+//! The text of a line that is being edited, with the place of its cursor: motions, edits, and the
+//! events by which a listener follows each change.
 #![tactic(auto)]
 
 mod columns;

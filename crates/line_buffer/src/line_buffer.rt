@@ -52,7 +52,12 @@ impl Model for LineBuffer {
 
     ghost Value = { Line };
 
-    ghost view = { λ b. record { text = string_bytes b.buf; place = b.pos; growth = b.can_growth; limit = b.limit } };
+    ghost view = { λ b. record {
+      text = string_bytes b.buf;
+      place = b.pos;
+      growth = b.can_growth;
+      limit = b.limit;
+    } };
 
     ghost invariant = { λ b. IsCharBoundary (string_bytes b.buf) b.pos };
 }
@@ -69,9 +74,16 @@ impl LineBuffer {
     ghost use Rattle.std.specs.Prelude.{◌≡◌, ◌==◌, ◌<◌, ◌^◌, not, [], length, true, false, IfOk, IsUtf8, IsCharBoundary, string_bytes};
     ghost use Rattle.line_buffer.specs.Line.{Line};
 
-    /// An empty line with room for `capacity` bytes, which may not grow past that until `can_growth` lets it.
+    /// An empty line with room for `capacity` bytes, which may not grow past that until
+    /// `can_growth` lets it.
     pub fn with_capacity(alloc: Global, capacity: usize) -> Result<Self, OutOfMemory>
-        ensures { IfOk result (λ l. l ≡ record { text = []; place = 0; growth = false; limit = capacity }) }
+        ensures { IfOk result (λ l. l ≡ record {
+          text = [];
+          place = 0;
+          growth = false;
+          limit
+              = capacity;
+        }) }
     {
         let buf = String::with_capacity(alloc, capacity)?;
         Ok(LineBuffer {
@@ -137,7 +149,8 @@ impl LineBuffer {
         self.pos == self.buf.len()
     }
 
-    /// Puts the cursor at a place between two characters, which `as_str().is_char_boundary(pos)` tells.
+    /// Puts the cursor at a place between two characters, which `as_str().is_char_boundary(pos)`
+    /// tells.
     pub fn set_pos(&mut self, pos: usize)
         requires { IsCharBoundary self.old.text pos }
         ensures { self.new ≡ record self.old { place = pos } }

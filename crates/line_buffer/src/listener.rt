@@ -6,7 +6,8 @@ use std::alloc::Global;
 
 /// Told of each deletion, and of when a run of deletions is a kill.
 ///
-/// `takes` says what an event makes of the listener, and `refuses` what is left of it where it refuses one.
+/// `takes` says what an event makes of the listener, and `refuses` what is left of it where it
+/// refuses one.
 pub trait DeleteListener {
     ghost use Rattle.std.specs.Prelude.{OnOk, OnErr};
     ghost use Rattle.line_buffer.specs.Event.{Event};
@@ -59,8 +60,10 @@ pub trait ChangeListener: DeleteListener {
         removed: &str,
         added: &str,
     ) -> Result<(), OutOfMemory>
-        ensures ok { OnOk result (Self.takes self.old (Replace idx removed.now added.now) self.new) }
-        ensures err { OnErr result (Self.refuses self.old (Replace idx removed.now added.now) self.new) };
+        ensures ok { OnOk result (Self.takes self.old (Replace idx removed.now added.now)
+            self.new) }
+        ensures err { OnErr result (Self.refuses self.old (Replace idx removed.now added.now)
+            self.new) };
 }
 
 /// Listens to nothing, and never refuses.

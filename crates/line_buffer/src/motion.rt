@@ -1,7 +1,7 @@
 //! Motions by grapheme clusters, and to the ends of a row.
 //!
-//! Clusters are the extended grapheme clusters of UAX #29, and places are in bytes. The text before the cursor and the text
-//! after it are cut into clusters each by itself. Rows end at newlines.
+//! Clusters are the extended grapheme clusters of UAX #29, and places are in bytes. The text before
+//! the cursor and the text after it are cut into clusters each by itself. Rows end at newlines.
 
 ghost use Rattle.std.specs.Prelude.{◌≡◌, ◌+◌, ◌<◌, ◌≤◌, ◌==◌, length, reverse, take, not, is_some, chars, IfSome, None, option_map, IsCharBoundary};
 ghost use Rattle.std.specs.List.{last_or, list_all, prefix_len, suffix_len};
@@ -16,7 +16,8 @@ use unicode_segmentation::UnicodeSegmentation;
 
 /// The n-th cluster, or the last where fewer stand, with its place.
 pub(crate) fn nth_cluster(text: &str, n: RepeatCount) -> Option<(usize, &str)>
-    ensures value { option_map (λ p. (p.0, p.1.now)) result ≡ last_or None (take n (clusters text.now)) }
+    ensures value { option_map (λ p. (p.0, p.1.now)) result ≡ last_or None
+        (take n (clusters text.now)) }
     ensures part { IfSome result (λ p. IsPart text.now p.0 (length p.1.now)) }
 {
     text.grapheme_indices(true).take(usize::from(n)).last()
@@ -24,7 +25,8 @@ pub(crate) fn nth_cluster(text: &str, n: RepeatCount) -> Option<(usize, &str)>
 
 /// The n-th cluster from the end, or the first where fewer stand, with its place.
 pub(crate) fn nth_cluster_back(text: &str, n: RepeatCount) -> Option<(usize, &str)>
-    ensures value { option_map (λ p. (p.0, p.1.now)) result ≡ last_or None (take n (reverse (clusters text.now))) }
+    ensures value { option_map (λ p. (p.0, p.1.now)) result ≡ last_or None
+        (take n (reverse (clusters text.now))) }
     ensures part { IfSome result (λ p. IsPart text.now p.0 (length p.1.now)) }
 {
     text.grapheme_indices(true)
@@ -132,7 +134,9 @@ impl LineBuffer {
     /// Moves the cursor to the start of its row; false where it stands there.
     pub fn move_home(&mut self) -> bool
         ensures answer { result ≡ not (row_start self.old.text self.old.place == self.old.place) }
-        ensures line { self.new ≡ record self.old { place = row_start self.old.text self.old.place } }
+        ensures line { self.new ≡ record self.old {
+          place = row_start self.old.text self.old.place;
+        } }
     {
         let start = self.row_start();
         let moves = start != self.pos;

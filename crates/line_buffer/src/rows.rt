@@ -1,4 +1,5 @@
-//! The rows of a text, which end at newlines: where they start and end, and the ranges of rows above and below the cursor's.
+//! The rows of a text, which end at newlines: where they start and end, and the ranges of rows
+//! above and below the cursor's.
 
 ghost use Rattle.std.specs.Prelude.{◌≡◌, ◌+◌, ◌<◌, ◌≤◌, length, reverse, drop, IfSome, IsCharBoundary};
 ghost use Rattle.line_buffer.specs.Clusters.{nth_or_last};

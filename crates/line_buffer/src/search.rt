@@ -80,7 +80,8 @@ impl LineBuffer {
     /// The place of the character that a search finds.
     pub(crate) fn search_hit(&self, search: CharSearch, n: RepeatCount) -> Option<usize>
         ensures value { result ≡ Hits.hit search n self.now }
-        ensures part { IfSome result (λ i. IsPart self.now.text i (length (encode_utf8 (Hits.searched_char search)))) }
+        ensures part { IfSome result (λ i. IsPart self.now.text i
+            (length (encode_utf8 (Hits.searched_char search)))) }
     {
         match search {
             CharSearch::Forward(c) | CharSearch::ForwardBefore(c) => self.hit_forward(c, n),
@@ -123,7 +124,8 @@ impl LineBuffer {
         }
     }
 
-    /// Moves the cursor to the n-th place of a character, or to the last where fewer stand; false where there is none.
+    /// Moves the cursor to the n-th place of a character, or to the last where fewer stand; false
+    /// where there is none.
     pub fn move_to(&mut self, search: CharSearch, n: RepeatCount) -> bool
         ensures answer { result ≡ is_some (Hits.search_place search n self.old) }
         ensures line { self.new ≡ moved_to (Hits.search_place search n self.old) self.old }

@@ -6,8 +6,9 @@ ghost use Rattle.line_buffer.specs.Short.{is_printable, behind_typed, before_kil
 
 use crate::layout::{Position, Unit};
 
-/// Where the cursor stands behind a character that is typed at the end of a line, if writing its byte
-/// shows it: a printable character of ASCII that doesn't fill its row. `None` asks for a full drawing.
+/// Where the cursor stands behind a character that is typed at the end of a line, if writing its
+/// byte shows it: a printable character of ASCII that doesn't fill its row. `None` asks for a full
+/// drawing.
 ///
 /// A character of any other kind may join the cluster before it, also one that is a column wide.
 pub fn short_insertion(end: Position, c: char, columns: Unit) -> Option<Position>
@@ -23,8 +24,8 @@ pub fn short_insertion(end: Position, c: char, columns: Unit) -> Option<Position
     }
 }
 
-/// Where the cursor stands once `killed` is gone from the end of a line, if erasing the row from there
-/// takes it away: printable ASCII that stands in one row. `None` asks for a full drawing.
+/// Where the cursor stands once `killed` is gone from the end of a line, if erasing the row from
+/// there takes it away: printable ASCII that stands in one row. `None` asks for a full drawing.
 pub fn short_kill(end: Position, killed: &str) -> Option<Position>
     ensures { result ≡ before_killed killed.now end }
 {

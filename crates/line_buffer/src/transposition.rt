@@ -54,7 +54,8 @@ impl LineBuffer {
         before.saturating_add(after) > 1
     }
 
-    /// Where the two clusters at the cursor start, meet and end; at the text's end those are the last two.
+    /// Where the two clusters at the cursor start, meet and end; at the text's end those are the
+    /// last two.
     fn clusters_at_cursor(&mut self) -> (usize, usize, usize)
         ensures value { result ≡ clusters_at (between_clusters self.old) }
         ensures line { self.new ≡ self.old }
@@ -75,17 +76,20 @@ impl LineBuffer {
         (from, middle, upto)
     }
 
-    /// Puts the cluster at the cursor, at the text's end the last one, before the cluster before it, and the cursor behind
-    /// both. False at the text's start, and where there aren't two clusters; a cursor inside a cluster parts it in two.
+    /// Puts the cluster at the cursor, at the text's end the last one, before the cluster before
+    /// it, and the cursor behind both. False at the text's start, and where there aren't two
+    /// clusters; a cursor inside a cluster parts it in two.
     pub fn transpose_chars<C: ChangeListener>(
         &mut self,
         alloc: Global,
         cl: &mut C,
     ) -> Result<bool, OutOfMemory>
         ensures answer { IfOk result (λ b. b ≡ transposes_chars self.old) }
-        ensures told { OnOk result (Reports C.takes (transpose_chars_events self.old) cl.old cl.new self.old.text self.new.text) }
+        ensures told { OnOk result (Reports C.takes (transpose_chars_events self.old) cl.old cl.new
+            self.old.text self.new.text) }
         ensures line { OnOk result (self.new ≡ transpose_chars_line self.old) }
-        ensures stopped { OnErr result (StopsAmong C.takes C.refuses [] (transpose_chars_events self.old) cl.old cl.new self.old.text self.new.text) }
+        ensures stopped { OnErr result (StopsAmong C.takes C.refuses []
+            (transpose_chars_events self.old) cl.old cl.new self.old.text self.new.text) }
         ensures kept { OnErr result (self.new ≡ self.old) }
         ensures length { length self.new.text ≡ length self.old.text }
     {
@@ -115,7 +119,8 @@ impl LineBuffer {
         found
     }
 
-    /// Moves the cursor to the n-th earlier start of a word, where there is one, and answers its place.
+    /// Moves the cursor to the n-th earlier start of a word, where there is one, and answers its
+    /// place.
     #[tactic(auto, unfolding(crate::specs::Transpositions::before_words))]
     fn back_by_words(&mut self, n: RepeatCount) -> usize
         ensures value { result ≡ (before_words n self.old).place }
@@ -145,9 +150,29 @@ impl LineBuffer {
         requires first_end { IsCharBoundary self.old.text first.end }
         requires second_start { IsCharBoundary self.old.text second.start }
         requires second_end { IsCharBoundary self.old.text second.end }
-        ensures told { OnOk result (Reports C.takes (swap_events (record { first_start = first.start; first_end = first.end; second_start = second.start; second_end = second.end }) self.old.text) cl.old cl.new self.old.text self.new.text) }
-        ensures line { OnOk result (self.new ≡ swap_line (record { first_start = first.start; first_end = first.end; second_start = second.start; second_end = second.end }) self.old) }
-        ensures stopped { OnErr result (StopsAmong C.takes C.refuses [] (swap_events (record { first_start = first.start; first_end = first.end; second_start = second.start; second_end = second.end }) self.old.text) cl.old cl.new self.old.text self.new.text) }
+        ensures told { OnOk result (Reports C.takes (swap_events
+            (record {
+              first_start = first.start;
+              first_end = first.end;
+              second_start = second.start;
+              second_end = second.end;
+            }) self.old.text) cl.old cl.new self.old.text self.new.text) }
+        ensures line { OnOk result (self.new ≡ swap_line
+            (record {
+              first_start = first.start;
+              first_end = first.end;
+              second_start = second.start;
+              second_end = second.end;
+            }) self.old) }
+        ensures stopped { OnErr result (StopsAmong C.takes C.refuses []
+            (swap_events (record {
+              first_start = first.start;
+              first_end = first.end;
+              second_start
+                  = second.start;
+              second_end = second.end;
+            }) self.old.text) cl.old cl.new self.old.text
+            self.new.text) }
         ensures settings { SameSettings self.old self.new }
     {
         let earlier = self.copy_part(alloc, first.start, first.end)?;
@@ -161,8 +186,9 @@ impl LineBuffer {
         Ok(())
     }
 
-    /// Exchanges the word at the cursor or after it, the n-th by its end, with the one n words before, and puts the cursor
-    /// behind both. Where these aren't two words, false, and the cursor stays after the earlier one.
+    /// Exchanges the word at the cursor or after it, the n-th by its end, with the one n words
+    /// before, and puts the cursor behind both. Where these aren't two words, false, and the cursor
+    /// stays after the earlier one.
     pub fn transpose_words<C: ChangeListener>(
         &mut self,
         alloc: Global,
@@ -170,9 +196,11 @@ impl LineBuffer {
         cl: &mut C,
     ) -> Result<bool, OutOfMemory>
         ensures answer { IfOk result (λ b. b ≡ transposes_words n self.old) }
-        ensures told { OnOk result (Reports C.takes (transpose_words_events n self.old) cl.old cl.new self.old.text self.new.text) }
+        ensures told { OnOk result (Reports C.takes (transpose_words_events n self.old) cl.old
+            cl.new self.old.text self.new.text) }
         ensures line { OnOk result (self.new ≡ transpose_words_line n self.old) }
-        ensures stopped { OnErr result (StopsAmong C.takes C.refuses [] (transpose_words_events n self.old) cl.old cl.new self.old.text self.new.text) }
+        ensures stopped { OnErr result (StopsAmong C.takes C.refuses []
+            (transpose_words_events n self.old) cl.old cl.new self.old.text self.new.text) }
         ensures settings { SameSettings self.old self.new }
     {
         let second_end = self.on_by_words(n);

@@ -10,7 +10,8 @@ pub enum Word {
     Big,
     /// A run of alphanumeric clusters, as in Emacs and readline.
     Emacs,
-    /// A run of alphanumeric clusters and `_`, or a run of other clusters without whitespace, as in Vi's `w`.
+    /// A run of alphanumeric clusters and `_`, or a run of other clusters without whitespace, as in
+    /// Vi's `w`.
     Vi,
 }
 

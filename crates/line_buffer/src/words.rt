@@ -1,7 +1,7 @@
 //! Motions by words: readline's, and vi's `b`, `w` and `e` with their big forms.
 //!
-//! A word is a run of clusters of one kind. Places are in bytes, and a motion stops at the n-th of the places at which it can
-//! stop, or at the last where fewer stand.
+//! A word is a run of clusters of one kind. Places are in bytes, and a motion stops at the n-th of
+//! the places at which it can stop, or at the last where fewer stand.
 
 ghost use Rattle.std.specs.Prelude.{◌≡◌, ◌-◌, ◌<◌, ◌≤◌, reverse, is_some, slice_get, IfSome, None, IsCharBoundary};
 ghost use Rattle.std.specs.List.{last_or};
@@ -24,7 +24,8 @@ pub enum Kind {
     Other,
 }
 
-/// A character of the words of Emacs and readline: Alphabetic, or a number of some kind (Nd, Nl, No).
+/// A character of the words of Emacs and readline: Alphabetic, or a number of some kind (Nd, Nl,
+/// No).
 pub fn is_alphanumeric(c: char) -> bool
     ensures { result ≡ Segments.is_alphanumeric c }
 {
@@ -88,7 +89,8 @@ fn edge_between(at: At, left: (usize, Kind), right: (usize, Kind)) -> Option<usi
 /// The n-th start of a word, from the text's end back.
 fn nth_start_back(text: &str, word: Word, n: RepeatCount) -> Option<usize>
     requires { 0 < n }
-    ensures { result ≡ slice_get (reverse (Words.starts_of (Words.kinds word (clusters text.now)))) (n - 1) }
+    ensures { result ≡ slice_get (reverse (Words.starts_of (Words.kinds word (clusters text.now))))
+        (n - 1) }
 {
     let mut clusters = text.grapheme_indices(true).rev();
     let Some((end, last)) = clusters.next() else {
@@ -112,7 +114,8 @@ fn nth_start_back(text: &str, word: Word, n: RepeatCount) -> Option<usize>
 /// The n-th place at which such a motion stops inside the clusters.
 fn nth_edge(mut clusters: GraphemeIndices<'_>, at: At, word: Word, n: RepeatCount) -> Option<usize>
     requires { 0 < n }
-    ensures { result ≡ slice_get (Words.edges_of at (Words.kinds word (grapheme_indices_left clusters.entry))) (n - 1) }
+    ensures { result ≡ slice_get (Words.edges_of at
+        (Words.kinds word (grapheme_indices_left clusters.entry))) (n - 1) }
 {
     let Some((start, first)) = clusters.next() else {
         return None;
@@ -217,7 +220,8 @@ impl LineBuffer {
         }
     }
 
-    /// Moves the cursor to the start of the n-th earlier word, or to the text's start; false where it doesn't move.
+    /// Moves the cursor to the start of the n-th earlier word, or to the text's start; false where
+    /// it doesn't move.
     pub fn move_to_prev_word(&mut self, word: Word, n: RepeatCount) -> bool
         ensures answer { result ≡ is_some (Words.prev_word word n self.old) }
         ensures line { self.new ≡ moved_to (Words.prev_word word n self.old) self.old }
@@ -226,7 +230,8 @@ impl LineBuffer {
         self.move_to_found(found)
     }
 
-    /// Moves the cursor to the n-th later word, or as far as the text goes; false where it doesn't move.
+    /// Moves the cursor to the n-th later word, or as far as the text goes; false where it doesn't
+    /// move.
     pub fn move_to_next_word(&mut self, at: At, word: Word, n: RepeatCount) -> bool
         ensures answer { result ≡ is_some (Words.next_word at word n self.old) }
         ensures line { self.new ≡ moved_to (Words.next_word at word n self.old) self.old }

@@ -5,10 +5,12 @@ pub mod DoesLemmas
 pub mod LeadLemmas
 pub mod ReachLemmas
 pub mod RefusedLemmas
+pub mod ReplaysLemmas
 pub mod ReturnLemmas
 pub mod RowLemmas
 mod Rows
 pub mod TurnLemmas
+pub mod UndoAllLemmas
 pub mod UndoLemmas
 pub mod EnactedLemmas
 pub mod CommandedLemmas

@@ -1,26 +1,29 @@
--- Worked lines: each is what the definitions compute.
-use Rattle.std.proofs.Common.{◌≡◌, ℕ, ◌+◌, true, false, List, [], ◌∷◌, ◌++◌, length, None, Some, refl}
-use Rattle.std.specs.Prelude.{codes, Result, Ok, Err, if◌then◌else◌}
-use Rattle.std.specs.List.{flat_map}
+-- Whole lines, computed from their keys: the calls asked of a display whose characters have one column each, and the outcome.
+use Rattle.std.proofs.Common.{◌≡◌, ℕ, ◌+◌, true, false, List, [], ◌∷◌, ◌++◌, length, Some, None, refl}
+use Rattle.std.specs.Fmt.{digits}
+use Rattle.std.specs.Prelude.{codes, Ok, Err, if◌then◌else◌}
 use Rattle.unicode_segmentation.proofs.Computing.{unicode_segmentation}
+use Rattle.line_buffer.specs.Columns.{line_up, line_down}
+use Rattle.line_buffer.specs.RowRanges.{behind_newlines}
 use Rattle.line_buffer.specs.Transpositions.{after_words, before_words}
 use Rattle.line_buffer.specs.Words.{starts_of, ends_of}
 use Rattle.line_buffer.specs.declared.layout.GraphemeClusterMode.TheVariants.{Unicode}
 use Rattle.line_buffer.specs.declared.layout.Position.{Position}
+use Rattle.line_config.specs.declared.errors.ReadlineError.TheVariants.{Eof}
 use Rattle.line_config.specs.declared.settings.EditMode.TheVariants.{Emacs}
 use Rattle.line_keys.specs.Answers.{Custom}
 use Rattle.line_keys.specs.Coming.{Coming, Pressed, Ends, End}
+use Rattle.line_keys.specs.Counts.{counting}
+use Rattle.line_keys.specs.Custom.{followed}
 use Rattle.line_keys.specs.Events.{begins_with, single}
-use Rattle.line_keys.specs.Handling.{Meaning}
 use Rattle.line_keys.specs.Keys.{key_with, none, ctrl, alt}
 use Rattle.line_keys.specs.Phrases.{Input}
 use Rattle.line_keys.specs.SameEvents.{same_event}
-use Rattle.line_keys.specs.declared.command.Cmd.TheVariants.{Noop, HistorySearchBackward}
+use Rattle.line_keys.specs.declared.command.Cmd.TheVariants.{HistorySearchBackward, Noop}
 use Rattle.line_keys.specs.declared.command.InputMode.TheVariants.{Insert as Inserting}
-use Rattle.line_keys.specs.declared.events.Event.{Event}
-use Rattle.line_keys.specs.declared.key.KeyCode.TheVariants.{Char, Left, Enter, Up, Down}
+use Rattle.line_keys.specs.declared.key.KeyCode.TheVariants.{Char, Down, Enter, Left, Up}
 use Rattle.line_keys.specs.declared.key.KeyEvent.{KeyEvent}
-use Rattle.line_record.specs.Ring.{new_ring}
+use Rattle.line_record.specs.Ring.{Ring}
 use Rattle.line_editor.specs.Calls.{Call, Ruler}
 use Rattle.line_editor.specs.Calls.Call.{Draw, Move, Write, Beep}
 use Rattle.line_editor.specs.Courses.{Turn, redraws_in}
@@ -28,12 +31,24 @@ use Rattle.line_editor.specs.Lines.{Told, turn_of, line_from, line_of}
 use Rattle.line_editor.specs.Redraws.{Redraw, asked, fresh}
 use Rattle.line_editor.specs.Values.{Setting}
 
--- printable ASCII in a row of 80 cells
-abbrev row_of_80 : Ruler
-row_of_80 = record { measure = λ text from. record { col = from.col + length text; row = from.row }; columns = 80; colours = false; mode = Unicode }
+-- ---- a display of eighty columns, and lines behind `> `
 
-abbrev setting : List (List ℕ) → Setting
-setting entries = record { prompt = codes "> "; column = 2; mode = Unicode; hints = None; judge = None; marks = None; entries = entries }
+abbrev plain : Ruler
+plain = record {
+  measure = λ text at. record { col = at.col + length text; row = at.row };
+  columns = 80;
+  colours = true;
+  mode = Unicode;
+}
+
+abbrev own : List ℕ
+own = codes "> "
+
+abbrev with_entries : List (List ℕ) → Setting
+with_entries entries = record { prompt = own; column = 2; mode = Unicode; hints = None; judge = None; marks = None; entries = entries }
+
+abbrev typed : ℕ → KeyEvent
+typed c = key_with (Char c) none
 
 abbrev emacs : Input
 emacs = record { mode = Emacs; input_mode = Inserting; last = Noop; search = None }
@@ -41,45 +56,98 @@ emacs = record { mode = Emacs; input_mode = Inserting; last = Noop; search = Non
 abbrev nothing_bound : Custom
 nothing_bound = record { answers = λ e. None; begins = λ keys. false }
 
-abbrev keys : List KeyEvent → Coming
-keys [] = Ends End
-keys (k ∷ ks) = Pressed k (keys ks)
+abbrev all_redraws : List Turn → List Redraw
+all_redraws [] = []
+all_redraws (turn ∷ turns) = redraws_in turn ++ all_redraws turns
 
-abbrev typed : ℕ → KeyEvent
-typed c = key_with (Char c) none
+abbrev calls : Told → List Call
+calls t = (asked plain (fresh Unicode) (all_redraws t.turns)).calls
 
-abbrev told : List (List ℕ) → Custom → List KeyEvent → Told
-told entries custom ks = line_of 9 (setting entries) custom 2 emacs (new_ring 60) (keys ks)
-
-abbrev calls_of : Told → List Call
-calls_of t = (asked row_of_80 (fresh Unicode) (flat_map redraws_in t.turns)).calls
+-- the input ends behind these keys
+abbrev pressed : List KeyEvent → Coming
+pressed [] = Ends End
+pressed (key ∷ more) = Pressed key (pressed more)
 
 abbrev at : ℕ → Position
-at col = record { col = col; row = 0 }
+at column = record { col = column; row = 0 }
 
--- a, Left, Enter
-row_1 : calls_of (told [] nothing_bound (typed 97 ∷ (key_with Left none ∷ (key_with Enter none ∷ [])))) ≡
-    Draw (Some 0) (codes "> ") [] [] (at 2) (at 2) ∷ (Write (codes "a") ∷ (Move (at 3) (at 2) ∷ (Move (at 2) (at 3) ∷ [])))
-unfolding unicode_segmentation line_of line_from turn_of
-row_1 = refl
+-- all drawn, no hint
+abbrev draw : List ℕ → ℕ → ℕ → Call
+draw line finish cursor = Draw (Some 0) own line [] (at finish) (at cursor)
 
-row_1_line : (told [] nothing_bound (typed 97 ∷ (key_with Left none ∷ (key_with Enter none ∷ [])))).outcome ≡ Ok (codes "a")
-unfolding unicode_segmentation line_of line_from turn_of
-row_1_line = refl
+-- whatever the ring holds
+module _ (r : Ring) where
+  abbrev line : List (List ℕ) → Custom → List KeyEvent → Told
+  line entries custom ks = line_of 12 (with_entries entries) custom 2 emacs r (pressed ks)
 
--- words transposed where there is one: the cursor moves
-row_3 : calls_of (told [] nothing_bound (typed 119 ∷ (key_with (Char 65) ctrl ∷ (key_with (Char 116) alt ∷ [])))) ≡
-    Draw (Some 0) (codes "> ") [] [] (at 2) (at 2) ∷ (Write (codes "w") ∷ (Move (at 3) (at 2) ∷ (Draw (Some 0) (codes "> ") (codes "w") [] (at 3) (at 3) ∷ [])))
-unfolding unicode_segmentation starts_of ends_of after_words before_words line_of line_from turn_of
-row_3 = refl
+  -- ---- a typed, left, enter
 
-abbrev searching : Custom
-searching = record {
-  answers = λ e. if same_event (single (key_with (Char 79) ctrl)) e then Some (λ shown. Ok (Some HistorySearchBackward)) else None;
-  begins = λ keys. begins_with keys (single (key_with (Char 79) ctrl));
-}
+  abbrev a_left_enter : Told
+  a_left_enter = line [] nothing_bound (typed 0x61 ∷ key_with Left none ∷ key_with Enter none ∷ [])
 
--- a search of an empty history
-row_4 : calls_of (told [] searching (key_with (Char 79) ctrl ∷ [])) ≡ Draw (Some 0) (codes "> ") [] [] (at 2) (at 2) ∷ (Beep ∷ [])
-unfolding line_of line_from turn_of
-row_4 = refl
+  a_left_enter_calls : calls a_left_enter ≡ draw [] 2 2 ∷ Write (codes "a") ∷ Move (at 3) (at 2) ∷ Move (at 2) (at 3) ∷ []
+  unfolding unicode_segmentation line_of line_from turn_of counting followed
+  a_left_enter_calls = refl
+
+  a_left_enter_outcome : a_left_enter.outcome ≡ Ok (codes "a")
+  unfolding unicode_segmentation line_of line_from turn_of counting followed
+  a_left_enter_outcome = refl
+
+  -- ---- a count of two before x: its prompt, the session's own again, and both characters in one drawing
+
+  abbrev two_x : Told
+  two_x = line [] nothing_bound (key_with (Char 0x32) alt ∷ typed 0x78 ∷ [])
+
+  two_x_calls : calls two_x ≡ draw [] 2 2 ∷ Draw (Some 0) (codes "(arg: 2) ") [] [] (at 9) (at 9) ∷ draw [] 2 2 ∷ draw (codes "xx") 4 4 ∷ []
+  unfolding unicode_segmentation line_of line_from turn_of counting followed digits
+  two_x_calls = refl
+
+  two_x_outcome : two_x.outcome ≡ Err Eof
+  unfolding unicode_segmentation line_of line_from turn_of counting followed digits
+  two_x_outcome = refl
+
+  -- ---- a lone word transposed from its start: the cursor goes behind it, by a whole drawing
+
+  abbrev lone_word : Told
+  lone_word = line [] nothing_bound (typed 0x77 ∷ key_with (Char 0x41) ctrl ∷ key_with (Char 0x74) alt ∷ [])
+
+  lone_word_calls : calls lone_word ≡ draw [] 2 2 ∷ Write (codes "w") ∷ Move (at 3) (at 2) ∷ draw (codes "w") 3 3 ∷ []
+  unfolding unicode_segmentation line_of line_from turn_of counting followed after_words before_words starts_of ends_of
+  lone_word_calls = refl
+
+  -- ---- a key bound to a search, in an empty history
+
+  abbrev ctrl_o : Custom
+  ctrl_o = record {
+    answers = λ e. if same_event (single (key_with (Char 0x4F) ctrl)) e then Some (λ s. Ok (Some HistorySearchBackward)) else None;
+    begins = λ ks. begins_with ks (single (key_with (Char 0x4F) ctrl));
+  }
+
+  search_calls : calls (line [] ctrl_o (key_with (Char 0x4F) ctrl ∷ [])) ≡ draw [] 2 2 ∷ Beep ∷ []
+  unfolding unicode_segmentation line_of line_from turn_of counting followed
+  search_calls = refl
+
+  -- ---- up three times over two entries, and down twice
+
+  abbrev entries : List (List ℕ)
+  entries = codes "line0" ∷ codes "line1" ∷ []
+
+  abbrev up : KeyEvent
+  up = key_with Up none
+
+  abbrev down : KeyEvent
+  down = key_with Down none
+
+  abbrev up_and_down : Told
+  up_and_down = line entries nothing_bound (typed 0x63 ∷ typed 0x75 ∷ typed 0x72 ∷ up ∷ up ∷ up ∷ down ∷ down ∷ key_with Enter none ∷ [])
+
+  -- the third step up draws nothing
+  up_and_down_calls : calls up_and_down
+      ≡ draw [] 2 2 ∷ Write (codes "c") ∷ Write (codes "u") ∷ Write (codes "r")
+      ∷ draw (codes "line1") 7 7 ∷ draw (codes "line0") 7 7 ∷ draw (codes "line1") 7 7 ∷ draw (codes "cur") 5 5 ∷ []
+  unfolding unicode_segmentation line_of line_from turn_of counting followed line_up line_down behind_newlines
+  up_and_down_calls = refl
+
+  up_and_down_outcome : up_and_down.outcome ≡ Ok (codes "cur")
+  unfolding unicode_segmentation line_of line_from turn_of counting followed line_up line_down behind_newlines
+  up_and_down_outcome = refl

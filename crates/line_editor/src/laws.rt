@@ -2,7 +2,7 @@
 
 ghost use Rattle.line_editor.specs.Leads.{CommandsLead, SubmittingLeads, AsksLead};
 ghost use Rattle.line_editor.specs.Returns.{ComesBack};
-ghost use Rattle.line_editor.specs.UndoAll.{UndoReaches};
+ghost use Rattle.line_editor.specs.UndoAll.{UndoReaches, UndoesAll};
 
 /// What a command wants to be seen leads from a display that shows the value before to one that shows the value behind, so
 /// that nothing of an older drawing is left standing.
@@ -29,4 +29,10 @@ pub fn come_back()
 /// An undo by as many items as the record has, or more, gives the text that the record begins on.
 pub fn undo_reaches()
     ensures { UndoReaches }
+{}
+
+/// Whatever commands and asks were done to a line since nothing was held for an undo, as on a new line, an undo by as many
+/// items as are held now, or more, gives the text that stood there then: on a new line none.
+pub fn undo_all()
+    ensures { UndoesAll }
 {}

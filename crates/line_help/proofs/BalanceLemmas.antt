@@ -225,7 +225,7 @@ goes_on_at_other unclosed b text h i later e all =
 incomplete_goes_on : (unclosed text : List ℕ) → IncompleteGoesOn unclosed text
 incomplete_goes_on = read IncompleteGoesOn (record { at_end = goes_on_at_end; at_opening = goes_on_at_opening; at_closing = goes_on_at_closing; at_failure = goes_on_at_failure; at_other = goes_on_at_other })
 
--- nothing behind an invalid text changes that
+-- nothing after an invalid text changes that
 abbrev InvalidStays : List ℕ → List ℕ → Type 0
 InvalidStays unclosed text = (message more : List ℕ) → verdict_from unclosed text ≡ Invalid (Some message) → verdict_from unclosed (text ++ more) ≡ Invalid (Some message)
 

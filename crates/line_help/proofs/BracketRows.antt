@@ -8,7 +8,7 @@ use Rattle.line_help.specs.Validation.{bracket_verdict}
 use Rattle.line_help.specs.declared.validate.ValidationResult.TheVariants.{Incomplete, Invalid, Valid}
 use Rattle.line_keys.specs.declared.command.CmdKind.TheVariants.{MoveCursor, ForcedRefresh}
 
--- no match; the match behind, before, and of the outer one of two
+-- no match; the match after, before, and of the outer one of two
 row_unmatched : match_of (codes "(...") 0 40 ≡ None
 row_unmatched = refl
 

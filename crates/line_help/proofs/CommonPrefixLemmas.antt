@@ -29,7 +29,7 @@ beside_nothing : (xs : List ℕ) → common_prefix_len nat_eq xs [] ≡ 0
 beside_nothing [] = refl
 beside_nothing (x ∷ xs) = refl
 
--- nothing is alike behind the other text
+-- nothing is alike after the other text
 pub behind_other : (text other : List ℕ) (len : ℕ) → length other ≤ len → common_prefix_len nat_eq (drop len text) (drop len other) ≡ 0
 behind_other text other len le = let none : drop len other ≡ [] = nil_from_length (drop len other) (omega (arith, length-drop len other)) in rw none (beside_nothing (drop len text))
 

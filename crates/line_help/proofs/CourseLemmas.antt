@@ -17,7 +17,7 @@ use Rattle.line_help.proofs.ReloadLemmas.{can_both, saved_back}
 abbrev filed_of : Settings → List (List ℕ) → ℕ → Filed
 filed_of s entries unsaved = record { kept = record { entries = entries; settings = s }; unsaved = unsaved }
 
--- the entries that were written, and behind them those that are new, give the history
+-- the entries that were written, and after them those that are new, give the history
 record Stands (s : Settings) (now : Written) : Type 0 where
   entries : List (List ℕ)
   unsaved : ℕ
@@ -97,7 +97,7 @@ after_adding s now line r = by_case (ignored s r.entries line) refl where
         | inr lt ↦ taken (length (added s r.entries line)) e (min-eq_right (omega arith)) (omega arith) (all_are_new s r.entries r.rows r.unsaved line e r.turn r.fits r.few r.gives lt)
       ]
 
--- where nothing is new behind the rows, they give the history
+-- where nothing is new after the rows, they give the history
 none_behind : (s : Settings) (rows entries : List (List ℕ)) → added_all s [] (rows ++ newest 0 entries) ≡ added_all s [] rows
 none_behind s rows entries = ap (λ xs. added_all s [] (rows ++ xs)) (none_new entries) ∙ ap (λ xs. added_all s [] xs) (append-nil rows)
 

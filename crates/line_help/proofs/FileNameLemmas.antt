@@ -30,7 +30,7 @@ no_slash path none =
     suffix_len_is test path 0 0 (omega arith) (λ i lo hi. rw (ne_eqb (get_or path i 0) 47 (none i hi)) refl) (λ h. absurd (omega arith)) in
     omega (arith, len)
 
--- behind an open quote a text may be cut
+-- after an open quote a text may be cut
 close_is_ascii : (quote : Quote) (b : ℕ) → closes_quote quote b ≡ true → b < 128
 close_is_ascii Double b e = grind arith
 close_is_ascii Single b e = grind arith

@@ -7,7 +7,7 @@ use Rattle.line_config.specs.declared.device.Last.TheVariants.{End, Failed}
 use Rattle.line_config.specs.declared.errors.ReadlineError.TheVariants.{HistoryText, Reader}
 use Rattle.line_help.specs.Course.{Adds, Appends, Loads, after_steps, just_saved}
 use Rattle.line_help.specs.History.{Settings, filed_with_all, takes_all, nothing_filed, entries_kept, ignored, resized}
-use Rattle.line_help.specs.HistoryText.{rows_of, texts_of, has_header, text_to_save, text_to_append, header, load_answer, load_leaves}
+use Rattle.line_help.specs.HistoryText.{text_rows, texts_of, has_header, text_to_save, text_to_append, header, load_answer, load_leaves}
 use Rattle.line_help.specs.Loaded.{loaded}
 use Rattle.line_help.specs.Search.{searched}
 use Rattle.line_help.specs.Hints.{history_hint}
@@ -19,7 +19,7 @@ few = record { max_len = 100; ignore_space = false; ignore_dups = true }
 abbrev no_spaces : Settings
 no_spaces = record { max_len = 100; ignore_space = true; ignore_dups = true }
 
--- `#V2`, `a\nb`, `c\\d`, `e\x`, a newline behind each
+-- `#V2`, `a\nb`, `c\\d`, `e\x`, a newline after each
 abbrev escaped_rows : List ℕ
 escaped_rows = header ++ 10 ∷ 97 ∷ 92 ∷ 110 ∷ 98 ∷ 10 ∷ 99 ∷ 92 ∷ 92 ∷ 100 ∷ 10 ∷ 101 ∷ 92 ∷ 120 ∷ 10 ∷ []
 
@@ -27,17 +27,17 @@ escaped_rows = header ++ 10 ∷ 97 ∷ 92 ∷ 110 ∷ 98 ∷ 10 ∷ 99 ∷ 92 �
 abbrev read_entries : List (List ℕ)
 read_entries = (97 ∷ 10 ∷ 98 ∷ []) ∷ (99 ∷ 92 ∷ 100 ∷ []) ∷ (101 ∷ 92 ∷ 120 ∷ []) ∷ []
 
-escapes_are_read_back : texts_of (rows_of End escaped_rows) ≡ read_entries
+escapes_are_read_back : texts_of (text_rows End escaped_rows) ≡ read_entries
 escapes_are_read_back = refl
 
-header_stands : has_header (rows_of End escaped_rows) ≡ true
+header_stands : has_header (text_rows End escaped_rows) ≡ true
 header_stands = refl
 
 escaped_text_is_loaded : loaded few escaped_rows ≡ record { kept = entries_kept read_entries few; unsaved = 0 }
 unfolding is_utf8 chars encode
 escaped_text_is_loaded = refl
 
-escaped_text_is_whole : load_answer End (rows_of End escaped_rows) (nothing_filed few) ≡ Ok true
+escaped_text_is_whole : load_answer End (text_rows End escaped_rows) (nothing_filed few) ≡ Ok true
 unfolding is_utf8 chars encode
 escaped_text_is_whole = refl
 
@@ -52,16 +52,16 @@ all_are_kept : (filed_with_all (nothing_filed few) read_entries).kept.entries �
 all_are_kept = refl
 
 -- `a\nb`
-without_header_no_escapes : texts_of (rows_of End (97 ∷ 92 ∷ 110 ∷ 98 ∷ [])) ≡ (97 ∷ 92 ∷ 110 ∷ 98 ∷ []) ∷ []
+without_header_no_escapes : texts_of (text_rows End (97 ∷ 92 ∷ 110 ∷ 98 ∷ [])) ≡ (97 ∷ 92 ∷ 110 ∷ 98 ∷ []) ∷ []
 without_header_no_escapes = refl
 
-no_header_no_true : load_answer End (rows_of End (97 ∷ 92 ∷ 110 ∷ 98 ∷ [])) (nothing_filed few) ≡ Ok false
+no_header_no_true : load_answer End (text_rows End (97 ∷ 92 ∷ 110 ∷ 98 ∷ [])) (nothing_filed few) ≡ Ok false
 unfolding is_utf8 chars encode
 no_header_no_true = refl
 
 -- `#V2`, `a`, a byte that begins a character, `b`: the row before stays and is new
 abbrev bad_rows : List (List ℕ)
-bad_rows = rows_of End (header ++ 10 ∷ 97 ∷ 10 ∷ 195 ∷ 10 ∷ 98 ∷ 10 ∷ [])
+bad_rows = text_rows End (header ++ 10 ∷ 97 ∷ 10 ∷ 195 ∷ 10 ∷ 98 ∷ 10 ∷ [])
 
 bad_row_refused : load_answer End bad_rows (nothing_filed few) ≡ Err HistoryText
 unfolding is_utf8 chars encode
@@ -71,12 +71,12 @@ bad_row_leaves : load_leaves End bad_rows (nothing_filed few) ≡ record { kept 
 unfolding is_utf8 chars encode
 bad_row_leaves = refl
 
--- the same rows from a source that fails behind them: the bad row is met first
+-- the same rows from a source that fails after them: the bad row is met first
 bad_row_before_a_failure : load_answer Failed bad_rows (nothing_filed few) ≡ Err HistoryText
 unfolding is_utf8 chars encode
 bad_row_before_a_failure = refl
 
-failure_behind_a_row : load_answer Failed (rows_of Failed (header ++ 10 ∷ 97 ∷ 10 ∷ 98 ∷ [])) (nothing_filed few) ≡ Err Reader
+failure_behind_a_row : load_answer Failed (text_rows Failed (header ++ 10 ∷ 97 ∷ 10 ∷ 98 ∷ [])) (nothing_filed few) ≡ Err Reader
 unfolding is_utf8 chars encode
 failure_behind_a_row = refl
 
@@ -90,16 +90,16 @@ nothing_new_nothing_saved = refl
 new_row_appended : text_to_append (filed_with_all (record { kept = record { entries = read_entries; settings = few }; unsaved = 0 }) (codes "z" ∷ [])) ≡ 122 ∷ 10 ∷ []
 new_row_appended = refl
 
--- behind a first save: appended to, loaded, and appended to again
+-- after a first save: appended to, loaded, and appended to again
 text_of_a_course : (after_steps few (Adds (codes "b") ∷ Appends ∷ Loads ∷ Adds (codes "c") ∷ Appends ∷ []) (just_saved few (codes "a" ∷ []))).text ≡ header ++ 10 ∷ 97 ∷ 10 ∷ 98 ∷ 10 ∷ 99 ∷ 10 ∷ []
 unfolding is_utf8 chars encode
 text_of_a_course = refl
 
 -- carriage returns: one right before a newline goes, a last row keeps its own
-returns_before_newlines_go : rows_of End (97 ∷ 13 ∷ 13 ∷ 10 ∷ 13 ∷ 10 ∷ 98 ∷ 13 ∷ []) ≡ (97 ∷ 13 ∷ []) ∷ [] ∷ (98 ∷ 13 ∷ []) ∷ []
+returns_before_newlines_go : text_rows End (97 ∷ 13 ∷ 13 ∷ 10 ∷ 13 ∷ 10 ∷ 98 ∷ 13 ∷ []) ≡ (97 ∷ 13 ∷ []) ∷ [] ∷ (98 ∷ 13 ∷ []) ∷ []
 returns_before_newlines_go = refl
 
-begun_row_of_a_failing_source : rows_of Failed (97 ∷ 10 ∷ 98 ∷ []) ≡ (97 ∷ []) ∷ []
+begun_row_of_a_failing_source : text_rows Failed (97 ∷ 10 ∷ 98 ∷ []) ≡ (97 ∷ []) ∷ []
 begun_row_of_a_failing_source = refl
 
 abbrev three : List (List ℕ)

@@ -10,7 +10,7 @@ abbrev pub added_all : Settings → List (List ℕ) → List (List ℕ) → List
 added_all s entries [] = entries
 added_all s entries (line ∷ lines) = added_all s (added s entries line) lines
 
--- each of them would be taken behind the one before it
+-- each of them would be taken after the one before it
 abbrev pub InTurn : Settings → List (List ℕ) → List (List ℕ) → Type 0
 InTurn s before [] = Unit {0}
 InTurn s before (line ∷ lines) = (ignored s before line ≡ false) × InTurn s (line ∷ []) lines
@@ -65,7 +65,7 @@ some_room s entries line e = by_size s.max_len (two_false (s.max_len == 0) (leng
   by_size zero f = cc
   by_size (suc n) f = omega arith
 
--- a line that is taken behind another is taken first, too
+-- a line that is taken after another is taken first, too
 taken_first : (s : Settings) (entries : List (List ℕ)) (line : List ℕ) → ignored s entries line ≡ false → ignored s [] line ≡ false
 taken_first s entries line e =
     or_false ((s.max_len == 0 || length line == 0) || (s.ignore_space && begins_with_space line)) (s.ignore_dups && newest_is line entries) (s.ignore_dups && false) e (and_false s.ignore_dups)
@@ -92,7 +92,7 @@ in_turn_with s before (x ∷ lines) line t e =
       behind (y ∷ []) = refl
       behind (y ∷ (z ∷ xs)) = behind (z ∷ xs)
 
--- they all stand behind what was there, as far as there is room
+-- they all stand after what was there, as far as there is room
 pub taken_in_turn : (s : Settings) (entries lines : List (List ℕ)) → InTurn s entries lines → added_all s (newest s.max_len entries) lines ≡ newest s.max_len (entries ++ lines)
 taken_in_turn s entries [] t = sym (ap (λ xs. newest s.max_len xs) (append-nil entries))
 taken_in_turn s entries (line ∷ lines) t =
@@ -114,7 +114,7 @@ or_true_right : (a b : Bool) → (a || b) ≡ true → a ≡ false → b ≡ tru
 or_true_right true b e f = cc
 or_true_right false b e f = e
 
--- a line that would be taken first is ignored behind entries of which the newest is the line
+-- a line that would be taken first is ignored after entries of which the newest is the line
 ignored_repeats : (s : Settings) (entries : List (List ℕ)) (line : List ℕ) → ignored s entries line ≡ true → ignored s [] line ≡ false → newest_is line entries ≡ true
 ignored_repeats s entries line e f =
     let others = (s.max_len == 0 || length line == 0) || (s.ignore_space && begins_with_space line) in

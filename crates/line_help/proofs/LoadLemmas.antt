@@ -124,7 +124,7 @@ loaded_leaves last h row rows e =
     ap (λ b. if b then filed_with_all h (texts_of (good_rows (row ∷ rows))) else left_at last (filed_with_all h (texts_of (good_rows (row ∷ rows))))) (bad_more row rows e)
     ∙ ap (λ f. if has_bad_row rows then f else left_at last f) (loaded_left h row rows e)
 
--- what the rest answers, behind the first row
+-- what the rest answers, after the first row
 both : (last : Last) (bad escapes whole : Bool) (b : Bool) → (if bad then Err HistoryText else answer_at last whole) ≡ Ok b
     → (if bad then Err HistoryText else answer_at last (escapes && whole)) ≡ Ok (escapes && b)
 both last true escapes whole b e = cc

@@ -48,7 +48,7 @@ or_only : (p : Bool) → (p || false) ≡ true → p ≡ true
 or_only true h = refl
 or_only false h = h
 
--- the brackets `o` that close so many brackets are found, the last of them behind so many bytes
+-- the brackets `o` that close so many brackets are found, the last of them after so many bytes
 abbrev Ends : ℕ → ℕ → ℕ → List ℕ → ℕ → Type 0
 Ends s o zero text n = (between : List ℕ) × (after : List ℕ) × (text ≡ between ++ (o ∷ after)) × One s o between × (n ≡ length between)
 Ends s o (suc d) text n = (between : List ℕ) × (rest : List ℕ) × (m : ℕ) × (text ≡ between ++ (o ∷ rest)) × One s o between × Ends s o d rest m × (n ≡ length between + suc m)

@@ -143,7 +143,7 @@ record Parts (text : List ℕ) : Type 0 where
   double : DoubleFirst text
   single : SingleFirst text
 
--- a mark, and what begins behind it
+-- a mark, and what begins after it
 marked : (quote : Quote) (mark : ℕ) (escaping : Bool) (U : List ℕ → Type 0) → ((text : List ℕ) → U text → Unclosed quote mark text)
     → ((inner text : List ℕ) → Within mark escaping inner → Closed text → Closed (mark ∷ (inner ++ (mark ∷ text)))) → (text : List ℕ) → WithinFirst mark escaping U text → Outcome (mark ∷ text)
 marked quote mark escaping U un wrap text (inl u) = inr (0, quote, ([], mark, text, refl, refl, nothing_closed, un text u))

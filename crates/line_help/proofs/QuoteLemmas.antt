@@ -84,7 +84,7 @@ all_escaped esc breaks out rest e =
 
 pub ruleset escape_steps = (break_escaped, other_kept, all_escaped)
 
--- the quote that is open behind bytes still to be read, where a backslash before them escapes or not
+-- the quote that is open after bytes still to be read, where a backslash before them escapes or not
 abbrev pub scanning : Bool → Option (ℕ × Quote) → ℕ → List ℕ → Option (ℕ × Quote)
 scanning false within place bs = open_behind within place bs
 scanning true within place [] = within

@@ -10,7 +10,7 @@ use Rattle.std.proofs.lemmas.Bool.Decides.{eqb_tells}
 use Rattle.std.proofs.lemmas.Str.{IsUtf8-append, IsUtf8-from_is_utf8, IsUtf8-nil, is_utf8-from_IsUtf8}
 use Rattle.line_config.specs.declared.device.Last.TheVariants.{End}
 use Rattle.line_help.specs.History.{Settings, Filed, begins_with_space, newest_is, filed_with, filed_with_all, nothing_filed, all_saved, newest}
-use Rattle.line_help.specs.HistoryText.{escaped_entry, escaped_byte, unescaped_row, entry_of, entries_of, row_of, rows_text, rows_of, saved_text, header, without_return, good_rows, has_bad_row, load_leaves, text_to_append}
+use Rattle.line_help.specs.HistoryText.{escaped_entry, escaped_byte, unescaped_row, entry_of, entries_of, row_of, rows_text, text_rows, saved_text, header, without_return, good_rows, has_bad_row, load_leaves, text_to_append}
 use Rattle.line_help.specs.Laws.{Reload, ReloadAppended}
 use Rattle.line_help.specs.Loaded.{ends_in_return, CanComeBack, loaded, made_of}
 use Rattle.line_help.proofs.EscapeLemmas.{plain_byte, no_byte}
@@ -80,12 +80,12 @@ without_same [] e = refl
 without_same (b ∷ []) e = rw e refl
 without_same (b ∷ (c ∷ bs)) e = ap (λ t. b ∷ t) (without_same (c ∷ bs) e)
 
-rows_back : (entries : List (List ℕ)) → CanComeBack entries → rows_of End (rows_text entries) ≡ map escaped_entry entries
+rows_back : (entries : List (List ℕ)) → CanComeBack entries → text_rows End (rows_text entries) ≡ map escaped_entry entries
 rows_back [] can = refl
 rows_back (entry ∷ entries) can =
-    ap (λ t. rows_of End t) (append_assoc (escaped_entry entry) (10 ∷ []) (rows_text entries))
+    ap (λ t. text_rows End t) (append_assoc (escaped_entry entry) (10 ∷ []) (rows_text entries))
     ∙ cut_row End (escaped_entry entry) (rows_text entries) (one_row entry)
-    ∙ ap (λ r. r ∷ rows_of End (rows_text entries)) (without_same (escaped_entry entry) (same_end entry ∙ can.1))
+    ∙ ap (λ r. r ∷ text_rows End (rows_text entries)) (without_same (escaped_entry entry) (same_end entry ∙ can.1))
     ∙ ap (λ rs. escaped_entry entry ∷ rs) (rows_back entries can.2)
 
 -- what is escaped is UTF-8 where the text is
@@ -169,7 +169,7 @@ added_back h ((b ∷ bs) ∷ entries) =
 
 pub saved_back : (settings : Settings) (entries : List (List ℕ)) → CanComeBack entries → loaded settings (saved_text entries) ≡ made_of settings entries
 saved_back settings entries can =
-    let rows : rows_of End (saved_text entries) ≡ header ∷ map escaped_entry entries = cut_row End header (rows_text entries) refl ∙ ap (λ rs. header ∷ rs) (rows_back entries can) in
+    let rows : text_rows End (saved_text entries) ≡ header ∷ map escaped_entry entries = cut_row End header (rows_text entries) refl ∙ ap (λ rs. header ∷ rs) (rows_back entries can) in
     ap (λ rs. load_leaves End rs (nothing_filed settings)) rows
     ∙ loaded_leaves End (nothing_filed settings) header (map escaped_entry entries) header_is_utf8
     ∙ rw (none_bad entries can, all_good entries can) (ap (λ f. all_saved f) (added_back (nothing_filed settings) entries))

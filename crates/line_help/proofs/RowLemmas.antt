@@ -7,7 +7,7 @@ use Rattle.line_config.specs.Device.{front_of}
 use Rattle.line_config.specs.declared.device.DeviceFailed.{DeviceFailed}
 use Rattle.line_config.specs.declared.device.Last.{Last}
 use Rattle.line_config.specs.declared.device.Last.TheVariants.{End, Failed}
-use Rattle.line_help.specs.HistoryText.{rows_of, onto, without_return, begins_with_newline}
+use Rattle.line_help.specs.HistoryText.{text_rows, onto, without_return, begins_with_newline}
 
 -- no newline stands among these bytes
 abbrev pub has_newline : List ℕ → Bool
@@ -65,29 +65,29 @@ cut_byte b inner true return e h = cc
 cut_byte b inner false true e h = e
 cut_byte b inner false false e h = rw e refl
 
-pub cut_row : (last : Last) (xs rest : List ℕ) → has_newline xs ≡ false → rows_of last (xs ++ 10 ∷ rest) ≡ without_return xs ∷ rows_of last rest
+pub cut_row : (last : Last) (xs rest : List ℕ) → has_newline xs ≡ false → text_rows last (xs ++ 10 ∷ rest) ≡ without_return xs ∷ text_rows last rest
 cut_row last [] rest none = refl
-cut_row last (b ∷ []) rest none = one_byte last b (rows_of last rest) (b == 10) (b == 13) (neither (b == 10) false none).0
+cut_row last (b ∷ []) rest none = one_byte last b (text_rows last rest) (b == 10) (b == 13) (neither (b == 10) false none).0
 cut_row last (b ∷ (c ∷ xs)) rest none =
     let h = (neither (b == 10) (has_newline (c ∷ xs)) none).0 in
     let k = (neither (b == 10) (has_newline (c ∷ xs)) none).1 in
     let m = (neither (c == 10) (has_newline xs) k).0 in
-    more_bytes last b (rows_of last (c ∷ (xs ++ 10 ∷ rest))) (without_return (c ∷ xs)) (rows_of last rest) (b == 10) (b == 13) (c == 10) (cut_row last (c ∷ xs) rest k) h m
+    more_bytes last b (text_rows last (c ∷ (xs ++ 10 ∷ rest))) (without_return (c ∷ xs)) (text_rows last rest) (b == 10) (b == 13) (c == 10) (cut_row last (c ∷ xs) rest k) h m
 
-pub last_row : (b : ℕ) (xs : List ℕ) → has_newline (b ∷ xs) ≡ false → rows_of End (b ∷ xs) ≡ (b ∷ xs) ∷ []
+pub last_row : (b : ℕ) (xs : List ℕ) → has_newline (b ∷ xs) ≡ false → text_rows End (b ∷ xs) ≡ (b ∷ xs) ∷ []
 last_row b [] none = sole_byte b (b == 10) (b == 13) (neither (b == 10) false none).0
 last_row b (c ∷ xs) none =
     let h = (neither (b == 10) (has_newline (c ∷ xs)) none).0 in
     let k = (neither (b == 10) (has_newline (c ∷ xs)) none).1 in
     let m = (neither (c == 10) (has_newline xs) k).0 in
-    more_bytes End b (rows_of End (c ∷ xs)) (c ∷ xs) [] (b == 10) (b == 13) (c == 10) (last_row c xs k) h m
+    more_bytes End b (text_rows End (c ∷ xs)) (c ∷ xs) [] (b == 10) (b == 13) (c == 10) (last_row c xs k) h m
 
-pub cut_off : (xs : List ℕ) → has_newline xs ≡ false → rows_of Failed xs ≡ []
+pub cut_off : (xs : List ℕ) → has_newline xs ≡ false → text_rows Failed xs ≡ []
 cut_off [] none = refl
 cut_off (b ∷ xs) none =
     let h = (neither (b == 10) (has_newline xs) none).0 in
     let k = (neither (b == 10) (has_newline xs) none).1 in
-    cut_byte b (rows_of Failed xs) (b == 10) (b == 13 && begins_with_newline xs) (cut_off xs k) h
+    cut_byte b (text_rows Failed xs) (b == 10) (b == 13 && begins_with_newline xs) (cut_off xs k) h
 
 -- a steady source fails where nothing is to come
 pub failed_at : (bytes : List ℕ) (last : Last) (e : DeviceFailed) → Err e ≡ front_of bytes last → (bytes ≡ []) × (last ≡ Failed)
@@ -95,7 +95,7 @@ failed_at (b ∷ bs) last e h = cc
 failed_at [] End e h = cc
 failed_at [] Failed e h = (refl, refl)
 
-pub at_end : (row : List ℕ) (empty : Bool) → has_newline row ≡ false → empty ≡ (length row == 0) → rows_of End row ≡ (if not empty then row ∷ [] else [])
+pub at_end : (row : List ℕ) (empty : Bool) → has_newline row ≡ false → empty ≡ (length row == 0) → text_rows End row ≡ (if not empty then row ∷ [] else [])
 at_end [] empty none h = rw h refl
 at_end (b ∷ row) empty none h = let f : (suc (length row) == 0) ≡ false = ne_eqb (suc (length row)) 0 (omega arith) in rw (h, f) (last_row b row none)
 

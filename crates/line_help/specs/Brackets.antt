@@ -6,7 +6,8 @@ use Rattle.std.specs.List.{list_any}
 abbrev pub all_kinds : List (ℕ × ℕ)
 all_kinds = (40, 41) ∷ ((91, 93) ∷ ((123, 125) ∷ []))
 
--- whether a byte opens, or closes, one of these kinds; whether two bytes are the brackets of one kind
+-- whether a byte opens, or closes, one of these kinds; whether two bytes are the brackets of one
+-- kind
 abbrev pub opens_some : List (ℕ × ℕ) → ℕ → Bool
 opens_some kinds byte = list_any (λ kind. byte == kind.0) kinds
 
@@ -28,14 +29,19 @@ is_bracket byte = is_opening byte || is_closing byte
 -- the other bracket of a bracket's kind; of any other byte the byte itself
 abbrev pub partner_in : List (ℕ × ℕ) → ℕ → ℕ
 partner_in [] byte = byte
-partner_in (kind ∷ others) byte = if byte == kind.0 then kind.1 else if byte == kind.1 then kind.0 else partner_in others byte
+partner_in (kind ∷ others) byte =
+    if byte == kind.0 then kind.1 else if byte == kind.1 then kind.0 else partner_in others byte
 
 abbrev pub partner : ℕ → ℕ
 partner byte = partner_in all_kinds byte
 
--- a text in which the brackets of some kinds are balanced, whatever else stands in it: it is empty, or it begins with a
--- byte that is none of these brackets, or with an opening bracket, a balanced text and the closing bracket of that kind
+-- a text in which the brackets of some kinds are balanced, whatever else stands in it: it is empty,
+-- or it begins with a byte that is none of these brackets, or with an opening bracket, a balanced
+-- text and the closing bracket of that kind
 pub data Balanced (kinds : List (ℕ × ℕ)) : List ℕ → Type 0 where
   empty : Balanced kinds []
-  other : (byte : ℕ) (text : List ℕ) → opens_some kinds byte ≡ false → closes_some kinds byte ≡ false → Balanced kinds text → Balanced kinds (byte ∷ text)
-  pair : (opening closing : ℕ) (inner text : List ℕ) → are_kind kinds opening closing ≡ true → Balanced kinds inner → Balanced kinds text → Balanced kinds (opening ∷ (inner ++ (closing ∷ text)))
+  other : (byte : ℕ) (text : List ℕ) → opens_some kinds byte ≡ false
+      → closes_some kinds byte ≡ false → Balanced kinds text → Balanced kinds (byte ∷ text)
+  pair : (opening closing : ℕ) (inner text : List ℕ) → are_kind kinds opening closing ≡ true
+      → Balanced kinds inner → Balanced kinds text
+      → Balanced kinds (opening ∷ (inner ++ (closing ∷ text)))

@@ -9,7 +9,8 @@ pub record Written : Type 0 where
   pub text : List ℕ
   pub history : Filed
 
--- a line is added; what is saved takes the place of the text; what is new is appended to the text; a new history is loaded from it
+-- a line is added; what is saved takes the place of the text; what is new is appended to the text;
+-- a new history is loaded from it
 pub data Step : Type 0 where
   Adds : (line : List ℕ) → Step
   Saves : Step
@@ -18,12 +19,16 @@ pub data Step : Type 0 where
 
 -- nothing is saved where nothing is new: then the text stays
 abbrev pub text_after_save : Written → List ℕ
-text_after_save now = if now.history.unsaved == 0 then now.text else saved_text now.history.kept.entries
+text_after_save now =
+    if now.history.unsaved == 0 then now.text else saved_text now.history.kept.entries
 
 abbrev pub after_step : Settings → Step → Written → Written
-after_step settings (Adds line) now = record { text = now.text; history = filed_with now.history line }
-after_step settings Saves now = record { text = text_after_save now; history = all_saved now.history }
-after_step settings Appends now = record { text = now.text ++ text_to_append now.history; history = all_saved now.history }
+after_step settings (Adds line) now =
+    record { text = now.text; history = filed_with now.history line }
+after_step settings Saves now =
+    record { text = text_after_save now; history = all_saved now.history }
+after_step settings Appends now =
+    record { text = now.text ++ text_to_append now.history; history = all_saved now.history }
 after_step settings Loads now = record { text = now.text; history = loaded settings now.text }
 
 abbrev pub after_steps : Settings → List Step → Written → Written
@@ -32,7 +37,12 @@ after_steps settings (step ∷ steps) now = after_steps settings steps (after_st
 
 -- a history that these lines gave, when all of it was saved
 abbrev pub just_saved : Settings → List (List ℕ) → Written
-just_saved settings lines = record { text = saved_text (made_of settings lines).kept.entries; history = made_of settings lines }
+just_saved settings lines =
+    record {
+      text = saved_text (made_of settings lines).kept.entries;
+      history = made_of settings
+          lines;
+    }
 
 -- what is written can come back
 abbrev pub CanStep : Step → Written → Type 0
@@ -43,4 +53,5 @@ CanStep Loads now = Unit {0}
 
 abbrev pub CanMake : Settings → List Step → Written → Type 0
 CanMake settings [] now = Unit {0}
-CanMake settings (step ∷ steps) now = CanStep step now × CanMake settings steps (after_step settings step now)
+CanMake settings (step ∷ steps) now =
+    CanStep step now × CanMake settings steps (after_step settings step now)

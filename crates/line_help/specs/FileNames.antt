@@ -15,7 +15,8 @@ pub record Named : Type 0 where
   pub name : List ℕ
   pub is_dir : Bool
 
--- a path that is being typed: where it starts in the line, what it says, and the quote that it stands behind
+-- a path that is being typed: where it starts in the line, what it says, and the quote that it
+-- stands after
 pub record Typed : Type 0 where
   pub start : ℕ
   pub path : List ℕ
@@ -30,14 +31,16 @@ is_special Double c = is_among double_quote_characters c
 is_special Single c = is_among break_characters c
 is_special Unquoted c = is_among break_characters c
 
--- behind an open quote the path is the rest; else it is the last word
+-- after an open quote the path is the rest; else it is the last word
 abbrev pub quoted : ℕ → Quote → List ℕ → Typed
-quoted start Double text = record { start = start; path = unescaped (drop start text) (Some 92); quote = Double }
+quoted start Double text =
+    record { start = start; path = unescaped (drop start text) (Some 92); quote = Double }
 quoted start Single text = record { start = start; path = drop start text; quote = Single }
 quoted start Unquoted text = record { start = start; path = drop start text; quote = Unquoted }
 
 abbrev pub unquoted : ℕ → List ℕ → Typed
-unquoted start text = record { start = start; path = unescaped (drop start text) (Some 92); quote = Unquoted }
+unquoted start text =
+    record { start = start; path = unescaped (drop start text) (Some 92); quote = Unquoted }
 
 abbrev pub typed_behind : Option (ℕ × Quote) → List ℕ → Typed
 typed_behind None text = unquoted (word_start (Some 92) (is_among break_characters) text) text
@@ -56,7 +59,7 @@ folder_of path = take (folder_len path) path
 abbrev pub name_of : List ℕ → List ℕ
 name_of path = drop (folder_len path) path
 
--- a name, with its folder and what needs an escape escaped; a slash behind a folder
+-- a name, with its folder and what needs an escape escaped; a slash after a folder
 abbrev pub slash_of : Bool → List ℕ
 slash_of true = 47 ∷ []
 slash_of false = []
@@ -64,7 +67,8 @@ slash_of false = []
 abbrev pub offered_name : Quote → List ℕ → Named → Offered
 offered_name quote folder named = record {
   display = named.name;
-  replacement = escaped ((folder ++ named.name) ++ slash_of named.is_dir) (Some 92) (is_special quote) quote;
+  replacement = escaped ((folder ++ named.name)
+      ++ slash_of named.is_dir) (Some 92) (is_special quote) quote;
 }
 
 abbrev pub name_begins : List ℕ → Named → Bool
@@ -72,17 +76,26 @@ name_begins name named = starts_with nat_eq named.name name
 
 -- each listed name that begins as the typed one, in the order of the list
 abbrev pub offered_names : Quote → List ℕ → List ℕ → List Named → List Offered
-offered_names quote folder name all = map (offered_name quote folder) (filter (name_begins name) all)
+offered_names quote folder name all =
+    map (offered_name quote folder) (filter (name_begins name) all)
 
 abbrev pub offered_for : (List ℕ → List Named) → Typed → List Offered
-offered_for list typed = offered_names typed.quote (folder_of typed.path) (name_of typed.path) (list (folder_of typed.path))
+offered_for list typed =
+    offered_names typed.quote (folder_of typed.path) (name_of typed.path)
+    (list (folder_of typed.path))
 
 abbrev pub unsorted_completion : (List ℕ → List Named) → List ℕ → Completion
-unsorted_completion list text = record { start = (typed_path text).start; candidates = offered_for list (typed_path text) }
+unsorted_completion list text =
+    record { start = (typed_path text).start; candidates = offered_for list (typed_path text) }
 
 -- by what is displayed; those that display the same keep their order
 abbrev pub displayed_before : Offered → Offered → Bool
 displayed_before x y = is_lt (slice_cmp nat_cmp x.display y.display)
 
 abbrev pub path_completion : (List ℕ → List Named) → List ℕ → Completion
-path_completion list text = record { start = (typed_path text).start; candidates = sorted_by displayed_before (offered_for list (typed_path text)) }
+path_completion list text =
+    record {
+      start = (typed_path text).start;
+      candidates = sorted_by displayed_before
+          (offered_for list (typed_path text));
+    }

@@ -16,8 +16,8 @@ is_style_parameter byte = nat_le 48 byte && nat_le byte 59
 abbrev pub drawn_by : List ℕ → List ℕ
 drawn_by parameters = 27 ∷ (91 ∷ (parameters ++ (109 ∷ [])))
 
--- the part of the display that a text is shown in: the line, with the cursor's place in it; the prompt, and whether it is the
--- line's own; the hint; a candidate, and the way of completing
+-- the part of the display that a text is shown in: the line, with the cursor's place in it; the
+-- prompt, and whether it is the line's own; the hint; a candidate, and the way of completing
 pub data DisplayPart : Type 0 where
   OfLine : (place : ℕ) → DisplayPart
   OfPrompt : (own : Bool) → DisplayPart
@@ -28,11 +28,13 @@ pub data DisplayPart : Type 0 where
 pub data Styled : List ℕ → List ℕ → Type 0 where
   nothing : Styled [] []
   byte : (b : ℕ) (text shown : List ℕ) → Styled text shown → Styled (b ∷ text) (b ∷ shown)
-  style : (parameters text shown : List ℕ) → list_all is_style_parameter parameters ≡ true → Styled text shown → Styled text (drawn_by parameters ++ shown)
+  style : (parameters text shown : List ℕ) → list_all is_style_parameter parameters ≡ true
+      → Styled text shown → Styled text (drawn_by parameters ++ shown)
 
--- what a call answers of a text that is to be shown as another one, or to fail: that one, which is the text with styles put
--- in; Failed where it is to fail, and besides want of memory
-pub record Highlights {A : Type 0} (bytes : A → List ℕ) (text : List ℕ) (shown : Option (List ℕ)) (result : Result A HookFault) : Type 0 where
+-- what a call answers of a text that is to be shown as another one, or to fail: that one, which is
+-- the text with styles put in; Failed where it is to fail, and besides want of memory
+pub record Highlights {A : Type 0} (bytes : A
+    → List ℕ) (text : List ℕ) (shown : Option (List ℕ)) (result : Result A HookFault) : Type 0 where
   pub is : IfOk result (λ answer. shown ≡ Some (bytes answer))
   pub styled : IfOk result (λ answer. Styled text (bytes answer))
   pub fault : IfErr result (λ e. (e ≡ Memory) ⊎ ((e ≡ Failed) × (shown ≡ None)))
@@ -47,12 +49,16 @@ plain_again = drawn_by (codes "0")
 -- the line with the byte at a place in bold and blue
 abbrev pub with_bold_byte : List ℕ → Option (ℕ × ℕ) → List ℕ
 with_bold_byte line None = line
-with_bold_byte line (Some found) = take found.1 line ++ (bold_blue ++ (found.0 ∷ (plain_again ++ drop (found.1 + 1) line)))
+with_bold_byte line (Some found) =
+    take found.1 line ++ (bold_blue ++ (found.0 ∷ (plain_again ++ drop (found.1 + 1) line)))
 
--- where the match of this bracket is shown, if there is a bracket, in a line of two bytes or more that goes on to its place
+-- where the match of this bracket is shown, if there is a bracket, in a line of two bytes or more
+-- that goes on to its place
 abbrev pub match_to_show : List ℕ → Option (ℕ × ℕ) → Option (ℕ × ℕ)
 match_to_show line None = None
-match_to_show line (Some bracket) = if nat_le 2 (length line) && nat_lt bracket.1 (length line) then match_of line bracket.1 bracket.0 else None
+match_to_show line (Some bracket) =
+    if nat_le 2 (length line) && nat_lt bracket.1 (length line)
+    then match_of line bracket.1 bracket.0 else None
 
 -- the line with the match of this bracket in bold and blue
 abbrev pub with_match_shown : List ℕ → Option (ℕ × ℕ) → List ℕ

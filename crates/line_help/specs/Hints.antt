@@ -1,4 +1,4 @@
--- Hints: what a hinter shows behind a line.
+-- Hints: what a hinter shows after a line.
 use Rattle.std.specs.Prelude.{ℕ, ◌-◌, ◌==◌, ◌||◌, not, true, if◌then◌else◌, List, length, drop, bytes_eq, Option, Some, None}
 use Rattle.line_help.specs.Search.{Hit, searched}
 use Rattle.line_help.specs.declared.search.SearchDirection.TheVariants.{Reverse}
@@ -8,7 +8,8 @@ pub record Hinted : Type 0 where
   pub display : List ℕ
   pub completion : Option (List ℕ)
 
--- a hinter's answer, and whether it fails, by line, place, entries of the history and place in the history
+-- a hinter's answer, and whether it fails, by line, place, entries of the history and place in the
+-- history
 abbrev pub Answers : Type 0 → Type 0
 Answers A = List ℕ → ℕ → List (List ℕ) → ℕ → A
 
@@ -22,7 +23,8 @@ hint_start entries place = if place == length entries then place - 1 else place
 -- the rest of the entry that was found, none where the entry is the line
 abbrev pub rest_behind : List ℕ → Option Hit → Option (List ℕ)
 rest_behind line None = None
-rest_behind line (Some hit) = if bytes_eq hit.entry line then None else Some (drop (length line) hit.entry)
+rest_behind line (Some hit) =
+    if bytes_eq hit.entry line then None else Some (drop (length line) hit.entry)
 
 -- the rest of the nearest entry at or before the place in the history that begins with the line
 abbrev pub history_hint : List ℕ → ℕ → List (List ℕ) → ℕ → Option (List ℕ)

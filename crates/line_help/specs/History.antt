@@ -26,7 +26,12 @@ ignores_repeated AlwaysAdd = false
 ignores_repeated IgnoreConsecutive = true
 
 abbrev pub settings_of : Config → Settings
-settings_of config = record { max_len = config.max_history_size; ignore_space = config.history_ignore_space; ignore_dups = ignores_repeated config.history_duplicates }
+settings_of config =
+    record {
+      max_len = config.max_history_size;
+      ignore_space = config.history_ignore_space;
+      ignore_dups = ignores_repeated config.history_duplicates;
+    }
 
 abbrev pub first_is_space : List ℕ → Bool
 first_is_space [] = false
@@ -44,7 +49,9 @@ newest_is text (entry ∷ (next ∷ entries)) = newest_is text (next ∷ entries
 
 -- whether the line doesn't become an entry
 abbrev pub ignored : Settings → List (List ℕ) → List ℕ → Bool
-ignored settings entries line = ((settings.max_len == 0 || length line == 0) || (settings.ignore_space && begins_with_space line))
+ignored settings entries line =
+    ((settings.max_len == 0 || length line == 0)
+    || (settings.ignore_space && begins_with_space line))
     || (settings.ignore_dups && newest_is line entries)
 
 -- the last so many of these
@@ -52,21 +59,32 @@ abbrev pub newest : ℕ → List (List ℕ) → List (List ℕ)
 newest count entries = drop (length entries - count) entries
 
 abbrev pub added : Settings → List (List ℕ) → List ℕ → List (List ℕ)
-added settings entries line = if ignored settings entries line then entries else newest settings.max_len (entries ++ line ∷ [])
+added settings entries line =
+    if ignored settings entries line then entries
+    else newest settings.max_len (entries ++ line ∷ [])
 
--- with this entry behind the others
+-- with this entry after the others
 abbrev pub entries_with : Kept → List ℕ → Kept
-entries_with kept entry = record kept { entries = newest kept.settings.max_len (kept.entries ++ entry ∷ []) }
+entries_with kept entry =
+    record kept { entries = newest kept.settings.max_len (kept.entries ++ entry ∷ []) }
 
 abbrev pub unsaved_after : Settings → List (List ℕ) → List ℕ → ℕ → ℕ
-unsaved_after settings entries line unsaved = if ignored settings entries line then unsaved else min (unsaved + 1) (length (added settings entries line))
+unsaved_after settings entries line unsaved =
+    if ignored settings entries line then unsaved
+    else min (unsaved + 1) (length (added settings entries line))
 
 -- what a line makes of the two histories
 abbrev pub kept_with : Kept → List ℕ → Kept
-kept_with kept line = record { entries = added kept.settings kept.entries line; settings = kept.settings }
+kept_with kept line =
+    record { entries = added kept.settings kept.entries line; settings = kept.settings }
 
 abbrev pub filed_with : Filed → List ℕ → Filed
-filed_with filed line = record { kept = kept_with filed.kept line; unsaved = unsaved_after filed.kept.settings filed.kept.entries line filed.unsaved }
+filed_with filed line =
+    record {
+      kept = kept_with filed.kept line;
+      unsaved = unsaved_after filed.kept.settings
+          filed.kept.entries line filed.unsaved;
+    }
 
 -- these lines, one after the other
 abbrev pub filed_with_all : Filed → List (List ℕ) → Filed
@@ -76,10 +94,13 @@ filed_with_all filed (line ∷ lines) = filed_with_all (filed_with filed line) l
 -- whether none of them is ignored
 abbrev pub takes_all : Filed → List (List ℕ) → Bool
 takes_all filed [] = true
-takes_all filed (line ∷ lines) = not (ignored filed.kept.settings filed.kept.entries line) && takes_all (filed_with filed line) lines
+takes_all filed (line ∷ lines) =
+    not (ignored filed.kept.settings filed.kept.entries line)
+    && takes_all (filed_with filed line) lines
 
 abbrev pub resized : ℕ → Kept → Kept
-resized len kept = record { entries = newest len kept.entries; settings = record kept.settings { max_len = len } }
+resized len kept =
+    record { entries = newest len kept.entries; settings = record kept.settings { max_len = len } }
 
 abbrev pub filed_resized : ℕ → Filed → Filed
 filed_resized len filed = record { kept = resized len filed.kept; unsaved = min filed.unsaved len }

@@ -33,7 +33,8 @@ abbrev pub text_to_save : Filed → List ℕ
 text_to_save filed = if filed.unsaved == 0 then [] else saved_text filed.kept.entries
 
 abbrev pub text_to_append : Filed → List ℕ
-text_to_append filed = if filed.unsaved == 0 then [] else rows_text (newest filed.unsaved filed.kept.entries)
+text_to_append filed =
+    if filed.unsaved == 0 then [] else rows_text (newest filed.unsaved filed.kept.entries)
 
 -- the text that an escaped one stands for: none where a backslash stands before anything else
 abbrev pub unescaped_row : List ℕ → Option (List ℕ)
@@ -53,18 +54,20 @@ abbrev pub begins_with_newline : List ℕ → Bool
 begins_with_newline [] = false
 begins_with_newline (b ∷ bs) = b == 10
 
--- a byte before the rows of what follows it. The last row need not be closed, but a failure of the source leaves such a row out
+-- a byte before the rows of what follows it. The last row need not be closed, but a failure of the
+-- source leaves such a row out
 abbrev pub onto : List (List ℕ) → Last → ℕ → List (List ℕ)
 onto (row ∷ rows) last b = (b ∷ row) ∷ rows
 onto [] End b = (b ∷ []) ∷ []
 onto [] Failed b = []
 
--- the rows of a text behind which this stands: they end at newlines, and a carriage return right before a newline is no part of its row
-abbrev pub rows_of : Last → List ℕ → List (List ℕ)
-rows_of last [] = []
-rows_of last (b ∷ bs) = if b == 10 then [] ∷ rows_of last bs
-    else if b == 13 && begins_with_newline bs then rows_of last bs
-    else onto (rows_of last bs) last b
+-- the rows of a text after which this stands: they end at newlines, and a carriage return right
+-- before a newline is no part of its row
+abbrev pub text_rows : Last → List ℕ → List (List ℕ)
+text_rows last [] = []
+text_rows last (b ∷ bs) = if b == 10 then [] ∷ text_rows last bs
+    else if b == 13 && begins_with_newline bs then text_rows last bs
+    else onto (text_rows last bs) last b
 
 -- the rows before the first one that isn't UTF-8
 abbrev pub good_rows : List (List ℕ) → List (List ℕ)
@@ -82,9 +85,10 @@ abbrev pub has_header : List (List ℕ) → Bool
 has_header [] = false
 has_header (row ∷ rows) = bytes_eq row header
 
--- the history behind the first row
+-- the history after the first row
 abbrev pub after_first : Filed → List ℕ → Filed
-after_first filed row = if bytes_eq row header then filed else filed_with_all filed (entries_of false (row ∷ []))
+after_first filed row =
+    if bytes_eq row header then filed else filed_with_all filed (entries_of false (row ∷ []))
 
 abbrev pub texts_behind : Bool → List (List ℕ) → List (List ℕ) → List (List ℕ)
 texts_behind true rows all = entries_of true rows
@@ -97,7 +101,7 @@ texts_of (row ∷ rows) = texts_behind (bytes_eq row header) rows (row ∷ rows)
 
 -- the texts that loading adds of a text that isn't refused
 abbrev pub loaded_texts : Last → List ℕ → List (List ℕ)
-loaded_texts last text = texts_of (good_rows (rows_of last text))
+loaded_texts last text = texts_of (good_rows (text_rows last text))
 
 -- whether a row isn't UTF-8
 abbrev pub has_bad_row : List (List ℕ) → Bool
@@ -114,7 +118,8 @@ outcome last rows whole = if has_bad_row rows then Err HistoryText else answer_a
 
 -- the answer of a load: whether the header stood and no row was ignored
 abbrev pub load_answer : Last → List (List ℕ) → Filed → Result Bool ReadlineError
-load_answer last rows filed = outcome last rows (has_header rows && takes_all filed (texts_of (good_rows rows)))
+load_answer last rows filed =
+    outcome last rows (has_header rows && takes_all filed (texts_of (good_rows rows)))
 
 -- the history after it: with all rows before a refusal, and with nothing new where there is none
 abbrev pub left_at : Last → Filed → Filed
@@ -122,7 +127,8 @@ left_at End filed = all_saved filed
 left_at Failed filed = filed
 
 abbrev pub load_leaves : Last → List (List ℕ) → Filed → Filed
-load_leaves last rows filed = let after : Filed = filed_with_all filed (texts_of (good_rows rows)) in
+load_leaves last rows filed =
+    let after : Filed = filed_with_all filed (texts_of (good_rows rows)) in
     if has_bad_row rows then after else left_at last after
 
 -- what a refused load leaves: the first of these texts were added
@@ -132,7 +138,8 @@ pub record AddsSome (texts : List (List ℕ)) (before after : Filed) : Type 0 wh
   pub split : texts ≡ taken ++ rest
   pub held : after ≡ filed_with_all before taken
 
--- whether such a result follows from the text alone: want of memory doesn't, nor the failure of a source that can't tell where it fails
+-- whether such a result follows from the text alone: want of memory doesn't, nor the failure of a
+-- source that can't tell where it fails
 abbrev pub follows : Bool → Result Bool ReadlineError → Bool
 follows steady (Ok whole) = true
 follows steady (Err HistoryText) = true

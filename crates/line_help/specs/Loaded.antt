@@ -3,7 +3,7 @@ use Rattle.std.specs.Prelude.{◌≡◌, ◌==◌, ℕ, Bool, true, false, List,
 use Rattle.std.specs.Str.{is_utf8}
 use Rattle.line_config.specs.declared.device.Last.TheVariants.{End}
 use Rattle.line_help.specs.History.{Settings, Filed, filed_with_all, nothing_filed, all_saved}
-use Rattle.line_help.specs.HistoryText.{rows_of, load_leaves}
+use Rattle.line_help.specs.HistoryText.{text_rows, load_leaves}
 
 abbrev pub ends_in_return : List ℕ → Bool
 ends_in_return [] = false
@@ -13,11 +13,12 @@ ends_in_return (b ∷ (c ∷ bs)) = ends_in_return (c ∷ bs)
 -- each entry is UTF-8, as a text is, and none ends in a carriage return
 abbrev pub CanComeBack : List (List ℕ) → Type 0
 CanComeBack [] = Unit {0}
-CanComeBack (entry ∷ entries) = (is_utf8 entry ≡ true) × (ends_in_return entry ≡ false) × CanComeBack entries
+CanComeBack (entry ∷ entries) =
+    (is_utf8 entry ≡ true) × (ends_in_return entry ≡ false) × CanComeBack entries
 
 -- a new history, after a text was loaded into it
 abbrev pub loaded : Settings → List ℕ → Filed
-loaded settings text = load_leaves End (rows_of End text) (nothing_filed settings)
+loaded settings text = load_leaves End (text_rows End text) (nothing_filed settings)
 
 -- a new history, after these lines were added, and with nothing to save
 abbrev pub made_of : Settings → List (List ℕ) → Filed

@@ -9,11 +9,12 @@ use Rattle.line_help.specs.declared.quotes.Quote.TheVariants.{Double, Single, No
 abbrev pub Tells : (ℕ → Bool → Type 0) → (ℕ → Bool) → Type 0
 Tells answers test = (c : ℕ) (answer : Bool) → IsScalar c → answers c answer → answer ≡ test c
 
--- an escape stands for the character behind it, and at the end for nothing
+-- an escape stands for the character after it, and at the end for nothing
 abbrev pub unescaped_chars : ℕ → List ℕ → List ℕ
 unescaped_chars esc [] = []
 unescaped_chars esc (c ∷ []) = if c == esc then [] else c ∷ []
-unescaped_chars esc (c ∷ (d ∷ cs)) = if c == esc then d ∷ unescaped_chars esc cs else c ∷ unescaped_chars esc (d ∷ cs)
+unescaped_chars esc (c ∷ (d ∷ cs)) =
+    if c == esc then d ∷ unescaped_chars esc cs else c ∷ unescaped_chars esc (d ∷ cs)
 
 abbrev pub unescaped : List ℕ → Option ℕ → List ℕ
 unescaped text None = text
@@ -39,7 +40,8 @@ escape_in Unquoted esc = esc
 abbrev pub escaped : List ℕ → Option ℕ → (ℕ → Bool) → Quote → List ℕ
 escaped text esc breaks quote = escaped_by (escape_in quote esc) text breaks
 
--- where one stands in a text: outside quotes, or behind the quote at a place. A backslash escapes outside and between double quotes
+-- where one stands in a text: outside quotes, or after the quote at a place. A backslash escapes
+-- outside and between double quotes
 abbrev pub escapes_in : Quote → Bool
 escapes_in Double = true
 escapes_in Single = false
@@ -57,13 +59,14 @@ closes_quote Unquoted b = false
 
 -- a byte at a place, which no backslash escapes, opens a quote, closes it or does neither
 abbrev pub opened_at : ℕ → ℕ → Option (ℕ × Quote)
-opened_at place b = if b == 34 then Some (place, Double) else if b == 39 then Some (place, Single) else None
+opened_at place b =
+    if b == 34 then Some (place, Double) else if b == 39 then Some (place, Single) else None
 
 abbrev pub quote_after : ℕ → ℕ → Option (ℕ × Quote) → Option (ℕ × Quote)
 quote_after place b None = opened_at place b
 quote_after place b (Some within) = if closes_quote within.1 b then None else Some within
 
--- the quote that is open behind these bytes, the first of which stands at a place
+-- the quote that is open after these bytes, the first of which stands at a place
 abbrev pub open_behind : Option (ℕ × Quote) → ℕ → List ℕ → Option (ℕ × Quote)
 open_behind within place [] = within
 open_behind within place (b ∷ []) = quote_after place b within

@@ -17,9 +17,10 @@ hit_of found = record { entry = found.entry.now; idx = found.idx; pos = found.po
 -- where the term stands in the text for the first time, in bytes
 abbrev pub first_hit : List ℕ → List ℕ → Option ℕ
 first_hit term [] = if length term == 0 then Some 0 else None
-first_hit term (b ∷ bs) = if starts_with eqb (b ∷ bs) term then Some 0 else option_map suc (first_hit term bs)
+first_hit term (b ∷ bs) =
+    if starts_with eqb (b ∷ bs) term then Some 0 else option_map suc (first_hit term bs)
 
--- behind the term, where the text begins with it
+-- after the term, where the text begins with it
 abbrev pub hit_at_start : List ℕ → List ℕ → Option ℕ
 hit_at_start term text = if starts_with eqb text term then Some (length term) else None
 
@@ -32,26 +33,32 @@ abbrev pub hit_or : Option ℕ → List ℕ → ℕ → Option Hit → Option Hi
 hit_or None entry idx other = other
 hit_or (Some pos) entry idx other = Some (record { entry = entry; idx = idx; pos = pos })
 
--- the first of these entries with a hit, where the first of them stands at this place in the history
+-- the first of these entries with a hit, where the first of them stands at this place in the
+-- history
 abbrev pub first_from : (List ℕ → Option ℕ) → ℕ → List (List ℕ) → Option Hit
 first_from test idx [] = None
-first_from test idx (entry ∷ entries) = hit_or (test entry) entry idx (first_from test (idx + 1) entries)
+first_from test idx (entry ∷ entries) =
+    hit_or (test entry) entry idx (first_from test (idx + 1) entries)
 
--- the first of these entries with a hit, where they stand newest first: an entry's place is the number of those behind it
+-- the first of these entries with a hit, where they stand newest first: an entry's place is the
+-- number of those after it
 abbrev pub first_back : (List ℕ → Option ℕ) → List (List ℕ) → Option Hit
 first_back test [] = None
-first_back test (entry ∷ entries) = hit_or (test entry) entry (length entries) (first_back test entries)
+first_back test (entry ∷ entries) =
+    hit_or (test entry) entry (length entries) (first_back test entries)
 
 -- the nearest entry with a hit, from the place `start` on
 abbrev pub nearest : SearchDirection → (List ℕ → Option ℕ) → ℕ → List (List ℕ) → Option Hit
 nearest Forward test start entries = first_from test start (drop start entries)
 nearest Reverse test start entries = first_back test (reverse (take (start + 1) entries))
 
--- what a search answers: nothing for the empty term or a place behind the last entry
+-- what a search answers: nothing for the empty term or a place after the last entry
 abbrev pub searched : Bool → List ℕ → ℕ → SearchDirection → List (List ℕ) → Option Hit
-searched anchored term start direction entries = if length term == 0 || nat_le (length entries) start then None
+searched anchored term start direction entries =
+    if length term == 0 || nat_le (length entries) start then None
     else nearest direction (hit_by anchored term) start entries
 
 -- the entry at a place, its hit at its start
 abbrev pub entry_at : ℕ → List (List ℕ) → Option Hit
-entry_at idx entries = option_map (λ entry. record { entry = entry; idx = idx; pos = 0 }) (slice_get entries idx)
+entry_at idx entries =
+    option_map (λ entry. record { entry = entry; idx = idx; pos = 0 }) (slice_get entries idx)

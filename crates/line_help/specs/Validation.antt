@@ -16,9 +16,11 @@ has_message (Invalid None) = false
 has_message (Valid (Some message)) = true
 has_message (Valid None) = false
 
--- the messages: an open bracket that another one's closing bracket meets, and a closing bracket where none is open
+-- the messages: an open bracket that another one's closing bracket meets, and a closing bracket
+-- where none is open
 abbrev pub not_closed : ℕ → List ℕ
-not_closed opening = codes "Mismatched brackets: '" ++ (encode_utf8 opening ++ codes "' is not properly closed")
+not_closed opening =
+    codes "Mismatched brackets: '" ++ (encode_utf8 opening ++ codes "' is not properly closed")
 
 abbrev pub unpaired : ℕ → List ℕ
 unpaired closing = codes "Mismatched brackets: '" ++ (encode_utf8 closing ++ codes "' is unpaired")
@@ -45,7 +47,8 @@ without_innermost (opening ∷ others) = others
 abbrev pub verdict_from : List ℕ → List ℕ → ValidationResult
 verdict_from unclosed [] = verdict_at_end unclosed
 verdict_from unclosed (byte ∷ text) = if is_opening byte then verdict_from (byte ∷ unclosed) text
-    else if is_closing byte then (if closes_innermost byte unclosed then verdict_from (without_innermost unclosed) text else mismatch byte unclosed)
+    else if is_closing byte then (if closes_innermost byte unclosed
+    then verdict_from (without_innermost unclosed) text else mismatch byte unclosed)
     else verdict_from unclosed text
 
 abbrev pub bracket_verdict : List ℕ → ValidationResult

@@ -13,7 +13,8 @@ abbrev pub is_escaped : Option ℕ → List ℕ → Bool
 is_escaped esc [] = false
 is_escaped esc (c ∷ cs) = is_escape esc c
 
--- what stands before the word, both read from the end: the word begins behind the nearest break character that has no escape before it
+-- what stands before the word, both read from the end: the word begins after the nearest break
+-- character that has no escape before it
 abbrev pub before_word : Option ℕ → (ℕ → Bool) → List ℕ → List ℕ
 before_word esc breaks [] = []
 before_word esc breaks (c ∷ []) = if breaks c then c ∷ [] else []
@@ -23,11 +24,14 @@ before_word esc breaks (c ∷ (d ∷ cs)) = if breaks c
 
 -- where the last word of a text begins
 abbrev pub word_start : Option ℕ → (ℕ → Bool) → List ℕ → ℕ
-word_start esc breaks text = length (encode_utf8_all (reverse (before_word esc breaks (reverse (chars text)))))
+word_start esc breaks text =
+    length (encode_utf8_all (reverse (before_word esc breaks (reverse (chars text)))))
 
--- the characters that end a word in a shell: space, tab, newline, " \ ' ` @ $ > < = ; | & { ( and NUL
+-- the characters that end a word in a shell: space, tab, newline, " \ ' ` @ $ > < = ; | & { ( and
+-- NUL
 abbrev pub break_characters : List ℕ
-break_characters = 32 ∷ 9 ∷ 10 ∷ 34 ∷ 92 ∷ 39 ∷ 96 ∷ 64 ∷ 36 ∷ 62 ∷ 60 ∷ 61 ∷ 59 ∷ 124 ∷ 38 ∷ 123 ∷ 40 ∷ 0 ∷ []
+break_characters =
+    32 ∷ 9 ∷ 10 ∷ 34 ∷ 92 ∷ 39 ∷ 96 ∷ 64 ∷ 36 ∷ 62 ∷ 60 ∷ 61 ∷ 59 ∷ 124 ∷ 38 ∷ 123 ∷ 40 ∷ 0 ∷ []
 
 -- those that keep a meaning between double quotes: " $ \ `
 abbrev pub double_quote_characters : List ℕ

@@ -10,8 +10,8 @@ use std::alloc::{AllocError, Global};
 use std::borrow::CowStr;
 use std::marker::Model;
 
-/// Shows the bracket that matches the one at the cursor in bold and blue. It keeps the bracket at the cursor from
-/// `highlight_char` to the drawing that follows.
+/// Shows the bracket that matches the one at the cursor in bold and blue. It keeps the bracket at
+/// the cursor from `highlight_char` to the drawing that follows.
 #[derive(Clone, Copy, Debug)]
 pub struct MatchingBracketHighlighter {
     bracket: Option<(u8, usize)>,
@@ -95,7 +95,8 @@ impl Highlighter for MatchingBracketHighlighter {
         Ok(CowStr::Borrowed(candidate))
     }
 
-    /// Keeps the bracket whose match is to be shown, and tells whether there is one. A line's last drawing shows none.
+    /// Keeps the bracket whose match is to be shown, and tells whether there is one. A line's last
+    /// drawing shows none.
     fn highlight_char(&mut self, line: &str, pos: usize, kind: CmdKind) -> bool
         ensures bracket { self.new ≡ kept_bracket line.now pos kind }
         ensures marks { result ≡ is_some (kept_bracket line.now pos kind) }
@@ -113,7 +114,8 @@ impl Highlighter for MatchingBracketHighlighter {
 fn with_bold(alloc: Global, line: &str, bracket: u8, place: usize) -> Result<String, AllocError>
     requires stands { slice_get line.now place ≡ Some bracket }
     requires ascii { bracket < 128 }
-    ensures { IfOk result (λ shown. string_bytes shown ≡ with_bold_byte line.now (Some (bracket, place))) }
+    ensures { IfOk result (λ shown. string_bytes shown
+        ≡ with_bold_byte line.now (Some (bracket, place))) }
 {
     let mut shown = String::from_str(alloc, &line[..place])?;
     shown.push_str("\x1b[1;34m")?;

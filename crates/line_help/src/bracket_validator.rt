@@ -9,7 +9,8 @@ use line_config::HookFault;
 use line_keys::Text;
 use std::alloc::{AllocError, Global};
 
-/// A line may be accepted where its brackets are balanced. Where more closing brackets are wanted it is incomplete.
+/// A line may be accepted where its brackets are balanced. Where more closing brackets are wanted
+/// it is incomplete.
 #[derive(Clone, Copy, Debug, Default)]
 pub struct MatchingBracketValidator;
 
@@ -42,8 +43,9 @@ impl Validator for MatchingBracketValidator {
     }
 }
 
-/// Whether the brackets of a text are balanced. The first closing bracket that doesn't fit makes it invalid, with a message
-/// that names the innermost open bracket, or the closing one where none is open.
+/// Whether the brackets of a text are balanced. The first closing bracket that doesn't fit makes it
+/// invalid, with a message that names the innermost open bracket, or the closing one where none is
+/// open.
 pub fn validate_brackets(alloc: Global, input: &str) -> Result<ValidationResult, HookFault>
     ensures verdict { IfOk result (λ found. found ≡ bracket_verdict input.now) }
     ensures fault { IfErr result (λ e. e ≡ Memory) }
@@ -77,7 +79,8 @@ pub fn validate_brackets(alloc: Global, input: &str) -> Result<ValidationResult,
 
 /// A message on one bracket.
 fn mismatch(alloc: Global, bracket: u8, fault: &str) -> Result<Text, AllocError>
-    ensures { IfOk result (λ message. message ≡ codes "Mismatched brackets: '" ++ (encode_utf8 bracket ++ fault.now)) }
+    ensures { IfOk result (λ message. message
+        ≡ codes "Mismatched brackets: '" ++ (encode_utf8 bracket ++ fault.now)) }
 {
     let mut message = String::from_str(alloc, "Mismatched brackets: '")?;
     message.push(bracket as char)?;

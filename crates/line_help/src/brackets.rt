@@ -53,9 +53,10 @@ fn bracket_near(bytes: &[u8], pos: usize) -> Option<(u8, usize)>
     }
 }
 
-/// The bracket whose match is to be shown, and its place: the one at the cursor, else the one right before it. Behind the
-/// line the cursor shows a closing bracket alone; elsewhere neither a closing bracket that begins the line nor an opening
-/// one that ends it is answered, as they can have no match.
+/// The bracket whose match is to be shown, and its place: the one at the cursor, else the one right
+/// before it. After the line the cursor shows a closing bracket alone; elsewhere neither a closing
+/// bracket that begins the line nor an opening one that ends it is answered, as they can have no
+/// match.
 pub fn check_bracket(line: &str, pos: usize) -> Option<(u8, usize)>
     ensures { result ≡ bracket_to_match line.now pos }
 {
@@ -76,9 +77,10 @@ pub fn check_bracket(line: &str, pos: usize) -> Option<(u8, usize)>
     if has_room { Some((byte, place)) } else { None }
 }
 
-/// The bracket that matches `bracket` at `pos`, and its place: the first one behind an opening bracket, the nearest before a
-/// closing one, with which none of that kind is left unclosed. Brackets of other kinds don't count. A byte that is no bracket
-/// has no match. What stands at `pos` itself isn't looked at.
+/// The bracket that matches `bracket` at `pos`, and its place: the first one after an opening
+/// bracket, the nearest before a closing one, with which none of that kind is left unclosed.
+/// Brackets of other kinds don't count. A byte that is no bracket has no match. What stands at
+/// `pos` itself isn't looked at.
 pub fn find_matching_bracket(line: &str, pos: usize, bracket: u8) -> Option<(u8, usize)>
     ensures place { result ≡ match_of line.now pos bracket }
     ensures stands { IfSome result (λ found. slice_get line.now found.1 ≡ Some found.0) }
@@ -96,10 +98,11 @@ pub fn find_matching_bracket(line: &str, pos: usize, bracket: u8) -> Option<(u8,
     Some((matching, place))
 }
 
-/// The place behind `pos` of the `matching` bracket.
+/// The place after `pos` of the `matching` bracket.
 #[tactic(auto, using(crate::proofs::MatchLemmas::behind_steps))]
 fn match_behind(bytes: &[u8], pos: usize, bracket: u8, matching: u8) -> Option<usize>
-    ensures place { result ≡ option_map (λ n. pos + 1 + n) (bytes_between bracket matching 0 (drop (pos + 1) bytes.now)) }
+    ensures place { result ≡ option_map (λ n. pos + 1 + n)
+        (bytes_between bracket matching 0 (drop (pos + 1) bytes.now)) }
     ensures stands { IfSome result (λ place. slice_get bytes.now place ≡ Some matching) }
 {
     if pos >= bytes.len() {
@@ -122,7 +125,8 @@ fn match_behind(bytes: &[u8], pos: usize, bracket: u8, matching: u8) -> Option<u
 /// The place before `pos` of the `matching` bracket.
 #[tactic(auto, using(crate::proofs::MatchLemmas::before_steps))]
 fn match_before(bytes: &[u8], pos: usize, bracket: u8, matching: u8) -> Option<usize>
-    ensures place { result ≡ option_map (λ n. length (take pos bytes.now) - 1 - n) (bytes_between bracket matching 0 (reverse (take pos bytes.now))) }
+    ensures place { result ≡ option_map (λ n. length (take pos bytes.now) - 1 - n)
+        (bytes_between bracket matching 0 (reverse (take pos bytes.now))) }
     ensures stands { IfSome result (λ place. slice_get bytes.now place ≡ Some matching) }
 {
     let mut unclosed: usize = 0;

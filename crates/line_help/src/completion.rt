@@ -54,7 +54,11 @@ impl Model for Pair {
 
     ghost Value = { Offered };
 
-    ghost view = { λ p. record { display = string_bytes p.display; replacement = string_bytes p.replacement } };
+    ghost view = { λ p. record {
+      display = string_bytes p.display;
+      replacement = string_bytes
+          p.replacement;
+    } };
 }
 
 impl Pair {
@@ -98,8 +102,9 @@ pub trait Completer {
     // Whether it fails to update a line, by the line, the start and the text to be put in.
     ghost updating_fails: { Self → Line → ℕ → List ℕ → Bool };
 
-    /// Where the word before the cursor at `pos` starts, in bytes, and the candidates for it. They depend on nothing but
-    /// line, place, entries and place in the history; want of memory may be answered besides.
+    /// Where the word before the cursor at `pos` starts, in bytes, and the candidates for it. They
+    /// depend on nothing but line, place, entries and place in the history; want of memory may be
+    /// answered besides.
     fn complete<Hi: History>(
         &self,
         alloc: Global,
@@ -108,10 +113,17 @@ pub trait Completer {
         ctx: &Context<'_, Hi>,
     ) -> Result<(usize, Vec<Self::Candidate>), HookFault>
         requires { IsCharBoundary line.now pos }
-        ensures start { IfOk result (λ found. found.0 ≡ (completion_of self.now line.now pos (Hi.entries ctx.now.history.now) ctx.now.place).start) }
-        ensures candidates { IfOk result (λ found. map Self.Candidate.offers found.1.items ≡ (completion_of self.now line.now pos (Hi.entries ctx.now.history.now) ctx.now.place).candidates) }
-        ensures fine { OnOk result (completing_fails self.now line.now pos (Hi.entries ctx.now.history.now) ctx.now.place ≡ false) }
-        ensures fault { IfErr result (λ e. (e ≡ Memory) ⊎ ((e ≡ Failed) × IsTrue (completing_fails self.now line.now pos (Hi.entries ctx.now.history.now) ctx.now.place))) };
+        ensures start { IfOk result (λ found. found.0
+            ≡ (completion_of self.now line.now pos (Hi.entries ctx.now.history.now)
+            ctx.now.place).start) }
+        ensures candidates { IfOk result (λ found. map Self.Candidate.offers found.1.items
+            ≡ (completion_of self.now line.now pos (Hi.entries ctx.now.history.now)
+            ctx.now.place).candidates) }
+        ensures fine { OnOk result (completing_fails self.now line.now pos
+            (Hi.entries ctx.now.history.now) ctx.now.place ≡ false) }
+        ensures fault { IfErr result (λ e. (e ≡ Memory)
+            ⊎ ((e ≡ Failed) × IsTrue (completing_fails self.now line.now pos
+            (Hi.entries ctx.now.history.now) ctx.now.place))) };
 
     /// Puts a candidate's replacement in place of the line from `start` to the cursor.
     fn update<L: ChangeListener>(
@@ -124,12 +136,18 @@ pub trait Completer {
     ) -> Result<(), HookFault>
         requires order { start ≤ line.old.place }
         requires boundary { IsCharBoundary line.old.text start }
-        ensures told { OnOk result (L.takes cl.old (replacement start line.old.place elected.now line.old.text) cl.new) }
-        ensures replays { OnOk result (Replays (replacement start line.old.place elected.now line.old.text) line.old.text line.new.text) }
+        ensures told { OnOk result (L.takes cl.old
+            (replacement start line.old.place elected.now line.old.text) cl.new) }
+        ensures replays { OnOk result (Replays
+            (replacement start line.old.place elected.now line.old.text) line.old.text
+            line.new.text) }
         ensures line { OnOk result (line.new ≡ replaced start line.old.place elected.now line.old) }
-        ensures refused { OnErr result ((cl.new ≡ cl.old) ⊎ L.refuses cl.old (replacement start line.old.place elected.now line.old.text) cl.new) }
+        ensures refused { OnErr result ((cl.new ≡ cl.old)
+            ⊎ L.refuses cl.old (replacement start line.old.place elected.now line.old.text)
+            cl.new) }
         ensures kept { OnErr result (line.new ≡ line.old) }
-        ensures fault { IfErr result (λ e. (e ≡ Memory) ⊎ ((e ≡ Failed) × IsTrue (updating_fails self.now line.old start elected.now))) }
+        ensures fault { IfErr result (λ e. (e ≡ Memory)
+            ⊎ ((e ≡ Failed) × IsTrue (updating_fails self.now line.old start elected.now))) }
     {
         let end = line.pos();
         line.replace(alloc, start..end, elected, cl)?;

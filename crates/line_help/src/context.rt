@@ -3,7 +3,8 @@ ghost use Rattle.std.specs.Prelude.{◌≡◌, ◌≤◌, length};
 
 use crate::history::History;
 
-/// A history, and a place in it: that of the entry that is shown, or the end, the number of entries, where none is.
+/// A history, and a place in it: that of the entry that is shown, or the end, the number of
+/// entries, where none is.
 #[derive(Drop)]
 pub struct Context<'h, Hi: History> {
     pub(crate) history: &'h Hi,

@@ -8,7 +8,8 @@ use std::alloc::{AllocError, Global};
 
 /// Writes some bytes of a history's text.
 pub(crate) fn put<S: Sink>(sink: &mut S, bytes: &[u8]) -> Result<(), ReadlineError>
-    ensures text { IsTrue (S.told sink.old) → OnOk result (S.held sink.new ≡ S.held sink.old ++ bytes.now) }
+    ensures text { IsTrue (S.told sink.old)
+        → OnOk result (S.held sink.new ≡ S.held sink.old ++ bytes.now) }
     ensures told { IsTrue (S.told sink.old) → IsTrue (S.told sink.new) }
     ensures error { IfErr result (λ e. e ≡ HistoryText) }
     ensures failure { S.has_failed sink.new ≡ is_err result }
@@ -21,7 +22,8 @@ pub(crate) fn put<S: Sink>(sink: &mut S, bytes: &[u8]) -> Result<(), ReadlineErr
 
 /// Writes an entry as a row, which a newline closes.
 pub(crate) fn write_row<S: Sink>(sink: &mut S, entry: &str) -> Result<(), ReadlineError>
-    ensures text { IsTrue (S.told sink.old) → OnOk result (S.held sink.new ≡ S.held sink.old ++ row_of entry.now) }
+    ensures text { IsTrue (S.told sink.old)
+        → OnOk result (S.held sink.new ≡ S.held sink.old ++ row_of entry.now) }
     ensures told { IsTrue (S.told sink.old) → IsTrue (S.told sink.new) }
     ensures error { IfErr result (λ e. e ≡ HistoryText) }
     ensures failure { S.has_failed sink.new ≡ is_err result }
@@ -38,8 +40,8 @@ pub(crate) fn write_row<S: Sink>(sink: &mut S, entry: &str) -> Result<(), Readli
     Ok(())
 }
 
-/// The text that a row with escapes stands for. There is none where a backslash stands before anything but `n` and a
-/// backslash.
+/// The text that a row with escapes stands for. There is none where a backslash stands before
+/// anything but `n` and a backslash.
 #[tactic(auto, using(crate::proofs::EscapeLemmas::escape_steps))]
 pub(crate) fn unescaped(alloc: Global, row: &str) -> Result<Option<String>, AllocError>
     ensures { IfOk result (λ text. option_map string_bytes text ≡ unescaped_row row.now) }

@@ -11,11 +11,12 @@ use std::alloc::Global;
 use std::marker::Model;
 use std::ops::Index;
 
-/// A history that can be loaded from a source and saved to a sink. It counts the entries that are new since it was last
-/// loaded, saved, appended or cleared.
+/// A history that can be loaded from a source and saved to a sink. It counts the entries that are
+/// new since it was last loaded, saved, appended or cleared.
 ///
-/// Its text has a row for each entry, behind a first row `#V2`. In the rows a newline is written as `\n` and a backslash as
-/// two. A text without that first row is read too: its rows have no escapes.
+/// Its text has a row for each entry, after a first row `#V2`. In the rows a newline is written as
+/// `\n` and a backslash as two. A text without that first row is read too: its rows have no
+/// escapes.
 #[derive(Debug, Drop)]
 pub struct FileHistory {
     memory: MemHistory,
@@ -49,8 +50,8 @@ impl FileHistory {
         Self::with_config(alloc, &Config::default())
     }
 
-    /// A history with the settings for histories of a configuration: how many entries are kept, and which lines are
-    /// ignored.
+    /// A history with the settings for histories of a configuration: how many entries are kept, and
+    /// which lines are ignored.
     pub fn with_config(alloc: Global, config: &Config) -> Self
         ensures { result ≡ nothing_filed (settings_of config.now) }
     {
@@ -77,7 +78,9 @@ impl FileHistory {
 
     /// Writes the rows of the entries from the first one on, and passes on what was written.
     fn write_rows<S: Sink>(&self, sink: &mut S, first: usize) -> Result<(), ReadlineError>
-        ensures text { IsTrue (S.told sink.old) → OnOk result (S.held sink.new ≡ S.held sink.old ++ rows_text (drop first self.now.kept.entries)) }
+        ensures text { IsTrue (S.told sink.old)
+            → OnOk result (S.held sink.new
+            ≡ S.held sink.old ++ rows_text (drop first self.now.kept.entries)) }
         ensures told { IsTrue (S.told sink.old) → IsTrue (S.told sink.new) }
         ensures error { IfErr result (λ e. e ≡ HistoryText) }
         ensures failure { S.has_failed sink.new ≡ is_err result }
@@ -91,15 +94,17 @@ impl FileHistory {
         }
     }
 
-    /// Writes the whole text of the history, where an entry is new. Then none is new. Where the sink fails nothing
-    /// changes: what it took of the text is then unknown.
+    /// Writes the whole text of the history, where an entry is new. Then none is new. Where the
+    /// sink fails nothing changes: what it took of the text is then unknown.
     pub fn save_to<S: Sink>(&mut self, sink: &mut S) -> Result<(), ReadlineError>
-        ensures text { IsTrue (S.told sink.old) → OnOk result (S.held sink.new ≡ S.held sink.old ++ text_to_save self.old) }
+        ensures text { IsTrue (S.told sink.old)
+            → OnOk result (S.held sink.new ≡ S.held sink.old ++ text_to_save self.old) }
         ensures told { IsTrue (S.told sink.old) → IsTrue (S.told sink.new) }
         ensures saved { OnOk result (self.new ≡ all_saved self.old) }
         ensures kept { OnErr result (self.new ≡ self.old) }
         ensures error { IfErr result (λ e. (e ≡ HistoryText) × IsTrue (S.has_failed sink.new)) }
-        ensures fine { OnOk result (IsTrue (S.has_failed sink.new) → IsTrue (S.has_failed sink.old)) }
+        ensures fine { OnOk result
+            (IsTrue (S.has_failed sink.new) → IsTrue (S.has_failed sink.old)) }
     {
         if self.unsaved == 0 {
             return Ok(());
@@ -110,15 +115,18 @@ impl FileHistory {
         Ok(())
     }
 
-    /// Writes the rows of the new entries, where there are any, to go behind a text that was saved before. Then none is
-    /// new. Where the sink fails nothing changes: what it took of the text is then unknown.
+    /// Writes the rows of the new entries, where there are any, to go after a text that was saved
+    /// before. Then none is new. Where the sink fails nothing changes: what it took of the text is
+    /// then unknown.
     pub fn append_to<S: Sink>(&mut self, sink: &mut S) -> Result<(), ReadlineError>
-        ensures text { IsTrue (S.told sink.old) → OnOk result (S.held sink.new ≡ S.held sink.old ++ text_to_append self.old) }
+        ensures text { IsTrue (S.told sink.old)
+            → OnOk result (S.held sink.new ≡ S.held sink.old ++ text_to_append self.old) }
         ensures told { IsTrue (S.told sink.old) → IsTrue (S.told sink.new) }
         ensures saved { OnOk result (self.new ≡ all_saved self.old) }
         ensures kept { OnErr result (self.new ≡ self.old) }
         ensures error { IfErr result (λ e. (e ≡ HistoryText) × IsTrue (S.has_failed sink.new)) }
-        ensures fine { OnOk result (IsTrue (S.has_failed sink.new) → IsTrue (S.has_failed sink.old)) }
+        ensures fine { OnOk result
+            (IsTrue (S.has_failed sink.new) → IsTrue (S.has_failed sink.old)) }
     {
         let count = self.unsaved;
         if count == 0 {
@@ -144,7 +152,8 @@ impl History for FileHistory {
     }
 
     fn add(&mut self, alloc: Global, line: &str) -> Result<bool, ReadlineError>
-        ensures answer { IfOk result (λ b. b ≡ not (ignored self.old.kept.settings self.old.kept.entries line.now)) }
+        ensures answer { IfOk result (λ b. b
+            ≡ not (ignored self.old.kept.settings self.old.kept.entries line.now)) }
         ensures added { OnOk result (self.new ≡ filed_with self.old line.now) }
         ensures kept { OnErr result (self.new ≡ self.old) }
         ensures error { IfErr result (λ e. e ≡ Memory) }
@@ -157,7 +166,8 @@ impl History for FileHistory {
     }
 
     fn add_owned(&mut self, alloc: Global, line: String) -> Result<bool, ReadlineError>
-        ensures answer { IfOk result (λ b. b ≡ not (ignored self.old.kept.settings self.old.kept.entries (string_bytes line))) }
+        ensures answer { IfOk result (λ b. b
+            ≡ not (ignored self.old.kept.settings self.old.kept.entries (string_bytes line))) }
         ensures added { OnOk result (self.new ≡ filed_with self.old (string_bytes line)) }
         ensures kept { OnErr result (self.new ≡ self.old) }
         ensures error { IfErr result (λ e. e ≡ Memory) }
@@ -185,13 +195,19 @@ impl History for FileHistory {
     }
 
     fn ignore_dups(&mut self, yes: bool)
-        ensures { self.new ≡ record self.old { kept = record self.old.kept { settings = record self.old.kept.settings { ignore_dups = yes } } } }
+        ensures { self.new ≡ record self.old {
+          kept = record self.old.kept
+              { settings = record self.old.kept.settings { ignore_dups = yes } };
+        } }
     {
         self.memory.ignore_dups(yes);
     }
 
     fn ignore_space(&mut self, yes: bool)
-        ensures { self.new ≡ record self.old { kept = record self.old.kept { settings = record self.old.kept.settings { ignore_space = yes } } } }
+        ensures { self.new ≡ record self.old {
+          kept = record self.old.kept
+              { settings = record self.old.kept.settings { ignore_space = yes } };
+        } }
     {
         self.memory.ignore_space(yes);
     }
@@ -225,7 +241,8 @@ impl Index<usize> for FileHistory {
 
     ghost can_index = { λ h i. i < length h.kept.entries };
 
-    ghost index_gives = { λ h i x. string_bytes x ≡ slice_index_or h.kept.entries i (string_bytes x) };
+    ghost index_gives = { λ h i x. string_bytes x
+        ≡ slice_index_or h.kept.entries i (string_bytes x) };
 
     fn index(&self, index: usize) -> &String {
         &self.memory[index]
@@ -253,12 +270,14 @@ impl FileHistory {
     ghost use Rattle.std.specs.Str.{is_utf8};
     ghost use Rattle.line_config.specs.declared.errors.ReadlineError.TheVariants.{HistoryText, Memory, Reader};
     ghost use Rattle.line_help.specs.History.{filed_with_all, takes_all};
-    ghost use Rattle.line_help.specs.HistoryText.{AddsSome, after_first, entries_of, follows, header, good_rows, load_answer, load_leaves, outcome, rows_of, says_reader, texts_of};
+    ghost use Rattle.line_help.specs.HistoryText.{AddsSome, after_first, entries_of, follows, header, good_rows, load_answer, load_leaves, outcome, text_rows, says_reader, texts_of};
 
     // Adds the entry of a row, and answers whether it isn't ignored. An empty row has none.
     fn add_row(&mut self, alloc: Global, row: &[u8], escapes: bool) -> Result<bool, ReadlineError>
-        ensures answer { IfOk result (λ b. b ≡ takes_all self.old (entries_of escapes (row.now ∷ []))) }
-        ensures added { OnOk result (self.new ≡ filed_with_all self.old (entries_of escapes (row.now ∷ []))) }
+        ensures answer { IfOk result (λ b. b
+            ≡ takes_all self.old (entries_of escapes (row.now ∷ []))) }
+        ensures added { OnOk result (self.new
+            ≡ filed_with_all self.old (entries_of escapes (row.now ∷ []))) }
         ensures text { OnOk result (is_utf8 row.now ≡ true) }
         ensures bad { result ≡ Err HistoryText → is_utf8 row.now ≡ false }
         ensures kept { OnErr result (self.new ≡ self.old) }
@@ -301,13 +320,20 @@ impl FileHistory {
         row: &mut Vec<u8>,
         escapes: bool,
     ) -> Result<bool, ReadlineError>
-        ensures answer { IsTrue (S.feed source.old).told → IsTrue (follows (S.feed source.old).steady result)
-            → let rows = rows_of (S.feed source.old).last (S.feed source.old).coming in
-            result ≡ outcome (S.feed source.old).last rows (takes_all self.old (entries_of escapes (good_rows rows))) }
-        ensures left { IsTrue (S.feed source.old).told → IsTrue (follows (S.feed source.old).steady result)
-            → self.new ≡ filed_with_all self.old (entries_of escapes (good_rows (rows_of (S.feed source.old).last (S.feed source.old).coming))) }
+        ensures answer { IsTrue (S.feed source.old).told
+            → IsTrue (follows (S.feed source.old).steady result)
+            → let rows = text_rows (S.feed source.old).last (S.feed source.old).coming in
+            result ≡ outcome (S.feed source.old).last rows
+            (takes_all self.old (entries_of escapes (good_rows rows))) }
+        ensures left { IsTrue (S.feed source.old).told
+            → IsTrue (follows (S.feed source.old).steady result)
+            → self.new ≡ filed_with_all self.old
+            (entries_of escapes (good_rows
+            (text_rows (S.feed source.old).last (S.feed source.old).coming))) }
         ensures part { IsTrue (S.feed source.old).told
-            → AddsSome (entries_of escapes (good_rows (rows_of (S.feed source.old).last (S.feed source.old).coming))) self.old self.new }
+            → AddsSome (entries_of escapes
+            (good_rows (text_rows (S.feed source.old).last (S.feed source.old).coming))) self.old
+            self.new }
         ensures error { IfErr result (λ e. (e ≡ Memory) ⊎ ((e ≡ HistoryText) ⊎ (e ≡ Reader))) }
         ensures failure { (S.feed source.new).failed ≡ says_reader result }
         ensures told { IsTrue (S.feed source.old).told → IsTrue (S.feed source.new).told }
@@ -323,23 +349,29 @@ impl FileHistory {
         Ok(whole)
     }
 
-    /// Adds the entries of a text, in order, and answers whether the text began with the first row of a saved one and none
-    /// of its rows was ignored. Then no entry is new.
+    /// Adds the entries of a text, in order, and answers whether the text began with the first row
+    /// of a saved one and none of its rows was ignored. Then no entry is new.
     ///
-    /// It goes row by row. Where the source fails (`Reader`), a row isn't UTF-8 (`HistoryText`) or memory is refused, the
-    /// rows before stay, and their entries are new.
+    /// It goes row by row. Where the source fails (`Reader`), a row isn't UTF-8 (`HistoryText`) or
+    /// memory is refused, the rows before stay, and their entries are new.
     #[tactic(auto, using(crate::proofs::LoadLemmas::load_steps))]
     pub fn load_from<S: Source>(
         &mut self,
         alloc: Global,
         source: &mut S,
     ) -> Result<bool, ReadlineError>
-        ensures answer { IsTrue (S.feed source.old).told → IsTrue (follows (S.feed source.old).steady result)
-            → result ≡ load_answer (S.feed source.old).last (rows_of (S.feed source.old).last (S.feed source.old).coming) self.old }
-        ensures left { IsTrue (S.feed source.old).told → IsTrue (follows (S.feed source.old).steady result)
-            → self.new ≡ load_leaves (S.feed source.old).last (rows_of (S.feed source.old).last (S.feed source.old).coming) self.old }
+        ensures answer { IsTrue (S.feed source.old).told
+            → IsTrue (follows (S.feed source.old).steady result)
+            → result ≡ load_answer (S.feed source.old).last
+            (text_rows (S.feed source.old).last (S.feed source.old).coming) self.old }
+        ensures left { IsTrue (S.feed source.old).told
+            → IsTrue (follows (S.feed source.old).steady result)
+            → self.new ≡ load_leaves (S.feed source.old).last
+            (text_rows (S.feed source.old).last (S.feed source.old).coming) self.old }
         ensures part { IsTrue (S.feed source.old).told
-            → OnErr result (AddsSome (texts_of (good_rows (rows_of (S.feed source.old).last (S.feed source.old).coming))) self.old self.new) }
+            → OnErr result (AddsSome (texts_of
+            (good_rows (text_rows (S.feed source.old).last (S.feed source.old).coming))) self.old
+            self.new) }
         ensures error { IfErr result (λ e. (e ≡ Memory) ⊎ ((e ≡ HistoryText) ⊎ (e ≡ Reader))) }
         ensures failure { (S.feed source.new).failed ≡ says_reader result }
         ensures told { IsTrue (S.feed source.old).told → IsTrue (S.feed source.new).told }

@@ -51,12 +51,13 @@ pub trait Lister {
     // Whether it can't be listed.
     ghost listing_fails: { Self → List ℕ → Bool };
 
-    /// What the folder `dir` holds, and nothing where there is no such folder. The path ends in a slash, or is empty where no
-    /// folder was typed.
+    /// What the folder `dir` holds, and nothing where there is no such folder. The path ends in a
+    /// slash, or is empty where no folder was typed.
     fn list(&self, alloc: Global, dir: &str) -> Result<Vec<Listed>, HookFault>
         ensures names { IfOk result (λ names. names.items ≡ held_in self.now dir.now) }
         ensures fine { OnOk result (listing_fails self.now dir.now ≡ false) }
-        ensures fault { IfErr result (λ e. (e ≡ Memory) ⊎ ((e ≡ Failed) × IsTrue (listing_fails self.now dir.now))) };
+        ensures fault { IfErr result (λ e. (e ≡ Memory)
+            ⊎ ((e ≡ Failed) × IsTrue (listing_fails self.now dir.now))) };
 }
 
 /// Completes the names of files and folders.
@@ -76,7 +77,7 @@ struct TypedPath<'l> {
 /// The escape in paths.
 const ESCAPE_CHAR: Option<char> = Some('\\');
 
-/// The path that stands behind a quote.
+/// The path that stands after a quote.
 fn quoted<'l>(
     alloc: Global,
     text: &'l str,
@@ -84,7 +85,8 @@ fn quoted<'l>(
     quote: Quote,
 ) -> Result<TypedPath<'l>, HookFault>
     requires { IsCharBoundary text.now start }
-    ensures typed { IfOk result (λ typed. typed_of typed.start (cow_str_bytes typed.path) typed.quote ≡ quoted start quote text.now) }
+    ensures typed { IfOk result (λ typed. typed_of typed.start (cow_str_bytes typed.path)
+        typed.quote ≡ quoted start quote text.now) }
     ensures fault { IfErr result (λ e. e ≡ Memory) }
 {
     let rest = &text[start..];
@@ -95,10 +97,11 @@ fn quoted<'l>(
     Ok(TypedPath { start, path, quote })
 }
 
-/// The path at the end of a text: what stands behind an open quote, else the last word.
+/// The path at the end of a text: what stands after an open quote, else the last word.
 #[tactic(auto, using(crate::proofs::FileNameLemmas::behind_quote))]
 fn typed_path<'l>(alloc: Global, text: &'l str) -> Result<TypedPath<'l>, HookFault>
-    ensures typed { IfOk result (λ typed. typed_of typed.start (cow_str_bytes typed.path) typed.quote ≡ typed_path text.now) }
+    ensures typed { IfOk result (λ typed. typed_of typed.start (cow_str_bytes typed.path)
+        typed.quote ≡ typed_path text.now) }
     ensures fault { IfErr result (λ e. e ≡ Memory) }
 {
     match find_unclosed_quote(text) {
@@ -128,7 +131,8 @@ fn split_path(path: &str) -> (&str, &str)
 
 /// A path with an escape before each character that needs one.
 fn escape_path(alloc: Global, path: String, quote: Quote) -> Result<String, HookFault>
-    ensures text { IfOk result (λ text. string_bytes text ≡ escaped (string_bytes path) (Some 92) (is_special quote) quote) }
+    ensures text { IfOk result (λ text. string_bytes text
+        ≡ escaped (string_bytes path) (Some 92) (is_special quote) quote) }
     ensures fault { IfErr result (λ e. e ≡ Memory) }
 {
     match quote {
@@ -168,7 +172,8 @@ fn offered_names(
     name: &str,
     all: &[Listed],
 ) -> Result<Vec<Pair>, HookFault>
-    ensures pairs { IfOk result (λ pairs. pairs.items ≡ offered_names quote folder.now name.now all.now) }
+    ensures pairs { IfOk result (λ pairs. pairs.items
+        ≡ offered_names quote folder.now name.now all.now) }
     ensures fault { IfErr result (λ e. e ≡ Memory) }
 {
     let mut pairs = Vec::new(alloc);
@@ -188,7 +193,8 @@ impl<L: Lister> FilenameCompleter<L> {
         FilenameCompleter { lister }
     }
 
-    /// Where the path before `pos` starts, and a candidate for each name in its folder that begins as it does, by name.
+    /// Where the path before `pos` starts, and a candidate for each name in its folder that begins
+    /// as it does, by name.
     pub fn complete_path(
         &self,
         alloc: Global,
@@ -196,11 +202,16 @@ impl<L: Lister> FilenameCompleter<L> {
         pos: usize,
     ) -> Result<(usize, Vec<Pair>), HookFault>
         requires { IsCharBoundary line.now pos }
-        ensures start { IfOk result (λ found. found.0 ≡ (path_completion (L.held_in self.now.lister) (take pos line.now)).start) }
-        ensures candidates { IfOk result (λ found. found.1.items ≡ (path_completion (L.held_in self.now.lister) (take pos line.now)).candidates) }
+        ensures start { IfOk result (λ found. found.0
+            ≡ (path_completion (L.held_in self.now.lister) (take pos line.now)).start) }
+        ensures candidates { IfOk result (λ found. found.1.items
+            ≡ (path_completion (L.held_in self.now.lister) (take pos line.now)).candidates) }
         ensures sorted { IfOk result (λ found. IsSortedBy displayed_before found.1.items) }
-        ensures fine { OnOk result (L.listing_fails self.now.lister (folder_of (typed_path (take pos line.now)).path) ≡ false) }
-        ensures fault { IfErr result (λ e. (e ≡ Memory) ⊎ ((e ≡ Failed) × IsTrue (L.listing_fails self.now.lister (folder_of (typed_path (take pos line.now)).path)))) }
+        ensures fine { OnOk result (L.listing_fails self.now.lister
+            (folder_of (typed_path (take pos line.now)).path) ≡ false) }
+        ensures fault { IfErr result (λ e. (e ≡ Memory)
+            ⊎ ((e ≡ Failed) × IsTrue (L.listing_fails self.now.lister
+            (folder_of (typed_path (take pos line.now)).path)))) }
     {
         let (start, mut pairs) = self.complete_path_unsorted(alloc, line, pos)?;
         pairs.sort_by(|one, other| one.display().cmp(other.display()))?;
@@ -215,10 +226,15 @@ impl<L: Lister> FilenameCompleter<L> {
         pos: usize,
     ) -> Result<(usize, Vec<Pair>), HookFault>
         requires { IsCharBoundary line.now pos }
-        ensures start { IfOk result (λ found. found.0 ≡ (unsorted_completion (L.held_in self.now.lister) (take pos line.now)).start) }
-        ensures candidates { IfOk result (λ found. found.1.items ≡ (unsorted_completion (L.held_in self.now.lister) (take pos line.now)).candidates) }
-        ensures fine { OnOk result (L.listing_fails self.now.lister (folder_of (typed_path (take pos line.now)).path) ≡ false) }
-        ensures fault { IfErr result (λ e. (e ≡ Memory) ⊎ ((e ≡ Failed) × IsTrue (L.listing_fails self.now.lister (folder_of (typed_path (take pos line.now)).path)))) }
+        ensures start { IfOk result (λ found. found.0
+            ≡ (unsorted_completion (L.held_in self.now.lister) (take pos line.now)).start) }
+        ensures candidates { IfOk result (λ found. found.1.items
+            ≡ (unsorted_completion (L.held_in self.now.lister) (take pos line.now)).candidates) }
+        ensures fine { OnOk result (L.listing_fails self.now.lister
+            (folder_of (typed_path (take pos line.now)).path) ≡ false) }
+        ensures fault { IfErr result (λ e. (e ≡ Memory)
+            ⊎ ((e ≡ Failed) × IsTrue (L.listing_fails self.now.lister
+            (folder_of (typed_path (take pos line.now)).path)))) }
     {
         let typed = typed_path(alloc, &line[..pos])?;
         let (folder, name) = split_path(typed.path.as_str());
@@ -231,9 +247,11 @@ impl<L: Lister> FilenameCompleter<L> {
 impl<L: Lister> Completer for FilenameCompleter<L> {
     type Candidate = Pair;
 
-    ghost completion_of = { λ self line pos entries place. path_completion (L.held_in self.lister) (take pos line) };
+    ghost completion_of = { λ self line pos entries place. path_completion (L.held_in self.lister)
+        (take pos line) };
 
-    ghost completing_fails = { λ self line pos entries place. L.listing_fails self.lister (folder_of (typed_path (take pos line)).path) };
+    ghost completing_fails = { λ self line pos entries place. L.listing_fails self.lister
+        (folder_of (typed_path (take pos line)).path) };
 
     ghost updating_fails = { λ self line start elected. false };
 

@@ -12,8 +12,9 @@ use std::borrow::CowStr;
 
 /// What highlights a line and what is shown with it, for a display with colours.
 ///
-/// A highlighted text is the text with control sequences put in that change how characters are drawn, and so takes up the
-/// same columns. Each call answers what `shown_as` says of the text; want of memory may be answered besides.
+/// A highlighted text is the text with control sequences put in that change how characters are
+/// drawn, and so takes up the same columns. Each call answers what `shown_as` says of the text;
+/// want of memory may be answered besides.
 pub trait Highlighter {
     // Whether something in a line is highlighted, by line, place and reason of the drawing.
     ghost marks: { Self → List ℕ → ℕ → CmdKind → Bool };
@@ -31,7 +32,8 @@ pub trait Highlighter {
         line: &'l str,
         pos: usize,
     ) -> Result<CowStr<'l>, HookFault>
-        ensures { Highlights cow_str_bytes line.now (shown_as self.now (OfLine pos) line.now) result };
+        ensures { Highlights cow_str_bytes line.now
+            (shown_as self.now (OfLine pos) line.now) result };
 
     /// The prompt: the line's own, or another one.
     fn highlight_prompt<'p>(
@@ -40,7 +42,8 @@ pub trait Highlighter {
         prompt: &'p str,
         default: bool,
     ) -> Result<CowStr<'p>, HookFault>
-        ensures { Highlights cow_str_bytes prompt.now (shown_as self.now (OfPrompt default) prompt.now) result };
+        ensures { Highlights cow_str_bytes prompt.now
+            (shown_as self.now (OfPrompt default) prompt.now) result };
 
     /// The hint.
     fn highlight_hint<'h>(&self, alloc: Global, hint: &'h str) -> Result<CowStr<'h>, HookFault>
@@ -56,8 +59,9 @@ pub trait Highlighter {
         ensures { Highlights cow_str_bytes candidate.now
             (shown_as self.now (OfCandidate completion) candidate.now) result };
 
-    /// Whether something is highlighted in the line that is about to be drawn, with the cursor at `pos`. The answer depends on
-    /// nothing but line, place and reason, and no call changes what later ones answer.
+    /// Whether something is highlighted in the line that is about to be drawn, with the cursor at
+    /// `pos`. The answer depends on nothing but line, place and reason, and no call changes what
+    /// later ones answer.
     fn highlight_char(&mut self, line: &str, pos: usize, kind: CmdKind) -> bool
         ensures marks { result ≡ marks self.old line.now pos kind }
         ensures same { marks self.new ≡ marks self.old }

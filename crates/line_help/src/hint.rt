@@ -1,4 +1,4 @@
-//! Hints: texts that are shown behind a line.
+//! Hints: texts that are shown after a line.
 ghost use Rattle.std.specs.Prelude.{◌≡◌, ◌≤◌, ◌⊎◌, ℕ, List, Bool, Option, Some, None, false, IsTrue, IfOk, IfErr, OnOk, option_map, option_copied, length};
 ghost use Rattle.line_config.specs.declared.errors.HookFault.TheVariants.{Failed, Memory};
 ghost use Rattle.line_help.specs.Hints.{Hinted, text_hint, history_hint};
@@ -47,8 +47,8 @@ pub trait Hinter {
     // Whether it fails, by the same.
     ghost fails: { Self → List ℕ → ℕ → List (List ℕ) → ℕ → Bool };
 
-    /// The hint for a line with the cursor at `pos`, in bytes. It depends on nothing but line, place, entries and place in
-    /// the history; want of memory may be answered besides.
+    /// The hint for a line with the cursor at `pos`, in bytes. It depends on nothing but line,
+    /// place, entries and place in the history; want of memory may be answered besides.
     fn hint<Hi: History>(
         &self,
         alloc: Global,
@@ -57,9 +57,13 @@ pub trait Hinter {
         ctx: &Context<'_, Hi>,
     ) -> Result<Option<Self::Hint>, HookFault>
         requires { pos ≤ length line.now }
-        ensures hint { IfOk result (λ h. option_map Self.Hint.says h ≡ hint_of self.now line.now pos (Hi.entries ctx.now.history.now) ctx.now.place) }
-        ensures fine { OnOk result (fails self.now line.now pos (Hi.entries ctx.now.history.now) ctx.now.place ≡ false) }
-        ensures fault { IfErr result (λ e. (e ≡ Memory) ⊎ ((e ≡ Failed) × IsTrue (fails self.now line.now pos (Hi.entries ctx.now.history.now) ctx.now.place))) };
+        ensures hint { IfOk result (λ h. option_map Self.Hint.says h
+            ≡ hint_of self.now line.now pos (Hi.entries ctx.now.history.now) ctx.now.place) }
+        ensures fine { OnOk result (fails self.now line.now pos (Hi.entries ctx.now.history.now)
+            ctx.now.place ≡ false) }
+        ensures fault { IfErr result (λ e. (e ≡ Memory)
+            ⊎ ((e ≡ Failed) × IsTrue (fails self.now line.now pos (Hi.entries ctx.now.history.now)
+            ctx.now.place))) };
 }
 
 /// No hints.
@@ -81,8 +85,9 @@ impl Hinter for () {
     }
 }
 
-/// Hints from the history: the rest of the nearest entry that begins with the line, at or before the place in the history.
-/// There is none unless the cursor is at the end of a line that isn't empty, nor where the nearest entry is the line.
+/// Hints from the history: the rest of the nearest entry that begins with the line, at or before
+/// the place in the history. There is none unless the cursor is at the end of a line that isn't
+/// empty, nor where the nearest entry is the line.
 #[derive(Clone, Copy, Debug, Default)]
 pub struct HistoryHinter;
 
@@ -98,7 +103,8 @@ impl HistoryHinter {
 impl Hinter for HistoryHinter {
     type Hint = String;
 
-    ghost hint_of = { λ self line pos entries place. option_map text_hint (history_hint line pos entries place) };
+    ghost hint_of = { λ self line pos entries place. option_map text_hint
+        (history_hint line pos entries place) };
 
     ghost fails = { λ self line pos entries place. false };
 

@@ -15,24 +15,29 @@ pub trait History: Drop {
 
     ghost settings: { Self → Settings };
 
-    /// The entry at `index`. The direction matters only to a history that can't reach each entry at once.
+    /// The entry at `index`. The direction matters only to a history that can't reach each entry at
+    /// once.
     fn get(&self, index: usize, dir: SearchDirection) -> Option<SearchResult<'_>>
         ensures { option_map hit_of result ≡ entry_at index (entries self.now) };
 
-    /// Adds a line, and answers whether it did: a line is ignored where the history keeps no entries, where it is empty,
-    /// and, as the settings say, where it begins with whitespace or is the newest entry. The oldest entry goes where the
-    /// history is full.
+    /// Adds a line, and answers whether it did: a line is ignored where the history keeps no
+    /// entries, where it is empty, and, as the settings say, where it begins with whitespace or is
+    /// the newest entry. The oldest entry goes where the history is full.
     fn add(&mut self, alloc: Global, line: &str) -> Result<bool, ReadlineError>
-        ensures answer { IfOk result (λ b. b ≡ not (ignored (settings self.old) (entries self.old) line.now)) }
-        ensures entries { OnOk result (entries self.new ≡ added (settings self.old) (entries self.old) line.now) }
+        ensures answer { IfOk result (λ b. b
+            ≡ not (ignored (settings self.old) (entries self.old) line.now)) }
+        ensures entries { OnOk result (entries self.new
+            ≡ added (settings self.old) (entries self.old) line.now) }
         ensures kept { OnErr result (entries self.new ≡ entries self.old) }
         ensures settings { settings self.new ≡ settings self.old }
         ensures error { IfErr result (λ e. e ≡ Memory) };
 
     /// The same for a line that is handed over, whose text isn't copied.
     fn add_owned(&mut self, alloc: Global, line: String) -> Result<bool, ReadlineError>
-        ensures answer { IfOk result (λ b. b ≡ not (ignored (settings self.old) (entries self.old) (string_bytes line))) }
-        ensures entries { OnOk result (entries self.new ≡ added (settings self.old) (entries self.old) (string_bytes line)) }
+        ensures answer { IfOk result (λ b. b
+            ≡ not (ignored (settings self.old) (entries self.old) (string_bytes line))) }
+        ensures entries { OnOk result (entries self.new
+            ≡ added (settings self.old) (entries self.old) (string_bytes line)) }
         ensures kept { OnErr result (entries self.new ≡ entries self.old) }
         ensures settings { settings self.new ≡ settings self.old }
         ensures error { IfErr result (λ e. e ≡ Memory) };
@@ -65,10 +70,11 @@ pub trait History: Drop {
         ensures entries { entries self.new ≡ [] }
         ensures settings { settings self.new ≡ settings self.old };
 
-    /// The nearest entry that contains the term, from the entry at `start` on in the direction. There is none for the
-    /// empty term, nor from a place behind the last entry.
+    /// The nearest entry that contains the term, from the entry at `start` on in the direction.
+    /// There is none for the empty term, nor from a place after the last entry.
     fn search(&self, term: &str, start: usize, dir: SearchDirection) -> Option<SearchResult<'_>>
-        ensures found { option_map hit_of result ≡ searched false term.now start dir (entries self.now) }
+        ensures found { option_map hit_of result
+            ≡ searched false term.now start dir (entries self.now) }
         ensures inside { IfSome result (λ hit. hit.idx < length (entries self.now)) }
         ensures boundary { IfSome result (λ hit. IsCharBoundary hit.entry.now hit.pos) };
 
@@ -79,7 +85,8 @@ pub trait History: Drop {
         start: usize,
         dir: SearchDirection,
     ) -> Option<SearchResult<'_>>
-        ensures found { option_map hit_of result ≡ searched true term.now start dir (entries self.now) }
+        ensures found { option_map hit_of result
+            ≡ searched true term.now start dir (entries self.now) }
         ensures inside { IfSome result (λ hit. hit.idx < length (entries self.now)) }
         ensures boundary { IfSome result (λ hit. IsCharBoundary hit.entry.now hit.pos) };
 }

@@ -27,7 +27,11 @@ impl Model for MemHistory {
 
     ghost Value = { Kept };
 
-    ghost view = { λ h. record { entries = h.entries.items; settings = record { max_len = h.max_len; ignore_space = h.ignore_space; ignore_dups = h.ignore_dups } } };
+    ghost view = { λ h. record {
+      entries = h.entries.items;
+      settings = record
+          { max_len = h.max_len; ignore_space = h.ignore_space; ignore_dups = h.ignore_dups };
+    } };
 
     ghost invariant = { λ h. length h.entries.items ≤ h.max_len };
 }
@@ -46,8 +50,8 @@ impl MemHistory {
         Self::with_config(alloc, &Config::default())
     }
 
-    /// A history with the settings for histories of a configuration: how many entries are kept, and which lines are
-    /// ignored.
+    /// A history with the settings for histories of a configuration: how many entries are kept, and
+    /// which lines are ignored.
     pub fn with_config(alloc: Global, config: &Config) -> Self
         ensures { result ≡ nothing_kept (settings_of config.now) }
     {
@@ -88,7 +92,7 @@ impl MemHistory {
             || (self.ignore_dups && self.newest_is(line))
     }
 
-    // Puts an entry behind the others. The oldest one goes where there are too many.
+    // Puts an entry after the others. The oldest one goes where there are too many.
     fn insert(&mut self, entry: Entry) -> Result<(), ReadlineError>
         requires { 0 < self.old.settings.max_len }
         ensures entries { OnOk result (self.new ≡ entries_with self.old entry) }
@@ -110,7 +114,8 @@ impl MemHistory {
 
     #[tactic(auto, using(crate::proofs::SearchLemmas::from_steps))]
     fn first_from(&self, anchored: bool, term: &str, start: usize) -> Option<SearchResult<'_>>
-        ensures found { option_map hit_of result ≡ first_from (hit_by anchored term.now) start (drop start self.now.entries) }
+        ensures found { option_map hit_of result
+            ≡ first_from (hit_by anchored term.now) start (drop start self.now.entries) }
         ensures inside { IfSome result (λ hit. hit.idx < length self.now.entries) }
         ensures boundary { IfSome result (λ hit. IsCharBoundary hit.entry.now hit.pos) }
     {
@@ -126,7 +131,8 @@ impl MemHistory {
     #[tactic(auto, using(crate::proofs::SearchLemmas::back_steps))]
     fn first_back(&self, anchored: bool, term: &str, count: usize) -> Option<SearchResult<'_>>
         requires { count ≤ length self.now.entries }
-        ensures found { option_map hit_of result ≡ first_back (hit_by anchored term.now) (reverse (take count self.now.entries)) }
+        ensures found { option_map hit_of result
+            ≡ first_back (hit_by anchored term.now) (reverse (take count self.now.entries)) }
         ensures inside { IfSome result (λ hit. hit.idx < length self.now.entries) }
         ensures boundary { IfSome result (λ hit. IsCharBoundary hit.entry.now hit.pos) }
     {
@@ -146,7 +152,8 @@ impl MemHistory {
         start: usize,
         dir: SearchDirection,
     ) -> Option<SearchResult<'_>>
-        ensures found { option_map hit_of result ≡ searched anchored term.now start dir self.now.entries }
+        ensures found { option_map hit_of result
+            ≡ searched anchored term.now start dir self.now.entries }
         ensures inside { IfSome result (λ hit. hit.idx < length self.now.entries) }
         ensures boundary { IfSome result (λ hit. IsCharBoundary hit.entry.now hit.pos) }
     {

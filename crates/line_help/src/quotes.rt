@@ -19,7 +19,8 @@ pub enum Quote {
     None,
 }
 
-/// The text without its escapes: each stands for the character behind it, and one at the end for nothing.
+/// The text without its escapes: each stands for the character after it, and one at the end for
+/// nothing.
 #[tactic(auto, using(crate::proofs::QuoteLemmas::unescape_steps))]
 pub fn unescape<'s>(
     alloc: Global,
@@ -57,7 +58,8 @@ fn escape_in(quote: Quote, esc_char: Option<char>) -> Option<char>
     }
 }
 
-/// The text with an escape before each break character; between single quotes, or without an escape, the text as it is.
+/// The text with an escape before each break character; between single quotes, or without an
+/// escape, the text as it is.
 #[tactic(auto, using(crate::proofs::QuoteLemmas::escape_steps))]
 pub fn escape<F: Fn(char) -> bool + Drop>(
     alloc: Global,
@@ -68,7 +70,8 @@ pub fn escape<F: Fn(char) -> bool + Drop>(
 ) -> Result<String, HookFault>
     requires { F.IsAlwaysCallable is_break_char }
     ensures text { (breaks : ℕ → Bool) → Tells (F.post is_break_char) breaks
-        → IfOk result (λ text. string_bytes text ≡ escaped (string_bytes input) esc_char breaks quote) }
+        → IfOk result (λ text. string_bytes text
+        ≡ escaped (string_bytes input) esc_char breaks quote) }
     ensures fault { IfErr result (λ e. e ≡ Memory) }
 {
     let Some(esc) = escape_in(quote, esc_char) else {
@@ -94,7 +97,7 @@ fn escapes_at(within: Option<(usize, Quote)>) -> bool
     }
 }
 
-/// The quote that is open behind a byte that isn't escaped.
+/// The quote that is open after a byte that isn't escaped.
 fn quote_after(place: usize, byte: u8, within: Option<(usize, Quote)>) -> Option<(usize, Quote)>
     ensures { result ≡ quote_after place byte within }
 {

@@ -2,7 +2,7 @@
 ghost use Rattle.std.specs.Prelude.{◌≡◌, ◌<◌, ◌≤◌, ◌⊎◌, is_err, List, [], ◌∷◌, true, false, if◌then◌else◌, IsTrue, IfOk, IfErr, IfSome, Ok, Err, None, option_to_list, ◌++◌};
 ghost use Rattle.line_config.specs.declared.device.Last.TheVariants.{End, Failed};
 ghost use Rattle.line_config.specs.declared.errors.ReadlineError.TheVariants.{Memory, Reader};
-ghost use Rattle.line_help.specs.HistoryText.{rows_of, says_reader, without_return};
+ghost use Rattle.line_help.specs.HistoryText.{text_rows, says_reader, without_return};
 
 use line_config::{ReadlineError, Source};
 
@@ -18,16 +18,21 @@ fn drop_return(row: &mut Vec<u8>)
 }
 
 fn next_byte<S: Source>(source: &mut S) -> Result<Option<u8>, ReadlineError>
-    ensures byte { IsTrue (S.feed source.old).told → IfOk result (λ b. (S.feed source.old).coming ≡ option_to_list b ++ (S.feed source.new).coming) }
-    ensures end { IsTrue (S.feed source.old).told → result ≡ Ok None → ((S.feed source.old).coming ≡ []) × ((S.feed source.old).last ≡ End) }
-    ensures cut { IsTrue (S.feed source.old).told → IsTrue (S.feed source.old).steady → result ≡ Err Reader
+    ensures byte { IsTrue (S.feed source.old).told
+        → IfOk result (λ b. (S.feed source.old).coming
+        ≡ option_to_list b ++ (S.feed source.new).coming) }
+    ensures end { IsTrue (S.feed source.old).told → result ≡ Ok None
+        → ((S.feed source.old).coming ≡ []) × ((S.feed source.old).last ≡ End) }
+    ensures cut { IsTrue (S.feed source.old).told → IsTrue (S.feed source.old).steady
+        → result ≡ Err Reader
         → ((S.feed source.old).coming ≡ []) × ((S.feed source.old).last ≡ Failed) }
     ensures error { IfErr result (λ e. e ≡ Reader) }
     ensures failure { (S.feed source.new).failed ≡ is_err result }
     ensures told { IsTrue (S.feed source.old).told → IsTrue (S.feed source.new).told }
     ensures steady { (S.feed source.new).steady ≡ (S.feed source.old).steady }
     ensures last { (S.feed source.new).last ≡ (S.feed source.old).last }
-    ensures falls { IfOk result (λ b. IfSome b (λ _. (S.feed source.new).bound < (S.feed source.old).bound)) }
+    ensures falls { IfOk result (λ b. IfSome b
+        (λ _. (S.feed source.new).bound < (S.feed source.old).bound)) }
     ensures keeps { (S.feed source.new).bound ≤ (S.feed source.old).bound }
 {
     match source.next_byte() {
@@ -36,15 +41,20 @@ fn next_byte<S: Source>(source: &mut S) -> Result<Option<u8>, ReadlineError>
     }
 }
 
-/// Reads the next row, which a newline or the end of the text ends, and answers whether there is one. A carriage return
-/// right before the newline is no part of it.
+/// Reads the next row, which a newline or the end of the text ends, and answers whether there is
+/// one. A carriage return right before the newline is no part of it.
 #[tactic(auto, using(crate::proofs::RowLemmas::row_ends))]
 pub(crate) fn read_row<S: Source>(source: &mut S, row: &mut Vec<u8>) -> Result<bool, ReadlineError>
-    ensures row { IsTrue (S.feed source.old).told → IfOk result (λ is_row. rows_of (S.feed source.old).last (S.feed source.old).coming
-        ≡ (if is_row then row.new.items ∷ rows_of (S.feed source.old).last (S.feed source.new).coming else [])) }
-    ensures end { IsTrue (S.feed source.old).told → result ≡ Ok false → (S.feed source.old).last ≡ End }
-    ensures cut { IsTrue (S.feed source.old).told → IsTrue (S.feed source.old).steady → result ≡ Err Reader
-        → ((S.feed source.old).last ≡ Failed) × (rows_of (S.feed source.old).last (S.feed source.old).coming ≡ []) }
+    ensures row { IsTrue (S.feed source.old).told
+        → IfOk result (λ is_row. text_rows (S.feed source.old).last (S.feed source.old).coming
+        ≡ (if is_row then row.new.items
+        ∷ text_rows (S.feed source.old).last (S.feed source.new).coming else [])) }
+    ensures end { IsTrue (S.feed source.old).told → result ≡ Ok false
+        → (S.feed source.old).last ≡ End }
+    ensures cut { IsTrue (S.feed source.old).told → IsTrue (S.feed source.old).steady
+        → result ≡ Err Reader
+        → ((S.feed source.old).last ≡ Failed)
+        × (text_rows (S.feed source.old).last (S.feed source.old).coming ≡ []) }
     ensures error { IfErr result (λ e. (e ≡ Memory) ⊎ (e ≡ Reader)) }
     ensures failure { (S.feed source.new).failed ≡ says_reader result }
     ensures told { IsTrue (S.feed source.old).told → IsTrue (S.feed source.new).told }

@@ -16,6 +16,7 @@ pub struct SearchResult<'a> {
     pub entry: &'a str,
     /// The entry's place in the history, the oldest entry at 0.
     pub idx: usize,
-    /// The place in the entry, in bytes: where the term begins, or behind the term where the entry begins with it.
+    /// The place in the entry, in bytes: where the term begins, or after the term where the entry
+    /// begins with it.
     pub pos: usize,
 }

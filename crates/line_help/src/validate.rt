@@ -77,7 +77,8 @@ pub trait Validator {
     // Whether it would be asked while the line is typed.
     ghost while_typing: { Self → Bool };
 
-    /// What it finds of the text, which depends on nothing but the text; want of memory may be answered besides.
+    /// What it finds of the text, which depends on nothing but the text; want of memory may be
+    /// answered besides.
     fn validate(
         &self,
         alloc: Global,
@@ -85,7 +86,8 @@ pub trait Validator {
     ) -> Result<ValidationResult, HookFault>
         ensures verdict { IfOk result (λ found. found ≡ verdict_of self.now ctx.now.input.now) }
         ensures fine { OnOk result (validating_fails self.now ctx.now.input.now ≡ false) }
-        ensures fault { IfErr result (λ e. (e ≡ Memory) ⊎ ((e ≡ Failed) × IsTrue (validating_fails self.now ctx.now.input.now))) };
+        ensures fault { IfErr result (λ e. (e ≡ Memory)
+            ⊎ ((e ≡ Failed) × IsTrue (validating_fails self.now ctx.now.input.now))) };
 
     /// Whether it would be asked while the line is typed. Nothing asks it.
     fn validate_while_typing(&self) -> bool

@@ -49,7 +49,8 @@ fn is_escape(esc_char: Option<char>, c: char) -> bool
 
 /// What stands before the last character, and that character.
 fn split_last(text: &str) -> Option<(&str, char)>
-    ensures last { MatchOption result (text.now ≡ []) (λ found. text.now ≡ found.0.now ++ encode_utf8 found.1) }
+    ensures last { MatchOption result (text.now ≡ []) (λ found. text.now
+        ≡ found.0.now ++ encode_utf8 found.1) }
     ensures scalar { IfSome result (λ found. IsScalar found.1) }
     ensures utf8 { IfSome result (λ found. IsUtf8 found.0.now) }
 {
@@ -62,7 +63,8 @@ fn split_last(text: &str) -> Option<(&str, char)>
 #[tactic(auto, using(crate::proofs::WordBeforeLemmas::last_char, crate::proofs::WordBeforeLemmas::no_char))]
 fn strip_escape(text: &str, esc_char: Option<char>) -> Option<&str>
     ensures { MatchOption result (is_escaped esc_char (reverse (chars text.now)) ≡ false)
-        (λ front. (d : ℕ) × (text.now ≡ front.now ++ encode_utf8 d) × IsUtf8 front.now × IsScalar d × (is_escape esc_char d ≡ true)) }
+        (λ front. (d : ℕ) × (text.now ≡ front.now ++ encode_utf8 d) × IsUtf8 front.now × IsScalar d
+        × (is_escape esc_char d ≡ true)) }
 {
     match split_last(text) {
         Some((front, last)) => {
@@ -76,8 +78,9 @@ fn strip_escape(text: &str, esc_char: Option<char>) -> Option<&str>
     }
 }
 
-/// The word that ends at a place in a line, and where it begins: behind the last break character before the place that has no
-/// escape directly before it, or at the line's start where there is none. An escape that counts isn't looked at again.
+/// The word that ends at a place in a line, and where it begins: after the last break character
+/// before the place that has no escape directly before it, or at the line's start where there is
+/// none. An escape that counts isn't looked at again.
 pub fn extract_word<F: Fn(char) -> bool + Drop>(
     line: &str,
     pos: usize,
@@ -86,7 +89,8 @@ pub fn extract_word<F: Fn(char) -> bool + Drop>(
 ) -> (usize, &str)
     requires place { IsCharBoundary line.now pos }
     requires can { F.IsAlwaysCallable is_break_char }
-    ensures start { (breaks : ℕ → Bool) → Tells (F.post is_break_char) breaks → result.0 ≡ word_start esc_char breaks (take pos line.now) }
+    ensures start { (breaks : ℕ → Bool) → Tells (F.post is_break_char) breaks
+        → result.0 ≡ word_start esc_char breaks (take pos line.now) }
     ensures word { result.1.now ≡ drop result.0 (take pos line.now) }
     ensures boundary { IsCharBoundary (take pos line.now) result.0 }
 {

@@ -3,11 +3,13 @@ pub mod Beginnings
 pub mod Deeds
 pub mod Equality
 pub mod Following
+pub mod KeyReads
 pub mod Normal
 mod PhraseRows
 pub mod Places
-pub mod KeyReads
 pub mod Remembering
 mod Rows
+pub mod Settling
+pub mod Steps
 pub mod Turns
 mod ViRows

@@ -1,5 +1,5 @@
 -- The keys that both modes know.
-use Rattle.std.specs.Prelude.{◌==◌, Bool, true, not, ◌&&◌, List, [], ◌∷◌, length, Option, Some, None, if◌then◌else◌}
+use Rattle.std.specs.Prelude.{◌==◌, Bool, true, not, ◌&&◌, List, [], ◌∷◌, length, Option, Some, None, codes, if◌then◌else◌}
 use Rattle.line_buffer.specs.declared.types.Movement.TheVariants.{BeginningOfLine, EndOfLine, BackwardChar, ForwardChar, BackwardWord, ForwardWord}
 use Rattle.line_buffer.specs.declared.types.Word.TheVariants.{Big}
 use Rattle.line_buffer.specs.declared.types.At.TheVariants.{AfterEnd}
@@ -18,43 +18,36 @@ use Rattle.line_keys.specs.Phrases.{Part, answered, and_then, with_paste}
 use Rattle.line_keys.specs.Refreshing.{Shown}
 use Rattle.line_keys.specs.SameKeys.{same_key}
 use Rattle.line_keys.specs.Signals.{signal_of}
-use Rattle.line_keys.specs.Tables.{Row, row, times, signed, moves, kills, only, look}
+use Rattle.line_keys.specs.Tables.{Row, always, times, signed, moves, kills, ctrl, named, only, look}
 
 abbrev pub has_text : Shown → Bool
 has_text shown = not (length shown.line == 0)
 
--- modifiers: 8 is Ctrl
 abbrev pub common_rows : EditMode → List Row
 common_rows mode =
-    row Home 0 (Move BeginningOfLine)
-    ∷ row End 0 (Move EndOfLine)
-    ∷ moves Left 0 BackwardChar ForwardChar
-    ∷ moves Right 0 ForwardChar BackwardChar
-    -- C-D
-    ∷ only (λ shown. is_emacs mode && has_text shown) (kills (Char 0x44) 8 ForwardChar BackwardChar)
-    ∷ only has_text (row (Char 0x44) 8 EndOfFile)
-    ∷ row (Char 0x44) 8 Unknown
-    ∷ kills Delete 0 ForwardChar BackwardChar
-    -- C-J, C-M
-    ∷ row (Char 0x4A) 8 (AcceptOrInsertLine true)
-    ∷ row (Char 0x4D) 8 (AcceptOrInsertLine true)
-    ∷ row Enter 0 (AcceptOrInsertLine true)
-    ∷ row Down 0 (LineDownOrNextHistory 1)
-    ∷ row Up 0 (LineUpOrPreviousHistory 1)
-    -- C-R, C-S
-    ∷ row (Char 0x52) 8 ReverseSearchHistory
-    ∷ row (Char 0x53) 8 ForwardSearchHistory
-    -- C-Q, C-V
-    ∷ row (Char 0x51) 8 QuotedInsert
-    ∷ row (Char 0x56) 8 QuotedInsert
-    -- C-T, C-_
-    ∷ row (Char 0x54) 8 TransposeChars
-    ∷ times (Char 0x5F) 8 Undo
-    -- C-U, C-W, C-Y
-    ∷ kills (Char 0x55) 8 (λ n. BeginningOfLine) (λ n. EndOfLine)
-    ∷ kills (Char 0x57) 8 (λ n. BackwardWord n Big) (λ n. ForwardWord n AfterEnd Big)
-    ∷ signed (Char 0x59) 8 (λ n. Yank n Before) (λ n. Unknown)
-    ∷ row UnknownEscSeq 0 Noop
+    named Home (always (Move BeginningOfLine))
+    ∷ named End (always (Move EndOfLine))
+    ∷ named Left (moves BackwardChar ForwardChar)
+    ∷ named Right (moves ForwardChar BackwardChar)
+    ∷ only (λ shown. is_emacs mode && has_text shown) (ctrl (codes "D") (kills ForwardChar BackwardChar))
+    ∷ only has_text (ctrl (codes "D") (always EndOfFile))
+    ∷ ctrl (codes "D") (always Unknown)
+    ∷ named Delete (kills ForwardChar BackwardChar)
+    ∷ ctrl (codes "J") (always (AcceptOrInsertLine true))
+    ∷ ctrl (codes "M") (always (AcceptOrInsertLine true))
+    ∷ named Enter (always (AcceptOrInsertLine true))
+    ∷ named Down (always (LineDownOrNextHistory 1))
+    ∷ named Up (always (LineUpOrPreviousHistory 1))
+    ∷ ctrl (codes "R") (always ReverseSearchHistory)
+    ∷ ctrl (codes "S") (always ForwardSearchHistory)
+    ∷ ctrl (codes "Q") (always QuotedInsert)
+    ∷ ctrl (codes "V") (always QuotedInsert)
+    ∷ ctrl (codes "T") (always TransposeChars)
+    ∷ ctrl (codes "_") (times Undo)
+    ∷ ctrl (codes "U") (kills (λ n. BeginningOfLine) (λ n. EndOfLine))
+    ∷ ctrl (codes "W") (kills (λ n. BackwardWord n Big) (λ n. ForwardWord n AfterEnd Big))
+    ∷ ctrl (codes "Y") (signed (λ n. Yank n Before) (λ n. Unknown))
+    ∷ named UnknownEscSeq (always Noop)
     ∷ []
 
 abbrev pub looked_up : Situation → KeyEvent → List Row → Option Cmd

@@ -1,5 +1,5 @@
 -- The keys of Emacs mode.
-use Rattle.std.specs.Prelude.{ℕ, ◌==◌, Bool, false, not, ◌&&◌, List, [], ◌∷◌, length, Option, Some, None, Result, Ok, Err, unwrap_or, if◌then◌else◌}
+use Rattle.std.specs.Prelude.{ℕ, ◌==◌, Bool, false, not, ◌&&◌, List, [], ◌∷◌, length, Option, Some, None, Result, Ok, Err, codes, unwrap_or, if◌then◌else◌}
 use Rattle.line_buffer.specs.declared.types.Movement.{Movement}
 use Rattle.line_buffer.specs.declared.types.Movement.TheVariants.{BeginningOfLine, EndOfLine, BackwardChar, ForwardChar, BackwardWord, ForwardWord, ViCharSearch}
 use Rattle.line_buffer.specs.declared.types.CharSearch.TheVariants.{ForwardBefore, Backward}
@@ -20,12 +20,12 @@ use Rattle.line_keys.specs.Counts.{begun_by, counted_on, counting, no_count}
 use Rattle.line_keys.specs.Counts as count
 use Rattle.line_keys.specs.Answers.{Custom}
 use Rattle.line_keys.specs.Custom.{Situation, situation, custom_answer, followed}
-use Rattle.line_keys.specs.Keys.{key_with, modifiers_of, ctrl}
+use Rattle.line_keys.specs.Keys.{key_with, modifiers_of}
 use Rattle.line_keys.specs.Phrases.{Input, Part, Phrase, answered, deciding, from_key, and_then}
 use Rattle.line_keys.specs.Redone.{anew_or}
 use Rattle.line_keys.specs.Refreshing.{Shown}
 use Rattle.line_keys.specs.SameKeys.{same_key}
-use Rattle.line_keys.specs.Tables.{Row, row, times, signed, moves, kills, only, look}
+use Rattle.line_keys.specs.Tables.{Row, always, times, signed, moves, kills, ctrl, alt, ctrl_alt, named, named_ctrl, named_alt, only, look}
 
 -- back over words, and forward over them
 abbrev pub back : ℕ → Movement
@@ -38,70 +38,57 @@ ahead n = ForwardWord n AfterEnd EmacsWord
 abbrev pub at_hint : Shown → Bool
 at_hint shown = shown.hinted && (shown.place == length shown.line)
 
--- modifiers: 8 is Ctrl, 4 is Alt, 12 is both
 abbrev pub emacs_rows : List Row
 emacs_rows =
-    -- C-A, C-E
-    row (Char 0x41) 8 (Move BeginningOfLine)
-    ∷ row (Char 0x45) 8 (Move EndOfLine)
-    -- C-B, C-F
-    ∷ moves (Char 0x42) 8 BackwardChar ForwardChar
-    ∷ moves (Char 0x46) 8 ForwardChar BackwardChar
-    -- C-G, C-A-G
-    ∷ row (Char 0x47) 8 Abort
-    ∷ row (Char 0x47) 12 Abort
-    ∷ row Esc 0 Abort
-    -- C-H
-    ∷ kills (Char 0x48) 8 BackwardChar ForwardChar
-    ∷ kills Backspace 0 BackwardChar ForwardChar
-    ∷ row BackTab 0 CompleteBackward
-    -- C-I
-    ∷ signed (Char 0x49) 8 (λ n. Complete) (λ n. CompleteBackward)
-    ∷ signed Tab 0 (λ n. Complete) (λ n. CompleteBackward)
-    ∷ only at_hint (row Right 0 CompleteHint)
-    -- C-K, C-L, C-N, C-P
-    ∷ kills (Char 0x4B) 8 (λ n. EndOfLine) (λ n. BeginningOfLine)
-    ∷ row (Char 0x4C) 8 ClearScreen
-    ∷ row (Char 0x4E) 8 NextHistory
-    ∷ row (Char 0x50) 8 PreviousHistory
-    -- A-<, A->
-    ∷ row (Char 0x3C) 4 BeginningOfHistory
-    ∷ row (Char 0x3E) 4 EndOfHistory
-    -- A-B, A-b
-    ∷ moves (Char 0x42) 4 back ahead
-    ∷ moves (Char 0x62) 4 back ahead
-    ∷ moves Left 4 back ahead
-    ∷ moves Left 8 back ahead
-    -- A-F, A-f
-    ∷ moves (Char 0x46) 4 ahead back
-    ∷ moves (Char 0x66) 4 ahead back
-    ∷ moves Right 4 ahead back
-    ∷ moves Right 8 ahead back
-    -- A-D, A-d
-    ∷ kills Backspace 4 back ahead
-    ∷ kills (Char 0x44) 4 ahead back
-    ∷ kills (Char 0x64) 4 ahead back
-    -- A-C, A-c, A-L, A-l, A-U, A-u
-    ∷ row (Char 0x43) 4 CapitalizeWord
-    ∷ row (Char 0x63) 4 CapitalizeWord
-    ∷ row (Char 0x4C) 4 DowncaseWord
-    ∷ row (Char 0x6C) 4 DowncaseWord
-    ∷ row (Char 0x55) 4 UpcaseWord
-    ∷ row (Char 0x75) 4 UpcaseWord
-    -- A-T, A-t, A-Y, A-y
-    ∷ times (Char 0x54) 4 TransposeWords
-    ∷ times (Char 0x74) 4 TransposeWords
-    ∷ row (Char 0x59) 4 YankPop
-    ∷ row (Char 0x79) 4 YankPop
+    ctrl (codes "A") (always (Move BeginningOfLine))
+    ∷ ctrl (codes "E") (always (Move EndOfLine))
+    ∷ ctrl (codes "B") (moves BackwardChar ForwardChar)
+    ∷ ctrl (codes "F") (moves ForwardChar BackwardChar)
+    ∷ ctrl (codes "G") (always Abort)
+    ∷ ctrl_alt (codes "G") (always Abort)
+    ∷ named Esc (always Abort)
+    ∷ ctrl (codes "H") (kills BackwardChar ForwardChar)
+    ∷ named Backspace (kills BackwardChar ForwardChar)
+    ∷ named BackTab (always CompleteBackward)
+    ∷ ctrl (codes "I") (signed (λ n. Complete) (λ n. CompleteBackward))
+    ∷ named Tab (signed (λ n. Complete) (λ n. CompleteBackward))
+    ∷ only at_hint (named Right (always CompleteHint))
+    ∷ ctrl (codes "K") (kills (λ n. EndOfLine) (λ n. BeginningOfLine))
+    ∷ ctrl (codes "L") (always ClearScreen)
+    ∷ ctrl (codes "N") (always NextHistory)
+    ∷ ctrl (codes "P") (always PreviousHistory)
+    ∷ alt (codes "<") (always BeginningOfHistory)
+    ∷ alt (codes ">") (always EndOfHistory)
+    ∷ alt (codes "B") (moves back ahead)
+    ∷ alt (codes "b") (moves back ahead)
+    ∷ named_alt Left (moves back ahead)
+    ∷ named_ctrl Left (moves back ahead)
+    ∷ alt (codes "F") (moves ahead back)
+    ∷ alt (codes "f") (moves ahead back)
+    ∷ named_alt Right (moves ahead back)
+    ∷ named_ctrl Right (moves ahead back)
+    ∷ named_alt Backspace (kills back ahead)
+    ∷ alt (codes "D") (kills ahead back)
+    ∷ alt (codes "d") (kills ahead back)
+    ∷ alt (codes "C") (always CapitalizeWord)
+    ∷ alt (codes "c") (always CapitalizeWord)
+    ∷ alt (codes "L") (always DowncaseWord)
+    ∷ alt (codes "l") (always DowncaseWord)
+    ∷ alt (codes "U") (always UpcaseWord)
+    ∷ alt (codes "u") (always UpcaseWord)
+    ∷ alt (codes "T") (times TransposeWords)
+    ∷ alt (codes "t") (times TransposeWords)
+    ∷ alt (codes "Y") (always YankPop)
+    ∷ alt (codes "y") (always YankPop)
     ∷ []
 
--- the second key behind C-X: C-G, C-U
+-- the second key behind C-X
 abbrev pub ctrl_x_rows : List Row
 ctrl_x_rows =
-    row (Char 0x47) 8 Abort
-    ∷ row Esc 0 Abort
-    ∷ times (Char 0x55) 8 Undo
-    ∷ kills Backspace 0 (λ n. BeginningOfLine) (λ n. EndOfLine)
+    ctrl (codes "G") (always Abort)
+    ∷ named Esc (always Abort)
+    ∷ ctrl (codes "U") (times Undo)
+    ∷ named Backspace (kills (λ n. BeginningOfLine) (λ n. EndOfLine))
     ∷ []
 
 -- none of these rows has a condition on what is shown
@@ -140,8 +127,8 @@ char_search n forward = from_key (λ k. searched n forward (plain_char k))
 -- C-X is 58; C-] is 5D, and with Alt too it searches the other way
 abbrev pub emacs_beyond_rows : Situation → KeyEvent → Part Cmd
 emacs_beyond_rows s k =
-    if same_key k (key_with (Char 0x58) ctrl) then ctrl_x s k
-    else if same_key k (key_with (Char 0x5D) ctrl) then char_search s.n s.positive
+    if same_key k (key_with (Char 0x58) (modifiers_of 8)) then ctrl_x s k
+    else if same_key k (key_with (Char 0x5D) (modifiers_of 8)) then char_search s.n s.positive
     else if same_key k (key_with (Char 0x5D) (modifiers_of 12)) then char_search s.n (not s.positive)
     else common s k
 

@@ -1,5 +1,8 @@
 -- The value of an input state, and what it makes of a key's surroundings.
-use Rattle.std.specs.Prelude.{ℕ, Bool}
+use Rattle.std.specs.Prelude.{ℕ, Bool, None}
+use Rattle.line_config.specs.declared.settings.EditMode.{EditMode}
+use Rattle.line_keys.specs.declared.command.Cmd.TheVariants.{Noop}
+use Rattle.line_keys.specs.declared.command.InputMode.TheVariants.{Insert}
 use Rattle.line_keys.specs.declared.keymap.InputState.{InputState}
 use Rattle.line_keys.specs.Answers.{Custom, custom_of}
 use Rattle.line_keys.specs.Custom.{Situation, situation}
@@ -16,3 +19,7 @@ custom_in s means = custom_of s.custom_bindings.now means
 
 abbrev pub situation_in : {D : Type 0} → InputState D → (D → Meaning) → Shown → ℕ → Bool → Situation
 situation_in s means shown n positive = situation (custom_in s means) (input_of s) shown n positive
+
+-- what a new state remembers: nothing
+abbrev pub new_input : EditMode → Input
+new_input mode = record { mode = mode; input_mode = Insert; last = Noop; search = None }

@@ -3,17 +3,13 @@ use Rattle.std.specs.Prelude.{ℕ, ◌==◌, ◌&&◌, List, [], ◌∷◌, Opti
 use Rattle.line_keys.specs.declared.key.KeyCode.{KeyCode}
 use Rattle.line_keys.specs.declared.key.KeyCode.TheVariants.{Char}
 use Rattle.line_keys.specs.declared.key.KeyEvent.{KeyEvent}
-use Rattle.line_keys.specs.Tables.{is_code}
+use Rattle.line_keys.specs.Tables.{first_of, is_code}
 
 pub record KeyRow (X : Type 0) : Type 0 where
   pub code : KeyCode
   -- 8 is Ctrl
   pub modifiers : ℕ
   pub gives : ℕ → X
-
-abbrev pub first_of : List ℕ → ℕ
-first_of [] = 0
-first_of (c ∷ cs) = c
 
 -- the key of a character alone
 abbrev pub plain : {X : Type 0} → List ℕ → (ℕ → X) → KeyRow X

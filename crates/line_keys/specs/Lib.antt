@@ -24,6 +24,7 @@ pub mod Redone
 pub mod Refreshing
 pub mod SameEvents
 pub mod SameKeys
+pub mod Settled
 pub mod Showing
 pub mod Signals
 pub mod Tables

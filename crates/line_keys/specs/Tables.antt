@@ -34,25 +34,62 @@ pub record Row : Type 0 where
   -- the command by the count: its amount, and whether it isn't negative
   pub command : ℕ → Bool → Cmd
 
--- a row for which no count matters
-abbrev pub row : KeyCode → ℕ → Cmd → Row
-row code modifiers command = record { code = code; modifiers = modifiers; stands = λ shown. true; command = λ n positive. command }
+-- ---- what a row gives by the count
 
--- a row for which the amount matters
-abbrev pub times : KeyCode → ℕ → (ℕ → Cmd) → Row
-times code modifiers command = record { code = code; modifiers = modifiers; stands = λ shown. true; command = λ n positive. command n }
+abbrev pub Giving : Type 0
+Giving = ℕ → Bool → Cmd
 
--- a row that goes by the sign too: the command of a count that isn't negative, then that of a negative one
-abbrev pub signed : KeyCode → ℕ → (ℕ → Cmd) → (ℕ → Cmd) → Row
-signed code modifiers plus minus = record { code = code; modifiers = modifiers; stands = λ shown. true; command = λ n positive. if positive then plus n else minus n }
+-- no count matters
+abbrev pub always : Cmd → Giving
+always command n positive = command
+
+-- the amount matters
+abbrev pub times : (ℕ → Cmd) → Giving
+times command n positive = command n
+
+-- the sign too: the command of a count that isn't negative, then that of a negative one
+abbrev pub signed : (ℕ → Cmd) → (ℕ → Cmd) → Giving
+signed plus minus n positive = if positive then plus n else minus n
 
 -- a motion by sign
-abbrev pub moves : KeyCode → ℕ → (ℕ → Movement) → (ℕ → Movement) → Row
-moves code modifiers plus minus = record { code = code; modifiers = modifiers; stands = λ shown. true; command = λ n positive. Move (if positive then plus n else minus n) }
+abbrev pub moves : (ℕ → Movement) → (ℕ → Movement) → Giving
+moves plus minus n positive = Move (if positive then plus n else minus n)
 
 -- a kill by sign
-abbrev pub kills : KeyCode → ℕ → (ℕ → Movement) → (ℕ → Movement) → Row
-kills code modifiers plus minus = record { code = code; modifiers = modifiers; stands = λ shown. true; command = λ n positive. Kill (if positive then plus n else minus n) }
+abbrev pub kills : (ℕ → Movement) → (ℕ → Movement) → Giving
+kills plus minus n positive = Kill (if positive then plus n else minus n)
+
+-- ---- rows by their key
+
+abbrev pub row : KeyCode → ℕ → Giving → Row
+row code modifiers command = record { code = code; modifiers = modifiers; stands = λ shown. true; command = command }
+
+abbrev pub first_of : List ℕ → ℕ
+first_of [] = 0
+first_of (c ∷ cs) = c
+
+-- a character alone, with Ctrl, with Alt, with both
+abbrev pub plain : List ℕ → Giving → Row
+plain text = row (Char (first_of text)) 0
+
+abbrev pub ctrl : List ℕ → Giving → Row
+ctrl text = row (Char (first_of text)) 8
+
+abbrev pub alt : List ℕ → Giving → Row
+alt text = row (Char (first_of text)) 4
+
+abbrev pub ctrl_alt : List ℕ → Giving → Row
+ctrl_alt text = row (Char (first_of text)) 12
+
+-- a key with a name alone, with Ctrl, with Alt
+abbrev pub named : KeyCode → Giving → Row
+named code = row code 0
+
+abbrev pub named_ctrl : KeyCode → Giving → Row
+named_ctrl code = row code 8
+
+abbrev pub named_alt : KeyCode → Giving → Row
+named_alt code = row code 4
 
 -- a row that stands only on a condition
 abbrev pub only : (Shown → Bool) → Row → Row

@@ -11,23 +11,22 @@ use Rattle.line_keys.specs.declared.command.Cmd.{Cmd}
 use Rattle.line_keys.specs.declared.command.Cmd.TheVariants.{Abort, ClearScreen, Complete, CompleteBackward, CompleteHint, Dedent, ForwardSearchHistory, Indent, Kill, LineDownOrNextHistory, LineUpOrPreviousHistory, Move, NextHistory, Noop, PreviousHistory, Replace, ReverseSearchHistory, Undo, ViYankTo, Yank}
 use Rattle.line_keys.specs.declared.command.InputMode.{InputMode}
 use Rattle.line_keys.specs.declared.command.InputMode.TheVariants.{Insert, Replace as Overwriting}
-use Rattle.line_keys.specs.declared.key.KeyCode.TheVariants.{BackTab, Backspace, Char, End, Esc, Right, Tab}
+use Rattle.line_keys.specs.declared.key.KeyCode.TheVariants.{BackTab, Backspace, End, Esc, Right, Tab}
 use Rattle.line_keys.specs.Emacs.{at_hint}
-use Rattle.line_keys.specs.Tables.{Row, row, only}
+use Rattle.line_keys.specs.Tables.{Row, always, ctrl as ctrl_row, named as named_row, only}
 use Rattle.line_keys.specs.declared.key.KeyEvent.{KeyEvent}
-use Rattle.line_keys.specs.KeyRows.{KeyRow, plain, ctrl, named, first_of, given}
+use Rattle.line_keys.specs.KeyRows.{KeyRow, plain, ctrl, named, given}
 
 -- ---- insert mode
 
--- modifiers: 8 is Ctrl
 abbrev pub vi_insert_rows : List Row
 vi_insert_rows =
-    row (Char (first_of (codes "H"))) 8 (Kill (BackwardChar 1))
-    ∷ row Backspace 0 (Kill (BackwardChar 1))
-    ∷ row BackTab 0 CompleteBackward
-    ∷ row (Char (first_of (codes "I"))) 8 Complete
-    ∷ row Tab 0 Complete
-    ∷ only at_hint (row Right 0 CompleteHint)
+    ctrl_row (codes "H") (always (Kill (BackwardChar 1)))
+    ∷ named_row Backspace (always (Kill (BackwardChar 1)))
+    ∷ named_row BackTab (always CompleteBackward)
+    ∷ ctrl_row (codes "I") (always Complete)
+    ∷ named_row Tab (always Complete)
+    ∷ only at_hint (named_row Right (always CompleteHint))
     ∷ []
 
 -- ---- command mode

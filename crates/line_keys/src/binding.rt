@@ -21,8 +21,8 @@ pub type Bindings = EventMap<EventHandler>;
 
 /// Events and what is bound to each, one thing at most.
 ///
-/// An event is bound in its normal form, and looked for as it is given. Contracts see the pairs in the order in which the
-/// events were bound.
+/// An event is bound in its normal form, and looked for as it is given. Contracts see the pairs in
+/// the order in which the events were bound.
 #[derive(Drop)]
 pub struct EventMap<H> {
     entries: Vec<(Event, H)>,
@@ -50,11 +50,13 @@ impl<H: Drop> EventMap<H> {
         })
     }
 
-    /// Binds an event in its normal form, and gives back what it was bound to. Where that is refused for want of
-    /// memory, all stays as it is.
+    /// Binds an event in its normal form, and gives back what it was bound to. Where that is
+    /// refused for want of memory, all stays as it is.
     pub fn bind_sequence(&mut self, event: Event, handler: H) -> Result<Option<H>, ReadlineError>
         ensures old { IfOk result (λ old. old ≡ find (normal_event event) self.old) }
-        ensures bound { OnOk result ((e : Event) → find e self.new ≡ put_at (normal_event event) handler (λ o. find o self.old) e) }
+        ensures bound { let before = λ (o : Event). find o self.old in
+            OnOk result ((e : Event)
+            → find e self.new ≡ put_at (normal_event event) handler before e) }
         ensures err { IfErr result (λ e. e ≡ ReadlineError.Memory) }
         ensures kept { OnErr result (self.new ≡ self.old) }
     {
@@ -64,7 +66,8 @@ impl<H: Drop> EventMap<H> {
     /// Takes the binding of an event's normal form away, and gives it back.
     pub fn unbind_sequence(&mut self, event: Event) -> Option<H>
         ensures old { result ≡ find (normal_event event) self.old }
-        ensures unbound { (e : Event) → find e self.new ≡ less_at (normal_event event) (λ o. find o self.old) e }
+        ensures unbound { let before = λ (o : Event). find o self.old in
+            (e : Event) → find e self.new ≡ less_at (normal_event event) before e }
     {
         unbind_in(&mut self.entries, event.normalize())
     }
@@ -84,7 +87,8 @@ impl<H: Drop> EventMap<H> {
     /// Whether a bound sequence begins with these keys, or is these.
     pub fn begins(&self, keys: &[KeyEvent]) -> bool
         ensures value { result ≡ begins keys.now self.now }
-        ensures bound { IsTrue result ↔ ((rest : List KeyEvent) × IsSome (find (KeySeq (keys.now ++ rest)) self.now)) }
+        ensures bound { IsTrue result
+            ↔ ((rest : List KeyEvent) × IsSome (find (KeySeq (keys.now ++ rest)) self.now)) }
     {
         self.some_begins(keys)
     }

@@ -48,9 +48,11 @@ pub enum Cmd {
     Insert(RepeatCount, Text),
     /// The signal that Ctrl-C sends.
     Interrupt,
-    /// backward-delete-char, delete-char, kill-line, kill-word, unix-line-discard, unix-word-rubout, vi-delete-to
+    /// backward-delete-char, delete-char, kill-line, kill-word, unix-line-discard,
+    /// unix-word-rubout, vi-delete-to
     Kill(Movement),
-    /// backward-char, forward-char, backward-word, forward-word, beginning-of-line, end-of-line, vi-char-search
+    /// backward-char, forward-char, backward-word, forward-word, beginning-of-line, end-of-line,
+    /// vi-char-search
     Move(Movement),
     /// next-history
     NextHistory,
@@ -65,7 +67,8 @@ pub enum Cmd {
     QuotedInsert,
     /// vi-change-char
     ReplaceChar(RepeatCount, char),
-    /// vi-change-to: kills a range, and puts the text there that was typed over it, once that is known.
+    /// vi-change-to: kills a range, and puts the text there that was typed over it, once that is
+    /// known.
     Replace(Movement, Option<Text>),
     /// reverse-search-history
     ReverseSearchHistory,

@@ -104,7 +104,8 @@ impl Hash for Keys {
 
     ghost hash_input = { fed.slice ⟦<KeyEvent as Hash>⟧.hash_input };
 
-    ghost respects_eq = { (same_Alike (fed.slice ⟦<KeyEvent as Hash>⟧.hash_input) same_keys-decides).fed };
+    ghost respects_eq = { (same_Alike (fed.slice ⟦<KeyEvent as Hash>⟧.hash_input)
+        same_keys-decides).fed };
 
     fn hash<H: Hasher>(&self, state: &mut H) {
         self.as_slice().hash(state);
@@ -172,7 +173,8 @@ impl Event {
         }
     }
 
-    /// The event in the form in which bindings are kept: each key as `KeyEvent::normalize` gives it.
+    /// The event in the form in which bindings are kept: each key as `KeyEvent::normalize` gives
+    /// it.
     pub fn normalize(self) -> Self
         ensures { result ≡ normal_event self }
     {

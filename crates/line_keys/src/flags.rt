@@ -103,7 +103,8 @@ impl Flags for Modifiers {
 
     ghost exact = { ⊤ };
 
-    ghost table = { (codes "CTRL", 8) ∷ (codes "ALT", 4) ∷ (codes "SHIFT", 2) ∷ (codes "NONE", 0) ∷ (codes "CTRL_SHIFT", 10)
+    ghost table = { (codes "CTRL", 8) ∷ (codes "ALT", 4) ∷ (codes "SHIFT", 2) ∷ (codes "NONE", 0)
+        ∷ (codes "CTRL_SHIFT", 10)
         ∷ (codes "ALT_SHIFT", 6) ∷ (codes "CTRL_ALT", 12) ∷ (codes "CTRL_ALT_SHIFT", 14) ∷ [] };
 
     ghost set_of = { λ m. m.0 };

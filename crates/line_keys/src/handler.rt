@@ -86,8 +86,8 @@ pub trait ConditionalEventHandler: Drop {
 
     ghost meaning: { Self → Meaning };
 
-    /// The command for the event `evt`, or `None` for what the key does unbound. `n` is the count that was typed, 1
-    /// where none was, and `positive` its sign.
+    /// The command for the event `evt`, or `None` for what the key does unbound. `n` is the count
+    /// that was typed, 1 where none was, and `positive` its sign.
     ///
     /// The answer may depend on nothing but the arguments, though `Memory` may come at any call.
     fn handle(
@@ -98,7 +98,8 @@ pub trait ConditionalEventHandler: Drop {
         positive: bool,
         ctx: &EventContext<'_>,
     ) -> Result<Option<Cmd>, HookFault>
-        ensures { NotMemory result → result ≡ meaning self.now (showing evt.now n positive ctx.now) };
+        ensures { NotMemory result
+            → result ≡ meaning self.now (showing evt.now n positive ctx.now) };
 }
 
 /// What is bound to an event.
@@ -117,8 +118,8 @@ pub trait Decides: Drop {
 
     ghost decides: { Self → Meaning };
 
-    /// The command for the event `evt`, or `None` for what the key does unbound: what a handler answers of its
-    /// arguments, whose failure is the refusal `Handler`.
+    /// The command for the event `evt`, or `None` for what the key does unbound: what a handler
+    /// answers of its arguments, whose failure is the refusal `Handler`.
     fn decide(
         &self,
         alloc: Global,
@@ -127,7 +128,8 @@ pub trait Decides: Drop {
         positive: bool,
         ctx: &EventContext<'_>,
     ) -> Result<Option<Cmd>, ReadlineError>
-        ensures { HadMemory result → result ≡ command_by (decides self.now (showing evt.now n positive ctx.now)) };
+        ensures { HadMemory result
+            → result ≡ command_by (decides self.now (showing evt.now n positive ctx.now)) };
 }
 
 impl Decides for EventHandler {

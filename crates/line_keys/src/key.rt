@@ -50,8 +50,9 @@ impl KeyEvent {
 
     /// The key that sends the character `c`.
     ///
-    /// A control character stands for the key that bears its name (U+007F is Backspace), or for the character 64
-    /// higher with Ctrl. Any other character is itself, without Shift, since its case says as much.
+    /// A control character stands for the key that bears its name (U+007F is Backspace), or for the
+    /// character 64 higher with Ctrl. Any other character is itself, without Shift, since its case
+    /// says as much.
     pub fn new(c: char, mut mods: Modifiers) -> Self
         ensures { result ≡ key_of c mods }
     {
@@ -91,8 +92,8 @@ impl KeyEvent {
         KeyEvent::new(c, Modifiers::ALT)
     }
 
-    /// The key by which a binding is kept: Ctrl with a small letter is Ctrl with the capital, a capital letter needs
-    /// no Shift, and Tab with Shift is `BackTab`.
+    /// The key by which a binding is kept: Ctrl with a small letter is Ctrl with the capital, a
+    /// capital letter needs no Shift, and Tab with Shift is `BackTab`.
     pub fn normalize(key: Self) -> Self
         ensures { result ≡ normal key }
     {

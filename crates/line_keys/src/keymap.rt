@@ -36,7 +36,7 @@ pub struct InputState<'b, D: Decides = EventHandler> {
 impl<'b, D: Decides> InputState<'b, D> {
     ghost use Rattle.line_keys.specs.declared.command.Cmd.TheVariants.{Noop};
     ghost use Rattle.line_keys.specs.declared.command.InputMode.TheVariants.{Command, Insert};
-    ghost use Rattle.line_keys.specs.InputStates.{input_of, custom_in};
+    ghost use Rattle.line_keys.specs.InputStates.{input_of, custom_in, new_input};
     ghost use Rattle.line_keys.specs.Phrase.{phrase, begun};
     ghost use Rattle.line_keys.specs.Modes.{is_emacs, is_vi_command};
 
@@ -46,7 +46,8 @@ impl<'b, D: Decides> InputState<'b, D> {
         config: &Config,
         custom_bindings: &'b EventMap<D>,
     ) -> Result<Self, ReadlineError>
-        ensures { MatchResult result (λ s. (input_of s ≡ record { mode = config.now.edit_mode; input_mode = Insert; last = Noop; search = None }) × (s.custom_bindings ≡ custom_bindings.entry)) (λ _. ⊥) }
+        ensures { MatchResult result (λ s. (input_of s ≡ new_input config.now.edit_mode)
+            × (s.custom_bindings ≡ custom_bindings.entry)) (λ _. ⊥) }
     {
         Ok(InputState {
             mode: config.edit_mode(),
@@ -72,9 +73,9 @@ impl<'b, D: Decides> InputState<'b, D> {
 
     /// The next command: the keys and pastes that it is made of are read, and no more.
     ///
-    /// `single_esc_abort` is handed to the reader. Where `ignore_external_print` is set the first key is asked for as
-    /// a key, else as a report of the terminal.
-    #[tactic(auto, using(crate::proofs::Following::read_stops, crate::proofs::Following::read_follows))]
+    /// `single_esc_abort` is handed to the reader. Where `ignore_external_print` is set the first
+    /// key is asked for as a key, else as a report of the terminal.
+    #[tactic(auto, using(crate::proofs::Steps::one_key))]
     pub fn next_cmd<R: RawReader, W: Refresher>(
         &mut self,
         alloc: Global,
@@ -108,7 +109,8 @@ impl<'b, D: Decides> InputState<'b, D> {
         ensures phrase { let custom = custom_in self.old D.decides in
             let input = input_of self.old in
             let coming = (R.feed rdr.old).coming in
-            Follows W.display custom (begun input.mode custom input (W.display.shown wrt.old) key coming)
+            let shown = W.display.shown wrt.old in
+            Follows W.display custom (begun input.mode custom input shown key coming)
             wrt.old input wrt.new (input_of self.new) (R.feed rdr.old) (R.feed rdr.new) result }
         ensures bindings { self.new.custom_bindings ≡ self.old.custom_bindings }
     {

@@ -13,7 +13,8 @@ use line_config::ReadlineError;
 use std::alloc::Global;
 
 impl Cmd {
-    /// The command made anew, with another count if one is given, where it can be made anew; else itself.
+    /// The command made anew, with another count if one is given, where it can be made anew; else
+    /// itself.
     pub(crate) fn made_anew<W: Refresher>(
         self,
         alloc: Global,
@@ -29,7 +30,8 @@ impl Cmd {
         }
     }
 
-    /// The command made anew, with another count if one is given; `Noop` where it can't be made anew.
+    /// The command made anew, with another count if one is given; `Noop` where it can't be made
+    /// anew.
     pub(crate) fn repeated<W: Refresher>(
         &self,
         alloc: Global,
@@ -47,16 +49,17 @@ impl Cmd {
 
     /// The command as it is made anew, with another count if one is given.
     ///
-    /// What was typed is typed anew as the text that was inserted last. A replacement whose text wasn't known takes
-    /// that text, and where it covered no characters yet, as many as the text has bytes, at most 65,535. A command
-    /// that can't be made anew stays as it is.
+    /// What was typed is typed anew as the text that was inserted last. A replacement whose text
+    /// wasn't known takes that text, and where it covered no characters yet, as many as the text
+    /// has bytes, at most 65,535. A command that can't be made anew stays as it is.
     pub fn redo<W: Refresher>(
         &self,
         alloc: Global,
         new: Option<RepeatCount>,
         wrt: &W,
     ) -> Result<Self, ReadlineError>
-        ensures ok { IfOk result (λ c. c ≡ redone new (W.display.shown wrt.now).last_insert self.now) }
+        ensures ok { let last = (W.display.shown wrt.now).last_insert in
+            IfOk result (λ c. c ≡ redone new last self.now) }
         ensures err { IfErr result (λ e. e ≡ ReadlineError.Memory) }
     {
         let anew = match self {

@@ -8,7 +8,8 @@ use std::alloc::Global;
 use std::fmt;
 use std::marker::Model;
 
-/// A text, which contracts see as its bytes. A `String` becomes one, and is had back, without memory.
+/// A text, which contracts see as its bytes. A `String` becomes one, and is had back, without
+/// memory.
 #[derive(Drop)]
 pub struct Text {
     inner: String,

@@ -19,9 +19,10 @@ pub enum Event {
 
 /// A source of keys and pasted texts.
 ///
-/// `feed` is what is known of it. Where it is `told`, that says what is still to come. Where it is `steady`, it fails only
-/// where that says so. `bound` falls with each key and each paste, so that every loop which reads ends. `reason` is what
-/// has happened to the reader where it refuses a call. `kept` is what it has read ahead.
+/// `feed` is what is known of it. Where it is `told`, that says what is still to come. Where it is
+/// `steady`, it fails only where that says so. `bound` falls with each key and each paste, so that
+/// every loop which reads ends. `reason` is what has happened to the reader where it refuses a
+/// call. `kept` is what it has read ahead.
 ///
 /// A refusal other than the end of input is for good: every later call is refused in the same way.
 pub trait RawReader {
@@ -32,7 +33,8 @@ pub trait RawReader {
 
     ghost kept: { Self → Option Self.Buffer };
 
-    /// The next key. `single_esc_abort` tells readers that wait for the rest of a sequence not to do so after Esc.
+    /// The next key. `single_esc_abort` tells readers that wait for the rest of a sequence not to
+    /// do so after Esc.
     ///
     /// Where a pasted text is owed, the refusal is `PasteOutOfPlace` and nothing is read.
     fn next_key(&mut self, single_esc_abort: bool) -> Result<KeyEvent, ReadlineError>
@@ -47,12 +49,13 @@ pub trait RawReader {
         Ok(Event::KeyPress(key))
     }
 
-    /// The next character, whatever keys it would belong to. What is left to come after it each reader says for itself.
+    /// The next character, whatever keys it would belong to. What is left to come after it each
+    /// reader says for itself.
     fn next_char(&mut self) -> Result<char, ReadlineError>
         ensures { SomeRead (feed self.old) (feed self.new) result };
 
-    /// The text that the key `BracketedPasteStart` announced, asked for right after that key. At any other time the
-    /// refusal is `PasteOutOfPlace` and nothing is read.
+    /// The text that the key `BracketedPasteStart` announced, asked for right after that key. At
+    /// any other time the refusal is `PasteOutOfPlace` and nothing is read.
     fn read_pasted_text(&mut self, alloc: Global) -> Result<Text, ReadlineError>
         ensures { ReadsBy Paste paste_at (feed self.old) (feed self.new) result };
 

@@ -29,13 +29,29 @@ text_ahead (u ∷ ahead) text = u.text
 
 abbrev pub after_call : Call → Course → Course
 after_call (Told e) c =
-    record { text = replayed e c.text; held = recorded_in e c.text c.held; ahead = ahead_after e c.ahead; seen = replayed e c.text ∷ c.seen }
-after_call Begun c = record { text = c.text; held = Opened c.text ∷ c.held; ahead = []; seen = c.seen }
+    record {
+      text = replayed e c.text;
+      held = recorded_in e c.text c.held;
+      ahead = ahead_after e c.ahead;
+      seen = replayed e c.text ∷ c.seen;
+    }
+after_call Begun c =
+    record { text = c.text; held = Opened c.text ∷ c.held; ahead = []; seen = c.seen }
 after_call Ended c = record { text = c.text; held = ended c.held; ahead = []; seen = c.seen }
 after_call (TakenBack n) c =
-    record { text = text_back n c.held c.text; held = drop n c.held; ahead = ahead_back n c.held c.text c.ahead; seen = text_back n c.held c.text ∷ c.seen }
+    record {
+      text = text_back n c.held c.text;
+      held = drop n c.held;
+      ahead = ahead_back n c.held c.text c.ahead;
+      seen = text_back n c.held c.text ∷ c.seen;
+    }
 after_call MadeAnew c =
-    record { text = text_ahead c.ahead c.text; held = held_ahead c.ahead c.held; ahead = drop 1 c.ahead; seen = text_ahead c.ahead c.text ∷ c.seen }
+    record {
+      text = text_ahead c.ahead c.text;
+      held = held_ahead c.ahead c.held;
+      ahead = drop 1 c.ahead;
+      seen = text_ahead c.ahead c.text ∷ c.seen;
+    }
 
 unfoldable pub after_calls : List Call → Course → Course
 after_calls [] c = c

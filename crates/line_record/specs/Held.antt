@@ -30,12 +30,14 @@ change_of StopKilling = None
 change_of (Delete at text direction) = if length text == 0 then None else Some (Deleted at text)
 change_of (InsertChar at c) = Some (Inserted at (encode_utf8 c))
 change_of (InsertStr at text) = if length text == 0 then None else Some (Inserted at text)
-change_of (Replace at before after) = if (length before == 0) && (length after == 0) then None else Some (Replaced at before after)
+change_of (Replace at before after) =
+    if (length before == 0) && (length after == 0) then None else Some (Replaced at before after)
 
 -- an alphanumeric character typed right behind an insertion
 abbrev pub joined_char : ℕ → ℕ → Edit → Option Edit
 joined_char at c (Inserted place text) =
-    if is_alphanumeric c && (at == place + length text) then Some (Inserted place (text ++ encode_utf8 c)) else None
+    if is_alphanumeric c && (at == place + length text)
+    then Some (Inserted place (text ++ encode_utf8 c)) else None
 joined_char at c (Deleted place text) = None
 joined_char at c (Replaced place before after) = None
 
@@ -75,8 +77,10 @@ stepped_on (Some joined) c text earlier newest held = step_of joined earlier ∷
 stepped_on None c text earlier newest held = step_of c text ∷ (newest ∷ held)
 
 abbrev pub stepped : Event → Edit → List ℕ → List Held → List Held
-stepped e c text (Stepped earlier place d true ∷ held) = stepped_on (joined_to e d) c text earlier (Stepped earlier place d true) held
-stepped e c text (Stepped earlier place d false ∷ held) = step_of c text ∷ (Stepped earlier place d false ∷ held)
+stepped e c text (Stepped earlier place d true ∷ held) =
+    stepped_on (joined_to e d) c text earlier (Stepped earlier place d true) held
+stepped e c text (Stepped earlier place d false ∷ held) =
+    step_of c text ∷ (Stepped earlier place d false ∷ held)
 stepped e c text (Opened earlier ∷ held) = step_of c text ∷ (Opened earlier ∷ held)
 stepped e c text [] = step_of c text ∷ []
 
@@ -154,11 +158,17 @@ pub record Undone : Type 0 where
 abbrev pub ahead_back : ℕ → List Held → List ℕ → List Undone → List Undone
 ahead_back zero held text ahead = ahead
 ahead_back (suc n) [] text ahead = ahead
-ahead_back (suc n) (h ∷ held) text ahead = ahead_back n held (text_of h) (record { held = h; text = text } ∷ ahead)
+ahead_back (suc n) (h ∷ held) text ahead =
+    ahead_back n held (text_of h) (record { held = h; text = text } ∷ ahead)
 
 -- making an item anew: a step's cursor goes behind its newest change, a mark leaves it
 abbrev pub remade_line : Undone → Line → Line
-remade_line u l = elim u.held [ Opened text ↦ record l { text = u.text } | Stepped text place newest joinable ↦ record l { text = u.text; place = redo_place newest } ]
+remade_line u l =
+    elim u.held [
+      | Opened text ↦ record l { text = u.text }
+      | Stepped text place newest joinable ↦
+          record l { text = u.text; place = redo_place newest }
+    ]
 
 abbrev pub line_ahead : List Undone → Line → Line
 line_ahead [] l = l

@@ -72,7 +72,9 @@ done_held (x ∷ items) text = holding x (before_item x text) ∷ done_held item
 
 abbrev pub undone_ahead : List Item → List ℕ → List Undone
 undone_ahead [] text = []
-undone_ahead (x ∷ items) text = record { held = holding x text; text = after_item x text } ∷ undone_ahead items (after_item x text)
+undone_ahead (x ∷ items) text =
+    record { held = holding x text; text = after_item x text }
+    ∷ undone_ahead items (after_item x text)
 
 abbrev pub DoneStand : List Item → List ℕ → Type 0
 DoneStand [] text = Unit {0}
@@ -206,4 +208,5 @@ pub record Recorded (e : Event) (before after : List ℕ) (s t : Items) : Type 0
   pub ahead : ahead_on t after ≡ ahead_after e (ahead_on s before)
 
 pub record RecordedIn (s : Items) (e : Event) (t : Items) : Type 0 where
-  pub on : (before after : List ℕ) → ItemsStand s before → IsUtf8 before → Replays e before after → Recorded e before after s t
+  pub on : (before after : List ℕ) → ItemsStand s before → IsUtf8 before → Replays e before after
+      → Recorded e before after s t

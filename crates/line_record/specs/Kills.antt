@@ -29,12 +29,14 @@ run_with true text mode [] = text ∷ []
 run_with true text mode (run ∷ runs) = joined_text mode text run ∷ runs
 
 abbrev pub kill_taken : List ℕ → Mode → Kills → Kills
-kill_taken text mode k = record { runs = run_with k.running text mode k.runs; running = true; killing = k.killing }
+kill_taken text mode k =
+    record { runs = run_with k.running text mode k.runs; running = true; killing = k.killing }
 
 abbrev pub kills_heard : Event → Kills → Kills
 kills_heard StartKilling k = record k { killing = true }
 kills_heard StopKilling k = record k { killing = false }
-kills_heard (Delete at text direction) k = if k.killing then kill_taken text (mode_of direction) k else k
+kills_heard (Delete at text direction) k =
+    if k.killing then kill_taken text (mode_of direction) k else k
 kills_heard (InsertChar at c) k = k
 kills_heard (InsertStr at text) k = k
 kills_heard (Replace at removed added) k = k

@@ -42,7 +42,8 @@ RecordGivesTheText =
 -- a group in which nothing was recorded leaves the record as it was
 abbrev pub EmptyGroupLeavesNothing : Type 0
 EmptyGroupLeavesNothing =
-    (text : List ℕ) (held : List Held) → has_mark held ≡ false → (ended (Opened text ∷ held) ≡ held) × (closes (Opened text ∷ held) ≡ false)
+    (text : List ℕ) (held : List Held) → has_mark held ≡ false → (ended (Opened text ∷ held) ≡ held)
+    × (closes (Opened text ∷ held) ≡ false)
 
 -- calls that leave a group open: events, and marks set inside it
 abbrev pub stays_open : Call → Bool
@@ -70,7 +71,8 @@ abbrev pub RedoGivesTheTextBack : Type 0
 RedoGivesTheTextBack =
     (h : Held) (held : List Held) (ahead : List Undone) (l : Line) →
     let undone = ahead_back 1 (h ∷ held) l.text ahead in
-    ((line_ahead undone (line_back 1 (h ∷ held) l)).text ≡ l.text) × (held_ahead undone held ≡ h ∷ held)
+    ((line_ahead undone (line_back 1 (h ∷ held) l)).text ≡ l.text)
+    × (held_ahead undone held ≡ h ∷ held)
 
 -- kills from the cursor on or up to it
 abbrev pub is_directed : Movement → Bool
@@ -94,7 +96,8 @@ line_killed (m ∷ movements) l = line_killed movements (kill_line m l)
 
 abbrev pub ring_killed : List Movement → Line → Ring → Ring
 ring_killed [] l r = r
-ring_killed (m ∷ movements) l r = ring_killed movements (kill_line m l) (ring_all (kill_events m l) r)
+ring_killed (m ∷ movements) l r =
+    ring_killed movements (kill_line m l) (ring_all (kill_events m l) r)
 
 -- one of the kills takes something
 abbrev pub some_taken : List Movement → Line → Bool
@@ -104,10 +107,12 @@ some_taken (m ∷ movements) l = is_some (range_of m l) || some_taken movements 
 -- a run of such kills, then one yank, restores the text
 abbrev pub KillsComeBack : Type 0
 KillsComeBack =
-    (movements : List Movement) (l : Line) (r : Ring) → AllDirected movements → some_taken movements l ≡ true
+    (movements : List Movement) (l : Line) (r : Ring) → AllDirected movements
+    → some_taken movements l ≡ true
     → IsUtf8 l.text → IsCharBoundary l.text l.place → l.growth ≡ true
     → IsRing (length r.slots) r.size r.place r.last → 0 < r.size → r.last ≢ Kill
-    → (text : List ℕ) × (slice_get (ring_killed movements l r).slots (ring_killed movements l r).place ≡ Some text)
+    → (text : List ℕ) × (slice_get (ring_killed movements l r).slots
+    (ring_killed movements l r).place ≡ Some text)
     × ((yank text 1 (line_killed movements l)).line.text ≡ l.text)
 
 -- a new ring that is never turned holds the last runs of kills, as many as it has slots, and lends the newest

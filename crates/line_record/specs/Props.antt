@@ -10,19 +10,23 @@ StandsAt-prop at from to text = Prim.hlevel props
 
 AllStandIn-prop : (cs : List Edit) (text : List ℕ) → IsProp (AllStandIn cs text)
 AllStandIn-prop [] text = Unit-prop
-AllStandIn-prop (c ∷ cs) text = ×_prop (StandsAt-prop _ _ _ (all_taken_back cs text)) (AllStandIn-prop cs text)
+AllStandIn-prop (c ∷ cs) text =
+    ×_prop (StandsAt-prop _ _ _ (all_taken_back cs text)) (AllStandIn-prop cs text)
 
 AllFitIn-prop : (cs : List Edit) (text : List ℕ) → IsProp (AllFitIn cs text)
 AllFitIn-prop [] text = Unit-prop
-AllFitIn-prop (c ∷ cs) text = ×_prop (StandsAt-prop _ _ _ text) (AllFitIn-prop cs (made_anew c text))
+AllFitIn-prop (c ∷ cs) text =
+    ×_prop (StandsAt-prop _ _ _ text) (AllFitIn-prop cs (made_anew c text))
 
 DoneStand-prop : (items : List Item) (text : List ℕ) → IsProp (DoneStand items text)
 DoneStand-prop [] text = Unit-prop
-DoneStand-prop (x ∷ items) text = ×_prop (AllStandIn-prop (changes_of x) text) (DoneStand-prop items (before_item x text))
+DoneStand-prop (x ∷ items) text =
+    ×_prop (AllStandIn-prop (changes_of x) text) (DoneStand-prop items (before_item x text))
 
 UndoneFit-prop : (items : List Item) (text : List ℕ) → IsProp (UndoneFit items text)
 UndoneFit-prop [] text = Unit-prop
-UndoneFit-prop (x ∷ items) text = ×_prop (AllFitIn-prop (changes_of x) text) (UndoneFit-prop items (after_item x text))
+UndoneFit-prop (x ∷ items) text =
+    ×_prop (AllFitIn-prop (changes_of x) text) (UndoneFit-prop items (after_item x text))
 
 pub ItemsStand-prop : (s : Items) (text : List ℕ) → IsProp (ItemsStand s text)
 ItemsStand-prop s text = ×_prop (DoneStand-prop s.done text) (UndoneFit-prop s.undone text)

@@ -38,7 +38,8 @@ slot_after count size place = if count == 0 then 0 else if place + 1 == size the
 
 -- a text put in a slot, or behind the last one
 abbrev pub put_text : ℕ → List ℕ → List (List ℕ) → List (List ℕ)
-put_text place text slots = if nat_lt place (length slots) then slice_set slots place text else slots ++ text ∷ []
+put_text place text slots =
+    if nat_lt place (length slots) then slice_set slots place text else slots ++ text ∷ []
 
 abbrev pub killed_anew : List ℕ → Ring → Ring
 killed_anew text r =
@@ -46,17 +47,24 @@ killed_anew text r =
     record r { slots = put_text next text r.slots; place = next; last = Kill }
 
 abbrev pub killed_after : Action → List ℕ → Mode → Ring → Ring
-killed_after Kill text mode r = record r { slots = slice_set r.slots r.place (joined_text mode text (slice_index_or r.slots r.place [])) }
+killed_after Kill text mode r =
+    record r {
+      slots = slice_set r.slots r.place
+          (joined_text mode text (slice_index_or r.slots r.place []));
+    }
 killed_after Other text mode r = killed_anew text r
 killed_after (Yank count) text mode r = killed_anew text r
 
 -- a kill after a kill joins the text of its slot, any other takes the next slot; a ring of no slots keeps nothing
 abbrev pub killed : List ℕ → Mode → Ring → Ring
-killed text mode r = if r.size == 0 then record r { last = Kill } else killed_after r.last text mode r
+killed text mode r =
+    if r.size == 0 then record r { last = Kill } else killed_after r.last text mode r
 
 -- the present slot was lent
 abbrev pub yanked : Ring → Ring
-yanked r = if length r.slots == 0 then r else record r { last = Yank (length (slice_index_or r.slots r.place [])) }
+yanked r =
+    if length r.slots == 0 then r
+    else record r { last = Yank (length (slice_index_or r.slots r.place [])) }
 
 -- one slot back, before the first the last one
 abbrev pub slot_before : ℕ → ℕ → ℕ
@@ -76,7 +84,9 @@ turned r = turned_after r.last r
 
 -- the length of what was yanked, and the text in its place
 abbrev pub exchanged_after : Action → Ring → Option (ℕ × List ℕ)
-exchanged_after (Yank count) r = if length r.slots == 0 then None else Some (count, slice_index_or r.slots (slot_before (length r.slots) r.place) [])
+exchanged_after (Yank count) r =
+    if length r.slots == 0 then None
+    else Some (count, slice_index_or r.slots (slot_before (length r.slots) r.place) [])
 exchanged_after Kill r = None
 exchanged_after Other r = None
 

@@ -8,25 +8,35 @@ use Rattle.line_record.specs.Names.{SameNames}
 use Rattle.line_record.specs.Runs.{recorded_all}
 
 module _ {A B : Type 0} where
-  abbrev pub joined_takes : (A → Event → A → Type 0) → (B → Event → B → Type 0) → Joined A B → Event → Joined A B → Type 0
+  abbrev pub joined_takes : (A → Event → A → Type 0) → (B → Event → B → Type 0) → Joined A B → Event
+      → Joined A B → Type 0
   joined_takes first second s e t =
-      SameNames s.first s.second t.first t.second × (first s.first.now e t.first.now × second s.second.now e t.second.now)
+      SameNames s.first s.second t.first t.second
+      × (first s.first.now e t.first.now × second s.second.now e t.second.now)
 
   -- the first one refuses, and the second isn't told; or the second one refuses
-  abbrev pub joined_refuses : (A → Event → A → Type 0) → (A → Event → A → Type 0) → (B → Event → B → Type 0) → Joined A B → Event → Joined A B → Type 0
+  abbrev pub joined_refuses : (A → Event → A → Type 0) → (A → Event → A → Type 0)
+      → (B → Event → B → Type 0) → Joined A B → Event → Joined A B → Type 0
   joined_refuses first first_refuses second_refuses s e t =
       SameNames s.first s.second t.first t.second
-      × ((first_refuses s.first.now e t.first.now × (t.second.now ≡ s.second.now)) ⊎ (first s.first.now e t.first.now × second_refuses s.second.now e t.second.now))
+      × ((first_refuses s.first.now e t.first.now × (t.second.now ≡ s.second.now))
+      ⊎ (first s.first.now e t.first.now × second_refuses s.second.now e t.second.now))
 
 -- a call of several events that was refused, seen from a record that is told last: it holds the changes that the line
 -- made, and no other
-pub record HoldsWhatWasMade {S : Type 0} {takes refuses : S → Event → S → Type 0} {closing events : List Event} {s t : S} {before after : List ℕ}
-    (part : S → Items) (call : StopsAmong takes refuses closing events s t before after) : Type 0 where
-  pub stand : ItemsStand (part t) after
-  pub held : held_on (part t) after ≡ recorded_all closing after (recorded_all call.done before (held_on (part s) before))
+pub record HoldsWhatWasMade {S : Type 0} {takes refuses : S → Event → S
+    → Type 0} {closing events : List Event} {s t : S} {before after : List ℕ}
+    (part : S → Items) (call : StopsAmong takes refuses closing events s t before after) : Type 0
+  where
+    pub stand : ItemsStand (part t) after
+    pub held : held_on (part t) after
+        ≡ recorded_all closing after (recorded_all call.done before (held_on (part s) before))
 
-abbrev pub RefusalsLeaveNoUnmadeChange : {A : Type 0} → (A → Event → A → Type 0) → (A → Event → A → Type 0) → Type 0
+abbrev pub RefusalsLeaveNoUnmadeChange : {A : Type 0} → (A → Event → A → Type 0)
+    → (A → Event → A → Type 0) → Type 0
 RefusalsLeaveNoUnmadeChange {A} first first_refuses =
-    (closing events : List Event) (s t : Joined A Items) (before after : List ℕ) → ItemsStand s.second.now before → IsUtf8 before
-    → (call : StopsAmong (joined_takes first RecordedIn) (joined_refuses first first_refuses (λ x e y. y ≡ x)) closing events s t before after)
+    (closing events : List Event) (s t : Joined A Items) (before after : List ℕ)
+    → ItemsStand s.second.now before → IsUtf8 before
+    → (call : StopsAmong (joined_takes first RecordedIn)
+    (joined_refuses first first_refuses (λ x e y. y ≡ x)) closing events s t before after)
     → HoldsWhatWasMade (λ j. j.second.now) call

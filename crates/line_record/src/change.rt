@@ -95,7 +95,11 @@ impl Change {
     /// Puts back what stood there before, the cursor behind it.
     pub fn take_back(&self, alloc: Global, line: &mut LineBuffer) -> Result<(), OutOfMemory>
         requires { StandsIn (edit_of self.now) line.old.text }
-        ensures line { OnOk result (line.new ≡ record line.old { text = taken_back (edit_of self.now) line.old.text; place = undo_place (edit_of self.now) }) }
+        ensures line { OnOk result (line.new ≡ record line.old {
+          text = taken_back (edit_of self.now) line.old.text;
+          place = undo_place
+              (edit_of self.now);
+        }) }
         ensures kept { OnErr result (line.new ≡ line.old) }
     {
         // Its contract says that the length fits.
@@ -107,7 +111,11 @@ impl Change {
     /// Puts in again what was there after the change, the cursor behind it.
     pub fn make_anew(&self, alloc: Global, line: &mut LineBuffer) -> Result<(), OutOfMemory>
         requires { FitsIn (edit_of self.now) line.old.text }
-        ensures line { OnOk result (line.new ≡ record line.old { text = made_anew (edit_of self.now) line.old.text; place = redo_place (edit_of self.now) }) }
+        ensures line { OnOk result (line.new ≡ record line.old {
+          text = made_anew (edit_of self.now) line.old.text;
+          place = redo_place
+              (edit_of self.now);
+        }) }
         ensures kept { OnErr result (line.new ≡ line.old) }
     {
         // Its contract says that the length fits.
@@ -116,10 +124,13 @@ impl Change {
         line.replace(alloc, at..at + removed.len(), self.added(), &mut NoListener)
     }
 
-    /// Joins what is told to this change, which was the last before it; false where the two are no one change.
+    /// Joins what is told to this change, which was the last before it; false where the two are no
+    /// one change.
     pub fn join(&mut self, report: Report<'_>) -> Result<bool, OutOfMemory>
-        ensures answer { IfOk result (λ joined. joined ≡ is_some (joined_to (event_of report.entry) (edit_of self.old))) }
-        ensures value { OnOk result (edit_of self.new ≡ unwrap_or (joined_to (event_of report.entry) (edit_of self.old)) (edit_of self.old)) }
+        ensures answer { IfOk result (λ joined. joined ≡ is_some
+            (joined_to (event_of report.entry) (edit_of self.old))) }
+        ensures value { OnOk result (edit_of self.new ≡ unwrap_or
+            (joined_to (event_of report.entry) (edit_of self.old)) (edit_of self.old)) }
         ensures kept { OnErr result (edit_of self.new ≡ edit_of self.old) }
     {
         match (self, report) {
@@ -153,8 +164,11 @@ ghost use Rattle.line_record.specs.Held.{joined_char, joined_deletion, joined_re
 
 /// An alphanumeric character joins the insertion that it stands right behind.
 fn join_char(at: usize, text: &mut String, idx: usize, c: char) -> Result<bool, OutOfMemory>
-    ensures answer { IfOk result (λ joined. joined ≡ is_some (joined_char idx c (Inserted at (string_bytes text.old)))) }
-    ensures value { OnOk result (Inserted at (string_bytes text.new) ≡ unwrap_or (joined_char idx c (Inserted at (string_bytes text.old))) (Inserted at (string_bytes text.old))) }
+    ensures answer { IfOk result (λ joined. joined ≡ is_some
+        (joined_char idx c (Inserted at (string_bytes text.old)))) }
+    ensures value { OnOk result (Inserted at (string_bytes text.new) ≡ unwrap_or
+        (joined_char idx c (Inserted at (string_bytes text.old)))
+        (Inserted at (string_bytes text.old))) }
     ensures kept { OnErr result (string_bytes text.new ≡ string_bytes text.old) }
 {
     if !is_alphanumeric(c) || idx < at || idx - at != text.len() {
@@ -171,9 +185,13 @@ fn join_deletion(
     idx: usize,
     more: &str,
 ) -> Result<bool, OutOfMemory>
-    ensures answer { IfOk result (λ joined. joined ≡ is_some (joined_deletion idx more.now (Deleted at.old (string_bytes text.old)))) }
-    ensures value { OnOk result (Deleted at.new (string_bytes text.new) ≡ unwrap_or (joined_deletion idx more.now (Deleted at.old (string_bytes text.old))) (Deleted at.old (string_bytes text.old))) }
-    ensures kept { OnErr result ((at.new ≡ at.old) × (string_bytes text.new ≡ string_bytes text.old)) }
+    ensures answer { IfOk result (λ joined. joined ≡ is_some
+        (joined_deletion idx more.now (Deleted at.old (string_bytes text.old)))) }
+    ensures value { OnOk result (Deleted at.new (string_bytes text.new) ≡ unwrap_or
+        (joined_deletion idx more.now (Deleted at.old (string_bytes text.old)))
+        (Deleted at.old (string_bytes text.old))) }
+    ensures kept { OnErr result ((at.new ≡ at.old) ×
+        (string_bytes text.new ≡ string_bytes text.old)) }
 {
     if !is_one_alphanumeric(more) {
         return Ok(false);
@@ -199,9 +217,15 @@ fn join_replacement(
     more_removed: &str,
     more_added: &str,
 ) -> Result<bool, OutOfMemory>
-    ensures answer { IfOk result (λ joined. joined ≡ is_some (joined_replacement idx more_removed.now more_added.now (Replaced at (string_bytes removed.old) (string_bytes added.old)))) }
-    ensures value { OnOk result (Replaced at (string_bytes removed.new) (string_bytes added.new) ≡ unwrap_or (joined_replacement idx more_removed.now more_added.now (Replaced at (string_bytes removed.old) (string_bytes added.old))) (Replaced at (string_bytes removed.old) (string_bytes added.old))) }
-    ensures kept { OnErr result ((string_bytes removed.new ≡ string_bytes removed.old) × (string_bytes added.new ≡ string_bytes added.old)) }
+    ensures answer { IfOk result (λ joined. joined ≡ is_some
+        (joined_replacement idx more_removed.now more_added.now
+        (Replaced at (string_bytes removed.old) (string_bytes added.old)))) }
+    ensures value { OnOk result (Replaced at (string_bytes removed.new) (string_bytes added.new)
+        ≡ unwrap_or (joined_replacement idx more_removed.now more_added.now
+        (Replaced at (string_bytes removed.old) (string_bytes added.old)))
+        (Replaced at (string_bytes removed.old) (string_bytes added.old))) }
+    ensures kept { OnErr result ((string_bytes removed.new ≡ string_bytes removed.old)
+        × (string_bytes added.new ≡ string_bytes added.old)) }
 {
     if idx < at || idx - at != added.len() {
         return Ok(false);

@@ -7,7 +7,8 @@ use line_buffer::{Direction, OutOfMemory};
 use std::alloc::Global;
 use std::marker::Model;
 
-/// What was changed in a line, for undoing it and for making it anew. Changes may be grouped: a group is undone as one.
+/// What was changed in a line, for undoing it and for making it anew. Changes may be grouped: a
+/// group is undone as one.
 #[derive(Debug, Drop)]
 pub struct Changeset {
     pub(crate) done: Vec<Step>,
@@ -32,8 +33,8 @@ impl Changeset {
     ghost use Rattle.line_record.specs.Items.{no_items, opened, truncated, told_of, ItemsStand, RecordedIn, held_on};
     ghost use Rattle.line_record.specs.Stored.{event_of};
 
-    /// A record in which nothing stands. It takes no memory yet, and never refuses: the answer has the form of rustyline's
-    /// calls that make a part of the editor, all of which may want memory.
+    /// A record in which nothing stands. It takes no memory yet, and never refuses: the answer has
+    /// the form of rustyline's calls that make a part of the editor, all of which may want memory.
     pub fn new(alloc: Global) -> Result<Self, OutOfMemory>
         ensures { IfOk result (λ c. c ≡ no_items) }
     {
@@ -52,7 +53,8 @@ impl Changeset {
         Ok(Changeset { done, undone })
     }
 
-    /// Sets the mark that begins a group. Answers how many items stood before it: steps and open marks.
+    /// Sets the mark that begins a group. Answers how many items stood before it: steps and open
+    /// marks.
     pub fn begin(&mut self, alloc: Global) -> Result<usize, OutOfMemory>
         ensures answer { IfOk result (λ n. (text : List ℕ) → n ≡ length (held_on self.old text)) }
         ensures value { OnOk result (self.new ≡ opened self.old) }
@@ -64,11 +66,13 @@ impl Changeset {
         Ok(before)
     }
 
-    /// Closes all open marks: what was recorded since the oldest of them is one step from now on. Answers whether there is
-    /// such a step.
+    /// Closes all open marks: what was recorded since the oldest of them is one step from now on.
+    /// Answers whether there is such a step.
     pub fn end(&mut self, alloc: Global) -> Result<bool, OutOfMemory>
-        ensures answer { IfOk result (λ closed. (text : List ℕ) → ItemsStand self.old text → closed ≡ closes (held_on self.old text)) }
-        ensures held { OnOk result ((text : List ℕ) → ItemsStand self.old text → ItemsStand self.new text × (held_on self.new text ≡ ended (held_on self.old text))) }
+        ensures answer { IfOk result (λ closed. (text : List ℕ) → ItemsStand self.old text → closed
+            ≡ closes (held_on self.old text)) }
+        ensures held { OnOk result ((text : List ℕ) → ItemsStand self.old text → ItemsStand self.new
+            text × (held_on self.new text ≡ ended (held_on self.old text))) }
         ensures cleared { OnOk result (self.new.undone ≡ []) }
         ensures kept { OnErr result (self.new ≡ self.old) }
     {
@@ -80,8 +84,10 @@ impl Changeset {
     /// Keeps the first `n` items: steps and open marks.
     pub fn truncate(&mut self, n: usize)
         ensures value { self.new ≡ truncated n self.old }
-        ensures held { (text : List ℕ) → held_on self.new (text_kept n (held_on self.old text) text) ≡ first_held n (held_on self.old text) }
-        ensures stand { (text : List ℕ) → ItemsStand self.old text → ItemsStand self.new (text_kept n (held_on self.old text) text) }
+        ensures held { (text : List ℕ) → held_on self.new (text_kept n (held_on self.old text) text)
+            ≡ first_held n (held_on self.old text) }
+        ensures stand { (text : List ℕ) → ItemsStand self.old text → ItemsStand self.new
+            (text_kept n (held_on self.old text) text) }
     {
         self.done.truncate(n);
         self.undone.clear();
@@ -89,7 +95,8 @@ impl Changeset {
 
     /// The text that was put in last: `None` where the last item is a mark or took text out.
     pub fn last_insert(&self, alloc: Global) -> Result<Option<String>, OutOfMemory>
-        ensures { IfOk result (λ o. (text : List ℕ) → option_map string_bytes o ≡ last_inserted (held_on self.now text)) }
+        ensures { IfOk result (λ o. (text : List ℕ) → option_map string_bytes o ≡ last_inserted
+            (held_on self.now text)) }
     {
         let Some(text) = self.last_insert_text() else {
             return Ok(None);
@@ -128,7 +135,8 @@ impl Changeset {
     /// Records that a text was taken out at `idx`.
     pub fn delete(&mut self, alloc: Global, idx: usize, text: &str) -> Result<(), OutOfMemory>
         ensures ok { OnOk result (self.new ≡ told_of (Delete idx text.now Forward) self.old) }
-        ensures recorded { OnOk result (RecordedIn self.old (Delete idx text.now Forward) self.new) }
+        ensures recorded { OnOk result (RecordedIn self.old (Delete idx text.now Forward)
+            self.new) }
         ensures kept { OnErr result (self.new ≡ self.old) }
     {
         let direction = Direction::Forward;
@@ -151,7 +159,8 @@ impl Changeset {
         added: &str,
     ) -> Result<(), OutOfMemory>
         ensures ok { OnOk result (self.new ≡ told_of (Replace idx removed.now added.now) self.old) }
-        ensures recorded { OnOk result (RecordedIn self.old (Replace idx removed.now added.now) self.new) }
+        ensures recorded { OnOk result (RecordedIn self.old (Replace idx removed.now added.now)
+            self.new) }
         ensures kept { OnErr result (self.new ≡ self.old) }
     {
         self.note(
@@ -192,7 +201,8 @@ pub(crate) fn push_step(steps: &mut Vec<Step>, step: Step) -> Result<(), OutOfMe
 
 /// The steps with what is told behind them.
 fn note(alloc: Global, steps: &mut Vec<Step>, report: Report<'_>) -> Result<(), OutOfMemory>
-    ensures ok { OnOk result (items_of steps.new.items ≡ noted_if (event_of report.entry) (change_of (event_of report.entry)) (items_of steps.old.items)) }
+    ensures ok { OnOk result (items_of steps.new.items ≡ noted_if (event_of report.entry)
+        (change_of (event_of report.entry)) (items_of steps.old.items)) }
     ensures kept { OnErr result (items_of steps.new.items ≡ items_of steps.old.items) }
 {
     if report.is_empty() || join_last(steps, report)? {
@@ -204,8 +214,11 @@ fn note(alloc: Global, steps: &mut Vec<Step>, report: Report<'_>) -> Result<(), 
 
 /// Joins what is told to the last step; false where it joins none.
 fn join_last(steps: &mut Vec<Step>, report: Report<'_>) -> Result<bool, OutOfMemory>
-    ensures answer { IfOk result (λ joined. joined ≡ is_some (joined_items (event_of report.entry) (items_of steps.old.items))) }
-    ensures value { OnOk result (items_of steps.new.items ≡ unwrap_or (joined_items (event_of report.entry) (items_of steps.old.items)) (items_of steps.old.items)) }
+    ensures answer { IfOk result (λ joined. joined ≡ is_some
+        (joined_items (event_of report.entry) (items_of steps.old.items))) }
+    ensures value { OnOk result (items_of steps.new.items ≡ unwrap_or
+        (joined_items (event_of report.entry) (items_of steps.old.items))
+        (items_of steps.old.items)) }
     ensures kept { OnErr result (items_of steps.new.items ≡ items_of steps.old.items) }
 {
     match steps.last_mut() {
@@ -227,7 +240,8 @@ fn clone_steps(alloc: Global, steps: &[Step]) -> Result<Vec<Step>, OutOfMemory>
 
 /// Closes the open marks; false where nothing was recorded since the oldest.
 fn close_marks(alloc: Global, steps: &mut Vec<Step>) -> Result<bool, OutOfMemory>
-    ensures ended { IfOk result (λ closed. (text : List ℕ) → EndedBy closed (items_of steps.old.items) (items_of steps.new.items) text) }
+    ensures ended { IfOk result (λ closed. (text : List ℕ) → EndedBy closed
+        (items_of steps.old.items) (items_of steps.new.items) text) }
     ensures kept { OnErr result (items_of steps.new.items ≡ items_of steps.old.items) }
 {
     match first_mark(steps) {
@@ -246,8 +260,11 @@ fn first_mark(steps: &[Step]) -> Option<usize>
 /// The steps from the mark on become one, which nothing joins; false where they have no changes.
 fn close_group(alloc: Global, steps: &mut Vec<Step>, mark: usize) -> Result<bool, OutOfMemory>
     requires { mark < length steps.old.items }
-    ensures answer { IfOk result (λ closed. closed ≡ is_some (slice_get (gathered (drop mark (map item_of steps.old.items))) 0)) }
-    ensures items { OnOk result (items_of steps.new.items ≡ group_of (gathered (drop mark (map item_of steps.old.items))) (reverse (map item_of (take mark steps.old.items)))) }
+    ensures answer { IfOk result (λ closed. closed ≡ is_some
+        (slice_get (gathered (drop mark (map item_of steps.old.items))) 0)) }
+    ensures items { OnOk result (items_of steps.new.items ≡ group_of
+        (gathered (drop mark (map item_of steps.old.items)))
+        (reverse (map item_of (take mark steps.old.items)))) }
     ensures kept { OnErr result (items_of steps.new.items ≡ items_of steps.old.items) }
 {
     let changes = gather(alloc, &steps[mark..])?;

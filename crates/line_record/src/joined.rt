@@ -3,8 +3,8 @@
 use line_buffer::{ChangeListener, DeleteListener, Direction, OutOfMemory};
 use std::alloc::Global;
 
-/// Tells two listeners of each event, the first one first. Where the first refuses, the second isn't told: so a record
-/// that comes last never holds a change that the line didn't make.
+/// Tells two listeners of each event, the first one first. Where the first refuses, the second
+/// isn't told: so a record that comes last never holds a change that the line didn't make.
 #[derive(Drop)]
 pub struct Joined<'a, A: DeleteListener, B: DeleteListener> {
     pub first: &'a mut A,

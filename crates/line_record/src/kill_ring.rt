@@ -28,7 +28,13 @@ impl Model for KillRing {
 
     ghost Value = { Ring };
 
-    ghost view = { λ r. record { slots = map string_bytes r.slots.items; size = r.size; place = r.index; last = r.last_action; killing = r.killing } };
+    ghost view = { λ r. record {
+      slots = map string_bytes r.slots.items;
+      size = r.size;
+      place = r.index;
+      last = r.last_action;
+      killing = r.killing;
+    } };
 
     ghost invariant = { λ r. IsRing (vec_len r.slots) r.size r.index r.last_action };
 }
@@ -104,7 +110,8 @@ impl KillRing {
         Some(self.slots[self.index].as_str())
     }
 
-    /// After a yank, turns one slot back and lends its text, with the number of bytes that the last yank gave.
+    /// After a yank, turns one slot back and lends its text, with the number of bytes that the last
+    /// yank gave.
     pub fn yank_pop(&mut self) -> Option<(usize, &str)>
         ensures value { option_map (λ p. (p.0, p.1.now)) result ≡ exchanged self.old }
         ensures* ring { sem 𝓛 (ends_as self.entry (turned self.old)) }
@@ -137,15 +144,19 @@ fn join_slot(
 ) -> Result<(), OutOfMemory>
     requires { index < vec_len slots.old }
     ensures len { vec_len slots.new ≡ vec_len slots.old }
-    ensures ok { OnOk result (map string_bytes slots.new.items ≡ slice_set (map string_bytes slots.old.items) index (joined_text mode text.now (slice_index_or (map string_bytes slots.old.items) index []))) }
-    ensures kept { OnErr result (map string_bytes slots.new.items ≡ map string_bytes slots.old.items) }
+    ensures ok { OnOk result (map string_bytes slots.new.items ≡ slice_set
+        (map string_bytes slots.old.items) index
+        (joined_text mode text.now (slice_index_or (map string_bytes slots.old.items) index []))) }
+    ensures kept { OnErr result (map string_bytes slots.new.items ≡ map string_bytes
+        slots.old.items) }
 {
     join(&mut slots[index], text, mode)
 }
 
 /// Joins a text to another.
 fn join(slot: &mut String, text: &str, mode: Mode) -> Result<(), OutOfMemory>
-    ensures ok { OnOk result (string_bytes slot.new ≡ joined_text mode text.now (string_bytes slot.old)) }
+    ensures ok { OnOk result (string_bytes slot.new ≡ joined_text mode text.now
+        (string_bytes slot.old)) }
     ensures kept { OnErr result (string_bytes slot.new ≡ string_bytes slot.old) }
 {
     match mode {
@@ -163,8 +174,10 @@ fn put_slot(
     text: &str,
 ) -> Result<(), OutOfMemory>
     requires { index ≤ vec_len slots.old }
-    ensures ok { OnOk result (map string_bytes slots.new.items ≡ put_text index text.now (map string_bytes slots.old.items)) }
-    ensures kept { OnErr result (map string_bytes slots.new.items ≡ map string_bytes slots.old.items) }
+    ensures ok { OnOk result (map string_bytes slots.new.items ≡ put_text index text.now
+        (map string_bytes slots.old.items)) }
+    ensures kept { OnErr result (map string_bytes slots.new.items ≡ map string_bytes
+        slots.old.items) }
 {
     let text = String::from_str(alloc, text)?;
     if index < slots.len() {

@@ -10,7 +10,8 @@ pub fn earlier_texts()
     ensures { UndoLeavesAnEarlierText }
 {}
 
-/// Whatever was done to a line with a new record, undoing everything gives the text that it began with.
+/// Whatever was done to a line with a new record, undoing everything gives the text that it began
+/// with.
 pub fn first_text()
     ensures { UndoOfAllGivesTheFirstText }
 {}
@@ -25,8 +26,8 @@ pub fn empty_group()
     ensures { EmptyGroupLeavesNothing }
 {}
 
-/// One undo right after the end of a group that no other is around, and in which something was recorded, gives back the
-/// text that stood at its begin, and the record.
+/// One undo right after the end of a group that no other is around, and in which something was
+/// recorded, gives back the text that stood at its begin, and the record.
 pub fn undone_group()
     ensures { UndoTakesTheGroupBack }
 {}
@@ -36,19 +37,21 @@ pub fn undo_redo()
     ensures { RedoGivesTheTextBack }
 {}
 
-/// Of two listeners, the last of which is a record: a refusal leaves no change in the record that the line didn't make.
+/// Of two listeners, the last of which is a record: a refusal leaves no change in the record that
+/// the line didn't make.
 pub fn refusals<A: DeleteListener>()
     ensures { RefusalsLeaveNoUnmadeChange A.takes A.refuses }
 {}
 
-/// A run of kills from the cursor on or up to it, by which something was taken, and then one yank restore the text: in a
-/// line that may grow, with a ring that has slots and whose last action was no kill.
+/// A run of kills from the cursor on or up to it, by which something was taken, and then one yank
+/// restore the text: in a line that may grow, with a ring that has slots and whose last action was
+/// no kill.
 pub fn kills()
     ensures { KillsComeBack }
 {}
 
-/// A ring that has slots and is never turned holds the last runs of kills, as many as it has slots, and a yank gives the
-/// newest.
+/// A ring that has slots and is never turned holds the last runs of kills, as many as it has slots,
+/// and a yank gives the newest.
 pub fn last_runs()
     ensures { RingHoldsTheLastRuns }
 {}

@@ -5,8 +5,8 @@ use crate::report::Report;
 use line_buffer::{LineBuffer, OutOfMemory};
 use std::alloc::Global;
 
-/// Changes that are undone together, the oldest first. A step without any is the open mark of a group, and only a step
-/// of one change that isn't closed is joined.
+/// Changes that are undone together, the oldest first. A step without any is the open mark of a
+/// group, and only a step of one change that isn't closed is joined.
 #[derive(Debug, Drop)]
 pub struct Step {
     pub closed: bool,
@@ -73,8 +73,10 @@ impl Step {
 
     /// Joins what is told to the step's one change; false where it joins none.
     pub fn join(&mut self, report: Report<'_>) -> Result<bool, OutOfMemory>
-        ensures answer { IfOk result (λ joined. joined ≡ is_some (joined_item (event_of report.entry) (item_of self.old))) }
-        ensures value { OnOk result (item_of self.new ≡ unwrap_or (joined_item (event_of report.entry) (item_of self.old)) (item_of self.old)) }
+        ensures answer { IfOk result (λ joined. joined ≡ is_some
+            (joined_item (event_of report.entry) (item_of self.old))) }
+        ensures value { OnOk result (item_of self.new ≡ unwrap_or
+            (joined_item (event_of report.entry) (item_of self.old)) (item_of self.old)) }
         ensures kept { OnErr result (item_of self.new ≡ item_of self.old) }
     {
         if self.closed || self.changes.len() != 1 {
@@ -89,7 +91,8 @@ ghost use Rattle.line_record.specs.Edit.{AllStandIn, AllFitIn};
 ghost use Rattle.line_record.specs.Items.{lines_back, lines_ahead};
 ghost use Rattle.line_record.specs.Stored.{edits_of};
 
-/// Takes changes back, the newest first. After a refusal some of them are taken back, the newest ones.
+/// Takes changes back, the newest first. After a refusal some of them are taken back, the newest
+/// ones.
 pub(crate) fn take_back(
     alloc: Global,
     changes: &[Change],
@@ -97,7 +100,8 @@ pub(crate) fn take_back(
 ) -> Result<(), OutOfMemory>
     requires { AllStandIn (edits_of changes.now) line.old.text }
     ensures line { OnOk result (line.new ≡ lines_back (edits_of changes.now) line.old) }
-    ensures part { OnErr result ((j : ℕ) × (line.new ≡ lines_back (drop j (edits_of changes.now)) line.old)) }
+    ensures part { OnErr result ((j : ℕ) × (line.new ≡ lines_back (drop j (edits_of changes.now))
+        line.old)) }
 {
     let mut left = changes;
     while let Some((newest, earlier)) = left.split_last() {
@@ -115,7 +119,8 @@ pub(crate) fn make_anew(
 ) -> Result<(), OutOfMemory>
     requires { AllFitIn (edits_of changes.now) line.old.text }
     ensures line { OnOk result (line.new ≡ lines_ahead (edits_of changes.now) line.old) }
-    ensures part { OnErr result ((j : ℕ) × (line.new ≡ lines_ahead (take j (edits_of changes.now)) line.old)) }
+    ensures part { OnErr result ((j : ℕ) × (line.new ≡ lines_ahead (take j (edits_of changes.now))
+        line.old)) }
 {
     for change in changes {
         change.make_anew(alloc, line)?;

@@ -10,9 +10,10 @@ impl Changeset {
     ghost use Rattle.line_record.specs.Held.{line_back, has_step, ahead_back, line_ahead, has_step_ahead, held_ahead};
     ghost use Rattle.line_record.specs.Items.{no_items, undo_one, redo_one, lines_back_one, lines_ahead_one, part_back, part_ahead, nearest_is_change, ItemsStand, DoneStand, UndoneFit, held_on, ahead_on};
 
-    /// Takes the last `n` items back: steps, and open marks. 0 acts as 1. Answers whether a step was among them. The cursor
-    /// goes to the place of the oldest of their changes, behind what was put back there. After a refusal a part of the
-    /// changes is taken back, and nothing is recorded any more.
+    /// Takes the last `n` items back: steps, and open marks. 0 acts as 1. Answers whether a step
+    /// was among them. The cursor goes to the place of the oldest of their changes, behind what was
+    /// put back there. After a refusal a part of the changes is taken back, and nothing is recorded
+    /// any more.
     pub fn undo(
         &mut self,
         alloc: Global,
@@ -20,13 +21,18 @@ impl Changeset {
         n: RepeatCount,
     ) -> Result<bool, OutOfMemory>
         requires { ItemsStand self.old line.old.text }
-        ensures answer { IfOk result (λ b. b ≡ has_step (max n 1) (held_on self.old line.old.text)) }
-        ensures line { OnOk result (line.new ≡ line_back (max n 1) (held_on self.old line.old.text) line.old) }
-        ensures held { OnOk result (held_on self.new line.new.text ≡ drop (max n 1) (held_on self.old line.old.text)) }
-        ensures ahead { OnOk result (ahead_on self.new line.new.text ≡ ahead_back (max n 1) (held_on self.old line.old.text) line.old.text (ahead_on self.old line.old.text)) }
+        ensures answer { IfOk result (λ b. b ≡ has_step (max n 1)
+            (held_on self.old line.old.text)) }
+        ensures line { OnOk result (line.new ≡ line_back (max n 1) (held_on self.old line.old.text)
+            line.old) }
+        ensures held { OnOk result (held_on self.new line.new.text ≡ drop (max n 1)
+            (held_on self.old line.old.text)) }
+        ensures ahead { OnOk result (ahead_on self.new line.new.text ≡ ahead_back (max n 1)
+            (held_on self.old line.old.text) line.old.text (ahead_on self.old line.old.text)) }
         ensures stand { ItemsStand self.new line.new.text }
         ensures refused { OnErr result (self.new ≡ no_items) }
-        ensures part { OnErr result ((k : ℕ) × (j : ℕ) × (k < max n 1) × (line.new ≡ part_back k j self.old.done line.old)) }
+        ensures part { OnErr result ((k : ℕ) × (j : ℕ) × (k < max n 1)
+            × (line.new ≡ part_back k j self.old.done line.old)) }
     {
         // Its contract says that the text is UTF-8.
         let _text = line.as_str();
@@ -68,14 +74,18 @@ impl Changeset {
         Ok(Some(is_step))
     }
 
-    /// Makes the item anew that was undone last, if there is one; true where it is a step. The cursor goes behind what
-    /// its newest change puts in. After a refusal a part of the changes is made, and nothing is recorded any more.
+    /// Makes the item anew that was undone last, if there is one; true where it is a step. The
+    /// cursor goes behind what its newest change puts in. After a refusal a part of the changes is
+    /// made, and nothing is recorded any more.
     pub fn redo(&mut self, alloc: Global, line: &mut LineBuffer) -> Result<bool, OutOfMemory>
         requires { ItemsStand self.old line.old.text }
         ensures answer { IfOk result (λ b. b ≡ has_step_ahead (ahead_on self.old line.old.text)) }
-        ensures line { OnOk result (line.new ≡ line_ahead (ahead_on self.old line.old.text) line.old) }
-        ensures held { OnOk result (held_on self.new line.new.text ≡ held_ahead (ahead_on self.old line.old.text) (held_on self.old line.old.text)) }
-        ensures ahead { OnOk result (ahead_on self.new line.new.text ≡ drop 1 (ahead_on self.old line.old.text)) }
+        ensures line { OnOk result (line.new ≡ line_ahead (ahead_on self.old line.old.text)
+            line.old) }
+        ensures held { OnOk result (held_on self.new line.new.text ≡ held_ahead
+            (ahead_on self.old line.old.text) (held_on self.old line.old.text)) }
+        ensures ahead { OnOk result (ahead_on self.new line.new.text ≡ drop 1
+            (ahead_on self.old line.old.text)) }
         ensures stand { ItemsStand self.new line.new.text }
         ensures refused { OnErr result (self.new ≡ no_items) }
         ensures part { OnErr result ((j : ℕ) × (line.new ≡ part_ahead j self.old.undone line.old)) }

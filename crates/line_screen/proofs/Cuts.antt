@@ -1,18 +1,10 @@
 -- What a failure of the source cuts short, after what was read before.
-use Rattle.std.proofs.Common.{◌≡◌, ℕ, ◌+◌, ◌<◌, ◌≤◌, List, [], ◌∷◌, ◌++◌, Option, Some, None, Result, Ok, Err, refl, sym, ap, ◌∙◌, append_assoc, arith}
-use Rattle.std.specs.Char.{IsScalar}
-use Rattle.line_config.specs.declared.device.Last.{Last}
+use Rattle.std.proofs.Common.{◌≡◌, ℕ, ◌<◌, ◌≤◌, List, [], ◌∷◌, Option, Some, refl, sym, ap, ◌∙◌}
 use Rattle.line_config.specs.declared.device.Last.TheVariants.{Failed}
-use Rattle.line_config.specs.declared.errors.ReadlineError.{ReadlineError}
-use Rattle.line_config.specs.declared.errors.ReadlineError.TheVariants.{Reader}
 use Rattle.line_screen.specs.declared.reading.utf8.Awaited.{Awaited}
-use Rattle.line_screen.specs.Input.{Chars, Next, chars_of, in_char, char_at, after_byte, lead_in, lead_rows}
+use Rattle.line_screen.specs.Input.{chars_of, in_char, char_at, after_byte, lead_in, lead_rows}
 use Rattle.line_screen.specs.Reading.{Cut}
-use Rattle.line_screen.specs.Characters.{ReadsFirst}
 use Rattle.line_screen.proofs.FirstBytes.{first_byte, further_byte}
-use Rattle.line_screen.proofs.EncodedChars.{char_read}
-use Rattle.line_screen.proofs.ReadChars.{chars_are_encoded}
-use Rattle.std.specs.Char.{encode_utf8}
 
 -- inside a character, before its next byte
 pub cut_inside : (awaited : Awaited) (before after : List ℕ) → after ≡ before → Cut char_at (in_char (Some awaited)) before after

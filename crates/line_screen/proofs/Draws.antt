@@ -5,18 +5,18 @@ use Rattle.std.proofs.lemmas.Bool.{and_parts, and_from, le-leb}
 use Rattle.std.proofs.lemmas.Bool.Decides.{nat_tests}
 use Rattle.std.proofs.lemmas.List.Folds.{list_all-append}
 use Rattle.line_buffer.specs.declared.layout.Position.{Position}
-use Rattle.line_screen.specs.Display.{Placed, Display, Reading, put, put_down, put_run, is_printable, is_text, on_run, read, step, at_cursor, right, ends_before, touches}
-use Rattle.line_screen.specs.Display.Reading.{Text}
-use Rattle.line_screen.specs.Drawing.{Item, next_row, fit, after_one, after, placed_at, lay_one, lay, plain, row_break, break_if, fitted_col, left_col, fenced, sent_one, col_after_one, sent, col_after}
-use Rattle.line_screen.specs.Drawing.Item.{NewRow, Letter, Cluster}
+use Rattle.line_screen.specs.Display.{Placed, Display, DisplayReading, put_cells, put_down, put_run, is_printable, is_text, on_run, read, step, at_cursor, right, ends_before, touches}
+use Rattle.line_screen.specs.Display.DisplayReading.{Text}
+use Rattle.line_screen.specs.Drawing.{DrawnItem, next_row, fit, after_one, after, placed_at, lay_one, lay, no_style, row_break, break_if, fitted_col, left_col, fenced, sent_one, col_after_one, sent, col_after}
+use Rattle.line_screen.specs.Drawing.DrawnItem.{NewRow, Letter, Cluster}
 use Rattle.line_screen.specs.Showing.{Stands}
 use Rattle.line_screen.proofs.Standing.{stands_text, read-append, read_text, step_letter, read_plain, read_break}
 
--- nothing stands behind the cursor in its row, nor below
+-- nothing stands after the cursor in its row, nor below
 pub record Clear (d : Display) : Type 0 where
   pub all : list_all (ends_before d.cursor) d.placed ≡ true
 
-pub record Ready (columns : ℕ) (r : Reading) (d : Display) : Type 0 where
+pub record Ready (columns : ℕ) (r : DisplayReading) (d : Display) : Type 0 where
   pub stands : Stands columns r d
   pub clear : Clear d
   pub inside : d.cursor.col < columns
@@ -25,14 +25,14 @@ pub record Ready (columns : ℕ) (r : Reading) (d : Display) : Type 0 where
 pub record Showable (columns : ℕ) (wide : List ℕ → Option ℕ) (bytes : List ℕ) (width : ℕ) : Type 0 where
   pub narrow : width ≤ columns
   pub text : list_all is_text bytes ≡ true
-  pub put_is : (d : Display) → put_run columns wide bytes d ≡ put columns width bytes d
+  pub put_is : (d : Display) → put_run columns wide bytes d ≡ put_cells columns width bytes d
 
-abbrev pub Fits : ℕ → (List ℕ → Option ℕ) → Item → Type 0
+abbrev pub Fits : ℕ → (List ℕ → Option ℕ) → DrawnItem → Type 0
 Fits columns wide NewRow = Unit {0}
 Fits columns wide (Letter c) = is_printable c ≡ true
 Fits columns wide (Cluster bytes width) = Showable columns wide bytes width
 
-abbrev pub AllFit : ℕ → (List ℕ → Option ℕ) → List Item → Type 0
+abbrev pub AllFit : ℕ → (List ℕ → Option ℕ) → List DrawnItem → Type 0
 AllFit columns wide [] = Unit {0}
 AllFit columns wide (item ∷ items) = Fits columns wide item × AllFit columns wide items
 
@@ -66,20 +66,20 @@ leave_col : (b : Bool) (at : Position) → (if b then next_row at else at).col �
 leave_col true at = refl
 leave_col false at = refl
 
-pub after_col : (columns : ℕ) (item : Item) (at : Position) → (after_one columns item at).col ≡ col_after_one columns item at.col
+pub after_col : (columns : ℕ) (item : DrawnItem) (at : Position) → (after_one columns item at).col ≡ col_after_one columns item at.col
 after_col columns NewRow at = refl
 after_col columns (Letter c) at = leave_col (at.col + 1 == columns) (right 1 at)
 after_col columns (Cluster bytes width) at =
     leave_col ((fit columns width at).col + width == columns) (right width (fit columns width at))
     ∙ ap (λ c. left_col columns (c + width)) (fit_col (nat_le (at.col + width) columns) at)
 
-pub after_cols : (columns : ℕ) (items : List Item) (at : Position) → (after columns items at).col ≡ col_after columns items at.col
+pub after_cols : (columns : ℕ) (items : List DrawnItem) (at : Position) → (after columns items at).col ≡ col_after columns items at.col
 after_cols columns [] at = refl
 after_cols columns (item ∷ items) at = after_cols columns items (after_one columns item at) ∙ ap (col_after columns items) (after_col columns item at)
 
 -- ---- putting down
 
-pub put_clear : (columns width : ℕ) (bytes : List ℕ) (d : Display) → Clear d → d.cursor.col + width ≤ columns → put columns width bytes d ≡ Some (put_down width bytes d)
+pub put_clear : (columns width : ℕ) (bytes : List ℕ) (d : Display) → Clear d → d.cursor.col + width ≤ columns → put_cells columns width bytes d ≡ Some (put_down width bytes d)
 put_clear columns width bytes d c h =
     ap (λ b. if b then Some (put_down width bytes d) else None)
     (and_from (nat_le (d.cursor.col + width) columns) (list_all (λ p. not (touches d.cursor width p)) d.placed) (le-leb _ _ h) (list_all_since (ends_before d.cursor) (λ p. not (touches d.cursor width p)) (ends_apart d.cursor width) d.placed c.all))
@@ -95,14 +95,14 @@ clear_put width bytes d c =
 pub clear_next : (d : Display) → Clear d → Clear (at_cursor (next_row d.cursor) d)
 clear_next d c = record { all = list_all_since (ends_before d.cursor) (ends_before (next_row d.cursor)) (ends_next d.cursor) d.placed c.all }
 
--- the display behind items
-abbrev pub drawn : ℕ → List Item → Display → Display
+-- the display after items
+abbrev pub drawn : ℕ → List DrawnItem → Display → Display
 drawn columns items d = record { placed = d.placed ++ lay columns items d.cursor; cursor = after columns items d.cursor }
 
-abbrev pub drawn_one : ℕ → Item → Display → Display
+abbrev pub drawn_one : ℕ → DrawnItem → Display → Display
 drawn_one columns item d = record { placed = d.placed ++ lay_one columns item d.cursor; cursor = after_one columns item d.cursor }
 
-pub full_row : (columns : ℕ) (wide : List ℕ → Option ℕ) (b : Bool) (r : Reading) (d : Display) → Stands columns r d → Clear d → 0 < columns → (b ≡ false → d.cursor.col < columns)
+pub full_row : (columns : ℕ) (wide : List ℕ → Option ℕ) (b : Bool) (r : DisplayReading) (d : Display) → Stands columns r d → Clear d → 0 < columns → (b ≡ false → d.cursor.col < columns)
     → Ready columns (read columns wide r (break_if b)) (at_cursor (if b then next_row d.cursor else d.cursor) d)
 full_row columns wide true r d s c some h =
     record {
@@ -120,11 +120,11 @@ not_full columns col h e = grind (arith, nat_tests)
 abbrev fitted : ℕ → Bool → Display → Display
 fitted width b d = at_cursor (if b then d.cursor else next_row d.cursor) d
 
-record Fitted (columns : ℕ) (wide : List ℕ → Option ℕ) (width : ℕ) (b : Bool) (r : Reading) (d : Display) : Type 0 where
+record Fitted (columns : ℕ) (wide : List ℕ → Option ℕ) (width : ℕ) (b : Bool) (r : DisplayReading) (d : Display) : Type 0 where
   ready : Ready columns (read columns wide r (if b then [] else row_break)) (fitted width b d)
   room : (fitted width b d).cursor.col + width ≤ columns
 
-fits_if : (columns : ℕ) (wide : List ℕ → Option ℕ) (width : ℕ) (r : Reading) (d : Display) → Ready columns r d → width ≤ columns → (b : Bool) → nat_le (d.cursor.col + width) columns ≡ b
+fits_if : (columns : ℕ) (wide : List ℕ → Option ℕ) (width : ℕ) (r : DisplayReading) (d : Display) → Ready columns r d → width ≤ columns → (b : Bool) → nat_le (d.cursor.col + width) columns ≡ b
     → Fitted columns wide width b r d
 fits_if columns wide width r d ready narrow true e = record { ready = ready; room = grind (arith, nat_tests) }
 fits_if columns wide width r d ready narrow false e =
@@ -133,16 +133,16 @@ fits_if columns wide width r d ready narrow false e =
       room = grind (arith, nat_tests);
     }
 
-read_fenced : (columns : ℕ) (wide : List ℕ → Option ℕ) (bytes : List ℕ) (width : ℕ) (r : Reading) (d : Display) → Ready columns r d → Showable columns wide bytes width → d.cursor.col + width ≤ columns
+read_fenced : (columns : ℕ) (wide : List ℕ → Option ℕ) (bytes : List ℕ) (width : ℕ) (r : DisplayReading) (d : Display) → Ready columns r d → Showable columns wide bytes width → d.cursor.col + width ≤ columns
     → read columns wide r (fenced bytes) ≡ Text (put_down width bytes d) []
 read_fenced columns wide bytes width r d ready able room =
-    read-append columns wide r (plain ++ bytes) plain
-    ∙ ap (λ x. read columns wide x plain) (read-append columns wide r plain bytes)
-    ∙ ap (λ x. read columns wide (read columns wide x bytes) plain) (read_plain columns wide r d ready.stands [])
-    ∙ ap (λ x. read columns wide x plain) (read_text columns wide d [] bytes able.text)
+    read-append columns wide r (no_style ++ bytes) no_style
+    ∙ ap (λ x. read columns wide x no_style) (read-append columns wide r no_style bytes)
+    ∙ ap (λ x. read columns wide (read columns wide x bytes) no_style) (read_plain columns wide r d ready.stands [])
+    ∙ ap (λ x. read columns wide x no_style) (read_text columns wide d [] bytes able.text)
     ∙ ap (λ o. read columns wide (on_run columns 0x1B o) (0x5B ∷ 0x6D ∷ [])) (able.put_is d ∙ put_clear columns width bytes d ready.clear room)
 
-one_cluster : (columns : ℕ) (wide : List ℕ → Option ℕ) (bytes : List ℕ) (width : ℕ) (r : Reading) (d : Display) → Ready columns r d → Showable columns wide bytes width
+one_cluster : (columns : ℕ) (wide : List ℕ → Option ℕ) (bytes : List ℕ) (width : ℕ) (r : DisplayReading) (d : Display) → Ready columns r d → Showable columns wide bytes width
     → Ready columns (read columns wide r (sent_one columns (Cluster bytes width) d.cursor.col)) (drawn_one columns (Cluster bytes width) d)
 one_cluster columns wide bytes width r d ready able =
     let b = nat_le (d.cursor.col + width) columns in
@@ -161,7 +161,7 @@ one_cluster columns wide bytes width r d ready able =
     ∙ sym (read-append columns wide r ((if b then [] else row_break) ++ fenced bytes) (break_if (fitted_col columns width d.cursor.col + width == columns))) in
     subst (λ x. Ready columns x (drawn_one columns (Cluster bytes width) d)) bytes_are done
 
-pub one : (columns : ℕ) (wide : List ℕ → Option ℕ) (item : Item) (r : Reading) (d : Display) → Ready columns r d → Fits columns wide item
+pub one : (columns : ℕ) (wide : List ℕ → Option ℕ) (item : DrawnItem) (r : DisplayReading) (d : Display) → Ready columns r d → Fits columns wide item
     → Ready columns (read columns wide r (sent_one columns item d.cursor.col)) (drawn_one columns item d)
 one columns wide NewRow r d ready h =
     let done = full_row columns wide true r d ready.stands ready.clear (let i = ready.inside in omega arith) (λ e. ready.inside) in
@@ -173,7 +173,7 @@ one columns wide (Letter c) r d ready h =
     full_row columns wide (d1.cursor.col == columns) (step columns wide r c) d1 stands (clear_put 1 (c ∷ []) d ready.clear) (let i = ready.inside in omega arith) (not_full columns d1.cursor.col room)
 one columns wide (Cluster bytes width) r d ready able = one_cluster columns wide bytes width r d ready able
 
-pub draws : (columns : ℕ) (wide : List ℕ → Option ℕ) (items : List Item) (r : Reading) (d : Display) → Ready columns r d → AllFit columns wide items
+pub draws : (columns : ℕ) (wide : List ℕ → Option ℕ) (items : List DrawnItem) (r : DisplayReading) (d : Display) → Ready columns r d → AllFit columns wide items
     → Ready columns (read columns wide r (sent columns items d.cursor.col)) (drawn columns items d)
 draws columns wide [] r d ready h =
     subst (λ xs. Ready columns r (record { placed = xs; cursor = d.cursor })) (sym (append-nil d.placed)) ready

@@ -6,8 +6,8 @@ use Rattle.std.proofs.lemmas.Bool.Decides.{nat_tests}
 use Rattle.std.proofs.lemmas.List.Folds.{list_all-append}
 use Rattle.line_buffer.specs.declared.layout.Position.{Position}
 use Rattle.line_screen.specs.Display.{Placed, right, ends_before}
-use Rattle.line_screen.specs.Drawing.{Item, next_row, fit, leave, after_one, after, placed_at, lay_one, lay}
-use Rattle.line_screen.specs.Drawing.Item.{NewRow, Letter, Cluster}
+use Rattle.line_screen.specs.Drawing.{DrawnItem, next_row, fit, leave, after_one, after, placed_at, lay_one, lay}
+use Rattle.line_screen.specs.Drawing.DrawnItem.{NewRow, Letter, Cluster}
 use Rattle.line_screen.proofs.Draws.{list_all_since, ends_right, ends_itself, ends_next}
 
 ends_if : (b : Bool) (at : Position) (p : Placed) → ends_before at p ≡ true → ends_before (if b then next_row at else at) p ≡ true
@@ -18,25 +18,25 @@ ends_unless : (b : Bool) (at : Position) (p : Placed) → ends_before at p ≡ t
 ends_unless true at p h = h
 ends_unless false at p h = ends_next at p h
 
-ends_one : (columns : ℕ) (item : Item) (at : Position) (p : Placed) → ends_before at p ≡ true → ends_before (after_one columns item at) p ≡ true
+ends_one : (columns : ℕ) (item : DrawnItem) (at : Position) (p : Placed) → ends_before at p ≡ true → ends_before (after_one columns item at) p ≡ true
 ends_one columns NewRow at p h = ends_next at p h
 ends_one columns (Letter c) at p h = ends_if (at.col + 1 == columns) (right 1 at) p (ends_right at 1 p h)
 ends_one columns (Cluster bytes width) at p h =
     ends_if ((fit columns width at).col + width == columns) (right width (fit columns width at)) p
     (ends_right (fit columns width at) width p (ends_unless (nat_le (at.col + width) columns) at p h))
 
-ends_after : (columns : ℕ) (items : List Item) (at : Position) (p : Placed) → ends_before at p ≡ true → ends_before (after columns items at) p ≡ true
+ends_after : (columns : ℕ) (items : List DrawnItem) (at : Position) (p : Placed) → ends_before at p ≡ true → ends_before (after columns items at) p ≡ true
 ends_after columns [] at p h = h
 ends_after columns (item ∷ items) at p h = ends_after columns items (after_one columns item at) p (ends_one columns item at p h)
 
-one_ends : (columns : ℕ) (item : Item) (at : Position) → list_all (ends_before (after_one columns item at)) (lay_one columns item at) ≡ true
+one_ends : (columns : ℕ) (item : DrawnItem) (at : Position) → list_all (ends_before (after_one columns item at)) (lay_one columns item at) ≡ true
 one_ends columns NewRow at = refl
 one_ends columns (Letter c) at = and_from (ends_before (leave columns (right 1 at)) (placed_at (c ∷ []) 1 at)) true (ends_if (at.col + 1 == columns) (right 1 at) (placed_at (c ∷ []) 1 at) (ends_itself at 1 (c ∷ []))) refl
 one_ends columns (Cluster bytes width) at =
     let there = fit columns width at in
     and_from (ends_before (leave columns (right width there)) (placed_at bytes width there)) true (ends_if (there.col + width == columns) (right width there) (placed_at bytes width there) (ends_itself there width bytes)) refl
 
-pub lay_ends : (columns : ℕ) (items : List Item) (at : Position) → list_all (ends_before (after columns items at)) (lay columns items at) ≡ true
+pub lay_ends : (columns : ℕ) (items : List DrawnItem) (at : Position) → list_all (ends_before (after columns items at)) (lay columns items at) ≡ true
 lay_ends columns [] at = refl
 lay_ends columns (item ∷ items) at =
     let next = after_one columns item at in

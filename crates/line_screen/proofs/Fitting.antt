@@ -19,11 +19,13 @@ use Rattle.line_buffer.specs.Cells.{origin}
 use Rattle.line_buffer.specs.Width.{width_of}
 use Rattle.line_buffer.specs.declared.layout.GraphemeClusterMode.{GraphemeClusterMode}
 use Rattle.line_buffer.specs.declared.layout.Position.{Position}
-use Rattle.line_screen.specs.Display.{Display, put, put_letters, put_cluster, and_then, is_printable, is_text, right}
-use Rattle.line_screen.specs.Drawing.{Item, drawn_cluster, is_letter, item_of, row_items, join_rows, rows_of, text_items, next_row, fit, after_one, after}
-use Rattle.line_screen.specs.Drawing.Item.{NewRow, Letter, Cluster}
+use Rattle.line_screen.specs.Display.{Display, put_cells, put_letters, put_cluster, then_put, is_printable, is_text, right}
+use Rattle.line_screen.specs.Drawing.{DrawnItem, drawn_cluster, is_letter, drawn_item, row_items, join_rows, split_rows, text_items, next_row, fit, after_one, after}
+use Rattle.line_screen.specs.Drawing.DrawnItem.{NewRow, Letter, Cluster}
+use Rattle.std.specs.Str.{IsUtf8, is_utf8}
+use Rattle.std.proofs.lemmas.Str.{is_utf8-from_IsUtf8}
 use Rattle.line_screen.specs.Measure.{is_cluster, is_width, cluster_width}
-use Rattle.line_screen.specs.Showing.{Shown, shown_items, finish_of, cursor_of}
+use Rattle.line_screen.specs.Showing.{Picture, shown_items, finish_of, cursor_of}
 use Rattle.line_screen.proofs.Draws.{Showable, Fits, AllFit}
 use Rattle.line_screen.proofs.Full.{Drawable}
 
@@ -32,6 +34,11 @@ use Rattle.line_screen.proofs.Full.{Drawable}
 abbrev is_other : GraphemeClusterBreak → Bool
 is_other Other = true
 is_other _ = false
+
+pub text_is_utf8 : (bytes : List ℕ) → IsUtf8 bytes → is_utf8 bytes ≡ true
+text_is_utf8 bytes text = is_utf8-from_IsUtf8 bytes text
+
+pub ruleset texts = (text_is_utf8)
 
 other_is : (v : GraphemeClusterBreak) → is_other v ≡ true → Other ≡ v
 other_is Other h = refl
@@ -89,13 +96,13 @@ letter_from_cluster bs h e =
 
 -- ---- items
 
-and_then_some : (o : Option Display) → and_then o (λ d. Some d) ≡ o
+and_then_some : (o : Option Display) → then_put o (λ d. Some d) ≡ o
 and_then_some None = refl
 and_then_some (Some d) = refl
 
 module _ (mode : GraphemeClusterMode) (columns : ℕ) (some : 1 ≤ columns) where
   question_mark : Showable columns (cluster_width mode columns) (0x3F ∷ []) 1
-  question_mark = record { narrow = some; text = refl; put_is = λ d. and_then_some (put columns 1 (0x3F ∷ []) d) }
+  question_mark = record { narrow = some; text = refl; put_is = λ d. and_then_some (put_cells columns 1 (0x3F ∷ []) d) }
 
   width_if : (bytes : List ℕ) → is_letter bytes ≡ false → (b : Bool) → (is_cluster bytes && is_width columns (width_of mode bytes)) ≡ b
       → Fits columns (cluster_width mode columns) (drawn_cluster bytes (if b then Some (width_of mode bytes) else None))
@@ -103,8 +110,9 @@ module _ (mode : GraphemeClusterMode) (columns : ℕ) (some : 1 ≤ columns) whe
   width_if bytes other true e =
       let w = width_of mode bytes in
       let both = and_parts (is_cluster bytes) (is_width columns w) e in
-      let one = and_parts (list_all is_text bytes && not (list_any is_control (chars bytes))) (length (graphemes true bytes) == 1) both.0 in
-      let text = and_parts (list_all is_text bytes) (not (list_any is_control (chars bytes))) one.0 in
+      let plain = list_all is_text bytes && not (list_any is_control (chars bytes)) in
+      let one = and_parts (is_utf8 bytes && plain) (length (graphemes true bytes) == 1) both.0 in
+      let text = and_parts (list_all is_text bytes) (not (list_any is_control (chars bytes))) (and_parts (is_utf8 bytes) plain one.0).1 in
       let fits = and_parts (nat_lt 0 w) (nat_le w columns) both.1 in
       let mixed : list_all is_printable bytes ≡ false = false_from_ne_true (list_all is_printable bytes) (λ h. false≢true (sym other ∙ letter_from_cluster bytes h one.1)) in
       record {
@@ -118,7 +126,7 @@ module _ (mode : GraphemeClusterMode) (columns : ℕ) (some : 1 ≤ columns) whe
   letter_if bytes true e = (and_parts (length bytes == 1) (is_printable (slice_index bytes 0)) e).1
   letter_if bytes false e = width_if bytes e (is_cluster bytes && is_width columns (width_of mode bytes)) refl
 
-  clusters_fit : (parts : List (List ℕ)) → AllFit columns (cluster_width mode columns) (map (item_of (cluster_width mode columns)) parts)
+  clusters_fit : (parts : List (List ℕ)) → AllFit columns (cluster_width mode columns) (map (drawn_item (cluster_width mode columns)) parts)
   clusters_fit [] = tt
   clusters_fit (part ∷ parts) = (letter_if part (is_letter part) refl, clusters_fit parts)
 
@@ -126,11 +134,11 @@ module _ (mode : GraphemeClusterMode) (columns : ℕ) (some : 1 ≤ columns) whe
   letters_fit [] h = tt
   letters_fit (c ∷ cs) h = let parts = and_parts (is_printable c) (list_all is_printable cs) h in (parts.0, letters_fit cs parts.1)
 
-  row_if : (row : List ℕ) (b : Bool) → list_all is_printable row ≡ b → AllFit columns (cluster_width mode columns) (if b then map Letter row else map (item_of (cluster_width mode columns)) (graphemes true row))
+  row_if : (row : List ℕ) (b : Bool) → list_all is_printable row ≡ b → AllFit columns (cluster_width mode columns) (if b then map Letter row else map (drawn_item (cluster_width mode columns)) (graphemes true row))
   row_if row true e = letters_fit row e
   row_if row false e = clusters_fit (graphemes true row)
 
-  pub fit_append : (xs ys : List Item) → AllFit columns (cluster_width mode columns) xs → AllFit columns (cluster_width mode columns) ys → AllFit columns (cluster_width mode columns) (xs ++ ys)
+  pub fit_append : (xs ys : List DrawnItem) → AllFit columns (cluster_width mode columns) xs → AllFit columns (cluster_width mode columns) ys → AllFit columns (cluster_width mode columns) (xs ++ ys)
   fit_append [] ys h k = k
   fit_append (x ∷ xs) ys h k = (h.0, fit_append xs ys h.1 k)
 
@@ -143,7 +151,7 @@ module _ (mode : GraphemeClusterMode) (columns : ℕ) (some : 1 ≤ columns) whe
   rows_fit (row ∷ rows) = fit_append (row_items (cluster_width mode columns) row) _ (row_if row (list_all is_printable row) refl) (behind_fit rows)
 
   pub items_fit : (text : List ℕ) → AllFit columns (cluster_width mode columns) (text_items (cluster_width mode columns) text)
-  items_fit text = rows_fit (rows_of text)
+  items_fit text = rows_fit (split_rows text)
 
 -- ---- drawings end inside the row
 
@@ -155,18 +163,18 @@ fit_if : (columns width : ℕ) (at : Position) → at.col < columns → width �
 fit_if columns width at low narrow true e = leb-true (at.col + width) columns e
 fit_if columns width at low narrow false e = omega arith
 
-one_inside : (columns : ℕ) (wide : List ℕ → Option ℕ) (item : Item) (at : Position) → Fits columns wide item → at.col < columns → (after_one columns item at).col < columns
+one_inside : (columns : ℕ) (wide : List ℕ → Option ℕ) (item : DrawnItem) (at : Position) → Fits columns wide item → at.col < columns → (after_one columns item at).col < columns
 one_inside columns wide NewRow at h low = omega arith
 one_inside columns wide (Letter c) at h low = leave_if columns (right 1 at) (omega arith) (omega arith) (at.col + 1 == columns) refl
 one_inside columns wide (Cluster bytes width) at h low =
     leave_if columns (right width (fit columns width at)) (fit_if columns width at low h.narrow (nat_le (at.col + width) columns) refl) (omega arith) ((fit columns width at).col + width == columns) refl
 
-pub after_inside : (columns : ℕ) (wide : List ℕ → Option ℕ) (items : List Item) (at : Position) → AllFit columns wide items → at.col < columns → (after columns items at).col < columns
+pub after_inside : (columns : ℕ) (wide : List ℕ → Option ℕ) (items : List DrawnItem) (at : Position) → AllFit columns wide items → at.col < columns → (after columns items at).col < columns
 after_inside columns wide [] at h low = low
 after_inside columns wide (item ∷ items) at h low = after_inside columns wide items (after_one columns item at) h.1 (one_inside columns wide item at h.0 low)
 
 -- every value can be drawn whose end and cursor stand in rows that a move can name
-pub drawable : (mode : GraphemeClusterMode) (columns : ℕ) → 1 ≤ columns → (v : Shown) → (finish_of columns (cluster_width mode columns) v).row < 2 ^ 64 → (cursor_of columns (cluster_width mode columns) v).row < 2 ^ 64
+pub drawable : (mode : GraphemeClusterMode) (columns : ℕ) → 1 ≤ columns → (v : Picture) → (finish_of columns (cluster_width mode columns) v).row < 2 ^ 64 → (cursor_of columns (cluster_width mode columns) v).row < 2 ^ 64
     → Drawable columns (cluster_width mode columns) v
 drawable mode columns some v finish cursor =
     let wide = cluster_width mode columns in

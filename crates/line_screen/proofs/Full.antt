@@ -7,18 +7,18 @@ use Rattle.std.proofs.lemmas.List.Elements.{filter-append, filter_agree}
 use Rattle.std.proofs.lemmas.List.Folds.{list_all-map}
 use Rattle.line_buffer.specs.Cells.{origin}
 use Rattle.line_buffer.specs.declared.layout.Position.{Position}
-use Rattle.line_screen.specs.Display.{Placed, Display, Reading, read, at_cursor, starts_before, ends_before, is_cut, erase_below}
-use Rattle.line_screen.specs.Display.Reading.{Text, Lost}
-use Rattle.line_screen.specs.Drawing.{Item, text_items, after, lay, plain, sent, col_after, control_sequence, erase_to_end, cleared, move_bytes, shown_text, drawing, full_drawing}
+use Rattle.line_screen.specs.Display.{Placed, Display, DisplayReading, read, at_cursor, starts_before, ends_before, is_cut, erased_below}
+use Rattle.line_screen.specs.Display.DisplayReading.{Text, Lost}
+use Rattle.line_screen.specs.Drawing.{DrawnItem, text_items, after, lay, no_style, sent, col_after, control_sequence, erase_to_end, cleared, move_bytes, shown_text, drawing, full_drawing}
 use Rattle.line_screen.specs.Chain.{Inside}
-use Rattle.line_screen.specs.Showing.{Stands, Shown, cells_of, finish_of, cursor_of, down, down_placed, above, from_top, Shows}
+use Rattle.line_screen.specs.Showing.{Stands, Picture, cells_of, finish_of, cursor_of, down, down_placed, above, from_top, Shows}
 use Rattle.line_screen.proofs.Standing.{stands_text, read-append, step_control, read_plain}
 use Rattle.line_screen.proofs.Draws.{Ready, AllFit, drawn, draws, after_cols}
 use Rattle.line_screen.proofs.ListLemmas.{filter_all, filter_none, list_all_filter, list_all_true, filter_comm}
 use Rattle.line_screen.proofs.Moves.{place, moves_up, move_stands}
 use Rattle.line_screen.proofs.Shift.{after_down, lay_down, after-append, lay-append}
 
-pub record Drawable (columns : ℕ) (wide : List ℕ → Option ℕ) (v : Shown) : Type 0 where
+pub record Drawable (columns : ℕ) (wide : List ℕ → Option ℕ) (v : Picture) : Type 0 where
   pub prompt : AllFit columns wide (text_items wide v.prompt)
   pub line : AllFit columns wide (text_items wide v.line)
   pub info : AllFit columns wide (text_items wide v.info)
@@ -26,7 +26,7 @@ pub record Drawable (columns : ℕ) (wide : List ℕ → Option ℕ) (v : Shown)
   pub cursor : Inside columns (cursor_of columns wide v)
 
 -- what stands in the rows from `top` on gives way to the value's drawing
-abbrev pub redrawn : ℕ → (List ℕ → Option ℕ) → Shown → ℕ → Display → Display
+abbrev pub redrawn : ℕ → (List ℕ → Option ℕ) → Picture → ℕ → Display → Display
 redrawn columns wide v top d = record { placed = filter (above top) d.placed ++ map (down_placed top) (cells_of columns wide v); cursor = down top (cursor_of columns wide v) }
 
 -- ---- tests
@@ -61,17 +61,17 @@ abbrev pub wiped : ℕ → Display → Display
 wiped top d = record { placed = filter (above top) d.placed; cursor = down top origin }
 
 module _ (columns : ℕ) (wide : List ℕ → Option ℕ) where
-  wipes : (r : Reading) (d : Display) (top : ℕ) → Stands columns r d → d.cursor.row ≡ top + 0 → 0 < columns → read columns wide r (0x0D ∷ erase_to_end) ≡ Text (wiped top d) []
+  wipes : (r : DisplayReading) (d : Display) (top : ℕ) → Stands columns r d → d.cursor.row ≡ top + 0 → 0 < columns → read columns wide r (0x0D ∷ erase_to_end) ≡ Text (wiped top d) []
   wipes r d top s h some =
       let front : Display = at_cursor (place 0 (top + 0)) d in
       ap (λ x. read columns wide x erase_to_end) (step_control columns wide r d s 0x0D refl)
       ∙ ap (λ n. read columns wide (Text (at_cursor (place 0 n) d) []) erase_to_end) h
-      ∙ ap (λ b. if not b then Lost else erase_below front) (lt-ltb 0 columns some)
+      ∙ ap (λ b. if not b then Lost else erased_below front) (lt-ltb 0 columns some)
       ∙ ap (λ b. if b then Text (record { placed = filter (starts_before front.cursor) d.placed; cursor = front.cursor }) [] else Lost)
       (list_all_true (λ p. not (is_cut front.cursor p)) (not_cut (top + 0)) d.placed)
       ∙ ap (λ xs. Text (record { placed = xs; cursor = front.cursor }) []) (filter_agree (starts_before front.cursor) (above top) (starts_above top) d.placed)
 
-  pub cleared_ready : (r : Reading) (d : Display) (top old : ℕ) → Stands columns r d → d.cursor.row ≡ top + old → d.cursor.col < columns → old < 2 ^ 64
+  pub cleared_ready : (r : DisplayReading) (d : Display) (top old : ℕ) → Stands columns r d → d.cursor.row ≡ top + old → d.cursor.col < columns → old < 2 ^ 64
       → Ready columns (read columns wide r (cleared old)) (wiped top d)
   cleared_ready r d top old s row inside few =
       let up = moves_up columns wide r d old (top + 0) s inside few (omega arith) in
@@ -87,10 +87,10 @@ module _ (columns : ℕ) (wide : List ℕ → Option ℕ) where
 
   -- ---- the three texts
 
-  pub ready_append : (r : Reading) (a b : List ℕ) (d : Display) → Ready columns (read columns wide (read columns wide r a) b) d → Ready columns (read columns wide r (a ++ b)) d
+  pub ready_append : (r : DisplayReading) (a b : List ℕ) (d : Display) → Ready columns (read columns wide (read columns wide r a) b) d → Ready columns (read columns wide r (a ++ b)) d
   ready_append r a b d h = subst (λ x. Ready columns x d) (sym (read-append columns wide r a b)) h
 
-  pub plain_ready : (r : Reading) (d : Display) → Ready columns r d → Ready columns (read columns wide r plain) d
+  pub plain_ready : (r : DisplayReading) (d : Display) → Ready columns r d → Ready columns (read columns wide r no_style) d
   plain_ready r d h =
       record {
         stands = subst (λ x. Stands columns x d) (sym (read_plain columns wide r d h.stands [])) (stands_text columns d);
@@ -98,16 +98,16 @@ module _ (columns : ℕ) (wide : List ℕ → Option ℕ) where
         inside = h.inside;
       }
 
-  fenced_draws : (r : Reading) (bytes : List ℕ) (items : List Item) (d : Display) → Ready columns (read columns wide r bytes) d → AllFit columns wide items
-      → Ready columns (read columns wide r (bytes ++ plain ++ sent columns items d.cursor.col)) (drawn columns items d)
+  fenced_draws : (r : DisplayReading) (bytes : List ℕ) (items : List DrawnItem) (d : Display) → Ready columns (read columns wide r bytes) d → AllFit columns wide items
+      → Ready columns (read columns wide r (bytes ++ no_style ++ sent columns items d.cursor.col)) (drawn columns items d)
   fenced_draws r bytes items d h fits =
-      ready_append r (bytes ++ plain) (sent columns items d.cursor.col) (drawn columns items d)
-      (draws columns wide items (read columns wide r (bytes ++ plain)) d (ready_append r bytes plain d (plain_ready (read columns wide r bytes) d h)) fits)
+      ready_append r (bytes ++ no_style) (sent columns items d.cursor.col) (drawn columns items d)
+      (draws columns wide items (read columns wide r (bytes ++ no_style)) d (ready_append r bytes no_style d (plain_ready (read columns wide r bytes) d h)) fits)
 
-  abbrev three : List Item → List Item → List Item → ℕ → ℕ → List ℕ
-  three a b c x y = plain ++ sent columns a 0 ++ plain ++ sent columns b x ++ plain ++ sent columns c y ++ plain
+  abbrev three : List DrawnItem → List DrawnItem → List DrawnItem → ℕ → ℕ → List ℕ
+  three a b c x y = no_style ++ sent columns a 0 ++ no_style ++ sent columns b x ++ no_style ++ sent columns c y ++ no_style
 
-  three_cells : (a b c : List Item) (at : Position) (xs : List Placed)
+  three_cells : (a b c : List DrawnItem) (at : Position) (xs : List Placed)
       → ((xs ++ lay columns a at) ++ lay columns b (after columns a at)) ++ lay columns c (after columns b (after columns a at)) ≡ xs ++ lay columns (a ++ (b ++ c)) at
   three_cells a b c at xs =
       append_assoc (xs ++ lay columns a at) (lay columns b (after columns a at)) (lay columns c (after columns b (after columns a at)))
@@ -115,10 +115,10 @@ module _ (columns : ℕ) (wide : List ℕ → Option ℕ) where
       ∙ ap (λ ys. xs ++ (lay columns a at ++ ys)) (sym (lay-append columns b c (after columns a at)))
       ∙ ap (λ ys. xs ++ ys) (sym (lay-append columns a (b ++ c) at))
 
-  three_after : (a b c : List Item) (at : Position) → after columns c (after columns b (after columns a at)) ≡ after columns (a ++ (b ++ c)) at
+  three_after : (a b c : List DrawnItem) (at : Position) → after columns c (after columns b (after columns a at)) ≡ after columns (a ++ (b ++ c)) at
   three_after a b c at = sym (after-append columns b c (after columns a at)) ∙ sym (after-append columns a (b ++ c) at)
 
-  three_ready : (r : Reading) (a b c : List Item) (top : ℕ) (xs : List Placed) → AllFit columns wide a → AllFit columns wide b → AllFit columns wide c
+  three_ready : (r : DisplayReading) (a b c : List DrawnItem) (top : ℕ) (xs : List Placed) → AllFit columns wide a → AllFit columns wide b → AllFit columns wide c
       → Ready columns r (record { placed = xs; cursor = down top origin })
       → Ready columns (read columns wide r (three a b c (col_after columns a 0) (col_after columns b (col_after columns a 0))))
       (record { placed = xs ++ map (down_placed top) (lay columns (a ++ (b ++ c)) origin); cursor = down top (after columns (a ++ (b ++ c)) origin) })
@@ -131,9 +131,9 @@ module _ (columns : ℕ) (wide : List ℕ → Option ℕ) where
       let x : ℕ = da.cursor.col in
       let y : ℕ = db.cursor.col in
       let last : Ready columns (read columns wide r (three a b c x y)) dc =
-      ready_append r (plain ++ sent columns a 0 ++ plain ++ sent columns b x ++ plain ++ sent columns c y) plain dc
-      (plain_ready (read columns wide r (plain ++ sent columns a 0 ++ plain ++ sent columns b x ++ plain ++ sent columns c y)) dc
-      (fenced_draws r (plain ++ sent columns a 0 ++ plain ++ sent columns b x) c db (fenced_draws r (plain ++ sent columns a 0) b da (fenced_draws r [] a d h fa) fb) fc)) in
+      ready_append r (no_style ++ sent columns a 0 ++ no_style ++ sent columns b x ++ no_style ++ sent columns c y) no_style dc
+      (plain_ready (read columns wide r (no_style ++ sent columns a 0 ++ no_style ++ sent columns b x ++ no_style ++ sent columns c y)) dc
+      (fenced_draws r (no_style ++ sent columns a 0 ++ no_style ++ sent columns b x) c db (fenced_draws r (no_style ++ sent columns a 0) b da (fenced_draws r [] a d h fa) fb) fc)) in
       let x_is : x ≡ col_after columns a 0 = after_cols columns a at in
       let y_is : y ≡ col_after columns b (col_after columns a 0) = after_cols columns b (after columns a at) ∙ ap (col_after columns b) x_is in
       let bytes_are : three a b c x y ≡ three a b c (col_after columns a 0) (col_after columns b (col_after columns a 0)) =
@@ -147,7 +147,7 @@ module _ (columns : ℕ) (wide : List ℕ → Option ℕ) where
       ∙ ap (λ q. let e : Display = record { placed = xs ++ map (down_placed top) (lay columns (a ++ (b ++ c)) origin); cursor = q } in e) place_is in
       subst (λ z. Ready columns (read columns wide r z) whole) bytes_are (subst (Ready columns (read columns wide r (three a b c x y))) display_is last)
 
-  pub drawing_stands : (v : Shown) → Drawable columns wide v → columns < 2 ^ 64 → (r : Reading) (top : ℕ) (xs : List Placed)
+  pub drawing_stands : (v : Picture) → Drawable columns wide v → columns < 2 ^ 64 → (r : DisplayReading) (top : ℕ) (xs : List Placed)
       → Ready columns r (record { placed = xs; cursor = down top origin })
       → Stands columns (read columns wide r (drawing columns wide v.prompt v.line v.info (finish_of columns wide v) (cursor_of columns wide v)))
       (record { placed = xs ++ map (down_placed top) (cells_of columns wide v); cursor = down top (cursor_of columns wide v) })
@@ -158,7 +158,7 @@ module _ (columns : ℕ) (wide : List ℕ → Option ℕ) where
       let moved = move_stands columns wide (read columns wide r texts) d1 top (finish_of columns wide v) (cursor_of columns wide v) drawn_texts.stands refl few able.finish.row able.finish.col able.cursor.row able.cursor.col in
       subst (λ x. Stands columns x (at_cursor (down top (cursor_of columns wide v)) d1)) (sym (read-append columns wide r texts (move_bytes (finish_of columns wide v) (cursor_of columns wide v)))) moved
 
-  pub full_stands : (v : Shown) → Drawable columns wide v → columns < 2 ^ 64 → (r : Reading) (d : Display) (top old : ℕ) → Stands columns r d → d.cursor.row ≡ top + old → d.cursor.col < columns → old < 2 ^ 64
+  pub full_stands : (v : Picture) → Drawable columns wide v → columns < 2 ^ 64 → (r : DisplayReading) (d : Display) (top old : ℕ) → Stands columns r d → d.cursor.row ≡ top + old → d.cursor.col < columns → old < 2 ^ 64
       → Stands columns (read columns wide r (full_drawing columns wide old v.prompt v.line v.info (finish_of columns wide v) (cursor_of columns wide v))) (redrawn columns wide v top d)
   full_stands v able few r d top old s row inside low =
       let texts = drawing columns wide v.prompt v.line v.info (finish_of columns wide v) (cursor_of columns wide v) in
@@ -167,8 +167,8 @@ module _ (columns : ℕ) (wide : List ℕ → Option ℕ) where
 
 -- ---- what it shows
 
--- behind what stands in the rows above
-pub shows_behind : (columns : ℕ) (wide : List ℕ → Option ℕ) (v : Shown) (top : ℕ) (xs : List Placed) → list_all (above top) xs ≡ true
+-- after what stands in the rows above
+pub shows_behind : (columns : ℕ) (wide : List ℕ → Option ℕ) (v : Picture) (top : ℕ) (xs : List Placed) → list_all (above top) xs ≡ true
     → Shows columns wide v top (record { placed = xs ++ map (down_placed top) (cells_of columns wide v); cursor = down top (cursor_of columns wide v) })
 shows_behind columns wide v top xs h =
     let ys = map (down_placed top) (cells_of columns wide v) in
@@ -180,11 +180,11 @@ shows_behind columns wide v top xs h =
       cursor = refl;
     }
 
-pub redrawn_shows : (columns : ℕ) (wide : List ℕ → Option ℕ) (v : Shown) (top : ℕ) (d : Display) → Shows columns wide v top (redrawn columns wide v top d)
+pub redrawn_shows : (columns : ℕ) (wide : List ℕ → Option ℕ) (v : Picture) (top : ℕ) (d : Display) → Shows columns wide v top (redrawn columns wide v top d)
 redrawn_shows columns wide v top d = shows_behind columns wide v top (filter (above top) d.placed) (list_all_filter (above top) (above top) (same_test top) d.placed)
 
 -- the drawing changes nothing above it
-pub drawing_keeps : (columns : ℕ) (wide : List ℕ → Option ℕ) (v : Shown) (top : ℕ) (xs : List Placed) → filter (above top) (xs ++ map (down_placed top) (cells_of columns wide v)) ≡ filter (above top) xs
+pub drawing_keeps : (columns : ℕ) (wide : List ℕ → Option ℕ) (v : Picture) (top : ℕ) (xs : List Placed) → filter (above top) (xs ++ map (down_placed top) (cells_of columns wide v)) ≡ filter (above top) xs
 drawing_keeps columns wide v top xs =
     let ys = map (down_placed top) (cells_of columns wide v) in
     let none : filter (above top) ys ≡ [] = filter_none (above top) ys (list_all-map (λ p. not (above top p)) (down_placed top) (cells_of columns wide v) ∙ list_all_true (λ p. not (above top (down_placed top p))) (down_not_above top) (cells_of columns wide v)) in
@@ -193,5 +193,5 @@ drawing_keeps columns wide v top xs =
 pub above_twice : (top low : ℕ) → top ≤ low → (xs : List Placed) → filter (above top) (filter (above low) xs) ≡ filter (above top) xs
 above_twice top low h xs = filter_comm (above top) (above low) xs ∙ filter_all (above low) (filter (above top) xs) (list_all_filter (above top) (above low) (above_lower top low h) xs)
 
-pub redrawn_keeps : (columns : ℕ) (wide : List ℕ → Option ℕ) (v : Shown) (top : ℕ) (d : Display) → filter (above top) (redrawn columns wide v top d).placed ≡ filter (above top) d.placed
+pub redrawn_keeps : (columns : ℕ) (wide : List ℕ → Option ℕ) (v : Picture) (top : ℕ) (d : Display) → filter (above top) (redrawn columns wide v top d).placed ≡ filter (above top) d.placed
 redrawn_keeps columns wide v top d = drawing_keeps columns wide v top (filter (above top) d.placed) ∙ above_twice top top (omega arith) d.placed

@@ -10,16 +10,16 @@ use Rattle.std.proofs.Common.{arith}
 use Rattle.unicode_segmentation.specs.Grapheme.{graphemes}
 use Rattle.line_screen.specs.Chain.{is_simple}
 use Rattle.line_screen.specs.Display.{is_printable}
-use Rattle.line_screen.specs.Drawing.{Item, item_of, row_items, join_rows, rows_of, text_items}
-use Rattle.line_screen.specs.Drawing.Item.{NewRow, Letter}
+use Rattle.line_screen.specs.Drawing.{DrawnItem, drawn_item, row_items, join_rows, split_rows, text_items}
+use Rattle.line_screen.specs.Drawing.DrawnItem.{NewRow, Letter}
 
-abbrev pub simple_item : ℕ → Item
+abbrev pub simple_item : ℕ → DrawnItem
 simple_item c = if c == 0x0A then NewRow else Letter c
 
 record Rows (wide : List ℕ → Option ℕ) (text : List ℕ) : Type 0 where
   first : List ℕ
   others : List (List ℕ)
-  is : rows_of text ≡ first ∷ others
+  is : split_rows text ≡ first ∷ others
   printable : list_all is_printable first ≡ true
   items : text_items wide text ≡ map simple_item text
 
@@ -27,11 +27,11 @@ simple_printable : (c : ℕ) → is_simple c ≡ true → (c == 0x0A) ≡ false 
 simple_printable c h e = ap (λ b. b || is_printable c) (sym e) ∙ h
 
 printable_row : (wide : List ℕ → Option ℕ) (row : List ℕ) → list_all is_printable row ≡ true → row_items wide row ≡ map Letter row
-printable_row wide row h = ap (λ b. if b then map Letter row else map (item_of wide) (graphemes true row)) h
+printable_row wide row h = ap (λ b. if b then map Letter row else map (drawn_item wide) (graphemes true row)) h
 
 rows_if : (wide : List ℕ → Option ℕ) (c : ℕ) (text : List ℕ) → is_simple c ≡ true → Rows wide text → (b : Bool) → (c == 0x0A) ≡ b → Rows wide (c ∷ text)
 rows_if wide c text h rest true e =
-    let split : rows_of (c ∷ text) ≡ [] ∷ (rest.first ∷ rest.others) = slice_split-cons_yes (λ x. x == 0x0A) c text e ∙ ap (λ rs. [] ∷ rs) rest.is in
+    let split : split_rows (c ∷ text) ≡ [] ∷ (rest.first ∷ rest.others) = slice_split-cons_yes (λ x. x == 0x0A) c text e ∙ ap (λ rs. [] ∷ rs) rest.is in
     record {
       first = [];
       others = rest.first ∷ rest.others;
@@ -42,7 +42,7 @@ rows_if wide c text h rest true e =
     }
 rows_if wide c text h rest false e =
     let letter = simple_printable c h e in
-    let split : rows_of (c ∷ text) ≡ (c ∷ rest.first) ∷ rest.others = slice_split-cons_no (λ x. x == 0x0A) c text e ∙ ap (onto_first c) rest.is in
+    let split : split_rows (c ∷ text) ≡ (c ∷ rest.first) ∷ rest.others = slice_split-cons_no (λ x. x == 0x0A) c text e ∙ ap (onto_first c) rest.is in
     let all : list_all is_printable (c ∷ rest.first) ≡ true = and_from (is_printable c) (list_all is_printable rest.first) letter rest.printable in
     let others = flat_map (λ r. NewRow ∷ row_items wide r) rest.others in
     record {
@@ -85,7 +85,7 @@ all_simple (c ∷ cs) h =
     let parts = and_parts (is_printable c) (list_all is_printable cs) h in
     and_from (is_simple c) (list_all is_simple cs) (printable_simple c parts.0) (all_simple cs parts.1)
 
--- letters behind a simple line
+-- letters after a simple line
 pub items_letters : (wide : List ℕ → Option ℕ) (line letters : List ℕ) → list_all is_simple line ≡ true → list_all is_printable letters ≡ true
     → text_items wide (line ++ letters) ≡ text_items wide line ++ map Letter letters
 items_letters wide line letters h k =

@@ -11,15 +11,15 @@ use Rattle.line_buffer.specs.declared.layout.GraphemeClusterMode.{GraphemeCluste
 use Rattle.line_buffer.specs.declared.layout.Position.{Position}
 use Rattle.line_config.specs.declared.settings.BellStyle.{BellStyle}
 use Rattle.line_config.specs.declared.settings.BellStyle.TheVariants as Bells
-use Rattle.line_screen.specs.Calls.{Screen, Call, bytes_of, bell_bytes, drawing_bytes}
-use Rattle.line_screen.specs.Calls.Call.{Draw, Move, Write, Beep, ClearScreen, ClearRows, ClearToEol}
-use Rattle.line_screen.specs.Chain.{View, Good, Inside, empty_at, Replaces, Redraws, is_simple, typed, Types, EndsLine, cut_line, Leads}
-use Rattle.line_screen.specs.Display.{Placed, Display, read, start, put_down, is_printable, right, ends_before, starts_before, is_cut, stays_in_row, at_cursor, erase_below, erase_right}
-use Rattle.line_screen.specs.Display.Reading.{Text, Lost}
+use Rattle.line_screen.specs.Calls.{Screen, ScreenCall, bytes_of, bell_bytes, drawing_bytes}
+use Rattle.line_screen.specs.Calls.ScreenCall.{Draw, Move, Write, Beep, ClearScreen, ClearRows, ClearToEol}
+use Rattle.line_screen.specs.Chain.{View, Good, Inside, empty_at, Replaces, Redraws, is_simple, typed, Types, EndsLine, cut_line, Leads, at_place}
+use Rattle.line_screen.specs.Display.{Placed, Display, read, start, put_down, is_printable, right, ends_before, starts_before, is_cut, stays_in_row, at_cursor, erased_below, erased_right}
+use Rattle.line_screen.specs.Display.DisplayReading.{Text, Lost}
 use Rattle.line_screen.specs.Drawing.{text_items, next_row, leave, after, placed_at, lay, row_break, erase_to_end, erase_to_row_end, go_home, cleared, move_bytes, drawing, full_drawing}
-use Rattle.line_screen.specs.Drawing.Item.{Letter}
+use Rattle.line_screen.specs.Drawing.DrawnItem.{Letter}
 use Rattle.line_screen.specs.Measure.{cluster_width}
-use Rattle.line_screen.specs.Showing.{Stands, Shown, nothing, shown_items, cells_of, finish_of, cursor_of, down, down_placed, above, from_top}
+use Rattle.line_screen.specs.Showing.{Stands, Picture, nothing, shown_items, cells_of, finish_of, cursor_of, down, down_placed, above, from_top}
 use Rattle.line_screen.proofs.Standing.{stands_text, read-append, step_control, step_letter, read_break}
 use Rattle.line_screen.proofs.Draws.{list_all_since, Clear, Ready, put_clear}
 use Rattle.line_screen.proofs.ListLemmas.{filter_all, filter_none, list_all_filter, list_all_true, all_by_parts, filter_comm}
@@ -68,7 +68,7 @@ uncut_if_behind top at p h = grind (arith, nat_tests)
 uncut_above : (top : ℕ) (at : Position) (p : Placed) → from_top top p ≡ false → not (is_cut (down top at) p) ≡ true
 uncut_above top at p h = grind (arith, nat_tests)
 
-above_if_none : (top : ℕ) (p : Placed) → from_top top p ≡ false → above top p ≡ true
+pub above_if_none : (top : ℕ) (p : Placed) → from_top top p ≡ false → above top p ≡ true
 above_if_none top p h = grind (arith, nat_tests)
 
 low_top : (top row : ℕ) → nat_le top (top + row) ≡ true
@@ -77,7 +77,7 @@ low_top top row = grind (arith, nat_tests)
 module _ (mode : GraphemeClusterMode) (columns : ℕ) (some : 1 ≤ columns) (few : columns < 2 ^ 64) where
   -- ---- drawings
 
-  redraw_good : (bytes : List ℕ) (over : List Placed) (a : View) (old : ℕ) (v : Shown) → Good columns (cluster_width mode columns) bytes over a → old ≡ a.place.row
+  redraw_good : (bytes : List ℕ) (over : List Placed) (a : View) (old : ℕ) (v : Picture) → Good columns (cluster_width mode columns) bytes over a → old ≡ a.place.row
       → (finish_of columns (cluster_width mode columns) v).row < 2 ^ 64 → (cursor_of columns (cluster_width mode columns) v).row < 2 ^ 64
       → Good columns (cluster_width mode columns) (bytes ++ full_drawing columns (cluster_width mode columns) old v.prompt v.line v.info (finish_of columns (cluster_width mode columns) v) (cursor_of columns (cluster_width mode columns) v)) over
       (record { shown = v; top = a.top; place = cursor_of columns (cluster_width mode columns) v })
@@ -100,7 +100,7 @@ module _ (mode : GraphemeClusterMode) (columns : ℕ) (some : 1 ≤ columns) (fe
         over_is = redrawn_keeps columns wide v a.top g.display ∙ g.over_is;
       }
 
-  first_good : (bytes : List ℕ) (over : List Placed) (a : View) (v : Shown) → Good columns (cluster_width mode columns) bytes over a → a.shown ≡ nothing → a.place ≡ origin
+  first_good : (bytes : List ℕ) (over : List Placed) (a : View) (v : Picture) → Good columns (cluster_width mode columns) bytes over a → a.shown ≡ nothing → a.place ≡ origin
       → (finish_of columns (cluster_width mode columns) v).row < 2 ^ 64 → (cursor_of columns (cluster_width mode columns) v).row < 2 ^ 64
       → Good columns (cluster_width mode columns) (bytes ++ drawing columns (cluster_width mode columns) v.prompt v.line v.info (finish_of columns (cluster_width mode columns) v) (cursor_of columns (cluster_width mode columns) v)) over
       (record { shown = v; top = a.top; place = cursor_of columns (cluster_width mode columns) v })
@@ -193,11 +193,11 @@ module _ (mode : GraphemeClusterMode) (columns : ℕ) (some : 1 ≤ columns) (fe
       read-append columns wide start bytes (go_home ++ erase_to_end)
       ∙ ap (λ x. read columns wide x (0x5B ∷ 0x48 ∷ erase_to_end)) (step_control columns wide (read columns wide start bytes) g.display g.stands 0x1B refl)
       ∙ ap (λ b. read columns wide (if not b then Lost else Text home []) erase_to_end) (lt-ltb g.display.cursor.col columns (cursor_inside bytes over a g))
-      ∙ ap (λ b. if not b then Lost else erase_below home) (lt-ltb 0 columns some)
+      ∙ ap (λ b. if not b then Lost else erased_below home) (lt-ltb 0 columns some)
       ∙ ap (λ b. if b then Text last [] else Lost) (list_all_true (λ p. not (is_cut origin p)) first_not_cut g.display.placed) in
       empty_good (bytes ++ (go_home ++ erase_to_end)) [] 0 last (subst (λ x. Stands columns x last) (sym is_read) (stands_text columns last)) (ap (filter (from_top 0)) none) refl (ap (filter (above 0)) none)
 
-  -- nothing stands behind the cursor where it is at the drawing's end
+  -- nothing stands after the cursor where it is at the drawing's end
   clear_at_end : (bytes : List ℕ) (over : List Placed) (a : View) (g : Good columns (cluster_width mode columns) bytes over a) → a.place ≡ finish_of columns (cluster_width mode columns) a.shown → list_all (ends_before g.display.cursor) g.display.placed ≡ true
   clear_at_end bytes over a g e =
       let wide = cluster_width mode columns in
@@ -228,15 +228,15 @@ module _ (mode : GraphemeClusterMode) (columns : ℕ) (some : 1 ≤ columns) (fe
 
   -- ---- the two short ways
 
-  -- nothing behind the line: the items of prompt and line
-  pub line_items : (v : Shown) → v.info ≡ [] → shown_items (cluster_width mode columns) v ≡ text_items (cluster_width mode columns) v.prompt ++ text_items (cluster_width mode columns) v.line
+  -- nothing after the line: the items of prompt and line
+  pub line_items : (v : Picture) → v.info ≡ [] → shown_items (cluster_width mode columns) v ≡ text_items (cluster_width mode columns) v.prompt ++ text_items (cluster_width mode columns) v.line
   line_items v none =
       let wide = cluster_width mode columns in
       ap (λ info. text_items wide v.prompt ++ (text_items wide v.line ++ text_items wide info)) none
       ∙ ap (λ is. text_items wide v.prompt ++ is) (append-nil (text_items wide v.line))
 
-  -- the cursor behind the line
-  pub line_cursor : (v : Shown) → v.place ≡ length v.line → cursor_of columns (cluster_width mode columns) v ≡ after columns (text_items (cluster_width mode columns) v.prompt ++ text_items (cluster_width mode columns) v.line) origin
+  -- the cursor after the line
+  pub line_cursor : (v : Picture) → v.place ≡ length v.line → cursor_of columns (cluster_width mode columns) v ≡ after columns (text_items (cluster_width mode columns) v.prompt ++ text_items (cluster_width mode columns) v.line) origin
   line_cursor v e =
       let wide = cluster_width mode columns in
       let whole : take v.place v.line ≡ v.line = take_all v.place v.line (omega arith) in
@@ -309,7 +309,7 @@ module _ (mode : GraphemeClusterMode) (columns : ℕ) (some : 1 ≤ columns) (fe
       let there = after columns base origin in
       let here : a.place ≡ there = place_is ∙ line_cursor (cut_line v line) refl in
       let cursor_is : d.cursor ≡ down top there = g.cursor ∙ ap (down top) here in
-      -- what stood: the base, and the letters behind it
+      -- what stood: the base, and the letters after it
       let old_items : shown_items wide v ≡ base ++ map Letter killed =
       line_items v none ∙ ap (λ text. text_items wide v.prompt ++ text_items wide text) whole
       ∙ ap (λ is. text_items wide v.prompt ++ is) (items_letters wide line killed simple letters)
@@ -335,8 +335,8 @@ module _ (mode : GraphemeClusterMode) (columns : ℕ) (some : 1 ≤ columns) (fe
       let is_read : read columns wide start (bytes ++ erase_to_row_end) ≡ Text e [] =
       read-append columns wide start bytes erase_to_row_end
       ∙ ap (λ x. read columns wide x (0x5B ∷ 0x4B ∷ [])) (step_control columns wide (read columns wide start bytes) d g.stands 0x1B refl)
-      ∙ ap (λ b. if not b then Lost else erase_right d) (lt-ltb d.cursor.col columns (cursor_inside bytes over a g))
-      ∙ ap (λ p. erase_right (at_cursor p d)) cursor_is
+      ∙ ap (λ b. if not b then Lost else erased_right d) (lt-ltb d.cursor.col columns (cursor_inside bytes over a g))
+      ∙ ap (λ p. erased_right (at_cursor p d)) cursor_is
       ∙ ap (λ b. if b then Text e [] else Lost) all_uncut in
       let kept_first : filter stays (map (down_placed top) first) ≡ map (down_placed top) first =
       filter_all stays (map (down_placed top) first) (list_all-map stays (down_placed top) first ∙ list_all_since (ends_before there) (λ p. stays (down_placed top p)) (stays_if_ends top there) first ends) in
@@ -391,15 +391,20 @@ module _ (mode : GraphemeClusterMode) (columns : ℕ) (some : 1 ≤ columns) (fe
       either (Some row) h low high = redraw_good bytes over a row b.shown g h low high
 
 -- what stands above stays, but where the screen is cleared
-pub record Led (s : Screen) (bytes : List ℕ) (over : List Placed) (a : View) (call : Call) (b : View) : Type 0 where
+pub record Led (s : Screen) (bytes : List ℕ) (over : List Placed) (a : View) (call : ScreenCall) (b : View) : Type 0 where
   pub next : List Placed
   pub good : Good s.columns (cluster_width s.mode s.columns) (bytes ++ bytes_of s call) next b
   pub stays : call ≢ ClearScreen → filter (above a.top) next ≡ over
 
-over_again : (columns : ℕ) (wide : List ℕ → Option ℕ) (bytes : List ℕ) (over : List Placed) (a : View) → Good columns wide bytes over a → filter (above a.top) over ≡ over
+-- no cell tells the place in the line
+pub retold : (columns : ℕ) (wide : List ℕ → Option ℕ) (bytes : List ℕ) (over : List Placed) (a : View) (at : ℕ) → Good columns wide bytes over a
+    → Good columns wide bytes over (record { shown = at_place a.shown at; top = a.top; place = a.place })
+retold columns wide bytes over a at g = record { display = g.display; stands = g.stands; inside = g.inside; cells = g.cells; cursor = g.cursor; over_is = g.over_is }
+
+pub over_again : (columns : ℕ) (wide : List ℕ → Option ℕ) (bytes : List ℕ) (over : List Placed) (a : View) → Good columns wide bytes over a → filter (above a.top) over ≡ over
 over_again columns wide bytes over a g = ap (filter (above a.top)) (sym g.over_is) ∙ above_twice a.top a.top (omega arith) g.display.placed ∙ g.over_is
 
-same_over : (s : Screen) (bytes : List ℕ) (over : List Placed) (a : View) (call : Call) (b : View) → Good s.columns (cluster_width s.mode s.columns) bytes over a → Good s.columns (cluster_width s.mode s.columns) (bytes ++ bytes_of s call) over b → Led s bytes over a call b
+same_over : (s : Screen) (bytes : List ℕ) (over : List Placed) (a : View) (call : ScreenCall) (b : View) → Good s.columns (cluster_width s.mode s.columns) bytes over a → Good s.columns (cluster_width s.mode s.columns) (bytes ++ bytes_of s call) over b → Led s bytes over a call b
 same_over s bytes over a call b g h = record { next = over; good = h; stays = λ _. over_again s.columns (cluster_width s.mode s.columns) bytes over a g }
 
 write_led : (s : Screen) → 1 ≤ s.columns → s.columns < 2 ^ 64 → (bytes : List ℕ) (over : List Placed) (a b : View) (text : List ℕ) → Good s.columns (cluster_width s.mode s.columns) bytes over a
@@ -417,14 +422,15 @@ write_led s some few bytes over a b text g (inr t) =
       stays = λ _. done.2;
     }
 
-pub leads : (s : Screen) → 1 ≤ s.columns → s.columns < 2 ^ 64 → (bytes : List ℕ) (over : List Placed) (a b : View) (call : Call) → Good s.columns (cluster_width s.mode s.columns) bytes over a
+pub leads : (s : Screen) → 1 ≤ s.columns → s.columns < 2 ^ 64 → (bytes : List ℕ) (over : List Placed) (a b : View) (call : ScreenCall) → Good s.columns (cluster_width s.mode s.columns) bytes over a
     → Leads s.columns (cluster_width s.mode s.columns) a call b → Led s bytes over a call b
 leads s some few bytes over a b (Draw old prompt line info finish cursor) g h =
     same_over s bytes over a (Draw old prompt line info finish cursor) b g (draw_good s.mode s.columns some few bytes over a b old prompt line info finish cursor g h.0 h.1)
 leads s some few bytes over a b (Move old new) g h =
     same_over s bytes over a (Move old new) b g
     (subst (λ p. Good s.columns (cluster_width s.mode s.columns) (bytes ++ move_bytes p new) over b) (sym h.old_is)
-    (subst (Good s.columns (cluster_width s.mode s.columns) (bytes ++ move_bytes a.place new) over) (sym h.view) (move_good s.mode s.columns some few bytes over a new g h.inside)))
+    (subst (Good s.columns (cluster_width s.mode s.columns) (bytes ++ move_bytes a.place new) over) (sym h.view)
+    (retold s.columns (cluster_width s.mode s.columns) (bytes ++ move_bytes a.place new) over (record { shown = a.shown; top = a.top; place = new }) h.at (move_good s.mode s.columns some few bytes over a new g h.inside))))
 leads s some few bytes over a b (Write text) g h = write_led s some few bytes over a b text g h
 leads s some few bytes over a b Beep g h =
     same_over s bytes over a Beep b g (subst (Good s.columns (cluster_width s.mode s.columns) (bytes ++ bell_bytes s.bell) over) (sym h) (beep_good s.mode s.columns some few bytes over a s.bell g))

@@ -8,6 +8,7 @@ pub mod Fitting
 pub mod FollowingLemmas
 pub mod Full
 mod InputRows
+pub mod ItemReads
 pub mod Items
 pub mod LawLemmas
 pub mod Leading

@@ -1,6 +1,6 @@
 -- A key or a pasted text, read part by part: what was read leads from one definition to the next.
-use Rattle.std.proofs.Common.{◌≡◌, ℕ, ◌+◌, ◌≤◌, Bool, true, false, IsTrue, List, [], ◌∷◌, ◌++◌, Option, Some, None, Result, Ok, Err, is_err, OnErr, IfOk, refl, sym, ap, ◌∙◌, subst, append_assoc, arith}
-use Rattle.std.specs.Char.{IsScalar, encode_utf8}
+use Rattle.std.proofs.Common.{◌≡◌, ℕ, ◌+◌, ◌≤◌, false, IsTrue, List, [], ◌∷◌, ◌++◌, Option, Some, None, Result, Ok, Err, is_err, refl, sym, ap, ◌∙◌, subst, append_assoc, arith}
+use Rattle.std.specs.Char.{encode_utf8}
 use Rattle.std.specs.Option.{option_to_list}
 use Rattle.line_config.specs.declared.device.DeviceFailed.{DeviceFailed}
 use Rattle.line_config.specs.declared.device.Last.{Last}

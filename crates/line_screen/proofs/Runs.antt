@@ -1,17 +1,17 @@
 -- The bytes of a run of printable ASCII, and the bytes of items one part after the other.
 use Rattle.std.proofs.Common.{◌≡◌, ℕ, ◌+◌, ◌<◌, ◌≤◌, ◌==◌, Bool, true, false, List, [], ◌∷◌, ◌++◌, map, length, Result, Ok, Err, OnOk, IfOk, refl, sym, ap, ◌∙◌, subst, append_assoc, append-nil, arith, if◌then◌else◌}
 use Rattle.std.proofs.lemmas.Bool.{ne_eqb, eqb-true, eqb-false}
-use Rattle.line_screen.specs.Drawing.{Item, break_if, left_col, sent_one, col_after_one, sent, col_after}
-use Rattle.line_screen.specs.Drawing.Item.{Letter}
+use Rattle.line_screen.specs.Drawing.{DrawnItem, break_if, left_col, sent_one, col_after_one, sent, col_after}
+use Rattle.line_screen.specs.Drawing.DrawnItem.{Letter}
 use Rattle.line_config.specs.Sending.{Takes}
 
-pub sent-append : (columns : ℕ) (xs ys : List Item) (col : ℕ) → sent columns (xs ++ ys) col ≡ sent columns xs col ++ sent columns ys (col_after columns xs col)
+pub sent-append : (columns : ℕ) (xs ys : List DrawnItem) (col : ℕ) → sent columns (xs ++ ys) col ≡ sent columns xs col ++ sent columns ys (col_after columns xs col)
 sent-append columns [] ys col = refl
 sent-append columns (x ∷ xs) ys col =
     ap (λ bs. sent_one columns x col ++ bs) (sent-append columns xs ys (col_after_one columns x col))
     ∙ sym (append_assoc (sent_one columns x col) (sent columns xs (col_after_one columns x col)) (sent columns ys (col_after columns xs (col_after_one columns x col))))
 
-pub col_after-append : (columns : ℕ) (xs ys : List Item) (col : ℕ) → col_after columns (xs ++ ys) col ≡ col_after columns ys (col_after columns xs col)
+pub col_after-append : (columns : ℕ) (xs ys : List DrawnItem) (col : ℕ) → col_after columns (xs ++ ys) col ≡ col_after columns ys (col_after columns xs col)
 col_after-append columns [] ys col = refl
 col_after-append columns (x ∷ xs) ys col = col_after-append columns xs ys (col_after_one columns x col)
 
@@ -61,7 +61,7 @@ col_after_run columns letters col low room = (run_of columns letters col low roo
 
 -- ---- a loop that sends items: what is sent, and what is left
 
-pub record SoFar {D : Type 0} (told : D → Bool) (held : D → List ℕ) (failed : D → Bool) (columns start : ℕ) (all left : List Item) (old new : D) (col : ℕ) : Type 0 where
+pub record SoFar {D : Type 0} (told : D → Bool) (held : D → List ℕ) (failed : D → Bool) (columns start : ℕ) (all left : List DrawnItem) (old new : D) (col : ℕ) : Type 0 where
   pub bytes : List ℕ
   pub taken : Takes told held old new bytes
   pub works : failed new ≡ failed old
@@ -70,10 +70,10 @@ pub record SoFar {D : Type 0} (told : D → Bool) (held : D → List ℕ) (faile
   pub inside : col < columns
 
 module _ {D : Type 0} (told : D → Bool) (held : D → List ℕ) (failed : D → Bool) (columns start : ℕ) where
-  pub so_far_start : (all : List Item) (s : D) → start < columns → SoFar told held failed columns start all all s s start
+  pub so_far_start : (all : List DrawnItem) (s : D) → start < columns → SoFar told held failed columns start all all s s start
   so_far_start all s h = record { bytes = []; taken = λ t. (t, sym (append-nil (held s))); works = refl; rest = refl; column = refl; inside = h }
 
-  pub so_far_steps : (all items left before : List Item) (old new newer : D) (col next : ℕ) → SoFar told held failed columns start all before old new col → before ≡ items ++ left
+  pub so_far_steps : (all items left before : List DrawnItem) (old new newer : D) (col next : ℕ) → SoFar told held failed columns start all before old new col → before ≡ items ++ left
       → Takes told held new newer (sent columns items col) → failed newer ≡ failed new → next ≡ col_after columns items col → next < columns
       → SoFar told held failed columns start all left old newer next
   so_far_steps all items left before old new newer col next h split sent_more works next_is inside =
@@ -90,16 +90,16 @@ module _ {D : Type 0} (told : D → Bool) (held : D → List ℕ) (failed : D �
         inside = inside;
       }
 
-  pub so_far_end : (all left : List Item) (old new : D) (col : ℕ) → SoFar told held failed columns start all left old new col → left ≡ [] → Takes told held old new (sent columns all start)
+  pub so_far_end : (all left : List DrawnItem) (old new : D) (col : ℕ) → SoFar told held failed columns start all left old new col → left ≡ [] → Takes told held old new (sent columns all start)
   so_far_end all left old new col h none t =
       let end = h.taken t in
       let whole : h.bytes ≡ sent columns all start = sym (append-nil h.bytes) ∙ ap (λ is. h.bytes ++ sent columns is col) (sym none) ∙ h.rest in
       (end.0, end.1 ∙ ap (λ bs. held old ++ bs) whole)
 
-  pub so_far_column : (all left : List Item) (old new : D) (col : ℕ) → SoFar told held failed columns start all left old new col → left ≡ [] → col ≡ col_after columns all start
+  pub so_far_column : (all left : List DrawnItem) (old new : D) (col : ℕ) → SoFar told held failed columns start all left old new col → left ≡ [] → col ≡ col_after columns all start
   so_far_column all left old new col h none = ap (λ is. col_after columns is col) (sym none) ∙ h.column
 
-  pub so_far_step : (all left before : List Item) (item : Item) (old new newer : D) (col next : ℕ) → SoFar told held failed columns start all before old new col → before ≡ item ∷ left
+  pub so_far_step : (all left before : List DrawnItem) (item : DrawnItem) (old new newer : D) (col next : ℕ) → SoFar told held failed columns start all before old new col → before ≡ item ∷ left
       → Takes told held new newer (sent_one columns item col) → failed newer ≡ failed new → next ≡ col_after_one columns item col → next < columns
       → SoFar told held failed columns start all left old newer next
   so_far_step all left before item old new newer col next h split sent_more works next_is inside =

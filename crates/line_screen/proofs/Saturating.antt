@@ -3,8 +3,8 @@ use Rattle.std.proofs.Common.{◌≡◌, ℕ, ◌+◌, ◌<◌, ◌≤◌, ◌==
 use Rattle.std.proofs.lemmas.Bool.{ne_eqb, eqb-true, eqb-false}
 use Rattle.line_buffer.specs.declared.layout.Position.{Position}
 use Rattle.line_screen.specs.Display.{right}
-use Rattle.line_screen.specs.Drawing.{Item, next_row, fit, leave, after_one, after}
-use Rattle.line_screen.specs.Drawing.Item.{NewRow, Letter, Cluster}
+use Rattle.line_screen.specs.Drawing.{DrawnItem, next_row, fit, leave, after_one, after}
+use Rattle.line_screen.specs.Drawing.DrawnItem.{NewRow, Letter, Cluster}
 use Rattle.line_screen.specs.Measure.{saturated}
 use Rattle.line_screen.proofs.Moves.{place}
 use Rattle.line_screen.proofs.Shift.{after-append}
@@ -39,20 +39,20 @@ alike_leave columns p q h =
     subst (λ c. Alike (leave columns p) (if c == columns then next_row q else q)) h.col
     (alike_if (p.col == columns) (next_row p) p (next_row q) q (alike_next p q h) h)
 
-alike_one : (columns : ℕ) (item : Item) (p q : Position) → Alike p q → Alike (after_one columns item p) (after_one columns item q)
+alike_one : (columns : ℕ) (item : DrawnItem) (p q : Position) → Alike p q → Alike (after_one columns item p) (after_one columns item q)
 alike_one columns NewRow p q h = alike_next p q h
 alike_one columns (Letter c) p q h = alike_leave columns (right 1 p) (right 1 q) (alike_right 1 p q h)
 alike_one columns (Cluster bytes width) p q h =
     alike_leave columns (right width (fit columns width p)) (right width (fit columns width q)) (alike_right width (fit columns width p) (fit columns width q) (alike_fit columns width p q h))
 
-alike_after : (columns : ℕ) (items : List Item) (p q : Position) → Alike p q → Alike (after columns items p) (after columns items q)
+alike_after : (columns : ℕ) (items : List DrawnItem) (p q : Position) → Alike p q → Alike (after columns items p) (after columns items q)
 alike_after columns [] p q h = h
 alike_after columns (item ∷ items) p q h = alike_after columns items (after_one columns item p) (after_one columns item q) (alike_one columns item p q h)
 
 same_place : (p q : Position) → Alike p q → saturated p ≡ saturated q
 same_place p q h = ap (λ c. place c (min p.row 65535)) h.col ∙ ap (place q.col) h.row
 
-pub after_saturated : (columns : ℕ) (items : List Item) (p : Position) → saturated (after columns items (saturated p)) ≡ saturated (after columns items p)
+pub after_saturated : (columns : ℕ) (items : List DrawnItem) (p : Position) → saturated (after columns items (saturated p)) ≡ saturated (after columns items p)
 after_saturated columns items p = same_place _ _ (alike_after columns items (saturated p) p (alike_saturated p))
 
 pub saturated_twice : (p : Position) → saturated (saturated p) ≡ saturated p
@@ -86,15 +86,15 @@ none_left (c ∷ cs) h = absurd (omega arith)
 
 -- ---- a loop over items: where it is, and what is left
 
-pub record Reached (columns : ℕ) (from : Position) (all left : List Item) (at : Position) : Type 0 where
+pub record Reached (columns : ℕ) (from : Position) (all left : List DrawnItem) (at : Position) : Type 0 where
   pub same : saturated (after columns left at) ≡ saturated (after columns all from)
   pub inside : at.col < columns
   pub low : at.row ≤ 65535
 
-pub reached_start : (columns : ℕ) (all : List Item) (from : Position) → from.col < columns → from.row ≤ 65535 → Reached columns from all all from
+pub reached_start : (columns : ℕ) (all : List DrawnItem) (from : Position) → from.col < columns → from.row ≤ 65535 → Reached columns from all all from
 reached_start columns all from h low = record { same = refl; inside = h; low = low }
 
-pub reached_steps : (columns : ℕ) (from : Position) (all items left before : List Item) (at next : Position) → Reached columns from all before at → before ≡ items ++ left
+pub reached_steps : (columns : ℕ) (from : Position) (all items left before : List DrawnItem) (at next : Position) → Reached columns from all before at → before ≡ items ++ left
     → next ≡ saturated (after columns items at) → next.col < columns → Reached columns from all left next
 reached_steps columns from all items left before at next h split is inside =
     record {
@@ -106,5 +106,5 @@ reached_steps columns from all items left before at next h split is inside =
       low = let row_is : next.row ≡ min (after columns items at).row 65535 = ap (λ p. p.row) is in omega arith;
     }
 
-pub reached_end : (columns : ℕ) (from : Position) (all left : List Item) (at : Position) → Reached columns from all left at → left ≡ [] → at ≡ saturated (after columns all from)
+pub reached_end : (columns : ℕ) (from : Position) (all left : List DrawnItem) (at : Position) → Reached columns from all left at → left ≡ [] → at ≡ saturated (after columns all from)
 reached_end columns from all left at h none = sym (saturated_small at h.low) ∙ ap (λ xs. saturated (after columns xs at)) (sym none) ∙ h.same

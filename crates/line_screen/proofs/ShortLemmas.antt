@@ -1,18 +1,15 @@
 -- The short ways lead where they may be asked.
-use Rattle.std.proofs.Common.{◌≡◌, ℕ, ◌+◌, ◌-◌, ◌^◌, ◌<◌, ◌≤◌, nat_lt, nat_le, Bool, true, false, ◌&&◌, List, [], ◌∷◌, ◌++◌, map, length, length-append, inl, inr, Option, Some, None, refl, sym, ap, ◌∙◌, subst, append_assoc, arith, if◌then◌else◌}
-use Rattle.std.specs.List.{list_all, FoldsTo}
+use Rattle.std.proofs.Common.{◌≡◌, ◌+◌, ◌-◌, ◌^◌, ◌<◌, ◌≤◌, nat_lt, nat_le, Bool, true, false, ◌&&◌, [], ◌∷◌, ◌++◌, map, length, length-append, inl, Some, None, refl, sym, ap, ◌∙◌, subst, append_assoc, arith, if◌then◌else◌}
+use Rattle.std.specs.List.{list_all}
 use Rattle.std.proofs.lemmas.Bool.{and_from, and_parts, ltb-true, leb-true}
 use Rattle.line_buffer.specs.Cells.{origin}
 use Rattle.line_buffer.specs.declared.layout.Position.{Position}
-use Rattle.line_screen.specs.Calls.{Screen, Call}
-use Rattle.line_screen.specs.Calls.Call.{Move, Write, ClearToEol}
-use Rattle.line_screen.specs.Chain.{View, Inside, Leads, is_simple, typed, cut_line}
+use Rattle.line_screen.specs.Chain.{View, typed, cut_line}
 use Rattle.line_screen.specs.Display.{is_printable, right}
 use Rattle.line_screen.specs.Drawing.{text_items, after}
-use Rattle.line_screen.specs.Drawing.Item.{Letter}
+use Rattle.line_screen.specs.Drawing.DrawnItem.{Letter}
 use Rattle.line_screen.specs.Laws.{widths}
-use Rattle.line_buffer.specs.Short.{behind_typed, before_killed}
-use Rattle.line_screen.specs.Short.{AtEnd, TypingLeads, KillingLeads}
+use Rattle.line_screen.specs.Short.{TypingLeads, KillingLeads}
 use Rattle.line_screen.specs.Showing.{shown_items, finish_of, cursor_of}
 use Rattle.line_screen.proofs.Ends.{letters_in_row}
 use Rattle.line_screen.proofs.Fitting.{items_fit, fit_append, after_inside}
@@ -82,7 +79,7 @@ killing_leads s low high a line killed place whole none simple inside row e =
     let moved : View = record { shown = v; top = a.top; place = place } in
     let cut : View = record { shown = cut_line v line; top = a.top; place = place } in (
       moved,
-      record { old_is = refl; inside = record { row = place_row; col = place_col }; view = refl },
+      record { old_is = refl; inside = record { row = place_row; col = place_col }; at = v.place; view = refl },
       (
         cut,
         record { line = line; killed = killed; whole = whole; info = none; simple = simple; printable = parts.0; room = room; place_is = new_cursor; view = refl },

@@ -25,14 +25,14 @@ screen_of r = record { columns = r.grid.columns; mode = r.grid.mode; bell = r.be
 abbrev pub sink_of : {D : Type 0} → ScreenRenderer D → D
 sink_of r = r.sink
 
-pub data Call : Type 0 where
-  Draw : (old_row : Option ℕ) (prompt line info : List ℕ) (finish cursor : Position) → Call
-  Move : (old new : Position) → Call
-  Write : (text : List ℕ) → Call
-  Beep : Call
-  ClearScreen : Call
-  ClearRows : (row : ℕ) → Call
-  ClearToEol : Call
+pub data ScreenCall : Type 0 where
+  Draw : (old_row : Option ℕ) (prompt line info : List ℕ) (finish cursor : Position) → ScreenCall
+  Move : (old new : Position) → ScreenCall
+  Write : (text : List ℕ) → ScreenCall
+  Beep : ScreenCall
+  ClearScreen : ScreenCall
+  ClearRows : (row : ℕ) → ScreenCall
+  ClearToEol : ScreenCall
 
 abbrev pub drawing_bytes : ℕ → (List ℕ → Option ℕ) → Option ℕ → List ℕ → List ℕ → List ℕ → Position
     → Position → List ℕ
@@ -46,7 +46,7 @@ abbrev pub bell_bytes : BellStyle → List ℕ
 bell_bytes Audible = 0x07 ∷ []
 bell_bytes _ = []
 
-abbrev pub bytes_of : Screen → Call → List ℕ
+abbrev pub bytes_of : Screen → ScreenCall → List ℕ
 bytes_of s (Draw old prompt line info finish cursor) = drawing_bytes s.columns
     (cluster_width s.mode s.columns) old prompt line info finish cursor
 bytes_of s (Move old new) = move_bytes old new
@@ -68,7 +68,7 @@ display_answer (Err e) = Err Refusal.Display
 -- a call of a screen: answered, its bytes were sent and the sink works as before; refused, the sink
 -- has failed. The screen stays as it is.
 pub record MakesCall {D A : Type 0} (told : D → Bool) (held : D → List ℕ) (failed : D → Bool)
-    (call : Call)
+    (call : ScreenCall)
     (old new : ScreenRenderer D) (result : Result A ReadlineError) : Type 0 where
   pub sent : OnOk result (Takes told held (sink_of old) (sink_of new)
       (bytes_of (screen_of old) call))

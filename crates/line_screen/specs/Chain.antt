@@ -3,16 +3,16 @@ use Rattle.std.specs.Prelude.{◌≡◌, ℕ, ◌+◌, ◌^◌, ◌<◌, ◌≤�
 use Rattle.std.specs.List.{list_all, filter}
 use Rattle.line_buffer.specs.Cells.{origin}
 use Rattle.line_buffer.specs.declared.layout.Position.{Position}
-use Rattle.line_screen.specs.Calls.{Call}
-use Rattle.line_screen.specs.Calls.Call.{Draw, Move, Write, Beep, ClearScreen, ClearRows, ClearToEol}
+use Rattle.line_screen.specs.Calls.{ScreenCall}
+use Rattle.line_screen.specs.Calls.ScreenCall.{Draw, Move, Write, Beep, ClearScreen, ClearRows, ClearToEol}
 use Rattle.line_screen.specs.Display.{Display, Placed, is_printable, read, start}
 use Rattle.line_screen.specs.Drawing.{row_break}
-use Rattle.line_screen.specs.Showing.{Shown, nothing, Stands, cells_of, finish_of, cursor_of, down, down_placed, above, from_top}
+use Rattle.line_screen.specs.Showing.{Picture, nothing, Stands, cells_of, finish_of, cursor_of, down, down_placed, above, from_top}
 use Rattle.std.specs.Prelude.{map}
 
 -- what is shown, the row of its first cell, and the cursor's place, counted from that row
 pub record View : Type 0 where
-  pub shown : Shown
+  pub shown : Picture
   pub top : ℕ
   pub place : Position
 
@@ -37,7 +37,7 @@ pub record Good (columns : ℕ) (wide : List ℕ → Option ℕ) (bytes : List �
 abbrev pub empty_at : ℕ → View
 empty_at top = record { shown = nothing; top = top; place = origin }
 
--- ---- what a call asks for, and the view behind it
+-- ---- what a call asks for, and the view after it
 
 -- a drawing of the value that is to be shown, with its end and its cursor
 pub record Redraws (columns : ℕ) (wide : List ℕ → Option ℕ) (a : View) (prompt line info : List ℕ)
@@ -58,20 +58,26 @@ abbrev pub Replaces : Option ℕ → View → Type 0
 Replaces (Some row) a = row ≡ a.place.row
 Replaces None a = (a.shown ≡ nothing) × (a.place ≡ origin)
 
+-- the same, with the cursor at another place in the line
+abbrev pub at_place : Picture → ℕ → Picture
+at_place v place = record { prompt = v.prompt; line = v.line; place = place; info = v.info }
+
+-- the cursor goes to a cell, and may stand for another place in the line there
 pub record Moves (columns : ℕ) (a : View) (old new : Position) (b : View) : Type 0 where
   pub old_is : old ≡ a.place
   pub inside : Inside columns new
-  pub view : b ≡ record { shown = a.shown; top = a.top; place = new }
+  pub at : ℕ
+  pub view : b ≡ record { shown = at_place a.shown at; top = a.top; place = new }
 
 -- printable ASCII and newlines
 abbrev pub is_simple : ℕ → Bool
 is_simple c = (c == 0x0A) || is_printable c
 
-abbrev pub typed : Shown → ℕ → Shown
+abbrev pub typed : Picture → ℕ → Picture
 typed v c = record { prompt = v.prompt; line = v.line ++ c ∷ []; place = v.place + 1; info = [] }
 
 -- a printable character of ASCII at the end of a simple line, not into the last column, with
--- nothing behind the line
+-- nothing after the line
 pub record Types (columns : ℕ) (wide : List ℕ → Option ℕ) (a : View) (text : List ℕ)
     (b : View) : Type 0 where
   pub c : ℕ
@@ -95,12 +101,12 @@ pub record EndsLine (columns : ℕ) (wide : List ℕ → Option ℕ) (a : View) 
   pub place_is : a.place ≡ finish_of columns wide a.shown
   pub view : b ≡ empty_at (a.top + (finish_of columns wide a.shown).row + 1)
 
-abbrev pub cut_line : Shown → List ℕ → Shown
+abbrev pub cut_line : Picture → List ℕ → Picture
 cut_line v line = record { prompt = v.prompt; line = line; place = length line; info = [] }
 
 -- printable ASCII at the end of a simple line, no more of it than the columns of the line's end,
--- with nothing behind the line: the cursor was moved to where it begins
-pub record Kills (columns : ℕ) (wide : List ℕ → Option ℕ) (a b : View) : Type 0 where
+-- with nothing after the line: the cursor was moved to where it begins
+pub record ErasesKilled (columns : ℕ) (wide : List ℕ → Option ℕ) (a b : View) : Type 0 where
   pub line : List ℕ
   pub killed : List ℕ
   pub whole : a.shown.line ≡ line ++ killed
@@ -111,7 +117,7 @@ pub record Kills (columns : ℕ) (wide : List ℕ → Option ℕ) (a b : View) :
   pub place_is : a.place ≡ cursor_of columns wide (cut_line a.shown line)
   pub view : b ≡ record { shown = cut_line a.shown line; top = a.top; place = a.place }
 
-abbrev pub Leads : ℕ → (List ℕ → Option ℕ) → View → Call → View → Type 0
+abbrev pub Leads : ℕ → (List ℕ → Option ℕ) → View → ScreenCall → View → Type 0
 Leads columns wide a (Draw old prompt line info finish cursor) b = Replaces old a
     × Redraws columns wide a prompt line info finish cursor b
 Leads columns wide a (Move old new) b = Moves columns a old new b
@@ -119,4 +125,4 @@ Leads columns wide a (Write text) b = Types columns wide a text b ⊎ EndsLine c
 Leads columns wide a Beep b = b ≡ a
 Leads columns wide a ClearScreen b = b ≡ empty_at 0
 Leads columns wide a (ClearRows row) b = (row ≡ a.place.row) × (b ≡ empty_at a.top)
-Leads columns wide a ClearToEol b = Kills columns wide a b
+Leads columns wide a ClearToEol b = ErasesKilled columns wide a b

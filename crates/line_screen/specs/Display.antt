@@ -1,5 +1,6 @@
--- What bytes mean on a display: the part of ECMA-48 that a line editor sends. The display has rows without end, each of
--- so many columns, and `wide` says of a text whether it is one cluster that can stand on it, and on how many columns.
+-- What bytes mean on a display: the part of ECMA-48 that a line editor sends. The display has rows
+-- without end, each of so many columns, and `wide` says of a text whether it is one cluster that
+-- can stand on it, and on how many columns.
 use Rattle.std.specs.Prelude.{ℕ, ◌+◌, ◌-◌, ◌*◌, ◌==◌, nat_lt, nat_le, Bool, true, not, ◌&&◌, ◌||◌, List, [], ◌∷◌, ◌++◌, Option, Some, None, if◌then◌else◌}
 use Rattle.std.specs.List.{list_all, filter}
 use Rattle.line_buffer.specs.Cells.{origin}
@@ -8,14 +9,15 @@ pub use Rattle.line_buffer.specs.Short.{is_printable}
 
 -- ---- cells
 
--- a cluster, the cell where it begins, and the number of its cells; every cell that no cluster stands on is blank
+-- a cluster, the cell where it begins, and the number of its cells; every cell that no cluster
+-- stands on is blank
 pub record Placed : Type 0 where
   pub row : ℕ
   pub col : ℕ
   pub width : ℕ
   pub bytes : List ℕ
 
--- the cursor stands behind the last cell of its row where its column is the number of columns
+-- the cursor stands after the last cell of its row where its column is the number of columns
 pub record Display : Type 0 where
   pub placed : List Placed
   pub cursor : Position
@@ -36,7 +38,8 @@ is_cut at p = starts_before at p && not (ends_before at p)
 
 -- they share a cell
 abbrev pub touches : Position → ℕ → Placed → Bool
-touches at width p = (p.row == at.row) && (nat_lt p.col (at.col + width) && nat_lt at.col (p.col + p.width))
+touches at width p =
+    (p.row == at.row) && (nat_lt p.col (at.col + width) && nat_lt at.col (p.col + p.width))
 
 -- ---- what a piece of text does
 
@@ -46,42 +49,52 @@ right width at = record { col = at.col + width; row = at.row }
 abbrev pub put_down : ℕ → List ℕ → Display → Display
 put_down width bytes d =
     record {
-      placed = d.placed ++ record { row = d.cursor.row; col = d.cursor.col; width = width; bytes = bytes } ∷ [];
+      placed = d.placed ++ record {
+        row = d.cursor.row;
+        col = d.cursor.col;
+        width = width;
+        bytes =
+            bytes;
+      } ∷ [];
       cursor = right width d.cursor;
     }
 
 -- on blank cells of the cursor's row
-abbrev pub put : ℕ → ℕ → List ℕ → Display → Option Display
-put columns width bytes d =
-    if nat_le (d.cursor.col + width) columns && list_all (λ p. not (touches d.cursor width p)) d.placed then Some (put_down width bytes d) else None
+abbrev pub put_cells : ℕ → ℕ → List ℕ → Display → Option Display
+put_cells columns width bytes d =
+    if nat_le (d.cursor.col + width) columns
+    && list_all (λ p. not (touches d.cursor width p)) d.placed
+    then Some (put_down width bytes d) else None
 
-abbrev pub and_then : Option Display → (Display → Option Display) → Option Display
-and_then None f = None
-and_then (Some d) f = f d
+abbrev pub then_put : Option Display → (Display → Option Display) → Option Display
+then_put None f = None
+then_put (Some d) f = f d
 
 -- a cell for each
 abbrev pub put_letters : ℕ → List ℕ → Display → Option Display
 put_letters columns [] d = Some d
-put_letters columns (c ∷ cs) d = and_then (put columns 1 (c ∷ []) d) (put_letters columns cs)
+put_letters columns (c ∷ cs) d = then_put (put_cells columns 1 (c ∷ []) d) (put_letters columns cs)
 
 abbrev pub put_cluster : ℕ → List ℕ → Display → Option ℕ → Option Display
 put_cluster columns run d None = None
-put_cluster columns run d (Some width) = put columns width run d
+put_cluster columns run d (Some width) = put_cells columns width run d
 
 -- a run of text: printable ASCII alone, or one cluster
 abbrev pub put_run : ℕ → (List ℕ → Option ℕ) → List ℕ → Display → Option Display
-put_run columns wide run d = if list_all is_printable run then put_letters columns run d else put_cluster columns run d (wide run)
+put_run columns wide run d =
+    if list_all is_printable run then put_letters columns run d
+    else put_cluster columns run d (wide run)
 
 -- ---- bytes, one after the other
 
--- what was read: a display, and behind it the run of text that is still open; then the sequence that is begun, if one is.
--- What has no meaning is lost, with all that follows.
-pub data Reading : Type 0 where
-  Text : (display : Display) (run : List ℕ) → Reading
-  Escape : (display : Display) → Reading
-  Bracket : (display : Display) → Reading
-  Number : (display : Display) (count : ℕ) → Reading
-  Lost : Reading
+-- what was read: a display, and after it the run of text that is still open; then the sequence that
+-- is begun, if one is. What has no meaning is lost, with all that follows.
+pub data DisplayReading : Type 0 where
+  Text : (display : Display) (run : List ℕ) → DisplayReading
+  Escape : (display : Display) → DisplayReading
+  Bracket : (display : Display) → DisplayReading
+  Number : (display : Display) (count : ℕ) → DisplayReading
+  Lost : DisplayReading
 
 -- no control character of ASCII
 abbrev pub is_text : ℕ → Bool
@@ -90,24 +103,31 @@ is_text byte = nat_le 0x20 byte && not (byte == 0x7F)
 abbrev pub is_digit : ℕ → Bool
 is_digit byte = nat_le 0x30 byte && nat_le byte 0x39
 
+-- a number is written without zeros at its front, so it is at least 1
+abbrev pub begins_number : ℕ → Bool
+begins_number byte = nat_le 0x31 byte && nat_le byte 0x39
+
 abbrev pub at_cursor : Position → Display → Display
 at_cursor at d = record { placed = d.placed; cursor = at }
 
 abbrev pub is_inside : ℕ → Display → Bool
 is_inside columns d = nat_lt d.cursor.col columns
 
--- CR goes to the row's start, LF a row down, BEL changes nothing; behind the last cell only CR may come, and ESC
-abbrev pub control : ℕ → Display → ℕ → Reading
-control columns d byte =
+-- CR goes to the row's start, LF a row down, BEL changes nothing; after the last cell only CR may
+-- come, and ESC
+abbrev pub after_control : ℕ → Display → ℕ → DisplayReading
+after_control columns d byte =
     if byte == 0x0D then Text (at_cursor (record { col = 0; row = d.cursor.row }) d) []
     else if byte == 0x1B then Escape d
-    else if (byte == 0x0A) && is_inside columns d then Text (at_cursor (record { col = d.cursor.col; row = d.cursor.row + 1 }) d) []
+    else if (byte == 0x0A) && is_inside columns d
+    then Text (at_cursor (record { col = d.cursor.col; row = d.cursor.row + 1 }) d) []
     else if (byte == 0x07) && is_inside columns d then Text d []
     else Lost
 
--- what a place leaves, if it is inside no cluster: all that begins before it, and all but what ends behind it in its row
-abbrev pub erase_below : Display → Reading
-erase_below d =
+-- what a place leaves, if it is inside no cluster: all that begins before it, and all but what ends
+-- after it in its row
+abbrev pub erased_below : Display → DisplayReading
+erased_below d =
     if list_all (λ p. not (is_cut d.cursor p)) d.placed
     then Text (record { placed = filter (starts_before d.cursor) d.placed; cursor = d.cursor }) []
     else Lost
@@ -115,23 +135,25 @@ erase_below d =
 abbrev pub stays_in_row : Position → Placed → Bool
 stays_in_row at p = not (p.row == at.row) || nat_le (p.col + p.width) at.col
 
-abbrev pub erase_right : Display → Reading
-erase_right d =
+abbrev pub erased_right : Display → DisplayReading
+erased_right d =
     if list_all (λ p. not (is_cut d.cursor p)) d.placed
     then Text (record { placed = filter (stays_in_row d.cursor) d.placed; cursor = d.cursor }) []
     else Lost
 
--- ESC [ m (SGR) changes no cell; ESC [ J (ED) and ESC [ K (EL) erase, ESC [ H (CUP) goes to the first cell
-abbrev pub plain_sequence : ℕ → Display → ℕ → Reading
+-- ESC [ m (SGR) changes no cell; ESC [ J (ED) and ESC [ K (EL) erase, ESC [ H (CUP) goes to the
+-- first cell
+abbrev pub plain_sequence : ℕ → Display → ℕ → DisplayReading
 plain_sequence columns d byte =
     if byte == 0x6D then Text d []
     else if not (is_inside columns d) then Lost
-    else if byte == 0x4A then erase_below d
-    else if byte == 0x4B then erase_right d
+    else if byte == 0x4A then erased_below d
+    else if byte == 0x4B then erased_right d
     else if byte == 0x48 then Text (at_cursor origin d) []
     else Lost
 
--- ESC [ n A (CUU) up, B (CUD) down, C (CUF) right, D (CUB) left, staying inside; rows have no last one
+-- ESC [ n A (CUU) up, B (CUD) down, C (CUF) right, D (CUB) left, staying inside; rows have no last
+-- one
 abbrev pub moves_inside : ℕ → Position → ℕ → ℕ → Bool
 moves_inside columns at count final =
     if final == 0x41 then nat_le count at.row
@@ -146,36 +168,40 @@ moved_by at count final =
     else if final == 0x43 then record { col = at.col + count; row = at.row }
     else record { col = at.col - count; row = at.row }
 
-abbrev pub numbered_sequence : ℕ → Display → ℕ → ℕ → Reading
+abbrev pub numbered_sequence : ℕ → Display → ℕ → ℕ → DisplayReading
 numbered_sequence columns d count final =
-    if is_inside columns d && nat_lt 0 count && moves_inside columns d.cursor count final
+    if is_inside columns d && moves_inside columns d.cursor count final
     then Text (at_cursor (moved_by d.cursor count final) d) []
     else Lost
 
-abbrev pub on_run : ℕ → ℕ → Option Display → Reading
+abbrev pub on_run : ℕ → ℕ → Option Display → DisplayReading
 on_run columns byte None = Lost
-on_run columns byte (Some d) = control columns d byte
+on_run columns byte (Some d) = after_control columns d byte
 
-abbrev pub step : ℕ → (List ℕ → Option ℕ) → Reading → ℕ → Reading
-step columns wide (Text d run) byte = if is_text byte then Text d (run ++ byte ∷ []) else on_run columns byte (put_run columns wide run d)
+abbrev pub step : ℕ → (List ℕ → Option ℕ) → DisplayReading → ℕ → DisplayReading
+step columns wide (Text d run) byte =
+    if is_text byte then Text d (run ++ byte ∷ [])
+    else on_run columns byte (put_run columns wide run d)
 step columns wide (Escape d) byte = if byte == 0x5B then Bracket d else Lost
-step columns wide (Bracket d) byte = if is_digit byte then Number d (byte - 0x30) else plain_sequence columns d byte
+step columns wide (Bracket d) byte =
+    if begins_number byte then Number d (byte - 0x30) else plain_sequence columns d byte
 step columns wide (Number d count) byte =
-    if is_digit byte then Number d (count * 10 + (byte - 0x30)) else numbered_sequence columns d count byte
+    if is_digit byte then Number d (count * 10 + (byte - 0x30))
+    else numbered_sequence columns d count byte
 step columns wide Lost byte = Lost
 
-abbrev pub read : ℕ → (List ℕ → Option ℕ) → Reading → List ℕ → Reading
+abbrev pub read : ℕ → (List ℕ → Option ℕ) → DisplayReading → List ℕ → DisplayReading
 read columns wide r [] = r
 read columns wide r (byte ∷ bytes) = read columns wide (step columns wide r byte) bytes
 
-abbrev pub settled : ℕ → (List ℕ → Option ℕ) → Reading → Option Display
+abbrev pub settled : ℕ → (List ℕ → Option ℕ) → DisplayReading → Option Display
 settled columns wide (Text d run) = put_run columns wide run d
 settled columns wide (Escape d) = None
 settled columns wide (Bracket d) = None
 settled columns wide (Number d count) = None
 settled columns wide Lost = None
 
-abbrev pub start : Reading
+abbrev pub start : DisplayReading
 start = Text blank []
 
 -- what bytes mean on a display that was blank, where they mean something

@@ -1,19 +1,18 @@
 -- What a call that reads a part of a key or a pasted text makes of the reader, whether it is
 -- answered or refused.
-use Rattle.std.specs.Prelude.{◌≡◌, ℕ, ◌≤◌, false, IsTrue, List, [], Some, Result, Err, IfOk, IfErr, OnErr}
+use Rattle.std.specs.Prelude.{◌≡◌, ℕ, ◌≤◌, false, IsTrue, List, [], Result, Err, IfOk, IfErr, OnErr}
 use Rattle.line_config.specs.declared.device.Last.{Last}
 use Rattle.line_config.specs.declared.device.Last.TheVariants.{End}
 use Rattle.line_config.specs.declared.errors.ReadlineError.{ReadlineError}
-use Rattle.line_config.specs.declared.errors.ReadlineError.TheVariants.{Eof, Reader, Memory}
+use Rattle.line_config.specs.declared.errors.ReadlineError.TheVariants.{Eof, Reader}
 use Rattle.line_config.specs.declared.settings.EditMode.{EditMode}
 use Rattle.line_config.specs.Feed.{Feed}
 use Rattle.line_config.specs.Refusals.{MetBy}
 use Rattle.line_keys.specs.declared.key.KeyEvent.{KeyEvent}
-use Rattle.line_keys.specs.Coming.{Coming}
 use Rattle.line_keys.specs.Faults.{IsReaderRefusal}
-use Rattle.line_screen.specs.Input.{Chars, chars_of, is_failure}
-use Rattle.line_screen.specs.KeyGrammar.{Readings, Key, Paste, readings, in_escape, in_third, in_bracket, in_linux, in_control, in_unknown, in_paste, key_answer, text_answer, left_after, read_from}
-use Rattle.line_screen.specs.Reader.{feed_in, left_in, reads, coming_by, char_answer}
+use Rattle.line_screen.specs.Input.{chars_of, is_failure}
+use Rattle.line_screen.specs.KeyGrammar.{Readings, Key, Paste, readings, in_escape, in_third, in_bracket, in_linux, in_control, in_unknown, in_paste, key_answer, text_answer, left_after}
+use Rattle.line_screen.specs.Reader.{feed_in, left_in, reads}
 use Rattle.line_screen.specs.Reading.{IsKeyRefusal, IsCut}
 use Rattle.line_screen.specs.declared.reading.reader.KeyReader.{KeyReader}
 use Rattle.line_screen.specs.declared.reading.sequence.Parameters.{Parameters}
@@ -84,24 +83,3 @@ abbrev pub ReadsText : {S : Type 0} → (S → Feed) → (List ℕ → Last → 
     → Result (List ℕ) ReadlineError → Type 0
 ReadsText feed definition old new result = ReadsPart feed Paste text_answer IsReaderRefusal
     definition old new result
-
--- a call of the reader that answers Reader was cut short by a failure of the source: now, or at an
--- earlier call
-abbrev pub CutsCall : {S X : Type 0} → (S → Feed) → (Coming → Result X ReadlineError) → KeyReader S
-    → KeyReader S
-    → Result X ReadlineError → Type 0
-CutsCall feed answer_of old new result =
-    IsCut (λ left. answer_of (coming_by (feed_in feed old).failed old.refused left))
-    (λ bytes last. read_from old.mode old.owed (chars_of bytes last)) (feed_in feed old)
-    (feed_in feed new) result
-
--- the same where a character is asked for
-abbrev pub CutsChar : {S : Type 0} → (S → Feed) → KeyReader S → KeyReader S → Result ℕ ReadlineError
-    → Type 0
-CutsChar feed old new result =
-    IsCut (λ chars. char_answer (feed_in feed old).failed old.refused old.owed chars) chars_of
-    (feed_in feed old) (feed_in feed new) result
-
--- want of memory is an earlier call's
-abbrev pub IsMemoryKept : {S X : Type 0} → KeyReader S → Result X ReadlineError → Type 0
-IsMemoryKept old result = IfErr result (λ e. e ≡ Memory → old.refused ≡ Some Memory)

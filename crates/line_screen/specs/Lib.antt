@@ -6,6 +6,7 @@ pub mod Display
 pub mod Drawing
 pub mod Following
 pub mod Input
+pub mod KeyCalls
 pub mod KeyGrammar
 pub mod KeyReading
 pub mod Lasting

@@ -2,6 +2,7 @@
 use Rattle.std.specs.Prelude.{ℕ, ◌==◌, nat_lt, nat_le, min, Bool, true, not, ◌&&◌, List, length, chars, Option, Some, None, if◌then◌else◌}
 use Rattle.std.specs.List.{list_all, list_any}
 use Rattle.std.specs.Char.{is_control}
+use Rattle.std.specs.Str.{is_utf8}
 use Rattle.unicode_segmentation.specs.Grapheme.{graphemes}
 use Rattle.line_buffer.specs.declared.layout.GraphemeClusterMode.{GraphemeClusterMode}
 use Rattle.line_buffer.specs.declared.layout.Position.{Position}
@@ -9,10 +10,11 @@ use Rattle.line_buffer.specs.Width.{width_of}
 use Rattle.line_screen.specs.Display.{is_text}
 use Rattle.line_screen.specs.Drawing.{text_items, after, next_row}
 
--- taken alone it is one cluster, without control characters
+-- taken alone it is one cluster of a text, without control characters; bytes that are no UTF-8 are
+-- none
 abbrev pub is_cluster : List ℕ → Bool
 is_cluster bytes =
-    (list_all is_text bytes && not (list_any is_control (chars bytes))) &&
+    (is_utf8 bytes && (list_all is_text bytes && not (list_any is_control (chars bytes)))) &&
     (length (graphemes true bytes) == 1)
 
 abbrev pub is_width : ℕ → ℕ → Bool
@@ -24,7 +26,7 @@ cluster_width mode columns bytes =
     if is_cluster bytes && is_width columns (width_of mode bytes) then Some
     (width_of mode bytes) else None
 
--- a place behind a row's cells is the next row's first
+-- a place after a row's cells is the next row's first
 abbrev pub in_row : ℕ → Position → Position
 in_row columns at = if nat_lt at.col columns then at else next_row at
 

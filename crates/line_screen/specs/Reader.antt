@@ -1,9 +1,10 @@
 -- What a reader of keys has still to give.
-use Rattle.std.specs.Prelude.{ℕ, Bool, true, false, List, Option, Some, None, Result, Err}
+use Rattle.std.specs.Prelude.{◌≡◌, ℕ, Bool, true, false, IsTrue, List, Option, Some, None, Result, Err}
 use Rattle.line_config.specs.declared.errors.ReadlineError.{ReadlineError}
 use Rattle.line_config.specs.declared.errors.ReadlineError.TheVariants.{PasteOutOfPlace, Reader}
 use Rattle.line_config.specs.Feed.{Feed}
 use Rattle.line_keys.specs.Coming.{Coming, Refused}
+use Rattle.line_keys.specs.Feeds.{Feed as Items}
 use Rattle.line_screen.specs.Input.{Chars, char_at, chars_of}
 use Rattle.line_screen.specs.Unread.{ahead}
 use Rattle.line_screen.specs.KeyGrammar.{Readings, read_from, coming_of}
@@ -39,6 +40,17 @@ coming_by false None left = coming_of left
 
 abbrev pub coming_in : {S : Type 0} → (S → Feed) → KeyReader S → Coming
 coming_in feed r = coming_by (feed_in feed r).failed r.refused (reads feed r)
+
+-- what is known of the reader's items
+abbrev pub items_of : {S : Type 0} → (S → Feed) → KeyReader S → Items
+items_of feed r =
+    record {
+      told = (feed_in feed r).told;
+      steady = (feed_in feed r).steady;
+      coming = coming_in feed r;
+      bound = (feed_in feed r).bound;
+      reason = λ e. e ≡ Reader → IsTrue (feed_in feed r).failed;
+    }
 
 -- the bytes that a call leaves: all of them where it is refused for what was before or comes out of
 -- place

@@ -2,7 +2,7 @@
 use Rattle.std.specs.Prelude.{◌≡◌, ℕ, ◌<◌, Bool, List, IsTrue, Result, IfOk, OnOk, OnErr}
 use Rattle.line_config.specs.declared.device.DeviceFailed.{DeviceFailed}
 use Rattle.line_config.specs.Sending.{Takes}
-use Rattle.line_screen.specs.Drawing.{Item, sent, col_after}
+use Rattle.line_screen.specs.Drawing.{DrawnItem, sent, col_after}
 
 -- a call that is answered has sent these bytes, the sink works as before, and the answer is the
 -- column behind them, one of the row; a call that is refused says so because the sink has failed
@@ -16,7 +16,7 @@ pub record SendsTo {D : Type 0} (bytes : List ℕ) (column columns : ℕ) (told 
   pub inside : IfOk result (λ c. c < columns)
 
 -- the same with the bytes of items, from a column on
-abbrev pub SendsItems : {D : Type 0} → List Item → ℕ → ℕ → (D → Bool) → (D → List ℕ) → (D → Bool)
+abbrev pub SendsItems : {D : Type 0} → List DrawnItem → ℕ → ℕ → (D → Bool) → (D → List ℕ) → (D → Bool)
     → D → D → Result ℕ DeviceFailed → Type 0
 SendsItems items start columns told held failed old new result =
     SendsTo (sent columns items start)

@@ -3,43 +3,43 @@ use Rattle.std.specs.Prelude.{◌≡◌, ℕ, ◌+◌, nat_lt, nat_le, Bool, tru
 use Rattle.std.specs.List.{list_all, filter}
 use Rattle.line_buffer.specs.Cells.{origin}
 use Rattle.line_buffer.specs.declared.layout.Position.{Position}
-use Rattle.line_screen.specs.Display.{Placed, Display, Reading, put_letters, is_printable}
-use Rattle.line_screen.specs.Display.Reading.{Text}
-use Rattle.line_screen.specs.Drawing.{Item, text_items, after, lay}
+use Rattle.line_screen.specs.Display.{Placed, Display, DisplayReading, put_letters, is_printable}
+use Rattle.line_screen.specs.Display.DisplayReading.{Text}
+use Rattle.line_screen.specs.Drawing.{DrawnItem, text_items, after, lay}
 
 -- what was read means this display, and what follows may be a control character or a letter: the
 -- run of text that is open is printable ASCII
-pub record Stands (columns : ℕ) (r : Reading) (d : Display) : Type 0 where
+pub record Stands (columns : ℕ) (r : DisplayReading) (d : Display) : Type 0 where
   pub before : Display
   pub run : List ℕ
   pub is : r ≡ Text before run
   pub printable : list_all is_printable run ≡ true
   pub shows : put_letters columns run before ≡ Some d
 
--- a prompt, a line, the place of the cursor in the line in bytes, and the hint or message behind
+-- a prompt, a line, the place of the cursor in the line in bytes, and the hint or message after
 -- the line
-pub record Shown : Type 0 where
+pub record Picture : Type 0 where
   pub prompt : List ℕ
   pub line : List ℕ
   pub place : ℕ
   pub info : List ℕ
 
-abbrev pub nothing : Shown
+abbrev pub nothing : Picture
 nothing = record { prompt = []; line = []; place = 0; info = [] }
 
--- one behind the other, on rows that were blank, from the first cell on
-abbrev pub shown_items : (List ℕ → Option ℕ) → Shown → List Item
+-- one after the other, on rows that were blank, from the first cell on
+abbrev pub shown_items : (List ℕ → Option ℕ) → Picture → List DrawnItem
 shown_items wide v = text_items wide v.prompt ++ (text_items wide v.line ++ text_items wide v.info)
 
-abbrev pub cells_of : ℕ → (List ℕ → Option ℕ) → Shown → List Placed
+abbrev pub cells_of : ℕ → (List ℕ → Option ℕ) → Picture → List Placed
 cells_of columns wide v = lay columns (shown_items wide v) origin
 
 -- where the whole drawing ends
-abbrev pub finish_of : ℕ → (List ℕ → Option ℕ) → Shown → Position
+abbrev pub finish_of : ℕ → (List ℕ → Option ℕ) → Picture → Position
 finish_of columns wide v = after columns (shown_items wide v) origin
 
 -- where the line's text before the place ends
-abbrev pub cursor_of : ℕ → (List ℕ → Option ℕ) → Shown → Position
+abbrev pub cursor_of : ℕ → (List ℕ → Option ℕ) → Picture → Position
 cursor_of columns wide v = after columns
     (text_items wide v.prompt ++ text_items wide (take v.place v.line)) origin
 
@@ -57,7 +57,7 @@ abbrev pub from_top : ℕ → Placed → Bool
 from_top top p = nat_le top p.row
 
 -- in the rows from `top` on stands the drawing of the value, and nothing else
-pub record Shows (columns : ℕ) (wide : List ℕ → Option ℕ) (v : Shown) (top : ℕ)
+pub record Shows (columns : ℕ) (wide : List ℕ → Option ℕ) (v : Picture) (top : ℕ)
     (d : Display) : Type 0 where
   pub cells : filter (from_top top) d.placed ≡ map (down_placed top) (cells_of columns wide v)
   pub cursor : d.cursor ≡ down top (cursor_of columns wide v)

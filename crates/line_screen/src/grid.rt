@@ -38,6 +38,7 @@ impl Grid {
 }
 
 /// Taken alone the text is one cluster, and holds no control character.
+#[tactic(auto, using(crate::proofs::Fitting::texts))]
 fn is_cluster(text: &str) -> bool
     ensures { result ≡ is_cluster text.now }
 {

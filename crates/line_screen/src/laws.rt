@@ -3,7 +3,7 @@
 ghost use Rattle.line_screen.specs.Characters.{EncodedCharsAreRead, CharsAreEncoded};
 ghost use Rattle.line_screen.specs.Following.{WholeKeysStay};
 ghost use Rattle.line_screen.specs.Short.{TypingLeads, KillingLeads};
-ghost use Rattle.line_screen.specs.Laws.{FullDrawingShows, StartIsEmpty, CallsLead, ChainsLead, ShownIsMeant, CellsAreShown};
+ghost use Rattle.line_screen.specs.Laws.{FullDrawingShows, StartIsEmpty, CallsLead, ChainsLead, PlaceIsFree, LineEndsAnywhere, EndedLineStays, MeasuresGoOn, ShownIsMeant, CellsAreShown};
 ghost use Rattle.line_screen.specs.Pasting.{PastedTextIsBeforeItsMark, PastedTextIsCutOff};
 
 /// A full drawing shows the value that it was given, whatever stood from its top on, and keeps the
@@ -35,9 +35,34 @@ pub fn short_kills()
     ensures { KillingLeads }
 {}
 
-/// Calls one after the other lead from what is shown before them to what is shown behind them.
+/// Calls one after the other lead from what is shown before them to what is shown after them. What
+/// stands in the rows above stays until the screen is cleared.
 pub fn chains()
     ensures { ChainsLead }
+{}
+
+/// The place in the line that the cursor stands for may become another one without any call: no
+/// cell tells it.
+pub fn places()
+    ensures { PlaceIsFree }
+{}
+
+/// CR LF has a meaning wherever the cursor stands, also inside a line and before a hint: every cell
+/// stays.
+pub fn line_ends()
+    ensures { LineEndsAnywhere }
+{}
+
+/// CR LF at the drawing's end leads to the next line's top, and the accepted line's cells stay
+/// above it.
+pub fn ended_lines()
+    ensures { EndedLineStays }
+{}
+
+/// A drawing's cursor and its end are the measures of prompt, line and what stands after it,
+/// measured on one after the other.
+pub fn measures()
+    ensures { MeasuresGoOn }
 {}
 
 /// The bytes up to any call have a meaning, and show the value.

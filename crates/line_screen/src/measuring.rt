@@ -4,8 +4,8 @@ ghost use Rattle.std.specs.Prelude.{◌≡◌, ◌≤◌, ◌<◌, ◌+◌, ◌=
 ghost use Rattle.std.specs.List.{list_all};
 ghost use Rattle.unicode_segmentation.specs.Grapheme.{graphemes};
 ghost use Rattle.line_screen.specs.Display.{right};
-ghost use Rattle.line_screen.specs.Drawing.{item_of, row_items, next_items, text_items, next_row, fit, leave, after};
-ghost use Rattle.line_screen.specs.Drawing.Item.{Letter, NewRow};
+ghost use Rattle.line_screen.specs.Drawing.{drawn_item, row_items, next_items, text_items, next_row, fit, leave, after};
+ghost use Rattle.line_screen.specs.Drawing.DrawnItem.{Letter, NewRow};
 ghost use Rattle.line_screen.specs.Measure.{cluster_width, saturated, measure_of};
 
 use crate::grid::{Grid, is_letter};
@@ -66,7 +66,7 @@ fn step_right(grid: Grid, at: Position, count: Unit) -> Position
 fn after_cluster(grid: Grid, at: Position, cluster: &str) -> Position
     requires inside { at.col < grid.columns }
     ensures place { result ≡ saturated
-        (after grid.columns (item_of (cluster_width grid.mode grid.columns) cluster.now ∷ []) at) }
+        (after grid.columns (drawn_item (cluster_width grid.mode grid.columns) cluster.now ∷ []) at) }
     ensures inside { result.col < grid.columns }
 {
     if is_letter(cluster) {
@@ -99,7 +99,7 @@ fn after_letters(grid: Grid, from: Position, letters: &[u8]) -> Position
 fn after_clusters(grid: Grid, from: Position, row: &str) -> Position
     requires inside { from.col < grid.columns }
     ensures place { result ≡ saturated
-        (after grid.columns (map (item_of (cluster_width grid.mode grid.columns))
+        (after grid.columns (map (drawn_item (cluster_width grid.mode grid.columns))
         (graphemes true row.now)) from) }
     ensures inside { result.col < grid.columns }
 {

@@ -2,7 +2,7 @@
 
 ghost use Rattle.std.specs.Prelude.{◌≡◌, ◌≤◌, ◌++◌, ◌∷◌, [], IsTrue, OnOk, OnErr, IfErr, false};
 ghost use Rattle.line_screen.specs.Calls.{Screen, MakesCall, screen_of, sink_of, old_row, display_answer};
-ghost use Rattle.line_screen.specs.Calls.Call.{Draw, Move, Write, Beep, ClearScreen, ClearRows, ClearToEol};
+ghost use Rattle.line_screen.specs.Calls.ScreenCall.{Draw, Move, Write, Beep, ClearScreen, ClearRows, ClearToEol};
 ghost use Rattle.line_screen.specs.Measure.{measure_of};
 
 use crate::drawing::sequences::{clear, go, send_flushed};
@@ -98,11 +98,11 @@ impl<D: Sink> ScreenRenderer<D> {
         self.sink.failed()
     }
 
-    /// Draws prompt, line, and behind it the hint or message, an empty text where there is none.
+    /// Draws prompt, line, and after it the hint or message, an empty text where there is none.
     ///
-    /// `old_layout` is that of the drawing in whose place the new one goes. Without one it begins at the
-    /// cursor, which is to stand in a row's first cell, with blank cells behind it. `new_layout`
-    /// says where the drawing ends and where its cursor goes.
+    /// `old_layout` is that of the drawing in whose place the new one goes. Without one it begins
+    /// at the cursor, which is to stand in a row's first cell, with blank cells after it.
+    /// `new_layout` says where the drawing ends and where its cursor goes.
     pub fn refresh_line(
         &mut self,
         prompt: &str,

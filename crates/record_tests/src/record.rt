@@ -4,7 +4,7 @@
 ghost use Rattle.line_record.specs.Items.{ItemsStand};
 ghost use Rattle.line_record.specs.Props.{ItemsStand-prop};
 
-use line_buffer::{DeleteListener, LineBuffer, OutOfMemory, WordAction};
+use line_buffer::{DeleteListener, LineBuffer, Movement, OutOfMemory, Word, WordAction};
 use line_record::{Changeset, Joined, KillRing};
 use stand_ins::lines::{line_of, shown_of};
 use stand_ins::tables::{call_and_answer, word_and_rest};
@@ -341,5 +341,27 @@ fn ring_and_record_told_together(rt: HostRuntime) -> Result<(), Fail> {
     }
     assert_eq!(rt; line.as_str(), "");
     assert_eq!(rt; ring.yank(), Some("one two"));
+    Ok(())
+}
+
+/// A ring hears of every change of a line beside its record, and keeps what is killed alone.
+#[test]
+fn ring_beside_the_record(rt: HostRuntime) -> Result<(), Fail> {
+    let alloc = rt.alloc();
+    let mut line = LineBuffer::with_capacity(alloc, 8)?.can_growth(true);
+    let mut ring = KillRing::new(alloc, 2)?;
+    let mut changes = Changeset::new(alloc)?;
+    let mut both = Joined {
+        first: &mut ring,
+        second: &mut changes,
+    };
+    line.insert(alloc, 'a', 1, &mut both)?;
+    line.yank(alloc, " bc", 1, &mut both)?;
+    line.edit_word(alloc, WordAction::Uppercase, &mut both)?;
+    line.kill(alloc, &Movement::BackwardWord(1, Word::Emacs), &mut both)?;
+    line.insert(alloc, 'd', 1, &mut both)?;
+    assert_eq!(rt; line.as_str(), "a d");
+    assert_eq!(rt; ring.yank(), Some("bc"));
+    assert_eq!(rt; changes.last_insert_text(), Some("d"));
     Ok(())
 }

@@ -50,7 +50,7 @@ impl<D: Decides> InputState<'_, D> {
     }
 
     // A pasted text, or the command of a custom sequence.
-    #[tactic(auto, using(crate::proofs::Following::read_stops, crate::proofs::Following::read_follows, crate::proofs::Following::ends_follow, crate::proofs::Following::as_follows))]
+    #[tactic(auto, using(crate::proofs::Steps::read_answered))]
     fn beyond_rows<R: RawReader, W: Refresher>(
         &self,
         alloc: Global,
@@ -72,7 +72,7 @@ impl<D: Decides> InputState<'_, D> {
     }
 
     // The command of a custom sequence.
-    #[tactic(auto, using(crate::proofs::Following::then_stops, crate::proofs::Following::then_follows, crate::proofs::Following::ends_follow))]
+    #[tactic(auto, using(crate::proofs::Steps::part_answered))]
     fn sequence<R: RawReader, W: Refresher>(
         &self,
         alloc: Global,
@@ -101,7 +101,8 @@ fn bound_command(followed: Followed) -> Cmd
     }
 }
 
-/// The command of a key that the terminal has a meaning for. The end of input is one in an empty line alone.
+/// The command of a key that the terminal has a meaning for. The end of input is one in an empty
+/// line alone.
 pub(crate) fn term_binding<R: RawReader, W: Refresher>(
     rdr: &R,
     wrt: &W,
@@ -164,7 +165,8 @@ fn common_row<W: Refresher>(
 
 // The rows without modifiers.
 fn plain_row(code: KeyCode, n: RepeatCount, positive: bool) -> Option<Cmd>
-    ensures { (mode : EditMode) (shown : Shown) → result ≡ first_row shown n positive code 0 (common_rows mode) }
+    ensures { (mode : EditMode) (shown : Shown)
+        → result ≡ first_row shown n positive code 0 (common_rows mode) }
 {
     match code {
         KeyCode::Home => Some(Cmd::Move(Movement::BeginningOfLine)),

@@ -49,7 +49,8 @@ impl Count {
         }
     }
 
-    /// The count with one more digit. Behind a minus alone, which stands for minus one, the digit is the amount.
+    /// The count with one more digit. Behind a minus alone, which stands for minus one, the digit
+    /// is the amount.
     pub fn with(self, digit: RepeatCount) -> Self
         requires { digit ≤ 9 }
         ensures { result ≡ count_and self digit }
@@ -114,7 +115,8 @@ fn digit(c: char) -> RepeatCount
     c as RepeatCount - 48
 }
 
-// The count with one more key of it in Emacs mode, if it is one: a digit, or a minus, which is dropped.
+// The count with one more key of it in Emacs mode, if it is one: a digit, or a minus, which is
+// dropped.
 fn emacs_counted_on(count: Count, key: KeyEvent) -> Option<Count>
     ensures { result ≡ emacs_counted_on count key }
 {
@@ -164,7 +166,7 @@ impl<D: Decides> InputState<'_, D> {
     ghost use Rattle.line_keys.specs.Follows.{Follows};
 
     /// The rest of a count, and the key behind it.
-    #[tactic(auto, using(crate::proofs::Following::memory_follows, crate::proofs::Turns::count_unasked, crate::proofs::Turns::count_stops, crate::proofs::Turns::count_goes_on, crate::proofs::Turns::count_ends, crate::proofs::Turns::count_undrawn), unfolding(crate::specs::Counts::counting))]
+    #[tactic(auto, using(crate::proofs::Steps::count_turns), unfolding(crate::specs::Counts::counting))]
     pub(crate) fn digit_argument<R: RawReader, W: Refresher>(
         &self,
         alloc: Global,

@@ -73,9 +73,9 @@ impl<D: Decides> InputState<'_, D> {
         }
     }
 
-    /// The command that a sequence of keys is bound to, which begins with this key: while the keys so far begin a bound
-    /// sequence, or are it, one more is read.
-    #[tactic(auto, using(crate::proofs::Following::memory_follows, crate::proofs::Following::needs_follow, crate::proofs::Turns::sequence_over, crate::proofs::Turns::sequence_stops, crate::proofs::Turns::sequence_no_memory, crate::proofs::Turns::sequence_refused, crate::proofs::Turns::sequence_bound, crate::proofs::Turns::sequence_on), unfolding(crate::specs::Custom::followed))]
+    /// The command that a sequence of keys is bound to, which begins with this key: while the keys
+    /// so far begin a bound sequence, or are it, one more is read.
+    #[tactic(auto, using(crate::proofs::Steps::sequence_turns), unfolding(crate::specs::Custom::followed))]
     pub(crate) fn custom_seq_binding<R: RawReader, W: Refresher>(
         &self,
         alloc: Global,

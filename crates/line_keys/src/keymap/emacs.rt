@@ -38,7 +38,7 @@ impl<D: Decides> InputState<'_, D> {
     ghost use Rattle.line_keys.specs.Emacs.{behind_ctrl_x};
 
     /// The command that begins with this key.
-    #[tactic(auto, using(crate::proofs::Following::then_stops, crate::proofs::Following::then_follows, crate::proofs::Following::as_follows))]
+    #[tactic(auto, using(crate::proofs::Steps::part_behind))]
     pub(crate) fn emacs<R: RawReader, W: Refresher>(
         &self,
         alloc: Global,
@@ -48,7 +48,8 @@ impl<D: Decides> InputState<'_, D> {
     ) -> Result<Cmd, ReadlineError>
         ensures { let custom = custom_in self.now D.decides in
             let input = input_of self.now in
-            let script = emacs_phrase custom input (W.display.shown wrt.old) key (R.feed rdr.old).coming in
+            let shown = W.display.shown wrt.old in
+            let script = emacs_phrase custom input shown key (R.feed rdr.old).coming in
             Follows W.display custom script
             wrt.old input wrt.new input (R.feed rdr.old) (R.feed rdr.new) result }
     {
@@ -65,7 +66,7 @@ impl<D: Decides> InputState<'_, D> {
     }
 
     // The command of the key behind a count.
-    #[tactic(auto, using(crate::proofs::Following::decides_stop, crate::proofs::Following::decides_follow, crate::proofs::Anew::anew_follows, crate::proofs::Following::ends_follow, crate::proofs::Following::as_follows))]
+    #[tactic(auto, using(crate::proofs::Steps::decision))]
     fn emacs_decided<R: RawReader, W: Refresher>(
         &self,
         alloc: Global,
@@ -73,7 +74,9 @@ impl<D: Decides> InputState<'_, D> {
         wrt: &W,
         counted: Counted,
     ) -> Result<Cmd, ReadlineError>
-        ensures { let s = situation_in self.now D.decides (W.display.shown wrt.now) (times counted.count) counted.count.positive in
+        ensures { let n = times counted.count in
+            let shown = W.display.shown wrt.now in
+            let s = situation_in self.now D.decides shown n counted.count.positive in
             Follows W.display s.custom (emacs_decided s counted.key (R.feed rdr.old).coming)
             wrt.now s.input wrt.now s.input (R.feed rdr.old) (R.feed rdr.new) result }
     {
@@ -119,7 +122,7 @@ impl<D: Decides> InputState<'_, D> {
     }
 
     // The command of a key that reads on, or of one that no row of Emacs mode has.
-    #[tactic(auto, using(crate::proofs::Following::whole_read, crate::proofs::Following::as_follows))]
+    #[tactic(auto, using(crate::proofs::Steps::one_read))]
     fn emacs_beyond_rows<R: RawReader, W: Refresher>(
         &self,
         alloc: Global,
@@ -146,7 +149,7 @@ impl<D: Decides> InputState<'_, D> {
     }
 
     // The command of a custom sequence, else that of the second key, which is read if it wasn't.
-    #[tactic(auto, using(crate::proofs::Following::then_stops, crate::proofs::Following::then_follows, crate::proofs::Following::whole_read, crate::proofs::Following::ends_follow))]
+    #[tactic(auto, using(crate::proofs::Steps::part_then_read))]
     fn ctrl_x<R: RawReader, W: Refresher>(
         &self,
         alloc: Global,

@@ -45,11 +45,11 @@ impl<D: Decides> InputState<'_, D> {
         wrt: &mut W,
         key: KeyEvent,
     ) -> Result<Cmd, ReadlineError>
-        ensures phrase { let custom = custom_in self.old D.decides in
-            let input = input_of self.old in
-            let script = vi_phrase custom input (W.display.shown wrt.old) key (R.feed rdr.old).coming in
-            Follows W.display custom script
-            wrt.old input wrt.new (input_of self.new) (R.feed rdr.old) (R.feed rdr.new) result }
+        ensures phrase { let script = vi_phrase (custom_in self.old D.decides)
+            (input_of self.old) (W.display.shown wrt.old) key (R.feed rdr.old).coming in
+            Follows W.display (custom_in self.old D.decides) script
+            wrt.old (input_of self.old) wrt.new (input_of self.new)
+            (R.feed rdr.old) (R.feed rdr.new) result }
         ensures bindings { self.new.custom_bindings ≡ self.old.custom_bindings }
     {
         match self.input_mode {
@@ -59,7 +59,7 @@ impl<D: Decides> InputState<'_, D> {
     }
 
     // The command that begins with this key in command mode.
-    #[tactic(auto, using(crate::proofs::Following::then_stops, crate::proofs::Following::then_follows, crate::proofs::Following::as_follows), unfolding(crate::specs::Vi::vi_command))]
+    #[tactic(auto, using(crate::proofs::Steps::part_behind), unfolding(crate::specs::Vi::vi_command))]
     fn vi_command<R: RawReader, W: Refresher>(
         &mut self,
         alloc: Global,
@@ -67,11 +67,11 @@ impl<D: Decides> InputState<'_, D> {
         wrt: &mut W,
         key: KeyEvent,
     ) -> Result<Cmd, ReadlineError>
-        ensures phrase { let custom = custom_in self.old D.decides in
-            let input = input_of self.old in
-            let script = vi_command custom key input (W.display.shown wrt.old) (R.feed rdr.old).coming in
-            Follows W.display custom script
-            wrt.old input wrt.new (input_of self.new) (R.feed rdr.old) (R.feed rdr.new) result }
+        ensures phrase { let script = vi_command (custom_in self.old D.decides) key
+            (input_of self.old) (W.display.shown wrt.old) (R.feed rdr.old).coming in
+            Follows W.display (custom_in self.old D.decides) script
+            wrt.old (input_of self.old) wrt.new (input_of self.new)
+            (R.feed rdr.old) (R.feed rdr.new) result }
         ensures bindings { self.new.custom_bindings ≡ self.old.custom_bindings }
     {
         match vi_begun_by(key) {
@@ -87,7 +87,7 @@ impl<D: Decides> InputState<'_, D> {
     }
 
     // The command of the key behind a count.
-    #[tactic(auto, using(crate::proofs::Following::decides_stop, crate::proofs::Following::decides_follow, crate::proofs::Anew::anew_follows, crate::proofs::Following::ends_follow, crate::proofs::Following::as_follows), unfolding(crate::specs::Vi::vi_counted))]
+    #[tactic(auto, using(crate::proofs::Steps::decision), unfolding(crate::specs::Vi::vi_counted))]
     fn vi_counted<R: RawReader, W: Refresher>(
         &mut self,
         alloc: Global,
@@ -95,11 +95,11 @@ impl<D: Decides> InputState<'_, D> {
         wrt: &mut W,
         counted: Counted,
     ) -> Result<Cmd, ReadlineError>
-        ensures phrase { let custom = custom_in self.old D.decides in
-            let input = input_of self.old in
-            let script = vi_counted custom counted input (W.display.shown wrt.old) (R.feed rdr.old).coming in
-            Follows W.display custom script
-            wrt.old input wrt.new (input_of self.new) (R.feed rdr.old) (R.feed rdr.new) result }
+        ensures phrase { let script = vi_counted (custom_in self.old D.decides) counted
+            (input_of self.old) (W.display.shown wrt.old) (R.feed rdr.old).coming in
+            Follows W.display (custom_in self.old D.decides) script
+            wrt.old (input_of self.old) wrt.new (input_of self.new)
+            (R.feed rdr.old) (R.feed rdr.new) result }
         ensures bindings { self.new.custom_bindings ≡ self.old.custom_bindings }
     {
         let Counted { count, key } = counted;
@@ -113,7 +113,7 @@ impl<D: Decides> InputState<'_, D> {
     }
 
     // The command of the table, which is remembered if it is a change.
-    #[tactic(auto, using(crate::proofs::Following::then_stops, crate::proofs::Following::then_follows, crate::proofs::Remembering::remember_follows))]
+    #[tactic(auto, using(crate::proofs::Steps::part_remembered))]
     fn vi_changed<R: RawReader, W: Refresher>(
         &mut self,
         alloc: Global,
@@ -121,13 +121,13 @@ impl<D: Decides> InputState<'_, D> {
         wrt: &mut W,
         counted: Counted,
     ) -> Result<Cmd, ReadlineError>
-        ensures phrase { let custom = custom_in self.old D.decides in
-            let input = input_of self.old in
-            let n = times counted.count in
+        ensures phrase { let n = times counted.count in
             let s = situation_in self.old D.decides (W.display.shown wrt.old) n true in
-            let script = and_then input s.shown (vi_command_table (typed_count counted.count) s counted.key) changed (R.feed rdr.old).coming in
-            Follows W.display custom script
-            wrt.old input wrt.new (input_of self.new) (R.feed rdr.old) (R.feed rdr.new) result }
+            let table = vi_command_table (typed_count counted.count) s counted.key in
+            let script = and_then s.input s.shown table changed (R.feed rdr.old).coming in
+            Follows W.display (custom_in self.old D.decides) script
+            wrt.old (input_of self.old) wrt.new (input_of self.new)
+            (R.feed rdr.old) (R.feed rdr.new) result }
         ensures bindings { self.new.custom_bindings ≡ self.old.custom_bindings }
     {
         let cmd = self.vi_done(alloc, rdr, wrt, counted)?;
@@ -135,7 +135,7 @@ impl<D: Decides> InputState<'_, D> {
     }
 
     // What the key's row says, or what is common to both modes.
-    #[tactic(auto, using(crate::proofs::Following::ask_stops, crate::proofs::Following::ask_follows, crate::proofs::Following::becomes_follows, crate::proofs::Following::then_stops, crate::proofs::Following::then_follows, crate::proofs::Following::silent_follows, crate::proofs::Following::whole_read, crate::proofs::Following::ends_follow, crate::proofs::Following::as_follows, crate::proofs::Anew::anew_follows), unfolding(crate::specs::Vi::vi_command_table))]
+    #[tactic(auto, using(crate::proofs::Steps::deed), unfolding(crate::specs::Vi::vi_command_table))]
     fn vi_done<R: RawReader, W: Refresher>(
         &mut self,
         alloc: Global,
@@ -143,13 +143,13 @@ impl<D: Decides> InputState<'_, D> {
         wrt: &mut W,
         counted: Counted,
     ) -> Result<Cmd, ReadlineError>
-        ensures phrase { let custom = custom_in self.old D.decides in
-            let input = input_of self.old in
+        ensures phrase { let new = typed_count counted.count in
             let n = times counted.count in
             let s = situation_in self.old D.decides (W.display.shown wrt.old) n true in
-            let script = vi_command_table (typed_count counted.count) s counted.key (R.feed rdr.old).coming in
-            Follows W.display custom script
-            wrt.old input wrt.new (input_of self.new) (R.feed rdr.old) (R.feed rdr.new) result }
+            let script = vi_command_table new s counted.key (R.feed rdr.old).coming in
+            Follows W.display (custom_in self.old D.decides) script
+            wrt.old (input_of self.old) wrt.new (input_of self.new)
+            (R.feed rdr.old) (R.feed rdr.new) result }
         ensures bindings { self.new.custom_bindings ≡ self.old.custom_bindings }
     {
         let Counted { count, key } = counted;
@@ -181,8 +181,9 @@ impl<D: Decides> InputState<'_, D> {
         }
     }
 
-    // The command of an operator with its motion. A change turns to insert mode before its motion is read.
-    #[tactic(auto, using(crate::proofs::Following::becomes_follows, crate::proofs::Following::then_stops, crate::proofs::Following::then_follows, crate::proofs::Following::ends_follow))]
+    // The command of an operator with its motion. A change turns to insert mode before its motion
+    // is read.
+    #[tactic(auto, using(crate::proofs::Steps::operation))]
     fn vi_operation<R: RawReader, W: Refresher>(
         &mut self,
         alloc: Global,
@@ -192,13 +193,13 @@ impl<D: Decides> InputState<'_, D> {
         n: RepeatCount,
         operator: Operator,
     ) -> Result<Cmd, ReadlineError>
-        ensures phrase { let custom = custom_in self.old D.decides in
-            let input = input_of self.old in
+        ensures phrase { let within = entered (changes operator) (input_of self.old) in
             let s = situation_in self.old D.decides (W.display.shown wrt.old) n true in
-            let within = entered (changes operator) input in
-            let script = becoming within (operation s key (command_of operator) within) (R.feed rdr.old).coming in
-            Follows W.display custom script
-            wrt.old input wrt.new (input_of self.new) (R.feed rdr.old) (R.feed rdr.new) result }
+            let made = operation s key (command_of operator) within in
+            let script = becoming within made (R.feed rdr.old).coming in
+            Follows W.display (custom_in self.old D.decides) script
+            wrt.old (input_of self.old) wrt.new (input_of self.new)
+            (R.feed rdr.old) (R.feed rdr.new) result }
         ensures bindings { self.new.custom_bindings ≡ self.old.custom_bindings }
     {
         self.enter(operator);
@@ -229,7 +230,7 @@ impl<D: Decides> InputState<'_, D> {
     }
 
     // The command that begins with this key in insert and replace mode.
-    #[tactic(auto, using(crate::proofs::Following::decides_stop, crate::proofs::Following::decides_follow, crate::proofs::Anew::anew_follows, crate::proofs::Following::ends_follow, crate::proofs::Following::as_follows), unfolding(crate::specs::Vi::vi_insert))]
+    #[tactic(auto, using(crate::proofs::Steps::decision), unfolding(crate::specs::Vi::vi_insert))]
     fn vi_insert<R: RawReader, W: Refresher>(
         &mut self,
         alloc: Global,
@@ -237,11 +238,11 @@ impl<D: Decides> InputState<'_, D> {
         wrt: &mut W,
         key: KeyEvent,
     ) -> Result<Cmd, ReadlineError>
-        ensures phrase { let custom = custom_in self.old D.decides in
-            let input = input_of self.old in
-            let script = vi_insert custom key input (W.display.shown wrt.old) (R.feed rdr.old).coming in
-            Follows W.display custom script
-            wrt.old input wrt.new (input_of self.new) (R.feed rdr.old) (R.feed rdr.new) result }
+        ensures phrase { let script = vi_insert (custom_in self.old D.decides) key
+            (input_of self.old) (W.display.shown wrt.old) (R.feed rdr.old).coming in
+            Follows W.display (custom_in self.old D.decides) script
+            wrt.old (input_of self.old) wrt.new (input_of self.new)
+            (R.feed rdr.old) (R.feed rdr.new) result }
         ensures bindings { self.new.custom_bindings ≡ self.old.custom_bindings }
     {
         match self.custom_binding(alloc, wrt, key, 0, true)? {
@@ -254,7 +255,7 @@ impl<D: Decides> InputState<'_, D> {
     }
 
     // The command of the table, which is remembered if it is a change of its own.
-    #[tactic(auto, using(crate::proofs::Following::then_stops, crate::proofs::Following::then_follows, crate::proofs::Remembering::remember_follows))]
+    #[tactic(auto, using(crate::proofs::Steps::part_remembered))]
     fn vi_typed<R: RawReader, W: Refresher>(
         &mut self,
         alloc: Global,
@@ -262,12 +263,13 @@ impl<D: Decides> InputState<'_, D> {
         wrt: &mut W,
         key: KeyEvent,
     ) -> Result<Cmd, ReadlineError>
-        ensures phrase { let custom = custom_in self.old D.decides in
+        ensures phrase { let shown = W.display.shown wrt.old in
             let input = input_of self.old in
-            let shown = W.display.shown wrt.old in
-            let script = and_then input shown (vi_insert_table custom input shown key) typed (R.feed rdr.old).coming in
-            Follows W.display custom script
-            wrt.old input wrt.new (input_of self.new) (R.feed rdr.old) (R.feed rdr.new) result }
+            let table = vi_insert_table (custom_in self.old D.decides) input shown key in
+            let script = and_then input shown table typed (R.feed rdr.old).coming in
+            Follows W.display (custom_in self.old D.decides) script
+            wrt.old (input_of self.old) wrt.new (input_of self.new)
+            (R.feed rdr.old) (R.feed rdr.new) result }
         ensures bindings { self.new.custom_bindings ≡ self.old.custom_bindings }
     {
         let cmd = self.vi_insert_table(alloc, rdr, wrt, key)?;
@@ -275,7 +277,7 @@ impl<D: Decides> InputState<'_, D> {
     }
 
     // The command of the table: of a character, or of a row.
-    #[tactic(auto, using(crate::proofs::Following::ends_follow, crate::proofs::Following::as_follows), unfolding(crate::specs::Vi::vi_insert_table))]
+    #[tactic(auto, using(crate::proofs::Steps::answer), unfolding(crate::specs::Vi::vi_insert_table))]
     fn vi_insert_table<R: RawReader, W: Refresher>(
         &mut self,
         alloc: Global,
@@ -283,11 +285,11 @@ impl<D: Decides> InputState<'_, D> {
         wrt: &mut W,
         key: KeyEvent,
     ) -> Result<Cmd, ReadlineError>
-        ensures phrase { let custom = custom_in self.old D.decides in
-            let input = input_of self.old in
-            let script = vi_insert_table custom input (W.display.shown wrt.old) key (R.feed rdr.old).coming in
-            Follows W.display custom script
-            wrt.old input wrt.new (input_of self.new) (R.feed rdr.old) (R.feed rdr.new) result }
+        ensures phrase { let script = vi_insert_table (custom_in self.old D.decides)
+            (input_of self.old) (W.display.shown wrt.old) key (R.feed rdr.old).coming in
+            Follows W.display (custom_in self.old D.decides) script
+            wrt.old (input_of self.old) wrt.new (input_of self.new)
+            (R.feed rdr.old) (R.feed rdr.new) result }
         ensures bindings { self.new.custom_bindings ≡ self.old.custom_bindings }
     {
         if let Some(c) = plain_char(key) {
@@ -300,7 +302,7 @@ impl<D: Decides> InputState<'_, D> {
     }
 
     // The command of a key that leaves insert mode, or of one that no row of it has.
-    #[tactic(auto, using(crate::proofs::Following::ask_stops, crate::proofs::Following::ask_follows, crate::proofs::Following::becomes_follows, crate::proofs::Following::ends_follow, crate::proofs::Following::as_follows), unfolding(crate::specs::Vi::vi_left))]
+    #[tactic(auto, using(crate::proofs::Steps::leaving), unfolding(crate::specs::Vi::vi_left))]
     fn vi_left<R: RawReader, W: Refresher>(
         &mut self,
         alloc: Global,
@@ -308,11 +310,11 @@ impl<D: Decides> InputState<'_, D> {
         wrt: &mut W,
         key: KeyEvent,
     ) -> Result<Cmd, ReadlineError>
-        ensures phrase { let custom = custom_in self.old D.decides in
-            let input = input_of self.old in
-            let script = vi_left custom input (W.display.shown wrt.old) key (R.feed rdr.old).coming in
-            Follows W.display custom script
-            wrt.old input wrt.new (input_of self.new) (R.feed rdr.old) (R.feed rdr.new) result }
+        ensures phrase { let script = vi_left (custom_in self.old D.decides)
+            (input_of self.old) (W.display.shown wrt.old) key (R.feed rdr.old).coming in
+            Follows W.display (custom_in self.old D.decides) script
+            wrt.old (input_of self.old) wrt.new (input_of self.new)
+            (R.feed rdr.old) (R.feed rdr.new) result }
         ensures bindings { self.new.custom_bindings ≡ self.old.custom_bindings }
     {
         if let Some(c) = alt_char(key) {

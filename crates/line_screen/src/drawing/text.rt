@@ -4,8 +4,8 @@ ghost use Rattle.std.specs.Prelude.{◌≡◌, ◌≤◌, ◌<◌, ◌∷◌, �
 ghost use Rattle.std.specs.List.{list_all};
 ghost use Rattle.unicode_segmentation.specs.Grapheme.{graphemes};
 ghost use Rattle.line_screen.specs.Display.{is_printable};
-ghost use Rattle.line_screen.specs.Drawing.{item_of, row_items, next_items, text_items, break_if, break_unless, left_col, fitted_col, fenced, sent_one, col_after_one, sent, col_after};
-ghost use Rattle.line_screen.specs.Drawing.Item.{Letter, Cluster};
+ghost use Rattle.line_screen.specs.Drawing.{drawn_item, row_items, next_items, text_items, break_if, break_unless, left_col, fitted_col, fenced, sent_one, col_after_one, sent, col_after};
+ghost use Rattle.line_screen.specs.Drawing.DrawnItem.{Letter, Cluster};
 ghost use Rattle.line_screen.specs.Measure.{cluster_width};
 ghost use Rattle.line_config.specs.Sending.{Sends};
 ghost use Rattle.line_screen.specs.Sending.{SendsTo, SendsItems};
@@ -103,9 +103,9 @@ fn send_cluster<D: Sink>(
 ) -> Result<Unit, DeviceFailed>
     requires inside { col < grid.columns }
     ensures { SendsTo (sent_one grid.columns
-        (item_of (cluster_width grid.mode grid.columns) cluster.now) col)
+        (drawn_item (cluster_width grid.mode grid.columns) cluster.now) col)
         (col_after_one grid.columns
-        (item_of (cluster_width grid.mode grid.columns) cluster.now) col)
+        (drawn_item (cluster_width grid.mode grid.columns) cluster.now) col)
         grid.columns D.told D.held D.has_failed sink.old sink.new result }
 {
     if is_letter(cluster) {
@@ -145,7 +145,7 @@ fn send_clusters<D: Sink>(
     row: &str,
 ) -> Result<Unit, DeviceFailed>
     requires inside { start < grid.columns }
-    ensures { SendsItems (map (item_of (cluster_width grid.mode grid.columns))
+    ensures { SendsItems (map (drawn_item (cluster_width grid.mode grid.columns))
         (graphemes true row.now)) start
         grid.columns D.told D.held D.has_failed sink.old sink.new result }
 {

@@ -1,7 +1,7 @@
 //! Whole drawings: prompt, line, and the hint or message behind it.
 
 ghost use Rattle.std.specs.Prelude.{◌≡◌, ◌<◌, ◌++◌, [], IsTrue, OnOk, OnErr, IfOk};
-ghost use Rattle.line_screen.specs.Drawing.{plain, sent, col_after, text_items, shown_text, drawing};
+ghost use Rattle.line_screen.specs.Drawing.{no_style, sent, col_after, text_items, shown_text, drawing};
 ghost use Rattle.line_screen.specs.Calls.{drawing_bytes};
 ghost use Rattle.line_screen.specs.Measure.{cluster_width};
 ghost use Rattle.line_config.specs.Sending.{Sends};
@@ -30,7 +30,7 @@ fn send_part<D: Sink>(
 ) -> Result<Unit, DeviceFailed>
     requires inside { start < grid.columns }
     ensures { SendsTo
-        (plain ++ sent grid.columns
+        (no_style ++ sent grid.columns
         (text_items (cluster_width grid.mode grid.columns) text.now) start)
         (col_after grid.columns (text_items (cluster_width grid.mode grid.columns) text.now) start)
         grid.columns D.told D.held D.has_failed sink.old sink.new result }

@@ -1,4 +1,4 @@
-use Rattle.std.proofs.Common.{◌≡◌, ◌≤◌, ◌-◌, ℕ, sym, ap, subst, ◌∙◌, chars, true, drop, take}
+use Rattle.std.proofs.Common.{sym, ap, ◌∙◌, chars}
 use Rattle.line_buffer.specs.Standing.{adds_up}
 use Rattle.line_buffer.proofs.ColumnLemmas.{counted, without_end}
 use Rattle.line_buffer.proofs.columns.columns_up_to.Goals as goal

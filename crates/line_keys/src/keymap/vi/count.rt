@@ -42,7 +42,7 @@ impl<D: Decides> InputState<'_, D> {
     ghost use Rattle.line_keys.specs.ViCounts.{second_count};
 
     /// The count of a motion, which is multiplied with that of its operator, and the motion's key.
-    #[tactic(auto, using(crate::proofs::Following::then_stops, crate::proofs::Following::then_follows, crate::proofs::Following::ends_follow))]
+    #[tactic(auto, using(crate::proofs::Steps::part_answered))]
     pub(crate) fn second_count<R: RawReader, W: Refresher>(
         &self,
         alloc: Global,
@@ -52,7 +52,8 @@ impl<D: Decides> InputState<'_, D> {
         n: RepeatCount,
     ) -> Result<Counted, ReadlineError>
         ensures { let input = input_of self.now in
-            let script = second_count input (W.display.shown wrt.old) n key (R.feed rdr.old).coming in
+            let shown = W.display.shown wrt.old in
+            let script = second_count input shown n key (R.feed rdr.old).coming in
             Follows W.display (custom_in self.now D.decides) script
             wrt.old input wrt.new input (R.feed rdr.old) (R.feed rdr.new) result }
     {

@@ -126,7 +126,7 @@ fn change_row(key: KeyEvent, n: RepeatCount) -> Option<Motion>
 }
 
 // What a key is behind an operator, which may be a change.
-#[tactic(auto, using(crate::proofs::Deeds::change_first, crate::proofs::Deeds::motion_then), unfolding(crate::specs::ViMotions::motion_of))]
+#[tactic(auto, using(crate::proofs::Steps::motion_tables), unfolding(crate::specs::ViMotions::motion_of))]
 fn motion_of(changing: bool, key: KeyEvent, n: RepeatCount) -> Option<Motion>
     ensures { option_map motion_meant result ≡ motion_of changing n key }
 {
@@ -148,7 +148,7 @@ impl<D: Decides> InputState<'_, D> {
     ghost use Rattle.line_keys.specs.SameKeys.{same_key};
 
     /// The motion behind an operator's key; none where another key follows.
-    #[tactic(auto, using(crate::proofs::Following::read_stops, crate::proofs::Following::read_follows, crate::proofs::Following::then_stops, crate::proofs::Following::then_follows, crate::proofs::Following::silent_follows, crate::proofs::Following::ends_follow))]
+    #[tactic(auto, using(crate::proofs::Steps::motion))]
     pub(crate) fn vi_cmd_motion<R: RawReader, W: Refresher>(
         &mut self,
         alloc: Global,
@@ -158,7 +158,8 @@ impl<D: Decides> InputState<'_, D> {
         n: RepeatCount,
     ) -> Result<Option<Movement>, ReadlineError>
         ensures motion { let input = input_of self.old in
-            let script = vi_motion operator n input (W.display.shown wrt.old) (R.feed rdr.old).coming in
+            let shown = W.display.shown wrt.old in
+            let script = vi_motion operator n input shown (R.feed rdr.old).coming in
             Follows W.display (custom_in self.old D.decides) script
             wrt.old input wrt.new (input_of self.new) (R.feed rdr.old) (R.feed rdr.new) result }
         ensures bindings { self.new.custom_bindings ≡ self.old.custom_bindings }
@@ -172,7 +173,7 @@ impl<D: Decides> InputState<'_, D> {
     }
 
     // The motion of the key behind a second count.
-    #[tactic(auto, using(crate::proofs::Following::as_follows, crate::proofs::Following::ends_follow))]
+    #[tactic(auto, using(crate::proofs::Steps::answer))]
     fn counted_motion<R: RawReader>(
         &mut self,
         rdr: &mut R,
@@ -197,7 +198,7 @@ impl<D: Decides> InputState<'_, D> {
     }
 
     /// The movement to the character that is typed next, whose search is remembered.
-    #[tactic(auto, using(crate::proofs::Following::read_stops, crate::proofs::Following::read_follows, crate::proofs::Following::becomes_follows, crate::proofs::Following::ends_follow))]
+    #[tactic(auto, using(crate::proofs::Steps::search))]
     pub(crate) fn vi_char_search<R: RawReader>(
         &mut self,
         rdr: &mut R,
@@ -205,7 +206,8 @@ impl<D: Decides> InputState<'_, D> {
         n: RepeatCount,
     ) -> Result<Option<Movement>, ReadlineError>
         ensures sought { let input = input_of self.old in
-            Follows silent (custom_in self.old D.decides) (sought (search_of search) n input (R.feed rdr.old).coming)
+            let script = sought (search_of search) n input (R.feed rdr.old).coming in
+            Follows silent (custom_in self.old D.decides) script
             tt input tt (input_of self.new) (R.feed rdr.old) (R.feed rdr.new) result }
         ensures bindings { self.new.custom_bindings ≡ self.old.custom_bindings }
     {

@@ -223,7 +223,7 @@ fn vi_reading_row(key: KeyEvent) -> Option<Deed>
 }
 
 /// What a key of command mode does, by the count.
-#[tactic(auto, using(crate::proofs::Deeds::first_table, crate::proofs::Deeds::second_table, crate::proofs::Deeds::third_table, crate::proofs::Deeds::fourth_table))]
+#[tactic(auto, using(crate::proofs::Steps::tables))]
 pub(crate) fn vi_command_row(key: KeyEvent, n: RepeatCount) -> Option<Deed>
     ensures { option_map meant result ≡ deed_of n key }
 {

@@ -1,7 +1,7 @@
 use Rattle.std.proofs.Common.{◌≤◌, ◌+◌, map, length, sym, ap, ◌∙◌, arith}
 use Rattle.std.proofs.lemmas.List.{map-append}
 use Rattle.std.proofs.lemmas.Bool.{eqb-true}
-use Rattle.line_screen.specs.Drawing.Item.{Letter}
+use Rattle.line_screen.specs.Drawing.DrawnItem.{Letter}
 use Rattle.line_screen.specs.Measure.{saturated}
 use Rattle.line_screen.proofs.Saturating.{reached_steps, reached_end, after_run, none_left}
 use Rattle.line_screen.proofs.measuring.after_letters.Goals as goal

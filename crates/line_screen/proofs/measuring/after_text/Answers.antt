@@ -2,7 +2,7 @@ use Rattle.std.proofs.Common.{◌≤◌, ◌++◌, ◌∷◌, [], false, length,
 use Rattle.std.proofs.lemmas.List.{length_push, drop_all}
 use Rattle.std.proofs.lemmas.Iterator.Consumers.{YieldsList-turn, YieldsList-end}
 use Rattle.std.proofs.lemmas.Iterator.Splits.{YieldsList-from_str_split}
-use Rattle.line_screen.specs.Drawing.{next_items, text_items, rows_of}
+use Rattle.line_screen.specs.Drawing.{next_items, text_items, split_rows}
 use Rattle.line_screen.specs.Measure.{cluster_width}
 use Rattle.line_screen.proofs.Saturating.{reached_start, reached_steps, reached_end}
 use Rattle.line_screen.proofs.RowsLeft.{left_from, left_takes, left_ends}
@@ -27,6 +27,6 @@ returns-clause-place c =
     let wide = cluster_width c.args.grid.mode c.args.grid.columns in
     let text = c.args.text.now in
     let last = YieldsList-end (YieldsList-from_str_split 10 text (lit< tt) (cc) (cc) (cc)) c.loop-row.yielded _ c.loop-row.yielded_by _ _ c.in-None.is c.next.ensures.steps in
-    let all : length (rows_of text) ≤ length c.loop-row.yielded = omega (arith, last.1) in
+    let all : length (split_rows text) ≤ length c.loop-row.yielded = omega (arith, last.1) in
     reached_end c.args.grid.columns c.args.from (text_items wide text) (left_from wide text c.loop-row.is_first (length c.loop-row.yielded)) c.loop-row.at c.loop-row.invariant
-    (left_ends wide text c.loop-row.is_first (length c.loop-row.yielded) (drop_all (length c.loop-row.yielded) (rows_of text) all))
+    (left_ends wide text c.loop-row.is_first (length c.loop-row.yielded) (drop_all (length c.loop-row.yielded) (split_rows text) all))

@@ -1,12 +1,12 @@
 use Rattle.std.proofs.Common.{◌∙◌, sym, rules, true, false}
-use Rattle.line_help.specs.HistoryText.{rows_of}
+use Rattle.line_help.specs.HistoryText.{text_rows}
 use Rattle.line_help.proofs.LoadLemmas.{answer_more, left_more, reached_more}
 use Rattle.line_help.proofs.file_history.FileHistory.load_rows.Goals as goal
 
 pub loop-self-preserved-then-whole : goal.loop-self-preserved-then-whole
 loop-self-preserved-then-whole g c =
     let last = (g.S.Source.feed c.args.source.now).last in
-    let rows = rows_of last (g.S.Source.feed c.read_row.new.source).coming in
+    let rows = text_rows last (g.S.Source.feed c.read_row.new.source).coming in
     let row = c.deref.result.now in
     let text = c.in_ok-added.ensures.text in
     let added = c.in_ok-added.ensures.added in
@@ -30,7 +30,7 @@ loop-self-preserved-then-whole g c =
 pub loop-self-preserved : goal.loop-self-preserved
 loop-self-preserved g c =
     let last = (g.S.Source.feed c.args.source.now).last in
-    let rows = rows_of last (g.S.Source.feed c.read_row.new.source).coming in
+    let rows = text_rows last (g.S.Source.feed c.read_row.new.source).coming in
     let row = c.deref.result.now in
     let text = c.in_ok-added.ensures.text in
     let added = c.in_ok-added.ensures.added in

@@ -1,14 +1,14 @@
 use Rattle.std.proofs.Common.{map, true, ap}
 use Rattle.unicode_segmentation.specs.Grapheme.{graphemes}
 use Rattle.unicode_segmentation.specs.Iter.{graphemes_left}
-use Rattle.line_screen.specs.Drawing.{item_of}
+use Rattle.line_screen.specs.Drawing.{drawn_item}
 use Rattle.line_screen.specs.Measure.{cluster_width}
 use Rattle.line_screen.proofs.Runs.{so_far_step}
 use Rattle.line_screen.proofs.drawing.text.send_clusters.Goals as goal
 
 pub loop-cluster-preserved : goal.loop-cluster-preserved
 loop-cluster-preserved g c =
-    let item = item_of (cluster_width c.args.grid.mode c.args.grid.columns) in
+    let item = drawn_item (cluster_width c.args.grid.mode c.args.grid.columns) in
     so_far_step g.D.Sink.told g.D.Sink.held g.D.Sink.has_failed c.args.grid.columns c.args.start
     (map item (graphemes true c.args.row.now)) (map item (graphemes_left c.next.new.self)) (map item (graphemes_left c.loop-cluster.cluster-iterator)) (item c.in-Some.cluster.now)
     c.args.sink.now c.loop-cluster.sink c.send_cluster.new.sink c.loop-cluster.col c.in_ok-col.col

@@ -1,5 +1,5 @@
 use Rattle.std.proofs.Common.{map, length}
-use Rattle.line_screen.specs.Drawing.Item.{Letter}
+use Rattle.line_screen.specs.Drawing.DrawnItem.{Letter}
 use Rattle.line_screen.proofs.Runs.{SoFar}
 use Rattle.line_screen.proofs.drawing.text.send_letters.Given as goal
 

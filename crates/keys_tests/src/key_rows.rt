@@ -1,0 +1,339 @@
+//! Keys, bindings and commands at work.
+
+use crate::commands::command_named;
+use crate::typing::{event, typed};
+use line_buffer::{Movement, RepeatCount};
+use line_config::{EditMode, ReadlineError};
+use line_keys::{
+    Bindings, Cmd, CmdKind, Decides, Event, EventContext, EventHandler, InputMode, KeyEvent,
+    Modifiers, RawReader, Refresher, Text,
+};
+use stand_ins::handlers::HintOrKill;
+use stand_ins::key_names::{key_named, write_key};
+use stand_ins::reader_calls::tell_call;
+use stand_ins::readers::KeyList;
+use stand_ins::refreshers::PlainLine;
+use stand_ins::tables::{call_and_answer, line_and_place, meant, word_and_rest};
+use std::alloc::Global;
+use std::process::Abort;
+use std::test::Fail;
+
+// What was bound, or is: a command.
+fn handler_told(alloc: Global, handler: Option<&EventHandler>) -> Result<String, Fail> {
+    match handler {
+        Some(EventHandler::Simple(cmd)) => Ok(format!(in alloc; "{cmd:?}")?),
+        Some(_) => Ok(String::from_str(alloc, "handler")?),
+        None => Ok(String::from_str(alloc, "none")?),
+    }
+}
+
+// Calls of bindings; `bind` has keys and a command.
+const SEQUENCES: &str = "
+    bind C-x C-e: Noop      = none
+    begins C-X              = true
+    begins C-O              = false
+    begins C-x              = false
+    get C-X C-E             = Noop
+    get C-x C-e             = none
+";
+
+// Without keys, any key is meant.
+const OLD_ONES: &str = "
+    bind F1: Noop           = none
+    bind F1: Abort          = Noop
+    bind: Complete          = none
+    unbind F1               = Abort
+    unbind F1               = none
+    get                     = Complete
+";
+
+const SIX_KEYS: &str = "
+    bind Backspace: Undo(0)   = none
+    bind C-Backspace: Undo(1) = none
+    bind Enter: Undo(2)       = none
+    bind C-Enter: Undo(3)     = none
+    bind Tab: Undo(4)         = none
+    bind C-Tab: Undo(5)       = none
+    get Backspace             = Undo(0)
+    get C-Backspace           = Undo(1)
+    get Enter                 = Undo(2)
+    get C-Enter               = Undo(3)
+    get Tab                   = Undo(4)
+    get C-Tab                 = Undo(5)
+";
+
+// Whether bindings have a sequence that begins with a key.
+fn begun_told(alloc: Global, bindings: &Bindings, key: &str) -> Result<String, Fail> {
+    let key = key_named(key).ok_or("no key")?;
+    let begins = bindings.begins(&[key]);
+    Ok(format!(in alloc; "{begins}")?)
+}
+
+// Makes a call, and tells what it answers.
+fn bindings_told(
+    alloc: Global,
+    bindings: &mut Bindings,
+    call: &str,
+    keys: &str,
+    cmd: &str,
+) -> Result<String, Fail> {
+    match call {
+        "begins" => begun_told(alloc, bindings, keys),
+        "bind" => {
+            let handler = EventHandler::from(command_named(cmd).ok_or("no command")?);
+            let old = bindings.bind_sequence(event(alloc, keys)?, handler)?;
+            handler_told(alloc, old.as_ref())
+        }
+        "unbind" => {
+            let old = bindings.unbind_sequence(event(alloc, keys)?);
+            handler_told(alloc, old.as_ref())
+        }
+        _ => handler_told(alloc, bindings.get(&event(alloc, keys)?)),
+    }
+}
+
+// Makes each row's call on new bindings.
+fn binds(rt: &(impl AllocGlobal + Abort), table: &str) -> Result<(), Fail> {
+    let mut bindings = Bindings::new(rt.alloc())?;
+    for row in table.lines() {
+        if let Some((call, answer)) = call_and_answer(row) {
+            let (call, cmd) = call.split_once(':').unwrap_or((call, ""));
+            let (call, keys) = word_and_rest(call);
+            let said = bindings_told(rt.alloc(), &mut bindings, call, keys, cmd.trim())?;
+            assert_eq!(rt; said.as_str(), answer, "{row}");
+        }
+    }
+    Ok(())
+}
+
+#[test]
+fn bindings_call_by_call(rt: HostRuntime) -> Result<(), Fail> {
+    binds(&rt, SEQUENCES)?;
+    binds(&rt, OLD_ONES)?;
+    binds(&rt, SIX_KEYS)
+}
+
+// A character and its key; a key and its one form.
+const KEYS: &str = "
+    new ␛                   = Esc
+    from ␉                  = Tab
+    alt ␡                   = A-Backspace
+    from ␈                  = Backspace
+    from ␍                  = Enter
+    normalize ␁             = C-A
+    normalize C-a           = C-A
+    normalize S-A           = A
+    normalize S-Tab         = BackTab
+";
+
+fn key_made(call: &str, word: &str) -> Option<KeyEvent> {
+    if call == "normalize" {
+        return Some(KeyEvent::normalize(key_named(word)?));
+    }
+    let c = word.chars().next()?;
+    match call {
+        "new" => Some(KeyEvent::new(c, Modifiers::NONE)),
+        "alt" => Some(KeyEvent::alt(c)),
+        _ => Some(KeyEvent::from(c)),
+    }
+}
+
+#[test]
+fn keys_have_one_form(rt: HostRuntime) -> Result<(), Fail> {
+    for row in KEYS.lines() {
+        if let Some((call, answer)) = call_and_answer(row) {
+            let (call, word) = word_and_rest(call);
+            let word = meant(rt.alloc(), word)?;
+            let mut said = String::new(rt.alloc());
+            write_key(&mut said, key_made(call, word.as_str()).ok_or("no key")?)?;
+            assert_eq!(rt; said.as_str(), answer, "{row}");
+        }
+    }
+    Ok(())
+}
+
+// A count, a line with its cursor and a hint behind it, if there is one; what the handler bound to any key answers.
+const DECIDED: &str = "
+    -3 ab|                  = Some(Kill(BackwardChar(3)))
+    1 ab| c                 = Some(CompleteHint)
+    10 ab| c                = None
+    1 |                     = Handler
+";
+
+// The line of a row.
+fn line_of(alloc: Global, shown: &str) -> Result<PlainLine, Fail> {
+    let (text, hint) = word_and_rest(shown);
+    let (text, pos) = line_and_place(alloc, text)?;
+    let mut line = PlainLine::new(alloc, Text::from(text));
+    line.pos = pos;
+    if !hint.is_empty() {
+        line.hint = Some(Text::try_from_str(alloc, hint)?);
+    }
+    Ok(line)
+}
+
+// What is bound to any key answers at this line.
+fn decided(
+    alloc: Global,
+    bindings: &Bindings,
+    n: RepeatCount,
+    positive: bool,
+    line: &PlainLine,
+) -> Result<Option<Cmd>, ReadlineError> {
+    let ctx = EventContext::new(EditMode::Emacs, InputMode::Insert, line);
+    match bindings.get(&Event::Any) {
+        Some(handler) => handler.decide(alloc, &Event::Any, n, positive, &ctx),
+        None => Ok(None),
+    }
+}
+
+#[test]
+fn a_boxed_handler_is_asked(rt: HostRuntime) -> Result<(), Fail> {
+    let mut bindings = Bindings::new(rt.alloc())?;
+    let handler = Box::new(rt.alloc(), HintOrKill { most: 9 })?;
+    let _ = bindings.bind_sequence(Event::Any, EventHandler::Conditional(handler))?;
+    for row in DECIDED.lines() {
+        if let Some((call, answer)) = call_and_answer(row) {
+            let (count, shown) = word_and_rest(call);
+            let line = line_of(rt.alloc(), shown)?;
+            let amount = count.trim_start_matches('-').parse()?;
+            let positive = !count.starts_with('-');
+            let said = match decided(rt.alloc(), &bindings, amount, positive, &line) {
+                Ok(cmd) => format!(in rt.alloc(); "{cmd:?}")?,
+                Err(why) => format!(in rt.alloc(); "{why:?}")?,
+            };
+            assert_eq!(rt; said.as_str(), answer, "{row}");
+        }
+    }
+    Ok(())
+}
+
+// A count, a text that was inserted before, and a command; the command made anew.
+const MADE_ANEW: &str = "
+    3 none SelfInsert(1, 'x')              = SelfInsert(3, 'x')
+    none abc SelfInsert(1, 'x')            = Insert(1, \"abc\")
+    9 abc Replace(ForwardChar(0), None)    = Replace(ForwardChar(3), Some(\"abc\"))
+    9 abc Kill(EndOfLine)                  = Kill(EndOfLine)
+    9 abc Abort                            = Abort
+";
+
+fn made_anew(alloc: Global, call: &str) -> Result<String, Fail> {
+    let (count, call) = word_and_rest(call);
+    let (inserted, cmd) = word_and_rest(call);
+    let mut line = PlainLine::new(alloc, Text::try_from_str(alloc, "")?);
+    if inserted != "none" {
+        line.inserted = Some(Text::try_from_str(alloc, inserted)?);
+    }
+    let cmd = command_named(cmd).ok_or("no command")?;
+    let again = cmd.redo(alloc, count.parse().ok(), &line)?;
+    Ok(format!(in alloc; "{again:?}")?)
+}
+
+#[test]
+fn commands_are_made_anew(rt: HostRuntime) -> Result<(), Fail> {
+    for row in MADE_ANEW.lines() {
+        if let Some((call, answer)) = call_and_answer(row) {
+            let said = made_anew(rt.alloc(), call)?;
+            assert_eq!(rt; said.as_str(), answer, "{row}");
+        }
+    }
+    Ok(())
+}
+
+#[test]
+fn a_text_of_any_length_is_typed_over(rt: HostRuntime) -> Result<(), Fail> {
+    let mut long = String::new(rt.alloc());
+    for _ in 0..70_000 {
+        long.push('x')?;
+    }
+    let mut line = PlainLine::new(rt.alloc(), Text::try_from_str(rt.alloc(), "")?);
+    line.inserted = Some(Text::from(long));
+    match Cmd::Replace(Movement::ForwardChar(0), None).redo(rt.alloc(), None, &line)? {
+        Cmd::Replace(movement, Some(text)) => {
+            assert_eq!(rt; movement, Movement::ForwardChar(65535));
+            assert_eq!(rt; text.as_str().len(), 70_000);
+        }
+        other => assert_eq!(rt; other, Cmd::Noop),
+    }
+    Ok(())
+}
+
+// What is typed, and calls of the reader, one after the other. A refusal stays, but for the end of the input.
+const READERS: &str = "
+    PasteStart text:a␊b Enter : wait paste key+ key+ key+ = PasteStart a␊b Enter Eof Eof
+    PasteStart text:a␊b Enter : key key paste = PasteStart PasteOutOfPlace PasteOutOfPlace
+    !cut !failed : paste key char = Reader Reader Reader
+    !bad : char = NotUtf8
+";
+
+// Makes the calls, and tells what they answer.
+fn read(alloc: Global, words: &str, calls: &str) -> Result<String, Fail> {
+    let input = typed(alloc, words)?;
+    let mut reader = KeyList::new(&input.typed, input.cut, input.after);
+    let mut said = String::new(alloc);
+    for call in calls.split_whitespace() {
+        if let Err(why) = tell_call(alloc, &mut reader, call, &mut said) {
+            write!(said, "{why:?}")?;
+        }
+        said.push(' ')?;
+    }
+    Ok(said)
+}
+
+#[test]
+fn readers_call_by_call(rt: HostRuntime) -> Result<(), Fail> {
+    for row in READERS.lines() {
+        if let Some((call, answer)) = call_and_answer(row) {
+            let (words, calls) = call.split_once(" : ").ok_or("no calls")?;
+            let said = read(rt.alloc(), words, calls)?;
+            assert_eq!(rt; said.as_str().trim(), answer, "{row}");
+        }
+    }
+    Ok(())
+}
+
+#[test]
+fn a_reader_knows_signals(rt: HostRuntime) -> Result<(), Fail> {
+    let input = typed(rt.alloc(), "!bad")?;
+    let reader = KeyList::new(&input.typed, input.cut, input.after);
+    assert_eq!(rt; reader.find_binding(&KeyEvent::ctrl('c')), None);
+    assert_eq!(rt;
+        reader.find_binding(&KeyEvent::ctrl('C')),
+        Some(Cmd::Interrupt)
+    );
+    assert_eq!(rt; reader.unbuffer(), None);
+    Ok(())
+}
+
+#[test]
+fn requests_stand_in_order(rt: HostRuntime) -> Result<(), Fail> {
+    let mut line = PlainLine::new(rt.alloc(), Text::try_from_str(rt.alloc(), "ab")?);
+    line.hint = Some(Text::try_from_str(rt.alloc(), "c")?);
+    line.refresh_prompt_and_line("(arg: 2) ")?;
+    line.refresh_line()?;
+    assert_eq!(rt; line.hint_text(), Some("c"));
+    line.refresh_line_with_msg(Some("no"), CmdKind::Other)?;
+    assert!(rt; !line.has_hint());
+    line.doing_insert()?;
+    line.done_inserting()?;
+    let mut said = String::new(rt.alloc());
+    for request in &line.requests {
+        write!(said, "{request:?} ")?;
+    }
+    assert_eq!(rt;
+        said.as_str(),
+        "Prompt(\"(arg: 2) \") Line Message(Some(\"no\"), Other) DoingInsert DoneInserting "
+    );
+    Ok(())
+}
+
+#[test]
+fn keys_print_their_names(rt: HostRuntime) -> Result<(), Fail> {
+    let event = event(rt.alloc(), "C-S-F1 Esc")?;
+    let text = format!(in rt.alloc(); "{event:?}")?;
+    assert_eq!(rt;
+        text.as_str(),
+        "KeySeq([KeyEvent(F(1), Modifiers(CTRL | SHIFT)), KeyEvent(Esc, Modifiers(0x0))])"
+    );
+    Ok(())
+}

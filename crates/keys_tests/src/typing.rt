@@ -1,0 +1,87 @@
+//! What is typed, by names.
+
+use line_config::ReadlineError;
+use line_keys::{Event, Keys, Text};
+use stand_ins::key_names::key_named;
+use stand_ins::readers::{After, Typed};
+use stand_ins::tables::{call_and_answer, meant};
+use std::alloc::Global;
+use std::test::Fail;
+
+/// The event of keys by their names; without any, any event.
+pub(crate) fn event(alloc: Global, words: &str) -> Result<Event, ReadlineError> {
+    let mut keys = Vec::new(alloc);
+    for word in words.split_whitespace() {
+        match key_named(word) {
+            Some(key) => keys.push(key)?,
+            None => return Err(ReadlineError::Helper),
+        }
+    }
+    if keys.is_empty() {
+        return Ok(Event::Any);
+    }
+    Ok(Event::KeySeq(Keys::from(keys)))
+}
+
+/// What a row of a table types.
+#[derive(Drop)]
+pub struct Input {
+    pub typed: Vec<Typed>,
+    /// A pasted text is owed behind the keys, and is cut off.
+    pub cut: bool,
+    pub after: After,
+}
+
+/// Keys by their names, parted by blanks. `text:ab` is the pasted text `ab`. What comes behind the keys is the end of
+/// the input, or bytes that are no character after `!bad`, or a failing source after `!failed`; before these, `!cut`
+/// is a pasted text without its end. A word that names nothing is refused.
+pub(crate) fn typed(alloc: Global, words: &str) -> Result<Input, ReadlineError> {
+    let mut input = Input {
+        typed: Vec::new(alloc),
+        cut: false,
+        after: After::End,
+    };
+    for word in words.split_whitespace() {
+        match word {
+            "!cut" => input.cut = true,
+            "!bad" => input.after = After::Bad,
+            "!failed" => input.after = After::Failed,
+            _ => input.typed.push(item(alloc, word)?)?,
+        }
+    }
+    Ok(input)
+}
+
+fn item(alloc: Global, word: &str) -> Result<Typed, ReadlineError> {
+    if let Some(text) = word.strip_prefix("text:") {
+        return Ok(Typed::Paste(Text::from(meant(alloc, text)?)));
+    }
+    match key_named(word) {
+        Some(key) => Ok(Typed::Key(key)),
+        None => Err(ReadlineError::Helper),
+    }
+}
+
+const NAMES: &str = "
+    x       = KeyEvent(Char('x'), Modifiers(0x0))
+    C-A     = KeyEvent(Char('A'), Modifiers(CTRL))
+    A--     = KeyEvent(Char('-'), Modifiers(ALT))
+    -       = KeyEvent(Char('-'), Modifiers(0x0))
+    C-A-]   = KeyEvent(Char(']'), Modifiers(CTRL | ALT))
+    S-Tab   = KeyEvent(Tab, Modifiers(SHIFT))
+    Enterr  = none
+";
+
+#[test]
+fn names_are_keys(rt: HostRuntime) -> Result<(), Fail> {
+    for row in NAMES.lines() {
+        if let Some((name, answer)) = call_and_answer(row) {
+            let said = match key_named(name) {
+                Some(key) => format!(in rt.alloc(); "{key:?}")?,
+                None => String::from_str(rt.alloc(), "none")?,
+            };
+            assert_eq!(rt; said.as_str(), answer, "{row}");
+        }
+    }
+    Ok(())
+}

@@ -1,0 +1,313 @@
+-- Each step leaves a record that reaches the same text.
+use Rattle.std.proofs.Common.{◌≡◌, ℕ, ◌+◌, ◌-◌, ◌==◌, ◌||◌, not, max, Bool, true, false, List, [], ◌∷◌, length, Option, Some, None, is_some, slice_get, refl, sym, ◌∙◌, subst, if◌then◌else◌}
+use Rattle.std.specs.Prelude.{IsUtf8, IsCharBoundary, IfSome, encode_utf8}
+use Rattle.line_buffer.specs.Columns.{line_up, line_down}
+use Rattle.line_buffer.specs.Insertions.{can_take_before, insert as insertion, yank as yanked_in, yank_pop as popped_in}
+use Rattle.line_buffer.specs.Clusters.{place_forward, place_backward}
+use Rattle.line_buffer.specs.Line.{Line, moved_to, put_in, replaced}
+use Rattle.line_buffer.specs.LetterCase.{word_to_edit, edit_word_events, edit_word_line}
+use Rattle.line_buffer.specs.Range.{range_of, deletion_events, deletion_line}
+use Rattle.line_buffer.specs.Replay.{insertion as told_insertion, replacement}
+use Rattle.line_buffer.specs.Transpositions.{transposes_chars, transposes_words, transpose_words_events, transpose_words_line}
+use Rattle.line_buffer.specs.declared.types.Anchor.{Anchor}
+use Rattle.line_buffer.specs.declared.types.Anchor.TheVariants.{After, Before}
+use Rattle.line_buffer.specs.declared.types.Movement.{Movement}
+use Rattle.line_buffer.specs.declared.types.Movement.TheVariants.{WholeLine, BeginningOfLine, EndOfLine, BackwardWord, ForwardWord, ViCharSearch, ViFirstPrint, BackwardChar, ForwardChar, LineUp, LineDown, WholeBuffer, BeginningOfBuffer, EndOfBuffer}
+use Rattle.line_buffer.specs.Hits.{search_place}
+use Rattle.line_buffer.specs.Rows.{row_start, row_end}
+use Rattle.line_buffer.specs.Words.{prev_word, next_word}
+use Rattle.line_buffer.specs.declared.types.At.TheVariants.{Start}
+use Rattle.line_buffer.specs.declared.types.Word.TheVariants.{Big}
+use Rattle.line_buffer.specs.declared.types.WordAction.{WordAction}
+use Rattle.line_buffer.specs.declared.types.WordAction.TheVariants.{Capitalize, Lowercase, Uppercase}
+use Rattle.line_buffer.proofs.ReplayedLemmas.{replayed_all-one, replayed_insertion, replayed_replacement, yank_pop_replayed}
+use Rattle.line_buffer.proofs.SpanLemmas.{IsLater, place_forward-later, deletion_replays}
+use Rattle.line_edits.specs.Edits.{put_behind, yanked, updated, popped, deleted, clusters_after, exchanged_for, written_over, overwritten, chars_transposed, transpose_chars_in_group, words_transposed, transpose_words_in_group, word_edited, edit_word_in_group, undone}
+use Rattle.line_edits.specs.Written.{Written, opened, closed}
+use Rattle.line_help.specs.Hints.{Hinted}
+use Rattle.line_help.specs.History.{begins_with_space}
+use Rattle.line_help.specs.Search.{Hit}
+use Rattle.line_help.specs.Validation.{is_valid, has_message}
+use Rattle.line_help.specs.declared.search.SearchDirection.{SearchDirection}
+use Rattle.line_help.specs.declared.search.SearchDirection.TheVariants.{Forward, Reverse}
+use Rattle.line_help.specs.declared.validate.ValidationResult.{ValidationResult}
+use Rattle.line_help.specs.declared.validate.ValidationResult.TheVariants.{Incomplete, Invalid, Valid}
+use Rattle.line_keys.specs.Refreshing.{Ask}
+use Rattle.line_keys.specs.Refreshing.Ask.{Line as LineAsked, Message, Prompted, DoingInsert, DoneInserting}
+use Rattle.line_keys.specs.declared.command.Cmd.{Cmd}
+use Rattle.line_keys.specs.declared.command.Cmd.TheVariants.{AcceptLine, BeginningOfHistory, CapitalizeWord, CompleteHint, Dedent, DowncaseWord, EndOfHistory, HistorySearchBackward, HistorySearchForward, Indent, Insert, Kill, Move, NextHistory, Overwrite, PreviousHistory, ReplaceChar, Replace, SelfInsert, TransposeChars, TransposeWords, Undo, UpcaseWord, Yank, YankPop, LineUpOrPreviousHistory, LineDownOrNextHistory, Newline, AcceptOrInsertLine}
+use Rattle.line_keys.specs.declared.command.CmdKind.{CmdKind}
+use Rattle.line_keys.specs.declared.command.CmdKind.TheVariants.{ForcedRefresh, MoveCursor, Other}
+use Rattle.line_record.specs.Held.{has_step, closes}
+use Rattle.line_record.specs.Ring.{exchanged}
+use Rattle.line_editor.specs.Accepting.{told_if, verdict_told, validate_by, verdict, bare, accept, accepts, newline_if}
+use Rattle.line_editor.specs.Asks.{ask_effect}
+use Rattle.line_editor.specs.Commands.{Means, in_vi_command, effect}
+use Rattle.line_editor.specs.Hinting.{at_row_end, completed_by, complete_by}
+use Rattle.line_editor.specs.Inserting.{insert_char, replace_char, overwrite_char}
+use Rattle.line_editor.specs.Killing.{kill, insert_text_if}
+use Rattle.line_editor.specs.Leads.{Reaches, Sound}
+use Rattle.line_editor.specs.Moving.{stepped, to_found, to_place, move_home, move_to_next_word, move_to_first_print, move_by}
+use Rattle.line_editor.specs.Remembering.{saved_now, at_place, leaving, recall, recalled, restored, found, history_step, history_end, history_search}
+use Rattle.line_editor.specs.Returns.{Step, after_step, after_steps}
+use Rattle.line_editor.specs.Returns.Step.{Done, Asked}
+use Rattle.line_editor.specs.Rewording.{refreshed_if, edit_word}
+use Rattle.line_editor.specs.UndoAll.{BegunSound, UndoesAll}
+use Rattle.line_editor.specs.Values.{Value, Setting, Effect, then_do, rewritten, written_of, at_line}
+use Rattle.line_editor.specs.Yanking.{anchored, steps, behind_yank, yanked_by, yank, yank_lent, pop_lent}
+use Rattle.line_editor.proofs.ReachLemmas.{ended_reaches, undo_reached, edit_reaches, group_reaches, typing_reaches, yanking_reaches, updating_reaches, indenting_reaches, killing_reaches, transposing_reaches}
+use Rattle.line_editor.proofs.ReplaysLemmas.{transpose_words_replays, edit_word_replays}
+use Rattle.line_editor.proofs.UndoLemmas.{undo_reaches}
+
+-- ---- edits of a line with its record
+
+module _ (first : List ℕ) (w : Written) (u : IsUtf8 w.line.text) (b : IsCharBoundary w.line.text w.line.place) (r : Reaches first w.held w.line.text) where
+  deleting_reaches : (n : ℕ) → Reaches first (deleted n w).held (deleted n w).line.text
+  deleting_reaches n =
+      edit_reaches (deletion_events (range_of (ForwardChar n) w.line) w.line) (deletion_line (range_of (ForwardChar n) w.line) w.line) w first (sym (deletion_replays w.line u b (ForwardChar n))) r
+
+  writing_reaches : (c : ℕ) (o : Option ℕ) → IfSome o (IsLater w.line) → Reaches first (written_over c o w).held (written_over c o w).line.text
+  writing_reaches c None h = r
+  writing_reaches c (Some end) h =
+      edit_reaches (replacement w.line.place end (encode_utf8 c) w.line.text ∷ []) (replaced w.line.place end (encode_utf8 c) w.line) w first
+      (sym (replayed_all-one _ w.line.text ∙ replayed_replacement w.line.text w.line.place end (encode_utf8 c) h.1 h.0.0)) r
+
+  overwriting_reaches : (c : ℕ) → Reaches first (overwritten c w).held (overwritten c w).line.text
+  overwriting_reaches c = writing_reaches c (place_forward 1 w.line) (place_forward-later w.line u b 1)
+
+  popping_reaches : (size : ℕ) (text : List ℕ) → Reaches first (popped size text w).held (popped size text w).line.text
+  popping_reaches size text = edit_reaches (popped_in size text w.line).events (popped_in size text w.line).line w first (sym (yank_pop_replayed size text w.line b.0)) r
+
+  words_reach : (n : ℕ) → Reaches first (words_transposed n w).held (words_transposed n w).line.text
+  words_reach n = edit_reaches (transpose_words_events n w.line) (transpose_words_line n w.line) w first (sym (transpose_words_replays n w.line u b)) r
+
+  word_reaches : (action : WordAction) → Reaches first (word_edited action w).held (word_edited action w).line.text
+  word_reaches action = edit_reaches (edit_word_events action w.line) (edit_word_line action w.line) w first (sym (edit_word_replays action w.line u b)) r
+
+putting_reaches : (text : List ℕ) (w : Written) (first : List ℕ) → Reaches first w.held w.line.text → Reaches first (put_behind text w).held (put_behind text w).line.text
+putting_reaches text w first r =
+    edit_reaches (told_insertion w.line.place text ∷ []) (put_in w.line.place text w.line) w first (sym (replayed_all-one _ w.line.text ∙ replayed_insertion w.line.text w.line.place text)) r
+
+-- ---- edits of the value
+
+abbrev Reached : List ℕ → Value → Type 0
+Reached first v = Reaches first v.held v.line.text
+
+either : (first : List ℕ) (b : Bool) (e f : Effect) → Reached first e.value → Reached first f.value → Reached first (if b then e else f).value
+either first true e f h k = h
+either first false e f h k = k
+
+insertion_reached : (c n : ℕ) (s : Setting) (v : Value) (first : List ℕ) → Reached first v → Reached first (insert_char c n s v).value
+insertion_reached c n s v first r =
+    let h = typing_reaches c n (written_of v) first r in
+    either first (is_some (insertion c n v.line).answer) _ _ h h
+
+step_reached : (kind : CmdKind) (moves : Bool) (l : Line) (s : Setting) (v : Value) (first : List ℕ) → l.text ≡ v.line.text → Reached first v → Reached first (stepped kind moves l s v).value
+step_reached kind moves l s v first e r = either first moves _ _ (subst (Reaches first v.held) (sym e) r) r
+
+found_reached : (o : Option ℕ) (s : Setting) (v : Value) (first : List ℕ) → Reached first v → Reached first (to_found o s v).value
+found_reached o s v first r = step_reached MoveCursor (is_some o) (moved_to o v.line) s v first refl r
+
+place_reached : (kind : CmdKind) (place : ℕ) (s : Setting) (v : Value) (first : List ℕ) → Reached first v → Reached first (to_place kind place s v).value
+place_reached kind place s v first r = step_reached kind (not (place == v.line.place)) (record v.line { place = place }) s v first refl r
+
+home_reached : (s : Setting) (v : Value) (first : List ℕ) → Reached first v → Reached first (move_home s v).value
+home_reached s v first r = place_reached MoveCursor (row_start v.line.text v.line.place) s v first r
+
+print_reached : (s : Setting) (v : Value) (first : List ℕ) → Reached first v → Reached first (move_to_first_print s v).value
+print_reached s v first r =
+    let w = (move_home s v).value in
+    either first (begins_with_space v.line.text) (then_do move_home (move_to_next_word Start Big 1) s v) (move_home s v)
+    (found_reached (next_word Start Big 1 w.line) s w first (home_reached s v first r)) (home_reached s v first r)
+
+motion_reached : (m : Movement) (s : Setting) (v : Value) (first : List ℕ) → Reached first v → Reached first (move_by m s v).value
+motion_reached WholeLine s v first r = r
+motion_reached BeginningOfLine s v first r = home_reached s v first r
+motion_reached EndOfLine s v first r = place_reached MoveCursor (row_end v.line.text v.line.place) s v first r
+motion_reached (BackwardWord n word) s v first r = found_reached (prev_word word n v.line) s v first r
+motion_reached (ForwardWord n at word) s v first r = found_reached (next_word at word n v.line) s v first r
+motion_reached (ViCharSearch n search) s v first r = found_reached (search_place search n v.line) s v first r
+motion_reached ViFirstPrint s v first r = print_reached s v first r
+motion_reached (BackwardChar n) s v first r = found_reached (place_backward n v.line) s v first r
+motion_reached (ForwardChar n) s v first r = found_reached (place_forward n v.line) s v first r
+motion_reached (LineUp n) s v first r = found_reached (line_up s.mode s.column n v.line) s v first r
+motion_reached (LineDown n) s v first r = found_reached (line_down s.mode s.column n v.line) s v first r
+motion_reached WholeBuffer s v first r = r
+motion_reached BeginningOfBuffer s v first r = step_reached MoveCursor (not (v.line.place == 0)) (record v.line { place = 0 }) s v first refl r
+motion_reached EndOfBuffer s v first r = step_reached MoveCursor (not (v.line.place == length v.line.text)) (record v.line { place = length v.line.text }) s v first refl r
+
+kill_reached : (m : Movement) (s : Setting) (v : Value) (first : List ℕ) → Sound v → Reached first v → Reached first (kill m s v).value
+kill_reached m s v first ok r =
+    let h = killing_reaches m (written_of v) first ok.utf8 ok.boundary r in
+    either first (is_some (range_of m v.line)) _ _ h h
+
+text_reached : (text : Option (List ℕ)) (s : Setting) (v : Value) (first : List ℕ) → Reached first v → Reached first (insert_text_if text s v).value
+text_reached None s v first r = r
+text_reached (Some text) s v first r = either first (length text == 0) _ _ r (putting_reaches text (written_of v) first r)
+
+yanked_reached : (first : List ℕ) (b : Bool) (v w : Value) → Reached first v → Reached first w → Reached first (if b then v else w)
+yanked_reached first true v w h k = h
+yanked_reached first false v w h k = k
+
+behind_text : (vi : Bool) (l : Line) → (behind_yank vi l).text ≡ l.text
+behind_text true l = refl
+behind_text false l = refl
+
+anchored_text : (anchor : Anchor) (l : Line) → (anchored anchor l).text ≡ l.text
+anchored_text After l = refl
+anchored_text Before l = refl
+
+yank_reached : (vi : Bool) (text : List ℕ) (anchor : Anchor) (n : ℕ) (s : Setting) (v : Value) (first : List ℕ) → Reached first v → Reached first (yank vi text anchor n s v).value
+yank_reached vi text anchor n s v first r =
+    let before = at_line (anchored anchor v.line) v in
+    let w = rewritten (yanked text n) before in
+    let k : Reached first w = yanking_reaches text n (written_of before) first (subst (Reaches first v.held) (sym (anchored_text anchor v.line)) r) in
+    let h : Reached first (yanked_by vi text n before) =
+    yanked_reached first (is_some (yanked_in text n before.line).answer) (at_line (behind_yank vi w.line) w) w (subst (Reaches first w.held) (sym (behind_text vi w.line)) k) k in
+    either first (is_some (yanked_in text n before.line).answer || steps anchor v.line) _ _ h h
+
+lent_reached : (vi : Bool) (anchor : Anchor) (n : ℕ) (o : Option (List ℕ)) (s : Setting) (v : Value) (first : List ℕ) → Reached first v → Reached first (yank_lent vi anchor n o s v).value
+lent_reached vi anchor n None s v first r = r
+lent_reached vi anchor n (Some text) s v first r = yank_reached vi text anchor n s v first r
+
+pop_reached : (o : Option (ℕ × List ℕ)) (s : Setting) (v : Value) (first : List ℕ) → Sound v → Reached first v → Reached first (pop_lent o s v).value
+pop_reached None s v first ok r = r
+pop_reached (Some lent) s v first ok r =
+    either first (can_take_before lent.0 v.line) _ _
+    (group_reaches (popped lent.0 lent.1) (written_of v) first (λ k. popping_reaches first (opened (written_of v)) ok.utf8 ok.boundary k lent.0 lent.1) r) r
+
+drawn_reached : (b : Bool) (s : Setting) (v : Value) (first : List ℕ) → Reached first v → Reached first (refreshed_if b s v).value
+drawn_reached b s v first r = either first b _ _ r r
+
+told_reached : (draws : Bool) (text : Option (List ℕ)) (kind : CmdKind) (s : Setting) (v : Value) (first : List ℕ) → Reached first v → Reached first (told_if draws text kind s v).value
+told_reached draws text kind s v first r = either first (draws || is_some text) _ _ r r
+
+verdict_reached : (found : ValidationResult) (draws : Bool) (s : Setting) (v : Value) (first : List ℕ) → Reached first v → Reached first (verdict_told found draws s v).value
+verdict_reached Incomplete draws s v first r = r
+verdict_reached (Invalid text) draws s v first r = told_reached draws text Other s v first r
+verdict_reached (Valid text) draws s v first r = told_reached draws text ForcedRefresh s v first r
+
+validate_reached : (judge : Option (List ℕ → ValidationResult)) (s : Setting) (v : Value) (first : List ℕ) → Reached first v → Reached first (validate_by judge s v).value
+validate_reached None s v first r = r
+validate_reached (Some judge) s v first r =
+    verdict_reached (judge v.line.text) (closes v.held || is_some v.hint) s (rewritten (λ w. closed (opened w)) v) first (group_reaches (λ w. w) (written_of v) first (λ k. k) r)
+
+accept_reached : (s : Setting) (v : Value) (first : List ℕ) → Reached first v → Reached first (accept s v).value
+accept_reached s v first r = validate_reached s.judge s (bare s v).value first r
+
+newline_reached : (accepted : Bool) (found : ValidationResult) (s : Setting) (v : Value) (first : List ℕ) → Reached first v → Reached first (newline_if accepted found s v).value
+newline_reached accepted found s v first r = either first accepted _ _ r (either first (is_valid found || not (has_message found)) _ _ (insertion_reached 10 1 s v first r) r)
+
+completion_reached : (o : Option (List ℕ)) (s : Setting) (v : Value) (first : List ℕ) → Reached first v → Reached first (completed_by o s v).value
+completion_reached None s v first r = r
+completion_reached (Some text) s v first r =
+    let h = yanking_reaches text 1 (written_of v) first r in
+    either first (is_some (yanked_in text 1 v.line).answer) _ _ h h
+
+hint_reached : (o : Option Hinted) (s : Setting) (v : Value) (first : List ℕ) → Reached first v → Reached first (complete_by o s v).value
+hint_reached None s v first r = r
+hint_reached (Some hint) s v first r = completion_reached hint.completion s (at_row_end v) first r
+
+char_reached : (c n : ℕ) (s : Setting) (v : Value) (first : List ℕ) → Sound v → Reached first v → Reached first (replace_char c n s v).value
+char_reached c n s v first ok r =
+    let w = written_of v in
+    let count = clusters_after n v.line in
+    either first (is_some (place_forward n v.line)) _ _
+    (group_reaches (exchanged_for c n count) w first (λ k. typing_reaches c count (deleted n (opened w)) first (deleting_reaches first (opened w) ok.utf8 ok.boundary k n)) r) r
+
+over_reached : (c : ℕ) (s : Setting) (v : Value) (first : List ℕ) → Sound v → Reached first v → Reached first (overwrite_char c s v).value
+over_reached c s v first ok r = either first (is_some (place_forward 1 v.line)) _ _ (overwriting_reaches first (written_of v) ok.utf8 ok.boundary r c) r
+
+word_reached : (action : WordAction) (s : Setting) (v : Value) (first : List ℕ) → Sound v → Reached first v → Reached first (edit_word action s v).value
+word_reached action s v first ok r =
+    drawn_reached (is_some (word_to_edit v.line)) s (rewritten (edit_word_in_group action) v) first
+    (group_reaches (word_edited action) (written_of v) first (λ k. word_reaches first (opened (written_of v)) ok.utf8 ok.boundary k action) r)
+
+-- ---- the history's commands
+
+recalled_reached : (entry : List ℕ) (place : ℕ) (v : Value) (first : List ℕ) → Reached first v → Reached first (recalled entry place v)
+recalled_reached entry place v first r = group_reaches (updated entry place) (written_of v) first (λ k. updating_reaches entry place (opened (written_of v)) first k) r
+
+restored_reached : (v : Value) (first : List ℕ) → Reached first v → Reached first (restored v)
+restored_reached v first r = updating_reaches v.saved.text v.saved.place (written_of v) first r
+
+recall_reached : (place : ℕ) (o : Option Hit) (s : Setting) (v : Value) (first : List ℕ) → Reached first v → Reached first (recall place o s v).value
+recall_reached place None s v first r = r
+recall_reached place (Some hit) s v first r = recalled_reached hit.entry (length hit.entry) (at_place place v) first r
+
+leaving_reached : (s : Setting) (v : Value) (first : List ℕ) → Reached first v → Reached first (leaving s v)
+leaving_reached s v first r = yanked_reached first (v.history == length s.entries) (saved_now v) v r r
+
+history_reached : (back : Bool) (s : Setting) (v : Value) (first : List ℕ) → Reached first v → Reached first (history_step back s v).value
+history_reached true s v first r = either first (v.history == 0) _ _ r (recall_reached (v.history - 1) _ s (leaving s v) first (leaving_reached s v first r))
+history_reached false s v first r =
+    either first (v.history == length s.entries) _ _ r (either first (v.history + 1 == length s.entries) _ _ (restored_reached (at_place (length s.entries) v) first r) (recall_reached (v.history + 1) _ s v first r))
+
+ends_reached : (start : Bool) (s : Setting) (v : Value) (first : List ℕ) → Reached first v → Reached first (history_end start s v).value
+ends_reached true s v first r = either first (v.history == 0) _ _ r (recall_reached 0 _ s (leaving s v) first (leaving_reached s v first r))
+ends_reached false s v first r = either first (v.history == length s.entries) _ _ r (restored_reached (at_place (length s.entries) v) first r)
+
+hit_reached : (o : Option Hit) (s : Setting) (v : Value) (first : List ℕ) → Reached first v → Reached first (found o s v).value
+hit_reached None s v first r = r
+hit_reached (Some hit) s v first r = recalled_reached hit.entry hit.pos (at_place hit.idx v) first r
+
+search_reached : (dir : SearchDirection) (s : Setting) (v : Value) (first : List ℕ) → Reached first v → Reached first (history_search dir s v).value
+search_reached Reverse s v first r = either first (v.history == 0) _ _ r (hit_reached _ s (at_place (v.history - 1) v) first r)
+search_reached Forward s v first r = either first (v.history == length s.entries) _ _ r (hit_reached _ s (at_place (v.history + 1) v) first r)
+
+-- ---- any step
+
+command_reached : (m : Means) (cmd : Cmd) (s : Setting) (v : Value) (first : List ℕ) → Sound v → Reached first v → Reached first (effect m cmd s v).value
+command_reached m AcceptLine s v first ok r = accept_reached s v first r
+command_reached m Newline s v first ok r = insertion_reached 10 1 s (bare s v).value first r
+command_reached m (AcceptOrInsertLine middle) s v first ok r = newline_reached (accepts middle s v) (verdict s v) s (accept s v).value first (accept_reached s v first r)
+command_reached m CapitalizeWord s v first ok r = word_reached Capitalize s v first ok r
+command_reached m DowncaseWord s v first ok r = word_reached Lowercase s v first ok r
+command_reached m UpcaseWord s v first ok r = word_reached Uppercase s v first ok r
+command_reached m CompleteHint s v first ok r = hint_reached v.hint s v first r
+command_reached m (Indent movement) s v first ok r = indenting_reaches movement m.indent_size false (written_of v) first r
+command_reached m (Dedent movement) s v first ok r = indenting_reaches movement m.indent_size true (written_of v) first r
+command_reached m (Insert n text) s v first ok r = yank_reached (in_vi_command m) text Before n s v first r
+command_reached m (Yank n anchor) s v first ok r = lent_reached (in_vi_command m) anchor n (slice_get m.ring.slots m.ring.place) s v first r
+command_reached m YankPop s v first ok r = pop_reached (exchanged m.ring) s v first ok r
+command_reached m (Move movement) s v first ok r = motion_reached movement s v first r
+command_reached m (Kill movement) s v first ok r = kill_reached movement s v first ok r
+command_reached m (Replace movement text) s v first ok r = text_reached text s (kill movement s v).value first (kill_reached movement s v first ok r)
+command_reached m (ReplaceChar n c) s v first ok r = char_reached c n s v first ok r
+command_reached m (Overwrite c) s v first ok r = over_reached c s v first ok r
+command_reached m (SelfInsert n c) s v first ok r = insertion_reached c n s v first r
+command_reached m TransposeChars s v first ok r = drawn_reached (transposes_chars v.line) s (rewritten transpose_chars_in_group v) first
+    (group_reaches chars_transposed (written_of v) first (λ k. transposing_reaches (opened (written_of v)) first ok.utf8 ok.boundary k) r)
+command_reached m (TransposeWords n) s v first ok r =
+    let w = rewritten (transpose_words_in_group n) v in
+    drawn_reached (transposes_words n v.line || not (w.line.place == v.line.place)) s w first
+    (group_reaches (words_transposed n) (written_of v) first (λ k. words_reach first (opened (written_of v)) ok.utf8 ok.boundary k n) r)
+command_reached m (Undo n) s v first ok r = drawn_reached (has_step (max n 1) v.held) s (rewritten (undone n) v) first (undo_reached (max n 1) first v.held v.line r)
+command_reached m PreviousHistory s v first ok r = history_reached true s v first r
+command_reached m NextHistory s v first ok r = history_reached false s v first r
+command_reached m BeginningOfHistory s v first ok r = ends_reached true s v first r
+command_reached m EndOfHistory s v first ok r = ends_reached false s v first r
+command_reached m HistorySearchBackward s v first ok r = search_reached Reverse s v first r
+command_reached m HistorySearchForward s v first ok r = search_reached Forward s v first r
+command_reached m (LineUpOrPreviousHistory n) s v first ok r = either first (is_some (line_up s.mode s.column n v.line)) _ _ (found_reached (line_up s.mode s.column n v.line) s v first r) (history_reached true s v first r)
+command_reached m (LineDownOrNextHistory n) s v first ok r = either first (is_some (line_down s.mode s.column n v.line)) _ _ (found_reached (line_down s.mode s.column n v.line) s v first r) (history_reached false s v first r)
+command_reached m cmd s v first ok r = r
+
+ask_reached : (ask : Ask) (s : Setting) (v : Value) (first : List ℕ) → Reached first v → Reached first (ask_effect ask s v).value
+ask_reached LineAsked s v first r = r
+ask_reached (Message text kind) s v first r = r
+ask_reached (Prompted prompt) s v first r = r
+ask_reached DoingInsert s v first r = (refl, r)
+ask_reached DoneInserting s v first r = ended_reaches first v.held v.line.text r
+
+one_reached : (step : Step) (s : Setting) (v : Value) (first : List ℕ) → Sound v → Reached first v → Reached first (after_step s step v)
+one_reached (Done m cmd) s v first ok r = command_reached m cmd s v first ok r
+one_reached (Asked ask) s v first ok r = ask_reached ask s v first r
+
+all_reached : (steps : List Step) (s : Setting) (v : Value) (first : List ℕ) → BegunSound s steps v → Reached first v → Reached first (after_steps s steps v)
+all_reached [] s v first ok r = r
+all_reached (step ∷ steps) s v first ok r = all_reached steps s (after_step s step v) first ok.1 (one_reached step s v first ok.0 r)
+
+pub undo_all : UndoesAll
+undo_all s steps v m n none ok enough =
+    undo_reaches s m (after_steps s steps v) n v.line.text (all_reached steps s v v.line.text ok (subst (λ held. Reaches v.line.text held v.line.text) (sym none) refl)) enough

@@ -1,0 +1,47 @@
+-- The lemmas that each shape of a body goes by.
+use Rattle.line_keys.proofs.Anew.{anew_follows}
+use Rattle.line_keys.proofs.Deeds.{change_first, first_table, fourth_table, motion_then, second_table, third_table}
+use Rattle.line_keys.proofs.Equality.{events_both_ways, events_hash_alike, keys_both_ways, keys_hash_alike}
+use Rattle.line_keys.proofs.Following.{as_follows, ask_follows, ask_stops, becomes_follows, decides_follow, decides_stop, ends_follow, memory_follows, needs_follow, read_follows, read_stops, silent_follows, then_follows, then_stops, whole_read}
+use Rattle.line_keys.proofs.Remembering.{remember_follows}
+use Rattle.line_keys.proofs.Turns.{count_ends, count_goes_on, count_stops, count_unasked, count_undrawn, sequence_bound, sequence_no_memory, sequence_on, sequence_over, sequence_refused, sequence_stops}
+
+pub ruleset answer = (as_follows, ends_follow)
+
+pub ruleset count_turns = (memory_follows, count_unasked, count_stops, count_goes_on, count_ends, count_undrawn)
+
+pub ruleset decision = (decides_stop, decides_follow, anew_follows, ends_follow, as_follows)
+
+pub ruleset deed = (ask_stops, ask_follows, becomes_follows, then_stops, then_follows, silent_follows, whole_read, ends_follow, as_follows, anew_follows)
+
+pub ruleset event_equality = (events_both_ways, events_hash_alike)
+
+pub ruleset key_equality = (keys_both_ways, keys_hash_alike)
+
+pub ruleset leaving = (ask_stops, ask_follows, becomes_follows, ends_follow, as_follows)
+
+pub ruleset motion = (read_stops, read_follows, then_stops, then_follows, silent_follows, ends_follow)
+
+pub ruleset motion_tables = (change_first, motion_then)
+
+pub ruleset one_key = (read_stops, read_follows)
+
+pub ruleset one_read = (whole_read, as_follows)
+
+pub ruleset operation = (becomes_follows, then_stops, then_follows, ends_follow)
+
+pub ruleset part_answered = (then_stops, then_follows, ends_follow)
+
+pub ruleset part_behind = (then_stops, then_follows, as_follows)
+
+pub ruleset part_remembered = (then_stops, then_follows, remember_follows)
+
+pub ruleset part_then_read = (then_stops, then_follows, whole_read, ends_follow)
+
+pub ruleset read_answered = (read_stops, read_follows, ends_follow, as_follows)
+
+pub ruleset search = (read_stops, read_follows, becomes_follows, ends_follow)
+
+pub ruleset sequence_turns = (memory_follows, needs_follow, sequence_over, sequence_stops, sequence_no_memory, sequence_refused, sequence_bound, sequence_on)
+
+pub ruleset tables = (first_table, second_table, third_table, fourth_table)

@@ -1,0 +1,260 @@
+//! Drawings as they go to a sink, byte by byte.
+
+use crate::sinks::{FailsAfter, Gathers};
+use line_buffer::{GraphemeClusterMode, Layout, Position};
+use line_config::{BellStyle, ReadlineError, Sink, VecSink};
+use line_screen::{ScreenRenderer, laws};
+use stand_ins::tables::{
+    call_and_answer, line_and_place, meant, or_nothing, pictured_bytes, word_and_rest,
+};
+use std::alloc::Global;
+use std::process::Abort;
+use std::test::Fail;
+
+/// A line with its cursor, and what stands around it.
+#[derive(Clone, Copy)]
+struct Shown<'a> {
+    prompt: &'a str,
+    line: &'a str,
+    /// The line's text before the cursor.
+    before: &'a str,
+    info: &'a str,
+}
+
+const ORIGIN: Position = Position { col: 0, row: 0 };
+
+fn screen<D: Sink>(sink: D, columns: u16, bell: BellStyle) -> ScreenRenderer<D> {
+    ScreenRenderer::new(
+        sink,
+        columns.max(2).min(1000),
+        GraphemeClusterMode::Unicode,
+        bell,
+    )
+}
+
+fn layout_of<D: Sink>(screen: &ScreenRenderer<D>, shown: Shown) -> Layout {
+    let prompt_size = screen.calculate_position(shown.prompt, ORIGIN);
+    let line_end = screen.calculate_position(shown.line, prompt_size);
+    Layout {
+        grapheme_cluster_mode: screen.grapheme_cluster_mode(),
+        prompt_size,
+        default_prompt: true,
+        cursor: screen.calculate_position(shown.before, prompt_size),
+        end: screen.calculate_position(shown.info, line_end),
+        has_info: !shown.info.is_empty(),
+    }
+}
+
+/// Draws over a drawing whose cursor stands in its first row.
+fn draw<D: Sink>(screen: &mut ScreenRenderer<D>, shown: Shown) -> Result<(), ReadlineError> {
+    let old = Layout::new(screen.grapheme_cluster_mode());
+    let new = layout_of(screen, shown);
+    screen.refresh_line(shown.prompt, shown.line, shown.info, Some(old), &new)
+}
+
+// Columns, prompt, the line with its cursor, and a hint or message, each but the last without a blank; the bytes.
+const LINES: &str = "
+    80 >␠ |             = ␍␛[J␛[m> ␛[m␛[m␛[m
+    80 >␠ ab|c          = ␍␛[J␛[m> ␛[mabc␛[m␛[m␛[1D
+    4 >␠ ab|            = ␍␛[J␛[m> ␛[mab␍␊␛[m␛[m
+    2 >␠ ab|            = ␍␛[J␛[m> ␍␊␛[mab␍␊␛[m␛[m
+    3 none 漢字|        = ␍␛[J␛[m␛[m␛[m漢␛[m␍␊␛[m字␛[m␛[m␛[m
+    80 >␠ ␉|            = ␍␛[J␛[m> ␛[m␛[m?␛[m␛[m␛[m
+    80 >␠ e\u{301}|     = ␍␛[J␛[m> ␛[m␛[me\u{301}␛[m␛[m␛[m
+    80 >␠ ]| Mismatched brackets: ']' is unpaired = ␍␛[J␛[m> ␛[m]␛[mMismatched brackets: ']' is unpaired␛[m␛[36D
+    80 >␠ h| ello       = ␍␛[J␛[m> ␛[mh␛[mello␛[m␛[4D
+    80 (arg:␠2)␠ |      = ␍␛[J␛[m(arg: 2) ␛[m␛[m␛[m
+    80 >␠ a␊b|          = ␍␛[J␛[m> ␛[ma␍␊b␛[m␛[m
+    80 >␠ a|␊b          = ␍␛[J␛[m> ␛[ma␍␊b␛[m␛[m␛[1A␛[2C
+";
+
+// A wide cluster at the margin, and one that is wider than the row; no width, and control characters past ASCII.
+const MARGINS: &str = "
+    3 >␠ 漢|            = ␍␛[J␛[m> ␛[m␍␊␛[m漢␛[m␛[m␛[m
+    2 none \u{17D8}|    = ␍␛[J␛[m␛[m␛[m?␛[m␛[m␛[m
+    80 none \u{200B}|   = ␍␛[J␛[m␛[m␛[m?␛[m␛[m␛[m
+    80 none a\u{85}␡|   = ␍␛[J␛[m␛[ma␛[m?␛[m␛[m?␛[m␛[m␛[m
+";
+
+// The bytes of a row's drawing.
+fn drawn(rt: &(impl AllocGlobal + Abort), call: &str) -> Result<String, Fail> {
+    let (columns, call) = word_and_rest(call);
+    let (prompt, call) = word_and_rest(call);
+    let (line, info) = word_and_rest(call);
+    let mut screen = screen(
+        VecSink::new(rt.alloc()),
+        columns.parse()?,
+        BellStyle::Audible,
+    );
+    let prompt = if prompt == "none" { "" } else { prompt };
+    let prompt = meant(rt.alloc(), prompt)?;
+    let (line, place) = line_and_place(rt.alloc(), line)?;
+    let (before, _) = line.as_str().split_at_checked(place).ok_or("no place")?;
+    let shown = Shown {
+        prompt: prompt.as_str(),
+        line: line.as_str(),
+        before,
+        info,
+    };
+    draw(&mut screen, shown)?;
+    Ok(pictured_bytes(rt.alloc(), screen.into_sink().bytes())?)
+}
+
+fn draws(rt: &(impl AllocGlobal + Abort), table: &str) -> Result<(), Fail> {
+    for row in table.lines() {
+        if let Some((call, answer)) = call_and_answer(row) {
+            let said = drawn(rt, call)?;
+            assert_eq!(rt; said.as_str(), answer, "{row}");
+        }
+    }
+    Ok(())
+}
+
+#[test]
+fn draws_lines(rt: HostRuntime) -> Result<(), Fail> {
+    draws(&rt, LINES)?;
+    draws(&rt, MARGINS)
+}
+
+#[test]
+fn draws_over_and_without_an_older_drawing(rt: HostRuntime) -> Result<(), Fail> {
+    let shown = Shown {
+        prompt: "> ",
+        line: "ab",
+        before: "ab",
+        info: "",
+    };
+    let mut screen = screen(VecSink::new(rt.alloc()), 4, BellStyle::Audible);
+    let layout = layout_of(&screen, shown);
+    screen.refresh_line("> ", "abc", "", Some(layout), &layout)?;
+    screen.refresh_line("> ", "ab", "", None, &layout)?;
+    screen.clear_rows(&layout)?;
+    let said = pictured_bytes(rt.alloc(), screen.into_sink().bytes())?;
+    assert_eq!(rt;
+        said.as_str(),
+        "␛[1A␍␛[J␛[m> ␛[mab␍␊c␛[m␛[m␛[m> ␛[mab␍␊␛[m␛[m␛[1A␍␛[J"
+    );
+    Ok(())
+}
+
+// The bell, and a call: the bytes.
+const CALLS: &str = "
+    audible up          = ␛[2A␛[10D
+    audible stay        = nothing
+    audible down        = ␛[2B␛[10C
+    audible write c     = c
+    audible clear_to_eol = ␛[K
+    audible clear_screen = ␛[H␛[J
+    audible beep        = ␇
+    none beep           = nothing
+    visible beep        = nothing
+";
+
+// Makes a call that sends bytes.
+fn call_made<D: Sink>(
+    screen: &mut ScreenRenderer<D>,
+    call: &str,
+    text: &str,
+) -> Result<(), ReadlineError> {
+    let here = Position { col: 12, row: 3 };
+    let there = Position { col: 2, row: 1 };
+    let layout = Layout::new(GraphemeClusterMode::Unicode);
+    match call {
+        "up" => screen.move_cursor(here, there),
+        "stay" => screen.move_cursor(here, here),
+        "down" => screen.move_cursor(there, here),
+        "write" => screen.write_and_flush(text),
+        "beep" => screen.beep(),
+        "clear_to_eol" => screen.clear_to_eol(),
+        "clear_screen" => screen.clear_screen(),
+        "clear_rows" => screen.clear_rows(&layout),
+        _ => screen.refresh_line("> ", text, "", None, &layout),
+    }
+}
+
+fn bell_of(word: &str) -> BellStyle {
+    match word {
+        "audible" => BellStyle::Audible,
+        "visible" => BellStyle::Visible,
+        _ => BellStyle::None,
+    }
+}
+
+#[test]
+fn makes_the_other_calls(rt: HostRuntime) -> Result<(), Fail> {
+    for row in CALLS.lines() {
+        if let Some((call, answer)) = call_and_answer(row) {
+            let (bell, call) = word_and_rest(call);
+            let (call, text) = word_and_rest(call);
+            let mut screen = screen(VecSink::new(rt.alloc()), 80, bell_of(bell));
+            call_made(&mut screen, call, text)?;
+            let said = pictured_bytes(rt.alloc(), screen.into_sink().bytes())?;
+            assert_eq!(rt; or_nothing(said.as_str()), answer, "{row}");
+        }
+    }
+    let screen = screen(VecSink::new(rt.alloc()), 80, BellStyle::Audible);
+    assert_eq!(rt; (screen.get_columns(), screen.get_rows()), (80, 65535));
+    assert!(rt; !screen.colors_enabled() && !screen.failed());
+    Ok(())
+}
+
+// What a call that is refused answers, and the calls behind it.
+fn refused(screen: &mut ScreenRenderer<FailsAfter>) -> bool {
+    let shown = Shown {
+        prompt: "> ",
+        line: "e\u{301}\u{6F22}ab",
+        before: "",
+        info: "hint",
+    };
+    let refusal = Err(ReadlineError::Display);
+    draw(screen, shown) == refusal
+        && screen.failed()
+        && screen.beep() == refusal
+        && screen.clear_screen() == refusal
+}
+
+/// The whole drawing takes more than twelve writes.
+#[test]
+fn answers_each_failed_write(rt: HostRuntime) {
+    for writes in 0..12 {
+        let mut screen = screen(FailsAfter::new(writes), 4, BellStyle::Audible);
+        assert!(rt; refused(&mut screen), "after {writes}");
+    }
+}
+
+// Calls, and whether they write anything; nothing waits behind them.
+const PASSED_ON: &str = "
+    refresh_line ab     = written
+    up                  = written
+    write a             = written
+    beep                = written
+    clear_screen        = written
+    clear_rows          = written
+    clear_to_eol        = written
+    stay                = nothing
+";
+
+#[test]
+fn passes_on_what_it_wrote(rt: HostRuntime) -> Result<(), Fail> {
+    for row in PASSED_ON.lines() {
+        if let Some((call, answer)) = call_and_answer(row) {
+            let (call, text) = word_and_rest(call);
+            let mut screen = screen(Gathers::new(), 80, BellStyle::Audible);
+            call_made(&mut screen, call, text)?;
+            assert_eq!(rt; screen.into_sink().told(), answer, "{row}");
+        }
+    }
+    Ok(())
+}
+
+#[test]
+fn has_laws(_: HostRuntime) {
+    laws::full_drawing();
+    laws::start();
+    laws::calls();
+    laws::short_insertions();
+    laws::short_kills();
+    laws::chains();
+    laws::meaning();
+    laws::cells();
+}

@@ -1,0 +1,97 @@
+//! Sinks that fail, and that know what waits in them.
+
+ghost use Rattle.std.specs.Prelude.{[], false};
+
+use line_config::{DeviceFailed, Sink};
+
+/// A sink that fails for good after so many writes.
+#[derive(Drop)]
+pub(crate) struct FailsAfter {
+    writes: u32,
+    failed: bool,
+}
+
+impl FailsAfter {
+    pub(crate) fn new(writes: u32) -> Self {
+        FailsAfter {
+            writes,
+            failed: false,
+        }
+    }
+}
+
+impl Sink for FailsAfter {
+    ghost told = { λ _. false };
+
+    ghost held = { λ _. [] };
+
+    ghost has_failed = { λ s. s.failed };
+
+    fn write(&mut self, _: &[u8]) -> Result<(), DeviceFailed> {
+        if self.failed || self.writes == 0 {
+            self.failed = true;
+            return Err(DeviceFailed);
+        }
+        self.writes -= 1;
+        Ok(())
+    }
+
+    fn flush(&mut self) -> Result<(), DeviceFailed> {
+        if self.failed {
+            return Err(DeviceFailed);
+        }
+        Ok(())
+    }
+
+    fn failed(&self) -> bool {
+        self.failed
+    }
+}
+
+/// A sink that knows whether something waits to be passed on.
+#[derive(Drop)]
+pub(crate) struct Gathers {
+    waiting: bool,
+    writes: u32,
+}
+
+impl Gathers {
+    pub(crate) fn new() -> Self {
+        Gathers {
+            waiting: false,
+            writes: 0,
+        }
+    }
+
+    /// What happened to it.
+    pub(crate) fn told(&self) -> &'static str {
+        match self {
+            Gathers { waiting: true, .. } => "waiting",
+            Gathers { writes: 0, .. } => "nothing",
+            _ => "written",
+        }
+    }
+}
+
+impl Sink for Gathers {
+    ghost told = { λ _. false };
+
+    ghost held = { λ _. [] };
+
+    ghost has_failed = { λ _. false };
+
+    fn write(&mut self, _: &[u8]) -> Result<(), DeviceFailed> {
+        self.waiting = true;
+        self.writes = self.writes.saturating_add(1);
+        Ok(())
+    }
+
+    fn flush(&mut self) -> Result<(), DeviceFailed> {
+        self.waiting = false;
+        Ok(())
+    }
+
+    fn failed(&self) -> bool {
+        false
+    }
+}

@@ -1,0 +1,45 @@
+-- What a test types, as what is to come from a reader.
+use Rattle.std.specs.Prelude.{Bool, true, false, List, [], ◌∷◌, Option, Some, None, if◌then◌else◌}
+use Rattle.line_config.specs.declared.errors.ReadlineError.{ReadlineError}
+use Rattle.line_config.specs.declared.errors.ReadlineError.TheVariants.{Eof, NotUtf8, PasteOutOfPlace, Reader, Memory}
+use Rattle.line_keys.specs.Coming.{Coming, Pressed, Pasted, CutOff, Ends, Refused, LastItem}
+use Rattle.line_keys.specs.Coming as coming
+use Rattle.stand_ins.specs.declared.readers.Typed.{Typed}
+use Rattle.stand_ins.specs.declared.readers.Typed.TheVariants.{Key, Paste}
+use Rattle.stand_ins.specs.declared.readers.After.{After}
+use Rattle.stand_ins.specs.declared.readers.After.TheVariants.{End, Bad, Failed}
+
+abbrev pub last_item : After → LastItem
+last_item End = coming.End
+last_item Bad = coming.Bad
+last_item Failed = coming.Failed
+
+abbrev pub keys_then : List Typed → Coming → Coming
+keys_then [] tail = tail
+keys_then (Key k ∷ rest) tail = Pressed k (keys_then rest tail)
+keys_then (Paste t ∷ rest) tail = Pasted t (keys_then rest tail)
+
+abbrev pub coming_after : List Typed → Bool → After → Coming
+coming_after typed cut last = keys_then typed (if cut then CutOff (last_item last) else Ends (last_item last))
+
+abbrev pub coming_unless : Option ReadlineError → Coming → Coming
+coming_unless None c = c
+coming_unless (Some why) c = Refused why
+
+abbrev pub refusal_after : After → ReadlineError
+refusal_after End = Eof
+refusal_after Bad = NotUtf8
+refusal_after Failed = Reader
+
+abbrev pub kept_refusal : ReadlineError → Option ReadlineError → Option ReadlineError
+kept_refusal Eof before = before
+kept_refusal why before = Some why
+
+-- a kept refusal is one of a reader, and not the end of the input
+abbrev pub lasts : Option ReadlineError → Bool
+lasts None = true
+lasts (Some NotUtf8) = true
+lasts (Some PasteOutOfPlace) = true
+lasts (Some Reader) = true
+lasts (Some Memory) = true
+lasts (Some why) = false

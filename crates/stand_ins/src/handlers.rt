@@ -1,0 +1,82 @@
+//! Handlers of keys.
+
+ghost use Rattle.std.specs.Prelude.{◌≡◌};
+
+use line_buffer::{Movement, RepeatCount};
+use line_config::HookFault;
+use line_keys::{Cmd, ConditionalEventHandler, Event, EventContext};
+use std::alloc::Global;
+
+/// Answers in one way, whatever it is shown.
+#[derive(Drop)]
+pub enum OneWay {
+    /// What it is shown of the count: `Undo` of it, or `TransposeWords` where it is negative.
+    Count,
+    /// No command.
+    Nothing,
+    /// That it failed.
+    Fails,
+    /// That it wants memory.
+    WantsMemory,
+}
+
+impl ConditionalEventHandler for OneWay {
+    ghost use Rattle.stand_ins.specs.Handlers.{one_way};
+
+    ghost meaning = { one_way };
+
+    fn handle(
+        &self,
+        _: Global,
+        _: &Event,
+        n: RepeatCount,
+        positive: bool,
+        _: &EventContext<'_>,
+    ) -> Result<Option<Cmd>, HookFault> {
+        match self {
+            OneWay::Count if positive => Ok(Some(Cmd::Undo(n))),
+            OneWay::Count => Ok(Some(Cmd::TransposeWords(n))),
+            OneWay::Nothing => Ok(None),
+            OneWay::Fails => Err(HookFault::Failed),
+            OneWay::WantsMemory => Err(HookFault::Memory),
+        }
+    }
+}
+
+/// Takes the hint at the end of the line, kills what follows elsewhere, and fails in an empty line.
+#[derive(Drop)]
+pub struct HintOrKill {
+    /// Answers nothing where the count is greater.
+    pub most: RepeatCount,
+}
+
+impl ConditionalEventHandler for HintOrKill {
+    ghost use Rattle.stand_ins.specs.Handlers.{hint_or_kill};
+
+    ghost meaning = { λ h. hint_or_kill h.most };
+
+    fn handle(
+        &self,
+        _: Global,
+        _: &Event,
+        n: RepeatCount,
+        positive: bool,
+        ctx: &EventContext<'_>,
+    ) -> Result<Option<Cmd>, HookFault> {
+        if ctx.line().is_empty() {
+            return Err(HookFault::Failed);
+        }
+        if n > self.most {
+            return Ok(None);
+        }
+        if ctx.has_hint() && ctx.pos() == ctx.line().len() {
+            return Ok(Some(Cmd::CompleteHint));
+        }
+        let movement = if positive {
+            Movement::ForwardChar(n)
+        } else {
+            Movement::BackwardChar(n)
+        };
+        Ok(Some(Cmd::Kill(movement)))
+    }
+}
