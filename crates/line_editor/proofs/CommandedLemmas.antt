@@ -182,7 +182,7 @@ module _ {Out H Hi K T : Type 0} {renderer : renderers.Renderer.Ghosts Out} {com
     phrase_ended s t i' c' e q is h =
         let p : Enacted Cmd = (phrased custom indent i r c) (setting_of s) (value_of s) in
         let same : turned_by (setting_of s) indent r (Err e) p ≡ turning custom indent i r c (setting_of s) (value_of s) =
-            ap (λ x. turned_by (setting_of s) indent r x p) h.answer_is ∙ turn_at s in
+        ap (λ x. turned_by (setting_of s) indent r x p) h.answer_is ∙ turn_at s in
         record {
           does = does_as (phrased_made custom indent i r c) (made custom indent i r c) s t (Ok (tt {0})) (ap (λ x. x.made) same) h.does;
           outcome_is = is ∙ ap (λ x. x.outcome) same;
@@ -199,7 +199,9 @@ module _ {Out H Hi K T : Type 0} {renderer : renderers.Renderer.Ghosts Out} {com
         → Enacting steady (followed s) s t i' c' q → Enacting steady (phrased custom indent i r c) s t i' c' q
     as_phrased steady s t i' c' q (inl h) = inl (record {
       does = does_as (λ a v. (followed s a v).made) (phrased_made custom indent i r c) s t (Ok (tt {0})) refl h.does;
-      answer_is = h.answer_is; input_is = h.input_is; rest_is = h.rest_is;
+      answer_is = h.answer_is;
+      input_is = h.input_is;
+      rest_is = h.rest_is;
     })
     as_phrased steady s t i' c' q (inr cut) = inr (record { fault = cut.fault; result_is = cut.result_is; cause = cut.cause; stays = cut.stays; begun = cut.begun })
 
@@ -267,7 +269,11 @@ module _ {Out H Hi K T : Type 0} {renderer : renderers.Renderer.Ghosts Out} {com
       subst (λ x. Takes custom indent s i r f t i' r f' x) (sym (is_err e q is)) (record {
         goes = λ told. stopped_by custom indent i r s t f.steady i' f.coming f'.coming e (as_phrased custom indent i r f.coming f.steady s t i' f'.coming (Err e)
             (goes_enacts f.steady (line_phrase custom i (shown_in (value_of s)) f.coming) s t i i' f.coming f'.coming (Err e) (h.goes told)));
-        told = h.told; steady = h.steady; keeps = h.keeps; falls = tt; mode = h.mode;
+        told = h.told;
+        steady = h.steady;
+        keeps = h.keeps;
+        falls = tt;
+        mode = h.mode;
         reason = phrase_cause custom t f' e h.reason;
       })
 
@@ -285,6 +291,10 @@ module _ {Out H Hi K T : Type 0} {renderer : renderers.Renderer.Ghosts Out} {com
   turn_commanded custom indent s m t i i1 r q ring' f f1 cmd result h falls reset k = record {
     goes = λ told. commanded_by custom indent i r s m t f.steady i1 f.coming f1.coming cmd q ring' result (as_phrased custom indent i r f.coming f.steady s m i1 f1.coming (Ok cmd)
         (goes_enacts f.steady (line_phrase custom i (shown_in (value_of s)) f.coming) s m i i1 f.coming f1.coming (Ok cmd) (h.goes told))) reset k;
-    told = h.told; steady = h.steady; keeps = h.keeps; falls = fell result f1.bound f.bound falls; mode = h.mode;
+    told = h.told;
+    steady = h.steady;
+    keeps = h.keeps;
+    falls = fell result f1.bound f.bound falls;
+    mode = h.mode;
     reason = executes_cause custom m t f1 (means_of i1 indent q) cmd ring' result k;
   }

@@ -28,7 +28,14 @@ module _ {Out H Hi K T : Type 0} {renderer : renderers.Renderer.Ghosts Out} {com
     {hinter : hints.Hinter.Ghosts H T} {hint : hints.Hint.Ghosts T} {highlighter : highlights.Highlighter.Ghosts H} {validator : verdicts.Validator.Ghosts H} {history : histories.History.Ghosts Hi} where
   pub stays_same : (s : State Out H Hi K T renderer completer candidate hinter hint highlighter validator history) → Stays s s
   stays_same s = record {
-    ruler = refl; prompt = refl; history_is = refl; hints_are = refl; hinting_is = refl; verdicts_are = refl; validating_is = refl; marks_are = refl;
+    ruler = refl;
+    prompt = refl;
+    history_is = refl;
+    hints_are = refl;
+    hinting_is = refl;
+    verdicts_are = refl;
+    validating_is = refl;
+    marks_are = refl;
   }
 
   pub nothing_done : (s : State Out H Hi K T renderer completer candidate hinter hint highlighter validator history) → Does {A = Unit {0}} unchanged s s (Ok (tt {0}))
@@ -53,7 +60,10 @@ module _ {Out H Hi K T : Type 0} {renderer : renderers.Renderer.Ghosts Out} {com
   cut_here : {A : Type 0} (steady : Bool) (edit : Edit) (s t : State Out H Hi K T renderer completer candidate hinter hint highlighter validator history) (e : ReadlineError) (r : Result A ReadlineError)
       → r ≡ Err e → t ≡ s → Reason s e ⊎ ((e ≡ Reader) × IsFalse steady) → Cut steady edit s t r
   cut_here {A} steady edit s t e r is same why = subst (λ x. Cut {A = A} steady edit s x r) (sym same) (record {
-    fault = e; result_is = is; cause = why; stays = stays_same s;
+    fault = e;
+    result_is = is;
+    cause = why;
+    stays = stays_same s;
     begun = begun_none renderer.canvas (asked (renderer.canvas.ruler s.out) s.layout (edit (setting_of s) (value_of s)).redraws).calls s.out s.out refl;
   })
 
@@ -93,7 +103,7 @@ module _ {Out H Hi K T : Type 0} {renderer : renderers.Renderer.Ghosts Out} {com
       let whole : Edit = λ a v. (enacted a (Asks ask later) i v c).made in
       let second : Does {A = Unit {0}} (λ a v. (next a v).made) m t (Ok (tt {0})) = does_as (λ a v. (enacted a (later (shown_in (value_of m))) i v c).made) (λ a v. (next a v).made) m t (Ok (tt {0})) refl e.does in
       let same : next (setting_of m) (value_of m) ≡ next (setting_of s) (ask_effect ask (setting_of s) (value_of s)).value =
-          ap (λ a. next a (value_of m)) (setting_stays s m made.stays) ∙ ap (next (setting_of s)) made.value in
+      ap (λ a. next a (value_of m)) (setting_stays s m made.stays) ∙ ap (next (setting_of s)) made.value in
       inl (record {
         does = does_as (then_do (ask_effect ask) (λ a v. (next a v).made)) whole s t (Ok (tt {0})) refl (does_both (ask_effect ask) (λ a v. (next a v).made) s m t (tt {0}) (Ok (tt {0})) made second);
         answer_is = e.answer_is ∙ ap (λ p. p.answer) same;
@@ -106,7 +116,7 @@ module _ {Out H Hi K T : Type 0} {renderer : renderers.Renderer.Ghosts Out} {com
       let whole : Edit = λ a v. (enacted a (Asks ask later) i v c).made in
       let second : Does {A = Unit {0}} next m t (Err Memory) = does_as here next m t (Err Memory) refl (as_refused steady here m t r cut) in
       inr (cut_as {A = X} {B = X} {C = Unit {0}} steady here whole s m t r r cut cut.result_is
-          (does_as (then_do (ask_effect ask) next) whole s t (Err Memory) refl (does_both (ask_effect ask) next s m t (tt {0}) (Err Memory) made second)))
+      (does_as (then_do (ask_effect ask) next) whole s t (Err Memory) refl (does_both (ask_effect ask) next s m t (tt {0}) (Err Memory) made second)))
 
   -- refused at an ask
   asked_last : {X : Type 0} (steady : Bool) (ask : _) (later : _ → Script X) (i : Input) (c : Coming) (s t : State Out H Hi K T renderer completer candidate hinter hint highlighter validator history)
@@ -121,7 +131,9 @@ module _ {Out H Hi K T : Type 0} {renderer : renderers.Renderer.Ghosts Out} {com
       (i i' : Input) (c c' : Coming) (r : Result X ReadlineError) → Goes display_of steady script s i c r t i' c' → Enacting steady (λ a v. enacted a script i v c) s t i' c' r
   goes_enacts {X} steady (Ends answer) s t i i' c c' r is = inl (record {
     does = subst (λ x. Does {A = Unit {0}} (λ a v. (enacted a (Ends answer) i v c).made) s x (Ok (tt {0}))) (sym is.1) (nothing_done s);
-    answer_is = is.0; input_is = is.2; rest_is = is.3;
+    answer_is = is.0;
+    input_is = is.2;
+    rest_is = is.3;
   })
   goes_enacts steady (Needs later) s t i i' c c' r (inl goes) = goes_enacts steady later s t i i' c c' r goes
   goes_enacts steady (Needs later) s t i i' c c' r (inr cut) = inr (cut_here steady (λ a v. (enacted a later i v c).made) s t Memory r cut.0 cut.1 (inl tt))
