@@ -1,2 +1,0 @@
-pub mod Rulers
-pub mod Verdicts
