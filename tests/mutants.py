@@ -232,8 +232,8 @@ class Said:
     """What a check says of each function."""
 
     FUNCTION = re.compile(r"(?m)^fn (\S+): (proved|not proved|no proof|could not tell)(.*)$")
-    # A call of what is not proved is no fault of the function that makes it.
-    CALLS = re.compile(r"\bit calls .*?, which (?:is|are) not proved")
+    # A call of what is not proved, or a block handed on, is no fault of the function that makes it.
+    CALLS = re.compile(r"\bit (?:calls|passes the block) .*?, which (?:is|are) not proved")
     UNPROVED = re.compile(r"(?s).*?did not prove (.*?)(?:; it calls.*|\Z)")
     OPEN = re.compile(r"(?m)^note: (src/\S+?):(\d+):\d+: it is not proved that .*?\(`([^`]+)`\)(.*)$")
     WAITS = re.compile(r"(?m)^note: `search` has not tried the goals of `([^`]+)`, which wait for a callee's proof")
