@@ -7,5 +7,8 @@ pub mod Cells
 pub mod Drawing
 pub mod Endings
 pub mod Session
+pub mod Sessions
+pub mod Playing
+pub mod Desks
 pub mod Opened
 pub mod Turns
