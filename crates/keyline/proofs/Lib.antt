@@ -1,4 +1,5 @@
 mod Rows
+pub mod CloseLemmas
 pub mod DrawnLemmas
 pub mod KeyLemmas
 pub mod LineLemmas

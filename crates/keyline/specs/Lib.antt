@@ -9,6 +9,6 @@ pub mod Endings
 pub mod Session
 pub mod Sessions
 pub mod Playing
-pub mod Desks
+pub mod Closing
 pub mod Opened
 pub mod Turns

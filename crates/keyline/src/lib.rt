@@ -7,6 +7,7 @@
 #![tactic(auto)]
 
 pub mod command;
+mod desk;
 mod editor;
 pub mod ending;
 pub mod laws;
