@@ -10,5 +10,6 @@ pub mod Session
 pub mod Sessions
 pub mod Playing
 pub mod Closing
+pub mod Desks
 pub mod Opened
 pub mod Turns

@@ -1,35 +1,15 @@
 -- What a session makes of its devices and its history: all that the definition says, or a beginning
 -- of it.
-use Rattle.std.specs.Prelude.{◌≡◌, ◌⊎◌, ⊤, ℕ, ◌<◌, ◌≤◌, Bool, true, false, List, [], ◌∷◌, ◌++◌, length, Option, option_map, IfSome, Result, Ok, Err, IsTrue, IsFalse}
+use Rattle.std.specs.Prelude.{◌≡◌, ◌⊎◌, ⊤, ℕ, ◌≤◌, Bool, true, false, List, [], ◌∷◌, ◌++◌, length, Result, Ok, Err, IsTrue, IsFalse}
 use Rattle.line_config.specs.declared.errors.ReadlineError.{ReadlineError}
 use Rattle.line_config.specs.declared.errors.ReadlineError.TheVariants.{Eof, Interrupted, NotUtf8, PasteOutOfPlace, Reader, Display, Lines, HistoryText, Helper, Handler, Memory}
 use Rattle.line_config.specs.Sending.{Takes}
-use Rattle.line_help.specs.Hints.{Hinted, Answers}
+use Rattle.line_editor.specs.Running.{HelperFails}
 use Rattle.line_help.specs.History.{Filed, all_saved}
 use Rattle.line_help.specs.HistoryText.{text_to_save}
-use Rattle.line_help.specs.declared.validate.ValidationResult.{ValidationResult}
-use Rattle.line_keys.specs.Answers.{Custom, HandlerFails}
+use Rattle.line_keys.specs.Answers.{HandlerFails}
 use Rattle.line_keys.specs.Coming.{made_of}
-use Rattle.keyline.specs.Sessions.{Given, Advice, Report, remembered, history_after, lines_text, display_bytes}
-use Rattle.keyline.specs.Endings.{ending_of}
-use Rattle.keyline.specs.declared.ending.Ending.{Ending}
-
--- a helper by its functions
-abbrev pub advice_of : {H : Type 0} → (H → Answers (Option Hinted)) → (H → Answers Bool)
-    → (H → List ℕ → ValidationResult) → (H → List ℕ → Bool) → Option H → Advice
-advice_of hints hinting_fails judge judging_fails helper = record {
-  hints = option_map hints helper;
-  hinting_fails = option_map hinting_fails helper;
-  judge = option_map judge helper;
-  judging_fails = option_map judging_fails helper;
-}
-
--- it fails at something
-abbrev pub AdviceFails : Advice → Type 0
-AdviceFails advice =
-    IfSome advice.hinting_fails (λ fails. (text : List ℕ) × (place : ℕ) × (entries : List (List ℕ))
-    × (at : ℕ) × IsTrue (fails text place entries at))
-    ⊎ IfSome advice.judging_fails (λ fails. (text : List ℕ) × IsTrue (fails text))
+use Rattle.keyline.specs.Sessions.{Given, Report, remembered, history_after, lines_text, display_bytes}
 
 -- the faults that no input gives: a failure of a source that isn't steady is one
 abbrev pub CutsBy : Bool → ReadlineError → Type 0
@@ -45,19 +25,20 @@ CutsBy steady Helper = ⊤
 CutsBy steady Handler = ⊥
 CutsBy steady Memory = ⊤
 
--- why lines are read no further, by which devices have failed
-abbrev pub Reason : Given → Bool → Bool → Bool → ReadlineError → Type 0
-Reason g source display lines Eof = ⊤
-Reason g source display lines Interrupted = ⊤
-Reason g source display lines NotUtf8 = ⊤
-Reason g source display lines PasteOutOfPlace = ⊤
-Reason g source display lines Reader = IsTrue source
-Reason g source display lines Display = IsTrue display
-Reason g source display lines Lines = IsTrue lines
-Reason g source display lines HistoryText = ⊥
-Reason g source display lines Helper = AdviceFails g.advice
-Reason g source display lines Handler = HandlerFails g.custom
-Reason g source display lines Memory = ⊤
+-- why lines are read no further: what was given, or a device that has failed
+abbrev pub Reason : Bool → Given → Bool → Bool → Bool → ReadlineError → Type 0
+Reason told g source display lines Eof = ⊤
+Reason told g source display lines Interrupted = ⊤
+Reason told g source display lines NotUtf8 = ⊤
+Reason told g source display lines PasteOutOfPlace = ⊤
+Reason told g source display lines Reader = IsTrue source
+Reason told g source display lines Display = IsTrue display
+Reason told g source display lines Lines = IsTrue lines
+Reason told g source display lines HistoryText = ⊥
+Reason told g source display lines Helper = IsTrue told
+    → (shown : List (List ℕ)) × HelperFails g.helping shown
+Reason told g source display lines Handler = HandlerFails g.custom
+Reason told g source display lines Memory = ⊤
 
 -- what lines are drawn on, written to and kept in
 pub record Work (D L : Type 0) : Type 0 where

@@ -1,36 +1,24 @@
 -- A session: lines read one after the other; what is written, kept and drawn of them, and how it ends.
-use Rattle.std.specs.Prelude.{ℕ, zero, suc, Bool, true, false, if◌then◌else◌, List, [], ◌∷◌, ◌++◌, Option, Some, None, Result, Ok, Err}
+use Rattle.std.specs.Prelude.{ℕ, zero, suc, Bool, true, if◌then◌else◌, List, [], ◌∷◌, ◌++◌, Result, Ok, Err}
 use Rattle.std.specs.List.{flat_map}
-use Rattle.line_buffer.specs.Cells.{origin}
 use Rattle.line_config.specs.declared.config.Config.{Config}
 use Rattle.line_config.specs.declared.device.Last.{Last}
 use Rattle.line_config.specs.declared.errors.ReadlineError.{ReadlineError}
 use Rattle.line_config.specs.declared.errors.ReadlineError.TheVariants.{Memory}
 use Rattle.line_config.specs.declared.settings.EditMode.{EditMode}
-use Rattle.line_help.specs.declared.validate.ValidationResult.{ValidationResult}
-use Rattle.line_help.specs.Hints.{Hinted, Answers}
 use Rattle.line_help.specs.History.{Filed, filed_with_all}
 use Rattle.line_keys.specs.Answers.{Custom}
 use Rattle.line_keys.specs.Coming.{Coming}
-use Rattle.line_keys.specs.InputStates.{new_input}
 use Rattle.line_record.specs.Ring.{Ring, new_ring}
 use Rattle.line_editor.specs.Calls.{Call}
-use Rattle.line_editor.specs.Courses.{Turn, breaks_after, redraws_in}
-use Rattle.line_editor.specs.Lines.{Told, line_of}
-use Rattle.line_editor.specs.Redraws.{asked, fresh}
+use Rattle.line_editor.specs.Courses.{Turn, breaks_after}
+use Rattle.line_editor.specs.Lines.{Told}
+use Rattle.line_editor.specs.Running.{Helping, setting_by, line_meant, line_calls}
 use Rattle.line_editor.specs.Values.{Setting}
 use Rattle.line_screen.specs.Calls.{Screen, bytes_of, ruler_of}
 use Rattle.line_screen.specs.Drawing.{break_if}
 use Rattle.line_screen.specs.Input.{chars_of}
 use Rattle.line_screen.specs.KeyGrammar.{readings, coming_of}
-use Rattle.line_screen.specs.Measure.{measure_of}
-
--- what a helper answers, and where it fails
-pub record Advice : Type 0 where
-  pub hints : Option (Answers (Option Hinted))
-  pub hinting_fails : Option (Answers Bool)
-  pub judge : Option (List ℕ → ValidationResult)
-  pub judging_fails : Option (List ℕ → Bool)
 
 -- what is handed in for a session: settings, bindings, prompt, screen, and the helper's answers
 pub record Given : Type 0 where
@@ -38,7 +26,16 @@ pub record Given : Type 0 where
   pub custom : Custom
   pub prompt : List ℕ
   pub screen : Screen
-  pub advice : Advice
+  pub helping : Helping
+
+abbrev pub given_by : Config → Custom → List ℕ → Screen → Helping → Given
+given_by config custom prompt screen helping = record {
+  config = config;
+  custom = custom;
+  prompt = prompt;
+  screen = screen;
+  helping = helping;
+}
 
 -- what goes on from line to line
 pub record Standing : Type 0 where
@@ -55,21 +52,14 @@ abbrev pub at_first : Filed → Coming → Standing
 at_first history coming =
     record { ring = new_ring 60; history = history; coming = coming }
 
+-- what is handed in for the next line
 abbrev pub setting_in : Given → List (List ℕ) → Setting
-setting_in g entries = record {
-  prompt = g.prompt;
-  column = (measure_of g.screen.mode g.screen.columns g.prompt origin).col;
-  mode = g.screen.mode;
-  hints = g.advice.hints;
-  judge = g.advice.judge;
-  marks = None;
-  entries = entries;
-}
+setting_in g entries = setting_by (ruler_of g.screen) g.prompt g.helping entries
 
 -- the next line. More fuel than the source has keys and pastes is enough
 abbrev pub line_in : ℕ → Given → Standing → Told
-line_in fuel g x = line_of fuel (setting_in g x.history.kept.entries) g.custom g.config.indent_size
-    (new_input g.config.edit_mode) x.ring x.coming
+line_in n g x =
+    line_meant n (setting_in g x.history.kept.entries) g.custom g.config x.ring x.coming
 
 -- accepted lines are added to the history where the settings say so
 abbrev pub remembered : Bool → List (List ℕ) → Filed → Filed
@@ -116,9 +106,8 @@ line_text text = text ++ 0x0A ∷ []
 abbrev pub lines_text : List (List ℕ) → List ℕ
 lines_text lines = flat_map line_text lines
 
--- a line's calls begin with nothing drawn
 abbrev pub calls_of : Screen → Told → List Call
-calls_of s t = (asked (ruler_of s) (fresh s.mode) (flat_map redraws_in t.turns)).calls
+calls_of s t = line_calls (ruler_of s) t.turns
 
 -- after an accepted line, and after the endings that say so, the display gets a new row
 abbrev pub breaks : Result (List ℕ) ReadlineError → Bool

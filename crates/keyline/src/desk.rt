@@ -8,12 +8,14 @@ ghost use Rattle.line_keys.specs.Coming.{made_of};
 ghost use Rattle.line_screen.specs.Calls.{screen_of, sink_of};
 ghost use Rattle.keyline.specs.Calls.{TakesSome};
 ghost use Rattle.keyline.specs.Closing.{Closes, WritesLine, work};
-ghost use Rattle.keyline.specs.Sessions.{line_text, remembered};
+ghost use Rattle.keyline.specs.Sessions.{given_by, line_text, remembered};
 
-use line_config::{DeviceFailed, ReadlineError, Sink};
-use line_editor::Renderer;
-use line_help::{FileHistory, History};
-use line_screen::ScreenRenderer;
+use line_config::{Config, DeviceFailed, ReadlineError, Sink, Source};
+use line_editor::{Ran, Renderer, run};
+use line_help::{FileHistory, Helper, History};
+use line_keys::{Bindings, Decides, EventHandler};
+use line_record::KillRing;
+use line_screen::{KeyReader, ScreenRenderer};
 use std::alloc::Global;
 
 /// A text and a newline, flushed.
@@ -106,5 +108,71 @@ fn close<D: Sink + Drop, L: Sink>(
             }
             Err(why)
         }
+    }
+}
+
+/// What goes on from line to line, with the devices.
+pub(crate) struct Desk<S: Source, H, D: Sink, L: Sink> {
+    pub(crate) reader: KeyReader<S>,
+    pub(crate) out: ScreenRenderer<D>,
+    pub(crate) helper: Option<H>,
+    pub(crate) history: FileHistory,
+    pub(crate) ring: KillRing,
+    pub(crate) lines: L,
+}
+
+/// A desk after a line, and whether a line was accepted.
+pub(crate) struct Lined<S: Source, H, D: Sink, L: Sink> {
+    pub(crate) desk: Desk<S, H, D, L>,
+    pub(crate) outcome: Result<(), ReadlineError>,
+}
+
+impl<S: Source + Drop, H: Helper + Drop, D: Sink + Drop, L: Sink + Drop> Desk<S, H, D, L> {
+    ghost use Rattle.line_keys.specs.Answers.{custom_of};
+    ghost use Rattle.line_editor.specs.Running.{helping_by};
+    ghost use Rattle.keyline.specs.Desks.{TakesLine, known_by};
+
+    /// Reads a line, draws it, and keeps and writes it where it is accepted.
+    fn one_line(
+        self,
+        alloc: Global,
+        config: &Config,
+        bindings: &Bindings,
+        prompt: &str,
+    ) -> Lined<S, H, D, L>
+        ensures { let custom = custom_of bindings.now ⟦<EventHandler as Decides>⟧.decides in
+            let helps = helping_by H.hint_of H.fails H.verdict_of H.validating_fails H.marks in
+            let given = given_by config.now custom prompt.now in
+            let known = known_by S.feed D.told D.held D.has_failed L.told L.held L.has_failed in
+            TakesLine known (given (screen_of self.out) (helps self.helper))
+            (given (screen_of result.desk.out) (helps result.desk.helper))
+            self result.desk result.outcome }
+    {
+        let Desk {
+            mut reader,
+            out,
+            helper,
+            mut history,
+            mut ring,
+            mut lines,
+        } = self;
+        let Ran {
+            mut out,
+            helper,
+            outcome,
+        } = run(
+            alloc, &mut reader, out, prompt, helper, &history, config, bindings, &mut ring,
+        );
+        let adds = config.auto_add_history();
+        let outcome = close(alloc, outcome, adds, &mut out, &mut history, &mut lines);
+        let desk = Desk {
+            reader,
+            out,
+            helper,
+            history,
+            ring,
+            lines,
+        };
+        Lined { desk, outcome }
     }
 }
