@@ -268,6 +268,7 @@ module _ {S H D L K T : Type 0} (k : Known S D L) (helps : Option H → Helping)
     takes_line runs closes screen = record {
       goes = λ t n b. lined (line_in n given (standing_of k old)) (runs.goes t n b) closes;
       given = lined_given runs screen;
+      custom = refl;
       told = runs.told;
       steady = runs.steady;
       falls = lined_falls runs closes.goes;
