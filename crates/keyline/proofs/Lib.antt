@@ -5,6 +5,7 @@ pub mod DrawnLemmas
 pub mod KeyLemmas
 pub mod LineLemmas
 pub mod SessionLemmas
+pub mod PlaysLemmas
 pub mod SessionSteps
 pub mod Taken
 pub mod Told

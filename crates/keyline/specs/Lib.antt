@@ -11,5 +11,6 @@ pub mod Sessions
 pub mod Playing
 pub mod Closing
 pub mod Desks
+pub mod Plays
 pub mod Opened
 pub mod Turns

@@ -112,6 +112,7 @@ fn close<D: Sink + Drop, L: Sink>(
 }
 
 /// What goes on from line to line, with the devices.
+#[derive(Drop)]
 pub(crate) struct Desk<S: Source, H, D: Sink, L: Sink> {
     pub(crate) reader: KeyReader<S>,
     pub(crate) out: ScreenRenderer<D>,

@@ -4,6 +4,7 @@ ghost use Rattle.std.specs.Prelude.{◌≡◌};
 ghost use Rattle.keyline.specs.Endings.{status_of, text_of};
 
 use line_buffer::OutOfMemory;
+use line_config::ReadlineError;
 
 /// The one way in which a session ended.
 #[derive(Clone, Copy, Debug, PartialEq, Eq)]
@@ -71,5 +72,28 @@ impl From<OutOfMemory> for Ending {
 
     fn from(_: OutOfMemory) -> Ending {
         Ending::Memory
+    }
+}
+
+impl From<ReadlineError> for Ending {
+    ghost use Rattle.std.specs.Prelude.{◌≡◌};
+    ghost use Rattle.keyline.specs.Endings.{ending_of};
+
+    ghost from_gives = { λ refusal ending. ending ≡ ending_of refusal };
+
+    fn from(refusal: ReadlineError) -> Ending {
+        match refusal {
+            ReadlineError::Eof => Ending::Eof,
+            ReadlineError::Interrupted => Ending::Interrupted,
+            ReadlineError::NotUtf8 => Ending::NotUtf8,
+            ReadlineError::PasteOutOfPlace => Ending::PasteOutOfPlace,
+            ReadlineError::Reader => Ending::Reader,
+            ReadlineError::Display => Ending::Display,
+            ReadlineError::Lines => Ending::Lines,
+            ReadlineError::HistoryText => Ending::HistoryText,
+            ReadlineError::Helper => Ending::Helper,
+            ReadlineError::Handler => Ending::Handler,
+            ReadlineError::Memory => Ending::Memory,
+        }
     }
 }

@@ -15,6 +15,7 @@ pub mod line;
 mod page;
 pub mod position;
 pub mod plain_session;
+pub mod session;
 
 pub use command::Command;
 pub use ending::Ending;
