@@ -3,6 +3,8 @@ pub mod BegunLemmas
 pub mod CommandsLead
 pub mod DoesLemmas
 pub mod LeadLemmas
+pub mod LoopLemmas
+pub mod CarriesLemmas
 pub mod ReachLemmas
 pub mod RefusedLemmas
 pub mod ReplaysLemmas
