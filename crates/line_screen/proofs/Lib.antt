@@ -1,3 +1,4 @@
+pub mod CallLemmas
 pub mod Cuts
 pub mod Draws
 pub mod EncodedChars
