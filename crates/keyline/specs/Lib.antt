@@ -7,5 +7,6 @@ pub mod Cells
 pub mod Drawing
 pub mod Endings
 pub mod Session
+pub mod Shows
 pub mod Opened
 pub mod Turns
