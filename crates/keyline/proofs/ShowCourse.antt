@@ -1,9 +1,9 @@
 -- The display over a whole session.
-use Rattle.std.proofs.Common.{◌≡◌, ℕ, ◌+◌, ◌<◌, ◌≤◌, Bool, true, false, List, [], ◌∷◌, ◌++◌, Some, refl, sym, ap, ◌∙◌, subst, append_assoc, append-nil, arith, if◌then◌else◌}
+use Rattle.std.proofs.Common.{◌≡◌, ℕ, ◌≤◌, Bool, true, false, List, [], ◌∷◌, ◌++◌, Some, refl, sym, ap, ◌∙◌, subst, append_assoc, append-nil, arith, if◌then◌else◌}
 use Rattle.std.specs.List.{filter, flat_map}
 use Rattle.line_buffer.specs.declared.layout.Layout.{Layout}
 use Rattle.line_editor.specs.Courses.{Turn, Open, Accept, Last, Course}
-use Rattle.line_editor.specs.Redraws.{Redraw, asked, one, fresh}
+use Rattle.line_editor.specs.Redraws.{Redraw, one, fresh}
 use Rattle.line_editor.specs.Sights.{Sight, no_sight, sight, sight_all, FitsAll}
 use Rattle.line_screen.specs.Calls.{Screen, bytes_of, ruler_of}
 use Rattle.line_screen.specs.Chain.{View, Good, empty_at}
@@ -82,9 +82,11 @@ module _ (s : Screen) (low : 2 ≤ s.columns) (high : s.columns ≤ 1000) (own :
       let layout = (drawn_by s l rs).layout in
       let done : Holds s new kept now layout y = subst (Holds s new kept now layout) t.leads (steps bytes over top l x rs h t.fits rows.0) in
       let means = closed new kept (view_in s now y) done.good true in
-      let next = next_line new kept now y done.good course.1 in
-      (means, shown_each (new ++ row_break) means.display.placed (next_top s now y) (fresh s.mode) no_sight rest
-      (fresh_holds s low high (new ++ row_break) means.display.placed (next_top s now y) (fresh s.mode) next) course.2 rows.1)
+      let next = next_line new kept now y done.good course.1 in (
+        means,
+        shown_each (new ++ row_break) means.display.placed (next_top s now y) (fresh s.mode) no_sight rest
+            (fresh_holds s low high (new ++ row_break) means.display.placed (next_top s now y) (fresh s.mode) next) course.2 rows.1,
+      )
   shown_each bytes over top l x (Last rs breaks ∷ rest) h course rows =
       let done = steps bytes over top l x rs h course rows in
       closed (bytes ++ bytes_for s l rs) (above_after rs over) (view_in s (top_after rs top) (sight_all x rs)) done.good breaks

@@ -1,12 +1,12 @@
 pub mod Calls
 pub mod Keys
 pub mod KeyLaws
+pub mod Shows
 pub mod Editing
 pub mod PlainLine
 pub mod Cells
 pub mod Drawing
 pub mod Endings
 pub mod Session
-pub mod Shows
 pub mod Opened
 pub mod Turns
