@@ -2,6 +2,7 @@ mod Rows
 pub mod DrawnLemmas
 pub mod KeyLemmas
 pub mod LineLemmas
+pub mod OneByteLemmas
 pub mod SessionLemmas
 pub mod ShowCourse
 pub mod ShowSteps
