@@ -1,12 +1,8 @@
-mod Rows
 pub mod CloseLemmas
 pub mod DeskLemmas
-pub mod DrawnLemmas
-pub mod KeyLemmas
-pub mod LineLemmas
-pub mod SessionLemmas
+pub mod OneByteLemmas
 pub mod PlaysLemmas
 pub mod SessionSteps
-pub mod Taken
+pub mod ShowCourse
+pub mod ShowSteps
 pub mod Told
-pub mod TurnLemmas

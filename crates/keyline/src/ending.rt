@@ -3,7 +3,6 @@
 ghost use Rattle.std.specs.Prelude.{◌≡◌};
 ghost use Rattle.keyline.specs.Endings.{status_of, text_of};
 
-use line_buffer::OutOfMemory;
 use line_config::ReadlineError;
 
 /// The one way in which a session ended.
@@ -34,12 +33,16 @@ pub enum Ending {
 }
 
 impl Ending {
-    /// The exit status of a program that ends with its session: 0 for the end of input, else 1.
+    /// The exit status of a program that ends with its session: 0 for the end of input, 130 for an
+    /// interruption, as a shell has it, 3 and 4 for input that can't be read on, and 1 for a fault.
     pub fn status(self) -> u8
         ensures { result ≡ status_of self }
     {
         match self {
             Ending::Eof => 0,
+            Ending::Interrupted => 130,
+            Ending::NotUtf8 => 3,
+            Ending::PasteOutOfPlace => 4,
             _ => 1,
         }
     }
@@ -61,17 +64,6 @@ impl Ending {
             Ending::Handler => "handler failed",
             Ending::Memory => "out of memory",
         }
-    }
-}
-
-impl From<OutOfMemory> for Ending {
-    ghost use Rattle.std.specs.Prelude.{◌≡◌};
-    ghost use Rattle.keyline.specs.declared.ending.Ending.{Ending};
-
-    ghost from_gives = { λ _ ending. ending ≡ Ending.Memory };
-
-    fn from(_: OutOfMemory) -> Ending {
-        Ending::Memory
     }
 }
 

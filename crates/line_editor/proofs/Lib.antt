@@ -2,9 +2,11 @@ pub mod AcceptLemmas
 pub mod BegunLemmas
 pub mod CommandsLead
 pub mod DoesLemmas
+pub mod KillLemmas
 pub mod LeadLemmas
 pub mod LoopLemmas
 pub mod CarriesLemmas
+pub mod LineLeads
 pub mod ReachLemmas
 pub mod RefusedLemmas
 pub mod ReplaysLemmas
