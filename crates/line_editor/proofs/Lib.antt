@@ -2,7 +2,9 @@ pub mod AcceptLemmas
 pub mod BegunLemmas
 pub mod CommandsLead
 pub mod DoesLemmas
+pub mod KillLemmas
 pub mod LeadLemmas
+pub mod LineLeads
 pub mod ReachLemmas
 pub mod RefusedLemmas
 pub mod ReplaysLemmas
