@@ -1,4 +1,6 @@
 mod Rows
+pub mod CloseLemmas
+pub mod DeskLemmas
 pub mod DrawnLemmas
 pub mod KeyLemmas
 pub mod LineLemmas

@@ -1,5 +1,7 @@
 -- The endings of a session: the status of a program that ends with it, and its words.
 use Rattle.std.specs.Prelude.{◌≡◌, ℕ, Bool, true, false, IsTrue, List, codes}
+use Rattle.line_config.specs.declared.errors.ReadlineError.{ReadlineError}
+use Rattle.line_config.specs.declared.errors.ReadlineError.TheVariants as Refusal
 use Rattle.keyline.specs.declared.ending.Ending.{Ending}
 use Rattle.keyline.specs.declared.ending.Ending.TheVariants.{Eof, Interrupted, NotUtf8, PasteOutOfPlace, Reader, Display, Lines, HistoryText, Helper, Handler, Memory}
 
@@ -39,3 +41,17 @@ abbrev pub IsMet : Bool → Ending → Type 0
 IsMet steady Eof = Unit {0}
 IsMet steady Reader = IsTrue steady
 IsMet steady _ = ⊥
+
+-- a refusal that ends a session, as its ending
+abbrev pub ending_of : ReadlineError → Ending
+ending_of Refusal.Eof = Eof
+ending_of Refusal.Interrupted = Interrupted
+ending_of Refusal.NotUtf8 = NotUtf8
+ending_of Refusal.PasteOutOfPlace = PasteOutOfPlace
+ending_of Refusal.Reader = Reader
+ending_of Refusal.Display = Display
+ending_of Refusal.Lines = Lines
+ending_of Refusal.HistoryText = HistoryText
+ending_of Refusal.Helper = Helper
+ending_of Refusal.Handler = Handler
+ending_of Refusal.Memory = Memory

@@ -9,5 +9,9 @@ pub mod Cells
 pub mod Drawing
 pub mod Endings
 pub mod Session
+pub mod Sessions
+pub mod Playing
+pub mod Closing
+pub mod Desks
 pub mod Opened
 pub mod Turns

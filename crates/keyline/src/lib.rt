@@ -7,16 +7,17 @@
 #![tactic(auto)]
 
 pub mod command;
+mod desk;
 mod editor;
 pub mod ending;
 pub mod laws;
 pub mod line;
 mod page;
 pub mod position;
-pub mod session;
+pub mod plain_session;
 
 pub use command::Command;
 pub use ending::Ending;
 pub use line_config::{DeviceFailed, ReadSource, Sink, SliceSource, Source, VecSink, WriteSink};
 pub use position::Position;
-pub use session::{Ended, OpenError, Session};
+pub use plain_session::{Ended, OpenError, Session};

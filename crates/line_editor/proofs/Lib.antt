@@ -11,6 +11,7 @@ pub mod ReplaysLemmas
 pub mod ReturnLemmas
 pub mod RowLemmas
 mod Rows
+pub mod RunLemmas
 pub mod TurnLemmas
 pub mod UndoAllLemmas
 pub mod UndoLemmas

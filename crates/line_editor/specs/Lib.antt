@@ -16,6 +16,7 @@ pub mod Redraws
 pub mod Remembering
 pub mod Returns
 pub mod Rewording
+pub mod Running
 pub mod Sights
 pub mod Starts
 pub mod States

@@ -53,7 +53,7 @@ pub enum OpenError {
 
 impl From<OutOfMemory> for OpenError {
     ghost use Rattle.std.specs.Prelude.{◌≡◌};
-    ghost use Rattle.keyline.specs.declared.session.OpenError.{OpenError};
+    ghost use Rattle.keyline.specs.declared.plain_session.OpenError.{OpenError};
 
     ghost from_gives = { λ _ error. error ≡ OpenError.Memory };
 
@@ -64,7 +64,7 @@ impl From<OutOfMemory> for OpenError {
 
 impl From<AllocError> for OpenError {
     ghost use Rattle.std.specs.Prelude.{◌≡◌};
-    ghost use Rattle.keyline.specs.declared.session.OpenError.{OpenError};
+    ghost use Rattle.keyline.specs.declared.plain_session.OpenError.{OpenError};
 
     ghost from_gives = { λ _ error. error ≡ OpenError.Memory };
 
