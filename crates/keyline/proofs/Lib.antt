@@ -5,6 +5,7 @@ pub mod DrawnLemmas
 pub mod KeyLemmas
 pub mod LineLemmas
 pub mod OneByteLemmas
+pub mod SessionCourse
 pub mod SessionLemmas
 pub mod ShowCourse
 pub mod ShowSteps

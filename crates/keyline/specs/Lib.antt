@@ -10,6 +10,7 @@ pub mod Drawing
 pub mod Endings
 pub mod Session
 pub mod Sessions
+pub mod SessionShows
 pub mod Playing
 pub mod Closing
 pub mod Desks

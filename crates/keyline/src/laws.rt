@@ -2,6 +2,7 @@
 
 ghost use Rattle.keyline.specs.KeyLaws.{WholeKeysMeanTheirCommands, BytesAreKeys};
 ghost use Rattle.keyline.specs.OneByte.{LayoutsTell, OneByte};
+ghost use Rattle.keyline.specs.SessionShows.{SessionsShow};
 ghost use Rattle.keyline.specs.Shows.{DrawingsShow};
 
 /// Bytes that are read as whole keys mean the same commands whatever follows, so it never matters
@@ -27,4 +28,10 @@ pub fn drawings_show()
 pub fn one_byte()
     ensures tells { LayoutsTell }
     ensures sends { OneByte }
+{}
+
+/// A session's display bytes are parts, one for each moment and one for each line's close, and up to
+/// each moment they show its value at its top.
+pub fn sessions_show()
+    ensures { SessionsShow }
 {}

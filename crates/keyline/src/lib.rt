@@ -13,11 +13,11 @@ pub mod ending;
 pub mod laws;
 pub mod line;
 mod page;
-pub mod position;
 pub mod plain_session;
+pub mod position;
 
 pub use command::Command;
 pub use ending::Ending;
 pub use line_config::{DeviceFailed, ReadSource, Sink, SliceSource, Source, VecSink, WriteSink};
-pub use position::Position;
 pub use plain_session::{Ended, OpenError, Session};
+pub use position::Position;
