@@ -1,14 +1,9 @@
-mod Rows
 pub mod CloseLemmas
 pub mod DeskLemmas
-pub mod DrawnLemmas
-pub mod KeyLemmas
-pub mod LineLemmas
 pub mod OneByteLemmas
+pub mod PlaysLemmas
 pub mod SessionCourse
-pub mod SessionLemmas
+pub mod SessionSteps
 pub mod ShowCourse
 pub mod ShowSteps
-pub mod Taken
 pub mod Told
-pub mod TurnLemmas

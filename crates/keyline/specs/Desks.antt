@@ -62,6 +62,7 @@ module _ {S H D L : Type 0} (k : Known S D L) where
     pub goes : IsTrue (feed_of old).told → (n : ℕ) → (feed_of old).bound < n
         → Lined g (line_in n g (standing_of old)) old new result
     pub given : IsTrue (feed_of old).told → g' ≡ g
+    pub custom : g'.custom ≡ g.custom
     pub told : IsTrue (feed_of old).told → IsTrue (feed_of new).told
     pub steady : (feed_of new).steady ≡ (feed_of old).steady
     pub falls : OnOk result ((feed_of new).bound < (feed_of old).bound)

@@ -13,7 +13,7 @@ ghost use Rattle.keyline.specs.Sessions.{given_by, line_text, remembered};
 use line_config::{Config, DeviceFailed, ReadlineError, Sink, Source};
 use line_editor::{Ran, Renderer, run};
 use line_help::{FileHistory, Helper, History};
-use line_keys::{Bindings, Decides, EventHandler};
+use line_keys::{Decides, EventMap};
 use line_record::KillRing;
 use line_screen::{KeyReader, ScreenRenderer};
 use std::alloc::Global;
@@ -112,6 +112,7 @@ fn close<D: Sink + Drop, L: Sink>(
 }
 
 /// What goes on from line to line, with the devices.
+#[derive(Drop)]
 pub(crate) struct Desk<S: Source, H, D: Sink, L: Sink> {
     pub(crate) reader: KeyReader<S>,
     pub(crate) out: ScreenRenderer<D>,
@@ -127,20 +128,26 @@ pub(crate) struct Lined<S: Source, H, D: Sink, L: Sink> {
     pub(crate) outcome: Result<(), ReadlineError>,
 }
 
+/// A desk after the last line, and why there is no further one.
+pub(crate) struct Stopped<S: Source, H, D: Sink, L: Sink> {
+    pub(crate) desk: Desk<S, H, D, L>,
+    pub(crate) why: ReadlineError,
+}
+
 impl<S: Source + Drop, H: Helper + Drop, D: Sink + Drop, L: Sink + Drop> Desk<S, H, D, L> {
     ghost use Rattle.line_keys.specs.Answers.{custom_of};
     ghost use Rattle.line_editor.specs.Running.{helping_by};
-    ghost use Rattle.keyline.specs.Desks.{TakesLine, known_by};
+    ghost use Rattle.keyline.specs.Desks.{TakesLine, TakesLines, known_by};
 
     /// Reads a line, draws it, and keeps and writes it where it is accepted.
-    fn one_line(
+    fn one_line<B: Decides>(
         self,
         alloc: Global,
         config: &Config,
-        bindings: &Bindings,
+        bindings: &EventMap<B>,
         prompt: &str,
     ) -> Lined<S, H, D, L>
-        ensures { let custom = custom_of bindings.now ⟦<EventHandler as Decides>⟧.decides in
+        ensures { let custom = custom_of bindings.now B.decides in
             let helps = helping_by H.hint_of H.fails H.verdict_of H.validating_fails H.marks in
             let given = given_by config.now custom prompt.now in
             let known = known_by S.feed D.told D.held D.has_failed L.told L.held L.has_failed in
@@ -161,15 +168,7 @@ impl<S: Source + Drop, H: Helper + Drop, D: Sink + Drop, L: Sink + Drop> Desk<S,
             helper,
             outcome,
         } = run(
-            alloc,
-            &mut reader,
-            out,
-            prompt,
-            helper,
-            &history,
-            config,
-            bindings,
-            &mut ring,
+            alloc, &mut reader, out, prompt, helper, &history, config, bindings, &mut ring,
         );
         let adds = config.auto_add_history();
         let outcome = close(alloc, outcome, adds, &mut out, &mut history, &mut lines);
@@ -182,5 +181,34 @@ impl<S: Source + Drop, H: Helper + Drop, D: Sink + Drop, L: Sink + Drop> Desk<S,
             lines,
         };
         Lined { desk, outcome }
+    }
+
+    /// Reads lines until there is none, and says why.
+    pub(crate) fn read_lines<B: Decides>(
+        self,
+        alloc: Global,
+        config: &Config,
+        bindings: &EventMap<B>,
+        prompt: &str,
+    ) -> Stopped<S, H, D, L>
+        ensures { let custom = custom_of bindings.now B.decides in
+            let helps = helping_by H.hint_of H.fails H.verdict_of H.validating_fails H.marks in
+            let given = given_by config.now custom prompt.now in
+            let known = known_by S.feed D.told D.held D.has_failed L.told L.held L.has_failed in
+            TakesLines known (given (screen_of self.out) (helps self.helper))
+            self result.desk result.why }
+    {
+        let mut desk = self;
+        loop {
+            let Lined {
+                desk: next,
+                outcome,
+            } = desk.one_line(alloc, config, bindings, prompt);
+            desk = next;
+            match outcome {
+                Ok(()) => {}
+                Err(why) => return Stopped { desk, why },
+            }
+        }
     }
 }

@@ -4,6 +4,8 @@ pub mod CommandsLead
 pub mod DoesLemmas
 pub mod KillLemmas
 pub mod LeadLemmas
+pub mod LoopLemmas
+pub mod CarriesLemmas
 pub mod LineLeads
 pub mod ReachLemmas
 pub mod RefusedLemmas

@@ -12,6 +12,7 @@ pub mod Killing
 pub mod Leads
 pub mod Lines
 pub mod Moving
+pub mod Reading
 pub mod Redraws
 pub mod Remembering
 pub mod Returns

@@ -13,6 +13,7 @@ mod moving;
 pub mod ran;
 mod refreshing;
 mod remembering;
+mod reading;
 pub mod renderer;
 mod rewording;
 mod running;
