@@ -90,8 +90,13 @@ fn ending_after(why: ReadlineError, saved: bool) -> ReadlineError
     }
 }
 
-impl<S: Source + Drop, H: Helper + Drop, D: Sink + Drop, L: Sink + Drop, T: Sink + Drop>
-    Session<S, H, D, L, T>
+impl<S: Source, H: Helper, D: Sink, L: Sink, T: Sink> Session<S, H, D, L, T>
+where
+    S: Drop,
+    H: Drop,
+    D: Drop,
+    L: Drop,
+    T: Drop,
 {
     /// Opens a session: the history is loaded, no key is read, and nothing is drawn yet. Rows of
     /// the display have `columns` cells.

@@ -1,9 +1,8 @@
 //! The program `keyline`: keys from standard input, accepted lines to standard output, the display on standard error.
 #![tactic(auto)]
 
-use keyline::{
-    Bindings, Config, Ending, ReadSource, ReadlineError, Session, SliceSource, VecSink, WriteSink,
-};
+use keyline::{Bindings, Config, Ending, ReadSource, ReadlineError, Session, SliceSource, WriteSink};
+use std::io;
 use std::process::ExitCode;
 
 const PROMPT: &str = "> ";
@@ -24,7 +23,7 @@ fn play(rt: &HostRuntime) -> Result<Ending, ReadlineError> {
         COLUMNS,
         WriteSink::new(rt.stderr()),
         WriteSink::new(rt.stdout()),
-        VecSink::new(alloc),
+        WriteSink::new(io::sink()),
     )?;
     Ok(session.run().ending)
 }
