@@ -106,6 +106,6 @@ session_shown (suc n) g x =
     line_shown g t (session n g (after_line g t x)) t.outcome refl lead.0 lead.1 (session_shown n g (after_line g t x))
 
 pub sessions_show : SessionsShow
-sessions_show n g x =
+sessions_show g x low high n =
     let h = session_shown n g x in
-    (h.course, h.bytes, λ low high rows. drawings_show g.screen low high g.prompt (turns_of (session n g x)) h.course rows)
+    (h.course, h.bytes, λ rows. drawings_show g.screen low high g.prompt (turns_of (session n g x)) h.course rows)

@@ -22,13 +22,16 @@ parts_of s l (Last redraws breaks ∷ rest) = (bytes_for s l redraws ++ break_if
 abbrev pub all_of : List (List ℕ) → List ℕ
 all_of parts = flat_map (λ part. part) parts
 
--- a session's turns are a course; its display bytes are their parts in order; and where all that is
--- to be seen stays within the rows that can be counted, the bytes show each moment at its top
-abbrev pub SessionsShow : Type 0
-SessionsShow =
-    (n : ℕ) (g : Given) (x : Standing) → let turns = turns_of (session n g x) in
-    let s = g.screen in
+-- the turns of a session are a course; its display bytes are their parts in order; and where all
+-- that is to be seen stays within the rows that can be counted, the bytes up to each moment show it
+-- at its top
+abbrev pub Displays : Given → Standing → Type 0
+Displays g x =
+    (n : ℕ) → let turns = turns_of (session n g x) in let s = g.screen in
     Course g.prompt no_sight turns
     × (all_of (parts_of s (fresh s.mode) turns) ≡ display_bytes s (session n g x))
-    × (2 ≤ s.columns → s.columns ≤ 1000 → LowTurns s no_sight turns
-    → EachShown s [] 0 [] (fresh s.mode) turns)
+    × (LowTurns s no_sight turns → EachShown s [] 0 [] (fresh s.mode) turns)
+
+abbrev pub SessionsShow : Type 0
+SessionsShow =
+    (g : Given) (x : Standing) → 2 ≤ g.screen.columns → g.screen.columns ≤ 1000 → Displays g x
