@@ -1,6 +1,7 @@
 //! Laws of the definitions: each is the contract of a function that does nothing.
 
 ghost use Rattle.keyline.specs.OneByte.{LayoutsTell, OneByte};
+ghost use Rattle.keyline.specs.SessionLaws.{ColumnsAreFree, LastAreKept};
 ghost use Rattle.keyline.specs.SessionShows.{SessionsShow};
 ghost use Rattle.keyline.specs.Shows.{DrawingsShow};
 
@@ -22,4 +23,16 @@ pub fn one_byte()
 /// each moment they show its value at its top.
 pub fn sessions_show()
     ensures { SessionsShow }
+{}
+
+/// Two sessions that differ in columns alone accept the same lines and save the same text, where the
+/// prompt ends in the same column on both: they are the same, turn for turn.
+pub fn columns()
+    ensures { ColumnsAreFree }
+{}
+
+/// A history that began empty holds, under fixed settings, the last of the accepted lines that
+/// weren't ignored, in order.
+pub fn kept()
+    ensures { LastAreKept }
 {}
