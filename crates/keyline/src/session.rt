@@ -83,10 +83,7 @@ fn ending_after(why: ReadlineError, saved: bool) -> ReadlineError
         | ReadlineError::Interrupted
         | ReadlineError::NotUtf8
         | ReadlineError::PasteOutOfPlace
-            if !saved =>
-        {
-            ReadlineError::HistoryText
-        }
+            if !saved => { ReadlineError::HistoryText }
         _ => why,
     }
 }
@@ -157,7 +154,7 @@ where
         ensures plays { let custom = custom_of self.bindings ⟦<EventHandler as Decides>⟧.decides in
             let helps = helping_by H.hint_of H.fails H.verdict_of H.validating_fails H.marks in
             let given = given_by self.config custom (string_bytes self.prompt)
-                (screen_of self.desk.out) (helps self.desk.helper) in
+            (screen_of self.desk.out) (helps self.desk.helper) in
             let known = known_by S.feed D.told D.held D.has_failed L.told L.held L.has_failed in
             Plays known T.told T.held T.has_failed given self.desk self.text result }
         ensures shows { let custom = custom_of self.bindings ⟦<EventHandler as Decides>⟧.decides in
