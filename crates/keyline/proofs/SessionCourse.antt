@@ -1,11 +1,11 @@
 -- A session's turns are a course, and its display bytes are their parts in order.
-use Rattle.std.proofs.Common.{◌≡◌, ℕ, zero, suc, Bool, true, false, List, [], ◌∷◌, ◌++◌, Result, Ok, Err, refl, sym, ap, ◌∙◌, subst, append_assoc, append-nil}
+use Rattle.std.proofs.Common.{◌≡◌, ℕ, zero, suc, List, [], ◌∷◌, ◌++◌, Result, Ok, Err, refl, sym, ap, ◌∙◌, subst, append_assoc, append-nil}
 use Rattle.std.specs.List.{flat_map}
 use Rattle.line_buffer.specs.declared.layout.Layout.{Layout}
 use Rattle.line_config.specs.declared.errors.ReadlineError.{ReadlineError}
 use Rattle.line_editor.specs.Courses.{Turn, Open, Accept, Last, Course, EndsLine, redraws_in}
 use Rattle.line_editor.specs.Lines.{Told}
-use Rattle.line_editor.specs.Redraws.{Redraw, Asked, asked, then_asked, fresh}
+use Rattle.line_editor.specs.Redraws.{Redraw, Asked, fresh}
 use Rattle.line_editor.specs.Sights.{Sight, no_sight}
 use Rattle.line_editor.proofs.DoesLemmas.{asked_both}
 use Rattle.line_editor.proofs.LineLeads.{lines_lead}

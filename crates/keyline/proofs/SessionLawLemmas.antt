@@ -1,13 +1,12 @@
 -- What columns matter to, and what a history holds.
-use Rattle.std.proofs.Common.{◌≡◌, ℕ, zero, suc, ◌≤◌, Bool, true, false, List, [], ◌∷◌, ◌++◌, length, Result, Ok, Err, refl, sym, ap, ◌∙◌, append_assoc, append-nil, arith, if◌then◌else◌}
-use Rattle.line_config.specs.declared.errors.ReadlineError.{ReadlineError}
+use Rattle.std.proofs.Common.{◌≡◌, ℕ, zero, suc, ◌≤◌, Bool, true, false, List, [], ◌∷◌, ◌++◌, length, refl, sym, ap, ◌∙◌, append_assoc, append-nil, arith, if◌then◌else◌}
 use Rattle.line_editor.specs.Lines.{Told, line_of}
 use Rattle.line_editor.specs.Values.{Setting}
-use Rattle.line_help.specs.History.{Settings, Filed, nothing_filed, ignored, filed_with, filed_with_all, newest, unsaved_after}
+use Rattle.line_help.specs.History.{Filed, nothing_filed, ignored, filed_with_all, newest, unsaved_after}
 use Rattle.line_help.proofs.NewestLemmas.{all_new, length-newest, newest_behind}
 use Rattle.line_keys.specs.InputStates.{new_input}
 use Rattle.keyline.specs.SessionLaws.{at_columns, prompt_column, ColumnsAreFree, taken_of, LastAreKept}
-use Rattle.keyline.specs.Sessions.{Given, Standing, Report, setting_in, line_in, after_line, goes_on, session}
+use Rattle.keyline.specs.Sessions.{Given, Standing, setting_in, line_in, after_line, goes_on, session}
 
 -- ---- columns
 

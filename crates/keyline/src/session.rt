@@ -160,7 +160,7 @@ where
         ensures shows { let custom = custom_of self.bindings ⟦<EventHandler as Decides>⟧.decides in
             let helps = helping_by H.hint_of H.fails H.verdict_of H.validating_fails H.marks in
             let given = given_by self.config custom (string_bytes self.prompt)
-                (screen_of self.desk.out) (helps self.desk.helper) in
+            (screen_of self.desk.out) (helps self.desk.helper) in
             let known = known_by S.feed D.told D.held D.has_failed L.told L.held L.has_failed in
             Displays given (standing_of known self.desk) }
     {
