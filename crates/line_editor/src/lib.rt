@@ -10,6 +10,8 @@ mod inserting;
 mod killing;
 pub mod laws;
 mod moving;
+pub mod ran;
+mod reading;
 mod refreshing;
 mod remembering;
 pub mod renderer;
@@ -26,5 +28,6 @@ pub use line_buffer::{
     Anchor, At, CharSearch, Direction, GraphemeClusterMode, Layout, LineBuffer, Mode, Movement,
     Position, RepeatCount, Unit, Word, WordAction,
 };
+pub use ran::{Ran, run};
 pub use renderer::{RefreshKind, Renderer};
 pub use state::State;
