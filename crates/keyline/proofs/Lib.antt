@@ -2,6 +2,8 @@ pub mod CloseLemmas
 pub mod DeskLemmas
 pub mod OneByteLemmas
 pub mod PlaysLemmas
+pub mod SessionCourse
+pub mod SessionLawLemmas
 pub mod SessionSteps
 pub mod ShowCourse
 pub mod ShowSteps

@@ -5,5 +5,7 @@ pub mod Endings
 pub mod OneByte
 pub mod Playing
 pub mod Plays
+pub mod SessionLaws
+pub mod SessionShows
 pub mod Sessions
 pub mod Shows

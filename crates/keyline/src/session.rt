@@ -4,9 +4,10 @@ ghost use Rattle.std.specs.Prelude.{◌≡◌, ◌≤◌, IfErr, IfOk, false, st
 ghost use Rattle.line_keys.specs.Answers.{custom_of};
 ghost use Rattle.line_editor.specs.Running.{helping_by};
 ghost use Rattle.line_screen.specs.Calls.{screen_of};
-ghost use Rattle.keyline.specs.Desks.{known_by};
+ghost use Rattle.keyline.specs.Desks.{known_by, standing_of};
 ghost use Rattle.keyline.specs.Playing.{Saves, ending_after};
 ghost use Rattle.keyline.specs.Plays.{LoadFault, Loaded, Opens, Plays};
+ghost use Rattle.keyline.specs.SessionShows.{Displays};
 ghost use Rattle.keyline.specs.Sessions.{given_by};
 
 use crate::desk::{Desk, Stopped};
@@ -150,12 +151,18 @@ where
     /// Reads lines, draws and writes them, until the input or a fault ends it. The history is saved
     /// once, after every ending.
     pub fn run(self) -> Ended<S, D, L, T>
-        ensures { let custom = custom_of self.bindings ⟦<EventHandler as Decides>⟧.decides in
+        ensures plays { let custom = custom_of self.bindings ⟦<EventHandler as Decides>⟧.decides in
             let helps = helping_by H.hint_of H.fails H.verdict_of H.validating_fails H.marks in
             let given = given_by self.config custom (string_bytes self.prompt)
             (screen_of self.desk.out) (helps self.desk.helper) in
             let known = known_by S.feed D.told D.held D.has_failed L.told L.held L.has_failed in
             Plays known T.told T.held T.has_failed given self.desk self.text result }
+        ensures shows { let custom = custom_of self.bindings ⟦<EventHandler as Decides>⟧.decides in
+            let helps = helping_by H.hint_of H.fails H.verdict_of H.validating_fails H.marks in
+            let given = given_by self.config custom (string_bytes self.prompt)
+            (screen_of self.desk.out) (helps self.desk.helper) in
+            let known = known_by S.feed D.told D.held D.has_failed L.told L.held L.has_failed in
+            Displays given (standing_of known self.desk) }
     {
         let Session {
             alloc,
