@@ -108,7 +108,7 @@ newest_of-push c d [] = refl
 newest_of-push c d (e ∷ cs) = newest_of-push e d cs
 
 -- the newest change says what an item put in
-inserted_last : (closed : Bool) (cs : List Edit) (d : Edit) → item_inserted (item_from closed (cs ++ (d ∷ []))) ≡ inserted_by d
+pub inserted_last : (closed : Bool) (cs : List Edit) (d : Edit) → item_inserted (item_from closed (cs ++ (d ∷ []))) ≡ inserted_by d
 inserted_last true [] d = refl
 inserted_last false [] d = refl
 inserted_last true (c ∷ []) d = refl

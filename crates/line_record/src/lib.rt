@@ -4,12 +4,15 @@
 
 mod change;
 pub mod changeset;
+mod entry;
 pub mod joined;
 pub mod kill_ring;
 pub mod laws;
 mod listen;
+mod log;
 mod report;
 mod step;
+mod steps;
 mod undo;
 mod words;
 
