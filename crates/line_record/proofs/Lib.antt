@@ -1,5 +1,6 @@
 pub mod CourseLemmas
 pub mod DirectedLemmas
+pub mod DoneLemmas
 pub mod EndLemmas
 pub mod Exchange
 pub mod GroupLaws

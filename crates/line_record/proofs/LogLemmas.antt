@@ -17,7 +17,7 @@ use Rattle.line_record.specs.Items.{lines_ahead}
 use Rattle.line_record.proofs.StepLemmas.{ahead_turn, AheadTurn}
 use Rattle.line_record.specs.Spans.{Adjoin, place_of_span}
 use Rattle.line_record.specs.Logged.{edit_from, edit_in, edits_in, Spelt, IsLog, grown_old, grown, joined_at, removed_told, added_told}
-use Rattle.line_record.proofs.SpanLemmas.{take_lower, slice_same, adjoin_le, adjoin_cut, adjoin_at, place_le, place_fits, adjoin_push, adjoin_kept, views_kept}
+use Rattle.line_record.proofs.SpanLemmas.{take_lower, slice_same, adjoin_cut, adjoin_at, place_le, place_fits, adjoin_push, adjoin_kept, views_kept}
 
 abbrev from_of : Entry → ℕ
 from_of x = x.start
@@ -82,10 +82,11 @@ log_cut text after entries left n place h is cut kept =
 pub log_pushed : (text after : List ℕ) (entries : List Entry) (n : ℕ) (x : Entry) → IsLog text entries → x.start ≡ place_of_span from_of entries n (length text) → take x.start text ≡ take x.start after
     → Spelt after x → x.end ≡ length after → IsLog after (take n entries ++ (x ∷ [])) × (edits_in after (take n entries ++ (x ∷ [])) ≡ take n (edits_in text entries) ++ (edit_in after x ∷ []))
 log_pushed text after entries n x h is same spelt end =
-    let k = log_kept text after entries n x.start h is same in
-    (subst (λ m. Adjoin from_of to_of Spelt after 0 (take n entries ++ (x ∷ [])) m) end
-    (adjoin_push from_of to_of Spelt after (take n entries) 0 (place_of_span from_of entries n (length text)) x k.laid is (omega (arith, is, spelt.removed, spelt.added)) spelt),
-    map_push (edit_in after) (take n entries) x ∙ ap (λ es. es ++ (edit_in after x ∷ [])) k.edits)
+    let k = log_kept text after entries n x.start h is same in (
+      subst (λ m. Adjoin from_of to_of Spelt after 0 (take n entries ++ (x ∷ [])) m) end
+          (adjoin_push from_of to_of Spelt after (take n entries) 0 (place_of_span from_of entries n (length text)) x k.laid is (omega (arith, is, spelt.removed, spelt.added)) spelt),
+      map_push (edit_in after) (take n entries) x ∙ ap (λ es. es ++ (edit_in after x ∷ [])) k.edits,
+    )
 
 -- an entry by the texts that stand there
 pub record Placed (text removed added : List ℕ) (x : Entry) : Type 0 where
@@ -113,7 +114,7 @@ placed text front removed added x whole start middle end f r a =
         inside = omega (arith, end);
         before = subst IsUtf8 (sym first) f;
         between = subst IsUtf8 (sym second) (IsUtf8-append front removed f r);
-        after = subst IsUtf8 (sym third ) (subst IsUtf8 (sym joined) (IsUtf8-append (front ++ removed) added (IsUtf8-append front removed f r) a));
+        after = subst IsUtf8 (sym third) (subst IsUtf8 (sym joined) (IsUtf8-append (front ++ removed) added (IsUtf8-append front removed f r) a));
       };
       edit = ap (λ t. edit_from x.kind x.at t (slice_range text x.middle x.end)) old ∙ ap (edit_from x.kind x.at removed) new;
     }
@@ -236,8 +237,8 @@ log_grown text after r d entries entries_after n at place middle end before x h 
     let count : length o ≡ x.middle - x.start = length-slice_range text x.start x.middle (omega (arith, e.spelt.added, e.spelt.inside)) in
     let old : middle ≡ x.start + length (grown_old before r o) = omega (arith, mid, count, old_length before r o, e.spelt.removed) in
     let p = log_put text after (grown_old before r o) (a ++ d) entries entries_after n y h u e.place (whole ∙ grown_text before text x r d place e.spelt is) old long
-        (old_utf8 before r o ru (between_utf8 text x.start x.middle u c.start c.middle e.spelt.removed))
-        (IsUtf8-append a d (between_utf8 text x.middle x.end u c.middle c.end e.spelt.added) du) new in
+    (old_utf8 before r o ru (between_utf8 text x.start x.middle u c.start c.middle e.spelt.removed))
+    (IsUtf8-append a d (between_utf8 text x.middle x.end u c.middle c.end e.spelt.added) du) new in
     subst (λ g. Put text entries n g after entries_after) (grown_from at x.at before x.kind r d o a) p
 
 pub mapped_twice : {A B C : Type 0} (f : A → B) (g : B → C) (o : Option A) → option_map g (option_map f o) ≡ option_map (λ x. g (f x)) o

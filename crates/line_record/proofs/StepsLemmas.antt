@@ -1,9 +1,9 @@
 -- What the steps over a log hold where some are cut off, put in, closed and read.
-use Rattle.std.proofs.Common.{◌≡◌, ℕ, zero, suc, ◌+◌, ◌-◌, ◌<◌, ◌≤◌, Bool, true, false, List, [], ◌∷◌, ◌++◌, length, take, drop, map, reverse, refl, sym, ap, subst, ◌∙◌, arith, get_or, append_assoc, Some, None, Option, ◌==◌, not, ◌&&◌, add-one, eqb-true}
-use Rattle.std.proofs.Math.Seq.{take-length, take-add}
+use Rattle.std.proofs.Common.{◌≡◌, ℕ, suc, ◌+◌, ◌-◌, ◌<◌, ◌≤◌, Bool, true, false, List, [], ◌∷◌, ◌++◌, length, take, drop, reverse, refl, sym, ap, subst, ◌∙◌, arith, get_or, Some, None, Option, ◌==◌, not, ◌&&◌, add-one, eqb-true}
+use Rattle.std.proofs.Math.Seq.{take-add}
 use Rattle.std.specs.Prelude.{slice_range, is_some, slice_get, option_map, ⊤, unwrap_or, slice_set}
 use Rattle.std.proofs.lemmas.Bool.Decides.{nat_tests}
-use Rattle.std.proofs.lemmas.List.{take-take, take_at, drop_at, take-map, drop-map, get_or-map, get_or-take, get_or-drop, get_or_push, get_or_default, length_push, length-map, length-append, length-take, length-drop, length-take-le, map_push, reverse-append, take_more, take_more_set, drop-drop}
+use Rattle.std.proofs.lemmas.List.{take-take, take_at, drop_at, take-map, drop-map, get_or-map, get_or-take, get_or-drop, length-map, length-append, length-take, length-drop, length-take-le, map_push, reverse-append, take_more, take_more_set, drop-drop}
 use Rattle.line_record.specs.declared.steps.Step.{Step}
 use Rattle.line_record.specs.Edit.{Edit}
 use Rattle.line_buffer.specs.Event.{Event}
@@ -11,14 +11,14 @@ use Rattle.line_record.specs.Edit.Edit.{Inserted}
 use Rattle.line_record.specs.Held.{joined_to, inserted_by}
 use Rattle.line_record.specs.Logged.{joined_at}
 use Rattle.line_record.specs.Items.{Item, changes_of, gathered, group_of}
-use Rattle.line_record.specs.Items.Item.{Open, Lone, Group}
+use Rattle.line_record.specs.Items.Item.{Open, Lone}
 use Rattle.line_record.specs.Spans.{Adjoin, place_of_span}
 use Rattle.line_record.specs.Steps.{item_in, items_in, AreSteps}
 use Rattle.line_record.specs.Stored.{item_from, item_inserted, is_open, joined_item, joined_items}
 use Rattle.line_record.proofs.EndLemmas.{changes_of-item_from, group_pushed}
 use Rattle.line_record.proofs.LogLemmas.{mapped_twice, joined_at_is}
 use Rattle.line_record.proofs.StoredLemmas.{before_last, inserted_last}
-use Rattle.line_record.proofs.SpanLemmas.{take_lower, slice_same, adjoin_le, adjoin_cut, adjoin_drop, adjoin_at, place_le, adjoin_push, adjoin_kept, views_kept, SpanOf}
+use Rattle.line_record.proofs.SpanLemmas.{take_lower, slice_same, adjoin_le, adjoin_cut, adjoin_drop, adjoin_at, place_le, adjoin_push, adjoin_kept, views_kept}
 
 abbrev first_of : Step → ℕ
 first_of s = s.first
@@ -265,7 +265,7 @@ left_alone e edits after steps items n s h inside lone answer value =
     let d = Inserted 0 [] in
     let one : s.last - s.first ≡ 1 = lone_count s.closed (s.last - s.first) lone in
     let j = no_join (joined_at e s.first edits) (λ j. take s.first edits ++ (j ∷ [])) (λ j. Lone j ∷ reverse (take n items)) (joined_to e (get_or edits s.first d))
-        (joined_at_is e s.first edits d (omega (arith, one, h.inside))) answer in
+    (joined_at_is e s.first edits d (omega (arith, one, h.inside))) answer in
     record { same = value ∙ ap (λ o. unwrap_or o edits) j.0; none = joins_lone e edits steps items n s d h inside lone ∙ j.1 }
 
 pub record JoinedOn (e : Event) (edits after : List Edit) (steps left : List Step) (items : List Item) (n : ℕ) : Type 0 where
@@ -280,13 +280,13 @@ joined_on e edits after steps left items n s are view h is inside lone answer va
     let one : s.last - s.first ≡ 1 = lone_count s.closed (s.last - s.first) lone in
     let long : s.last ≡ suc s.first = omega (arith, one) in
     let j = a_join (joined_at e s.first edits) (λ j. take s.first edits ++ (j ∷ [])) (λ j. Lone j ∷ reverse (take n items)) (joined_to e (get_or edits s.first d))
-        (joined_at_is e s.first edits d (omega (arith, one, h.inside))) answer in
+    (joined_at_is e s.first edits d (omega (arith, one, h.inside))) answer in
     let put : after ≡ take s.first edits ++ (j.0 ∷ []) = value ∙ ap (λ o. unwrap_or o edits) j.1 in
     let count : length (take s.first edits) ≡ s.first = length-take-le s.first edits (omega (arith, h.inside, h.order)) in
     let pushed : left ≡ take n steps ++ (s ∷ []) = cut ∙ take_more steps n s h.within ∙ ap (λ t. take n steps ++ (t ∷ [])) (sym is) in
     let p = step_pushed edits after steps left n s (Lone j.0) are h.place (sym (ap (take s.first) put ∙ take_at (take s.first edits) (j.0 ∷ []) s.first count)) h.order
-        (long ∙ sym (ap length put ∙ length-append (take s.first edits) (j.0 ∷ []) ∙ ap (λ k. k + 1) count ∙ add-one s.first))
-        (ap (item_from s.closed) (one_slice after (take s.first edits) j.0 s.first s.last put count long) ∙ lone_from s.closed (s.last - s.first) j.0 lone) pushed in
+    (long ∙ sym (ap length put ∙ length-append (take s.first edits) (j.0 ∷ []) ∙ ap (λ k. k + 1) count ∙ add-one s.first))
+    (ap (item_from s.closed) (one_slice after (take s.first edits) j.0 s.first s.last put count long) ∙ lone_from s.closed (s.last - s.first) j.0 lone) pushed in
     record {
       are = p.are;
       joined = joins_lone e edits steps items n s d h inside lone ∙ j.2
@@ -339,11 +339,12 @@ group_pushed_on edits after steps new items n index a b are view ha h less insid
     let same : take b.last edits ≡ take b.last after = sym (ap (take b.last) cut ∙ take-take b.last b.last edits (omega arith)) in
     let cs = slice_range edits a.first b.last in
     let p = step_pushed edits after steps new index s (item_from true cs) are ha.place (take_lower a.first b.last edits after h.order same) h.order
-        (sym (ap length cut ∙ length-take-le b.last edits inside)) (ap (item_from true) (sym (slice_same a.first b.last edits after h.order same))) pushed in
-    (p.are,
-    ap reverse (p.items ∙ ap (λ xs. take index xs ++ (item_from true cs ∷ [])) view) ∙ reverse-append (take index items) (item_from true cs ∷ [])
-    ∙ group_pushed cs (reverse (take index items)) (group_some edits cs a.first b.last refl less inside)
-    ∙ sym (ap (λ g. group_of g (reverse (take index items))) h.group))
+    (sym (ap length cut ∙ length-take-le b.last edits inside)) (ap (item_from true) (sym (slice_same a.first b.last edits after h.order same))) pushed in (
+      p.are,
+      ap reverse (p.items ∙ ap (λ xs. take index xs ++ (item_from true cs ∷ [])) view) ∙ reverse-append (take index items) (item_from true cs ∷ [])
+          ∙ group_pushed cs (reverse (take index items)) (group_some edits cs a.first b.last refl less inside)
+          ∙ sym (ap (λ g. group_of g (reverse (take index items))) h.group),
+    )
 
 pub group_gone : (edits after : List Edit) (steps left : List Step) (items : List Item) (n index : ℕ) (a b : Step) → AreSteps edits steps → items_in edits steps ≡ items → StepAt edits steps items index a
     → ClosedFrom edits steps items n index a b → a.first ≡ b.last → after ≡ take b.last edits → left ≡ take index steps

@@ -70,12 +70,7 @@ impl Entry {
     }
 
     /// Puts back what stood there before, the cursor after it.
-    fn take_back(
-        &self,
-        alloc: Global,
-        log: &str,
-        line: &mut LineBuffer,
-    ) -> Result<(), OutOfMemory>
+    fn take_back(&self, alloc: Global, log: &str, line: &mut LineBuffer) -> Result<(), OutOfMemory>
         requires spelt { Spelt log.now self.now }
         requires stands { StandsIn (edit_in log.now self.now) line.old.text }
         ensures line { OnOk result (line.new ≡ record line.old {
@@ -87,16 +82,16 @@ impl Entry {
         // Its contract says that the length fits.
         let _longest = line.len();
         let added = self.added(log);
-        line.replace(alloc, self.at..self.at + added.len(), self.removed(log), &mut NoListener)
+        line.replace(
+            alloc,
+            self.at..self.at + added.len(),
+            self.removed(log),
+            &mut NoListener,
+        )
     }
 
     /// Puts in again what was there after the change, the cursor after it.
-    fn make_anew(
-        &self,
-        alloc: Global,
-        log: &str,
-        line: &mut LineBuffer,
-    ) -> Result<(), OutOfMemory>
+    fn make_anew(&self, alloc: Global, log: &str, line: &mut LineBuffer) -> Result<(), OutOfMemory>
         requires spelt { Spelt log.now self.now }
         requires fits { FitsIn (edit_in log.now self.now) line.old.text }
         ensures line { OnOk result (line.new ≡ record line.old {
@@ -108,7 +103,12 @@ impl Entry {
         // Its contract says that the length fits.
         let _longest = line.len();
         let removed = self.removed(log);
-        line.replace(alloc, self.at..self.at + removed.len(), self.added(log), &mut NoListener)
+        line.replace(
+            alloc,
+            self.at..self.at + removed.len(),
+            self.added(log),
+            &mut NoListener,
+        )
     }
 
     /// Whether what is told joins this change, which was the last before it: the place of the two

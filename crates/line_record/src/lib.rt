@@ -2,7 +2,6 @@
 //! record, which brings earlier texts back.
 #![tactic(auto)]
 
-mod change;
 pub mod changeset;
 mod entry;
 pub mod joined;
@@ -11,7 +10,6 @@ pub mod laws;
 mod listen;
 mod log;
 mod report;
-mod step;
 mod steps;
 mod undo;
 mod words;

@@ -136,7 +136,8 @@ impl Steps {
         let first = place(&self.steps, n, self.log.len());
         let mut room = [0; 4];
         let added = report.added(&mut room);
-        self.log.record(first, report.kind(), report.at(), report.removed(), added)?;
+        self.log
+            .record(first, report.kind(), report.at(), report.removed(), added)?;
         self.steps.truncate(n);
         self.steps.push(Step {
             closed: false,

@@ -1,4 +1,4 @@
-use Rattle.std.proofs.Common.{◌∙◌, get_or}
+use Rattle.std.proofs.Common.{◌∙◌}
 use Rattle.line_record.specs.declared.entry.Entry.{Entry}
 use Rattle.line_record.specs.declared.entry.Kind.TheVariants.{Insertion}
 use Rattle.line_record.specs.Logged.{edit_in}

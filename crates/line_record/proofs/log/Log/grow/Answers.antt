@@ -1,12 +1,10 @@
-use Rattle.std.proofs.Common.{◌≡◌, ◌<◌, ◌+◌, ◌++◌, ◌∷◌, [], List, ℕ, length, take, drop, string_bytes, ap, sym, ◌∙◌, subst, rules, arith, get_or, refl}
+use Rattle.std.proofs.Common.{◌≡◌, ◌+◌, ◌++◌, ◌∷◌, [], length, take, drop, string_bytes, ap, sym, ◌∙◌, subst, rules, arith, get_or, refl}
 use Rattle.std.specs.Prelude.{IsCharBoundary}
 use Rattle.std.specs.String.{string_len}
 use Rattle.std.proofs.lemmas.List.{length-take-le}
 use Rattle.std.proofs.lemmas.Str.{IsUtf8-string_bytes}
-use Rattle.line_record.specs.declared.entry.Entry.{Entry}
-use Rattle.line_record.specs.Edit.{Edit}
 use Rattle.line_record.specs.Logged.{edit_in, edits_in, grown}
-use Rattle.line_record.proofs.LogLemmas.{entry_seen, EntryAt, cuts_at, place_in_cut, log_grown, Put}
+use Rattle.line_record.proofs.LogLemmas.{entry_seen, cuts_at, place_in_cut, log_grown, Put}
 use Rattle.line_record.proofs.log.Log.grow.Goals as goal
 
 pub truncate-requires : goal.truncate-requires
@@ -22,7 +20,7 @@ insert_str-requires c =
     let x = c.index.result.now in
     let here = entry_seen text c.self.inside.entries.items c.args.self.now c.args.index x c.self.invariant c.self.view_is c.requires c.index.ensures in
     let between = subst (λ t. IsCharBoundary t c.seam.result) (sym (c.truncate.ensures.bytes ∙ ap (take x.end) c.reserve.ensures.bytes))
-        (place_in_cut text x c.args.before c.seam.result (IsUtf8-string_bytes c.self.inside.text) here.spelt c.seam.ensures) in
+    (place_in_cut text x c.args.before c.seam.result (IsUtf8-string_bytes c.self.inside.text) here.spelt c.seam.ensures) in
     (between.0, λ _. between.1)
 
 pub overflow_add-last : goal.overflow_add-last
@@ -44,8 +42,8 @@ put c =
     let whole : string_bytes c.push_str.new.self ≡ ((take c.seam.result (take x.end text) ++ c.args.removed.now) ++ drop c.seam.result (take x.end text)) ++ c.args.added.now =
     c.in_ok-push_str.ensures.bytes ∙ ap (λ t. t ++ c.args.added.now) (c.in_ok-insert_str.ensures.bytes ∙ ap (λ t. (take c.seam.result t ++ c.args.removed.now) ++ drop c.seam.result t) cut) in
     log_grown text (string_bytes c.push_str.new.self) c.args.removed.now c.args.added.now c.self.inside.entries.items c.push.new.self.items c.args.index c.args.at c.seam.result
-        (x.middle + length c.args.removed.now) c.len-end.result c.args.before x c.self.invariant (IsUtf8-string_bytes c.self.inside.text) here c.seam.ensures whole refl (c.len-end.ensures ∙ count)
-        c.utf8.removed c.utf8.added (c.in_ok-push.ensures.items ∙ ap (λ es. es ++ (record { kind = x.kind; at = c.args.at; start = x.start; middle = x.middle + length c.args.removed.now; end = c.len-end.result } ∷ [])) c.truncate-2.ensures.items)
+    (x.middle + length c.args.removed.now) c.len-end.result c.args.before x c.self.invariant (IsUtf8-string_bytes c.self.inside.text) here c.seam.ensures whole refl (c.len-end.ensures ∙ count)
+    c.utf8.removed c.utf8.added (c.in_ok-push.ensures.items ∙ ap (λ es. es ++ (record { kind = x.kind; at = c.args.at; start = x.start; middle = x.middle + length c.args.removed.now; end = c.len-end.result } ∷ [])) c.truncate-2.ensures.items)
 
 pub invariant_of-self-2 : goal.invariant_of-self-2
 invariant_of-self-2 c = (put c).log

@@ -1,4 +1,4 @@
-use Rattle.std.proofs.Common.{◌≡◌, ℕ, List, take, string_bytes, sym, ap, subst, ◌∙◌}
+use Rattle.std.proofs.Common.{ℕ, List, take, string_bytes, sym, ap, subst, ◌∙◌}
 use Rattle.std.specs.Prelude.{All, slice_range}
 use Rattle.std.proofs.lemmas.Result.{on_ok_weaker, on_err_weaker}
 use Rattle.line_record.specs.declared.entry.Entry.{Entry}

@@ -1,4 +1,4 @@
-use Rattle.std.proofs.Common.{◌≡◌, ◌+◌, ◌++◌, ◌∷◌, [], length, take, string_bytes, ap, sym, ◌∙◌, subst, rules, arith, append_assoc}
+use Rattle.std.proofs.Common.{◌≡◌, ◌+◌, ◌++◌, ◌∷◌, [], length, take, string_bytes, ap, sym, ◌∙◌, subst, rules, append_assoc}
 use Rattle.std.specs.Prelude.{IsCharBoundary}
 use Rattle.std.specs.String.{string_len}
 use Rattle.std.proofs.lemmas.List.{length-append, length-take-le}
@@ -14,7 +14,7 @@ truncate-requires c =
     let count : string_len c.reserve.new.self ≡ length (string_bytes c.reserve.new.self) = search rules in
     let is = place_is text _ c.self.inside.entries.items c.args.n _ _ c.place-start.ensures (c.deref.ensures.value ∙ c.reserve-2.ensures.items) (c.len.ensures ∙ count ∙ ap length c.reserve.ensures.bytes) in
     let between = subst (λ t. IsCharBoundary t c.place-start.result) (sym c.reserve.ensures.bytes)
-        (place_between text c.self.inside.entries.items c.args.n _ (IsUtf8-string_bytes c.self.inside.text) c.self.invariant is) in
+    (place_between text c.self.inside.entries.items c.args.n _ (IsUtf8-string_bytes c.self.inside.text) c.self.invariant is) in
     λ _. (between.0, λ _. between.1)
 
 put : (c : goal.In_ok-push) → Put (string_bytes c.self.inside.text) c.self.inside.entries.items c.args.n (edit_from c.args.kind c.args.at c.args.removed.now c.args.added.now) (string_bytes c.push_str-2.new.self) c.push.new.self.items

@@ -1,6 +1,5 @@
 use Rattle.std.proofs.Common.{take, ap, ◌∙◌, sym, ◌≡◌, ◌++◌, ◌∷◌, [], false, Some, ℕ, List}
 use Rattle.std.specs.Prelude.{option_map}
-use Rattle.line_record.specs.Edit.{Edit}
 use Rattle.line_record.specs.Items.Item.{Lone}
 use Rattle.line_record.specs.Logged.{edit_from, place_told, removed_told, added_told}
 use Rattle.line_record.specs.Stored.{event_of}
@@ -13,7 +12,7 @@ pushed c =
     let is = step_place_is c.self.inside.log _ c.self.inside.steps.items c.args.n _ _ c.place-first.ensures (c.deref.ensures.value ∙ c.reserve.ensures.items) c.len.ensures in
     let s : Step = record { closed = false; first = c.place-first.result; last = c.len-2.result } in
     lone_pushed c.self.inside.log c.record.new.self c.self.inside.steps.items c.push.new.self.items c.args.n _ c.len-2.result _ c.self.invariant is c.in_ok-record.ensures.ok c.len-2.ensures
-        (c.in_ok-push.ensures.items ∙ ap (λ ss. ss ++ (s ∷ [])) (c.truncate.ensures.items ∙ ap (take c.args.n) c.reserve.ensures.items))
+    (c.in_ok-push.ensures.items ∙ ap (λ ss. ss ++ (s ∷ [])) (c.truncate.ensures.items ∙ ap (take c.args.n) c.reserve.ensures.items))
 
 pub invariant_of-self-2 : goal.invariant_of-self-2
 invariant_of-self-2 c = (pushed c).are

@@ -1,5 +1,5 @@
 use Rattle.std.proofs.Common.{take, ap, ◌∙◌}
-use Rattle.line_record.proofs.StepsLemmas.{steps_cut, step_place_is, CutSteps}
+use Rattle.line_record.proofs.StepsLemmas.{steps_cut, step_place_is}
 use Rattle.line_record.proofs.steps.Steps.truncate.Goals as goal
 
 pub invariant_of-self : goal.invariant_of-self
