@@ -3,9 +3,11 @@
 #![tactic(auto)]
 
 use anyhow::{Result, bail};
-use line_buffer::{GraphemeClusterMode, Layout, Position};
-use line_config::{BellStyle, Sink, WriteSink};
+use line_buffer::{GraphemeClusterMode, Layout, LineBuffer, NoListener, Position};
+use line_config::{BellStyle, WriteSink};
+use line_editor::Renderer;
 use line_screen::ScreenRenderer;
+use std::alloc::Global;
 use std::env;
 
 /// A line on so many columns, with the line's text before the cursor, and what stands behind the line.
@@ -54,19 +56,25 @@ fn case_of<'a>(name: &str) -> Option<Case<'a>> {
     })
 }
 
-fn draw<D: Sink>(screen: &mut ScreenRenderer<D>, case: Case, old: Layout) -> Result<Layout> {
-    let mode = screen.grapheme_cluster_mode();
+fn line_of(alloc: Global, case: Case) -> Result<LineBuffer> {
+    let mut line = LineBuffer::with_capacity(alloc, 64)?;
+    line.replace(alloc, 0..0, case.line, &mut NoListener)?;
+    if case.line.is_char_boundary(case.before.len()) {
+        line.set_pos(case.before.len());
+    }
+    Ok(line)
+}
+
+fn draw<Out: Renderer>(alloc: Global, screen: &mut Out, case: Case, old: Layout) -> Result<Layout> {
+    let line = line_of(alloc, case)?;
     let prompt_size = screen.calculate_position("> ", Position { col: 0, row: 0 });
-    let line_end = screen.calculate_position(case.line, prompt_size);
-    let new = Layout {
-        grapheme_cluster_mode: mode,
-        prompt_size,
-        default_prompt: true,
-        cursor: screen.calculate_position(case.before, prompt_size),
-        end: screen.calculate_position(case.info, line_end),
-        has_info: !case.info.is_empty(),
+    let info = if case.info.is_empty() {
+        None
+    } else {
+        Some(case.info)
     };
-    screen.refresh_line("> ", case.line, case.info, Some(old), &new)?;
+    let new = screen.compute_layout(prompt_size, true, &line, info);
+    screen.refresh_line("> ", &line, info, Some(old), &new, None::<&()>)?;
     Ok(new)
 }
 
@@ -85,9 +93,9 @@ fn main(rt: HostRuntime) -> Result<()> {
         mode,
         BellStyle::None,
     );
-    let layout = draw(&mut screen, case, Layout::new(mode))?;
+    let layout = draw(rt.alloc(), &mut screen, case, Layout::new(mode))?;
     if name.as_str() == "shorter" {
-        draw(&mut screen, at_end(case.columns, "ab"), layout)?;
+        draw(rt.alloc(), &mut screen, at_end(case.columns, "ab"), layout)?;
     }
     Ok(())
 }

@@ -1,6 +1,8 @@
 pub mod Calls
 pub mod Keys
 pub mod KeyLaws
+pub mod OneByte
+pub mod Shows
 pub mod Editing
 pub mod PlainLine
 pub mod Cells

@@ -1,5 +1,5 @@
 -- Each command leads from its value to the next.
-use Rattle.std.proofs.Common.{◌≡◌, ℕ, zero, suc, ◌+◌, ◌-◌, ◌==◌, ◌||◌, not, max, Bool, true, false, List, [], ◌∷◌, ◌++◌, length, Option, Some, None, is_some, slice_get, refl, sym, ap, ◌∙◌, subst, if◌then◌else◌}
+use Rattle.std.proofs.Common.{◌≡◌, ℕ, ◌+◌, ◌-◌, ◌==◌, ◌||◌, not, max, Bool, true, false, List, [], ◌∷◌, ◌++◌, length, Option, Some, None, is_some, slice_get, refl, sym, ap, ◌∙◌, subst, if◌then◌else◌}
 use Rattle.std.proofs.lemmas.Bool.{eqb-true}
 use Rattle.line_buffer.specs.Clusters.{place_forward}
 use Rattle.line_buffer.specs.Columns.{line_up, line_down}
@@ -24,18 +24,17 @@ use Rattle.line_keys.specs.Refreshing.Ask.{Line as LineAsked, Message, Prompted,
 use Rattle.line_keys.specs.declared.command.Cmd.TheVariants.{Abort, AcceptLine, BeginningOfHistory, CapitalizeWord, ClearScreen, Complete, CompleteBackward, CompleteHint, Dedent, DowncaseWord, EndOfFile, EndOfHistory, ForwardSearchHistory, HistorySearchBackward, HistorySearchForward, Indent, Insert, Interrupt, Kill, Move, NextHistory, Noop, Repaint, Overwrite, PreviousHistory, QuotedInsert, ReplaceChar, Replace, ReverseSearchHistory, SelfInsert, Suspend, TransposeChars, TransposeWords, Undo, Unknown, UpcaseWord, ViYankTo, Yank, YankPop, LineUpOrPreviousHistory, LineDownOrNextHistory, Newline, AcceptOrInsertLine}
 use Rattle.line_keys.specs.declared.command.CmdKind.{CmdKind}
 use Rattle.line_keys.specs.declared.command.CmdKind.TheVariants.{ForcedRefresh, Other}
-use Rattle.line_record.specs.Held.{Held, has_step, line_back, closes}
-use Rattle.line_record.specs.Held.Held.{Opened, Stepped}
+use Rattle.line_record.specs.Held.{has_step, closes}
 use Rattle.line_record.specs.Ring.{exchanged}
 use Rattle.line_editor.specs.Accepting.{bared, bare, verdict, told_if, verdict_told, validate_by, validate, newline, accept, accepts, newline_if, accept_or_insert}
 use Rattle.line_editor.specs.Commands.{in_vi_command, line_up_or_previous, line_down_or_next}
 use Rattle.line_editor.specs.Hinting.{at_row_end, completed_by, complete_by}
 use Rattle.line_editor.specs.Inserting.{insert_char}
-use Rattle.line_editor.specs.Leads.{Reaches, Leads, CommandsLead, SubmittingLeads, AsksLead}
+use Rattle.line_editor.specs.Leads.{Leads, CommandsLead, SubmittingLeads, AsksLead}
 use Rattle.line_editor.specs.Moving.{move_buffer_end}
 use Rattle.line_editor.specs.Redraws.Redraw.{Drawn, Bared, ToEnd}
 use Rattle.line_editor.specs.Remembering.{saved_now, at_place, restored, recalled, leaving, recall, history_step, history_end, found, history_search}
-use Rattle.line_editor.specs.Rewording.{transpose_chars, transpose_words, edit_word, undo}
+use Rattle.line_editor.specs.Rewording.{transpose_chars, transpose_words, edit_word, unmarked, undo}
 use Rattle.line_editor.specs.Sights.{sight_as, sight_of, ended_sight, Turns, info_after}
 use Rattle.line_editor.specs.Values.{Value, Setting, rewritten, at_line}
 use Rattle.line_editor.specs.Yanking.{anchored, steps, behind_yank, yanked_by, yank, yank_lent, pop_lent}
@@ -115,15 +114,8 @@ word_leads action s v = refresh_if_leads s v (rewritten (edit_word_in_group acti
 
 -- ---- undo
 
-undo_rests : (n : ℕ) (held : List Held) (l : Line) (first : List ℕ) → Reaches first held l.text → has_step n held ≡ false → line_back n held l ≡ l
-undo_rests zero held l first r h = refl
-undo_rests (suc n) [] l first r h = refl
-undo_rests (suc n) (Opened earlier ∷ held) l first r h =
-    undo_rests n held (record l { text = earlier }) first r.1 h ∙ ap (λ text. record l { text = text }) (sym r.0)
-undo_rests (suc n) (Stepped earlier place newest joinable ∷ held) l first r h = cc
-
-undo_leads : (n : ℕ) (s : Setting) (v : Value) (first : List ℕ) → Reaches first v.held v.line.text → Leads s v (undo n s v)
-undo_leads n s v first r = refresh_if_leads s v (rewritten (undone n) v) (has_step (max n 1) v.held) (undo_rests (max n 1) v.held v.line first r)
+undo_leads : (n : ℕ) (s : Setting) (v : Value) → Leads s v (undo n s v)
+undo_leads n s v = either s v (has_step (max n 1) v.held) _ _ (λ e. refresh_leads s v (rewritten (undone n) v)) (λ e. rest_leads s v (unmarked n v) refl)
 
 -- ---- history
 
@@ -216,49 +208,49 @@ down_leads n s v = either s v (is_some (line_down s.mode s.column n v.line)) _ _
 -- ---- the laws
 
 pub commands_lead : CommandsLead
-commands_lead m Abort s v first sound r = rest_leads s v v refl
-commands_lead m AcceptLine s v first sound r = accept_leads s v
-commands_lead m BeginningOfHistory s v first sound r = end_leads true s v
-commands_lead m CapitalizeWord s v first sound r = word_leads Capitalize s v
-commands_lead m ClearScreen s v first sound r = clear_leads s v
-commands_lead m Complete s v first sound r = rest_leads s v v refl
-commands_lead m CompleteBackward s v first sound r = rest_leads s v v refl
-commands_lead m CompleteHint s v first sound r = hint_leads v.hint s v
-commands_lead m (Dedent movement) s v first sound r = refresh_leads s v (rewritten (indented movement m.indent_size true) v)
-commands_lead m DowncaseWord s v first sound r = word_leads Lowercase s v
-commands_lead m EndOfFile s v first sound r = bare_leads s v
-commands_lead m EndOfHistory s v first sound r = end_leads false s v
-commands_lead m ForwardSearchHistory s v first sound r = rest_leads s v v refl
-commands_lead m HistorySearchBackward s v first sound r = search_leads Reverse s v
-commands_lead m HistorySearchForward s v first sound r = search_leads Forward s v
-commands_lead m (Indent movement) s v first sound r = refresh_leads s v (rewritten (indented movement m.indent_size false) v)
-commands_lead m (Insert n text) s v first sound r = yank_leads (in_vi_command m) text Before n s v
-commands_lead m Interrupt s v first sound r = λ info. record { fits = (tt, tt); leads = refl }
-commands_lead m (Kill movement) s v first sound r = kill_leads movement s v sound
-commands_lead m (Move movement) s v first sound r = motion_leads movement s v
-commands_lead m NextHistory s v first sound r = step_back_leads false s v
-commands_lead m Noop s v first sound r = rest_leads s v v refl
-commands_lead m Repaint s v first sound r = refresh_leads s v v
-commands_lead m (Overwrite c) s v first sound r = either s v (is_some (place_forward 1 v.line)) _ _ (λ e. refresh_leads s v (rewritten (overwritten c) v)) (λ e. rest_leads s v v refl)
-commands_lead m PreviousHistory s v first sound r = step_back_leads true s v
-commands_lead m QuotedInsert s v first sound r = rest_leads s v v refl
-commands_lead m (ReplaceChar n c) s v first sound r = either s v (is_some (place_forward n v.line)) _ _ (λ e. refresh_leads s v (rewritten (chars_replaced c n) v)) (λ e. rest_leads s v v refl)
-commands_lead m (Replace movement text) s v first sound r = replace_leads movement text s v sound
-commands_lead m ReverseSearchHistory s v first sound r = rest_leads s v v refl
-commands_lead m (SelfInsert n c) s v first sound r = insertion_leads c n s v
-commands_lead m Suspend s v first sound r = rest_leads s v v refl
-commands_lead m TransposeChars s v first sound r = chars_lead s v
-commands_lead m (TransposeWords n) s v first sound r = words_lead n s v
-commands_lead m (Undo n) s v first sound r = undo_leads n s v first r
-commands_lead m Unknown s v first sound r = rest_leads s v v refl
-commands_lead m UpcaseWord s v first sound r = word_leads Uppercase s v
-commands_lead m (ViYankTo movement) s v first sound r = rest_leads s v v refl
-commands_lead m (Yank n anchor) s v first sound r = lent_leads (in_vi_command m) anchor n (slice_get m.ring.slots m.ring.place) s v
-commands_lead m YankPop s v first sound r = pop_leads (exchanged m.ring) s v
-commands_lead m (LineUpOrPreviousHistory n) s v first sound r = up_leads n s v
-commands_lead m (LineDownOrNextHistory n) s v first sound r = down_leads n s v
-commands_lead m Newline s v first sound r = newline_leads s v
-commands_lead m (AcceptOrInsertLine middle) s v first sound r = accept_or_insert_leads middle s v
+commands_lead m Abort s v = rest_leads s v v refl
+commands_lead m AcceptLine s v = accept_leads s v
+commands_lead m BeginningOfHistory s v = end_leads true s v
+commands_lead m CapitalizeWord s v = word_leads Capitalize s v
+commands_lead m ClearScreen s v = clear_leads s v
+commands_lead m Complete s v = rest_leads s v v refl
+commands_lead m CompleteBackward s v = rest_leads s v v refl
+commands_lead m CompleteHint s v = hint_leads v.hint s v
+commands_lead m (Dedent movement) s v = refresh_leads s v (rewritten (indented movement m.indent_size true) v)
+commands_lead m DowncaseWord s v = word_leads Lowercase s v
+commands_lead m EndOfFile s v = bare_leads s v
+commands_lead m EndOfHistory s v = end_leads false s v
+commands_lead m ForwardSearchHistory s v = rest_leads s v v refl
+commands_lead m HistorySearchBackward s v = search_leads Reverse s v
+commands_lead m HistorySearchForward s v = search_leads Forward s v
+commands_lead m (Indent movement) s v = refresh_leads s v (rewritten (indented movement m.indent_size false) v)
+commands_lead m (Insert n text) s v = yank_leads (in_vi_command m) text Before n s v
+commands_lead m Interrupt s v = λ info. record { fits = (tt, tt); leads = refl }
+commands_lead m (Kill movement) s v = kill_leads movement s v
+commands_lead m (Move movement) s v = motion_leads movement s v
+commands_lead m NextHistory s v = step_back_leads false s v
+commands_lead m Noop s v = rest_leads s v v refl
+commands_lead m Repaint s v = refresh_leads s v v
+commands_lead m (Overwrite c) s v = either s v (is_some (place_forward 1 v.line)) _ _ (λ e. refresh_leads s v (rewritten (overwritten c) v)) (λ e. rest_leads s v v refl)
+commands_lead m PreviousHistory s v = step_back_leads true s v
+commands_lead m QuotedInsert s v = rest_leads s v v refl
+commands_lead m (ReplaceChar n c) s v = either s v (is_some (place_forward n v.line)) _ _ (λ e. refresh_leads s v (rewritten (chars_replaced c n) v)) (λ e. rest_leads s v v refl)
+commands_lead m (Replace movement text) s v = replace_leads movement text s v
+commands_lead m ReverseSearchHistory s v = rest_leads s v v refl
+commands_lead m (SelfInsert n c) s v = insertion_leads c n s v
+commands_lead m Suspend s v = rest_leads s v v refl
+commands_lead m TransposeChars s v = chars_lead s v
+commands_lead m (TransposeWords n) s v = words_lead n s v
+commands_lead m (Undo n) s v = undo_leads n s v
+commands_lead m Unknown s v = rest_leads s v v refl
+commands_lead m UpcaseWord s v = word_leads Uppercase s v
+commands_lead m (ViYankTo movement) s v = rest_leads s v v refl
+commands_lead m (Yank n anchor) s v = lent_leads (in_vi_command m) anchor n (slice_get m.ring.slots m.ring.place) s v
+commands_lead m YankPop s v = pop_leads (exchanged m.ring) s v
+commands_lead m (LineUpOrPreviousHistory n) s v = up_leads n s v
+commands_lead m (LineDownOrNextHistory n) s v = down_leads n s v
+commands_lead m Newline s v = newline_leads s v
+commands_lead m (AcceptOrInsertLine middle) s v = accept_or_insert_leads middle s v
 
 pub submitting_leads : SubmittingLeads
 submitting_leads s v info =

@@ -1,8 +1,8 @@
 -- What commands want to be seen leads from what is to be seen of the value before to the same of the value behind.
-use Rattle.std.proofs.Common.{◌≡◌, ℕ, ◌+◌, ◌-◌, ◌==◌, ◌||◌, not, ◌<◌, ◌≤◌, nat_le, nat_lt, Bool, true, false, List, [], ◌∷◌, ◌++◌, take, drop, length, length-append, take_all, Option, Some, None, IfSome, is_some, encode_utf8, refl, sym, ap, ◌∙◌, subst, append_assoc, append-nil, arith, if◌then◌else◌}
+use Rattle.std.proofs.Common.{◌≡◌, ℕ, ◌+◌, ◌-◌, ◌==◌, ◌||◌, not, ◌<◌, nat_le, nat_lt, Bool, true, false, List, [], ◌∷◌, ◌++◌, take, drop, length, take_all, Option, Some, None, IfSome, is_some, encode_utf8, refl, sym, ap, ◌∙◌, subst, append_assoc, append-nil, arith, if◌then◌else◌}
 use Rattle.std.specs.List.{list_all, insert_slice, replace_range}
 use Rattle.std.proofs.lemmas.Bool.{and_parts, eqb-true, ltb-true}
-use Rattle.std.proofs.lemmas.List.{drop_all, take-append-drop, length-drop, length-take}
+use Rattle.std.proofs.lemmas.List.{drop_all, take-append-drop, length-drop}
 use Rattle.std.proofs.lemmas.Str.{encode_ascii}
 use Rattle.line_buffer.specs.Clusters.{place_forward, place_backward}
 use Rattle.line_buffer.specs.Columns.{line_up, line_down}
@@ -11,7 +11,7 @@ use Rattle.line_buffer.specs.Event.Event.{InsertChar}
 use Rattle.line_buffer.specs.Hits.{search_place}
 use Rattle.line_buffer.specs.Insertions.{Insertion, insertion_by, insertion_of, no_insertion, put_at_cursor, insert as insertion}
 use Rattle.line_buffer.specs.Line.{Line, moved_to, cut_out}
-use Rattle.line_buffer.specs.Range.{IsSpanOf, range_of, deletion_line}
+use Rattle.line_buffer.specs.Range.{range_of, deletion_line}
 use Rattle.line_buffer.specs.Rows.{row_start, row_end}
 use Rattle.line_buffer.specs.Short.{is_printable}
 use Rattle.line_buffer.specs.Words.{prev_word, next_word}
@@ -20,7 +20,6 @@ use Rattle.line_buffer.specs.declared.types.At.TheVariants.{Start}
 use Rattle.line_buffer.specs.declared.types.Movement.{Movement}
 use Rattle.line_buffer.specs.declared.types.Movement.TheVariants.{WholeLine, BeginningOfLine, EndOfLine, BackwardWord, ForwardWord, ViCharSearch, ViFirstPrint, BackwardChar, ForwardChar, LineUp, LineDown, WholeBuffer, BeginningOfBuffer, EndOfBuffer}
 use Rattle.line_buffer.specs.declared.types.Word.TheVariants.{Big}
-use Rattle.line_buffer.proofs.SpanLemmas as spans
 use Rattle.line_edits.specs.Edits.{typed, put_behind, killed}
 use Rattle.line_edits.specs.Plain.{is_plain}
 use Rattle.line_help.specs.History.{begins_with_space}
@@ -30,21 +29,22 @@ use Rattle.line_record.specs.Held.{Held}
 use Rattle.line_editor.specs.Drawing.{drawn, asked_anew, refreshed, told, cursor_moved, beeped, cleared_and_drawn}
 use Rattle.line_editor.specs.Inserting.{may_be_typed, show_typed, insert_char, insert_text}
 use Rattle.line_editor.specs.Killing.{may_be_taken, show_taken, kill, insert_text_if, replace}
-use Rattle.line_editor.specs.Leads.{Sound, Leads}
+use Rattle.line_editor.specs.Leads.{Leads}
 use Rattle.line_editor.specs.Moving.{stepped, to_found, to_place, move_home, move_to_next_word, move_to_first_print, move_by}
 use Rattle.line_editor.specs.Redraws.{Redraw}
 use Rattle.line_editor.specs.Redraws.Redraw.{Drawn, Moved, Typed, Taken}
 use Rattle.line_editor.specs.Rewording.{refreshed_if}
 use Rattle.line_editor.specs.Sights.{Sight, sight_as, sight, sight_all, FitsAll, Turns, info_one, info_after, sight_of}
 use Rattle.line_editor.specs.Values.{Value, Setting, Effect, Edit, unchanged, then_do, rewritten, at_line, with_mark}
+use Rattle.line_editor.proofs.KillLemmas.{Low, cut_text, range_low}
 
 -- ---- one after the other
 
-fits_both : (own : List ℕ) (x : Sight) (rs ss : List Redraw) → FitsAll own x rs → FitsAll own (sight_all x rs) ss → FitsAll own x (rs ++ ss)
+pub fits_both : (own : List ℕ) (x : Sight) (rs ss : List Redraw) → FitsAll own x rs → FitsAll own (sight_all x rs) ss → FitsAll own x (rs ++ ss)
 fits_both own x [] ss h k = k
 fits_both own x (r ∷ rs) ss h k = (h.0, fits_both own (sight x r) rs ss h.1 k)
 
-sight_both : (x : Sight) (rs ss : List Redraw) → sight_all x (rs ++ ss) ≡ sight_all (sight_all x rs) ss
+pub sight_both : (x : Sight) (rs ss : List Redraw) → sight_all x (rs ++ ss) ≡ sight_all (sight_all x rs) ss
 sight_both x [] ss = refl
 sight_both x (r ∷ rs) ss = sight_both (sight x r) rs ss
 
@@ -212,25 +212,11 @@ text_leads text s v = either s v (length text == 0) _ _ (λ e. rest_leads s v v 
 
 -- ---- a kill
 
-nothing_in : (xs : List ℕ) → length xs ≡ 0 → xs ≡ []
-nothing_in [] h = refl
-nothing_in (x ∷ xs) h = absurd (omega arith)
-
--- a part whose cut leaves the cursor at the text's end was the text's end
-cut_text : (text : List ℕ) (from upto : ℕ) → from ≤ upto → from ≡ length (replace_range text from upto []) → replace_range text from upto [] ≡ take from text
-cut_text text from upto order end =
-    let whole : replace_range text from upto [] ≡ take from text ++ drop upto text = append_assoc (take from text) [] (drop upto text) in
-    let count : length (replace_range text from upto []) ≡ length (take from text) + length (drop upto text) = ap length whole ∙ length-append (take from text) (drop upto text) in
-    let left = length-drop upto text in
-    let size = length-take from text in
-    let none : length (drop upto text) ≡ 0 = omega arith in
-    whole ∙ ap (λ xs. take from text ++ xs) (nothing_in (drop upto text) none) ∙ append-nil (take from text)
-
-taken_by : (s : Setting) (v w : Value) (from upto : ℕ) (b : Bool) → may_be_taken v w ≡ b → from ≤ upto
+taken_by : (s : Setting) (v w : Value) (from upto : ℕ) (b : Bool) → may_be_taken v w ≡ b → (is_plain v.line.text ≡ true → Low v.line.text from upto)
     → w.line.text ≡ replace_range v.line.text from upto [] → w.line.place ≡ from
     → Leads s v (record { value = w; redraws = (if b then Taken s.prompt (length v.line.text - length w.line.text) w.line.text w.line.place else drawn s w) ∷ [] })
-taken_by s v w from upto false e order text place info = record { fits = ((λ x. refl), tt); leads = refl }
-taken_by s v w from upto true e order text place info =
+taken_by s v w from upto false e low text place info = record { fits = ((λ x. refl), tt); leads = refl }
+taken_by s v w from upto true e low text place info =
     let before = v.line.text in
     let now = w.line.text in
     let a = and_parts (is_plain now) _ e in
@@ -238,7 +224,7 @@ taken_by s v w from upto true e order text place info =
     let d = and_parts (w.line.place == length now) _ b.1 in
     let end = eqb-true w.line.place (length now) d.0 in
     let at : from ≡ length now = sym place ∙ end in
-    let front : now ≡ take from before = text ∙ cut_text before from upto order (at ∙ ap length text) in
+    let front : now ≡ take from before = text ∙ cut_text before from upto (at ∙ ap length text) (ap is_plain (sym text) ∙ a.0) low in
     let whole : before ≡ now ++ drop (length now) before =
     sym (take-append-drop (length now) before) ∙ ap (λ n. take n before ++ drop (length now) before) (sym at) ∙ ap (λ xs. xs ++ drop (length now) before) (sym front) in
     record {
@@ -261,20 +247,20 @@ taken_by s v w from upto true e order text place info =
       leads = refl;
     }
 
-killed_by : (s : Setting) (v : Value) (held : List Held) (o : Option Span) → IfSome o (IsSpanOf v.line.text)
+killed_by : (s : Setting) (v : Value) (held : List Held) (o : Option Span) → (is_plain v.line.text ≡ true → IfSome o (λ span. Low v.line.text span.from span.upto))
     → (let w : Value = record v { line = deletion_line o v.line; held = held } in
     Leads s v (if is_some o then show_taken v s w else unchanged s w))
 killed_by s v held None h = rest_leads s v (record v { held = held }) refl
 killed_by s v held (Some span) h =
     let w : Value = record v { line = cut_out span.from span.upto v.line; held = held } in
-    taken_by s v (asked_anew s w) span.from span.upto (may_be_taken v (asked_anew s w)) refl h.order refl refl
+    taken_by s v (asked_anew s w) span.from span.upto (may_be_taken v (asked_anew s w)) refl h refl refl
 
-pub kill_leads : (m : Movement) (s : Setting) (v : Value) → Sound v → Leads s v (kill m s v)
-kill_leads m s v sound = killed_by s v (rewritten (killed m) v).held (range_of m v.line) (spans.range_spans v.line sound.utf8 sound.boundary m)
+pub kill_leads : (m : Movement) (s : Setting) (v : Value) → Leads s v (kill m s v)
+kill_leads m s v = killed_by s v (rewritten (killed m) v).held (range_of m v.line) (λ plain. range_low v.line plain m)
 
 text_if_leads : (text : Option (List ℕ)) (s : Setting) (v : Value) → Leads s v (insert_text_if text s v)
 text_if_leads None s v = rest_leads s v v refl
 text_if_leads (Some text) s v = text_leads text s v
 
-pub replace_leads : (m : Movement) (text : Option (List ℕ)) (s : Setting) (v : Value) → Sound v → Leads s v (replace m text s v)
-replace_leads m text s v sound = both_lead s v (kill m) (insert_text_if text) (kill_leads m s v sound) (text_if_leads text s (kill m s v).value)
+pub replace_leads : (m : Movement) (text : Option (List ℕ)) (s : Setting) (v : Value) → Leads s v (replace m text s v)
+replace_leads m text s v = both_lead s v (kill m) (insert_text_if text) (kill_leads m s v) (text_if_leads text s (kill m s v).value)

@@ -2,13 +2,18 @@ pub mod AcceptLemmas
 pub mod BegunLemmas
 pub mod CommandsLead
 pub mod DoesLemmas
+pub mod KillLemmas
 pub mod LeadLemmas
+pub mod LineLeads
+pub mod LoopLemmas
+pub mod CarriesLemmas
 pub mod ReachLemmas
 pub mod RefusedLemmas
 pub mod ReplaysLemmas
 pub mod ReturnLemmas
 pub mod RowLemmas
 mod Rows
+pub mod RunLemmas
 pub mod TurnLemmas
 pub mod UndoAllLemmas
 pub mod UndoLemmas

@@ -19,7 +19,7 @@ use Rattle.line_buffer.specs.declared.types.At.TheVariants.{Start}
 use Rattle.line_buffer.specs.declared.types.Word.TheVariants.{Big}
 use Rattle.line_buffer.specs.declared.types.WordAction.{WordAction}
 use Rattle.line_buffer.specs.declared.types.WordAction.TheVariants.{Capitalize, Lowercase, Uppercase}
-use Rattle.line_edits.specs.Edits.{yanked, transpose_chars_in_group, transpose_words_in_group, edit_word_in_group, undone}
+use Rattle.line_edits.specs.Edits.{yanked, transpose_chars_in_group, transpose_words_in_group, edit_word_in_group}
 use Rattle.line_edits.specs.Written.{opened, closed}
 use Rattle.line_help.specs.Hints.{Hinted}
 use Rattle.line_help.specs.History.{begins_with_space}
@@ -284,7 +284,7 @@ command_held m (SelfInsert n c) s text at v quiet inside h away = keeps_held s t
 command_held m Suspend s text at v quiet inside h away = keeps_held s text at v (effect m Suspend s v).value h away (same v)
 command_held m TransposeChars s text at v quiet inside h away = keeps_held s text at v (effect m TransposeChars s v).value h away (drawn_keeps (transposes_chars v.line) s v (rewritten transpose_chars_in_group v) (kept refl refl))
 command_held m (TransposeWords n) s text at v quiet inside h away = keeps_held s text at v (effect m (TransposeWords n) s v).value h away ((let w = rewritten (transpose_words_in_group n) v in drawn_keeps (transposes_words n v.line || not (w.line.place == v.line.place)) s v w (kept refl refl)))
-command_held m (Undo n) s text at v quiet inside h away = keeps_held s text at v (effect m (Undo n) s v).value h away (drawn_keeps (has_step (max n 1) v.held) s v (rewritten (undone n) v) (kept refl refl))
+command_held m (Undo n) s text at v quiet inside h away = keeps_held s text at v (effect m (Undo n) s v).value h away (either v (has_step (max n 1) v.held) _ _ (kept refl refl) (kept refl refl))
 command_held m Unknown s text at v quiet inside h away = keeps_held s text at v (effect m Unknown s v).value h away (same v)
 command_held m UpcaseWord s text at v quiet inside h away = keeps_held s text at v (effect m UpcaseWord s v).value h away (word_keeps Uppercase s v)
 command_held m (ViYankTo movement) s text at v quiet inside h away = keeps_held s text at v (effect m (ViYankTo movement) s v).value h away (same v)

@@ -1,5 +1,5 @@
 -- Each step leaves a record that reaches the same text.
-use Rattle.std.proofs.Common.{◌≡◌, ℕ, ◌+◌, ◌-◌, ◌==◌, ◌||◌, not, max, Bool, true, false, List, [], ◌∷◌, length, Option, Some, None, is_some, slice_get, refl, sym, ◌∙◌, subst, if◌then◌else◌}
+use Rattle.std.proofs.Common.{◌≡◌, ℕ, ◌+◌, ◌-◌, ◌==◌, ◌||◌, not, Bool, true, false, List, [], ◌∷◌, length, Option, Some, None, is_some, slice_get, refl, sym, ◌∙◌, subst, if◌then◌else◌}
 use Rattle.std.specs.Prelude.{IsUtf8, IsCharBoundary, IfSome, encode_utf8}
 use Rattle.line_buffer.specs.Columns.{line_up, line_down}
 use Rattle.line_buffer.specs.Insertions.{can_take_before, insert as insertion, yank as yanked_in, yank_pop as popped_in}
@@ -22,7 +22,7 @@ use Rattle.line_buffer.specs.declared.types.WordAction.{WordAction}
 use Rattle.line_buffer.specs.declared.types.WordAction.TheVariants.{Capitalize, Lowercase, Uppercase}
 use Rattle.line_buffer.proofs.ReplayedLemmas.{replayed_all-one, replayed_insertion, replayed_replacement, yank_pop_replayed}
 use Rattle.line_buffer.proofs.SpanLemmas.{IsLater, place_forward-later, deletion_replays}
-use Rattle.line_edits.specs.Edits.{put_behind, yanked, updated, popped, deleted, clusters_after, exchanged_for, written_over, overwritten, chars_transposed, transpose_chars_in_group, words_transposed, transpose_words_in_group, word_edited, edit_word_in_group, undone}
+use Rattle.line_edits.specs.Edits.{put_behind, yanked, updated, popped, deleted, clusters_after, exchanged_for, written_over, overwritten, chars_transposed, transpose_chars_in_group, words_transposed, transpose_words_in_group, word_edited, edit_word_in_group}
 use Rattle.line_edits.specs.Written.{Written, opened, closed}
 use Rattle.line_help.specs.Hints.{Hinted}
 use Rattle.line_help.specs.History.{begins_with_space}
@@ -38,7 +38,7 @@ use Rattle.line_keys.specs.declared.command.Cmd.{Cmd}
 use Rattle.line_keys.specs.declared.command.Cmd.TheVariants.{AcceptLine, BeginningOfHistory, CapitalizeWord, CompleteHint, Dedent, DowncaseWord, EndOfHistory, HistorySearchBackward, HistorySearchForward, Indent, Insert, Kill, Move, NextHistory, Overwrite, PreviousHistory, ReplaceChar, Replace, SelfInsert, TransposeChars, TransposeWords, Undo, UpcaseWord, Yank, YankPop, LineUpOrPreviousHistory, LineDownOrNextHistory, Newline, AcceptOrInsertLine}
 use Rattle.line_keys.specs.declared.command.CmdKind.{CmdKind}
 use Rattle.line_keys.specs.declared.command.CmdKind.TheVariants.{ForcedRefresh, MoveCursor, Other}
-use Rattle.line_record.specs.Held.{has_step, closes}
+use Rattle.line_record.specs.Held.{closes}
 use Rattle.line_record.specs.Ring.{exchanged}
 use Rattle.line_editor.specs.Accepting.{told_if, verdict_told, validate_by, verdict, bare, accept, accepts, newline_if}
 use Rattle.line_editor.specs.Asks.{ask_effect}
@@ -55,9 +55,9 @@ use Rattle.line_editor.specs.Rewording.{refreshed_if, edit_word}
 use Rattle.line_editor.specs.UndoAll.{BegunSound, UndoesAll}
 use Rattle.line_editor.specs.Values.{Value, Setting, Effect, then_do, rewritten, written_of, at_line}
 use Rattle.line_editor.specs.Yanking.{anchored, steps, behind_yank, yanked_by, yank, yank_lent, pop_lent}
-use Rattle.line_editor.proofs.ReachLemmas.{ended_reaches, undo_reached, edit_reaches, group_reaches, typing_reaches, yanking_reaches, updating_reaches, indenting_reaches, killing_reaches, transposing_reaches}
+use Rattle.line_editor.proofs.ReachLemmas.{ended_reaches, edit_reaches, group_reaches, typing_reaches, yanking_reaches, updating_reaches, indenting_reaches, killing_reaches, transposing_reaches}
 use Rattle.line_editor.proofs.ReplaysLemmas.{transpose_words_replays, edit_word_replays}
-use Rattle.line_editor.proofs.UndoLemmas.{undo_reaches}
+use Rattle.line_editor.proofs.UndoLemmas.{undo_reaches, unmade_reached}
 
 -- ---- edits of a line with its record
 
@@ -282,7 +282,7 @@ command_reached m (TransposeWords n) s v first ok r =
     let w = rewritten (transpose_words_in_group n) v in
     drawn_reached (transposes_words n v.line || not (w.line.place == v.line.place)) s w first
     (group_reaches (words_transposed n) (written_of v) first (λ k. words_reach first (opened (written_of v)) ok.utf8 ok.boundary k n) r)
-command_reached m (Undo n) s v first ok r = drawn_reached (has_step (max n 1) v.held) s (rewritten (undone n) v) first (undo_reached (max n 1) first v.held v.line r)
+command_reached m (Undo n) s v first ok r = unmade_reached n s v first r
 command_reached m PreviousHistory s v first ok r = history_reached true s v first r
 command_reached m NextHistory s v first ok r = history_reached false s v first r
 command_reached m BeginningOfHistory s v first ok r = ends_reached true s v first r

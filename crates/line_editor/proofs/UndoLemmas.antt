@@ -1,13 +1,26 @@
 -- All items of a record taken back give the text that it reaches.
-use Rattle.std.proofs.Common.{◌≡◌, ℕ, zero, suc, ◌≤◌, max, Bool, true, false, List, [], ◌∷◌, length, refl, arith, ◌∙◌}
+use Rattle.std.proofs.Common.{◌≡◌, ℕ, zero, suc, ◌≤◌, max, Bool, true, false, List, [], ◌∷◌, length, drop, Ok, refl, sym, ap, subst, arith, ◌∙◌, if◌then◌else◌}
 use Rattle.line_buffer.specs.Line.{Line}
 use Rattle.line_record.specs.Held.{Held, line_back, has_step}
 use Rattle.line_record.specs.Held.Held.{Opened, Stepped}
+use Rattle.line_record.specs.Items.{Item, done_held, held_on}
+use Rattle.line_record.specs.Items.Item.{Open, Lone, Group}
 use Rattle.line_edits.specs.Edits.{undone}
 use Rattle.line_editor.specs.Leads.{Reaches}
-use Rattle.line_editor.specs.Rewording.{refreshed_if}
+use Rattle.line_help.specs.declared.completion as completions
+use Rattle.line_help.specs.declared.hint as hints
+use Rattle.line_help.specs.declared.highlight as highlights
+use Rattle.line_help.specs.declared.validate as verdicts
+use Rattle.line_help.specs.declared.history as histories
+use Rattle.line_editor.specs.Drawing.{refreshed}
+use Rattle.line_editor.specs.Rewording.{unmarked, undo}
+use Rattle.line_editor.specs.States.{value_of, setting_of, Stays, Does}
 use Rattle.line_editor.specs.UndoAll.{UndoReaches}
-use Rattle.line_editor.specs.Values.{Value, Setting, rewritten}
+use Rattle.line_editor.specs.Values.{Value, Setting, unchanged, rewritten}
+use Rattle.line_editor.specs.declared.renderer as renderers
+use Rattle.line_editor.specs.declared.state.State.{State}
+use Rattle.line_editor.proofs.DoesLemmas.{does_as}
+use Rattle.line_editor.proofs.ReachLemmas.{undo_reached}
 
 all_back : (n : ℕ) (held : List Held) (l : Line) (first : List ℕ) → length held ≤ n → Reaches first held l.text → (line_back n held l).text ≡ first
 all_back zero [] l first h r = r
@@ -16,10 +29,62 @@ all_back zero (x ∷ held) l first h r = absurd (omega (arith, h))
 all_back (suc n) (Opened earlier ∷ held) l first h r = all_back n held (record l { text = earlier }) first (omega (arith, h)) r.1
 all_back (suc n) (Stepped earlier place newest joinable ∷ held) l first h r = all_back n held (record l { text = earlier; place = place }) first (omega (arith, h)) r
 
-drawn_text : (b : Bool) (s : Setting) (v : Value) → (refreshed_if b s v).value.line.text ≡ v.line.text
-drawn_text true s v = refl
-drawn_text false s v = refl
+-- marks alone leave the line
+pub line_rests : (n : ℕ) (held : List Held) (l : Line) (first : List ℕ) → Reaches first held l.text → has_step n held ≡ false → line_back n held l ≡ l
+line_rests zero held l first r h = refl
+line_rests (suc n) [] l first r h = refl
+line_rests (suc n) (Opened earlier ∷ held) l first r h =
+    line_rests n held (record l { text = earlier }) first r.1 h ∙ ap (λ text. record l { text = text }) (sym r.0)
+line_rests (suc n) (Stepped earlier place newest joinable ∷ held) l first r h = cc
+
+text_by : (s : Setting) (v w x : Value) (b : Bool) (text : List ℕ) → (b ≡ true → w.line.text ≡ text) → (b ≡ false → x.line.text ≡ text)
+    → (if b then refreshed s w else unchanged s x).value.line.text ≡ text
+text_by s v w x true text h k = h refl
+text_by s v w x false text h k = k refl
 
 pub undo_reaches : UndoReaches
 undo_reaches s m v n first r h =
-    drawn_text (has_step (max n 1) v.held) s (rewritten (undone n) v) ∙ all_back (max n 1) v.held v.line first (omega (arith, h)) r
+    let back = all_back (max n 1) v.held v.line first (omega (arith, h)) r in
+    text_by s v (rewritten (undone n) v) (unmarked n v) (has_step (max n 1) v.held) first (λ e. back) (λ e. ap (λ (l : Line). l.text) (sym (line_rests (max n 1) v.held v.line first r e)) ∙ back)
+
+pub unmade_reached : (n : ℕ) (s : Setting) (v : Value) (first : List ℕ) → Reaches first v.held v.line.text → (let w = (undo n s v).value in Reaches first w.held w.line.text)
+unmade_reached n s v first r = by_step (has_step (max n 1) v.held) refl
+  where
+    back : Reaches first (drop (max n 1) v.held) (line_back (max n 1) v.held v.line).text
+    back = undo_reached (max n 1) first v.held v.line r
+
+    by_step : (b : Bool) → has_step (max n 1) v.held ≡ b
+        → (let w = (if b then refreshed s (rewritten (undone n) v) else unchanged s (unmarked n v)).value in Reaches first w.held w.line.text)
+    by_step true e = back
+    by_step false e = subst (λ (l : Line). Reaches first (drop (max n 1) v.held) l.text) (line_rests (max n 1) v.held v.line first r e) back
+
+-- the same of a record that stands on the line's text
+pub items_rest : (n : ℕ) (items : List Item) (l : Line) → has_step n (done_held items l.text) ≡ false → line_back n (done_held items l.text) l ≡ l
+items_rest zero items l h = refl
+items_rest (suc n) [] l h = refl
+items_rest (suc n) (Open ∷ items) l h = items_rest n items l h
+items_rest (suc n) (Lone change ∷ items) l h = cc
+items_rest (suc n) (Group oldest newer ∷ items) l h = cc
+
+module _ {Out H Hi K T : Type 0} {renderer : renderers.Renderer.Ghosts Out} {completer : completions.Completer.Ghosts H K} {candidate : completions.Candidate.Ghosts K}
+    {hinter : hints.Hinter.Ghosts H T} {hint : hints.Hint.Ghosts T} {highlighter : highlights.Highlighter.Ghosts H} {validator : verdicts.Validator.Ghosts H} {history : histories.History.Ghosts Hi} where
+  -- where marks alone are taken back nothing is drawn
+  pub unmade_does : {A : Type 0} (n : ℕ) (s t : State Out H Hi K T renderer completer candidate hinter hint highlighter validator history) (x : A)
+      → has_step (max n 1) (held_on s.changes s.line.text) ≡ false
+      → t.line ≡ line_back (max n 1) (held_on s.changes s.line.text) s.line
+      → held_on t.changes t.line.text ≡ drop (max n 1) (held_on s.changes s.line.text)
+      → value_of t ≡ record (value_of s) { line = t.line; held = held_on t.changes t.line.text }
+      → s.out ≡ t.out → t.layout ≡ s.layout → Stays s t → Does (undo n) s t (Ok x)
+  unmade_does n s t x none line held rest out layout stays =
+      let v = value_of s in
+      let same : t.line ≡ v.line = line ∙ items_rest (max n 1) s.changes.done s.line none in
+      let quiet : unchanged (setting_of s) (unmarked n v) ≡ undo n (setting_of s) v = ap (λ b. if b then refreshed (setting_of s) (rewritten (undone n) v) else unchanged (setting_of s) (unmarked n v)) (sym none) in
+      does_as (λ a w. unchanged a (unmarked n w)) (undo n) s t (Ok x) quiet
+      (record {
+        value = rest ∙ ap (λ l. record v { line = l; held = held_on t.changes t.line.text }) same ∙ ap (λ h. record v { line = v.line; held = h }) held;
+        calls = out;
+        layout = layout;
+        stays = stays;
+        reason = tt;
+        begun = tt;
+      })

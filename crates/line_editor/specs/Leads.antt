@@ -6,10 +6,16 @@ use Rattle.line_keys.specs.declared.command.Cmd.{Cmd}
 use Rattle.line_keys.specs.declared.command.Cmd.TheVariants.{Interrupt}
 use Rattle.line_record.specs.Held.{Held}
 use Rattle.line_record.specs.Held.Held.{Opened, Stepped}
+use Rattle.line_keys.specs.Answers.{Custom}
+use Rattle.line_keys.specs.Coming.{Coming}
+use Rattle.line_keys.specs.Phrases.{Input}
+use Rattle.line_record.specs.Ring.{Ring}
 use Rattle.line_editor.specs.Accepting.{submitted}
 use Rattle.line_editor.specs.Asks.{ask_effect}
 use Rattle.line_editor.specs.Commands.{Means, effect}
-use Rattle.line_editor.specs.Sights.{Sight, sight_with, sight_of, ended_sight, info_after, Turns}
+use Rattle.line_editor.specs.Courses.{Course, EndsLine}
+use Rattle.line_editor.specs.Lines.{line_of}
+use Rattle.line_editor.specs.Sights.{Sight, no_sight, sight_with, sight_of, ended_sight, info_after, Turns}
 use Rattle.line_editor.specs.Values.{Value, Setting, Effect, shown_hint}
 
 -- its text is of whole characters, its place between two of them
@@ -43,9 +49,7 @@ CommandLeads cmd s v e = Leads s v e
 
 abbrev pub CommandsLead : Type 0
 CommandsLead =
-    (m : Means) (cmd : Cmd) (s : Setting) (v : Value) (first : List ℕ)
-    → Sound v → Reaches first v.held v.line.text
-    → CommandLeads cmd s v (effect m cmd s v)
+    (m : Means) (cmd : Cmd) (s : Setting) (v : Value) → CommandLeads cmd s v (effect m cmd s v)
 
 -- an accepted line leads to its end
 abbrev pub SubmittingLeads : Type 0
@@ -69,3 +73,12 @@ AskLeads DoneInserting x s e = e.redraws ≡ []
 abbrev pub AsksLead : Type 0
 AsksLead =
     (ask : Ask) (s : Setting) (v : Value) (x : Sight) → AskLeads ask x s (ask_effect ask s v)
+
+-- whatever comes, a line's turns lead from a display that shows nothing of it, each to what it says
+-- is to be seen; the one that accepts the line leads to the drawing's end
+abbrev pub LinesLead : Type 0
+LinesLead =
+    (n : ℕ) (s : Setting) (custom : Custom) (indent : ℕ) (input : Input) (r : Ring)
+    (coming : Coming)
+    → let line = line_of n s custom indent input r coming in
+    Course s.prompt no_sight line.turns × EndsLine line.outcome line.turns

@@ -1,5 +1,5 @@
 -- Clusters and words exchanged, words in other letters, rows moved in and out, and changes taken back.
-use Rattle.std.specs.Prelude.{ℕ, ◌==◌, ◌||◌, not, max, Bool, if◌then◌else◌, is_some}
+use Rattle.std.specs.Prelude.{ℕ, ◌==◌, ◌||◌, not, max, Bool, drop, if◌then◌else◌, is_some}
 use Rattle.line_buffer.specs.LetterCase.{word_to_edit}
 use Rattle.line_buffer.specs.Transpositions.{transposes_chars, transposes_words}
 use Rattle.line_buffer.specs.declared.types.Movement.{Movement}
@@ -7,7 +7,7 @@ use Rattle.line_buffer.specs.declared.types.WordAction.{WordAction}
 use Rattle.line_record.specs.Held.{has_step}
 use Rattle.line_edits.specs.Edits.{transpose_chars_in_group, transpose_words_in_group, edit_word_in_group, indented, undone}
 use Rattle.line_editor.specs.Drawing.{refreshed}
-use Rattle.line_editor.specs.Values.{Value, Setting, Effect, Edit, unchanged, rewritten}
+use Rattle.line_editor.specs.Values.{Value, Edit, unchanged, rewritten}
 
 -- drawn where something changed
 abbrev pub refreshed_if : Bool → Edit
@@ -28,5 +28,12 @@ edit_word action s v = refreshed_if (is_some (word_to_edit v.line)) s (rewritten
 abbrev pub indent : Movement → ℕ → Bool → Edit
 indent movement amount dedent s v = refreshed s (rewritten (indented movement amount dedent) v)
 
+-- marks taken back, from which the line stays
+abbrev pub unmarked : ℕ → Value → Value
+unmarked n v = record v { held = drop (max n 1) v.held }
+
+-- where no step is among what is taken back, nothing is drawn
 abbrev pub undo : ℕ → Edit
-undo n s v = refreshed_if (has_step (max n 1) v.held) s (rewritten (undone n) v)
+undo n s v =
+    if has_step (max n 1) v.held then refreshed s (rewritten (undone n) v)
+    else unchanged s (unmarked n v)

@@ -1,6 +1,6 @@
 //! Laws of the editor, each the contract of a function that does nothing.
 
-ghost use Rattle.line_editor.specs.Leads.{CommandsLead, SubmittingLeads, AsksLead};
+ghost use Rattle.line_editor.specs.Leads.{CommandsLead, SubmittingLeads, AsksLead, LinesLead};
 ghost use Rattle.line_editor.specs.Returns.{ComesBack};
 ghost use Rattle.line_editor.specs.UndoAll.{UndoReaches, UndoesAll};
 
@@ -18,6 +18,12 @@ pub fn submitting_leads()
 /// What the key tables ask for leads to a display that shows the value, whatever stood there.
 pub fn asks_lead()
     ensures { AsksLead }
+{}
+
+/// Whatever comes, the turns of a line lead, drawing after drawing, from a display that shows nothing of the line to what
+/// each turn says is to be seen, and the turn that accepts the line, or ends the session, is the last.
+pub fn lines_lead()
+    ensures { LinesLead }
 {}
 
 /// Where the history's end is left by a step back or to the first entry, and later its end is come back to with no search

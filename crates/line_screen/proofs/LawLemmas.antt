@@ -6,8 +6,9 @@ use Rattle.std.proofs.lemmas.Bool.{lt-ltb}
 use Rattle.std.proofs.lemmas.Bool.Decides.{nat_tests}
 use Rattle.line_buffer.specs.declared.layout.Position.{Position}
 use Rattle.line_buffer.specs.Cells.{origin}
-use Rattle.line_screen.specs.Calls.{Screen, ScreenCall, bytes_of}
-use Rattle.line_screen.specs.Calls.ScreenCall.{Draw, Move, Write, Beep, ClearScreen, ClearRows, ClearToEol}
+use Rattle.line_editor.specs.Calls.{Call}
+use Rattle.line_editor.specs.Calls.Call.{Draw, Move, Write, Beep, ClearScreen, ClearRows, ClearToEol, ToLeftmost}
+use Rattle.line_screen.specs.Calls.{Screen, bytes_of}
 use Rattle.line_screen.specs.Cells.{Cell, cell_at}
 use Rattle.line_screen.specs.Cells.Cell.{Head, Tail}
 use Rattle.line_screen.specs.Chain.{View, Good, Leads, empty_at}
@@ -46,7 +47,7 @@ calls_lead s low high bytes over a b call g h =
     (led.next, led.good, led.stays)
 
 -- a line's top is never above the one before, but where the screen is cleared
-top_grows : (s : Screen) (a b : View) (call : ScreenCall) → Leads s.columns (widths s) a call b → call ≢ ClearScreen → a.top ≤ b.top
+top_grows : (s : Screen) (a b : View) (call : Call) → Leads s.columns (widths s) a call b → call ≢ ClearScreen → a.top ≤ b.top
 top_grows s a b (Draw old prompt line info finish cursor) h none = let same : b.top ≡ a.top = h.1.top_is in omega arith
 top_grows s a b (Move old new) h none = let same : b.top ≡ a.top = ap (λ (w : View). w.top) h.view in omega arith
 top_grows s a b (Write text) (inl h) none = let same : b.top ≡ a.top = ap (λ (w : View). w.top) h.view in omega arith
@@ -55,6 +56,7 @@ top_grows s a b Beep h none = let same : b.top ≡ a.top = ap (λ (w : View). w.
 top_grows s a b ClearScreen h none = absurd (none refl)
 top_grows s a b (ClearRows row) h none = let same : b.top ≡ a.top = ap (λ (w : View). w.top) h.1 in omega arith
 top_grows s a b ClearToEol h none = let same : b.top ≡ a.top = ap (λ (w : View). w.top) h.view in omega arith
+top_grows s a b ToLeftmost h none = let same : b.top ≡ a.top = ap (λ (w : View). w.top) h in omega arith
 
 pub chains_lead : ChainsLead
 chains_lead s low high [] bytes over a b g h =

@@ -11,8 +11,9 @@ use Rattle.line_buffer.specs.declared.layout.GraphemeClusterMode.{GraphemeCluste
 use Rattle.line_buffer.specs.declared.layout.Position.{Position}
 use Rattle.line_config.specs.declared.settings.BellStyle.{BellStyle}
 use Rattle.line_config.specs.declared.settings.BellStyle.TheVariants as Bells
-use Rattle.line_screen.specs.Calls.{Screen, ScreenCall, bytes_of, bell_bytes, drawing_bytes}
-use Rattle.line_screen.specs.Calls.ScreenCall.{Draw, Move, Write, Beep, ClearScreen, ClearRows, ClearToEol}
+use Rattle.line_editor.specs.Calls.{Call}
+use Rattle.line_editor.specs.Calls.Call.{Draw, Move, Write, Beep, ClearScreen, ClearRows, ClearToEol, ToLeftmost}
+use Rattle.line_screen.specs.Calls.{Screen, bytes_of, bell_bytes, drawing_bytes}
 use Rattle.line_screen.specs.Chain.{View, Good, Inside, empty_at, Replaces, Redraws, is_simple, typed, Types, EndsLine, cut_line, Leads, at_place}
 use Rattle.line_screen.specs.Display.{Placed, Display, read, start, put_down, is_printable, right, ends_before, starts_before, is_cut, stays_in_row, at_cursor, erased_below, erased_right}
 use Rattle.line_screen.specs.Display.DisplayReading.{Text, Lost}
@@ -391,7 +392,7 @@ module _ (mode : GraphemeClusterMode) (columns : ℕ) (some : 1 ≤ columns) (fe
       either (Some row) h low high = redraw_good bytes over a row b.shown g h low high
 
 -- what stands above stays, but where the screen is cleared
-pub record Led (s : Screen) (bytes : List ℕ) (over : List Placed) (a : View) (call : ScreenCall) (b : View) : Type 0 where
+pub record Led (s : Screen) (bytes : List ℕ) (over : List Placed) (a : View) (call : Call) (b : View) : Type 0 where
   pub next : List Placed
   pub good : Good s.columns (cluster_width s.mode s.columns) (bytes ++ bytes_of s call) next b
   pub stays : call ≢ ClearScreen → filter (above a.top) next ≡ over
@@ -404,7 +405,7 @@ retold columns wide bytes over a at g = record { display = g.display; stands = g
 pub over_again : (columns : ℕ) (wide : List ℕ → Option ℕ) (bytes : List ℕ) (over : List Placed) (a : View) → Good columns wide bytes over a → filter (above a.top) over ≡ over
 over_again columns wide bytes over a g = ap (filter (above a.top)) (sym g.over_is) ∙ above_twice a.top a.top (omega arith) g.display.placed ∙ g.over_is
 
-same_over : (s : Screen) (bytes : List ℕ) (over : List Placed) (a : View) (call : ScreenCall) (b : View) → Good s.columns (cluster_width s.mode s.columns) bytes over a → Good s.columns (cluster_width s.mode s.columns) (bytes ++ bytes_of s call) over b → Led s bytes over a call b
+same_over : (s : Screen) (bytes : List ℕ) (over : List Placed) (a : View) (call : Call) (b : View) → Good s.columns (cluster_width s.mode s.columns) bytes over a → Good s.columns (cluster_width s.mode s.columns) (bytes ++ bytes_of s call) over b → Led s bytes over a call b
 same_over s bytes over a call b g h = record { next = over; good = h; stays = λ _. over_again s.columns (cluster_width s.mode s.columns) bytes over a g }
 
 write_led : (s : Screen) → 1 ≤ s.columns → s.columns < 2 ^ 64 → (bytes : List ℕ) (over : List Placed) (a b : View) (text : List ℕ) → Good s.columns (cluster_width s.mode s.columns) bytes over a
@@ -422,7 +423,7 @@ write_led s some few bytes over a b text g (inr t) =
       stays = λ _. done.2;
     }
 
-pub leads : (s : Screen) → 1 ≤ s.columns → s.columns < 2 ^ 64 → (bytes : List ℕ) (over : List Placed) (a b : View) (call : ScreenCall) → Good s.columns (cluster_width s.mode s.columns) bytes over a
+pub leads : (s : Screen) → 1 ≤ s.columns → s.columns < 2 ^ 64 → (bytes : List ℕ) (over : List Placed) (a b : View) (call : Call) → Good s.columns (cluster_width s.mode s.columns) bytes over a
     → Leads s.columns (cluster_width s.mode s.columns) a call b → Led s bytes over a call b
 leads s some few bytes over a b (Draw old prompt line info finish cursor) g h =
     same_over s bytes over a (Draw old prompt line info finish cursor) b g (draw_good s.mode s.columns some few bytes over a b old prompt line info finish cursor g h.0 h.1)
@@ -448,3 +449,6 @@ leads s some few bytes over a b ClearToEol g h =
     same_over s bytes over a ClearToEol b g
     (subst (Good s.columns (cluster_width s.mode s.columns) (bytes ++ erase_to_row_end) over) (sym h.view)
     (kills_good s.mode s.columns some few bytes over a h.line h.killed g h.whole h.info h.simple h.printable h.room h.place_is))
+leads s some few bytes over a b ToLeftmost g h =
+    same_over s bytes over a ToLeftmost b g
+    (subst (λ x. Good s.columns (cluster_width s.mode s.columns) x over b) (sym (append-nil bytes)) (subst (Good s.columns (cluster_width s.mode s.columns) bytes over) (sym h) g))

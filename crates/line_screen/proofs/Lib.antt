@@ -1,3 +1,4 @@
+pub mod CallLemmas
 pub mod Cuts
 pub mod Draws
 pub mod EncodedChars
@@ -19,6 +20,7 @@ pub mod Outcomes
 pub mod Owed
 pub mod Pasting
 pub mod ReadChars
+pub mod ReaderRules
 mod Rows
 pub mod RowsLeft
 pub mod Runs

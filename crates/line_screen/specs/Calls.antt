@@ -1,7 +1,6 @@
--- The drawing calls of a screen, and the bytes of each.
-use Rattle.std.specs.Prelude.{◌≡◌, ℕ, Bool, IsTrue, List, [], ◌∷◌, ◌++◌, Option, Some, None, option_map, Result, Ok, Err, IfErr, OnOk, OnErr}
+-- The bytes of each drawing call on a screen, and what a call does to the screen and its sink.
+use Rattle.std.specs.Prelude.{◌≡◌, ℕ, Bool, false, IsTrue, List, [], ◌∷◌, ◌++◌, Option, Some, None, Result, Ok, Err}
 use Rattle.line_buffer.specs.declared.layout.GraphemeClusterMode.{GraphemeClusterMode}
-use Rattle.line_buffer.specs.declared.layout.Layout.{Layout}
 use Rattle.line_buffer.specs.declared.layout.Position.{Position}
 use Rattle.line_config.specs.declared.device.DeviceFailed.{DeviceFailed}
 use Rattle.line_config.specs.declared.errors.ReadlineError.{ReadlineError}
@@ -9,8 +8,10 @@ use Rattle.line_config.specs.declared.errors.ReadlineError.TheVariants as Refusa
 use Rattle.line_config.specs.Sending.{Takes}
 use Rattle.line_config.specs.declared.settings.BellStyle.{BellStyle}
 use Rattle.line_config.specs.declared.settings.BellStyle.TheVariants.{Audible}
+use Rattle.line_editor.specs.Calls.{Call, Canvas, Ruler}
+use Rattle.line_editor.specs.Calls.Call.{Draw, Move, Write, Beep, ClearScreen, ClearRows, ClearToEol, ToLeftmost}
 use Rattle.line_screen.specs.Drawing.{drawing, full_drawing, cleared, move_bytes, erase_to_end, erase_to_row_end, go_home}
-use Rattle.line_screen.specs.Measure.{cluster_width}
+use Rattle.line_screen.specs.Measure.{cluster_width, measure_of}
 use Rattle.line_screen.specs.declared.renderer.ScreenRenderer.{ScreenRenderer}
 
 -- what doesn't change over a screen's calls
@@ -25,14 +26,14 @@ screen_of r = record { columns = r.grid.columns; mode = r.grid.mode; bell = r.be
 abbrev pub sink_of : {D : Type 0} → ScreenRenderer D → D
 sink_of r = r.sink
 
-pub data ScreenCall : Type 0 where
-  Draw : (old_row : Option ℕ) (prompt line info : List ℕ) (finish cursor : Position) → ScreenCall
-  Move : (old new : Position) → ScreenCall
-  Write : (text : List ℕ) → ScreenCall
-  Beep : ScreenCall
-  ClearScreen : ScreenCall
-  ClearRows : (row : ℕ) → ScreenCall
-  ClearToEol : ScreenCall
+-- what it measures by; its drawings have no colours
+abbrev pub ruler_of : Screen → Ruler
+ruler_of s = record {
+  measure = measure_of s.mode s.columns;
+  columns = s.columns;
+  colours = false;
+  mode = s.mode;
+}
 
 abbrev pub drawing_bytes : ℕ → (List ℕ → Option ℕ) → Option ℕ → List ℕ → List ℕ → List ℕ → Position
     → Position → List ℕ
@@ -46,7 +47,8 @@ abbrev pub bell_bytes : BellStyle → List ℕ
 bell_bytes Audible = 0x07 ∷ []
 bell_bytes _ = []
 
-abbrev pub bytes_of : Screen → ScreenCall → List ℕ
+-- each drawing ends in its own cells, so no call leaves the cursor elsewhere than it says
+abbrev pub bytes_of : Screen → Call → List ℕ
 bytes_of s (Draw old prompt line info finish cursor) = drawing_bytes s.columns
     (cluster_width s.mode s.columns) old prompt line info finish cursor
 bytes_of s (Move old new) = move_bytes old new
@@ -55,24 +57,31 @@ bytes_of s Beep = bell_bytes s.bell
 bytes_of s ClearScreen = go_home ++ erase_to_end
 bytes_of s (ClearRows row) = cleared row
 bytes_of s ClearToEol = erase_to_row_end
-
--- the row of the cursor of an older drawing, if there is one
-abbrev pub old_row : Option Layout → Option ℕ
-old_row old = option_map (λ layout. layout.cursor.row) old
+bytes_of s ToLeftmost = []
 
 -- a failed device's answer is the display's refusal
 abbrev pub display_answer : {A : Type 0} → Result A DeviceFailed → Result A ReadlineError
 display_answer (Ok x) = Ok x
 display_answer (Err e) = Err Refusal.Display
 
--- a call of a screen: answered, its bytes were sent and the sink works as before; refused, the sink
--- has failed. The screen stays as it is.
-pub record MakesCall {D A : Type 0} (told : D → Bool) (held : D → List ℕ) (failed : D → Bool)
-    (call : ScreenCall)
-    (old new : ScreenRenderer D) (result : Result A ReadlineError) : Type 0 where
-  pub sent : OnOk result (Takes told held (sink_of old) (sink_of new)
-      (bytes_of (screen_of old) call))
-  pub works : OnOk result (failed (sink_of new) ≡ failed (sink_of old))
-  pub fault : IfErr result (λ e. e ≡ Refusal.Display)
-  pub err : OnErr result (IsTrue (failed (sink_of new)))
+-- bytes were sent and the sink works as before; the screen stays as it is
+pub record Sent {D : Type 0} (told : D → Bool) (held : D → List ℕ) (failed : D → Bool)
+    (bytes : List ℕ) (old new : ScreenRenderer D) : Type 0 where
+  pub takes : Takes told held (sink_of old) (sink_of new) bytes
+  pub works : failed (sink_of new) ≡ failed (sink_of old)
   pub screen : screen_of new ≡ screen_of old
+
+-- the sink has failed, and what it took isn't known; the screen stays as it is
+pub record Unsent {D : Type 0} (failed : D → Bool) (old new : ScreenRenderer D) : Type 0 where
+  pub fails : IsTrue (failed (sink_of new))
+  pub screen : screen_of new ≡ screen_of old
+
+-- a screen as a renderer: a call that it makes sends the call's bytes
+abbrev pub canvas_of : {D : Type 0} → (D → Bool) → (D → List ℕ) → (D → Bool)
+    → Canvas (ScreenRenderer D)
+canvas_of told held failed = record {
+  made = λ old call new. Sent told held failed (bytes_of (screen_of old) call) old new;
+  refused = λ old call new. Unsent failed old new;
+  failed = λ r. failed (sink_of r);
+  ruler = λ r. ruler_of (screen_of r);
+}

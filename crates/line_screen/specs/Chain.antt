@@ -3,8 +3,8 @@ use Rattle.std.specs.Prelude.{◌≡◌, ℕ, ◌+◌, ◌^◌, ◌<◌, ◌≤�
 use Rattle.std.specs.List.{list_all, filter}
 use Rattle.line_buffer.specs.Cells.{origin}
 use Rattle.line_buffer.specs.declared.layout.Position.{Position}
-use Rattle.line_screen.specs.Calls.{ScreenCall}
-use Rattle.line_screen.specs.Calls.ScreenCall.{Draw, Move, Write, Beep, ClearScreen, ClearRows, ClearToEol}
+use Rattle.line_editor.specs.Calls.{Call}
+use Rattle.line_editor.specs.Calls.Call.{Draw, Move, Write, Beep, ClearScreen, ClearRows, ClearToEol, ToLeftmost}
 use Rattle.line_screen.specs.Display.{Display, Placed, is_printable, read, start}
 use Rattle.line_screen.specs.Drawing.{row_break}
 use Rattle.line_screen.specs.Showing.{Picture, nothing, Stands, cells_of, finish_of, cursor_of, down, down_placed, above, from_top}
@@ -117,7 +117,7 @@ pub record ErasesKilled (columns : ℕ) (wide : List ℕ → Option ℕ) (a b : 
   pub place_is : a.place ≡ cursor_of columns wide (cut_line a.shown line)
   pub view : b ≡ record { shown = cut_line a.shown line; top = a.top; place = a.place }
 
-abbrev pub Leads : ℕ → (List ℕ → Option ℕ) → View → ScreenCall → View → Type 0
+abbrev pub Leads : ℕ → (List ℕ → Option ℕ) → View → Call → View → Type 0
 Leads columns wide a (Draw old prompt line info finish cursor) b = Replaces old a
     × Redraws columns wide a prompt line info finish cursor b
 Leads columns wide a (Move old new) b = Moves columns a old new b
@@ -126,3 +126,4 @@ Leads columns wide a Beep b = b ≡ a
 Leads columns wide a ClearScreen b = b ≡ empty_at 0
 Leads columns wide a (ClearRows row) b = (row ≡ a.place.row) × (b ≡ empty_at a.top)
 Leads columns wide a ClearToEol b = ErasesKilled columns wide a b
+Leads columns wide a ToLeftmost b = b ≡ a

@@ -1,8 +1,9 @@
 -- What holds of a display over a screen's calls, on rows of 2 to 1,000 columns.
 use Rattle.std.specs.Prelude.{◌≡◌, ◌≢◌, ⊤, ℕ, ◌+◌, ◌^◌, ◌<◌, ◌≤◌, List, [], ◌∷◌, ◌++◌, map, take, Option, Some}
 use Rattle.std.specs.List.{filter, flat_map, FoldsTo}
-use Rattle.line_screen.specs.Calls.{Screen, ScreenCall, bytes_of}
-use Rattle.line_screen.specs.Calls.ScreenCall.{ClearScreen}
+use Rattle.line_editor.specs.Calls.{Call}
+use Rattle.line_editor.specs.Calls.Call.{ClearScreen}
+use Rattle.line_screen.specs.Calls.{Screen, bytes_of}
 use Rattle.line_screen.specs.Cells.{cell_at}
 use Rattle.line_buffer.specs.Cells.{origin}
 use Rattle.line_screen.specs.Chain.{View, Good, Leads, EndsLine, at_place, empty_at}
@@ -40,13 +41,13 @@ StartIsEmpty = (s : Screen) → 2 ≤ s.columns → s.columns ≤ 1000
 abbrev pub CallsLead : Type 0
 CallsLead =
     (s : Screen) → 2 ≤ s.columns → s.columns ≤ 1000
-    → (bytes : List ℕ) (over : List Placed) (a b : View) (call : ScreenCall)
+    → (bytes : List ℕ) (over : List Placed) (a b : View) (call : Call)
     → Good s.columns (widths s) bytes over a → Leads s.columns (widths s) a call b
     → (next : List Placed) × Good s.columns (widths s) (bytes ++ bytes_of s call) next b
     × (call ≢ ClearScreen → filter (above a.top) next ≡ over)
 
 -- none of these calls clears the screen
-abbrev pub NeverClears : List ScreenCall → Type 0
+abbrev pub NeverClears : List Call → Type 0
 NeverClears [] = ⊤
 NeverClears (call ∷ calls) = (call ≢ ClearScreen) × NeverClears calls
 
@@ -54,7 +55,7 @@ NeverClears (call ∷ calls) = (call ≢ ClearScreen) × NeverClears calls
 abbrev pub ChainsLead : Type 0
 ChainsLead =
     (s : Screen) → 2 ≤ s.columns → s.columns ≤ 1000
-    → (calls : List ScreenCall) (bytes : List ℕ) (over : List Placed) (a b : View)
+    → (calls : List Call) (bytes : List ℕ) (over : List Placed) (a b : View)
     → Good s.columns (widths s) bytes over a → FoldsTo (Leads s.columns (widths s)) a calls b
     → (next : List Placed) × Good s.columns (widths s) (bytes ++ flat_map (bytes_of s) calls) next b
     × (NeverClears calls → filter (above a.top) next ≡ over)

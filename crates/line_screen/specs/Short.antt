@@ -5,7 +5,7 @@ use Rattle.std.specs.List.{list_all, FoldsTo}
 use Rattle.line_buffer.specs.declared.layout.Position.{Position}
 use Rattle.line_buffer.specs.Short.{behind_typed, before_killed}
 use Rattle.line_screen.specs.Calls.{Screen}
-use Rattle.line_screen.specs.Calls.ScreenCall.{Move, Write, ClearToEol}
+use Rattle.line_editor.specs.Calls.Call.{Move, Write, ClearToEol}
 use Rattle.line_screen.specs.Chain.{View, Inside, Leads, is_simple, typed, cut_line}
 use Rattle.line_screen.specs.Laws.{widths}
 use Rattle.line_screen.specs.Showing.{finish_of, cursor_of}

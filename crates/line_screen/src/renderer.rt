@@ -1,16 +1,16 @@
 //! The renderer: the calls by which an editor draws.
 
 ghost use Rattle.std.specs.Prelude.{◌≡◌, ◌≤◌, ◌++◌, ◌∷◌, [], IsTrue, OnOk, OnErr, IfErr, false};
-ghost use Rattle.line_screen.specs.Calls.{Screen, MakesCall, screen_of, sink_of, old_row, display_answer};
-ghost use Rattle.line_screen.specs.Calls.ScreenCall.{Draw, Move, Write, Beep, ClearScreen, ClearRows, ClearToEol};
-ghost use Rattle.line_screen.specs.Measure.{measure_of};
+ghost use Rattle.line_screen.specs.Calls.{Screen, screen_of, sink_of, canvas_of, display_answer};
 
 use crate::drawing::sequences::{clear, go, send_flushed};
 use crate::drawing::whole::{Texts, draw};
 use crate::grid::Grid;
 use crate::measuring::measure;
-use line_buffer::{GraphemeClusterMode, Layout, Position, Unit};
+use line_buffer::{GraphemeClusterMode, Layout, LineBuffer, Position, Unit};
 use line_config::{BellStyle, DeviceFailed, ReadlineError, Sink};
+use line_editor::Renderer;
+use line_help::Highlighter;
 
 /// Draws a line on rows of so many columns by writing to a sink.
 ///
@@ -55,69 +55,39 @@ impl<D: Sink> ScreenRenderer<D> {
         self.sink
     }
 
-    /// The columns of a row.
-    pub fn get_columns(&self) -> Unit
-        ensures { result ≡ (screen_of self.now).columns }
-    {
-        self.grid.columns
-    }
-
-    /// As many rows as can be counted: there is no last one.
-    pub fn get_rows(&self) -> Unit
-        ensures { result ≡ 65535 }
-    {
-        Unit::MAX
-    }
-
-    /// How the columns of a cluster are counted.
-    pub fn grapheme_cluster_mode(&self) -> GraphemeClusterMode
-        ensures { result ≡ (screen_of self.now).mode }
-    {
-        self.grid.mode
-    }
-
-    /// Drawings have no colours.
-    pub fn colors_enabled(&self) -> bool
-        ensures { result ≡ false }
-    {
-        false
-    }
-
-    /// Where a text ends that is drawn from a place on: `measure` for this screen.
-    pub fn calculate_position(&self, text: &str, from: Position) -> Position
-        ensures { result ≡ measure_of (screen_of self.now).mode (screen_of self.now).columns
-            text.now from }
-    {
-        measure(text, from, self.grid.columns, self.grid.mode)
-    }
-
     /// Whether the sink has failed.
     pub fn failed(&self) -> bool
         ensures { result ≡ D.has_failed (sink_of self.now) }
     {
         self.sink.failed()
     }
+}
 
-    /// Draws prompt, line, and after it the hint or message, an empty text where there is none.
-    ///
-    /// `old_layout` is that of the drawing in whose place the new one goes. Without one it begins
-    /// at the cursor, which is to stand in a row's first cell, with blank cells after it.
-    /// `new_layout` says where the drawing ends and where its cursor goes.
-    pub fn refresh_line(
+impl<D: Sink + Drop> Renderer for ScreenRenderer<D> {
+    ghost canvas = { canvas_of D.told D.held D.has_failed };
+
+    /// Writes nothing where the two cells are one.
+    fn move_cursor(&mut self, old: Position, new: Position) -> Result<(), ReadlineError> {
+        answer(go(&mut self.sink, old, new))
+    }
+
+    /// There are no colours, so no highlighter is asked.
+    fn refresh_line<H: Highlighter>(
         &mut self,
         prompt: &str,
-        line: &str,
-        info: &str,
+        line: &LineBuffer,
+        hint: Option<&str>,
         old_layout: Option<Layout>,
         new_layout: &Layout,
-    ) -> Result<(), ReadlineError>
-        ensures { MakesCall D.told D.held D.has_failed (Draw (old_row old_layout)
-            prompt.now line.now info.now new_layout.now.end new_layout.now.cursor)
-            self.old self.new result }
-    {
+        _highlighter: Option<&H>,
+    ) -> Result<(), ReadlineError> {
         let row = old_layout.map(|layout| layout.cursor.row);
         let grid = self.grid;
-        let texts = Texts { prompt, line, info };
+        let texts = Texts {
+            prompt,
+            line: line.as_str(),
+            info: hint.unwrap_or(""),
+        };
         answer(draw(
             &mut self.sink,
             grid,
@@ -128,51 +98,58 @@ impl<D: Sink> ScreenRenderer<D> {
         ))
     }
 
-    /// Moves the cursor from one cell of the drawing to another; writes nothing where they are one.
-    pub fn move_cursor(&mut self, old: Position, new: Position) -> Result<(), ReadlineError>
-        ensures { MakesCall D.told D.held D.has_failed (Move old new) self.old self.new result }
-    {
-        answer(go(&mut self.sink, old, new))
-    }
-
-    /// Writes a text as it is.
-    pub fn write_and_flush(&mut self, text: &str) -> Result<(), ReadlineError>
-        ensures { MakesCall D.told D.held D.has_failed (Write text.now) self.old self.new result }
-    {
+    fn write_and_flush(&mut self, text: &str) -> Result<(), ReadlineError> {
         answer(send_flushed(&mut self.sink, text.as_bytes()))
     }
 
     /// Sounds the bell, where the screen is to be heard.
-    pub fn beep(&mut self) -> Result<(), ReadlineError>
-        ensures { MakesCall D.told D.held D.has_failed Beep self.old self.new result }
-    {
+    fn beep(&mut self) -> Result<(), ReadlineError> {
         match self.bell_style {
             BellStyle::Audible => answer(send_flushed(&mut self.sink, b"\x07")),
             BellStyle::None | BellStyle::Visible => Ok(()),
         }
     }
 
-    /// Goes to the display's first cell and erases all.
-    pub fn clear_screen(&mut self) -> Result<(), ReadlineError>
-        ensures { MakesCall D.told D.held D.has_failed ClearScreen self.old self.new result }
-    {
+    fn clear_screen(&mut self) -> Result<(), ReadlineError> {
         answer(send_flushed(&mut self.sink, b"\x1B[H\x1B[J"))
     }
 
-    /// Goes to the first row of a drawing and erases all from there on.
-    pub fn clear_rows(&mut self, layout: &Layout) -> Result<(), ReadlineError>
-        ensures { MakesCall D.told D.held D.has_failed (ClearRows layout.now.cursor.row)
-            self.old self.new result }
-    {
+    fn clear_rows(&mut self, layout: &Layout) -> Result<(), ReadlineError> {
         let row = layout.cursor.row;
         answer(clear(&mut self.sink, row))
     }
 
-    /// Erases from the cursor to the end of its row.
-    pub fn clear_to_eol(&mut self) -> Result<(), ReadlineError>
-        ensures { MakesCall D.told D.held D.has_failed ClearToEol self.old self.new result }
-    {
+    fn clear_to_eol(&mut self) -> Result<(), ReadlineError> {
         answer(send_flushed(&mut self.sink, b"\x1B[K"))
+    }
+
+    /// Writes nothing: no call leaves the cursor elsewhere.
+    fn move_cursor_at_leftmost(&mut self) -> Result<(), ReadlineError> {
+        Ok(())
+    }
+
+    /// The size is as it was given.
+    fn update_size(&mut self) {}
+
+    fn get_columns(&self) -> Unit {
+        self.grid.columns
+    }
+
+    /// As many rows as can be counted: there is no last one.
+    fn get_rows(&self) -> Unit {
+        Unit::MAX
+    }
+
+    fn colors_enabled(&self) -> bool {
+        false
+    }
+
+    fn grapheme_cluster_mode(&self) -> GraphemeClusterMode {
+        self.grid.mode
+    }
+
+    fn calculate_position(&self, text: &str, orig: Position) -> Position {
+        measure(text, orig, self.grid.columns, self.grid.mode)
     }
 }
 

@@ -1,12 +1,12 @@
 //! Drawings as they go to a sink, byte by byte.
 
 use crate::sinks::{FailsAfter, Gathers};
-use line_buffer::{GraphemeClusterMode, Layout, Position};
+use line_buffer::{GraphemeClusterMode, Layout, LineBuffer, Position};
 use line_config::{BellStyle, ReadlineError, Sink, VecSink};
+use line_editor::Renderer;
 use line_screen::{ScreenRenderer, laws};
-use stand_ins::tables::{
-    call_and_answer, line_and_place, meant, or_nothing, pictured_bytes, word_and_rest,
-};
+use stand_ins::lines::line_of;
+use stand_ins::tables::{call_and_answer, meant, or_nothing, pictured_bytes, word_and_rest};
 use std::alloc::Global;
 use std::process::Abort;
 use std::test::Fail;
@@ -15,10 +15,8 @@ use std::test::Fail;
 #[derive(Clone, Copy)]
 struct Shown<'a> {
     prompt: &'a str,
-    line: &'a str,
-    /// The line's text before the cursor.
-    before: &'a str,
-    info: &'a str,
+    line: &'a LineBuffer,
+    info: Option<&'a str>,
 }
 
 const ORIGIN: Position = Position { col: 0, row: 0 };
@@ -32,24 +30,26 @@ fn screen<D: Sink>(sink: D, columns: u16, bell: BellStyle) -> ScreenRenderer<D> 
     )
 }
 
-fn layout_of<D: Sink>(screen: &ScreenRenderer<D>, shown: Shown) -> Layout {
+fn layout_of<Out: Renderer>(screen: &Out, shown: Shown) -> Layout {
     let prompt_size = screen.calculate_position(shown.prompt, ORIGIN);
-    let line_end = screen.calculate_position(shown.line, prompt_size);
-    Layout {
-        grapheme_cluster_mode: screen.grapheme_cluster_mode(),
-        prompt_size,
-        default_prompt: true,
-        cursor: screen.calculate_position(shown.before, prompt_size),
-        end: screen.calculate_position(shown.info, line_end),
-        has_info: !shown.info.is_empty(),
-    }
+    screen.compute_layout(prompt_size, true, shown.line, shown.info)
+}
+
+/// Draws in the place of an older drawing, or without one.
+fn draw_over<Out: Renderer>(
+    screen: &mut Out,
+    shown: Shown,
+    old: Option<Layout>,
+    new: &Layout,
+) -> Result<(), ReadlineError> {
+    screen.refresh_line(shown.prompt, shown.line, shown.info, old, new, None::<&()>)
 }
 
 /// Draws over a drawing whose cursor stands in its first row.
-fn draw<D: Sink>(screen: &mut ScreenRenderer<D>, shown: Shown) -> Result<(), ReadlineError> {
+fn draw<Out: Renderer>(screen: &mut Out, shown: Shown) -> Result<(), ReadlineError> {
     let old = Layout::new(screen.grapheme_cluster_mode());
     let new = layout_of(screen, shown);
-    screen.refresh_line(shown.prompt, shown.line, shown.info, Some(old), &new)
+    draw_over(screen, shown, Some(old), &new)
 }
 
 // Columns, prompt, the line with its cursor, and a hint or message, each but the last without a blank; the bytes.
@@ -88,13 +88,11 @@ fn drawn(rt: &(impl AllocGlobal + Abort), call: &str) -> Result<String, Fail> {
     );
     let prompt = if prompt == "none" { "" } else { prompt };
     let prompt = meant(rt.alloc(), prompt)?;
-    let (line, place) = line_and_place(rt.alloc(), line)?;
-    let (before, _) = line.as_str().split_at_checked(place).ok_or("no place")?;
+    let line = line_of(rt.alloc(), line)?;
     let shown = Shown {
         prompt: prompt.as_str(),
-        line: line.as_str(),
-        before,
-        info,
+        line: &line,
+        info: if info.is_empty() { None } else { Some(info) },
     };
     draw(&mut screen, shown)?;
     Ok(pictured_bytes(rt.alloc(), screen.into_sink().bytes())?)
@@ -118,16 +116,22 @@ fn draws_lines(rt: HostRuntime) -> Result<(), Fail> {
 
 #[test]
 fn draws_over_and_without_an_older_drawing(rt: HostRuntime) -> Result<(), Fail> {
+    let line = line_of(rt.alloc(), "ab")?;
+    let longer = line_of(rt.alloc(), "abc")?;
     let shown = Shown {
         prompt: "> ",
-        line: "ab",
-        before: "ab",
-        info: "",
+        line: &line,
+        info: None,
+    };
+    let over = Shown {
+        prompt: "> ",
+        line: &longer,
+        info: None,
     };
     let mut screen = screen(VecSink::new(rt.alloc()), 4, BellStyle::Audible);
     let layout = layout_of(&screen, shown);
-    screen.refresh_line("> ", "abc", "", Some(layout), &layout)?;
-    screen.refresh_line("> ", "ab", "", None, &layout)?;
+    draw_over(&mut screen, over, Some(layout), &layout)?;
+    draw_over(&mut screen, shown, None, &layout)?;
     screen.clear_rows(&layout)?;
     let said = pictured_bytes(rt.alloc(), screen.into_sink().bytes())?;
     assert_eq!(rt;
@@ -145,30 +149,39 @@ const CALLS: &str = "
     audible write c     = c
     audible clear_to_eol = ␛[K
     audible clear_screen = ␛[H␛[J
+    audible leftmost    = nothing
+    audible begin       = nothing
+    audible end         = nothing
     audible beep        = ␇
     none beep           = nothing
     visible beep        = nothing
 ";
 
 // Makes a call that sends bytes.
-fn call_made<D: Sink>(
-    screen: &mut ScreenRenderer<D>,
+fn call_made<Out: Renderer>(
+    screen: &mut Out,
     call: &str,
-    text: &str,
+    text: &LineBuffer,
 ) -> Result<(), ReadlineError> {
     let here = Position { col: 12, row: 3 };
     let there = Position { col: 2, row: 1 };
-    let layout = Layout::new(GraphemeClusterMode::Unicode);
+    let mut layout = Layout::new(GraphemeClusterMode::Unicode);
+    if call == "refresh_inside" {
+        (layout.cursor, layout.end) = (there, here);
+    }
     match call {
         "up" => screen.move_cursor(here, there),
         "stay" => screen.move_cursor(here, here),
         "down" => screen.move_cursor(there, here),
-        "write" => screen.write_and_flush(text),
+        "write" => screen.write_and_flush(text.as_str()),
         "beep" => screen.beep(),
         "clear_to_eol" => screen.clear_to_eol(),
         "clear_screen" => screen.clear_screen(),
         "clear_rows" => screen.clear_rows(&layout),
-        _ => screen.refresh_line("> ", text, "", None, &layout),
+        "leftmost" => screen.move_cursor_at_leftmost(),
+        "begin" => screen.begin_synchronized_update(),
+        "end" => screen.end_synchronized_update(),
+        _ => screen.refresh_line("> ", text, None, None, &layout, None::<&()>),
     }
 }
 
@@ -187,24 +200,24 @@ fn makes_the_other_calls(rt: HostRuntime) -> Result<(), Fail> {
             let (bell, call) = word_and_rest(call);
             let (call, text) = word_and_rest(call);
             let mut screen = screen(VecSink::new(rt.alloc()), 80, bell_of(bell));
-            call_made(&mut screen, call, text)?;
+            call_made(&mut screen, call, &line_of(rt.alloc(), text)?)?;
             let said = pictured_bytes(rt.alloc(), screen.into_sink().bytes())?;
             assert_eq!(rt; or_nothing(said.as_str()), answer, "{row}");
         }
     }
-    let screen = screen(VecSink::new(rt.alloc()), 80, BellStyle::Audible);
+    let mut screen = screen(VecSink::new(rt.alloc()), 80, BellStyle::Audible);
+    screen.update_size();
     assert_eq!(rt; (screen.get_columns(), screen.get_rows()), (80, 65535));
     assert!(rt; !screen.colors_enabled() && !screen.failed());
     Ok(())
 }
 
 // What a call that is refused answers, and the calls behind it.
-fn refused(screen: &mut ScreenRenderer<FailsAfter>) -> bool {
+fn refused(screen: &mut ScreenRenderer<FailsAfter>, line: &LineBuffer) -> bool {
     let shown = Shown {
         prompt: "> ",
-        line: "e\u{301}\u{6F22}ab",
-        before: "",
-        info: "hint",
+        line,
+        info: Some("hint"),
     };
     let refusal = Err(ReadlineError::Display);
     draw(screen, shown) == refusal
@@ -215,16 +228,19 @@ fn refused(screen: &mut ScreenRenderer<FailsAfter>) -> bool {
 
 /// The whole drawing takes more than twelve writes.
 #[test]
-fn answers_each_failed_write(rt: HostRuntime) {
+fn answers_each_failed_write(rt: HostRuntime) -> Result<(), Fail> {
+    let line = line_of(rt.alloc(), "|e\\u{301}\\u{6F22}ab")?;
     for writes in 0..12 {
         let mut screen = screen(FailsAfter::new(writes), 4, BellStyle::Audible);
-        assert!(rt; refused(&mut screen), "after {writes}");
+        assert!(rt; refused(&mut screen, &line), "after {writes}");
     }
+    Ok(())
 }
 
 // Calls, and whether they write anything; nothing waits behind them.
 const PASSED_ON: &str = "
     refresh_line ab     = written
+    refresh_inside ab   = written
     up                  = written
     write a             = written
     beep                = written
@@ -240,7 +256,7 @@ fn passes_on_what_it_wrote(rt: HostRuntime) -> Result<(), Fail> {
         if let Some((call, answer)) = call_and_answer(row) {
             let (call, text) = word_and_rest(call);
             let mut screen = screen(Gathers::new(), 80, BellStyle::Audible);
-            call_made(&mut screen, call, text)?;
+            call_made(&mut screen, call, &line_of(rt.alloc(), text)?)?;
             assert_eq!(rt; screen.into_sink().told(), answer, "{row}");
         }
     }

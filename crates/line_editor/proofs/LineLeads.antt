@@ -1,0 +1,173 @@
+-- What a line wants to be seen leads from turn to turn.
+use Rattle.std.proofs.Common.{◌≡◌, ℕ, zero, suc, Bool, true, false, List, ◌++◌, Option, None, Result, Ok, Err, refl, sym, ap, ◌∙◌, subst, true≢false, if◌then◌else◌}
+use Rattle.line_config.specs.declared.errors.ReadlineError.{ReadlineError}
+use Rattle.line_keys.specs.Answers.{Custom}
+use Rattle.line_keys.specs.Coming.{Coming}
+use Rattle.line_keys.specs.Phrase.{phrase}
+use Rattle.line_keys.specs.Phrases.{Input, Script, Ends, Needs, Asks, Reads, Becomes, after}
+use Rattle.line_keys.specs.Refreshing.{Shown, Ask}
+use Rattle.line_keys.specs.Refreshing.Ask.{Line, Message, Prompted, DoingInsert, DoneInserting}
+use Rattle.line_keys.specs.Settled.{own_by, Settles}
+use Rattle.line_keys.specs.declared.command.Cmd.{Cmd}
+use Rattle.line_keys.specs.declared.command.Cmd.TheVariants.{Interrupt}
+use Rattle.line_keys.proofs.Settling.{phrase_settles}
+use Rattle.line_record.specs.Ring.{Ring}
+use Rattle.line_editor.specs.Accepting.{submitted}
+use Rattle.line_editor.specs.Asks.{shown_in, ask_effect}
+use Rattle.line_editor.specs.Commands.{Means, means_of, effect, outcome}
+use Rattle.line_editor.specs.Courses.{Course, EndsLine}
+use Rattle.line_editor.specs.Drawing.{refreshed}
+use Rattle.line_editor.specs.Leads.{Leads, CommandLeads, LinesLead}
+use Rattle.line_editor.specs.Lines.{Enacted, enacted, begins_group, begun, line_phrase, phrase_enacted, reset_by, Turned, turned_by, turn_of, Told, after_turn, line_from, line_of}
+use Rattle.line_editor.specs.Sights.{Sight, sight_with, sight_of, ended_sight, sight_all, FitsAll, Turns, info_after}
+use Rattle.line_editor.specs.Starts.{first_value}
+use Rattle.line_editor.specs.Values.{Value, Setting, Effect}
+use Rattle.line_editor.specs.declared.commands.Status.{Status}
+use Rattle.line_editor.specs.declared.commands.Status.TheVariants.{Proceed, Submit}
+use Rattle.line_editor.proofs.CommandsLead.{commands_lead, submitting_leads}
+use Rattle.line_editor.proofs.LeadLemmas.{fits_both, sight_both, info_both, turns_both}
+
+-- ---- a phrase
+
+-- the value is seen behind some prompt, the session's own where `own` says so
+record Behind (s : Setting) (v : Value) (info : Option (List ℕ)) (own : Bool) (x : Sight) : Type 0 where
+  prompt : List ℕ
+  is : x ≡ sight_with own prompt v.line.text v.line.place info
+  ours : own ≡ true → prompt ≡ s.prompt
+
+ask_fits : (ask : Ask) (s : Setting) (v : Value) (x : Sight) → FitsAll s.prompt x (ask_effect ask s v).redraws
+ask_fits Line s v x = ((λ e. refl), tt)
+ask_fits (Message text kind) s v x = ((λ e. refl), tt)
+ask_fits (Prompted prompt) s v x = ((λ e. cc), tt)
+ask_fits DoingInsert s v x = tt
+ask_fits DoneInserting s v x = tt
+
+ask_leads : (ask : Ask) (s : Setting) (v : Value) (info : Option (List ℕ)) (own : Bool) (x : Sight) → Behind s v info own x
+    → (let e = ask_effect ask s v in Behind s e.value (info_after e.redraws info) (own_by own ask) (sight_all x e.redraws))
+ask_leads Line s v info own x h = record { prompt = s.prompt; is = refl; ours = λ e. refl }
+ask_leads (Message text kind) s v info own x h = record { prompt = s.prompt; is = refl; ours = λ e. refl }
+ask_leads (Prompted prompt) s v info own x h = record { prompt = prompt; is = refl; ours = λ e. cc }
+ask_leads DoingInsert s v info own x h = record { prompt = h.prompt; is = h.is; ours = h.ours }
+ask_leads DoneInserting s v info own x h = record { prompt = h.prompt; is = h.is; ours = h.ours }
+
+script_fits : {X : Type 0} (s : Setting) (script : Script X) (input : Input) (v : Value) (c : Coming) (x : Sight) → FitsAll s.prompt x (enacted s script input v c).made.redraws
+script_fits s (Ends answer) input v c x = tt
+script_fits s (Needs later) input v c x = script_fits s later input v c x
+script_fits s (Asks ask later) input v c x =
+    let e = ask_effect ask s v in
+    fits_both s.prompt x e.redraws _ (ask_fits ask s v x) (script_fits s (later (shown_in e.value)) input e.value c (sight_all x e.redraws))
+script_fits s (Reads item rest later) input v c x = script_fits s later input v rest x
+script_fits s (Becomes kept later) input v c x = script_fits s later kept v c x
+
+settled_sight : (s : Setting) (v : Value) (info : Option (List ℕ)) (x : Sight) → Behind s v info true x → x ≡ sight_of s v info
+settled_sight s v info x h = h.is ∙ ap (λ p. sight_with true p v.line.text v.line.place info) (h.ours refl)
+
+script_leads : {X : Type 0} (s : Setting) (own : Bool) (script : Script X) (input : Input) (v : Value) (c : Coming) (info : Option (List ℕ)) (x : Sight) (answer : X)
+    → Settles own script → Behind s v info own x → (enacted s script input v c).answer ≡ Ok answer
+    → (let e = (enacted s script input v c).made in sight_all x e.redraws ≡ sight_of s e.value (info_after e.redraws info))
+script_leads s true (Ends (Ok y)) input v c info x answer settles h is = settled_sight s v info x h
+script_leads s false (Ends (Ok y)) input v c info x answer settles h is = absurd (true≢false (sym settles))
+script_leads s own (Ends (Err e)) input v c info x answer settles h is = cc
+script_leads s own (Needs later) input v c info x answer settles h is = script_leads s own later input v c info x answer settles h is
+script_leads s own (Asks ask later) input v c info x answer settles h is =
+    let e = ask_effect ask s v in
+    let shown = shown_in e.value in
+    let rest = (enacted s (later shown) input e.value c).made in
+    let done = script_leads s (own_by own ask) (later shown) input e.value c (info_after e.redraws info) (sight_all x e.redraws) answer (settles shown) (ask_leads ask s v info own x h) is in
+    sight_both x e.redraws rest.redraws ∙ done ∙ ap (sight_of s rest.value) (sym (info_both e.redraws rest.redraws info))
+script_leads s own (Reads item rest later) input v c info x answer settles h is = script_leads s own later input v rest info x answer settles h is
+script_leads s own (Becomes kept later) input v c info x answer settles h is = script_leads s own later kept v c info x answer settles h is
+
+-- a change-to begins a group, which draws nothing
+begun_settles : (cmd : Cmd) (b : Bool) → Settles true (if b then Asks DoingInsert (λ seen. Ends (Ok cmd)) else Ends (Ok cmd))
+begun_settles cmd true = λ shown. refl
+begun_settles cmd false = refl
+
+after_settles : (own : Bool) (script : Script Cmd) (input : Input) (w : Shown) (c : Coming) → Settles own script → Settles own (after begun input w c script)
+after_settles true (Ends (Ok cmd)) input w c h = begun_settles cmd (begins_group cmd)
+after_settles false (Ends (Ok cmd)) input w c h = absurd (true≢false (sym h))
+after_settles own (Ends (Err e)) input w c h = tt
+after_settles own (Needs later) input w c h = after_settles own later input w c h
+after_settles own (Asks ask later) input w c h = λ seen. after_settles (own_by own ask) (later seen) input seen c (h seen)
+after_settles own (Reads item rest later) input w c h = after_settles own later input w rest h
+after_settles own (Becomes kept later) input w c h = after_settles own later kept w c h
+
+-- ---- a turn
+
+record TurnLeads (s : Setting) (v : Value) (info : Option (List ℕ)) (t : Turned) : Type 0 where
+  fits : FitsAll s.prompt (sight_of s v info) t.made.redraws
+  leads : (status : Status) → t.outcome ≡ Ok status → Turns s.prompt (sight_of s v info) t.made.redraws (sight_of s t.made.value (info_after t.made.redraws info))
+
+command_fits : (cmd : Cmd) (s : Setting) (v : Value) (e : Effect) (info : Option (List ℕ)) → CommandLeads cmd s v e → FitsAll s.prompt (sight_of s v info) e.redraws
+command_fits Interrupt s v e info h = let t = h info in t.fits
+command_fits cmd s v e info h = let t = h info in t.fits
+
+-- an interruption alone leaves the cursor elsewhere, and it ends the session
+proceeds_leads : (m : Means) (cmd : Cmd) (s : Setting) (v : Value) (e : Effect) (status : Status) → CommandLeads cmd s v e → outcome m cmd s v ≡ Ok status → Leads s v e
+proceeds_leads m Interrupt s v e status h is = cc
+proceeds_leads m cmd s v e status h is = h
+
+turned_leads : (s : Setting) (v : Value) (info : Option (List ℕ)) (indent : ℕ) (r : Ring) (p : Enacted Cmd) (answer : Result Cmd ReadlineError) → p.answer ≡ answer
+    → FitsAll s.prompt (sight_of s v info) p.made.redraws
+    → ((cmd : Cmd) → p.answer ≡ Ok cmd → sight_all (sight_of s v info) p.made.redraws ≡ sight_of s p.made.value (info_after p.made.redraws info))
+    → TurnLeads s v info (turned_by s indent r answer p)
+turned_leads s v info indent r p (Err e) is fits leads = record { fits = fits; leads = λ status same. cc }
+turned_leads s v info indent r p (Ok cmd) is fits leads =
+    let ring = reset_by cmd r in
+    let m = means_of p.input indent ring in
+    let w = p.made.value in
+    let x = sight_of s v info in
+    let stands = info_after p.made.redraws info in
+    let e = effect m cmd s w in
+    let made = commands_lead m cmd s w in
+    let seen : sight_all x p.made.redraws ≡ sight_of s w stands = leads cmd is in
+    let first : Turns s.prompt x p.made.redraws (sight_of s w stands) = record { fits = fits; leads = seen } in
+    record {
+      fits = fits_both s.prompt x p.made.redraws e.redraws fits (subst (λ y. FitsAll s.prompt y e.redraws) (sym seen) (command_fits cmd s w e stands made));
+      leads = λ status same.
+          subst (λ i. Turns s.prompt x (p.made.redraws ++ e.redraws) (sight_of s e.value i)) (sym (info_both p.made.redraws e.redraws info))
+          (turns_both s.prompt x (sight_of s w stands) (sight_of s e.value (info_after e.redraws stands)) p.made.redraws e.redraws first (proceeds_leads m cmd s w e status made same stands));
+    }
+
+turn_leads : (s : Setting) (custom : Custom) (indent : ℕ) (input : Input) (r : Ring) (v : Value) (info : Option (List ℕ)) (c : Coming) → TurnLeads s v info (turn_of s custom indent input r v c)
+unfolding turn_of
+turn_leads s custom indent input r v info c =
+    let p = phrase_enacted s custom input v c in
+    let script = line_phrase custom input (shown_in v) c in
+    let settles : Settles true script = after_settles true (phrase custom input (shown_in v) c) input (shown_in v) c (phrase_settles custom input (shown_in v) c) in
+    let here : Behind s v info true (sight_of s v info) = record { prompt = s.prompt; is = refl; ours = λ e. refl } in
+    turned_leads s v info indent r p p.answer refl (script_fits s script input v c (sight_of s v info)) (λ cmd is. script_leads s true script input v c info (sight_of s v info) cmd settles here is)
+
+-- ---- a line
+
+abbrev Led : Setting → Sight → Told → Type 0
+Led s x t = Course s.prompt x t.turns × EndsLine t.outcome t.turns
+
+-- what follows on a turn, by its outcome
+after_leads : (next : Input → Ring → Option (List ℕ) → Value → Coming → Told) (s : Setting) (v : Value) (info : Option (List ℕ)) (t : Turned)
+    → ((i : Input) (r : Ring) (told : Option (List ℕ)) (w : Value) (c : Coming) → Led s (sight_of s w told) (next i r told w c))
+    → TurnLeads s v info t → (o : Result Status ReadlineError) → t.outcome ≡ o → Led s (sight_of s v info) (after_turn next s info t o)
+after_leads next s v info t rest h (Ok Proceed) e =
+    let more = rest t.input t.ring (info_after t.made.redraws info) t.made.value t.rest in
+    ((h.leads Proceed e, refl, more.0), more.1)
+after_leads next s v info t rest h (Ok Submit) e =
+    let w = t.made.value in
+    let close = submitted s w in
+    let stands = info_after t.made.redraws info in
+    let joined = turns_both s.prompt (sight_of s v info) (sight_of s w stands) (ended_sight (sight_of s close.value (info_after close.redraws stands))) t.made.redraws close.redraws (h.leads Submit e) (submitting_leads s w stands) in
+    let turns = subst (λ i. Turns s.prompt (sight_of s v info) (t.made.redraws ++ close.redraws) (ended_sight (sight_of s close.value i))) (sym (info_both t.made.redraws close.redraws info)) joined in
+    ((turns, refl, tt), (refl, refl))
+after_leads next s v info t rest h (Err x) e = (h.fits, (refl, refl))
+
+line_leads : (n : ℕ) (s : Setting) (custom : Custom) (indent : ℕ) (input : Input) (r : Ring) (info : Option (List ℕ)) (v : Value) (c : Coming) → Led s (sight_of s v info) (line_from n s custom indent input r info v c)
+unfolding line_from
+line_leads zero s custom indent input r info v c = (tt, refl)
+line_leads (suc n) s custom indent input r info v c =
+    after_leads (line_from n s custom indent) s v info (turn_of s custom indent input r v c) (line_leads n s custom indent) (turn_leads s custom indent input r v info c) _ refl
+
+pub lines_lead : LinesLead
+unfolding line_of
+lines_lead n s custom indent input r c =
+    let e = refreshed s (first_value s) in
+    let rest = line_leads n s custom indent input r (info_after e.redraws None) e.value c in
+    ((record { fits = ((λ x. refl), tt); leads = refl }, refl, rest.0), rest.1)

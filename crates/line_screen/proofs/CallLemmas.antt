@@ -1,0 +1,35 @@
+-- Calls of a screen one after the other.
+use Rattle.std.proofs.Common.{◌≡◌, ℕ, Bool, List, [], ◌∷◌, ◌++◌, inl, inr, refl, sym, ap, ◌∙◌, subst, append-nil}
+use Rattle.std.specs.List.{FoldsTo, flat_map}
+use Rattle.line_editor.specs.Calls.{Call, Begun}
+use Rattle.line_screen.specs.Calls.{Sent, canvas_of, bytes_of, screen_of, sink_of}
+use Rattle.line_screen.specs.declared.renderer.ScreenRenderer.{ScreenRenderer}
+use Rattle.line_screen.proofs.Runs.{takes_then}
+
+module _ {D : Type 0} (told : D → Bool) (held : D → List ℕ) (failed : D → Bool) where
+  pub sent_nothing : (a : ScreenRenderer D) → Sent told held failed [] a a
+  sent_nothing a = record { takes = λ t. (t, sym (append-nil (held (sink_of a)))); works = refl; screen = refl }
+
+  pub sent_then : (xs ys : List ℕ) (a b c : ScreenRenderer D) → Sent told held failed xs a b → Sent told held failed ys b c → Sent told held failed (xs ++ ys) a c
+  sent_then xs ys a b c first second =
+      record {
+        takes = takes_then told held (sink_of a) (sink_of b) (sink_of c) xs ys first.takes second.takes;
+        works = second.works ∙ first.works;
+        screen = second.screen ∙ first.screen;
+      }
+
+  -- calls that were made sent their bytes in order
+  pub sent_in_all : (calls : List Call) (a b : ScreenRenderer D) → FoldsTo (canvas_of told held failed).made a calls b → Sent told held failed (flat_map (bytes_of (screen_of a)) calls) a b
+  sent_in_all [] a b h = subst (Sent told held failed [] a) h (sent_nothing a)
+  sent_in_all (call ∷ calls) a b h =
+      let more = flat_map (bytes_of (screen_of a)) calls in
+      let rest : Sent told held failed more h.0 b = subst (λ s. Sent told held failed (flat_map (bytes_of s) calls) h.0 b) h.1.screen (sent_in_all calls h.0 b h.2) in
+      sent_then (bytes_of (screen_of a) call) more a h.0 b h.1 rest
+
+  -- calls that were begun leave the screen as it is
+  pub begun_stays : (calls : List Call) (a b : ScreenRenderer D) → Begun (canvas_of told held failed) calls a b → screen_of b ≡ screen_of a
+  unfolding Begun
+  begun_stays [] a b h = ap screen_of h
+  begun_stays (call ∷ calls) a b (inl h) = ap screen_of h
+  begun_stays (call ∷ calls) a b (inr (inl h)) = h.screen
+  begun_stays (call ∷ calls) a b (inr (inr h)) = begun_stays calls h.0 b h.2 ∙ h.1.screen
