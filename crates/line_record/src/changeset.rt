@@ -7,7 +7,8 @@ use std::alloc::Global;
 use std::marker::Model;
 
 /// What was changed in a line, for undoing it and for making it anew. Changes may be grouped: a
-/// group is undone as one.
+/// group is undone as one. The steps after the first `done` are undone, and `mark` is the index of
+/// the oldest open mark before them.
 #[derive(Debug, Drop)]
 pub struct Changeset {
     pub(crate) steps: Steps,

@@ -168,8 +168,8 @@ impl Steps {
         Ok(true)
     }
 
-    /// The first `n`, of which those from an index on become one that nothing joins, or go where they
-    /// have no changes. Answers whether they have.
+    /// The first `n`, of which those from an index on become one that nothing joins, or go where
+    /// they have no changes. Answers whether they have.
     pub fn close(&mut self, n: usize, index: usize) -> bool
         requires order { index < n }
         requires inside { n ≤ length self.old }
