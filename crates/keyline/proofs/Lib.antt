@@ -1,11 +1,10 @@
-mod Rows
-pub mod DrawnLemmas
-pub mod KeyLemmas
-pub mod LineLemmas
+pub mod CloseLemmas
+pub mod DeskLemmas
 pub mod OneByteLemmas
-pub mod SessionLemmas
+pub mod PlaysLemmas
+pub mod SessionCourse
+pub mod SessionLawLemmas
+pub mod SessionSteps
 pub mod ShowCourse
 pub mod ShowSteps
-pub mod Taken
 pub mod Told
-pub mod TurnLemmas
