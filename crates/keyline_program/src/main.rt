@@ -1,7 +1,9 @@
 //! The program `keyline`: keys from standard input, accepted lines to standard output, the display on standard error.
 #![tactic(auto)]
 
-use keyline::{Bindings, Config, Ending, ReadSource, ReadlineError, Session, SliceSource, WriteSink};
+use keyline::{
+    Bindings, Config, Ending, ReadSource, ReadlineError, Session, SliceSource, WriteSink,
+};
 use std::io;
 use std::process::ExitCode;
 
