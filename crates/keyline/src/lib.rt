@@ -7,11 +7,13 @@
 //! the definitions in `specs/`. All that a call of it needs is handed on here.
 #![tactic(auto)]
 
+pub mod brackets;
 mod desk;
 pub mod ending;
 pub mod laws;
 pub mod session;
 
+pub use brackets::BracketHelper;
 pub use ending::Ending;
 pub use line_config::{
     Behavior, BellStyle, Builder, ColorMode, CompletionType, Config, Configurer, DeviceFailed,
