@@ -9,3 +9,4 @@ pub mod Endings
 pub mod Session
 pub mod Opened
 pub mod Turns
+pub mod Options

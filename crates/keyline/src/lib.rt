@@ -9,8 +9,10 @@
 pub mod command;
 mod editor;
 pub mod ending;
+mod help;
 pub mod laws;
 pub mod line;
+pub mod options;
 mod page;
 pub mod position;
 pub mod session;
@@ -18,5 +20,6 @@ pub mod session;
 pub use command::Command;
 pub use ending::Ending;
 pub use line_config::{DeviceFailed, ReadSource, Sink, SliceSource, Source, VecSink, WriteSink};
+pub use options::{Options, Parsed, parse};
 pub use position::Position;
 pub use session::{Ended, OpenError, Session};
