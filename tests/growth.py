@@ -22,11 +22,11 @@ class Session:
     def __init__(self, *lines):
         self.keys = b"".join(line + b"\r" for line in lines)
         self.lines = [line + b"\n" for line in lines]
-        # The display's parts in order: drawings and row breaks, and before which of them a line was accepted.
+        # The display's parts in order: drawings, characters and row breaks, and which of them end an accepted line.
         self.parts = [drawing(b"")]
         self.breaks = []
         for line in lines:
-            self.parts += [drawing(line[: end + 1]) for end in range(len(line))]
+            self.parts += [bytes([c]) for c in line]
             self.breaks.append(len(self.parts))
             self.parts += [NEW_ROW, drawing(b"")]
         self.parts.append(NEW_ROW)

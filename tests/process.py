@@ -9,7 +9,11 @@ from checks import (BACKSPACE, CTRL_D, ENTER, HUNG, LEFT, NEW_ROW, PROGRAM, RIGH
 
 SCRIPT = placed_script()
 # A session's first line, `ab`: what is sent to the display before the next line's first drawing.
-FIRST_LINE = drawing(b"") + drawing(b"a") + drawing(b"ab") + NEW_ROW
+FIRST_LINE = drawing(b"") + b"ab" + NEW_ROW
+# A character taken from the line's end, and a way of one column.
+TAKEN = b"\x1b[1D\x1b[K"
+BACK = b"\x1b[1D"
+ONWARD = b"\x1b[1C"
 
 
 def expect(keys, lines, display, status=0, **streams):
@@ -42,35 +46,52 @@ def a_line():
 
 
 def left_and_an_insertion():
-    shown = [drawing(b""), drawing(b"a"), drawing(b"ac"), drawing(b"ac", 1), drawing(b"abc", 1)]
-    shown += [b"\x1b[1C", NEW_ROW, drawing(b""), NEW_ROW]
+    shown = [drawing(b""), b"a", b"c", BACK, drawing(b"abc", 1), ONWARD, NEW_ROW, drawing(b""), NEW_ROW]
     expect(b"ac" + LEFT + b"b" + ENTER, b"abc\n", b"".join(shown))
 
 
 def deletions_until_the_line_is_empty_and_its_end():
-    shown = drawing(b"") + drawing(b"a") + drawing(b"") + NEW_ROW
+    shown = drawing(b"") + b"a" + TAKEN + NEW_ROW
     expect(b"a" + CTRL_D + BACKSPACE + BACKSPACE + CTRL_D, b"", shown)
 
 
 def right_and_both_deletions():
-    shown = [drawing(b""), drawing(b"a"), drawing(b"ab"), drawing(b"abc"), drawing(b"abc", 1), drawing(b"abc", 2)]
-    shown += [drawing(b"ac", 1), drawing(b"ac"), drawing(b"a"), NEW_ROW, drawing(b""), NEW_ROW]
+    shown = [drawing(b""), b"abc", BACK, BACK, drawing(b"ac", 1), ONWARD, TAKEN, NEW_ROW, drawing(b""), NEW_ROW]
     expect(b"abc" + LEFT + LEFT + CTRL_D + RIGHT + b"\x08" + ENTER, b"a\n", b"".join(shown))
 
 
-def unknown_bytes_do_nothing():
-    unknown = b"\x00\x01\x0a\xc3\xa9\xff\x1bx\x1b[A\x1b\x1b\x1b[\x1b\x80"
+def keys_without_a_meaning_do_nothing():
+    unknown = b"\x0f\x1bx\x1bOP\x1b[[A\x1b[99~"
     expect(b"a" + unknown + b"b" + unknown + ENTER, b"ab\n", FIRST_LINE + drawing(b"") + NEW_ROW)
 
 
 def a_sequence_that_the_end_cuts_off():
-    shown = drawing(b"") + drawing(b"a") + drawing(b"ab") + NEW_ROW
-    expect(b"ab\x1b[", b"", shown)
-    expect(b"ab\x1b", b"", shown)
+    expect(b"ab\x1b[", b"", FIRST_LINE)
+    expect(b"ab\x1b", b"", FIRST_LINE)
 
 
 def an_end_typed_before_more_keys():
     expect(b"ab" + ENTER + CTRL_D + b"cd" + ENTER, b"ab\n", FIRST_LINE + drawing(b"") + NEW_ROW)
+
+
+def interrupted():
+    expect(b"ab" + ENTER + b"\x03cd", b"ab\n", FIRST_LINE + drawing(b"") + NEW_ROW + b"keyline: Interrupted\n", 130)
+
+
+def input_that_is_no_text():
+    shown = FIRST_LINE + drawing(b"") + b"keyline: input is not UTF-8\n"
+    expect(b"ab" + ENTER + b"\xff" + b"cd" + ENTER, b"ab\n", shown, 3)
+
+
+def pasted_text():
+    shown = drawing(b"") + drawing(b"a\r\nb") + NEW_ROW + drawing(b"") + NEW_ROW
+    expect(b"\x1b[200~a\rb\x1b[201~" + ENTER, b"a\nb\n", shown)
+    expect(b"\x18\x1b[200~a\x1b[201~", b"", drawing(b"") + b"keyline: paste out of place\n", 4)
+
+
+def an_earlier_line_recalled():
+    shown = FIRST_LINE + drawing(b"") + drawing(b"ab") + NEW_ROW + drawing(b"") + NEW_ROW
+    expect(b"ab" + ENTER + b"\x1b[A" + ENTER, b"ab\nab\n", shown)
 
 
 def keys_from_a_file():
@@ -91,10 +112,10 @@ def lines_longer_than_a_row_and_than_a_read():
 
 
 def each_drawing_comes_before_the_next_key():
-    steps = [(b"a", drawing(b"a")), (b"c", drawing(b"ac"))]
-    steps += [(b"\x1b", b""), (b"[", b""), (b"D", drawing(b"ac", 1)), (b"b", drawing(b"abc", 1))]
-    steps += [(ENTER, b"\x1b[1C" + NEW_ROW + drawing(b""))]
-    steps += [(b"d", drawing(b"d")), (BACKSPACE, drawing(b""))]
+    steps = [(b"a", b"a"), (b"c", b"c")]
+    steps += [(b"\x1b", b""), (b"[", b""), (b"D", BACK), (b"b", drawing(b"abc", 1))]
+    steps += [(ENTER, ONWARD + NEW_ROW + drawing(b""))]
+    steps += [(b"d", b"d"), (BACKSPACE, TAKEN)]
     with Running([SCRIPT]) as program:
         program.display.expect(drawing(b""))
         for key, shown in steps:
@@ -108,7 +129,7 @@ def each_drawing_comes_before_the_next_key():
         program.expect_status(0)
 
 
-def each_drawing_is_one_write():
+def each_call_is_one_write():
     # What is written at once to a pipe of packets is read at once, and nothing else with it.
     reader, writer = os.pipe2(os.O_DIRECT)
     keys = b"ac" + LEFT + b"b" + RIGHT + ENTER
@@ -116,8 +137,8 @@ def each_drawing_is_one_write():
     os.close(writer)
     with open(reader, "rb", buffering=0) as packets:
         found = list(iter(lambda: packets.read(65536), b""))
-    drawings = [drawing(b""), drawing(b"a"), drawing(b"ac"), drawing(b"ac", 1), drawing(b"abc", 1), drawing(b"abc")]
-    same("what was written at once", found, [*drawings, NEW_ROW, drawing(b""), NEW_ROW])
+    calls = [drawing(b""), b"a", b"c", BACK, drawing(b"abc", 1), ONWARD]
+    same("what was written at once", found, [*calls, NEW_ROW, drawing(b""), NEW_ROW])
 
 
 def keys_one_byte_a_write():
@@ -127,7 +148,7 @@ def keys_one_byte_a_write():
         program.end_of_input()
         program.lines.expect_end(b"ab\ncd\n")
         program.display.expect_end(
-            FIRST_LINE + drawing(b"") + drawing(b"c") + drawing(b"cd") + NEW_ROW + drawing(b"") + NEW_ROW
+            FIRST_LINE + drawing(b"") + b"cd" + NEW_ROW + drawing(b"") + NEW_ROW
         )
         program.expect_status(0)
 
@@ -160,7 +181,7 @@ def standard_output_whose_reader_goes():
         program.process.stdout.close()
         program.display.expect(FIRST_LINE + drawing(b""))
         program.type(b"cd" + ENTER + b"ef")
-        program.display.expect_end(drawing(b"c") + drawing(b"cd") + NEW_ROW + b"keyline: line output failed\n")
+        program.display.expect_end(b"cd" + NEW_ROW + b"keyline: line output failed\n")
         program.expect_status(1)
 
 
@@ -233,14 +254,18 @@ if __name__ == "__main__":
         left_and_an_insertion,
         deletions_until_the_line_is_empty_and_its_end,
         right_and_both_deletions,
-        unknown_bytes_do_nothing,
+        keys_without_a_meaning_do_nothing,
         a_sequence_that_the_end_cuts_off,
         an_end_typed_before_more_keys,
+        interrupted,
+        input_that_is_no_text,
+        pasted_text,
+        an_earlier_line_recalled,
         keys_from_a_file,
         lines_that_need_many_reads,
         lines_longer_than_a_row_and_than_a_read,
         each_drawing_comes_before_the_next_key,
-        each_drawing_is_one_write,
+        each_call_is_one_write,
         keys_one_byte_a_write,
         standard_input_closed_from_the_start,
         standard_input_that_cannot_be_read,

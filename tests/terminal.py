@@ -103,12 +103,13 @@ class Terminal:
             return [int(child) for child in children.read().split()][-1]
 
     def expect_taken(self):
-        """Each byte reaches the program as it is; output and signals stay as they were found."""
+        """Each byte reaches the program as it is, but those that stop and quit; output stays as it was found."""
         now, found = termios.tcgetattr(self.slave), self.found
         changes = termios.ICRNL | termios.INLCR | termios.IGNCR | termios.ISTRIP | termios.IXON
         same("what is done to input", now[0] & changes, 0)
         same("what is done to output", now[1], found[1])
         same("lines, echo and signals", now[3] & (termios.ICANON | termios.ECHO | termios.ISIG), termios.ISIG)
+        same("the key that interrupts", now[6][termios.VINTR], b"\x00")
         same("bytes and time of a read", (now[6][termios.VMIN], now[6][termios.VTIME]), (1, 0))
 
     def wait_until_taken(self):
@@ -136,7 +137,7 @@ def a_line_typed_edited_and_accepted():
     with Terminal() as terminal:
         terminal.expect(drawing(b""))
         terminal.expect_taken()
-        typed = [(b"a", drawing(b"a")), (b"c", drawing(b"ac")), (LEFT, drawing(b"ac", 1)), (b"b", drawing(b"abc", 1))]
+        typed = [(b"a", b"a"), (b"c", b"c"), (LEFT, b"\x1b[1D"), (b"b", drawing(b"abc", 1))]
         for key, display in typed:
             terminal.type(key)
             terminal.expect(display)
@@ -148,11 +149,11 @@ def a_line_typed_edited_and_accepted():
 
 
 def bytes_that_a_terminal_would_keep():
-    """Ctrl-Q, Ctrl-R, Ctrl-S, Ctrl-V and Ctrl-O reach the program, which knows none of them; so does a newline."""
+    """Ctrl-Q, Ctrl-R, Ctrl-S, Ctrl-V and Ctrl-O reach the program, where they change nothing; a newline accepts the line."""
     with Terminal() as terminal:
         terminal.expect(drawing(b""))
-        terminal.type(b"a\x11\x12\x13\x16\x0f\nb" + ENTER)
-        terminal.expect(drawing(b"a") + drawing(b"ab") + NEW_ROW + b"ab\n" + drawing(b""))
+        terminal.type(b"a\x11\x12\x13\x16\x0fb\n")
+        terminal.expect(b"ab" + NEW_ROW + b"ab\n" + drawing(b""))
         terminal.type(CTRL_D)
         terminal.expect_ended(0)
 
@@ -161,13 +162,18 @@ def ended_by(send, status):
     with Terminal() as terminal:
         terminal.expect(drawing(b""))
         terminal.type(b"a")
-        terminal.expect(drawing(b"a"))
+        terminal.expect(b"a")
         send(terminal)
         terminal.expect_ended(status)
 
 
 def interrupt_typed():
-    ended_by(lambda terminal: terminal.type(b"\x03"), 130)
+    """Ctrl-C is a key."""
+    with Terminal() as terminal:
+        terminal.expect(drawing(b""))
+        terminal.type(b"a\x03")
+        terminal.expect(b"a" + NEW_ROW + b"keyline: Interrupted\n")
+        terminal.expect_ended(130)
 
 
 def quit_typed():
@@ -199,7 +205,7 @@ def stopped_and_continued():
             os.write(terminal.order, b".")
             terminal.wait_until_taken()
         terminal.type(b"a")
-        terminal.expect(drawing(b"a"))
+        terminal.expect(b"a")
         terminal.type(ENTER)
         terminal.expect(NEW_ROW + b"a\n" + drawing(b""))
         terminal.type(CTRL_D)

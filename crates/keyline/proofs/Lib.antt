@@ -1,9 +1,9 @@
-mod Rows
-pub mod DrawnLemmas
-pub mod KeyLemmas
-pub mod LineLemmas
+pub mod CloseLemmas
+pub mod DeskLemmas
+pub mod OneByteLemmas
 pub mod OptionsLemmas
-pub mod SessionLemmas
-pub mod Taken
+pub mod PlaysLemmas
+pub mod SessionSteps
+pub mod ShowCourse
+pub mod ShowSteps
 pub mod Told
-pub mod TurnLemmas

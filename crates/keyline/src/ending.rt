@@ -3,7 +3,7 @@
 ghost use Rattle.std.specs.Prelude.{◌≡◌};
 ghost use Rattle.keyline.specs.Endings.{status_of, text_of};
 
-use line_buffer::OutOfMemory;
+use line_config::ReadlineError;
 
 /// The one way in which a session ended.
 #[derive(Clone, Copy, Debug, PartialEq, Eq)]
@@ -33,12 +33,16 @@ pub enum Ending {
 }
 
 impl Ending {
-    /// The exit status of a program that ends with its session: 0 for the end of input, else 1.
+    /// The exit status of a program that ends with its session: 0 for the end of input, 130 for an
+    /// interruption, as a shell has it, 3 and 4 for input that can't be read on, and 1 for a fault.
     pub fn status(self) -> u8
         ensures { result ≡ status_of self }
     {
         match self {
             Ending::Eof => 0,
+            Ending::Interrupted => 130,
+            Ending::NotUtf8 => 3,
+            Ending::PasteOutOfPlace => 4,
             _ => 1,
         }
     }
@@ -63,13 +67,25 @@ impl Ending {
     }
 }
 
-impl From<OutOfMemory> for Ending {
+impl From<ReadlineError> for Ending {
     ghost use Rattle.std.specs.Prelude.{◌≡◌};
-    ghost use Rattle.keyline.specs.declared.ending.Ending.{Ending};
+    ghost use Rattle.keyline.specs.Endings.{ending_of};
 
-    ghost from_gives = { λ _ ending. ending ≡ Ending.Memory };
+    ghost from_gives = { λ refusal ending. ending ≡ ending_of refusal };
 
-    fn from(_: OutOfMemory) -> Ending {
-        Ending::Memory
+    fn from(refusal: ReadlineError) -> Ending {
+        match refusal {
+            ReadlineError::Eof => Ending::Eof,
+            ReadlineError::Interrupted => Ending::Interrupted,
+            ReadlineError::NotUtf8 => Ending::NotUtf8,
+            ReadlineError::PasteOutOfPlace => Ending::PasteOutOfPlace,
+            ReadlineError::Reader => Ending::Reader,
+            ReadlineError::Display => Ending::Display,
+            ReadlineError::Lines => Ending::Lines,
+            ReadlineError::HistoryText => Ending::HistoryText,
+            ReadlineError::Helper => Ending::Helper,
+            ReadlineError::Handler => Ending::Handler,
+            ReadlineError::Memory => Ending::Memory,
+        }
     }
 }

@@ -1,25 +1,38 @@
 //! A line editor: key bytes to accepted lines, with a display that shows the line while it is
-//! typed.
+//! typed, a kill ring, undo and a history.
 //!
-//! A [`Session`] is opened over three devices (a source of key bytes, a display, a sink of lines)
-//! and run once, to its ending. Its contract says what it sends, what it writes and how it ends, by
-//! the definitions in `specs/`.
+//! A [`Session`] is opened over its devices (the text of a history, a source of key bytes, a
+//! display, a sink of lines and one of the history's text) with settings, bindings and a helper, and
+//! run once, to its ending. Its contract says what it sends, writes and saves and how it ends, by
+//! the definitions in `specs/`. All that a call of it needs is handed on here.
 #![tactic(auto)]
 
-pub mod command;
-mod editor;
+mod desk;
 pub mod ending;
 mod help;
 pub mod laws;
-pub mod line;
 pub mod options;
-mod page;
-pub mod position;
 pub mod session;
 
-pub use command::Command;
 pub use ending::Ending;
-pub use line_config::{DeviceFailed, ReadSource, Sink, SliceSource, Source, VecSink, WriteSink};
+pub use line_config::{
+    Behavior, BellStyle, Builder, ColorMode, CompletionType, Config, Configurer, DeviceFailed,
+    EditMode, HistoryDuplicates, HookFault, Last, ReadSource, ReadlineError, Sink, SliceSource,
+    Source, VecSink, WriteSink,
+};
+pub use line_editor::{
+    Anchor, At, CharSearch, Direction, GraphemeClusterMode, Movement, RepeatCount, Unit, Word,
+    WordAction,
+};
+pub use line_help::{
+    Candidate, Completer, Context, DefaultHistory, FileHistory, FilenameCompleter, Helper,
+    Highlighter, Hint, Hinter, History, HistoryHinter, HistoryIter, Listed, Lister,
+    MatchingBracketHighlighter, MatchingBracketValidator, MemHistory, Pair, Prompt,
+    SearchDirection, SearchResult, ValidationContext, ValidationResult, Validator,
+};
+pub use line_keys::{
+    Bindings, Cmd, CmdKind, ConditionalEventHandler, Event, EventContext, EventHandler, InputMode,
+    Invoke, KeyCode, KeyEvent, Keys, Modifiers, Text,
+};
 pub use options::{Options, Parsed, parse};
-pub use position::Position;
-pub use session::{Ended, OpenError, Session};
+pub use session::{Ended, Session};

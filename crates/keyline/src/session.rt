@@ -1,176 +1,187 @@
-//! Sessions: from key bytes to accepted lines and display bytes.
+//! Sessions: from key bytes to accepted lines, a history and display bytes.
 
-ghost use Rattle.std.specs.Prelude.{◌≡◌, ◌≤◌, IfOk, IsTrue, false, All};
-ghost use Rattle.line_config.specs.Sending.{Takes};
-ghost use Rattle.keyline.specs.Endings.{HasCause, IsMet};
-ghost use Rattle.keyline.specs.Keys.{is_printable};
-ghost use Rattle.keyline.specs.Opened.{promised};
-ghost use Rattle.keyline.specs.Session.{Stopped};
+ghost use Rattle.std.specs.Prelude.{◌≡◌, ◌≤◌, IfErr, IfOk, false, string_bytes};
+ghost use Rattle.line_keys.specs.Answers.{custom_of};
+ghost use Rattle.line_editor.specs.Running.{helping_by};
+ghost use Rattle.line_screen.specs.Calls.{screen_of};
+ghost use Rattle.keyline.specs.Desks.{known_by};
+ghost use Rattle.keyline.specs.Playing.{Saves, ending_after};
+ghost use Rattle.keyline.specs.Plays.{LoadFault, Loaded, Opens, Plays};
+ghost use Rattle.keyline.specs.Sessions.{given_by};
 
-use crate::editor::Editor;
+use crate::desk::{Desk, Stopped};
 use crate::ending::Ending;
-use crate::line::Line;
-use crate::page::Page;
-use line_buffer::OutOfMemory;
-use line_config::{Sink, Source};
-use std::alloc::{AllocError, Global};
-use std::marker::Model;
+use line_config::{Config, ReadlineError, Sink, Source};
+use line_help::{FileHistory, Helper};
+use line_keys::{Bindings, Decides, EventHandler};
+use line_record::KillRing;
+use line_screen::{KeyReader, ScreenRenderer};
+use std::alloc::Global;
 
-/// A session that is open: it reads keys from a source, draws on a display and writes accepted
-/// lines to a sink.
+/// The slots of a session's kill ring.
+const KILL_RING_SIZE: usize = 60;
+
+/// A session that is open: it reads keys from a source, draws on a display, writes accepted lines to
+/// a sink, and keeps them in a history whose text goes to another.
 #[derive(Drop)]
-pub struct Session<S: Source, D: Sink, L: Sink> {
-    page: Page,
-    line: Line,
-    source: S,
-    display: D,
-    lines: L,
+pub struct Session<S: Source, H, D: Sink, L: Sink, T: Sink> {
+    alloc: Global,
+    config: Config,
+    bindings: Bindings,
+    prompt: String,
+    desk: Desk<S, H, D, L>,
+    text: T,
 }
 
-impl<S: Source, D: Sink, L: Sink> Model for Session<S, D, L> {
-    ghost use Rattle.std.specs.Prelude.{◌≡◌, false};
-    ghost use Rattle.keyline.specs.Opened.{Opened};
-
-    ghost Value = { Opened S D L };
-
-    ghost view = { λ s. record {
-      frame = s.page;
-      source = s.source;
-      display = s.display;
-      lines = s.lines;
-    } };
-
-    ghost invariant = { λ s. ((S.feed s.source).failed ≡ false) × (D.has_failed s.display ≡ false)
-        × (L.has_failed s.lines ≡ false) };
-}
-
-/// Why a session could not be opened.
-#[derive(Clone, Copy, Debug, PartialEq, Eq)]
-pub enum OpenError {
-    /// A growth of memory was refused.
-    Memory,
-}
-
-impl From<OutOfMemory> for OpenError {
-    ghost use Rattle.std.specs.Prelude.{◌≡◌};
-    ghost use Rattle.keyline.specs.declared.session.OpenError.{OpenError};
-
-    ghost from_gives = { λ _ error. error ≡ OpenError.Memory };
-
-    fn from(_: OutOfMemory) -> OpenError {
-        OpenError::Memory
-    }
-}
-
-impl From<AllocError> for OpenError {
-    ghost use Rattle.std.specs.Prelude.{◌≡◌};
-    ghost use Rattle.keyline.specs.declared.session.OpenError.{OpenError};
-
-    ghost from_gives = { λ _ error. error ≡ OpenError.Memory };
-
-    fn from(_: AllocError) -> OpenError {
-        OpenError::Memory
-    }
-}
-
-/// A session that has ended, with the devices that it was handed.
+/// A session that has ended, with its history and the devices that it was handed.
 #[derive(Drop)]
-pub struct Ended<S, D, L> {
+pub struct Ended<S, D, L, T> {
     /// How it ended.
     pub ending: Ending,
-    /// The source of key bytes, behind the last byte read.
+    /// The history, with nothing new in it where its text was saved.
+    pub history: FileHistory,
+    /// The source of key bytes, after the last byte read.
     pub source: S,
-    /// The display.
     pub display: D,
     /// The sink of accepted lines.
     pub lines: L,
+    /// The sink of the history's text.
+    pub text: T,
 }
 
-impl<S: Source, D: Sink, L: Sink> Session<S, D, L> {
-    /// Opens a session: `prompt` is of printable ASCII, and rows have `columns` cells. No key is
-    /// read, and nothing is drawn yet.
-    pub fn open(
+/// A new history, with the text of a source loaded into it.
+fn load<F: Source>(
+    alloc: Global,
+    config: &Config,
+    source: &mut F,
+) -> Result<FileHistory, ReadlineError>
+    ensures loaded { IfOk result (Loaded config.now (F.feed source.old)) }
+    ensures fault { IfErr result (LoadFault config.now (F.feed source.old)) }
+{
+    let mut history = FileHistory::with_config(alloc, config);
+    history.load_from(alloc, source)?;
+    Ok(history)
+}
+
+/// Saves the history, where an entry is new, and answers whether the sink took it.
+fn save<T: Sink>(history: &mut FileHistory, text: &mut T) -> bool
+    ensures { Saves T.told T.held T.has_failed history.old history.new text.old text.new result }
+{
+    match history.save_to(text) {
+        Ok(()) => true,
+        Err(_) => false,
+    }
+}
+
+/// What a session ends with: its history's failure counts where no fault came before.
+fn ending_after(why: ReadlineError, saved: bool) -> ReadlineError
+    ensures { result ≡ ending_after why saved }
+{
+    match why {
+        ReadlineError::Eof
+        | ReadlineError::Interrupted
+        | ReadlineError::NotUtf8
+        | ReadlineError::PasteOutOfPlace
+            if !saved =>
+        {
+            ReadlineError::HistoryText
+        }
+        _ => why,
+    }
+}
+
+impl<S: Source + Drop, H: Helper + Drop, D: Sink + Drop, L: Sink + Drop, T: Sink + Drop>
+    Session<S, H, D, L, T>
+{
+    /// Opens a session: the history is loaded, no key is read, and nothing is drawn yet. Rows of
+    /// the display have `columns` cells.
+    pub fn open<F: Source + Drop>(
         alloc: Global,
+        config: Config,
+        bindings: Bindings,
+        history: F,
+        helper: Option<H>,
         prompt: &str,
         source: S,
         columns: u16,
         display: D,
         lines: L,
-    ) -> Result<Session<S, D, L>, OpenError>
-    where
-        S: Drop,
-        D: Drop,
-        L: Drop,
-        requires prompt { All (λ byte. IsTrue (is_printable byte)) prompt.now }
+        text: T,
+    ) -> Result<Self, ReadlineError>
         requires columns { (2 ≤ columns) × (columns ≤ 1000) }
+        requires history { (F.feed history).failed ≡ false }
         requires source { (S.feed source).failed ≡ false }
         requires display { D.has_failed display ≡ false }
         requires lines { L.has_failed lines ≡ false }
-        ensures { IfOk result (λ s. s
-            ≡ record {
-              frame = record { prompt = prompt.now; columns = columns };
-              source = source;
-              display = display;
-              lines = lines;
-            }) }
+        requires text { T.has_failed text ≡ false }
+        ensures desk { IfOk result (λ s. Opens S.feed config (F.feed history) helper source columns
+            display lines s.desk) }
+        ensures config { IfOk result (λ s. s.config ≡ config) }
+        ensures bindings { IfOk result (λ s. s.bindings ≡ bindings) }
+        ensures prompt { IfOk result (λ s. string_bytes s.prompt ≡ prompt.now) }
+        ensures text { IfOk result (λ s. s.text ≡ text) }
+        ensures fault { IfErr result (LoadFault config (F.feed history)) }
     {
-        Ok(Session {
-            page: Page::new(alloc, prompt, columns)?,
-            line: Line::new(alloc)?,
-            source,
-            display,
+        let mut history = history;
+        let history = load(alloc, &config, &mut history)?;
+        let ring = KillRing::new(alloc, KILL_RING_SIZE)?;
+        let prompt = String::from_str(alloc, prompt)?;
+        let mode = config.grapheme_cluster_mode();
+        let desk = Desk {
+            reader: KeyReader::new(source, config.edit_mode()),
+            out: ScreenRenderer::new(display, columns, mode, config.bell_style()),
+            helper,
+            history,
+            ring,
             lines,
+        };
+        Ok(Session {
+            alloc,
+            config,
+            bindings,
+            prompt,
+            desk,
+            text,
         })
     }
 
-    /// Reads keys, draws, and writes each accepted line and a newline, until the input ends or a
-    /// fault stops it.
-    pub fn run(self) -> Ended<S, D, L>
-        ensures ending { IsTrue (S.feed self.source).told
-            → IsMet (S.feed self.source).steady result.ending →
-            result.ending ≡ (promised S.feed self).ending }
-        ensures display { IsTrue (S.feed self.source).told
-            → IsMet (S.feed self.source).steady result.ending →
-            Takes D.told D.held self.display result.display (promised S.feed self).display }
-        ensures lines { IsTrue (S.feed self.source).told
-            → IsMet (S.feed self.source).steady result.ending →
-            Takes L.told L.held self.lines result.lines (promised S.feed self).lines }
-        ensures unread { IsTrue (S.feed self.source).told
-            → IsMet (S.feed self.source).steady result.ending →
-            (S.feed result.source).coming ≡ (promised S.feed self).unread }
-        ensures stopped { (result.ending ≡ Ending.Eof → ⊥)
-            → Stopped self.frame result.ending S.feed L.told L.held self.source result.source
-            self.lines result.lines }
-        ensures cause { HasCause result.ending (S.feed result.source).failed
-            (D.has_failed result.display) (L.has_failed result.lines) }
+    /// Reads lines, draws and writes them, until the input or a fault ends it. The history is saved
+    /// once, after every ending.
+    pub fn run(self) -> Ended<S, D, L, T>
+        ensures { let custom = custom_of self.bindings ⟦<EventHandler as Decides>⟧.decides in
+            let helps = helping_by H.hint_of H.fails H.verdict_of H.validating_fails H.marks in
+            let given = given_by self.config custom (string_bytes self.prompt)
+                (screen_of self.desk.out) (helps self.desk.helper) in
+            let known = known_by S.feed D.told D.held D.has_failed L.told L.held L.has_failed in
+            Plays known T.told T.held T.has_failed given self.desk self.text result }
     {
         let Session {
-            page,
-            line,
-            source,
-            display,
-            lines,
+            alloc,
+            config,
+            bindings,
+            prompt,
+            desk,
+            mut text,
         } = self;
-        let mut editor = Editor {
-            page,
-            line,
-            source,
-            display,
+        let Stopped { desk, why } = desk.read_lines(alloc, &config, &bindings, prompt.as_str());
+        let Desk {
+            reader,
+            out,
+            helper: _,
+            mut history,
+            ring: _,
             lines,
-        };
-        let ending = editor.edit();
-        let Editor {
-            page: _,
-            line: _,
-            source,
-            display,
-            lines,
-        } = editor;
+        } = desk;
+        let saved = save(&mut history, &mut text);
+        let ending = Ending::from(ending_after(why, saved));
+        let (source, _) = reader.into_parts();
         Ended {
             ending,
+            history,
             source,
-            display,
+            display: out.into_sink(),
             lines,
+            text,
         }
     }
 }

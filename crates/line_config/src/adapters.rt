@@ -1,6 +1,6 @@
 //! Devices over std's readers and writers, each with a fixed array.
 ghost use Rattle.std.specs.Prelude.{◌≡◌, ◌++◌, ◌-◌, ◌^◌, ◌≤◌, ◌<◌, [], false, option_to_list, length, take, is_err, IsErr, IsTrue, Ok, None, IfOk, IfSome, OnOk, OnErr};
-ghost use Rattle.line_config.specs.Sending.{AppendsSome};
+ghost use Rattle.line_config.specs.Sending.{AppendsSome, Takes};
 ghost use Rattle.line_config.specs.Known.{known_bytes};
 ghost use Rattle.line_config.specs.Buffer.{bytes_in};
 ghost use Rattle.line_config.specs.declared.device.Last.TheVariants.{End};
@@ -151,12 +151,10 @@ impl<W: Write> WriteSink<W> {
 
     // Puts as many of the bytes behind those that wait as there is room for, which is made first.
     fn gather(&mut self, bytes: &[u8]) -> Result<usize, DeviceFailed>
-        ensures told { IsTrue (sink_told W.contents self.old)
-            → IsTrue (sink_told W.contents self.new) }
-        ensures ok { IsTrue (sink_told W.contents self.old) → IfOk result (λ n.
-            sink_held W.contents self.new ≡ sink_held W.contents self.old ++ take n bytes.now) }
-        ensures err { IsTrue (sink_told W.contents self.old)
-            → OnErr result (sink_held W.contents self.new ≡ sink_held W.contents self.old) }
+        ensures ok { IfOk result (λ n. Takes (sink_told W.contents) (sink_held W.contents)
+            self.old self.new (take n bytes.now)) }
+        ensures err { OnErr result (Takes (sink_told W.contents) (sink_held W.contents)
+            self.old self.new []) }
         ensures bound { IfOk result (λ n. n ≤ length bytes.now) }
         ensures some { IfOk result (λ n. 0 < length bytes.now → 0 < n) }
     {
@@ -167,13 +165,11 @@ impl<W: Write> WriteSink<W> {
     }
 
     fn gather_all(&mut self, bytes: &[u8]) -> Result<(), DeviceFailed>
-        ensures told { IsTrue (sink_told W.contents self.old)
-            → IsTrue (sink_told W.contents self.new) }
-        ensures ok { IsTrue (sink_told W.contents self.old)
-            → OnOk result (sink_held W.contents self.new ≡ sink_held W.contents self.old
-            ++ bytes.now) }
+        ensures ok { OnOk result (Takes (sink_told W.contents) (sink_held W.contents)
+            self.old self.new bytes.now) }
         ensures begins { IsTrue (sink_told W.contents self.old)
-            → AppendsSome (sink_held W.contents self.old) bytes.now
+            → IsTrue (sink_told W.contents self.new)
+            × AppendsSome (sink_held W.contents self.old) bytes.now
             (sink_held W.contents self.new) }
     {
         let mut rest = bytes;
@@ -186,9 +182,8 @@ impl<W: Write> WriteSink<W> {
 
     // Sends what waits, and flushes the writer.
     fn send(&mut self) -> Result<(), DeviceFailed>
-        ensures held { IsTrue (sink_told W.contents self.old)
-            → IsTrue (sink_told W.contents self.new)
-            × (sink_held W.contents self.new ≡ sink_held W.contents self.old) }
+        ensures takes { Takes (sink_told W.contents) (sink_held W.contents)
+            self.old self.new [] }
         ensures sent { OnOk result (unsent_of self.new ≡ []) }
     {
         self.unsent.send_to(&mut self.writer)?;

@@ -4,6 +4,8 @@ pub mod CommandsLead
 pub mod DoesLemmas
 pub mod KillLemmas
 pub mod LeadLemmas
+pub mod LoopLemmas
+pub mod CarriesLemmas
 pub mod LineLeads
 pub mod ReachLemmas
 pub mod RefusedLemmas
@@ -11,6 +13,7 @@ pub mod ReplaysLemmas
 pub mod ReturnLemmas
 pub mod RowLemmas
 mod Rows
+pub mod RunLemmas
 pub mod TurnLemmas
 pub mod UndoAllLemmas
 pub mod UndoLemmas

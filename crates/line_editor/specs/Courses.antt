@@ -1,5 +1,5 @@
 -- A line as a list of turns, and a session as the turns of its lines.
-use Rattle.std.specs.Prelude.{◌≡◌, ⊤, ℕ, Bool, true, false, List, [], ◌∷◌, Result, IsOk, IsErr}
+use Rattle.std.specs.Prelude.{◌≡◌, ⊤, ℕ, Bool, true, false, List, [], ◌∷◌, Result, Err, IsOk, IsErrAnd}
 use Rattle.line_config.specs.declared.errors.ReadlineError.{ReadlineError}
 use Rattle.line_config.specs.declared.errors.ReadlineError.TheVariants.{Eof, Interrupted, NotUtf8, PasteOutOfPlace, Reader, Display, Lines, HistoryText, Helper, Handler, Memory}
 use Rattle.line_editor.specs.Redraws.{Redraw}
@@ -41,7 +41,8 @@ Course own x (Last redraws breaks ∷ rest) = FitsAll own x redraws
 -- the turn that accepts a line, or in which its session ends, is the line's last; only where the
 -- fuel was too small there is none
 abbrev pub EndsLine : Result (List ℕ) ReadlineError → List Turn → Type 0
-EndsLine outcome [] = IsErr outcome
+EndsLine outcome [] = outcome ≡ Err Memory
 EndsLine outcome (Open redraws value ∷ rest) = EndsLine outcome rest
 EndsLine outcome (Accept redraws value ∷ rest) = IsOk outcome × (rest ≡ [])
-EndsLine outcome (Last redraws breaks ∷ rest) = IsErr outcome × (rest ≡ [])
+EndsLine outcome (Last redraws breaks ∷ rest) =
+    IsErrAnd outcome (λ e. breaks ≡ breaks_after e) × (rest ≡ [])

@@ -12,10 +12,12 @@ pub mod Killing
 pub mod Leads
 pub mod Lines
 pub mod Moving
+pub mod Reading
 pub mod Redraws
 pub mod Remembering
 pub mod Returns
 pub mod Rewording
+pub mod Running
 pub mod Sights
 pub mod Starts
 pub mod States

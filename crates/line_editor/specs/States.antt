@@ -1,5 +1,5 @@
 -- What a state holds, as a value; what was handed in for it; and what an edit makes of it.
-use Rattle.std.specs.Prelude.{◌≡◌, ◌⊎◌, ⊤, ℕ, Bool, if◌then◌else◌, List, Option, Some, None, option_map, Result, string_bytes, IsTrue, IfSome, IfErr, OnOk, OnErr}
+use Rattle.std.specs.Prelude.{◌≡◌, ◌⊎◌, ⊤, ℕ, Bool, if◌then◌else◌, List, Option, Some, None, option_map, Result, string_bytes, IsTrue, IsSomeAnd, IfErr, OnOk, OnErr}
 use Rattle.std.specs.List.{FoldsTo}
 use Rattle.line_buffer.specs.Cells.{origin}
 use Rattle.line_config.specs.declared.errors.ReadlineError.{ReadlineError}
@@ -66,7 +66,7 @@ module _ {Out H Hi K T : Type 0} {renderer : renderers.Renderer.Ghosts Out} {com
 
   -- the helper fails at what the state shows it now
   abbrev pub HookFails : State Out H Hi K T renderer completer candidate hinter hint highlighter validator history → Type 0
-  HookFails s = IfSome s.helper (λ h.
+  HookFails s = IsSomeAnd s.helper (λ h.
       IsTrue (hinter.fails h s.line.text s.line.place (history.entries s.ctx.history.now) s.ctx.place) ⊎ IsTrue (validator.validating_fails h s.line.text))
 
   abbrev pub Reason : State Out H Hi K T renderer completer candidate hinter hint highlighter validator history → ReadlineError → Type 0

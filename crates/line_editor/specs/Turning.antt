@@ -25,6 +25,20 @@ use Rattle.line_editor.specs.declared.state.State.{State}
 abbrev pub turning : Custom → ℕ → Input → Ring → Coming → Setting → Value → Turned
 turning custom indent input r c s v = turn_of s custom indent input r v c
 
+-- why a call that reads and edits is refused, whatever is told; commands end a line too
+abbrev pub cause_of : Custom → Bool → Type 0 → Feed → ReadlineError → Type 0
+cause_of custom failed hook feed Eof = ⊤
+cause_of custom failed hook feed Interrupted = ⊤
+cause_of custom failed hook feed NotUtf8 = feed.reason NotUtf8
+cause_of custom failed hook feed PasteOutOfPlace = feed.reason PasteOutOfPlace
+cause_of custom failed hook feed Reader = feed.reason Reader
+cause_of custom failed hook feed Display = IsTrue failed
+cause_of custom failed hook feed Lines = ⊥
+cause_of custom failed hook feed HistoryText = ⊥
+cause_of custom failed hook feed Helper = hook
+cause_of custom failed hook feed Handler = HandlerFails custom
+cause_of custom failed hook feed Memory = ⊤
+
 module _ {Out H Hi K T : Type 0} {renderer : renderers.Renderer.Ghosts Out} {completer : completions.Completer.Ghosts H K} {candidate : completions.Candidate.Ghosts K}
     {hinter : hints.Hinter.Ghosts H T} {hint : hints.Hint.Ghosts T} {highlighter : highlights.Highlighter.Ghosts H} {validator : verdicts.Validator.Ghosts H} {history : histories.History.Ghosts Hi} where
   -- a fault came, which no input gives: the calls made are the first of the edit's, and a refused one perhaps behind them
@@ -37,19 +51,8 @@ module _ {Out H Hi K T : Type 0} {renderer : renderers.Renderer.Ghosts Out} {com
     pub stays : Stays s t
     pub begun : Begun renderer.canvas (asked (renderer.canvas.ruler s.out) s.layout (edit (setting_of s) (value_of s)).redraws).calls s.out t.out
 
-  -- why a call that reads and edits is refused, whatever is told; commands end a line too
   abbrev pub Cause : Custom → State Out H Hi K T renderer completer candidate hinter hint highlighter validator history → Feed → ReadlineError → Type 0
-  Cause custom t feed Eof = ⊤
-  Cause custom t feed Interrupted = ⊤
-  Cause custom t feed NotUtf8 = feed.reason NotUtf8
-  Cause custom t feed PasteOutOfPlace = feed.reason PasteOutOfPlace
-  Cause custom t feed Reader = feed.reason Reader
-  Cause custom t feed Display = IsTrue (renderer.canvas.failed t.out)
-  Cause custom t feed Lines = ⊥
-  Cause custom t feed HistoryText = ⊥
-  Cause custom t feed Helper = HookFails t
-  Cause custom t feed Handler = HandlerFails custom
-  Cause custom t feed Memory = ⊤
+  Cause custom t feed e = cause_of custom (renderer.canvas.failed t.out) (HookFails t) feed e
 
   -- the turn was made whole, and ends as it says
   pub record Whole (turn : Setting → Value → Turned) (s t : State Out H Hi K T renderer completer candidate hinter hint highlighter validator history)

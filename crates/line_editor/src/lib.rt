@@ -10,8 +10,10 @@ mod inserting;
 mod killing;
 pub mod laws;
 mod moving;
+pub mod ran;
 mod refreshing;
 mod remembering;
+mod reading;
 pub mod renderer;
 mod rewording;
 mod running;
@@ -26,5 +28,6 @@ pub use line_buffer::{
     Anchor, At, CharSearch, Direction, GraphemeClusterMode, Layout, LineBuffer, Mode, Movement,
     Position, RepeatCount, Unit, Word, WordAction,
 };
+pub use ran::{Ran, run};
 pub use renderer::{RefreshKind, Renderer};
 pub use state::State;

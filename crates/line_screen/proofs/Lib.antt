@@ -20,6 +20,7 @@ pub mod Outcomes
 pub mod Owed
 pub mod Pasting
 pub mod ReadChars
+pub mod ReaderRules
 mod Rows
 pub mod RowsLeft
 pub mod Runs

@@ -5,7 +5,7 @@ use Rattle.line_buffer.specs.declared.layout.Position.{Position}
 use Rattle.line_screen.specs.Display.{right}
 use Rattle.line_screen.specs.Drawing.{DrawnItem, next_row, fit, leave, after_one, after}
 use Rattle.line_screen.specs.Drawing.DrawnItem.{NewRow, Letter, Cluster}
-use Rattle.line_screen.specs.Measure.{saturated}
+use Rattle.line_screen.specs.Measure.{saturated, Comes}
 use Rattle.line_screen.proofs.Moves.{place}
 use Rattle.line_screen.proofs.Shift.{after-append}
 
@@ -106,5 +106,5 @@ reached_steps columns from all items left before at next h split is inside =
       low = let row_is : next.row ≡ min (after columns items at).row 65535 = ap (λ p. p.row) is in omega arith;
     }
 
-pub reached_end : (columns : ℕ) (from : Position) (all left : List DrawnItem) (at : Position) → Reached columns from all left at → left ≡ [] → at ≡ saturated (after columns all from)
-reached_end columns from all left at h none = sym (saturated_small at h.low) ∙ ap (λ xs. saturated (after columns xs at)) (sym none) ∙ h.same
+pub reached_end : (columns : ℕ) (from : Position) (all left : List DrawnItem) (at : Position) → Reached columns from all left at → left ≡ [] → Comes columns (after columns all from) at
+reached_end columns from all left at h none = record { place = sym (saturated_small at h.low) ∙ ap (λ xs. saturated (after columns xs at)) (sym none) ∙ h.same; inside = h.inside }

@@ -1,5 +1,5 @@
 -- The columns of a cluster by the display's way of counting, and where the drawing of a text ends.
-use Rattle.std.specs.Prelude.{ℕ, ◌==◌, nat_lt, nat_le, min, Bool, true, not, ◌&&◌, List, length, chars, Option, Some, None, if◌then◌else◌}
+use Rattle.std.specs.Prelude.{◌≡◌, ℕ, ◌<◌, ◌==◌, nat_lt, nat_le, min, Bool, true, not, ◌&&◌, List, length, chars, Option, Some, None, if◌then◌else◌}
 use Rattle.std.specs.List.{list_all, list_any}
 use Rattle.std.specs.Char.{is_control}
 use Rattle.std.specs.Str.{is_utf8}
@@ -33,6 +33,11 @@ in_row columns at = if nat_lt at.col columns then at else next_row at
 -- rows are counted to 65,535
 abbrev pub saturated : Position → Position
 saturated at = record { col = at.col; row = min at.row 65535 }
+
+-- a step of measuring answers this place, rows counted to 65,535, its column one of the row's
+pub record Comes (columns : ℕ) (to answer : Position) : Type 0 where
+  pub place : answer ≡ saturated to
+  pub inside : answer.col < columns
 
 -- where the drawing of a text from a place on ends
 abbrev pub measure_of : GraphemeClusterMode → ℕ → List ℕ → Position → Position

@@ -1,5 +1,5 @@
 -- What a call that reads makes of the bytes to come, whether it is answered or refused.
-use Rattle.std.specs.Prelude.{◌≡◌, ℕ, ◌<◌, ◌≤◌, ⊤, false, is_err, IsTrue, List, [], ◌++◌, option_to_list, Option, None, Result, Ok, Err, IfOk, IfErr, IfSome, OnErr}
+use Rattle.std.specs.Prelude.{◌≡◌, ℕ, ◌<◌, ◌≤◌, ⊤, false, is_err, IsTrue, List, [], ◌∷◌, ◌++◌, option_to_list, Option, Some, None, Result, Ok, Err, IfOk, IfErr, IfSome, OnErr}
 use Rattle.line_config.specs.declared.device.DeviceFailed.{DeviceFailed}
 use Rattle.line_config.specs.declared.device.Last.{Last}
 use Rattle.line_config.specs.declared.device.Last.TheVariants.{End, Failed}
@@ -9,7 +9,8 @@ use Rattle.line_config.specs.Feed.{Feed}
 use Rattle.line_config.specs.Refusals.{MetBy}
 use Rattle.line_screen.specs.Unread.{ahead}
 use Rattle.line_screen.specs.declared.reading.lookahead.Lookahead.{Lookahead}
-use Rattle.line_screen.specs.Input.{Chars, Next, chars_of, char_at, behind_char, is_failure}
+use Rattle.line_screen.specs.declared.reading.utf8.Awaited.{Awaited}
+use Rattle.line_screen.specs.Input.{Chars, Next, chars_of, in_char, char_at, behind_char, is_failure}
 
 -- the refusals of a character and of a key that is read: they take no memory
 abbrev pub IsKeyRefusal : ReadlineError → Type 0
@@ -78,6 +79,32 @@ pub record PeeksByte {S : Type 0} (feed : S → Feed) (old new : Lookahead S)
   pub failure : (ahead feed old).failed ≡ false → (ahead feed new).failed ≡ is_err result
   pub keeps : (ahead feed new).bound ≤ (ahead feed old).bound
   pub kept : IfOk result (λ b. new.kept ≡ b)
+
+-- a further byte of a character is read: one in the range that is awaited, or the definition's
+-- refusal
+pub record ReadsFurther {S : Type 0} (feed : S → Feed) (awaited : Awaited) (old new : Lookahead S)
+    (result : Result ℕ ReadlineError) : Type 0 where
+  pub ok : IsTrue (ahead feed old).told
+      → IfOk result (λ b. (ahead feed old).coming ≡ b ∷ (ahead feed new).coming)
+  pub least : IfOk result (λ b. awaited.least ≤ b)
+  pub greatest : IfOk result (λ b. b ≤ awaited.greatest)
+  pub answer : IsTrue (ahead feed old).told → MetBy (ahead feed old).steady result
+      → let all = in_char (Some awaited) (ahead feed old).coming (ahead feed old).last in
+      IfErr result (λ e. char_at all ≡ Err e)
+  pub left : IsTrue (ahead feed old).told → MetBy (ahead feed old).steady result
+      → let all = in_char (Some awaited) (ahead feed old).coming (ahead feed old).last in
+      OnErr result (behind_char all ≡ (ahead feed new).coming)
+  pub fault : IsTrue (ahead feed old).told → result ≡ Err Reader
+      → (ahead feed new).coming ≡ (ahead feed old).coming
+  pub whole : result ≡ Err Eof → ⊥
+  pub refused : IfErr result IsKeyRefusal
+  pub reason : result ≡ Err Reader → IsTrue (ahead feed new).failed
+  pub failure : (ahead feed old).failed ≡ false → (ahead feed new).failed ≡ is_failure result
+  pub told : IsTrue (ahead feed old).told → IsTrue (ahead feed new).told
+  pub steady : (ahead feed new).steady ≡ (ahead feed old).steady
+  pub last : (ahead feed new).last ≡ (ahead feed old).last
+  pub keeps : (ahead feed new).bound ≤ (ahead feed old).bound
+  pub kept : new.kept ≡ None
 
 -- a character is read by a definition of characters, where the source's failure comes or is
 -- foretold

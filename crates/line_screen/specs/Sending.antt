@@ -16,8 +16,8 @@ pub record SendsTo {D : Type 0} (bytes : List ℕ) (column columns : ℕ) (told 
   pub inside : IfOk result (λ c. c < columns)
 
 -- the same with the bytes of items, from a column on
-abbrev pub SendsItems : {D : Type 0} → List DrawnItem → ℕ → ℕ → (D → Bool) → (D → List ℕ) → (D → Bool)
-    → D → D → Result ℕ DeviceFailed → Type 0
+abbrev pub SendsItems : {D : Type 0} → List DrawnItem → ℕ → ℕ → (D → Bool) → (D → List ℕ)
+    → (D → Bool) → D → D → Result ℕ DeviceFailed → Type 0
 SendsItems items start columns told held failed old new result =
     SendsTo (sent columns items start)
     (col_after columns items start) columns told held failed old new result

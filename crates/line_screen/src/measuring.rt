@@ -6,7 +6,7 @@ ghost use Rattle.unicode_segmentation.specs.Grapheme.{graphemes};
 ghost use Rattle.line_screen.specs.Display.{right};
 ghost use Rattle.line_screen.specs.Drawing.{drawn_item, row_items, next_items, text_items, next_row, fit, leave, after};
 ghost use Rattle.line_screen.specs.Drawing.DrawnItem.{Letter, NewRow};
-ghost use Rattle.line_screen.specs.Measure.{cluster_width, saturated, measure_of};
+ghost use Rattle.line_screen.specs.Measure.{cluster_width, saturated, measure_of, Comes};
 
 use crate::grid::{Grid, is_letter};
 use line_buffer::{GraphemeClusterMode, Position, Unit, is_printable_text};
@@ -40,8 +40,7 @@ fn next_row(at: Position) -> Position
 
 fn leave_full(grid: Grid, at: Position) -> Position
     requires inside { at.col ≤ grid.columns }
-    ensures place { result ≡ saturated (leave grid.columns at) }
-    ensures inside { result.col < grid.columns }
+    ensures { Comes grid.columns (leave grid.columns at) result }
 {
     if at.col == grid.columns {
         next_row(at)
@@ -53,8 +52,7 @@ fn leave_full(grid: Grid, at: Position) -> Position
 /// So many columns further in the same row.
 fn step_right(grid: Grid, at: Position, count: Unit) -> Position
     requires room { at.col + count ≤ grid.columns }
-    ensures place { result ≡ saturated (leave grid.columns (right count at)) }
-    ensures inside { result.col < grid.columns }
+    ensures { Comes grid.columns (leave grid.columns (right count at)) result }
 {
     let behind = Position {
         col: at.col + count,
@@ -65,9 +63,8 @@ fn step_right(grid: Grid, at: Position, count: Unit) -> Position
 
 fn after_cluster(grid: Grid, at: Position, cluster: &str) -> Position
     requires inside { at.col < grid.columns }
-    ensures place { result ≡ saturated
-        (after grid.columns (drawn_item (cluster_width grid.mode grid.columns) cluster.now ∷ []) at) }
-    ensures inside { result.col < grid.columns }
+    ensures { let wide = cluster_width grid.mode grid.columns in
+        Comes grid.columns (after grid.columns (drawn_item wide cluster.now ∷ []) at) result }
 {
     if is_letter(cluster) {
         return step_right(grid, at, 1);
@@ -82,8 +79,7 @@ fn after_cluster(grid: Grid, at: Position, cluster: &str) -> Position
 
 fn after_letters(grid: Grid, from: Position, letters: &[u8]) -> Position
     requires inside { from.col < grid.columns }
-    ensures place { result ≡ saturated (after grid.columns (map Letter letters.now) from) }
-    ensures inside { result.col < grid.columns }
+    ensures { Comes grid.columns (after grid.columns (map Letter letters.now) from) result }
 {
     let mut at = from;
     let mut rest = letters;
@@ -98,10 +94,8 @@ fn after_letters(grid: Grid, from: Position, letters: &[u8]) -> Position
 
 fn after_clusters(grid: Grid, from: Position, row: &str) -> Position
     requires inside { from.col < grid.columns }
-    ensures place { result ≡ saturated
-        (after grid.columns (map (drawn_item (cluster_width grid.mode grid.columns))
-        (graphemes true row.now)) from) }
-    ensures inside { result.col < grid.columns }
+    ensures { let item = drawn_item (cluster_width grid.mode grid.columns) in
+        Comes grid.columns (after grid.columns (map item (graphemes true row.now)) from) result }
 {
     let mut at = from;
     for cluster in row.graphemes(true) {
@@ -112,9 +106,8 @@ fn after_clusters(grid: Grid, from: Position, row: &str) -> Position
 
 fn after_row(grid: Grid, from: Position, row: &str) -> Position
     requires inside { from.col < grid.columns }
-    ensures place { result ≡ saturated
-        (after grid.columns (row_items (cluster_width grid.mode grid.columns) row.now) from) }
-    ensures inside { result.col < grid.columns }
+    ensures { let items = row_items (cluster_width grid.mode grid.columns) row.now in
+        Comes grid.columns (after grid.columns items from) result }
 {
     if is_printable_text(row) {
         after_letters(grid, from, row.as_bytes())
@@ -125,10 +118,8 @@ fn after_row(grid: Grid, from: Position, row: &str) -> Position
 
 fn after_next_row(grid: Grid, from: Position, is_first: bool, row: &str) -> Position
     requires inside { from.col < grid.columns }
-    ensures place { result ≡ saturated
-        (after grid.columns (next_items (cluster_width grid.mode grid.columns) is_first
-        row.now) from) }
-    ensures inside { result.col < grid.columns }
+    ensures { let items = next_items (cluster_width grid.mode grid.columns) is_first row.now in
+        Comes grid.columns (after grid.columns items from) result }
 {
     if is_first {
         after_row(grid, from, row)
@@ -139,9 +130,8 @@ fn after_next_row(grid: Grid, from: Position, is_first: bool, row: &str) -> Posi
 
 fn after_text(grid: Grid, from: Position, text: &str) -> Position
     requires inside { from.col < grid.columns }
-    ensures place { result ≡ saturated
-        (after grid.columns (text_items (cluster_width grid.mode grid.columns) text.now) from) }
-    ensures inside { result.col < grid.columns }
+    ensures { let all = text_items (cluster_width grid.mode grid.columns) text.now in
+        Comes grid.columns (after grid.columns all from) result }
 {
     let mut at = from;
     let mut is_first = true;

@@ -19,9 +19,9 @@ fn statuses_and_words(rt: HostRuntime) -> Result<(), Fail> {
         Ending::Memory,
     ];
     let rows = "Eof = 0 EOF
-        Interrupted = 1 Interrupted
-        NotUtf8 = 1 input is not UTF-8
-        PasteOutOfPlace = 1 paste out of place
+        Interrupted = 130 Interrupted
+        NotUtf8 = 3 input is not UTF-8
+        PasteOutOfPlace = 4 paste out of place
         Reader = 1 input failed
         Display = 1 display failed
         Lines = 1 line output failed

@@ -1,14 +1,13 @@
 //! Devices that fail: the ending, and what stands before it.
 
-use crate::fixtures::{display_of, ended, field};
-use keyline::Ending;
-use line_config::{SliceSource, VecSink};
-use stand_ins::tables::{call_and_answer, meant};
+use crate::fixtures::{Play, display_of, ended, field, played, tried};
+use keyline::{Ending, ReadlineError, SliceSource, VecSink};
+use stand_ins::tables::{call_and_answer, meant, meant_bytes, word_and_rest};
 use stand_ins::tray::Tray;
 use std::process::Abort;
 use std::test::Fail;
 
-/// A session over a source that fails behind these bytes.
+/// A session over a source that fails after these bytes.
 fn cut_off(
     rt: &(impl AllocGlobal + Abort),
     keys: &[u8],
@@ -17,7 +16,7 @@ fn cut_off(
 ) -> Result<(), Fail> {
     let alloc = rt.alloc();
     let source = SliceSource::failing_after(keys);
-    let end = ended(rt, source, 80, VecSink::new(alloc), VecSink::new(alloc))?;
+    let end = ended(rt, source, VecSink::new(alloc), VecSink::new(alloc))?;
     assert_eq!(rt; end.ending, Ending::Reader, "{shown}");
     let lines = meant(alloc, field(lines))?;
     assert_eq!(rt; end.lines.bytes(), lines.as_bytes(), "{shown}");
@@ -28,16 +27,16 @@ fn cut_off(
 
 /// A byte that is read, what is then drawn, and what lines are written by then.
 #[test]
-fn source_that_fails_behind_each_byte(rt: HostRuntime) -> Result<(), Fail> {
+fn source_that_fails_after_each_byte(rt: HostRuntime) -> Result<(), Fail> {
     let rows = "
         nothing = {} | nothing
-        a = {a} | nothing
-        b = {ab} | nothing
+        a = a | nothing
+        b = b | nothing
         ␛ = nothing | nothing
         [ = nothing | nothing
-        D = {ab}␛[1D | nothing
+        D = ␛[1D | nothing
         ␍ = ␛[1C␍␊ {} | ab␊
-        c = {c} | ab␊
+        c = c | ab␊
         ␍ = ␍␊ {} | ab␊c␊
         ";
     let mut keys = String::new(rt.alloc());
@@ -58,9 +57,9 @@ fn source_that_fails_behind_each_byte(rt: HostRuntime) -> Result<(), Fail> {
 const TWO_LINES: &[u8] = b"ab\rcd\r";
 
 /// A drawing or a row's end for each piece.
-const TWO_LINES_SHOWN: &str = "{} {a} {ab} ␍␊ {} {c} {cd} ␍␊ {} ␍␊";
+const TWO_LINES_SHOWN: &str = "{} a b ␍␊ {} c d ␍␊ {} ␍␊";
 
-/// The first pieces of `TWO_LINES_SHOWN`, one behind the other.
+/// The first pieces of `TWO_LINES_SHOWN`, one after the other.
 fn first_pieces(rt: &impl AllocGlobal, count: usize) -> Result<Vec<u8>, Fail> {
     let mut bytes = Vec::new(rt.alloc());
     for piece in TWO_LINES_SHOWN.split_whitespace().take(count) {
@@ -70,7 +69,7 @@ fn first_pieces(rt: &impl AllocGlobal, count: usize) -> Result<Vec<u8>, Fail> {
 }
 
 /// The lines that stand where so many display bytes have passed: a line stands where its row's end has.
-fn lines_behind(rt: &impl AllocGlobal, passed: usize) -> Result<&'static [u8], Fail> {
+fn lines_after(rt: &impl AllocGlobal, passed: usize) -> Result<&'static [u8], Fail> {
     if passed < first_pieces(rt, 4)?.len() {
         return Ok(b"");
     }
@@ -87,7 +86,6 @@ fn display_failing_at(rt: &(impl AllocGlobal + Abort), call: usize) -> Result<Op
     let end = ended(
         rt,
         SliceSource::new(TWO_LINES),
-        80,
         Tray::failing_at(call),
         lines,
     )?;
@@ -99,12 +97,12 @@ fn display_failing_at(rt: &(impl AllocGlobal + Abort), call: usize) -> Result<Op
     }
     assert_eq!(rt; end.ending, Ending::Display, "at call {call}");
     assert!(rt; shown.starts_with(taken), "at call {call}");
-    // A line stands where the flush behind its drawing's end has passed.
+    // A line stands where the flush after its drawing's end has passed.
     let in_flush = end.display.failed_in_flush();
     let passed = taken.len().saturating_sub(usize::from(in_flush));
     assert_eq!(rt;
         end.lines.bytes(),
-        lines_behind(rt, passed)?,
+        lines_after(rt, passed)?,
         "at call {call}"
     );
     Ok(Some(in_flush))
@@ -135,7 +133,7 @@ fn lines_into(
     pieces: usize,
 ) -> Result<(), Fail> {
     let source = SliceSource::new(TWO_LINES);
-    let end = ended(rt, source, 80, VecSink::new(rt.alloc()), sink)?;
+    let end = ended(rt, source, VecSink::new(rt.alloc()), sink)?;
     assert_eq!(rt; end.ending, ending);
     assert_eq!(rt; end.lines.bytes(), lines);
     let shown = first_pieces(rt, pieces)?;
@@ -166,7 +164,6 @@ fn display_with_room(
     let end = ended(
         rt,
         SliceSource::new(TWO_LINES),
-        80,
         Tray::with_room(room),
         lines,
     )?;
@@ -176,7 +173,7 @@ fn display_with_room(
     assert!(rt; shown.starts_with(taken), "room for {room}");
     assert_eq!(rt;
         end.lines.bytes(),
-        lines_behind(rt, room)?,
+        lines_after(rt, room)?,
         "room for {room}"
     );
     Ok(())
@@ -202,5 +199,58 @@ fn lines_that_are_full(rt: HostRuntime) -> Result<(), Fail> {
         };
         lines_into(&rt, Tray::with_room(room), ending, &written[..room], pieces)?;
     }
+    Ok(())
+}
+
+/// The sink of the history's text fails: that is the ending where no fault came before.
+#[test]
+fn history_text_that_fails(rt: HostRuntime) -> Result<(), Fail> {
+    let rows = "
+        ab␍ = HistoryText ab␊
+        ab␍␃ = HistoryText ab␊
+        ab␍‹ff› = HistoryText ab␊
+        ␃ = Interrupted nothing
+        ";
+    for row in rows.lines() {
+        let Some((keys, want)) = call_and_answer(row) else {
+            continue;
+        };
+        let (ending, lines) = word_and_rest(want);
+        let alloc = rt.alloc();
+        let keys = meant_bytes(alloc, keys)?;
+        let play = Play {
+            adds: true,
+            ..Play::plain()
+        };
+        let end = played(
+            &rt,
+            play,
+            None::<()>,
+            SliceSource::new(&keys),
+            VecSink::new(alloc),
+            VecSink::new(alloc),
+            Tray::failing_at(0),
+        )?;
+        let shown = format!(in alloc; "{:?}", end.ending)?;
+        assert_eq!(&rt; shown.as_str(), ending, "{row}");
+        let lines = meant(alloc, field(lines))?;
+        assert_eq!(&rt; end.lines.bytes(), lines.as_bytes(), "{row}");
+    }
+    Ok(())
+}
+
+/// A history that is no text is refused before any key is read.
+#[test]
+fn history_that_is_no_text(rt: HostRuntime) -> Result<(), Fail> {
+    let alloc = rt.alloc();
+    let play = Play {
+        history: "‹ff›",
+        ..Play::plain()
+    };
+    let text = VecSink::new(alloc);
+    let source = SliceSource::new(b"a");
+    let sinks = (VecSink::new(alloc), VecSink::new(alloc));
+    let tried = tried(&rt, play, None::<()>, source, sinks.0, sinks.1, text)?;
+    assert_eq!(&rt; tried.err(), Some(ReadlineError::HistoryText));
     Ok(())
 }

@@ -10,6 +10,8 @@ mod faults;
 #[cfg(test)]
 mod fixtures;
 #[cfg(test)]
+mod helpers;
+#[cfg(test)]
 mod reading;
 #[cfg(test)]
 mod sessions;

@@ -1,15 +1,14 @@
 //! Sessions over readers and writers of std: keys in pieces, and devices that share one log.
 
 use crate::fixtures::{display_of, ended};
-use keyline::Ending;
-use line_config::{ReadSource, VecSink, WriteSink};
+use keyline::{Ending, ReadSource, VecSink, WriteSink};
 use stand_ins::devices::{LoggedReader, LoggedWriter, Pieces, Turns};
 use stand_ins::tables::call_and_answer;
 use std::cell::{Cell, RefCell};
 use std::process::Abort;
 use std::test::Fail;
 
-const SHOWN: &str = "{} {a} {ac} {ac}␛[1D {abc}␛[1D ␛[1C␍␊ {}";
+const SHOWN: &str = "{} a c ␛[1D {abc}␛[1D ␛[1C␍␊ {}";
 
 /// A session over a reader with these turns; its second line is begun where the reader doesn't fail before.
 fn reads(rt: &(impl AllocGlobal + Abort), turns: &str, want: &str) -> Result<(), Fail> {
@@ -20,9 +19,9 @@ fn reads(rt: &(impl AllocGlobal + Abort), turns: &str, want: &str) -> Result<(),
         turns: Turns::new(turns, &calls),
     };
     let source = ReadSource::new(reader);
-    let end = ended(rt, source, 80, VecSink::new(alloc), VecSink::new(alloc))?;
+    let end = ended(rt, source, VecSink::new(alloc), VecSink::new(alloc))?;
     let (ending, lines, further) = match want {
-        "both lines" => (Ending::Eof, b"abc\nd\n".as_slice(), "{d} ␍␊ {} ␍␊"),
+        "both lines" => (Ending::Eof, b"abc\nd\n".as_slice(), "d ␍␊ {} ␍␊"),
         _ => (Ending::Reader, b"abc\n".as_slice(), ""),
     };
     assert_eq!(rt; end.ending, ending, "{turns}");
@@ -62,7 +61,7 @@ fn source_keeps_what_was_read(rt: HostRuntime) -> Result<(), Fail> {
         turns: Turns::new("5 broken..", &calls),
     };
     let source = ReadSource::new(reader);
-    let end = ended(&rt, source, 80, VecSink::new(alloc), VecSink::new(alloc))?;
+    let end = ended(&rt, source, VecSink::new(alloc), VecSink::new(alloc))?;
     assert_eq!(rt; end.ending, Ending::Eof);
     assert_eq!(rt; end.lines.bytes(), b"a\n".as_slice());
     let (reader, unread) = end.source.into_parts();
@@ -86,12 +85,12 @@ fn each_drawing_is_sent_before_the_next_key_is_read(rt: HostRuntime) -> Result<(
         name: "lines",
         log: &log,
     });
-    let end = ended(&rt, source, 80, display, lines)?;
+    let end = ended(&rt, source, display, lines)?;
     assert_eq!(rt; end.ending, Ending::Eof);
     let wanted = "
         display:{}; display:flush;
-        read:a; display:{a}; display:flush;
-        read:b; display:{ab}; display:flush;
+        read:a; display:a; display:flush;
+        read:b; display:b; display:flush;
         read:␍; display:␍␊; display:flush; lines:ab␊; lines:flush; display:{}; display:flush;
         read:; display:␍␊; display:flush;
         ";

@@ -5,7 +5,7 @@ ghost use Rattle.line_config.specs.declared.device.Last.TheVariants.{End};
 ghost use Rattle.line_config.specs.declared.errors.ReadlineError.TheVariants.{Eof, Reader};
 ghost use Rattle.line_config.specs.Refusals.{MetBy};
 ghost use Rattle.line_screen.specs.Input.{chars_of, in_char, char_at, behind_char, is_failure};
-ghost use Rattle.line_screen.specs.Reading.{IsKeyRefusal, IsCut, ReadsByte, PeeksByte, ReadsChar};
+ghost use Rattle.line_screen.specs.Reading.{IsCut, ReadsByte, PeeksByte, ReadsFurther, ReadsChar};
 
 use crate::reading::utf8::Awaited;
 use line_config::{DeviceFailed, ReadlineError, Source};
@@ -45,34 +45,7 @@ impl<S: Source> Lookahead<S> {
 
     /// A further byte of a character.
     fn further_byte(&mut self, awaited: Awaited) -> Result<u8, ReadlineError>
-        ensures ok { IsTrue (ahead S.feed self.old).told
-            → IfOk result (λ b. (ahead S.feed self.old).coming ≡ b
-            ∷ (ahead S.feed self.new).coming) }
-        ensures least { IfOk result (λ b. awaited.least ≤ b) }
-        ensures greatest { IfOk result (λ b. b ≤ awaited.greatest) }
-        ensures answer { IsTrue (ahead S.feed self.old).told
-            → MetBy (ahead S.feed self.old).steady result
-            → let bytes = (ahead S.feed self.old).coming in
-            let last = (ahead S.feed self.old).last in
-            IfErr result (λ e. char_at (in_char (Some awaited) bytes last) ≡ Err e) }
-        ensures left { IsTrue (ahead S.feed self.old).told
-            → MetBy (ahead S.feed self.old).steady result
-            → let bytes = (ahead S.feed self.old).coming in
-            let last = (ahead S.feed self.old).last in
-            OnErr result (behind_char (in_char (Some awaited) bytes last)
-            ≡ (ahead S.feed self.new).coming) }
-        ensures fault { IsTrue (ahead S.feed self.old).told → result ≡ Err Reader
-            → (ahead S.feed self.new).coming ≡ (ahead S.feed self.old).coming }
-        ensures whole { result ≡ Err Eof → ⊥ }
-        ensures refused { IfErr result IsKeyRefusal }
-        ensures reason { result ≡ Err Reader → IsTrue (ahead S.feed self.new).failed }
-        ensures failure { (ahead S.feed self.old).failed ≡ false
-            → (ahead S.feed self.new).failed ≡ is_failure result }
-        ensures kept { self.new.kept ≡ None }
-        ensures told { IsTrue (ahead S.feed self.old).told → IsTrue (ahead S.feed self.new).told }
-        ensures steady { (ahead S.feed self.new).steady ≡ (ahead S.feed self.old).steady }
-        ensures last { (ahead S.feed self.new).last ≡ (ahead S.feed self.old).last }
-        ensures keeps { (ahead S.feed self.new).bound ≤ (ahead S.feed self.old).bound }
+        ensures { ReadsFurther S.feed awaited self.old self.new result }
     {
         match self.next_byte() {
             Ok(Some(byte)) if awaited.least <= byte && byte <= awaited.greatest => Ok(byte),

@@ -34,7 +34,7 @@ impl<S: Source> KeyReader<S> {
 
     /// The next key, unless the source failed, a call was refused for good, or a pasted text is
     /// owed.
-    #[tactic(auto, using(crate::proofs::Owed::owed_key, crate::proofs::Outcomes::key_answered, crate::proofs::Outcomes::kept_left, crate::proofs::Outcomes::kept_refused, crate::proofs::Outcomes::refused_left, crate::proofs::Outcomes::at_end, crate::proofs::Outcomes::key_refusal))]
+    #[tactic(auto, using(crate::proofs::ReaderRules::key_call))]
     fn take_key(&mut self) -> Result<KeyEvent, ReadlineError>
         ensures call { AnswersKey S.feed self.old self.new result }
         ensures memory { IsMemoryKept S.feed self.old result }
@@ -55,7 +55,7 @@ impl<S: Source> KeyReader<S> {
     }
 
     /// The pasted text that is owed, unless the source failed or a call was refused for good.
-    #[tactic(auto, using(crate::proofs::Owed::unowed_text, crate::proofs::Outcomes::text_answered, crate::proofs::Outcomes::kept_left, crate::proofs::Outcomes::kept_refused, crate::proofs::Outcomes::refused_left, crate::proofs::Outcomes::at_end))]
+    #[tactic(auto, using(crate::proofs::ReaderRules::text_call))]
     fn take_text(&mut self, alloc: Global) -> Result<Text, ReadlineError>
         ensures { AnswersText S.feed self.old self.new result }
     {
@@ -95,7 +95,7 @@ impl<S: Source + Drop> RawReader for KeyReader<S> {
         self.take_key()
     }
 
-    #[tactic(auto, using(crate::proofs::Outcomes::kept_left, crate::proofs::Outcomes::kept_refused, crate::proofs::Outcomes::refused_left, crate::proofs::Outcomes::at_end, crate::proofs::Outcomes::key_refusal))]
+    #[tactic(auto, using(crate::proofs::ReaderRules::char_call))]
     fn next_char(&mut self) -> Result<char, ReadlineError>
         ensures call { AnswersChar S.feed self.old self.new result }
         ensures memory { IsMemoryKept S.feed self.old result }

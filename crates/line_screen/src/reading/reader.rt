@@ -132,7 +132,7 @@ impl<S: Source> KeyReader<S> {
     }
 
     /// The key of ESC and what follows. A byte that only follows the key Esc stays unread.
-    #[tactic(auto, using(crate::proofs::Escapes::vi_keeps, crate::proofs::Escapes::emacs_alt, crate::proofs::Escapes::escape_at_end, crate::proofs::Escapes::escape_and_failure))]
+    #[tactic(auto, using(crate::proofs::ReaderRules::escapes))]
     fn key_of_escape(&mut self) -> Result<KeyEvent, ReadlineError>
         requires { self.old.owed ≡ false }
         ensures { ReadsKey S.feed (escape_from self.old.mode) self.old self.new result }

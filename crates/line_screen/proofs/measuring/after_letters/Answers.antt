@@ -18,7 +18,7 @@ loop-rest-preserved c =
     c.loop-rest.invariant (ap (map Letter) c.split_at.ensures.by_index.0 ∙ map-append Letter front back)
     (c.step_right-at.ensures.place ∙ ap saturated (sym (after_run columns front at inside room))) c.step_right-at.ensures.inside
 
-pub returns-clause-place : goal.returns-clause-place
-returns-clause-place c =
+pub returns : goal.returns
+returns c =
     reached_end c.args.grid.columns c.args.from (map Letter c.args.letters.now) (map Letter c.loop-rest.rest.now) c.loop-rest.at c.loop-rest.invariant
     (none_left c.loop-rest.rest.now (eqb-true (length c.loop-rest.rest.now) 0 (sym c.loop-rest-test.ensures)))

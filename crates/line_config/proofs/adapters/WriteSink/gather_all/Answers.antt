@@ -14,7 +14,7 @@ loop-rest-preserved g c =
       so_far.0 ++ take n rest,
       so_far.1 ∙ parts,
       λ known. (
-        c.in_ok-count.ensures.told (so_far.2 known).0,
-        c.in_ok-count.ensures.ok (so_far.2 known).0 ∙ ap (λ (t : List ℕ). t ++ take n rest) (so_far.2 known).1 ∙ append_assoc _ so_far.0 (take n rest),
+        (c.in_ok-count.ensures.ok (so_far.2 known).0).0,
+        (c.in_ok-count.ensures.ok (so_far.2 known).0).1 ∙ ap (λ (t : List ℕ). t ++ take n rest) (so_far.2 known).1 ∙ append_assoc _ so_far.0 (take n rest),
       ),
     )

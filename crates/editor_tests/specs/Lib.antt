@@ -1,0 +1,2 @@
+pub mod Rulers
+pub mod Verdicts

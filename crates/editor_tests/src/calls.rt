@@ -1,0 +1,220 @@
+//! A renderer that writes down what it is asked.
+
+ghost use Rattle.std.specs.Prelude.{◌≡◌, ◌≤◌, IfErr, OnErr, IsTrue};
+ghost use Rattle.line_config.specs.declared.errors.ReadlineError.TheVariants.{Display};
+
+use line_buffer::{GraphemeClusterMode, Layout, LineBuffer, Position, Unit};
+use line_config::ReadlineError;
+use line_editor::Renderer;
+use line_help::Highlighter;
+use line_screen::measure;
+use stand_ins::tables::{marked, pictured};
+use std::alloc::{AllocError, Global};
+
+/// Writes each call down in words, parted by `; `. Places are rows and columns: `1,4` is the fifth column of the second
+/// row. `draw '> a|b{c}' at 0,3 to 0,5` is prompt, line with a bar at the cursor, and hint or message in braces, then the
+/// place of the cursor and the end. `below 2` stands behind it where the older drawing's cursor is in row 2, `fresh`
+/// where there is no older one, and `lit` where a highlighter is handed in.
+#[derive(Drop)]
+pub struct CallList {
+    alloc: Global,
+    calls: String,
+    columns: Unit,
+    colours: bool,
+    /// How many more calls are made, if not all: the display fails at the next one.
+    answered: Option<u32>,
+    failed: bool,
+    ghost low: { 2 ≤ columns },
+    ghost high: { columns ≤ 1000 },
+}
+
+impl CallList {
+    ghost use Rattle.editor_tests.specs.Rulers.{ruler_of};
+
+    /// A display of so many columns, and of at least 2 and at most 1,000.
+    pub fn new(alloc: Global, columns: Unit, colours: bool) -> Self {
+        CallList {
+            alloc,
+            calls: String::new(alloc),
+            columns: columns.clamp(2, 1000),
+            colours,
+            answered: None,
+            failed: false,
+        }
+    }
+
+    /// The calls that were made.
+    pub fn calls(&self) -> &str {
+        self.calls.as_str()
+    }
+
+    /// Forgets the calls that were made.
+    pub fn forget(&mut self)
+        ensures { ruler_of self.new ≡ ruler_of self.old }
+    {
+        self.calls = String::new(self.alloc);
+    }
+
+    /// Sets how many more calls are made, if not all.
+    pub fn answer(&mut self, answered: Option<u32>)
+        ensures { ruler_of self.new ≡ ruler_of self.old }
+    {
+        self.answered = answered;
+        self.failed = false;
+    }
+
+    // Whether one more call is made.
+    fn answers(&mut self) -> bool
+        ensures { ruler_of self.new ≡ ruler_of self.old }
+    {
+        match self.answered {
+            None => !self.failed,
+            Some(0) => false,
+            Some(n) => {
+                self.answered = Some(n - 1);
+                !self.failed
+            }
+        }
+    }
+
+    fn keep(&mut self, call: &str) -> Result<(), AllocError>
+        ensures { ruler_of self.new ≡ ruler_of self.old }
+    {
+        if !self.calls.is_empty() {
+            self.calls.push_str("; ")?;
+        }
+        self.calls.push_str(call)
+    }
+
+    // Writes a call down, or refuses it.
+    fn note(&mut self, call: Result<String, AllocError>) -> Result<(), ReadlineError>
+        ensures fault { IfErr result (λ e. e ≡ Display) }
+        ensures failed { OnErr result (IsTrue self.new.failed) }
+        ensures ruler { ruler_of self.new ≡ ruler_of self.old }
+    {
+        if self.answers()
+            && let Ok(call) = call
+            && self.keep(call.as_str()).is_ok()
+        {
+            return Ok(());
+        }
+        self.failed = true;
+        Err(ReadlineError::Display)
+    }
+}
+
+// The text that is drawn: prompt, line and what stands behind it.
+fn drawn(
+    alloc: Global,
+    prompt: &str,
+    line: &LineBuffer,
+    hint: Option<&str>,
+) -> Result<String, AllocError> {
+    let mut text = pictured(alloc, prompt)?;
+    text.push_str(marked(alloc, line.as_str(), line.pos())?.as_str())?;
+    if let Some(hint) = hint {
+        write!(text, "{{{}}}", pictured(alloc, hint)?)?;
+    }
+    Ok(text)
+}
+
+// A drawing in words.
+fn drawing(
+    alloc: Global,
+    text: &str,
+    old: Option<Layout>,
+    new: &Layout,
+    lit: bool,
+) -> Result<String, AllocError> {
+    let mut call = format!(in alloc;
+        "draw '{text}' at {},{} to {},{}",
+        new.cursor.row, new.cursor.col, new.end.row, new.end.col
+    )?;
+    match old {
+        None => call.push_str(" fresh")?,
+        Some(old) if old.cursor.row == 0 => {}
+        Some(old) => write!(call, " below {}", old.cursor.row)?,
+    }
+    if lit {
+        call.push_str(" lit")?;
+    }
+    Ok(call)
+}
+
+impl Renderer for CallList {
+    ghost use Rattle.editor_tests.specs.Rulers.{canvas_of};
+
+    ghost canvas = { canvas_of };
+
+    fn move_cursor(&mut self, old: Position, new: Position) -> Result<(), ReadlineError> {
+        self.note(format!(in self.alloc; "move {},{} to {},{}", old.row, old.col, new.row, new.col))
+    }
+
+    fn refresh_line<H: Highlighter>(
+        &mut self,
+        prompt: &str,
+        line: &LineBuffer,
+        hint: Option<&str>,
+        old_layout: Option<Layout>,
+        new_layout: &Layout,
+        highlighter: Option<&H>,
+    ) -> Result<(), ReadlineError> {
+        let call = match drawn(self.alloc, prompt, line, hint) {
+            Ok(text) => drawing(
+                self.alloc,
+                text.as_str(),
+                old_layout,
+                new_layout,
+                highlighter.is_some(),
+            ),
+            Err(refusal) => Err(refusal),
+        };
+        self.note(call)
+    }
+
+    fn write_and_flush(&mut self, text: &str) -> Result<(), ReadlineError> {
+        self.note(format!(in self.alloc; "write '{text}'"))
+    }
+
+    fn beep(&mut self) -> Result<(), ReadlineError> {
+        self.note(format!(in self.alloc; "beep"))
+    }
+
+    fn clear_screen(&mut self) -> Result<(), ReadlineError> {
+        self.note(format!(in self.alloc; "clear screen"))
+    }
+
+    fn clear_rows(&mut self, layout: &Layout) -> Result<(), ReadlineError> {
+        self.note(format!(in self.alloc; "clear rows {}", layout.cursor.row))
+    }
+
+    fn clear_to_eol(&mut self) -> Result<(), ReadlineError> {
+        self.note(format!(in self.alloc; "clear row"))
+    }
+
+    fn move_cursor_at_leftmost(&mut self) -> Result<(), ReadlineError> {
+        self.note(format!(in self.alloc; "leftmost"))
+    }
+
+    fn update_size(&mut self) {}
+
+    fn get_columns(&self) -> Unit {
+        self.columns
+    }
+
+    fn get_rows(&self) -> Unit {
+        24
+    }
+
+    fn colors_enabled(&self) -> bool {
+        self.colours
+    }
+
+    fn grapheme_cluster_mode(&self) -> GraphemeClusterMode {
+        GraphemeClusterMode::Unicode
+    }
+
+    fn calculate_position(&self, text: &str, orig: Position) -> Position {
+        measure(text, orig, self.columns, GraphemeClusterMode::Unicode)
+    }
+}

@@ -1,0 +1,239 @@
+//! A helper that answers as a test wants it to.
+
+ghost use Rattle.std.specs.Prelude.{◌≡◌, ◌==◌, nat_le, option_map, length, Option, Some, None, false, if◌then◌else◌, refl, string_bytes, IfErr};
+ghost use Rattle.line_help.specs.Completion.{nothing_offered};
+ghost use Rattle.line_help.specs.Hints.{history_hint};
+ghost use Rattle.line_config.specs.declared.errors.HookFault.TheVariants.{Memory};
+
+use line_config::{CompletionType, HookFault};
+use line_help::{
+    Completer, Context, Helper, Highlighter, Hint, Hinter, History, HistoryHinter,
+    ValidationContext, ValidationResult, Validator,
+};
+use line_keys::{CmdKind, Text};
+use std::alloc::Global;
+use std::borrow::CowStr;
+
+/// What is found of any text; those that tell do so by the helper's message.
+#[derive(Clone, Copy)]
+pub enum Verdict {
+    Incomplete,
+    Invalid,
+    InvalidTold,
+    Valid,
+    ValidTold,
+}
+
+/// The rest of an entry, which can be taken into the line or only be shown.
+#[derive(Drop)]
+pub struct Rest {
+    text: String,
+    completes: bool,
+}
+
+impl Hint for Rest {
+    ghost says = { λ h. record { display = string_bytes h.text; completion = if h.completes then Some (string_bytes h.text) else None } };
+
+    fn display(&self) -> &str {
+        self.text.as_str()
+    }
+
+    fn completion(&self) -> Option<&str> {
+        if self.completes {
+            Some(self.text.as_str())
+        } else {
+            None
+        }
+    }
+}
+
+/// Hints from the history, and a verdict that is the same for every text. A character is highlighted where the cursor is
+/// at `marked_at`. From a text of so many bytes on hinter and validator fail, or want memory.
+#[derive(Clone, Copy, Drop)]
+pub struct Adviser {
+    pub verdict: Verdict,
+    pub message: &'static str,
+    pub marked_at: usize,
+    /// Whether a hint can be taken into the line.
+    pub completes: bool,
+    pub hint_fails_at: usize,
+    pub verdict_fails_at: usize,
+    pub wants_memory: bool,
+}
+
+impl Adviser {
+    /// A helper that finds every text valid, and never fails.
+    pub const fn new(verdict: Verdict, message: &'static str) -> Self {
+        Adviser {
+            verdict,
+            message,
+            marked_at: usize::MAX,
+            completes: true,
+            hint_fails_at: usize::MAX,
+            verdict_fails_at: usize::MAX,
+            wants_memory: false,
+        }
+    }
+
+    fn fault(&self) -> HookFault {
+        if self.wants_memory {
+            HookFault::Memory
+        } else {
+            HookFault::Failed
+        }
+    }
+}
+
+impl Completer for Adviser {
+    type Candidate = String;
+
+    ghost completion_of = { λ self line pos entries place. nothing_offered };
+
+    ghost completing_fails = { λ self line pos entries place. false };
+
+    ghost updating_fails = { λ self line start elected. false };
+
+    fn complete<Hi: History>(
+        &self,
+        alloc: Global,
+        _line: &str,
+        _pos: usize,
+        _ctx: &Context<'_, Hi>,
+    ) -> Result<(usize, Vec<String>), HookFault> {
+        Ok((0, Vec::new(alloc)))
+    }
+}
+
+impl Hinter for Adviser {
+    type Hint = Rest;
+
+    ghost hint_of = { λ self line pos entries place. option_map (λ t. record { display = t; completion = if self.completes then Some t else None }) (history_hint line pos entries place) };
+
+    ghost fails = { λ self line pos entries place. nat_le self.hint_fails_at (length line) };
+
+    fn hint<Hi: History>(
+        &self,
+        alloc: Global,
+        line: &str,
+        pos: usize,
+        ctx: &Context<'_, Hi>,
+    ) -> Result<Option<Rest>, HookFault> {
+        if line.len() >= self.hint_fails_at {
+            return Err(self.fault());
+        }
+        match HistoryHinter.hint(alloc, line, pos, ctx)? {
+            Some(text) => Ok(Some(Rest {
+                text,
+                completes: self.completes,
+            })),
+            None => Ok(None),
+        }
+    }
+}
+
+impl Highlighter for Adviser {
+    ghost marks = { λ self line pos kind. pos == self.marked_at };
+
+    ghost kept = { λ before after. after ≡ before };
+
+    ghost shown_as = { λ self part text. Some text };
+
+    fn highlight<'l>(
+        &self,
+        alloc: Global,
+        line: &'l str,
+        pos: usize,
+    ) -> Result<CowStr<'l>, HookFault> {
+        ().highlight(alloc, line, pos)
+    }
+
+    fn highlight_prompt<'p>(
+        &self,
+        alloc: Global,
+        prompt: &'p str,
+        default: bool,
+    ) -> Result<CowStr<'p>, HookFault> {
+        ().highlight_prompt(alloc, prompt, default)
+    }
+
+    fn highlight_hint<'h>(&self, alloc: Global, hint: &'h str) -> Result<CowStr<'h>, HookFault> {
+        ().highlight_hint(alloc, hint)
+    }
+
+    fn highlight_candidate<'c>(
+        &self,
+        alloc: Global,
+        candidate: &'c str,
+        completion: CompletionType,
+    ) -> Result<CowStr<'c>, HookFault> {
+        ().highlight_candidate(alloc, candidate, completion)
+    }
+
+    fn highlight_char(&mut self, _line: &str, pos: usize, _kind: CmdKind) -> bool {
+        pos == self.marked_at
+    }
+}
+
+impl Validator for Adviser {
+    ghost use Rattle.editor_tests.specs.Verdicts.{verdict_said};
+
+    ghost verdict_of = { λ self text. verdict_said self.verdict self.message.now };
+
+    ghost validating_fails = { λ self text. nat_le self.verdict_fails_at (length text) };
+
+    ghost while_typing = { λ self. false };
+
+    fn validate(
+        &self,
+        alloc: Global,
+        ctx: &ValidationContext<'_>,
+    ) -> Result<ValidationResult, HookFault> {
+        if ctx.input().len() >= self.verdict_fails_at {
+            return Err(self.fault());
+        }
+        let found = match self.verdict {
+            Verdict::Incomplete => ValidationResult::Incomplete,
+            Verdict::Invalid => ValidationResult::Invalid(None),
+            Verdict::InvalidTold => ValidationResult::Invalid(Some(self.said(alloc)?)),
+            Verdict::Valid => ValidationResult::Valid(None),
+            Verdict::ValidTold => ValidationResult::Valid(Some(self.said(alloc)?)),
+        };
+        Ok(found)
+    }
+
+    fn validate_while_typing(&self) -> bool {
+        false
+    }
+}
+
+impl Adviser {
+    ghost use Rattle.std.specs.Prelude.{IfOk};
+
+    fn said(&self, alloc: Global) -> Result<Text, HookFault>
+        ensures ok { IfOk result (λ t. t ≡ self.now.message.now) }
+        ensures err { IfErr result (λ e. e ≡ Memory) }
+    {
+        match Text::try_from_str(alloc, self.message) {
+            Ok(text) => Ok(text),
+            Err(_) => Err(HookFault::Memory),
+        }
+    }
+}
+
+impl Helper for Adviser {
+    ghost use Rattle.std.proofs.Common.{ap};
+
+    ghost same_completions = { λ before after kept. refl };
+
+    ghost same_completing = { λ before after kept. refl };
+
+    ghost same_updating = { λ before after kept. refl };
+
+    ghost same_hints = { λ before after kept. ap ⟦<Adviser as Hinter>⟧.hint_of kept };
+
+    ghost same_hinting = { λ before after kept. ap ⟦<Adviser as Hinter>⟧.fails kept };
+
+    ghost same_verdicts = { λ before after kept. ap ⟦<Adviser as Validator>⟧.verdict_of kept };
+
+    ghost same_validating = { λ before after kept. ap ⟦<Adviser as Validator>⟧.validating_fails kept };
+}

@@ -1,0 +1,135 @@
+//! Kills, and copies into the ring.
+
+use crate::desk::{PLAIN, Stage, draws, keeps};
+use crate::helpers::{Adviser, Verdict};
+use std::test::Fail;
+
+const IN_A_ROW: &str = "
+    |: Kill BackwardChar 1 = | /
+    |: Kill ForwardChar 1 = | /
+    |: Kill EndOfLine = | /
+    |: Kill BeginningOfLine = | /
+    |: Kill WholeLine = | /
+    |: Kill WholeBuffer = | /
+    abc|: Kill BackwardChar 1 = ab| / move 0,5 to 0,4; clear row
+    abc|: Kill BackwardChar 2 = a| / move 0,5 to 0,3; clear row
+    abc|: Kill BackwardChar 99 = | / move 0,5 to 0,2; clear row
+    abc|: Kill BackwardChar 0 = abc| /
+    |abc: Kill BackwardChar 1 = |abc /
+    ab|c: Kill BackwardChar 1 = a|c / draw '> a|c' at 0,3 to 0,4
+    ab|c: Kill ForwardChar 1 = ab| / move 0,4 to 0,4; clear row
+    |abc: Kill ForwardChar 1 = |bc / draw '> |bc' at 0,2 to 0,4
+    |abc: Kill ForwardChar 9 = | / move 0,2 to 0,2; clear row
+    abc|: Kill ForwardChar 1 = abc| /
+    a|bc: Kill EndOfLine = a| / move 0,3 to 0,3; clear row
+    abc|: Kill EndOfLine = abc| /
+    a|bc: Kill BeginningOfLine = |bc / draw '> |bc' at 0,2 to 0,4
+    abc|: Kill BeginningOfLine = | / move 0,5 to 0,2; clear row
+    |abc: Kill BeginningOfLine = |abc /
+    a|bc: Kill WholeLine = | / move 0,3 to 0,2; clear row
+    a|bc: Kill WholeBuffer = | / move 0,3 to 0,2; clear row
+    one two|: Kill BackwardWord 1 Emacs = one | / move 0,9 to 0,6; clear row
+    |one two: Kill ForwardWord 1 AfterEnd Emacs = | two / draw '> | two' at 0,2 to 0,6
+    |abcabc: Kill ViCharSearch 1 Forward c = |abc / draw '> |abc' at 0,2 to 0,5
+    |abcabc: Kill ViCharSearch 1 ForwardBefore c = |cabc / draw '> |cabc' at 0,2 to 0,6
+    abcabc|: Kill ViCharSearch 1 Backward b = abca| / move 0,8 to 0,6; clear row
+    abcabc|: Kill ViCharSearch 1 BackwardAfter b = abcab| / move 0,8 to 0,7; clear row
+    ab|: Kill ViCharSearch 1 BackwardAfter b = ab| / move 0,4 to 0,4; clear row
+    abc|: Kill ViCharSearch 1 Backward x = abc| /
+    ab|: Kill ViFirstPrint = ab| /
+    aé|: Kill BackwardChar 1 = a| / draw '> a|' at 0,3 to 0,3
+    éx|: Kill BackwardChar 1 = é| / draw '> é|' at 0,3 to 0,3
+    漢字|: Kill BackwardChar 1 = 漢| / draw '> 漢|' at 0,4 to 0,4
+    e\u{301}|: Kill BackwardChar 1 = | / draw '> |' at 0,2 to 0,2
+    a|bc: ViYankTo EndOfLine = a|bc /
+";
+
+const IN_ROWS: &str = "
+    ab␊cd|: Kill BackwardChar 1 = ab␊c| / move 1,2 to 1,1; clear row
+    ab␊cd|: Kill BeginningOfLine = ab␊| / move 1,2 to 1,0; clear row
+    ab␊|: Kill BackwardChar 1 = ab| / draw '> ab|' at 0,4 to 0,4 below 1
+    ab|␊cd: Kill EndOfLine = ab|cd / draw '> ab|cd' at 0,4 to 0,6
+    a|b␊cd: Kill EndOfLine = a|␊cd / draw '> a|␊cd' at 0,3 to 1,2
+    ab␊|cd: Kill BeginningOfLine = ab|cd / draw '> ab|cd' at 0,4 to 0,6 below 1
+    ab␊c|d␊ef: Kill LineUp 1 = |ef / draw '> |ef' at 0,2 to 0,4 below 1
+    a|b␊cd␊ef: Kill LineDown 1 = |ef / draw '> |ef' at 0,2 to 0,4
+    ab␊cd␊e|f: Kill LineUp 1 = ab␊| / draw '> ab␊|' at 1,0 to 1,0 below 2
+    ab␊c|d: Kill LineDown 1 = ab␊c|d /
+    a|b␊cd: Kill LineUp 1 = a|b␊cd /
+    ab␊c|d: Kill WholeLine = ab␊| / move 1,1 to 1,0; clear row
+    ab␊c|d: Kill WholeBuffer = | / draw '> |' at 0,2 to 0,2 below 1
+    ab␊c|d: Kill BeginningOfBuffer = |d / draw '> |d' at 0,2 to 0,3 below 1
+    ab␊c|d: Kill EndOfBuffer = ab␊c| / move 1,1 to 1,1; clear row
+";
+
+const IN_TEN_COLUMNS: &str = "
+    abcdefghij|: Kill BackwardChar 1 = abcdefghi| / move 1,2 to 1,1; clear row
+    abcdefghij|: Kill BackwardChar 2 = abcdefgh| / move 1,2 to 1,0; clear row
+    abcdefghij|: Kill BackwardChar 3 = abcdefg| / draw '> abcdefg|' at 0,9 to 0,9 below 1
+    abcd|efghij: Kill EndOfLine = abcd| / draw '> abcd|' at 0,6 to 0,6
+    abcdefgh|ij: Kill EndOfLine = abcdefgh| / move 1,0 to 1,0; clear row
+";
+
+const KEPT: &str = "
+    abc|: Kill BackwardChar 1 = ab| / - / abc|
+    a|bc: Kill ForwardChar 1 = a|c / - / ab|c
+    a|bc: Kill EndOfLine = a| / 'bc' / abc|
+    ab|c: Kill BeginningOfLine = |c / 'ab' / ab|c
+    a|bc: Kill WholeLine = | / 'abc' / abc|
+    abc|: Kill EndOfLine = abc| / - / abc|
+    one two|: Kill BackwardWord 1 Emacs = one | / 'two' / one two|
+    one two|: Kill BackwardWord 1 Emacs; Kill BackwardWord 1 Emacs = | / 'one two' / one |
+    abc|d: Kill EndOfLine; Kill BeginningOfLine = | / 'abcd' / abc|
+    abc|d: Kill EndOfLine; Move BackwardChar 1; Kill EndOfLine = ab| / 'c' / abcd|
+    ab|cd: Kill EndOfLine; Kill BackwardChar 1; Kill BeginningOfLine = | / 'a' / abcd|
+    ab|: Kill ViCharSearch 1 BackwardAfter b = ab| / '' / ab|
+    ab␊c|d␊ef: Kill LineUp 1 = |ef / 'ab␊cd␊' / ab␊cd␊|ef
+    a|bc: ViYankTo EndOfLine = a|bc / 'bc' / a|bc
+    abc|: ViYankTo EndOfLine = abc| / - / abc|
+    a|bc␊de: ViYankTo WholeLine = a|bc␊de / 'abc' / a|bc␊de
+    |: ViYankTo WholeLine = | / - / |
+    ab|: Kill WholeLine; Insert 1 xy; ViYankTo BackwardChar 1 = xy| / 'y' / |
+    ab|c: Replace ForwardChar 1 with xy = ab|xy / - / ab|
+    a|bc: Replace EndOfLine with xy = a|xy / 'bc' / a|
+    a|bc: Replace EndOfLine = a| / 'bc' / abc|
+";
+
+const REPLACED: &str = "
+    ab|c: Replace ForwardChar 1 with xy = ab|xy / move 0,4 to 0,4; clear row; draw '> ab|xy' at 0,4 to 0,6
+    ab|c: Replace ForwardChar 1 = ab| / move 0,4 to 0,4; clear row
+    |abc: Replace ForwardChar 1 with x = |xbc / draw '> |bc' at 0,2 to 0,4; draw '> |xbc' at 0,2 to 0,5
+    |: Replace WholeLine with x = |x / draw '> |x' at 0,2 to 0,3
+    abc|: Replace EndOfLine = abc| /
+";
+
+#[test]
+fn kills_and_what_they_draw(rt: HostRuntime) -> Result<(), Fail> {
+    draws(&rt, &PLAIN, IN_A_ROW)?;
+    draws(&rt, &PLAIN, IN_ROWS)?;
+    draws(&rt, &PLAIN, REPLACED)?;
+    let narrow = Stage {
+        columns: 10,
+        ..PLAIN
+    };
+    draws(&rt, &narrow, IN_TEN_COLUMNS)
+}
+
+#[test]
+fn kills_and_what_they_keep(rt: HostRuntime) -> Result<(), Fail> {
+    keeps(&rt, &PLAIN, KEPT)
+}
+
+const WITH_HINTS: &str = "
+    abx|: Repaint; Kill BackwardChar 1 = ab| / draw '> ab|{cd}' at 0,4 to 0,6
+    ab|: Repaint; Kill BackwardChar 2 = | / draw '> |' at 0,2 to 0,2
+    ab|: Repaint; Kill ForwardChar 1; CompleteHint = abcd| / draw '> abcd|' at 0,6 to 0,6
+    xyz|: Repaint; Kill BackwardChar 1 = xy| / move 0,5 to 0,4; clear row
+";
+
+#[test]
+fn kills_with_hints(rt: HostRuntime) -> Result<(), Fail> {
+    let mut stage = PLAIN;
+    stage.history = "abcd";
+    stage.helper = Some(Adviser::new(Verdict::Valid, ""));
+    draws(&rt, &stage, WITH_HINTS)
+}

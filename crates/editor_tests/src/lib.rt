@@ -1,0 +1,25 @@
+//! What `line_editor` promises, at work: tables of text in which each row is a line and what is done to it.
+#![tactic(auto)]
+
+#[cfg(test)]
+mod accepting;
+pub mod calls;
+#[cfg(test)]
+mod desk;
+#[cfg(test)]
+mod faults;
+pub mod helpers;
+#[cfg(test)]
+mod inserting;
+#[cfg(test)]
+mod killing;
+#[cfg(test)]
+mod lines;
+#[cfg(test)]
+mod moving;
+#[cfg(test)]
+mod remembering;
+#[cfg(test)]
+mod rewording;
+#[cfg(test)]
+mod yanking;

@@ -1,0 +1,153 @@
+//! Motions.
+
+use crate::desk::{PLAIN, Stage, draws};
+use crate::helpers::{Adviser, Verdict};
+use std::test::Fail;
+
+const ALONG_A_ROW: &str = "
+    |: Move BackwardChar 1 = | /
+    |: Move ForwardChar 1 = | /
+    |: Move BeginningOfLine = | /
+    |: Move EndOfLine = | /
+    ab|c: Move BackwardChar 1 = a|bc / move 0,4 to 0,3
+    ab|c: Move BackwardChar 2 = |abc / move 0,4 to 0,2
+    ab|c: Move BackwardChar 99 = |abc / move 0,4 to 0,2
+    ab|c: Move BackwardChar 0 = ab|c /
+    |abc: Move BackwardChar 1 = |abc /
+    ab|c: Move ForwardChar 1 = abc| / move 0,4 to 0,5
+    a|bc: Move ForwardChar 9 = abc| / move 0,3 to 0,5
+    a|bc: Move ForwardChar 0 = a|bc /
+    abc|: Move ForwardChar 1 = abc| /
+    ab|c: Move BeginningOfLine = |abc / move 0,4 to 0,2
+    |abc: Move BeginningOfLine = |abc /
+    ab|c: Move EndOfLine = abc| / move 0,4 to 0,5
+    abc|: Move EndOfLine = abc| /
+    a|b: Move WholeLine = a|b /
+    a|b: Move WholeBuffer = a|b /
+    漢字|: Move BackwardChar 1 = 漢|字 / move 0,6 to 0,4
+    |漢字: Move ForwardChar 2 = 漢字| / move 0,2 to 0,6
+    é|x: Move BackwardChar 1 = |éx / move 0,3 to 0,2
+    e|\u{301}x: Move ForwardChar 1 = e\u{301}|x /
+    e\u{301}|x: Move BackwardChar 1 = |e\u{301}x / move 0,3 to 0,2
+    👨‍👩‍👧|: Move BackwardChar 1 = |👨‍👩‍👧 / move 0,4 to 0,2
+";
+
+const TO_WORDS: &str = "
+    |one two: Move ForwardWord 1 AfterEnd Emacs = one| two / move 0,2 to 0,5
+    |one two: Move ForwardWord 1 Start Vi = one |two / move 0,2 to 0,6
+    |one two: Move ForwardWord 1 BeforeEnd Vi = on|e two / move 0,2 to 0,4
+    one |two: Move ForwardWord 1 Start Vi = one tw|o / move 0,6 to 0,8
+    one tw|o: Move ForwardWord 1 Start Vi = one tw|o /
+    |one two: Move ForwardWord 9 AfterEnd Emacs = one two| / move 0,2 to 0,9
+    one two|: Move ForwardWord 1 AfterEnd Emacs = one two| /
+    |one two: Move ForwardWord 0 AfterEnd Emacs = |one two /
+    one two|: Move BackwardWord 1 Emacs = one |two / move 0,9 to 0,6
+    one two|: Move BackwardWord 9 Emacs = |one two / move 0,9 to 0,2
+    |one two: Move BackwardWord 1 Emacs = |one two /
+    one two|: Move BackwardWord 0 Emacs = one two| /
+    alpha ,beta/rho; mu|: Move BackwardWord 1 Vi = alpha ,beta/rho; |mu / move 0,21 to 0,19
+    alpha ,beta/rho; |mu: Move BackwardWord 1 Vi = alpha ,beta/rho|; mu / move 0,19 to 0,17
+    alpha ,beta/rho; |mu: Move BackwardWord 1 Big = alpha |,beta/rho; mu / move 0,19 to 0,8
+";
+
+const TO_CHARACTERS: &str = "
+    a|bcbd: Move ViCharSearch 1 Forward b = abc|bd / move 0,3 to 0,5
+    |abcb: Move ViCharSearch 9 Forward b = abc|b / move 0,2 to 0,5
+    |abcb: Move ViCharSearch 1 ForwardBefore c = a|bcb / move 0,2 to 0,3
+    |abc: Move ViCharSearch 1 Forward x = |abc /
+    |abc: Move ViCharSearch 1 Forward a = |abc /
+    |abc: Move ViCharSearch 0 Forward b = |abc /
+    abcb|d: Move ViCharSearch 1 Backward b = abc|bd / move 0,6 to 0,5
+    abcbd|: Move ViCharSearch 2 Backward b = a|bcbd / move 0,7 to 0,3
+    abcbd|: Move ViCharSearch 1 BackwardAfter b = abcb|d / move 0,7 to 0,6
+    |: Move ViCharSearch 1 Backward b = | /
+";
+
+const IN_ROWS: &str = "
+    ab␊cd|: Move LineUp 1 = |ab␊cd / move 1,2 to 0,2
+    abc␊wxyz|: Move LineUp 1 = ab|c␊wxyz / move 1,4 to 0,4
+    ab|c␊wxyz: Move LineDown 1 = abc␊wxyz| / move 0,4 to 1,4
+    abcdef|␊xy: Move LineDown 1 = abcdef␊xy| / move 0,8 to 1,2
+    ab␊cd␊ef|: Move LineUp 9 = |ab␊cd␊ef / move 2,2 to 0,2
+    |ab␊cd␊ef: Move LineDown 2 = ab␊cd␊ef| / move 0,2 to 2,2
+    ab␊cd|: Move LineUp 0 = ab␊cd| /
+    a|b␊cd: Move LineUp 1 = a|b␊cd /
+    ab␊c|d: Move LineDown 1 = ab␊c|d /
+    漢字␊abc|: Move LineUp 1 = |漢字␊abc / move 1,3 to 0,2
+    漢字␊abcd|: Move LineUp 1 = 漢|字␊abcd / move 1,4 to 0,4
+    ab␊c|d: Move BeginningOfLine = ab␊|cd / move 1,1 to 1,0
+    a|b␊cd: Move EndOfLine = ab|␊cd / move 0,3 to 0,4
+    ab␊c|d: Move BeginningOfBuffer = |ab␊cd / move 1,1 to 0,2
+    |ab␊cd: Move BeginningOfBuffer = |ab␊cd /
+    a|b␊cd: Move EndOfBuffer = ab␊cd| / move 0,3 to 1,2
+    ab␊cd|: Move EndOfBuffer = ab␊cd| /
+";
+
+const TO_FIRST_PRINT: &str = "
+    ␠ ab|: Move ViFirstPrint = ␠ |ab / move 0,6 to 0,2; move 0,2 to 0,4
+    |␠ ab: Move ViFirstPrint = ␠ |ab / move 0,2 to 0,4
+    ab c|: Move ViFirstPrint = |ab c / move 0,6 to 0,2
+    |ab: Move ViFirstPrint = |ab /
+    |: Move ViFirstPrint = | /
+";
+
+const IN_TEN_COLUMNS: &str = "
+    abcdefgh|: Move BackwardChar 1 = abcdefg|h / move 1,0 to 0,9
+    abcdefg|h: Move ForwardChar 1 = abcdefgh| / move 0,9 to 1,0
+    abcdefghij|: Move BeginningOfLine = |abcdefghij / move 1,2 to 0,2
+    abcdefg漢|: Move BackwardChar 1 = abcdefg|漢 / move 1,2 to 0,9
+";
+
+#[test]
+fn motions_ask_for_moves(rt: HostRuntime) -> Result<(), Fail> {
+    draws(&rt, &PLAIN, ALONG_A_ROW)?;
+    draws(&rt, &PLAIN, TO_WORDS)?;
+    draws(&rt, &PLAIN, TO_CHARACTERS)?;
+    draws(&rt, &PLAIN, IN_ROWS)?;
+    draws(&rt, &PLAIN, TO_FIRST_PRINT)
+}
+
+#[test]
+fn motions_in_a_narrow_display(rt: HostRuntime) -> Result<(), Fail> {
+    let narrow = Stage {
+        columns: 10,
+        ..PLAIN
+    };
+    draws(&rt, &narrow, IN_TEN_COLUMNS)
+}
+
+const ONTO_A_HIGHLIGHTED_CHARACTER: &str = "
+    ab|c: Move BackwardChar 1 = a|bc / draw '> a|bc' at 0,3 to 0,5 lit
+    ab|c: Move BackwardChar 1; Move BackwardChar 1 = |abc / draw '> |abc' at 0,2 to 0,5 lit
+    ab|c: Move BackwardChar 1; Move BackwardChar 1; Move EndOfLine = abc| / move 0,2 to 0,5
+    ab|c: Move BackwardChar 2 = |abc / move 0,4 to 0,2
+";
+
+const WITHOUT_COLOURS: &str = "
+    ab|c: Move BackwardChar 1 = a|bc / move 0,4 to 0,3
+";
+
+#[test]
+fn moves_that_highlight_draw(rt: HostRuntime) -> Result<(), Fail> {
+    let mut helper = Adviser::new(Verdict::Valid, "");
+    helper.marked_at = 1;
+    let mut stage = PLAIN;
+    stage.helper = Some(helper);
+    draws(&rt, &stage, WITHOUT_COLOURS)?;
+    stage.colours = true;
+    draws(&rt, &stage, ONTO_A_HIGHLIGHTED_CHARACTER)
+}
+
+const WITH_A_HINT: &str = "
+    ab|: Repaint = ab| / draw '> ab|{cd}' at 0,4 to 0,6
+    ab|: Repaint; Move BackwardChar 1 = a|b / move 0,4 to 0,3
+    ab|: Repaint; Move ForwardChar 1 = ab| /
+";
+
+#[test]
+fn moves_leave_the_hint(rt: HostRuntime) -> Result<(), Fail> {
+    let mut stage = PLAIN;
+    stage.history = "abcd";
+    stage.helper = Some(Adviser::new(Verdict::Valid, ""));
+    draws(&rt, &stage, WITH_A_HINT)
+}

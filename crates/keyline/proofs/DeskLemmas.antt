@@ -1,0 +1,281 @@
+-- A line at a desk: what `run` gives, and then the line's end.
+use Rattle.std.proofs.Common.{◌≡◌, ℕ, suc, ◌<◌, ◌≤◌, Bool, true, false, List, [], ◌∷◌, ◌++◌, inl, inr, ◌⊎◌, refl, sym, ap, ◌∙◌, subst, append-nil, IsTrue, IsFalse, Option, Result, Ok, Err, IfErr, OnOk, OnErr, le_refl}
+use Rattle.std.specs.List.{flat_map}
+use Rattle.std.specs.Prelude.{string_bytes}
+use Rattle.line_config.specs.declared.config.Config.{Config}
+use Rattle.line_config.specs.declared.errors.ReadlineError.{ReadlineError}
+use Rattle.line_config.specs.declared.errors.ReadlineError.TheVariants.{Eof, Interrupted, NotUtf8, PasteOutOfPlace, Reader, Display, Lines, HistoryText, Helper, Handler, Memory}
+use Rattle.line_config.specs.Sending.{Takes}
+use Rattle.line_help.specs.History.{Filed}
+use Rattle.line_keys.specs.Answers.{Custom}
+use Rattle.line_keys.specs.Coming.{made_of}
+use Rattle.line_keys.specs.Feeds.{Feed}
+use Rattle.line_record.specs.Ring.{Ring}
+use Rattle.line_editor.specs.Lines.{Told}
+use Rattle.line_editor.specs.Running.{Helping, HelperFails, Runs, WholeLine, CutLine, outcome_of, line_calls}
+use Rattle.line_editor.specs.States.{reason_of}
+use Rattle.line_editor.specs.Turning.{cause_of}
+use Rattle.line_editor.specs.declared.ran.Ran.{Ran}
+use Rattle.line_screen.specs.Calls.{Screen, Sent, canvas_of, screen_of, sink_of, bytes_of, ruler_of}
+use Rattle.line_screen.specs.Drawing.{break_if}
+use Rattle.line_screen.specs.Reader.{items_of}
+use Rattle.line_screen.specs.declared.reading.reader.KeyReader.{KeyReader}
+use Rattle.line_screen.specs.declared.renderer.ScreenRenderer.{ScreenRenderer}
+use Rattle.line_screen.proofs.CallLemmas.{sent_in_all, begun_stays}
+use Rattle.keyline.specs.Closing.{Closes, CloseReason, work}
+use Rattle.keyline.specs.Desks.{Known, Lined, TakesLine, DeskReason, feed_of, standing_of, work_of}
+use Rattle.keyline.specs.Playing.{Work, LineWhole, LineCut, CutsBy, Reason, accepted_of}
+use Rattle.keyline.specs.Sessions.{Given, Standing, given_by, breaks, line_in, after_line, line_bytes, lines_text, remembered, history_after}
+use Rattle.keyline.specs.declared.desk.Desk.{Desk}
+use Rattle.keyline.proofs.CloseLemmas.{remembered_none}
+use Rattle.keyline.proofs.Told.{Takes-then}
+
+-- ---- faults
+
+-- a fault of a line is one that no input gives
+cuts_of : (steady failed : Bool) (hook : Type 0) (e : ReadlineError) → reason_of failed hook e ⊎ ((e ≡ Reader) × IsFalse steady) → CutsBy steady e
+cuts_of steady failed hook Display (inl r) = tt
+cuts_of steady failed hook Helper (inl r) = tt
+cuts_of steady failed hook Memory (inl r) = tt
+cuts_of steady failed hook Eof (inl r) = absurd r
+cuts_of steady failed hook Interrupted (inl r) = absurd r
+cuts_of steady failed hook NotUtf8 (inl r) = absurd r
+cuts_of steady failed hook PasteOutOfPlace (inl r) = absurd r
+cuts_of steady failed hook Reader (inl r) = absurd r
+cuts_of steady failed hook Lines (inl r) = absurd r
+cuts_of steady failed hook HistoryText (inl r) = absurd r
+cuts_of steady failed hook Handler (inl r) = absurd r
+cuts_of steady failed hook e (inr r) = let P : ReadlineError → Type 0 = CutsBy steady in subst P (sym r.0) r.1
+
+cuts_by_any : (steady : Bool) (e : ReadlineError) → CutsBy true e → CutsBy steady e
+cuts_by_any steady Eof p = absurd p
+cuts_by_any steady Interrupted p = absurd p
+cuts_by_any steady NotUtf8 p = absurd p
+cuts_by_any steady PasteOutOfPlace p = absurd p
+cuts_by_any steady Reader p = absurd (cc)
+cuts_by_any steady Display p = tt
+cuts_by_any steady Lines p = tt
+cuts_by_any steady HistoryText p = absurd p
+cuts_by_any steady Helper p = tt
+cuts_by_any steady Handler p = absurd p
+cuts_by_any steady Memory p = tt
+
+-- the reasons of a line are those of a desk
+reason_by : (told : Bool) (g : Given) (source display lines : Bool) (feed : Feed) (hook : Type 0) (e : ReadlineError)
+    → (feed.reason e → e ≡ Reader → IsTrue source)
+    → (hook → IsTrue told → (shown : List (List ℕ)) × HelperFails g.helping shown)
+    → cause_of g.custom display hook feed e → Reason told g source display lines e
+reason_by told g source display lines feed hook Eof of_source of_hook c = tt
+reason_by told g source display lines feed hook Interrupted of_source of_hook c = tt
+reason_by told g source display lines feed hook NotUtf8 of_source of_hook c = tt
+reason_by told g source display lines feed hook PasteOutOfPlace of_source of_hook c = tt
+reason_by told g source display lines feed hook Reader of_source of_hook c = of_source c refl
+reason_by told g source display lines feed hook Display of_source of_hook c = c
+reason_by told g source display lines feed hook Lines of_source of_hook c = absurd c
+reason_by told g source display lines feed hook HistoryText of_source of_hook c = absurd c
+reason_by told g source display lines feed hook Helper of_source of_hook c = of_hook c
+reason_by told g source display lines feed hook Handler of_source of_hook c = c
+reason_by told g source display lines feed hook Memory of_source of_hook c = tt
+
+-- ---- the outcome of a line as that of its end
+
+err_given : {A : Type 0} (o : Result A ReadlineError) (f : A → List ℕ) (e : ReadlineError) (P : ReadlineError → Type 0) → IfErr o P → made_of f o ≡ Err e → P e
+err_given (Ok x) f e P p is = absurd (cc)
+err_given (Err d) f e P p is = let same : d ≡ e = cc in subst P same p
+
+ok_given : {A : Type 0} (o : Result A ReadlineError) (f : A → List ℕ) (result : Result (Unit {0}) ReadlineError) (P : Type 0) → OnOk o P → result ≡ made_of (λ text. tt {0}) (made_of f o) → OnOk result P
+ok_given (Ok x) f (Ok u) P p is = p
+ok_given (Ok x) f (Err e) P p is = tt
+ok_given (Err d) f (Ok u) P p is = absurd (cc)
+ok_given (Err d) f (Err e) P p is = tt
+
+ok_of_cut : (result : Result (Unit {0}) ReadlineError) (e : ReadlineError) (P : Type 0) → result ≡ Err e → OnOk result P
+ok_of_cut (Ok u) e P is = absurd (cc)
+ok_of_cut (Err d) e P is = tt
+
+nil_front : (xs ys : List (List ℕ)) → [] ≡ xs ++ ys → xs ≡ []
+nil_front [] ys e = refl
+nil_front (x ∷ xs) ys e = absurd (cc)
+
+nil_front_bytes : (xs ys : List ℕ) → [] ≡ xs ++ ys → xs ≡ []
+nil_front_bytes [] ys e = refl
+nil_front_bytes (x ∷ xs) ys e = absurd (cc)
+
+module _ {D L : Type 0} (shows : D → Bool) (shown : D → List ℕ) (writes : L → Bool) (written_in : L → List ℕ) where
+  -- after a line that is refused nothing is added and written, whatever was to come of it
+  cut_as : (adds steady : Bool) (e : ReadlineError) (outcome : Result (List ℕ) ReadlineError) (old new : Work D L) (d : D) (result : Result (Unit {0}) ReadlineError)
+      → LineCut shows shown writes written_in adds true (Err e) (record old { display = d }) new result
+      → LineCut shows shown writes written_in adds steady outcome old new result
+  cut_as adds steady e outcome old new d result c =
+      let none : c.in_hand ≡ [] = nil_front c.in_hand c.others c.first in
+      let untorn : c.torn ≡ [] = nil_front_bytes c.torn c.more (ap lines_text (sym none) ∙ c.part) in
+      record {
+        fault = c.fault;
+        result_is = c.result_is;
+        cut = cuts_by_any steady c.fault c.cut;
+        in_hand = [];
+        others = accepted_of outcome;
+        first = refl;
+        torn = [];
+        more = [];
+        part = refl;
+        wrote = let P : List ℕ → Type 0 = Takes writes written_in old.lines new.lines in subst P untorn c.wrote;
+        whole = λ _. refl;
+        history_is = c.history_is ∙ ap (λ lines. remembered adds lines old.history) none;
+      }
+
+  -- the end of a line that a fault had cut off
+  cut_then : (adds steady : Bool) (e : ReadlineError) (outcome : Result (List ℕ) ReadlineError) (bytes : List ℕ) (old new : Work D L) (d : D) (result : Result (Unit {0}) ReadlineError)
+      → CutsBy steady e → LineWhole shows shown writes written_in adds bytes (Err e) (record old { display = d }) new result
+      → LineCut shows shown writes written_in adds steady outcome old new result
+  cut_then adds steady e outcome bytes old new d result cut c = record {
+    fault = e;
+    result_is = c.result_is;
+    cut = cut;
+    in_hand = [];
+    others = accepted_of outcome;
+    first = refl;
+    torn = [];
+    more = [];
+    part = refl;
+    wrote = c.wrote;
+    whole = λ _. refl;
+    history_is = c.history_is ∙ sym (remembered_none adds old.history);
+  }
+
+  -- a cut line is one under any steadiness
+  cut_by : (adds steady : Bool) (outcome : Result (List ℕ) ReadlineError) (old new : Work D L) (d : D) (result : Result (Unit {0}) ReadlineError)
+      → LineCut shows shown writes written_in adds true outcome (record old { display = d }) new result
+      → LineCut shows shown writes written_in adds steady outcome old new result
+  cut_by adds steady outcome old new d result c = record {
+    fault = c.fault;
+    result_is = c.result_is;
+    cut = cuts_by_any steady c.fault c.cut;
+    in_hand = c.in_hand;
+    others = c.others;
+    first = c.first;
+    torn = c.torn;
+    more = c.more;
+    part = c.part;
+    wrote = c.wrote;
+    whole = c.whole;
+    history_is = c.history_is;
+  }
+
+  -- the line's drawings, and then its end
+  whole_then : (adds : Bool) (first second : List ℕ) (outcome : Result (List ℕ) ReadlineError) (d d1 d2 : D) (l l2 : L) (h h2 : Filed) (result : Result (Unit {0}) ReadlineError)
+      → Takes shows shown d d1 first → LineWhole shows shown writes written_in adds second outcome (work d1 l h) (work d2 l2 h2) result
+      → LineWhole shows shown writes written_in adds (first ++ second) outcome (work d l h) (work d2 l2 h2) result
+  whole_then adds first second outcome d d1 d2 l l2 h h2 result drawn c = record {
+    result_is = c.result_is;
+    history_is = c.history_is;
+    drawn = Takes-then shows shown d d1 d2 first second drawn c.drawn;
+    wrote = c.wrote;
+  }
+
+-- ---- a line at a desk
+
+abbrev desk_of : {S H D L : Type 0} → KeyReader S → ScreenRenderer D → Option H → Filed → Ring → L → Desk S H D L
+desk_of reader out helper history ring lines =
+    record { reader = reader; out = out; helper = helper; history = history; ring = ring; lines = lines }
+
+module _ {S H D L K T : Type 0} (k : Known S D L) (helps : Option H → Helping) (custom : Custom) (config : Config) (prompt : List ℕ)
+    (old : Desk S H D L) (ran : Ran (ScreenRenderer D) H K T) (ring : Ring) (reader : KeyReader S) where
+  abbrev RunsAt : Type 0
+  RunsAt = Runs (canvas_of k.shows k.shown k.show_failed) helps custom prompt old.helper old.history.kept.entries config
+      old.out old.ring (items_of k.feed old.reader) ran ring (items_of k.feed reader)
+
+  abbrev Went : Told → Type 0
+  Went t = WholeLine (canvas_of k.shows k.shown k.show_failed) t old.out ran.out ring (items_of k.feed reader).coming (outcome_of ran)
+      ⊎ CutLine (canvas_of k.shows k.shown k.show_failed) t (feed_of k old).steady (HelperFails (helps old.helper) old.history.kept.entries) old.out ran.out (outcome_of ran)
+
+  screen_by : (t : Told) → Went t → screen_of ran.out ≡ screen_of old.out
+  screen_by t (inl w) = (sent_in_all k.shows k.shown k.show_failed (line_calls (ruler_of (screen_of old.out)) t.turns) old.out ran.out w.calls).screen
+  screen_by t (inr w) = begun_stays k.shows k.shown k.show_failed (line_calls (ruler_of (screen_of old.out)) t.turns) old.out ran.out w.begun
+
+  screen_stays : RunsAt → IsTrue (feed_of k old).told → screen_of ran.out ≡ screen_of old.out
+  screen_stays runs t = screen_by _ (runs.goes t (suc (feed_of k old).bound) (le_refl _))
+
+  module _ (out : ScreenRenderer D) (history : Filed) (lines : L) (result : Result (Unit {0}) ReadlineError) where
+    abbrev Ends : Result (List ℕ) ReadlineError → Type 0
+    Ends outcome = Closes k.shows k.shown k.show_failed k.writes k.written_in k.write_failed config.auto_add_history outcome
+        (work (sink_of ran.out) old.lines old.history) (work (sink_of out) lines history) result
+
+    abbrev new : Desk S H D L
+    new = desk_of reader out ran.helper history ring lines
+
+    abbrev given : Given
+    given = given_by config custom prompt (screen_of old.out) (helps old.helper)
+
+    abbrev given' : Given
+    given' = given_by config custom prompt (screen_of out) (helps ran.helper)
+
+    abbrev Ended : Result (List ℕ) ReadlineError → Type 0
+    Ended outcome = LineWhole k.shows k.shown k.writes k.written_in config.auto_add_history (break_if (breaks outcome)) outcome
+        (work (sink_of ran.out) old.lines old.history) (work (sink_of out) lines history) result
+        ⊎ LineCut k.shows k.shown k.writes k.written_in config.auto_add_history true outcome
+        (work (sink_of ran.out) old.lines old.history) (work (sink_of out) lines history) result
+
+    after_whole : (t : Told) → WholeLine (canvas_of k.shows k.shown k.show_failed) t old.out ran.out ring (items_of k.feed reader).coming (outcome_of ran)
+        → Ended t.outcome → Lined k given t old new result
+    after_whole t w (inl c) =
+        let sent = sent_in_all k.shows k.shown k.show_failed (line_calls (ruler_of (screen_of old.out)) t.turns) old.out ran.out w.calls in
+        inl (whole_then k.shows k.shown k.writes k.written_in config.auto_add_history _ (break_if (breaks t.outcome)) t.outcome
+        (sink_of old.out) (sink_of ran.out) (sink_of out) old.lines lines old.history history result sent.takes c,
+        ap (λ r. record { ring = r; history = history; coming = (items_of k.feed reader).coming }) w.ring_is
+        ∙ (ap (λ h. record { ring = t.ring; history = h; coming = (items_of k.feed reader).coming }) c.history_is
+        ∙ ap (λ c'. record { ring = t.ring; history = history_after config.auto_add_history t.outcome old.history; coming = c' }) w.rest_is))
+    after_whole t w (inr c) =
+        inr (cut_by k.shows k.shown k.writes k.written_in config.auto_add_history (feed_of k old).steady t.outcome (work_of k old) (work_of k new) (sink_of ran.out) result c)
+
+    after_cut : (t : Told) → (w : CutLine (canvas_of k.shows k.shown k.show_failed) t (feed_of k old).steady (HelperFails (helps old.helper) old.history.kept.entries) old.out ran.out (outcome_of ran))
+        → Ended (Err w.fault) → Lined k given t old new result
+    after_cut t w (inl c) =
+        inr (cut_then k.shows k.shown k.writes k.written_in config.auto_add_history (feed_of k old).steady w.fault t.outcome _ (work_of k old) (work_of k new) (sink_of ran.out) result
+        (cuts_of (feed_of k old).steady _ _ w.fault w.cause) c)
+    after_cut t w (inr c) =
+        inr (cut_as k.shows k.shown k.writes k.written_in config.auto_add_history (feed_of k old).steady w.fault t.outcome (work_of k old) (work_of k new) (sink_of ran.out) result c)
+
+    lined : (t : Told) → Went t → Ends (outcome_of ran) → Lined k given t old new result
+    lined t (inl w) closes = after_whole t w (subst Ended w.outcome_is closes.goes)
+    lined t (inr w) closes = after_cut t w (subst Ended w.outcome_is closes.goes)
+
+    lined_falls : RunsAt → Ended (outcome_of ran) → OnOk result ((feed_of k new).bound < (feed_of k old).bound)
+    lined_falls runs (inl c) = ok_given ran.outcome string_bytes result _ runs.falls c.result_is
+    lined_falls runs (inr c) = ok_of_cut result c.fault _ c.result_is
+
+    lined_given : RunsAt → screen_of out ≡ screen_of ran.out → IsTrue (feed_of k old).told → given' ≡ given
+    lined_given runs screen t =
+        ap (λ s. given_by config custom prompt s (helps ran.helper)) (screen ∙ screen_stays runs t)
+        ∙ ap (λ h. given_by config custom prompt (screen_of old.out) h) (runs.helper_stays t)
+
+    reason_of_close : RunsAt → (e : ReadlineError) → CloseReason (outcome_of ran) (k.show_failed (sink_of ran.out)) (k.show_failed (sink_of out)) (k.write_failed lines) e
+        → DeskReason k (feed_of k old).told given new e
+    reason_of_close runs e (inl p) =
+        let cause = err_given ran.outcome string_bytes e _ runs.reason p.0 in
+        let of_line = reason_by (feed_of k old).told given _ (k.show_failed (sink_of ran.out)) (k.write_failed lines) (items_of k.feed reader) _ e (λ r. r)
+            (λ hook t. (hook.0, subst (λ h. HelperFails h hook.0) (runs.helper_stays t) hook.1)) cause in
+        let P : Bool → Type 0 = λ failed. Reason (feed_of k old).told given (k.feed reader.bytes.source).failed failed (k.write_failed lines) e in
+        subst P (sym p.1) of_line
+    reason_of_close runs e (inr (inl p)) =
+        let P : ReadlineError → Type 0 = DeskReason k (feed_of k old).told given new in subst P (sym p.0) p.1
+    reason_of_close runs e (inr (inr (inl p))) =
+        let P : ReadlineError → Type 0 = DeskReason k (feed_of k old).told given new in subst P (sym p.0) p.1
+    reason_of_close runs e (inr (inr (inr p))) =
+        let P : ReadlineError → Type 0 = DeskReason k (feed_of k old).told given new in subst P (sym p) tt
+
+    pub takes_line : RunsAt → Ends (outcome_of ran) → screen_of out ≡ screen_of ran.out → TakesLine k given given' old new result
+    takes_line runs closes screen = record {
+      goes = λ t n b. lined (line_in n given (standing_of k old)) (runs.goes t n b) closes;
+      given = lined_given runs screen;
+      custom = refl;
+      told = runs.told;
+      steady = runs.steady;
+      falls = lined_falls runs closes.goes;
+      reason = if_err result closes.reason;
+    }
+      where
+        if_err : (r : Result (Unit {0}) ReadlineError) → IfErr r (CloseReason (outcome_of ran) (k.show_failed (sink_of ran.out)) (k.show_failed (sink_of out)) (k.write_failed lines))
+            → IfErr r (DeskReason k (feed_of k old).told given new)
+        if_err (Ok u) p = tt
+        if_err (Err e) p = reason_of_close runs e p

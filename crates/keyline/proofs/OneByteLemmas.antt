@@ -1,0 +1,103 @@
+-- The count of one byte.
+use Rattle.std.proofs.Common.{◌≡◌, ℕ, ◌+◌, ◌<◌, ◌==◌, ◌&&◌, not, nat_lt, nat_le, Bool, true, false, List, [], ◌∷◌, ◌++◌, take, length, Option, Some, None, is_some, encode_utf8, Result, Ok, Err, refl, sym, ap, ◌∙◌, subst, append-nil, arith, if◌then◌else◌}
+use Rattle.std.specs.List.{list_all, flat_map}
+use Rattle.std.proofs.lemmas.Bool.{and_parts, and_from, eq-eqb, lt-ltb, ltb-true}
+use Rattle.std.proofs.lemmas.Str.{encode_ascii}
+use Rattle.line_buffer.specs.Insertions.{insert as insertion}
+use Rattle.line_buffer.specs.Short.{is_printable}
+use Rattle.line_buffer.specs.declared.layout.Layout.{Layout}
+use Rattle.line_buffer.specs.declared.layout.Position.{Position}
+use Rattle.line_config.specs.declared.errors.ReadlineError.{ReadlineError}
+use Rattle.line_keys.specs.declared.command.Cmd.{Cmd}
+use Rattle.line_keys.specs.declared.command.Cmd.TheVariants.{SelfInsert}
+use Rattle.line_record.specs.Ring.{Ring}
+use Rattle.line_editor.specs.Drawing.{drawn, asked_anew}
+use Rattle.line_editor.specs.Inserting.{is_bare, may_be_typed, show_typed, insert_char}
+use Rattle.line_editor.specs.Lines.{Enacted, turned_by, phrase_enacted, turn_of}
+use Rattle.line_editor.specs.Redraws.{Redraw, full, same_cell, nothing_asked, moved_by_call, typed_short, taken_short, may_type, may_take, one}
+use Rattle.line_editor.specs.Redraws.Redraw.{Drawn, Moved, Typed, Taken, Bared, ToEnd, Beeped, Cleared}
+use Rattle.line_editor.specs.Sights.{Sight, sight, Fits}
+use Rattle.line_editor.specs.Values.{Value, Setting, Effect, unchanged}
+use Rattle.line_screen.specs.Calls.{Screen, bytes_of, ruler_of}
+use Rattle.line_screen.specs.Chain.{is_simple}
+use Rattle.keyline.specs.OneByte.{Tells, LayoutsTell, TypedAtEnd, OneByte}
+use Rattle.keyline.specs.Shows.{bytes_for}
+
+not_true : (b : Bool) → not b ≡ true → b ≡ false
+not_true true h = sym h
+not_true false h = refl
+
+small : (c : ℕ) → is_printable c ≡ true → c < 128
+small c h = let parts = and_parts (nat_le 32 c) (nat_lt c 127) h in let k = ltb-true c 127 parts.1 in omega arith
+
+-- ---- the layout that is kept
+
+moved_tells : (l : Layout) (x : Sight) (cursor : Position) (b : Bool) → Tells l x → Tells (if b then nothing_asked l else moved_by_call l cursor).layout x
+moved_tells l x cursor true h = h
+moved_tells l x cursor false h = record { info_is = h.info_is; given_is = h.given_is }
+
+one_tells : (s : Screen) (own : List ℕ) (l : Layout) (x : Sight) (r : Redraw) → Tells l x → Fits own x r → Tells (one (ruler_of s) l r).layout (sight x r)
+one_tells s own l x (Drawn prompt given text at info) h fits = record { info_is = refl; given_is = refl }
+one_tells s own l x (Moved text at) h fits =
+    let cursor = (ruler_of s).measure (take at text) l.prompt_size in
+    let t = moved_tells l x cursor (same_cell l.cursor cursor) h in
+    record { info_is = t.info_is; given_is = t.given_is }
+one_tells s own l x (Typed prompt c text at) h fits = by_test (may_type (ruler_of s) l) refl
+  where
+    by_test : (b : Bool) → may_type (ruler_of s) l ≡ b → Tells (if b then typed_short l c else full (ruler_of s) l prompt true text at None).layout (sight x (Typed prompt c text at))
+    by_test true e = record { info_is = not_true l.has_info (and_parts (not l.has_info) _ e).0; given_is = h.given_is ∙ fits.0 }
+    by_test false e = record { info_is = refl; given_is = refl }
+one_tells s own l x (Taken prompt count text at) h fits = by_test (may_take l count) refl
+  where
+    by_test : (b : Bool) → may_take l count ≡ b → Tells (if b then taken_short l count else full (ruler_of s) l prompt true text at None).layout (sight x (Taken prompt count text at))
+    by_test true e = record { info_is = not_true l.has_info (and_parts (not l.has_info) _ e).0; given_is = h.given_is ∙ fits.0 }
+    by_test false e = record { info_is = refl; given_is = refl }
+one_tells s own l x (Bared prompt text at) h fits = by_test l.default_prompt (h.given_is ∙ fits)
+  where
+    by_test : (b : Bool) → b ≡ true → Tells (if b then nothing_asked l else full (ruler_of s) l prompt true text at None).layout x
+    by_test true e = h
+    by_test false e = cc
+one_tells s own l x ToEnd h fits =
+    let t = moved_tells l x l.end (same_cell l.cursor l.end) h in
+    record { info_is = t.info_is; given_is = t.given_is }
+one_tells s own l x Beeped h fits = h
+one_tells s own l x Cleared h fits = record { info_is = refl; given_is = refl }
+
+pub layouts_tell : LayoutsTell
+layouts_tell s own [] l x h fits = h
+layouts_tell s own (r ∷ rs) l x h fits = layouts_tell s own rs (one (ruler_of s) l r).layout (sight x r) (one_tells s own l x r h fits.0) fits.1
+
+-- ---- the byte
+
+may_type_it : (v w : Value) (c : ℕ) → is_printable c ≡ true → list_all is_simple v.line.text ≡ true → v.line.place ≡ length v.line.text → is_bare v ≡ true → is_bare w ≡ true → may_be_typed c 1 v w ≡ true
+may_type_it v w c printable plain end before after =
+    and_from (v.line.place == length v.line.text) (list_all is_simple v.line.text && (is_printable c && (is_bare v && is_bare w))) (eq-eqb v.line.place (length v.line.text) end)
+    (and_from (list_all is_simple v.line.text) (is_printable c && (is_bare v && is_bare w)) plain (and_from (is_printable c) (is_bare v && is_bare w) printable (and_from (is_bare v) (is_bare w) before after)))
+
+-- its redraw is the short one
+shown_short : (a : Setting) (v u : Value) (c : ℕ) (b : Bool) → b ≡ true → is_printable c ≡ true → list_all is_simple v.line.text ≡ true → v.line.place ≡ length v.line.text → is_bare v ≡ true
+    → (let e = (if b then show_typed c 1 v a u else unchanged a u) in is_bare e.value ≡ true → e.redraws ≡ Typed a.prompt c e.value.line.text e.value.line.place ∷ [])
+shown_short a v u c true room printable plain end before after =
+    let w = asked_anew a u in
+    ap (λ b. (if b then Typed a.prompt c w.line.text w.line.place else drawn a w) ∷ []) (may_type_it v w c printable plain end before after)
+shown_short a v u c false room printable plain end before after = cc
+
+typed_redraws : (a : Setting) (v : Value) (c : ℕ) → TypedAtEnd a v c → (let e = insert_char c 1 a v in e.redraws ≡ Typed a.prompt c e.value.line.text e.value.line.place ∷ [])
+typed_redraws a v c t = shown_short a v _ c (is_some (insertion c 1 v.line).answer) t.room t.printable t.plain t.end t.before t.after
+
+short_bytes : (s : Screen) (l : Layout) (prompt : List ℕ) (c : ℕ) (text : List ℕ) (at : ℕ) → is_printable c ≡ true → l.has_info ≡ false → l.cursor.col + 1 < s.columns → bytes_for s l (Typed prompt c text at ∷ []) ≡ c ∷ []
+short_bytes s l prompt c text at printable none room =
+    ap (λ b. flat_map (bytes_of s) ((if b then typed_short l c else full (ruler_of s) l prompt true text at None).calls ++ [])) (and_from (not l.has_info) (nat_lt (l.cursor.col + 1) s.columns) (ap not none) (lt-ltb (l.cursor.col + 1) s.columns room))
+    ∙ append-nil (encode_utf8 c) ∙ encode_ascii c (small c printable)
+
+turned_redraws : (a : Setting) (indent : ℕ) (r : Ring) (v : Value) (c : ℕ) (p : Enacted Cmd) (answer : Result Cmd ReadlineError) → answer ≡ Ok (SelfInsert 1 c) → p.made ≡ unchanged a v
+    → (turned_by a indent r answer p).made.redraws ≡ (insert_char c 1 a v).redraws
+turned_redraws a indent r v c p answer is made =
+    ap (λ o. (turned_by a indent r o p).made.redraws) is ∙ ap (λ (e : Effect). e.redraws ++ (insert_char c 1 a e.value).redraws) made
+
+pub one_byte : OneByte
+unfolding turn_of
+one_byte s l a custom indent input r v coming c alone t none room =
+    let p = phrase_enacted a custom input v coming in
+    let w = (insert_char c 1 a v).value in
+    ap (bytes_for s l) (turned_redraws a indent r v c p p.answer alone.answer alone.made ∙ typed_redraws a v c t) ∙ short_bytes s l a.prompt c w.line.text w.line.place t.printable none room

@@ -1,0 +1,35 @@
+-- A session by its lines, its history's saving and its ending.
+use Rattle.std.proofs.Common.{◌≡◌, ℕ, ◌<◌, Bool, List, refl, sym, subst, IsTrue}
+use Rattle.line_config.specs.declared.errors.ReadlineError.{ReadlineError}
+use Rattle.line_help.specs.History.{Filed}
+use Rattle.line_screen.specs.Calls.{sink_of}
+use Rattle.line_screen.specs.Reader.{source_of}
+use Rattle.keyline.specs.Desks.{Known, TakesLines, DeskReason, feed_of, standing_of, work_of}
+use Rattle.keyline.specs.Endings.{ending_of}
+use Rattle.keyline.specs.Playing.{Work, Reason, Reads, Saves, ending_after}
+use Rattle.keyline.specs.Plays.{Plays}
+use Rattle.keyline.specs.Sessions.{Given, session}
+use Rattle.keyline.specs.declared.desk.Desk.{Desk}
+use Rattle.keyline.specs.declared.ending.Ending.{Ending}
+use Rattle.keyline.specs.declared.session.Ended.{Ended}
+
+pub plays : {S H D L T : Type 0} (k : Known S D L) (told : T → Bool) (held : T → List ℕ) (failed : T → Bool) (g : Given) (desk end : Desk S H D L)
+    (why : ReadlineError) (history : Filed) (text text' : T) (saved : Bool) (ending : Ending) (source : S) (display : D)
+    → TakesLines k g desk end why → Saves told held failed end.history history text text' saved → ending ≡ ending_of (ending_after why saved)
+    → source ≡ source_of end.reader → display ≡ sink_of end.out
+    → Plays {H = H} k told held failed g desk text (record { ending = ending; history = history; source = source; display = display; lines = end.lines; text = text' })
+plays {S} {H} {D} {L} {T} k told held failed g desk end why history text text' saved ending source display lines saves is source_is display_is = record {
+  kept = end.history;
+  why = why;
+  saved = saved;
+  goes = λ t n b.
+      let P : D → Type 0 = λ display. Reads k.shows k.shown k.writes k.written_in g (feed_of k desk).steady (session n g (standing_of k desk)) (work_of k desk)
+      (record { display = display; lines = end.lines; history = end.history }) why in
+      subst P (sym display_is) (lines.goes t n b);
+  saves = saves;
+  ending_is = is;
+  reason =
+      let P : D → Type 0 = λ display. Reason (feed_of k desk).told g (k.feed source).failed (k.show_failed display) (k.write_failed end.lines) why in
+      let Q : S → Type 0 = λ source. Reason (feed_of k desk).told g (k.feed source).failed (k.show_failed (sink_of end.out)) (k.write_failed end.lines) why in
+      subst P (sym display_is) (subst Q (sym source_is) lines.reason);
+}

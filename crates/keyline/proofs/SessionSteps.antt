@@ -1,0 +1,251 @@
+-- Lines one after the other make a session: a line in front of a session, and the line that ends it.
+use Rattle.std.proofs.Common.{◌≡◌, ℕ, zero, suc, ◌<◌, ◌≤◌, Bool, true, false, List, [], ◌∷◌, ◌++◌, length, inl, inr, ◌⊎◌, refl, sym, ap, ◌∙◌, subst, append-nil, append_assoc, IsTrue, Result, Ok, Err, IfErr, OnOk, le_refl, arith}
+use Rattle.line_config.specs.declared.errors.ReadlineError.{ReadlineError}
+use Rattle.line_config.specs.declared.errors.ReadlineError.TheVariants.{Eof, Interrupted, NotUtf8, PasteOutOfPlace, Reader, Display, Lines, HistoryText, Helper, Handler, Memory}
+use Rattle.line_config.specs.Sending.{Takes}
+use Rattle.line_editor.specs.Lines.{Told}
+use Rattle.line_editor.specs.Running.{HelperFails}
+use Rattle.line_help.specs.History.{Filed}
+use Rattle.line_keys.specs.Answers.{HandlerFails}
+use Rattle.keyline.specs.Desks.{Known, Lined, TakesLine, TakesLines, DeskReason, feed_of, standing_of, work_of}
+use Rattle.keyline.specs.Playing.{Work, LineWhole, LineCut, CutsBy, Reads, Reason, accepted_of}
+use Rattle.keyline.specs.Sessions.{Given, Standing, Report, line_in, after_line, goes_on, line_text, lines_text, line_bytes, display_bytes, remembered, session}
+use Rattle.keyline.specs.declared.desk.Desk.{Desk}
+use Rattle.keyline.proofs.CloseLemmas.{remembered_none}
+use Rattle.keyline.proofs.Told.{Takes-then}
+
+pub session_step : (n : ℕ) (g : Given) (x : Standing)
+    → session (suc n) g x ≡ goes_on (line_in (suc n) g x) (line_in (suc n) g x).outcome (session n g (after_line g (line_in (suc n) g x) x))
+unfolding session
+session_step n g x = refl
+
+remembered_more : (adds : Bool) (text : List ℕ) (lines : List (List ℕ)) (h : Filed) → remembered adds lines (remembered adds (text ∷ []) h) ≡ remembered adds (text ∷ lines) h
+remembered_more true text lines h = refl
+remembered_more false text lines h = refl
+
+at_most_one : (text : List ℕ) (xs ys : List (List ℕ)) → text ∷ [] ≡ xs ++ ys → length xs ≤ 1
+at_most_one text [] ys e = search arith
+at_most_one text (x ∷ []) ys e = search arith
+at_most_one text (x ∷ (z ∷ xs)) ys e = absurd (cc)
+
+none_at_all : (xs ys : List (List ℕ)) → [] ≡ xs ++ ys → length xs ≤ 1
+none_at_all [] ys e = search arith
+none_at_all (x ∷ xs) ys e = absurd (cc)
+
+fault_by : (r : Result (Unit {0}) ReadlineError) (e d : ReadlineError) → r ≡ Err e → r ≡ Err d → e ≡ d
+fault_by r e d one other = cc
+
+ok_not_err : (u : Unit {0}) (e : ReadlineError) → Ok u ≡ Err e → ⊥
+ok_not_err u e same = absurd (cc)
+
+module _ {D L : Type 0} (shows : D → Bool) (shown : D → List ℕ) (writes : L → Bool) (written_in : L → List ℕ) (g : Given) (steady : Bool) where
+  abbrev adds : Bool
+  adds = g.config.auto_add_history
+
+  abbrev Whole : Told → Result (List ℕ) ReadlineError → Work D L → Work D L → Result (Unit {0}) ReadlineError → Type 0
+  Whole t o old new result = LineWhole shows shown writes written_in adds (line_bytes g.screen t) o old new result
+
+  abbrev Cut : Result (List ℕ) ReadlineError → Work D L → Work D L → Result (Unit {0}) ReadlineError → Type 0
+  Cut o old new result = LineCut shows shown writes written_in adds steady o old new result
+
+  abbrev All : Report → Work D L → Work D L → ReadlineError → Type 0
+  All report old new why = Reads shows shown writes written_in g steady report old new why
+
+  -- an accepted line, and then a session
+  then_reads : (t : Told) (o : Result (List ℕ) ReadlineError) (later : Report) (old mid new : Work D L) (why : ReadlineError)
+      → Whole t o old mid (Ok (tt {0})) → All later mid new why → All (goes_on t o later) old new why
+  then_reads t (Ok text) later old mid new why w (inl r) = inl (record {
+    why_is = r.why_is;
+    history_is = r.history_is ∙ (ap (λ h. remembered adds later.accepted h) w.history_is ∙ remembered_more adds text later.accepted old.history);
+    drawn = Takes-then shows shown old.display mid.display new.display (line_bytes g.screen t) (display_bytes g.screen later) w.drawn r.drawn;
+    wrote =
+        let P : List ℕ → Type 0 = λ line. Takes writes written_in old.lines new.lines (line ++ lines_text later.accepted) in
+        subst P (append-nil (line_text text)) (Takes-then writes written_in old.lines mid.lines new.lines (lines_text (text ∷ [])) (lines_text later.accepted) w.wrote r.wrote);
+  })
+  then_reads t (Ok text) later old mid new why w (inr r) = inr (record {
+    cut = r.cut;
+    written = text ∷ r.written;
+    in_hand = r.in_hand;
+    others = r.others;
+    first = ap (λ lines. text ∷ lines) r.first;
+    one = r.one;
+    torn = r.torn;
+    more = r.more;
+    part = r.part;
+    wrote =
+        let P : List ℕ → Type 0 = Takes writes written_in old.lines new.lines in
+        let Q : List ℕ → Type 0 = λ line. P (line ++ (lines_text r.written ++ r.torn)) in
+        subst P (sym (append_assoc (line_text text) (lines_text r.written) r.torn))
+        (subst Q (append-nil (line_text text)) (Takes-then writes written_in old.lines mid.lines new.lines (lines_text (text ∷ [])) (lines_text r.written ++ r.torn) w.wrote r.wrote));
+    whole = r.whole;
+    history_is = r.history_is ∙ (ap (λ h. remembered adds (r.written ++ r.in_hand) h) w.history_is ∙ remembered_more adds text (r.written ++ r.in_hand) old.history);
+  })
+  then_reads t (Err e) later old mid new why w r = absurd (ok_not_err (tt {0}) e w.result_is)
+
+  -- the line that ends the session
+  ends_reads : (t : Told) (o : Result (List ℕ) ReadlineError) (later : Report) (old new : Work D L) (e : ReadlineError)
+      → Whole t o old new (Err e) → All (goes_on t o later) old new e
+  ends_reads t (Ok text) later old new e w = absurd (ok_not_err (tt {0}) e (sym w.result_is))
+  ends_reads t (Err d) later old new e w = inl (record {
+    why_is = fault_by (Err e) e d refl w.result_is;
+    history_is = w.history_is ∙ sym (remembered_none adds old.history);
+    drawn = let P : List ℕ → Type 0 = Takes shows shown old.display new.display in subst P (sym (append-nil (line_bytes g.screen t))) w.drawn;
+    wrote = w.wrote;
+  })
+
+  -- a line that a fault cut off
+  cut_reads : (t : Told) (o : Result (List ℕ) ReadlineError) (later : Report) (old new : Work D L) (e : ReadlineError)
+      → Cut o old new (Err e) → All (goes_on t o later) old new e
+  cut_reads t (Ok text) later old new e c =
+      let same : e ≡ c.fault = fault_by (Err e) e c.fault refl c.result_is in
+      inr (record {
+        cut = let P : ReadlineError → Type 0 = CutsBy steady in subst P (sym same) c.cut;
+        written = [];
+        in_hand = c.in_hand;
+        others = c.others ++ later.accepted;
+        first = ap (λ lines. lines ++ later.accepted) c.first ∙ append_assoc c.in_hand c.others later.accepted;
+        one = at_most_one text c.in_hand c.others c.first;
+        torn = c.torn;
+        more = c.more;
+        part = c.part;
+        wrote = c.wrote;
+        whole = λ other. c.whole (λ lines. other (same ∙ lines));
+        history_is = c.history_is;
+      })
+  cut_reads t (Err d) later old new e c =
+      let same : e ≡ c.fault = fault_by (Err e) e c.fault refl c.result_is in
+      inr (record {
+        cut = let P : ReadlineError → Type 0 = CutsBy steady in subst P (sym same) c.cut;
+        written = [];
+        in_hand = c.in_hand;
+        others = c.others;
+        first = c.first;
+        one = none_at_all c.in_hand c.others c.first;
+        torn = c.torn;
+        more = c.more;
+        part = c.part;
+        wrote = c.wrote;
+        whole = λ other. c.whole (λ lines. other (same ∙ lines));
+        history_is = c.history_is;
+      })
+
+lower : (a b m : ℕ) → a < b → b < suc m → a < m
+lower a b m less below = search arith
+
+-- ---- the loop
+
+-- lines were taken: what is read, drawn, kept and written from here on is, with them, what is so from the first desk on
+pub record Onward {S H D L : Type 0} (k : Known S D L) (g g' : Given) (first now : Desk S H D L) : Type 0 where
+  pub told : IsTrue (feed_of k first).told → IsTrue (feed_of k now).told
+  pub steady : (feed_of k now).steady ≡ (feed_of k first).steady
+  pub given : IsTrue (feed_of k first).told → g' ≡ g
+  pub custom : g'.custom ≡ g.custom
+  pub onward : IsTrue (feed_of k first).told → (n : ℕ) → (feed_of k first).bound < n → (m : ℕ) × ((feed_of k now).bound < m)
+      × ((end : Work D L) (why : ReadlineError)
+      → Reads k.shows k.shown k.writes k.written_in g (feed_of k first).steady (session m g (standing_of k now)) (work_of k now) end why
+      → Reads k.shows k.shown k.writes k.written_in g (feed_of k first).steady (session n g (standing_of k first)) (work_of k first) end why)
+
+module _ {S H D L : Type 0} (k : Known S D L) where
+  pub onward_nowhere : (g : Given) (d : Desk S H D L) → Onward k g g d d
+  onward_nowhere g d = record {
+    told = λ t. t;
+    steady = refl;
+    given = λ t. refl;
+    custom = refl;
+    onward = λ t n b. (n, b, λ end why r. r);
+  }
+
+  abbrev At : Given → Bool → ℕ → Desk S H D L → Work D L → ReadlineError → Type 0
+  At g steady n d end why = Reads k.shows k.shown k.writes k.written_in g steady (session n g (standing_of k d)) (work_of k d) end why
+
+  -- a line that was accepted
+  line_on : (g : Given) (n : ℕ) (now next : Desk S H D L) → Lined k g (line_in (suc n) g (standing_of k now)) now next (Ok (tt {0}))
+      → (end : Work D L) (why : ReadlineError) → At g (feed_of k now).steady n next end why → At g (feed_of k now).steady (suc n) now end why
+  line_on g n now next (inl w) end why r =
+      let t = line_in (suc n) g (standing_of k now) in
+      let R : Report → Type 0 = λ report. Reads k.shows k.shown k.writes k.written_in g (feed_of k now).steady report (work_of k next) end why in
+      let X : Standing → Type 0 = λ x. R (session n g x) in
+      let Q : Report → Type 0 = λ report. Reads k.shows k.shown k.writes k.written_in g (feed_of k now).steady report (work_of k now) end why in
+      subst Q (sym (session_step n g (standing_of k now)))
+      (then_reads k.shows k.shown k.writes k.written_in g (feed_of k now).steady t t.outcome (session n g (after_line g t (standing_of k now)))
+      (work_of k now) (work_of k next) end why w.0 (subst X w.1 r))
+  line_on g n now next (inr c) end why r = absurd (ok_not_err (tt {0}) c.fault c.result_is)
+
+  -- a line that wasn't
+  line_off : (g : Given) (n : ℕ) (now next : Desk S H D L) (e : ReadlineError) → Lined k g (line_in (suc n) g (standing_of k now)) now next (Err e)
+      → At g (feed_of k now).steady (suc n) now (work_of k next) e
+  line_off g n now next e lined =
+      let Q : Report → Type 0 = λ report. Reads k.shows k.shown k.writes k.written_in g (feed_of k now).steady report (work_of k now) (work_of k next) e in
+      subst Q (sym (session_step n g (standing_of k now))) (by_cases lined)
+    where
+      by_cases : Lined k g (line_in (suc n) g (standing_of k now)) now next (Err e)
+          → Reads k.shows k.shown k.writes k.written_in g (feed_of k now).steady
+          (goes_on (line_in (suc n) g (standing_of k now)) (line_in (suc n) g (standing_of k now)).outcome
+          (session n g (after_line g (line_in (suc n) g (standing_of k now)) (standing_of k now)))) (work_of k now) (work_of k next) e
+      by_cases (inl w) = ends_reads k.shows k.shown k.writes k.written_in g (feed_of k now).steady _ _ _ (work_of k now) (work_of k next) e w.0
+      by_cases (inr c) = cut_reads k.shows k.shown k.writes k.written_in g (feed_of k now).steady _ _ _ (work_of k now) (work_of k next) e c
+
+  pub onward_line : (g g' g'' : Given) (first now next : Desk S H D L) → Onward k g g' first now
+      → TakesLine k g' g'' now next (Ok (tt {0})) → Onward k g g'' first next
+  onward_line g g' g'' first now next before line = record {
+    told = λ t. line.told (before.told t);
+    steady = line.steady ∙ before.steady;
+    given = λ t. line.given (before.told t) ∙ before.given t;
+    custom = line.custom ∙ before.custom;
+    onward = λ t n b. let so = before.onward t n b in went t so.0 so.1 so.2;
+  }
+    where
+      went : IsTrue (feed_of k first).told → (m : ℕ) → (feed_of k now).bound < m
+          → {Q : Work D L → ReadlineError → Type 0} → ((end : Work D L) (why : ReadlineError) → At g (feed_of k first).steady m now end why → Q end why)
+          → (m' : ℕ) × ((feed_of k next).bound < m') × ((end : Work D L) (why : ReadlineError) → At g (feed_of k first).steady m' next end why → Q end why)
+      went t zero b so = absurd (search arith)
+      went t (suc m) b {Q} so =
+          let lined : Lined k g (line_in (suc m) g (standing_of k now)) now next (Ok (tt {0})) =
+          let P : Given → Type 0 = λ g. Lined k g (line_in (suc m) g (standing_of k now)) now next (Ok (tt {0})) in
+          subst P (before.given t) (line.goes (before.told t) (suc m) b) in
+          (m, lower (feed_of k next).bound (feed_of k now).bound m line.falls b,
+          λ end why r.
+          let R : Bool → Type 0 = λ steady. At g steady m next end why → At g steady (suc m) now end why in
+          so end why (subst R before.steady (line_on g m now next lined end why) r))
+
+  pub onward_end : (g g' g'' : Given) (first now next : Desk S H D L) (e : ReadlineError) → Onward k g g' first now → TakesLine k g' g'' now next (Err e)
+      → TakesLines k g first next e
+  onward_end g g' g'' first now next e before line = record {
+    goes = λ t n b. let so = before.onward t n b in ends t so.0 so.1 (so.2 (work_of k next) e);
+    reason = reason_kept e line.reason;
+  }
+    where
+      ends : IsTrue (feed_of k first).told → (m : ℕ) → (feed_of k now).bound < m → {Q : Type 0} → (At g (feed_of k first).steady m now (work_of k next) e → Q) → Q
+      ends t zero b so = absurd (search arith)
+      ends t (suc m) b so =
+          let P : Given → Type 0 = λ g. Lined k g (line_in (suc m) g (standing_of k now)) now next (Err e) in
+          let lined = subst P (before.given t) (line.goes (before.told t) (suc m) b) in
+          let R : Bool → Type 0 = λ steady. At g steady (suc m) now (work_of k next) e in
+          so (subst R before.steady (line_off g m now next e lined))
+
+      reason_kept : (e : ReadlineError) → DeskReason k (feed_of k now).told g' next e → DeskReason k (feed_of k first).told g next e
+      reason_kept Eof r = tt
+      reason_kept Interrupted r = tt
+      reason_kept NotUtf8 r = tt
+      reason_kept PasteOutOfPlace r = tt
+      reason_kept Reader r = r
+      reason_kept Display r = r
+      reason_kept Lines r = r
+      reason_kept HistoryText r = r
+      reason_kept Helper r = λ t. let fails = r (before.told t) in
+          let P : Given → Type 0 = λ g. HelperFails g.helping fails.0 in (fails.0, subst P (before.given t) fails.1)
+      reason_kept Handler r = subst HandlerFails before.custom r
+      reason_kept Memory r = tt
+
+  -- the same by what the line answered
+  pub onward_ok : (g g' g'' : Given) (first now next : Desk S H D L) (result : Result (Unit {0}) ReadlineError) (u : Unit {0}) → result ≡ Ok u → Onward k g g' first now
+      → TakesLine k g' g'' now next result → Onward k g g'' first next
+  onward_ok g g' g'' first now next result u is before line =
+      let P : Result (Unit {0}) ReadlineError → Type 0 = λ result. TakesLine k g' g'' now next result in
+      onward_line g g' g'' first now next before (subst P is line)
+
+  pub onward_err : (g g' g'' : Given) (first now next : Desk S H D L) (result : Result (Unit {0}) ReadlineError) (e : ReadlineError) → result ≡ Err e → Onward k g g' first now
+      → TakesLine k g' g'' now next result → TakesLines k g first next e
+  onward_err g g' g'' first now next result e is before line =
+      let P : Result (Unit {0}) ReadlineError → Type 0 = λ result. TakesLine k g' g'' now next result in
+      onward_end g g' g'' first now next e before (subst P is line)

@@ -1,0 +1,336 @@
+-- A redraw leads from what is shown before it to what is to be shown after it.
+use Rattle.std.proofs.Common.{◌≡◌, ◌≢◌, ℕ, ◌+◌, ◌==◌, ◌&&◌, not, ◌^◌, ◌<◌, ◌≤◌, inl, inr, nat_lt, nat_le, Bool, true, false, List, [], ◌∷◌, ◌++◌, take, length, length-append, Option, Some, None, is_some, encode_utf8, refl, sym, ap, ◌∙◌, subst, append_assoc, append-nil, arith, if◌then◌else◌}
+use Rattle.std.specs.List.{list_all, filter, flat_map, FoldsTo}
+use Rattle.std.proofs.lemmas.Bool.{and_parts, and_from, eqb-true, lt-ltb, ltb-true}
+use Rattle.std.proofs.lemmas.Bool.Decides.{nat_tests}
+use Rattle.std.proofs.lemmas.Str.{encode_ascii}
+use Rattle.line_buffer.specs.Cells.{origin}
+use Rattle.line_buffer.specs.Short.{is_printable}
+use Rattle.line_buffer.specs.declared.layout.Layout.{Layout}
+use Rattle.line_buffer.specs.declared.layout.Position.{Position}
+use Rattle.line_editor.specs.Calls.{Call}
+use Rattle.line_editor.specs.Calls.Call.{Draw, Move, Write, Beep, ClearScreen, ClearToEol}
+use Rattle.line_editor.specs.Redraws.{Redraw, text_of, fresh, layout_of, full, same_cell, nothing_asked, moved_by_call, column_on, column_back, typed_short, taken_short, may_type, may_take, one}
+use Rattle.line_editor.specs.Redraws.Redraw.{Drawn, Moved, Typed, Taken, Bared, ToEnd, Beeped, Cleared}
+use Rattle.line_editor.specs.Sights.{Sight, sight_with, sight_as, no_sight, sight, ended_sight, TypedFits, TakenFits, Fits}
+use Rattle.line_screen.specs.Calls.{Screen, bytes_of, ruler_of}
+use Rattle.line_screen.specs.Chain.{View, Good, Inside, Leads, empty_at, Types}
+use Rattle.line_screen.specs.Display.{Placed, right}
+use Rattle.line_screen.specs.Drawing.{row_break, text_items, after}
+use Rattle.line_screen.specs.Laws.{widths}
+use Rattle.line_screen.specs.Measure.{measure_of, saturated}
+use Rattle.line_screen.specs.Showing.{Picture, finish_of, cursor_of, above}
+use Rattle.line_screen.proofs.Fitting.{drawable}
+use Rattle.line_screen.proofs.LawLemmas.{calls_lead, place_is_free, measures_go_on}
+use Rattle.line_screen.proofs.Leading.{line_items, line_cursor, over_again}
+use Rattle.line_screen.proofs.ListLemmas.{filter_none, list_all_true}
+use Rattle.line_screen.proofs.ShortLemmas.{typing_leads, killing_leads}
+use Rattle.keyline.specs.Shows.{picture, place_in, Low, top_by, above_by}
+
+abbrev pub view_in : Screen → ℕ → Sight → View
+view_in s top x = record { shown = picture x; top = top; place = place_in s x }
+
+-- the bytes so far show what is to be seen, and the layout that is kept tells where its cursor and its end are, whether
+-- information stands, and whether its prompt is the session's own
+pub record Holds (s : Screen) (bytes : List ℕ) (over : List Placed) (top : ℕ) (l : Layout) (x : Sight) : Type 0 where
+  pub good : Good s.columns (widths s) bytes over (view_in s top x)
+  pub cursor : l.cursor ≡ place_in s x
+  pub finish : l.end ≡ finish_of s.columns (widths s) (picture x)
+  pub prompt_size : l.prompt_size ≡ measure_of s.mode s.columns x.prompt origin
+  pub info_is : l.has_info ≡ is_some x.info
+  pub given_is : l.default_prompt ≡ x.given
+
+same_if : (a b : Position) → same_cell a b ≡ true → a ≡ b
+same_if a b h =
+    let parts = and_parts (a.col == b.col) (a.row == b.row) h in
+    ap (λ c. let p : Position = record { col = c; row = a.row } in p) (eqb-true a.col b.col parts.0) ∙ ap (λ r. let p : Position = record { col = b.col; row = r } in p) (eqb-true a.row b.row parts.1)
+
+not_true : (b : Bool) → not b ≡ true → b ≡ false
+not_true true h = sym h
+not_true false h = refl
+
+no_text : (info : Option (List ℕ)) → is_some info ≡ false → text_of info ≡ []
+no_text None h = refl
+no_text (Some x) h = cc
+
+not_break : (c : ℕ) → c ∷ [] ≡ row_break → ⊥
+not_break c h = let n = ap length h in absurd (omega arith)
+
+small : (c : ℕ) → is_printable c ≡ true → c < 128
+small c h = let parts = and_parts (nat_le 32 c) (nat_lt c 127) h in let k = ltb-true c 127 parts.1 in omega arith
+
+not_above_first : (p : Placed) → not (above 0 p) ≡ true
+not_above_first p = grind (arith, nat_tests)
+
+none_above_first : (xs : List Placed) → filter (above 0) xs ≡ []
+none_above_first xs = filter_none (above 0) xs (list_all_true (λ p. not (above 0 p)) not_above_first xs)
+
+module _ (s : Screen) (low : 2 ≤ s.columns) (high : s.columns ≤ 1000) where
+  some : 1 ≤ s.columns
+  some = omega arith
+
+  few : s.columns < 2 ^ 64
+  few = omega arith
+
+  -- ---- a call after the bytes so far
+
+  -- the rows above are the same
+  led : (bytes : List ℕ) (over : List Placed) (a b : View) (call : Call) → Good s.columns (widths s) bytes over a → Leads s.columns (widths s) a call b
+      → b.top ≡ a.top → call ≢ ClearScreen → Good s.columns (widths s) (bytes ++ bytes_of s call) over b
+  led bytes over a b call g h top other =
+      let done = calls_lead s low high bytes over a b call g h in
+      let next = done.0 in
+      let same : next ≡ over = sym (over_again s.columns (widths s) (bytes ++ bytes_of s call) next b done.1) ∙ ap (λ t. filter (above t) next) top ∙ done.2 other in
+      subst (λ xs. Good s.columns (widths s) (bytes ++ bytes_of s call) xs b) same done.1
+
+  bytes_one : (bytes : List ℕ) (call : Call) → bytes ++ bytes_of s call ≡ bytes ++ flat_map (bytes_of s) (call ∷ [])
+  bytes_one bytes call = ap (λ x. bytes ++ x) (sym (append-nil (bytes_of s call)))
+
+  one_led : (bytes : List ℕ) (over : List Placed) (a b : View) (call : Call) → Good s.columns (widths s) bytes over a → Leads s.columns (widths s) a call b
+      → b.top ≡ a.top → call ≢ ClearScreen → Good s.columns (widths s) (bytes ++ flat_map (bytes_of s) (call ∷ [])) over b
+  one_led bytes over a b call g h top other = subst (λ x. Good s.columns (widths s) x over b) (bytes_one bytes call) (led bytes over a b call g h top other)
+
+  none_led : (bytes : List ℕ) (over : List Placed) (a : View) → Good s.columns (widths s) bytes over a → Good s.columns (widths s) (bytes ++ flat_map (bytes_of s) []) over a
+  none_led bytes over a g = subst (λ x. Good s.columns (widths s) x over a) (sym (append-nil bytes)) g
+
+  cleared_led : (bytes : List ℕ) (over : List Placed) (a : View) → Good s.columns (widths s) bytes over a → Good s.columns (widths s) (bytes ++ flat_map (bytes_of s) (ClearScreen ∷ [])) [] (empty_at 0)
+  cleared_led bytes over a g =
+      let done = calls_lead s low high bytes over a (empty_at 0) ClearScreen g refl in
+      let good = done.1 in
+      let none : done.0 ≡ [] = sym good.over_is ∙ none_above_first good.display.placed in
+      subst (λ x. Good s.columns (widths s) x [] (empty_at 0)) (bytes_one bytes ClearScreen) (subst (λ xs. Good s.columns (widths s) (bytes ++ bytes_of s ClearScreen) xs (empty_at 0)) none good)
+
+  -- ---- measures
+
+  inside_cursor : (x : Sight) → Low s x → Inside s.columns (cursor_of s.columns (widths s) (picture x))
+  inside_cursor x h = let a = h.cursor in let b = h.finish in (drawable s.mode s.columns some (picture x) (omega arith) (omega arith)).cursor
+
+  inside_finish : (x : Sight) → Low s x → Inside s.columns (finish_of s.columns (widths s) (picture x))
+  inside_finish x h = let a = h.cursor in let b = h.finish in (drawable s.mode s.columns some (picture x) (omega arith) (omega arith)).finish
+
+  nothing_measured : measure_of s.mode s.columns [] origin ≡ origin
+  nothing_measured = ap (λ b. saturated (after s.columns (text_items (widths s) []) (if b then origin else record { col = 0; row = 1 }))) (lt-ltb 0 s.columns some)
+
+  -- ---- a full drawing, over anything that is shown, with any layout whose cursor is the display's
+
+  drawn_holds : (bytes : List ℕ) (over : List Placed) (top : ℕ) (l : Layout) (x : Sight) (prompt : List ℕ) (given : Bool) (text : List ℕ) (at : ℕ) (info : Option (List ℕ))
+      → Good s.columns (widths s) bytes over (view_in s top x) → l.cursor ≡ place_in s x → Low s (sight_with given prompt text at info)
+      → (let a = full (ruler_of s) l prompt given text at info in Holds s (bytes ++ flat_map (bytes_of s) a.calls) over top a.layout (sight_with given prompt text at info))
+  drawn_holds bytes over top l x prompt given text at info g cursor rows =
+      let y = sight_with given prompt text at info in
+      let new = layout_of (ruler_of s) (measure_of s.mode s.columns prompt origin) given text at info in
+      let measured = measures_go_on s some (picture y) in
+      let cursor_is : new.cursor ≡ cursor_of s.columns (widths s) (picture y) = measured.0 rows.cursor in
+      let finish_is : new.end ≡ finish_of s.columns (widths s) (picture y) = measured.1 rows.finish in
+      let a = rows.cursor in
+      let b = rows.finish in
+      let row_a = ap (λ p. p.row) cursor_is in
+      let row_b = ap (λ p. p.row) finish_is in
+      record {
+        good = one_led bytes over (view_in s top x) (view_in s top y) (Draw (Some l.cursor.row) prompt text (text_of info) new.end new.cursor) g
+            (ap (λ p. p.row) cursor, record { prompt_is = refl; line_is = refl; info_is = refl; finish_is = finish_is; cursor_is = cursor_is; top_is = refl; place_is = sym cursor_is; finish_row = omega arith; cursor_row = omega arith })
+            refl (λ e. cc);
+        cursor = cursor_is;
+        finish = finish_is;
+        prompt_size = refl;
+        info_is = refl;
+        given_is = refl;
+      }
+
+  -- ---- moves
+
+  moved_if : (bytes : List ℕ) (over : List Placed) (top : ℕ) (l : Layout) (x : Sight) (at : ℕ) (cursor : Position) (b : Bool) → Holds s bytes over top l x
+      → (let y = sight_with x.given x.prompt x.line at x.info in
+      cursor ≡ cursor_of s.columns (widths s) (picture y) → Low s y → same_cell l.cursor cursor ≡ b
+      → (let a = if b then nothing_asked l else moved_by_call l cursor in Holds s (bytes ++ flat_map (bytes_of s) a.calls) over top a.layout y))
+  moved_if bytes over top l x at cursor true h is rows e =
+      let y = sight_with x.given x.prompt x.line at x.info in
+      let here : place_in s x ≡ cursor_of s.columns (widths s) (picture y) = sym h.cursor ∙ same_if l.cursor cursor e ∙ is in
+      record {
+        good = subst (λ p. Good s.columns (widths s) (bytes ++ []) over (record { shown = picture y; top = top; place = p })) here (place_is_free s (bytes ++ []) over (view_in s top x) at (none_led bytes over (view_in s top x) h.good));
+        cursor = h.cursor ∙ here;
+        finish = h.finish;
+        prompt_size = h.prompt_size;
+        info_is = h.info_is;
+        given_is = h.given_is;
+      }
+  moved_if bytes over top l x at cursor false h is rows e =
+      let y = sight_with x.given x.prompt x.line at x.info in
+      let there : View = record { shown = picture y; top = top; place = cursor } in
+      let inside : Inside s.columns cursor = subst (Inside s.columns) (sym is) (inside_cursor y rows) in
+      let new = bytes ++ flat_map (bytes_of s) (Move l.cursor cursor ∷ []) in
+      let good = one_led bytes over (view_in s top x) there (Move l.cursor cursor) h.good (record { old_is = h.cursor; inside = inside; at = at; view = refl }) refl (λ e. cc) in
+      record {
+        good = subst (λ p. Good s.columns (widths s) new over (record { shown = picture y; top = top; place = p })) is good;
+        cursor = is;
+        finish = h.finish;
+        prompt_size = h.prompt_size;
+        info_is = h.info_is;
+        given_is = h.given_is;
+      }
+
+  end_if : (bytes : List ℕ) (over : List Placed) (top : ℕ) (l : Layout) (x : Sight) (b : Bool) → Holds s bytes over top l x → Low s x → same_cell l.cursor l.end ≡ b
+      → (let a = if b then nothing_asked l else moved_by_call l l.end in Holds s (bytes ++ flat_map (bytes_of s) a.calls) over top a.layout (ended_sight x))
+  end_if bytes over top l x true h rows e =
+      let here : place_in s x ≡ finish_of s.columns (widths s) (picture x) = sym h.cursor ∙ same_if l.cursor l.end e ∙ h.finish in
+      record {
+        good = subst (λ p. Good s.columns (widths s) (bytes ++ []) over (record { shown = picture x; top = top; place = p })) here (none_led bytes over (view_in s top x) h.good);
+        cursor = h.cursor ∙ here;
+        finish = h.finish;
+        prompt_size = h.prompt_size;
+        info_is = h.info_is;
+        given_is = h.given_is;
+      }
+  end_if bytes over top l x false h rows e =
+      let there : View = record { shown = picture x; top = top; place = l.end } in
+      let inside : Inside s.columns l.end = subst (Inside s.columns) (sym h.finish) (inside_finish x rows) in
+      let new = bytes ++ flat_map (bytes_of s) (Move l.cursor l.end ∷ []) in
+      let good = one_led bytes over (view_in s top x) there (Move l.cursor l.end) h.good (record { old_is = h.cursor; inside = inside; at = x.place; view = refl }) refl (λ e. cc) in
+      record {
+        good = subst (λ p. Good s.columns (widths s) new over (record { shown = picture x; top = top; place = p })) h.finish good;
+        cursor = h.finish;
+        finish = h.finish;
+        prompt_size = h.prompt_size;
+        info_is = h.info_is;
+        given_is = h.given_is;
+      }
+
+  -- ---- a typed character
+
+  place_if : (x : Sight) → x.ended ≡ false → place_in s x ≡ cursor_of s.columns (widths s) (picture x)
+  place_if x e = ap (λ b. if b then finish_of s.columns (widths s) (picture x) else cursor_of s.columns (widths s) (picture x)) e
+
+  typed_place : (a b : View) (c : ℕ) → Leads s.columns (widths s) a (Write (c ∷ [])) b → b.place ≡ cursor_of s.columns (widths s) b.shown
+  typed_place a b c (inl t) = typed_at a b c t
+    where
+      typed_at : (a b : View) (c : ℕ) (t : Types s.columns (widths s) a (c ∷ []) b) → b.place ≡ cursor_of s.columns (widths s) b.shown
+      typed_at a b c t = ap (λ (x : View). x.place) t.view ∙ ap (λ (x : View). cursor_of s.columns (widths s) x.shown) (sym t.view)
+  typed_place a b c (inr t) = absurd (not_break c t.text_is)
+
+  -- nothing after a line, with the cursor at its end
+  end_is_cursor : (v : Picture) → v.info ≡ [] → v.place ≡ length v.line → finish_of s.columns (widths s) v ≡ cursor_of s.columns (widths s) v
+  end_is_cursor v none end = ap (λ is. after s.columns is origin) (line_items s.mode s.columns some few v none) ∙ sym (line_cursor s.mode s.columns some few v end)
+
+  typed_is : (x : Sight) (prompt : List ℕ) (c : ℕ) (text : List ℕ) (at : ℕ) → TypedFits x prompt c text at → sight_as prompt text at None ≡ sight_as x.prompt (x.line ++ c ∷ []) (x.place + 1) None
+  typed_is x prompt c text at t =
+      ap (λ p. sight_as p text at None) t.prompt_is ∙ ap (λ p. sight_as x.prompt p at None) t.text_is ∙ ap (λ n. sight_as x.prompt (x.line ++ c ∷ []) n None) t.behind
+
+  typed_if : (bytes : List ℕ) (over : List Placed) (top : ℕ) (l : Layout) (x : Sight) (prompt : List ℕ) (c : ℕ) (text : List ℕ) (at : ℕ) (b : Bool) → Holds s bytes over top l x
+      → x.given ≡ true → x.ended ≡ false → TypedFits x prompt c text at → Low s (sight_as prompt text at None) → may_type (ruler_of s) l ≡ b
+      → (let a = if b then typed_short l c else full (ruler_of s) l prompt true text at None in Holds s (bytes ++ flat_map (bytes_of s) a.calls) over top a.layout (sight_as prompt text at None))
+  typed_if bytes over top l x prompt c text at false h given unended t rows e = drawn_holds bytes over top l x prompt true text at None h.good h.cursor rows
+  typed_if bytes over top l x prompt c text at true h given unended t rows e =
+      let w = view_in s top x in
+      let parts = and_parts (not l.has_info) (nat_lt (l.cursor.col + 1) s.columns) e in
+      let none : text_of x.info ≡ [] = no_text x.info (sym h.info_is ∙ not_true l.has_info parts.0) in
+      let room : nat_lt (w.place.col + 1) s.columns ≡ true = subst (λ p. nat_lt (p.col + 1) s.columns ≡ true) h.cursor parts.1 in
+      let behind = ap (λ b. if b then Some (right 1 w.place) else None) (and_from (is_printable c) (nat_lt (w.place.col + 1) s.columns) t.printable room) in
+      let y = sight_as x.prompt (x.line ++ c ∷ []) (x.place + 1) None in
+      let there : View = record { shown = picture y; top = top; place = right 1 w.place } in
+      let leads = typing_leads s low high w c (right 1 w.place) (record { info = none; end = t.end; simple = t.simple; place_is = place_if x unended }) behind in
+      let plain = one_led bytes over w there (Write (c ∷ [])) h.good leads refl (λ e. cc) in
+      let new = bytes ++ flat_map (bytes_of s) (Write (encode_utf8 c) ∷ []) in
+      let good : Good s.columns (widths s) new over there =
+      subst (λ text. Good s.columns (widths s) (bytes ++ flat_map (bytes_of s) (Write text ∷ [])) over there) (sym (encode_ascii c (small c t.printable))) plain in
+      let place_is : right 1 w.place ≡ cursor_of s.columns (widths s) (picture y) = typed_place w there c leads in
+      let end : y.place ≡ length y.line = let count = length-append x.line (c ∷ []) in let last = t.end in omega arith in
+      let cursor_is : column_on l.cursor ≡ cursor_of s.columns (widths s) (picture y) = ap column_on h.cursor ∙ place_is in
+      let done : Holds s new over top (typed_short l c).layout y = record {
+        good = subst (λ p. Good s.columns (widths s) new over (record { shown = picture y; top = top; place = p })) place_is good;
+        cursor = cursor_is;
+        finish = cursor_is ∙ sym (end_is_cursor (picture y) refl end);
+        prompt_size = h.prompt_size;
+        info_is = not_true l.has_info parts.0;
+        given_is = h.given_is ∙ given;
+      } in
+      subst (Holds s new over top (typed_short l c).layout) (sym (typed_is x prompt c text at t)) done
+
+  -- ---- a kill at the line's end
+
+  two_led : (bytes : List ℕ) (over : List Placed) (a b : View) (old new : Position) → Good s.columns (widths s) bytes over a → FoldsTo (Leads s.columns (widths s)) a (Move old new ∷ ClearToEol ∷ []) b
+      → Good s.columns (widths s) (bytes ++ flat_map (bytes_of s) (Move old new ∷ ClearToEol ∷ [])) over b
+  two_led bytes over a b old new g f =
+      let m = f.1 in
+      let k = f.2.1 in
+      let first = led bytes over a f.0 (Move old new) g f.1 (ap (λ (x : View). x.top) m.view) (λ e. cc) in
+      let second = led (bytes ++ bytes_of s (Move old new)) over f.0 f.2.0 ClearToEol first f.2.1 (ap (λ (x : View). x.top) k.view) (λ e. cc) in
+      let joined : (bytes ++ bytes_of s (Move old new)) ++ bytes_of s ClearToEol ≡ bytes ++ flat_map (bytes_of s) (Move old new ∷ ClearToEol ∷ []) =
+      append_assoc bytes (bytes_of s (Move old new)) (bytes_of s ClearToEol) ∙ ap (λ x. bytes ++ (bytes_of s (Move old new) ++ x)) (sym (append-nil (bytes_of s ClearToEol))) in
+      subst (λ x. Good s.columns (widths s) x over b) joined (subst (Good s.columns (widths s) ((bytes ++ bytes_of s (Move old new)) ++ bytes_of s ClearToEol) over) f.2.2 second)
+
+  killed_place : (a b : View) (old new : Position) → FoldsTo (Leads s.columns (widths s)) a (Move old new ∷ ClearToEol ∷ []) b → b.place ≡ cursor_of s.columns (widths s) b.shown
+  killed_place a b old new f =
+      let k = f.2.1 in
+      ap (λ (x : View). x.place) (sym f.2.2) ∙ ap (λ (x : View). x.place) k.view ∙ k.place_is
+      ∙ ap (λ (x : View). cursor_of s.columns (widths s) x.shown) (sym k.view) ∙ ap (λ (x : View). cursor_of s.columns (widths s) x.shown) f.2.2
+
+  taken_is : (x : Sight) (prompt : List ℕ) (count : ℕ) (text : List ℕ) (at : ℕ) → TakenFits x prompt count text at → sight_as prompt text at None ≡ sight_as x.prompt text (length text) None
+  taken_is x prompt count text at t = ap (λ p. sight_as p text at None) t.prompt_is ∙ ap (λ n. sight_as x.prompt text n None) t.end
+
+  taken_if : (bytes : List ℕ) (over : List Placed) (top : ℕ) (l : Layout) (x : Sight) (prompt : List ℕ) (count : ℕ) (text : List ℕ) (at : ℕ) (b : Bool) → Holds s bytes over top l x
+      → x.given ≡ true → TakenFits x prompt count text at → Low s (sight_as prompt text at None) → may_take l count ≡ b
+      → (let a = if b then taken_short l count else full (ruler_of s) l prompt true text at None in Holds s (bytes ++ flat_map (bytes_of s) a.calls) over top a.layout (sight_as prompt text at None))
+  taken_if bytes over top l x prompt count text at false h given t rows e = drawn_holds bytes over top l x prompt true text at None h.good h.cursor rows
+  taken_if bytes over top l x prompt count text at true h given t rows e =
+      let w = view_in s top x in
+      let parts = and_parts (not l.has_info) ((l.cursor.row == l.end.row) && nat_le count l.end.col) e in
+      let both = and_parts (l.cursor.row == l.end.row) (nat_le count l.end.col) parts.1 in
+      let none : text_of x.info ≡ [] = no_text x.info (sym h.info_is ∙ not_true l.has_info parts.0) in
+      let finish = finish_of s.columns (widths s) (picture x) in
+      let n = length t.killed in
+      let row : w.place.row ≡ finish.row = ap (λ p. p.row) (sym h.cursor) ∙ eqb-true l.cursor.row l.end.row both.0 ∙ ap (λ p. p.row) h.finish in
+      let fits : nat_le n finish.col ≡ true = subst (λ k. nat_le k finish.col ≡ true) t.count_is (subst (λ p. nat_le count p.col ≡ true) h.finish both.1) in
+      let to = column_back n finish in
+      let known : (if list_all is_printable t.killed && nat_le n finish.col then Some to else None) ≡ Some to = ap (λ b. if b then Some to else None) (and_from (list_all is_printable t.killed) (nat_le n finish.col) t.printable fits) in
+      let y = sight_as x.prompt text (length text) None in
+      let there : View = record { shown = picture y; top = top; place = to } in
+      let leads = killing_leads s low high w text t.killed to t.whole none t.simple h.good.inside row known in
+      let good = two_led bytes over w there w.place to h.good leads in
+      let place_is : to ≡ cursor_of s.columns (widths s) (picture y) = killed_place w there w.place to leads in
+      let back : column_back count l.end ≡ to = ap (λ k. column_back k l.end) t.count_is ∙ ap (column_back n) h.finish in
+      let new = bytes ++ flat_map (bytes_of s) (Move l.cursor (column_back count l.end) ∷ ClearToEol ∷ []) in
+      let same : bytes ++ flat_map (bytes_of s) (Move w.place to ∷ ClearToEol ∷ []) ≡ new =
+      ap (λ p. bytes ++ flat_map (bytes_of s) (Move p to ∷ ClearToEol ∷ [])) (sym h.cursor) ∙ ap (λ p. bytes ++ flat_map (bytes_of s) (Move l.cursor p ∷ ClearToEol ∷ [])) (sym back) in
+      let cursor_is : column_back count l.end ≡ cursor_of s.columns (widths s) (picture y) = back ∙ place_is in
+      let done : Holds s new over top (taken_short l count).layout y = record {
+        good = subst (λ p. Good s.columns (widths s) new over (record { shown = picture y; top = top; place = p })) place_is (subst (λ b. Good s.columns (widths s) b over there) same good);
+        cursor = cursor_is;
+        finish = cursor_is ∙ sym (end_is_cursor (picture y) refl refl);
+        prompt_size = h.prompt_size;
+        info_is = not_true l.has_info parts.0;
+        given_is = h.given_is ∙ given;
+      } in
+      subst (Holds s new over top (taken_short l count).layout) (sym (taken_is x prompt count text at t)) done
+
+  -- ---- nothing is drawn where the session's own prompt stands
+
+  bared_if : (bytes : List ℕ) (over : List Placed) (top : ℕ) (l : Layout) (x : Sight) (prompt text : List ℕ) (at : ℕ) (b : Bool) → Holds s bytes over top l x → b ≡ true
+      → (let a = if b then nothing_asked l else full (ruler_of s) l prompt true text at None in Holds s (bytes ++ flat_map (bytes_of s) a.calls) over top a.layout x)
+  bared_if bytes over top l x prompt text at true h e =
+      record { good = none_led bytes over (view_in s top x) h.good; cursor = h.cursor; finish = h.finish; prompt_size = h.prompt_size; info_is = h.info_is; given_is = h.given_is }
+  bared_if bytes over top l x prompt text at false h e = cc
+
+  -- ---- before anything is drawn
+
+  pub fresh_holds : (bytes : List ℕ) (over : List Placed) (top : ℕ) (l : Layout) → Good s.columns (widths s) bytes over (empty_at top) → Holds s bytes over top (fresh l.grapheme_cluster_mode) no_sight
+  fresh_holds bytes over top l g = record { good = g; cursor = refl; finish = refl; prompt_size = sym nothing_measured; info_is = refl; given_is = refl }
+
+  -- ---- every redraw
+
+  pub step : (own bytes : List ℕ) (over : List Placed) (top : ℕ) (l : Layout) (x : Sight) (r : Redraw) → Holds s bytes over top l x → Fits own x r → Low s (sight x r)
+      → Holds s (bytes ++ flat_map (bytes_of s) (one (ruler_of s) l r).calls) (above_by r over) (top_by r top) (one (ruler_of s) l r).layout (sight x r)
+  step own bytes over top l x (Drawn prompt given text at info) h fits rows = drawn_holds bytes over top l x prompt given text at info h.good h.cursor rows
+  step own bytes over top l x (Moved text at) h fits rows =
+      let y = sight_with x.given x.prompt x.line at x.info in
+      let cursor = measure_of s.mode s.columns (take at text) l.prompt_size in
+      let measured = measures_go_on s some (picture y) in
+      let is : cursor ≡ cursor_of s.columns (widths s) (picture y) =
+      ap (measure_of s.mode s.columns (take at text)) h.prompt_size ∙ ap (λ t. measure_of s.mode s.columns (take at t) (measure_of s.mode s.columns x.prompt origin)) fits ∙ measured.0 rows.cursor in
+      moved_if bytes over top l x at cursor (same_cell l.cursor cursor) h is rows refl
+  step own bytes over top l x (Typed prompt c text at) h fits rows = typed_if bytes over top l x prompt c text at (may_type (ruler_of s) l) h fits.0 fits.2 fits.3 rows refl
+  step own bytes over top l x (Taken prompt count text at) h fits rows = taken_if bytes over top l x prompt count text at (may_take l count) h fits.0 fits.2 rows refl
+  step own bytes over top l x (Bared prompt text at) h fits rows = bared_if bytes over top l x prompt text at l.default_prompt h (h.given_is ∙ fits)
+  step own bytes over top l x ToEnd h fits rows = end_if bytes over top l x (same_cell l.cursor l.end) h (record { finish = rows.finish; cursor = rows.cursor }) refl
+  step own bytes over top l x Beeped h fits rows =
+      record { good = one_led bytes over (view_in s top x) (view_in s top x) Beep h.good refl refl (λ e. cc); cursor = h.cursor; finish = h.finish; prompt_size = h.prompt_size; info_is = h.info_is; given_is = h.given_is }
+  step own bytes over top l x Cleared h fits rows = fresh_holds (bytes ++ flat_map (bytes_of s) (ClearScreen ∷ [])) [] 0 l (cleared_led bytes over (view_in s top x) h.good)

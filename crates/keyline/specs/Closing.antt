@@ -1,0 +1,39 @@
+-- What the end of a line makes of a session's devices and history.
+use Rattle.std.specs.Prelude.{◌≡◌, ◌⊎◌, ℕ, Bool, true, List, ◌++◌, Result, Err, IsTrue, IfErr, OnOk, OnErr}
+use Rattle.line_config.specs.declared.errors.ReadlineError.{ReadlineError}
+use Rattle.line_config.specs.declared.errors.ReadlineError.TheVariants.{Display, Lines, Memory}
+use Rattle.line_config.specs.Sending.{Takes}
+use Rattle.line_help.specs.History.{Filed}
+use Rattle.line_screen.specs.Drawing.{break_if}
+use Rattle.keyline.specs.Calls.{TakesSome}
+use Rattle.keyline.specs.Playing.{Work, LineWhole, LineCut}
+use Rattle.keyline.specs.Sessions.{breaks}
+
+abbrev pub work : {D L : Type 0} → D → L → Filed → Work D L
+work display lines history = record { display = display; lines = lines; history = history }
+
+-- a line's text was written; or the sink has failed, and has taken a beginning of it
+pub record WritesLine {L A : Type 0} (told : L → Bool) (held : L → List ℕ) (failed : L → Bool)
+    (bytes : List ℕ) (old new : L) (result : Result A ReadlineError) : Type 0 where
+  pub sent : OnOk result (Takes told held old new bytes)
+  pub torn : OnErr result (TakesSome told held old new bytes)
+  pub fault : IfErr result (λ e. (e ≡ Lines) × IsTrue (failed new))
+
+-- why the end of a line is refused: as the line was, or by a device that has failed
+abbrev pub CloseReason : {A : Type 0} → Result A ReadlineError → Bool → Bool → Bool
+    → ReadlineError → Type 0
+CloseReason outcome was_failed display lines e =
+    ((outcome ≡ Err e) × (display ≡ was_failed))
+    ⊎ (((e ≡ Display) × IsTrue display) ⊎ (((e ≡ Lines) × IsTrue lines) ⊎ (e ≡ Memory)))
+
+-- an accepted line is drawn to its end, kept and written; after the endings that say so a new row
+-- is drawn
+pub record Closes {D L : Type 0} (shows : D → Bool) (shown : D → List ℕ) (show_failed : D → Bool)
+    (writes : L → Bool) (written_in : L → List ℕ) (write_failed : L → Bool) (adds : Bool)
+    (outcome : Result (List ℕ) ReadlineError) (old new : Work D L)
+    (result : Result (Unit {0}) ReadlineError) : Type 0 where
+  pub goes : LineWhole shows shown writes written_in adds (break_if (breaks outcome)) outcome old new
+      result
+      ⊎ LineCut shows shown writes written_in adds true outcome old new result
+  pub reason : IfErr result (CloseReason outcome (show_failed old.display)
+      (show_failed new.display) (write_failed new.lines))

@@ -1,0 +1,76 @@
+-- What goes on from line to line, with its devices, and what a line makes of it.
+use Rattle.std.specs.Prelude.{◌≡◌, ◌⊎◌, ℕ, ◌<◌, Bool, List, Result, IsTrue, IfErr, OnOk}
+use Rattle.line_config.specs.Feed.{Feed as Bytes}
+use Rattle.line_config.specs.declared.errors.ReadlineError.{ReadlineError}
+use Rattle.line_keys.specs.Feeds.{Feed}
+use Rattle.line_editor.specs.Lines.{Told}
+use Rattle.line_screen.specs.Calls.{sink_of}
+use Rattle.line_screen.specs.Reader.{items_of, source_of}
+use Rattle.keyline.specs.Playing.{Work, Reason, LineWhole, LineCut, Reads}
+use Rattle.keyline.specs.Sessions.{Given, Standing, line_in, after_line, line_bytes, session}
+use Rattle.keyline.specs.declared.desk.Desk.{Desk}
+
+-- what is known of a source, a display and a sink of lines
+pub record Known (S D L : Type 0) : Type 0 where
+  pub feed : S → Bytes
+  pub shows : D → Bool
+  pub shown : D → List ℕ
+  pub show_failed : D → Bool
+  pub writes : L → Bool
+  pub written_in : L → List ℕ
+  pub write_failed : L → Bool
+
+abbrev pub known_by : {S D L : Type 0} → (S → Bytes) → (D → Bool) → (D → List ℕ) → (D → Bool)
+    → (L → Bool) → (L → List ℕ) → (L → Bool) → Known S D L
+known_by feed shows shown show_failed writes written_in write_failed = record {
+  feed = feed;
+  shows = shows;
+  shown = shown;
+  show_failed = show_failed;
+  writes = writes;
+  written_in = written_in;
+  write_failed = write_failed;
+}
+
+module _ {S H D L : Type 0} (k : Known S D L) where
+  abbrev pub feed_of : Desk S H D L → Feed
+  feed_of d = items_of k.feed d.reader
+
+  abbrev pub standing_of : Desk S H D L → Standing
+  standing_of d = record { ring = d.ring; history = d.history; coming = (feed_of d).coming }
+
+  abbrev pub work_of : Desk S H D L → Work D L
+  work_of d = record { display = sink_of d.out; lines = d.lines; history = d.history }
+
+  -- why no further line is read
+  abbrev pub DeskReason : Bool → Given → Desk S H D L → ReadlineError → Type 0
+  DeskReason told g d e = Reason told g (k.feed (source_of d.reader)).failed
+      (k.show_failed (sink_of d.out)) (k.write_failed d.lines) e
+
+  abbrev pub Lined : Given → Told → Desk S H D L → Desk S H D L → Result (Unit {0}) ReadlineError
+      → Type 0
+  Lined g t old new result =
+      (LineWhole k.shows k.shown k.writes k.written_in g.config.auto_add_history
+      (line_bytes g.screen t) t.outcome (work_of old) (work_of new) result
+      × (standing_of new ≡ after_line g t (standing_of old)))
+      ⊎ LineCut k.shows k.shown k.writes k.written_in g.config.auto_add_history
+      (feed_of old).steady t.outcome (work_of old) (work_of new) result
+
+  -- THE relation of a line
+  pub record TakesLine (g g' : Given) (old new : Desk S H D L)
+      (result : Result (Unit {0}) ReadlineError) : Type 0 where
+    pub goes : IsTrue (feed_of old).told → (n : ℕ) → (feed_of old).bound < n
+        → Lined g (line_in n g (standing_of old)) old new result
+    pub given : IsTrue (feed_of old).told → g' ≡ g
+    pub custom : g'.custom ≡ g.custom
+    pub told : IsTrue (feed_of old).told → IsTrue (feed_of new).told
+    pub steady : (feed_of new).steady ≡ (feed_of old).steady
+    pub falls : OnOk result ((feed_of new).bound < (feed_of old).bound)
+    pub reason : IfErr result (DeskReason (feed_of old).told g new)
+
+  -- THE relation of all lines
+  pub record TakesLines (g : Given) (old new : Desk S H D L) (why : ReadlineError) : Type 0 where
+    pub goes : IsTrue (feed_of old).told → (n : ℕ) → (feed_of old).bound < n
+        → Reads k.shows k.shown k.writes k.written_in g (feed_of old).steady
+        (session n g (standing_of old)) (work_of old) (work_of new) why
+    pub reason : DeskReason (feed_of old).told g new why

@@ -1,0 +1,56 @@
+-- Where a typed character costs its one byte.
+use Rattle.std.specs.Prelude.{◌≡◌, ℕ, ◌+◌, ◌<◌, true, false, List, [], ◌∷◌, length, is_some, Ok}
+use Rattle.std.specs.List.{list_all}
+use Rattle.line_buffer.specs.Insertions.{insert as insertion}
+use Rattle.line_buffer.specs.Short.{is_printable}
+use Rattle.line_buffer.specs.declared.layout.Layout.{Layout}
+use Rattle.line_keys.specs.Answers.{Custom}
+use Rattle.line_keys.specs.Coming.{Coming}
+use Rattle.line_keys.specs.Phrases.{Input}
+use Rattle.line_keys.specs.declared.command.Cmd.TheVariants.{SelfInsert}
+use Rattle.line_record.specs.Ring.{Ring}
+use Rattle.line_editor.specs.Inserting.{is_bare, insert_char}
+use Rattle.line_editor.specs.Lines.{phrase_enacted, turn_of}
+use Rattle.line_editor.specs.Redraws.{Redraw}
+use Rattle.line_editor.specs.Sights.{Sight, sight_all, FitsAll}
+use Rattle.line_editor.specs.Values.{Value, Setting, unchanged}
+use Rattle.line_screen.specs.Calls.{Screen}
+use Rattle.line_screen.specs.Chain.{is_simple}
+use Rattle.keyline.specs.Shows.{drawn_by, bytes_for}
+
+-- the layout that is kept tells whether information stands, and whether the session's own prompt
+pub record Tells (l : Layout) (x : Sight) : Type 0 where
+  pub info_is : l.has_info ≡ is_some x.info
+  pub given_is : l.default_prompt ≡ x.given
+
+-- and so after any redraws
+abbrev pub LayoutsTell : Type 0
+LayoutsTell =
+    (s : Screen) (own : List ℕ) (redraws : List Redraw) (l : Layout) (x : Sight)
+    → Tells l x → FitsAll own x redraws
+    → Tells (drawn_by s l redraws).layout (sight_all x redraws)
+
+-- printable ASCII at the end of a line of printable ASCII and newlines, with room, and with neither
+-- hint nor highlighted character before or after
+pub record TypedAtEnd (a : Setting) (v : Value) (c : ℕ) : Type 0 where
+  pub printable : is_printable c ≡ true
+  pub plain : list_all is_simple v.line.text ≡ true
+  pub end : v.line.place ≡ length v.line.text
+  pub room : is_some (insertion c 1 v.line).answer ≡ true
+  pub before : is_bare v ≡ true
+  pub after : is_bare (insert_char c 1 a v).value ≡ true
+
+-- the tables read it alone, with no count and nothing asked
+pub record ReadAlone (a : Setting) (custom : Custom) (input : Input) (v : Value) (coming : Coming)
+    (c : ℕ) : Type 0 where
+  pub answer : (phrase_enacted a custom input v coming).answer ≡ Ok (SelfInsert 1 c)
+  pub made : (phrase_enacted a custom input v coming).made ≡ unchanged a v
+
+-- where no information stands and it doesn't come into the last column, its turn sends its byte
+abbrev pub OneByte : Type 0
+OneByte =
+    (s : Screen) (l : Layout) (a : Setting) (custom : Custom) (indent : ℕ) (input : Input)
+    (r : Ring) (v : Value) (coming : Coming) (c : ℕ)
+    → ReadAlone a custom input v coming c → TypedAtEnd a v c
+    → l.has_info ≡ false → l.cursor.col + 1 < s.columns
+    → bytes_for s l (turn_of a custom indent input r v coming).made.redraws ≡ c ∷ []

@@ -1,0 +1,130 @@
+-- What a session makes of its devices and its history: all that the definition says, or a beginning
+-- of it.
+use Rattle.std.specs.Prelude.{◌≡◌, ◌⊎◌, ⊤, ℕ, ◌≤◌, Bool, true, false, List, [], ◌∷◌, ◌++◌, length, Result, Ok, Err, IsTrue, IsFalse}
+use Rattle.line_config.specs.declared.errors.ReadlineError.{ReadlineError}
+use Rattle.line_config.specs.declared.errors.ReadlineError.TheVariants.{Eof, Interrupted, NotUtf8, PasteOutOfPlace, Reader, Display, Lines, HistoryText, Helper, Handler, Memory}
+use Rattle.line_config.specs.Sending.{Takes}
+use Rattle.line_editor.specs.Running.{HelperFails}
+use Rattle.line_help.specs.History.{Filed, all_saved}
+use Rattle.line_help.specs.HistoryText.{text_to_save}
+use Rattle.line_keys.specs.Answers.{HandlerFails}
+use Rattle.line_keys.specs.Coming.{made_of}
+use Rattle.keyline.specs.Sessions.{Given, Report, remembered, history_after, lines_text, display_bytes}
+
+-- the faults that no input gives: a failure of a source that isn't steady is one
+abbrev pub CutsBy : Bool → ReadlineError → Type 0
+CutsBy steady Eof = ⊥
+CutsBy steady Interrupted = ⊥
+CutsBy steady NotUtf8 = ⊥
+CutsBy steady PasteOutOfPlace = ⊥
+CutsBy steady Reader = IsFalse steady
+CutsBy steady Display = ⊤
+CutsBy steady Lines = ⊤
+CutsBy steady HistoryText = ⊥
+CutsBy steady Helper = ⊤
+CutsBy steady Handler = ⊥
+CutsBy steady Memory = ⊤
+
+-- why lines are read no further: what was given, or a device that has failed
+abbrev pub Reason : Bool → Given → Bool → Bool → Bool → ReadlineError → Type 0
+Reason told g source display lines Eof = ⊤
+Reason told g source display lines Interrupted = ⊤
+Reason told g source display lines NotUtf8 = ⊤
+Reason told g source display lines PasteOutOfPlace = ⊤
+Reason told g source display lines Reader = IsTrue source
+Reason told g source display lines Display = IsTrue display
+Reason told g source display lines Lines = IsTrue lines
+Reason told g source display lines HistoryText = ⊥
+Reason told g source display lines Helper = IsTrue told
+    → (shown : List (List ℕ)) × HelperFails g.helping shown
+Reason told g source display lines Handler = HandlerFails g.custom
+Reason told g source display lines Memory = ⊤
+
+-- what lines are drawn on, written to and kept in
+pub record Work (D L : Type 0) : Type 0 where
+  pub display : D
+  pub lines : L
+  pub history : Filed
+
+-- the text of a line that was accepted
+abbrev pub accepted_of : Result (List ℕ) ReadlineError → List (List ℕ)
+accepted_of (Ok text) = text ∷ []
+accepted_of (Err e) = []
+
+module _ {D L : Type 0} (shows : D → Bool) (shown : D → List ℕ) (writes : L → Bool) (written_in : L → List ℕ) where
+  -- ---- a line, or the end of one
+
+  -- drawn by these bytes, kept and written as its outcome says
+  pub record LineWhole (adds : Bool) (bytes : List ℕ) (outcome : Result (List ℕ) ReadlineError)
+      (old new : Work D L) (result : Result (Unit {0}) ReadlineError) : Type 0 where
+    pub result_is : result ≡ made_of (λ text. tt {0}) outcome
+    pub history_is : new.history ≡ history_after adds outcome old.history
+    pub drawn : Takes shows shown old.display new.display bytes
+    pub wrote : Takes writes written_in old.lines new.lines (lines_text (accepted_of outcome))
+
+  -- a fault came: the line in hand may have been added to the history, and a part of it written
+  pub record LineCut (adds steady : Bool) (outcome : Result (List ℕ) ReadlineError)
+      (old new : Work D L) (result : Result (Unit {0}) ReadlineError) : Type 0 where
+    pub fault : ReadlineError
+    pub result_is : result ≡ Err fault
+    pub cut : CutsBy steady fault
+    pub in_hand : List (List ℕ)
+    pub others : List (List ℕ)
+    pub first : accepted_of outcome ≡ in_hand ++ others
+    pub torn : List ℕ
+    pub more : List ℕ
+    pub part : lines_text in_hand ≡ torn ++ more
+    pub wrote : Takes writes written_in old.lines new.lines torn
+    pub whole : (fault ≡ Lines → ⊥) → torn ≡ []
+    pub history_is : new.history ≡ remembered adds in_hand old.history
+
+  -- ---- a session
+
+  -- every line was read, drawn, kept and written, and the lines end as the definition says
+  pub record Whole (g : Given) (report : Report) (old new : Work D L) (why : ReadlineError) : Type 0 where
+    pub why_is : why ≡ report.ending
+    pub history_is : new.history ≡ remembered g.config.auto_add_history report.accepted old.history
+    pub drawn : Takes shows shown old.display new.display (display_bytes g.screen report)
+    pub wrote : Takes writes written_in old.lines new.lines (lines_text report.accepted)
+
+  -- a fault came: the first lines were written, then perhaps a part of the line in hand, which may
+  -- have been added to the history
+  pub record Cut (g : Given) (steady : Bool) (report : Report) (old new : Work D L) (why : ReadlineError) : Type 0 where
+    pub cut : CutsBy steady why
+    pub written : List (List ℕ)
+    pub in_hand : List (List ℕ)
+    pub others : List (List ℕ)
+    pub first : report.accepted ≡ written ++ (in_hand ++ others)
+    pub one : length in_hand ≤ 1
+    pub torn : List ℕ
+    pub more : List ℕ
+    pub part : lines_text in_hand ≡ torn ++ more
+    pub wrote : Takes writes written_in old.lines new.lines (lines_text written ++ torn)
+    pub whole : (why ≡ Lines → ⊥) → torn ≡ []
+    pub history_is : new.history ≡ remembered g.config.auto_add_history (written ++ in_hand) old.history
+
+  abbrev pub Reads : Given → Bool → Report → Work D L → Work D L → ReadlineError → Type 0
+  Reads g steady report old new why = Whole g report old new why ⊎ Cut g steady report old new why
+
+-- ---- the end
+
+-- the history was saved, so that nothing in it is new; or the sink of its text has failed
+pub record Saves {T : Type 0} (told : T → Bool) (held : T → List ℕ) (failed : T → Bool)
+    (kept history' : Filed) (text text' : T) (saved : Bool) : Type 0 where
+  pub done : saved ≡ true → (history' ≡ all_saved kept) × Takes told held text text' (text_to_save kept)
+  pub refused : saved ≡ false → (history' ≡ kept) × IsTrue (failed text')
+
+-- a fault comes before that of the history's text
+abbrev pub ending_after : ReadlineError → Bool → ReadlineError
+ending_after why true = why
+ending_after Eof false = HistoryText
+ending_after Interrupted false = HistoryText
+ending_after NotUtf8 false = HistoryText
+ending_after PasteOutOfPlace false = HistoryText
+ending_after Reader false = Reader
+ending_after Display false = Display
+ending_after Lines false = Lines
+ending_after HistoryText false = HistoryText
+ending_after Helper false = Helper
+ending_after Handler false = Handler
+ending_after Memory false = Memory

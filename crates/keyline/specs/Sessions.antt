@@ -1,0 +1,125 @@
+-- A session: lines read one after the other; what is written, kept and drawn of them, and how it ends.
+use Rattle.std.specs.Prelude.{ℕ, zero, suc, Bool, true, if◌then◌else◌, List, [], ◌∷◌, ◌++◌, Result, Ok, Err}
+use Rattle.std.specs.List.{flat_map}
+use Rattle.line_config.specs.declared.config.Config.{Config}
+use Rattle.line_config.specs.declared.device.Last.{Last}
+use Rattle.line_config.specs.declared.errors.ReadlineError.{ReadlineError}
+use Rattle.line_config.specs.declared.errors.ReadlineError.TheVariants.{Memory}
+use Rattle.line_config.specs.declared.settings.EditMode.{EditMode}
+use Rattle.line_help.specs.History.{Filed, filed_with_all}
+use Rattle.line_keys.specs.Answers.{Custom}
+use Rattle.line_keys.specs.Coming.{Coming}
+use Rattle.line_record.specs.Ring.{Ring, new_ring}
+use Rattle.line_editor.specs.Calls.{Call}
+use Rattle.line_editor.specs.Courses.{Turn, breaks_after}
+use Rattle.line_editor.specs.Lines.{Told}
+use Rattle.line_editor.specs.Running.{Helping, setting_by, line_meant, line_calls}
+use Rattle.line_editor.specs.Values.{Setting}
+use Rattle.line_screen.specs.Calls.{Screen, bytes_of, ruler_of}
+use Rattle.line_screen.specs.Drawing.{break_if}
+use Rattle.line_screen.specs.Input.{chars_of}
+use Rattle.line_screen.specs.KeyGrammar.{readings, coming_of}
+
+-- what is handed in for a session: settings, bindings, prompt, screen, and the helper's answers
+pub record Given : Type 0 where
+  pub config : Config
+  pub custom : Custom
+  pub prompt : List ℕ
+  pub screen : Screen
+  pub helping : Helping
+
+abbrev pub given_by : Config → Custom → List ℕ → Screen → Helping → Given
+given_by config custom prompt screen helping = record {
+  config = config;
+  custom = custom;
+  prompt = prompt;
+  screen = screen;
+  helping = helping;
+}
+
+-- what goes on from line to line
+pub record Standing : Type 0 where
+  pub ring : Ring
+  pub history : Filed
+  pub coming : Coming
+
+-- what the bytes of a source are to the key tables
+abbrev pub coming_from : EditMode → List ℕ → Last → Coming
+coming_from mode bytes last = coming_of (readings mode (chars_of bytes last))
+
+-- a session begins with an empty ring of 60 slots
+abbrev pub at_first : Filed → Coming → Standing
+at_first history coming =
+    record { ring = new_ring 60; history = history; coming = coming }
+
+-- what is handed in for the next line
+abbrev pub setting_in : Given → List (List ℕ) → Setting
+setting_in g entries = setting_by (ruler_of g.screen) g.prompt g.helping entries
+
+-- the next line. More fuel than the source has keys and pastes is enough
+abbrev pub line_in : ℕ → Given → Standing → Told
+line_in n g x =
+    line_meant n (setting_in g x.history.kept.entries) g.custom g.config x.ring x.coming
+
+-- accepted lines are added to the history where the settings say so
+abbrev pub remembered : Bool → List (List ℕ) → Filed → Filed
+remembered adds lines history = if adds then filed_with_all history lines else history
+
+abbrev pub history_after : Bool → Result (List ℕ) ReadlineError → Filed → Filed
+history_after adds (Ok text) history = remembered adds (text ∷ []) history
+history_after adds (Err e) history = history
+
+abbrev pub after_line : Given → Told → Standing → Standing
+after_line g t x = record {
+  ring = t.ring;
+  history = history_after g.config.auto_add_history t.outcome x.history;
+  coming = t.rest;
+}
+
+-- all lines, the last one that in which the session ended; the texts of those that were accepted;
+-- and the refusal that ended it
+pub record Report : Type 0 where
+  pub told : List Told
+  pub accepted : List (List ℕ)
+  pub ending : ReadlineError
+
+abbrev pub then_line : Told → List ℕ → Report → Report
+then_line t text r =
+    record { told = t ∷ r.told; accepted = text ∷ r.accepted; ending = r.ending }
+
+abbrev pub goes_on : Told → Result (List ℕ) ReadlineError → Report → Report
+goes_on t (Ok text) later = then_line t text later
+goes_on t (Err e) later = record { told = t ∷ []; accepted = []; ending = e }
+
+unfoldable pub session : ℕ → Given → Standing → Report
+session zero g x = record { told = []; accepted = []; ending = Memory }
+session (suc n) g x =
+    let t = line_in (suc n) g x in
+    goes_on t t.outcome (session n g (after_line g t x))
+
+-- ---- what is written and drawn
+
+-- an accepted line is written with a newline
+abbrev pub line_text : List ℕ → List ℕ
+line_text text = text ++ 0x0A ∷ []
+
+abbrev pub lines_text : List (List ℕ) → List ℕ
+lines_text lines = flat_map line_text lines
+
+abbrev pub calls_of : Screen → Told → List Call
+calls_of s t = line_calls (ruler_of s) t.turns
+
+-- after an accepted line, and after the endings that say so, the display gets a new row
+abbrev pub breaks : Result (List ℕ) ReadlineError → Bool
+breaks (Ok text) = true
+breaks (Err e) = breaks_after e
+
+abbrev pub line_bytes : Screen → Told → List ℕ
+line_bytes s t = flat_map (bytes_of s) (calls_of s t) ++ break_if (breaks t.outcome)
+
+abbrev pub display_bytes : Screen → Report → List ℕ
+display_bytes s report = flat_map (line_bytes s) report.told
+
+-- the turns of all lines in order; the moments are those that leave their line open
+abbrev pub turns_of : Report → List Turn
+turns_of report = flat_map (λ t. t.turns) report.told

@@ -1,0 +1,214 @@
+//! Lines, one after the other: read, drawn, kept and written.
+
+ghost use Rattle.std.specs.Prelude.{◌≡◌, ◌++◌, ◌∷◌, [], IfErr, OnOk, OnErr, string_bytes, Ok};
+ghost use Rattle.line_config.specs.declared.errors.ReadlineError.TheVariants.{Memory};
+ghost use Rattle.line_config.specs.Sending.{Sends};
+ghost use Rattle.line_editor.specs.Courses.{breaks_after};
+ghost use Rattle.line_keys.specs.Coming.{made_of};
+ghost use Rattle.line_screen.specs.Calls.{screen_of, sink_of};
+ghost use Rattle.keyline.specs.Calls.{TakesSome};
+ghost use Rattle.keyline.specs.Closing.{Closes, WritesLine, work};
+ghost use Rattle.keyline.specs.Sessions.{given_by, line_text, remembered};
+
+use line_config::{Config, DeviceFailed, ReadlineError, Sink, Source};
+use line_editor::{Ran, Renderer, run};
+use line_help::{FileHistory, Helper, History};
+use line_keys::{Decides, EventMap};
+use line_record::KillRing;
+use line_screen::{KeyReader, ScreenRenderer};
+use std::alloc::Global;
+
+/// A text and a newline, flushed.
+fn send_line<L: Sink>(lines: &mut L, text: &str) -> Result<(), DeviceFailed>
+    ensures sends { Sends L.told L.held L.has_failed (text.now ++ 0x0A ∷ []) lines.old
+        lines.new result }
+    ensures torn { OnErr result
+        (TakesSome L.told L.held lines.old lines.new (text.now ++ 0x0A ∷ [])) }
+{
+    lines.write(text.as_bytes())?;
+    lines.write(b"\n")?;
+    lines.flush()?;
+    Ok(())
+}
+
+/// The same, with the refusal of lines.
+fn write_line<L: Sink>(lines: &mut L, text: &str) -> Result<(), ReadlineError>
+    ensures { WritesLine L.told L.held L.has_failed (line_text text.now) lines.old lines.new
+        result }
+{
+    match send_line(lines, text) {
+        Ok(()) => Ok(()),
+        Err(_) => Err(ReadlineError::Lines),
+    }
+}
+
+/// Whether the display gets a new row where a line ends so.
+fn breaks_after(why: ReadlineError) -> bool
+    ensures { result ≡ breaks_after why }
+{
+    matches!(why, ReadlineError::Eof | ReadlineError::Interrupted)
+}
+
+/// Adds a line to the history, where the settings say so.
+fn remember(
+    alloc: Global,
+    history: &mut FileHistory,
+    text: &str,
+    adds: bool,
+) -> Result<(), ReadlineError>
+    ensures added { OnOk result (history.new ≡ remembered adds (text.now ∷ []) history.old) }
+    ensures kept { OnErr result (history.new ≡ history.old) }
+    ensures fault { IfErr result (λ e. e ≡ Memory) }
+{
+    if adds {
+        history.add(alloc, text)?;
+    }
+    Ok(())
+}
+
+/// Draws the end of an accepted line, keeps the line and writes it.
+fn keep<D: Sink + Drop, L: Sink>(
+    alloc: Global,
+    text: &str,
+    adds: bool,
+    out: &mut ScreenRenderer<D>,
+    history: &mut FileHistory,
+    lines: &mut L,
+) -> Result<(), ReadlineError>
+    ensures closes { Closes D.told D.held D.has_failed L.told L.held L.has_failed adds (Ok text.now)
+        (work (sink_of out.old) lines.old history.old)
+        (work (sink_of out.new) lines.new history.new) result }
+    ensures screen { screen_of out.new ≡ screen_of out.old }
+{
+    out.write_and_flush("\r\n")?;
+    remember(alloc, history, text, adds)?;
+    write_line(lines, text)
+}
+
+/// Draws the end of a line, and keeps and writes it where it is accepted.
+fn close<D: Sink + Drop, L: Sink>(
+    alloc: Global,
+    outcome: Result<String, ReadlineError>,
+    adds: bool,
+    out: &mut ScreenRenderer<D>,
+    history: &mut FileHistory,
+    lines: &mut L,
+) -> Result<(), ReadlineError>
+    ensures closes { Closes D.told D.held D.has_failed L.told L.held L.has_failed adds
+        (made_of string_bytes outcome)
+        (work (sink_of out.old) lines.old history.old)
+        (work (sink_of out.new) lines.new history.new) result }
+    ensures screen { screen_of out.new ≡ screen_of out.old }
+{
+    match outcome {
+        Ok(text) => keep(alloc, text.as_str(), adds, out, history, lines),
+        Err(why) => {
+            if breaks_after(why) {
+                out.write_and_flush("\r\n")?;
+            }
+            Err(why)
+        }
+    }
+}
+
+/// What goes on from line to line, with the devices.
+#[derive(Drop)]
+pub(crate) struct Desk<S: Source, H, D: Sink, L: Sink> {
+    pub(crate) reader: KeyReader<S>,
+    pub(crate) out: ScreenRenderer<D>,
+    pub(crate) helper: Option<H>,
+    pub(crate) history: FileHistory,
+    pub(crate) ring: KillRing,
+    pub(crate) lines: L,
+}
+
+/// A desk after a line, and whether a line was accepted.
+pub(crate) struct Lined<S: Source, H, D: Sink, L: Sink> {
+    pub(crate) desk: Desk<S, H, D, L>,
+    pub(crate) outcome: Result<(), ReadlineError>,
+}
+
+/// A desk after the last line, and why there is no further one.
+pub(crate) struct Stopped<S: Source, H, D: Sink, L: Sink> {
+    pub(crate) desk: Desk<S, H, D, L>,
+    pub(crate) why: ReadlineError,
+}
+
+impl<S: Source + Drop, H: Helper + Drop, D: Sink + Drop, L: Sink + Drop> Desk<S, H, D, L> {
+    ghost use Rattle.line_keys.specs.Answers.{custom_of};
+    ghost use Rattle.line_editor.specs.Running.{helping_by};
+    ghost use Rattle.keyline.specs.Desks.{TakesLine, TakesLines, known_by};
+
+    /// Reads a line, draws it, and keeps and writes it where it is accepted.
+    fn one_line<B: Decides>(
+        self,
+        alloc: Global,
+        config: &Config,
+        bindings: &EventMap<B>,
+        prompt: &str,
+    ) -> Lined<S, H, D, L>
+        ensures { let custom = custom_of bindings.now B.decides in
+            let helps = helping_by H.hint_of H.fails H.verdict_of H.validating_fails H.marks in
+            let given = given_by config.now custom prompt.now in
+            let known = known_by S.feed D.told D.held D.has_failed L.told L.held L.has_failed in
+            TakesLine known (given (screen_of self.out) (helps self.helper))
+            (given (screen_of result.desk.out) (helps result.desk.helper))
+            self result.desk result.outcome }
+    {
+        let Desk {
+            mut reader,
+            out,
+            helper,
+            mut history,
+            mut ring,
+            mut lines,
+        } = self;
+        let Ran {
+            mut out,
+            helper,
+            outcome,
+        } = run(
+            alloc, &mut reader, out, prompt, helper, &history, config, bindings, &mut ring,
+        );
+        let adds = config.auto_add_history();
+        let outcome = close(alloc, outcome, adds, &mut out, &mut history, &mut lines);
+        let desk = Desk {
+            reader,
+            out,
+            helper,
+            history,
+            ring,
+            lines,
+        };
+        Lined { desk, outcome }
+    }
+
+    /// Reads lines until there is none, and says why.
+    pub(crate) fn read_lines<B: Decides>(
+        self,
+        alloc: Global,
+        config: &Config,
+        bindings: &EventMap<B>,
+        prompt: &str,
+    ) -> Stopped<S, H, D, L>
+        ensures { let custom = custom_of bindings.now B.decides in
+            let helps = helping_by H.hint_of H.fails H.verdict_of H.validating_fails H.marks in
+            let given = given_by config.now custom prompt.now in
+            let known = known_by S.feed D.told D.held D.has_failed L.told L.held L.has_failed in
+            TakesLines known (given (screen_of self.out) (helps self.helper))
+            self result.desk result.why }
+    {
+        let mut desk = self;
+        loop {
+            let Lined {
+                desk: next,
+                outcome,
+            } = desk.one_line(alloc, config, bindings, prompt);
+            desk = next;
+            match outcome {
+                Ok(()) => {}
+                Err(why) => return Stopped { desk, why },
+            }
+        }
+    }
+}

@@ -1,0 +1,240 @@
+-- A whole line.
+use Rattle.std.proofs.Common.{◌≡◌, ◌⊎◌, inl, inr, ℕ, suc, ◌<◌, ◌≤◌, Bool, List, refl, sym, ap, subst, ◌∙◌, IsTrue, arith, le_refl}
+use Rattle.std.specs.Prelude.{⊤, Option, Some, None, option_map, Result, Ok, Err, length, flat_map, string_bytes, IsFalse, IsSomeAnd, IfErr, OnOk}
+use Rattle.std.specs.List.{FoldsTo}
+use Rattle.line_config.specs.declared.config.Config.{Config}
+use Rattle.line_config.specs.declared.errors.ReadlineError.{ReadlineError}
+use Rattle.line_config.specs.declared.errors.ReadlineError.TheVariants.{Eof, Interrupted, NotUtf8, PasteOutOfPlace, Reader, Display, Lines, HistoryText, Helper, Handler, Memory}
+use Rattle.line_help.specs.Hints.{Hinted, Answers}
+use Rattle.line_help.specs.declared.completion as completions
+use Rattle.line_help.specs.declared.hint as hints
+use Rattle.line_help.specs.declared.highlight as highlights
+use Rattle.line_help.specs.declared.validate as verdicts
+use Rattle.line_help.specs.declared.validate.ValidationResult.{ValidationResult}
+use Rattle.line_help.specs.declared.history as histories
+use Rattle.line_keys.specs.Answers.{Custom}
+use Rattle.line_keys.specs.Coming.{Coming, made_of}
+use Rattle.line_keys.specs.Feeds.{Feed}
+use Rattle.line_keys.specs.InputStates.{new_input}
+use Rattle.line_keys.specs.Phrases.{Input}
+use Rattle.line_keys.specs.declared.command.CmdKind.{CmdKind}
+use Rattle.line_record.specs.Ring.{Ring}
+use Rattle.line_editor.specs.Calls.{Canvas, Begun}
+use Rattle.line_editor.specs.Courses.{redraws_in}
+use Rattle.line_editor.specs.Lines.{Told, line_of}
+use Rattle.line_editor.specs.Reading.{Telling, drawn_and_turned, edit_of, text_or, Read, Reading, ReadsLine}
+use Rattle.line_editor.specs.Redraws.{asked, fresh}
+use Rattle.line_editor.specs.Running.{Helping, HelperFails, helping_by, setting_by, line_meant, line_calls, outcome_of, WholeLine, CutLine, Runs}
+use Rattle.line_editor.specs.Starts.{empty_at, first_value, Starts}
+use Rattle.line_editor.specs.States.{value_of, setting_of, reason_of, HookFails, Reason, Stays}
+use Rattle.line_editor.specs.Turning.{Cut, cause_of, Cause}
+use Rattle.line_editor.specs.Values.{Value, Setting}
+use Rattle.line_editor.specs.declared.ran.Ran.{Ran}
+use Rattle.line_editor.specs.declared.renderer as renderers
+use Rattle.line_editor.specs.declared.state.State.{State}
+use Rattle.line_editor.proofs.BegunLemmas.{begun_none}
+
+-- no memory for a line, and nothing was read or drawn
+pub not_begun : {R H K T : Type 0} (canvas : Canvas R) (helps : Option H → Helping) (custom : Custom) (prompt : List ℕ) (helper : Option H) (entries : List (List ℕ)) (config : Config) (out : R)
+    (ring : Ring) (feed : Feed) → Runs {K = K} {T = T} canvas helps custom prompt helper entries config out ring feed (record { out = out; helper = helper; outcome = Err Memory }) ring feed
+not_begun canvas helps custom prompt helper entries config out ring feed = record {
+  goes = λ told n h. inr (record {
+    fault = Memory;
+    outcome_is = refl;
+    cause = inl tt;
+    begun = begun_none canvas (line_calls (canvas.ruler out) (line_meant n (setting_by (canvas.ruler out) prompt (helps helper) entries) custom config ring feed.coming).turns) out out refl;
+  });
+  told = λ told. told;
+  steady = refl;
+  keeps = le_refl feed.bound;
+  falls = tt;
+  helper_stays = λ told. refl;
+  ruler_stays = λ told. refl;
+  reason = tt;
+}
+
+pub not_begun_by : {R H K T : Type 0} (canvas : Canvas R) (helps : Option H → Helping) (custom : Custom) (prompt : List ℕ) (helper : Option H) (entries : List (List ℕ)) (config : Config) (out : R)
+    (ring : Ring) (feed : Feed) (ran : Ran R H K T) → ran ≡ record { out = out; helper = helper; outcome = Err Memory } → Runs canvas helps custom prompt helper entries config out ring feed ran ring feed
+not_begun_by {K = K} {T = T} canvas helps custom prompt helper entries config out ring feed ran is =
+    subst (λ x. Runs canvas helps custom prompt helper entries config out ring feed x ring feed) (sym is) (not_begun {K = K} {T = T} canvas helps custom prompt helper entries config out ring feed)
+
+-- ---- results, with a text or without
+
+abbrev refusal_or : {A : Type 0} → ReadlineError → Result A ReadlineError → ReadlineError
+refusal_or f (Ok x) = f
+refusal_or f (Err e) = e
+
+abbrev way : {A : Type 0} → Result A ReadlineError → ℕ
+way (Ok x) = 0
+way (Err e) = 1
+
+same_reason : {X A : Type 0} (f : X → List ℕ) (o : Result X ReadlineError) (result : Result A ReadlineError) (text : List ℕ) (P Q : ReadlineError → Type 0)
+    → made_of f o ≡ text_or result text → ((e : ReadlineError) → P e → Q e) → IfErr result P → IfErr o Q
+same_reason f (Ok x) result text P Q is go h = tt
+same_reason f (Err e) (Ok x) text P Q is go h = let h : ◌≡◌ {A = ℕ} 1 0 = ap way is in absurd (omega arith)
+same_reason f (Err e) (Err x) text P Q is go h = subst Q (sym (ap (refusal_or e) is)) (go x h)
+
+same_fall : {X A : Type 0} (P : Type 0) (f : X → List ℕ) (o : Result X ReadlineError) (result : Result A ReadlineError) (text : List ℕ)
+    → made_of f o ≡ text_or result text → OnOk result P → OnOk o P
+same_fall P f (Err e) result text is h = tt
+same_fall P f (Ok x) (Ok y) text is h = h
+same_fall P f (Ok x) (Err e) text is h = let h : ◌≡◌ {A = ℕ} 0 1 = ap way is in absurd (omega arith)
+
+refused_same : {A : Type 0} (result : Result A ReadlineError) (text : List ℕ) (e : ReadlineError) → result ≡ Err e → text_or result text ≡ Err e
+refused_same (Ok x) text e is = let h : ◌≡◌ {A = ℕ} 0 1 = ap way is in absurd (omega arith)
+refused_same (Err x) text e is = ap (λ (y : ReadlineError). Err y) (ap (refusal_or e) is)
+
+-- ---- causes
+
+reason_to : (b c : Bool) (P Q : Type 0) (e : ReadlineError) → b ≡ c → (P → Q) → reason_of b P e → reason_of c Q e
+reason_to b c P Q Display same go why = subst IsTrue same why
+reason_to b c P Q Helper same go why = go why
+reason_to b c P Q Memory same go why = tt
+reason_to b c P Q Eof same go why = why
+reason_to b c P Q Interrupted same go why = why
+reason_to b c P Q NotUtf8 same go why = why
+reason_to b c P Q PasteOutOfPlace same go why = why
+reason_to b c P Q Reader same go why = why
+reason_to b c P Q Lines same go why = why
+reason_to b c P Q HistoryText same go why = why
+reason_to b c P Q Handler same go why = why
+
+cause_to : (custom : Custom) (b c : Bool) (P Q : Type 0) (feed : Feed) (e : ReadlineError) → b ≡ c → (P → Q) → cause_of custom b P feed e → cause_of custom c Q feed e
+cause_to custom b c P Q feed Display same go why = subst IsTrue same why
+cause_to custom b c P Q feed Helper same go why = go why
+cause_to custom b c P Q feed Memory same go why = why
+cause_to custom b c P Q feed Eof same go why = why
+cause_to custom b c P Q feed Interrupted same go why = why
+cause_to custom b c P Q feed NotUtf8 same go why = why
+cause_to custom b c P Q feed PasteOutOfPlace same go why = why
+cause_to custom b c P Q feed Reader same go why = why
+cause_to custom b c P Q feed Lines same go why = why
+cause_to custom b c P Q feed HistoryText same go why = why
+cause_to custom b c P Q feed Handler same go why = why
+
+-- ---- the line that is meant
+
+abbrev helping : Option (Answers (Option Hinted)) → Option (Answers Bool) → Option (List ℕ → ValidationResult) → Option (List ℕ → Bool) → Option (List ℕ → ℕ → CmdKind → Bool) → Helping
+helping a b c d e = record { hints = a; hinting_fails = b; judge = c; judging_fails = d; marks = e }
+
+meant : (custom : Custom) (config : Config) (ring : Ring) (c : Coming) (n : ℕ) (none : ⊤) (s : Setting)
+    → drawn_and_turned custom config.indent_size (new_input config.edit_mode) ring c n none s (first_value s) ≡ line_meant n s custom config ring c
+unfolding line_of
+meant custom config ring c n none s = refl
+
+module _ {Out H Hi K T : Type 0} {renderer : renderers.Renderer.Ghosts Out} {completer : completions.Completer.Ghosts H K} {candidate : completions.Candidate.Ghosts K}
+    {hinter : hints.Hinter.Ghosts H T} {hint : hints.Hint.Ghosts T} {highlighter : highlights.Highlighter.Ghosts H} {validator : verdicts.Validator.Ghosts H} {history : histories.History.Ghosts Hi} where
+  abbrev helps : State Out H Hi K T renderer completer candidate hinter hint highlighter validator history → Option H → Helping
+  helps s helper = helping_by hinter.hint_of hinter.fails validator.verdict_of validator.validating_fails highlighter.marks helper
+
+  hook_fails : (s : State Out H Hi K T renderer completer candidate hinter hint highlighter validator history) (helper : Option H) (text : List ℕ) (place : ℕ) (entries : List (List ℕ)) (at : ℕ)
+      → IsSomeAnd helper (λ h. IsTrue (hinter.fails h text place entries at) ⊎ IsTrue (validator.validating_fails h text)) → HelperFails (helps s helper) entries
+  hook_fails s None text place entries at why = elim why [ ]
+  hook_fails s (Some h) text place entries at (inl why) = record { text = text; place = place; history = at; fails = inl why }
+  hook_fails s (Some h) text place entries at (inr why) = record { text = text; place = place; history = at; fails = inr why }
+
+  failing : (t : State Out H Hi K T renderer completer candidate hinter hint highlighter validator history) → HookFails t → HelperFails (helps t t.helper) (history.entries t.ctx.history.now)
+  failing t why = hook_fails t t.helper t.line.text t.line.place (history.entries t.ctx.history.now) t.ctx.place why
+
+  helper_same : (s t : State Out H Hi K T renderer completer candidate hinter hint highlighter validator history) → Stays s t → helps s t.helper ≡ helps s s.helper
+  helper_same s t h =
+      ap (λ x. helping x (option_map hinter.fails t.helper) (option_map validator.verdict_of t.helper) (option_map validator.validating_fails t.helper) (option_map highlighter.marks t.helper)) h.hints_are
+      ∙ ap (λ x. helping (option_map hinter.hint_of s.helper) x (option_map validator.verdict_of t.helper) (option_map validator.validating_fails t.helper) (option_map highlighter.marks t.helper)) h.hinting_is
+      ∙ ap (λ x. helping (option_map hinter.hint_of s.helper) (option_map hinter.fails s.helper) x (option_map validator.validating_fails t.helper) (option_map highlighter.marks t.helper)) h.verdicts_are
+      ∙ ap (λ x. helping (option_map hinter.hint_of s.helper) (option_map hinter.fails s.helper) (option_map validator.verdict_of s.helper) x (option_map highlighter.marks t.helper)) h.validating_is
+      ∙ ap (λ x. helping (option_map hinter.hint_of s.helper) (option_map hinter.fails s.helper) (option_map validator.verdict_of s.helper) (option_map validator.validating_fails s.helper) x) h.marks_are
+
+  -- bindings that stayed
+  pub same_reads : {A : Type 0} (kept custom : Custom) (indent : ℕ) (i : Input) (ring ring' : Ring) (s t : State Out H Hi K T renderer completer candidate hinter hint highlighter validator history) (feed feed' : Feed)
+      (result : Result A ReadlineError) → kept ≡ custom → ReadsLine kept (drawn_and_turned kept indent i ring feed.coming) s feed t ring' feed' result
+      → ReadsLine custom (drawn_and_turned custom indent i ring feed.coming) s feed t ring' feed' result
+  same_reads kept custom indent i ring ring' s t feed feed' result same reads =
+      subst (λ x. ReadsLine x (drawn_and_turned x indent i ring feed.coming) s feed t ring' feed' result) same reads
+
+  module _ {A : Type 0} (prompt : List ℕ) (helper : Option H) (hist : Hi) (config : Config) (out : Out) (s t : State Out H Hi K T renderer completer candidate hinter hint highlighter validator history)
+      (shown : Hi) (place : ℕ) (starts : Starts out prompt helper shown place s) (shown_is : shown ≡ hist) (place_is : place ≡ length (history.entries hist))
+      (custom : Custom) (i : Input) (input_is : i ≡ new_input config.edit_mode) (ring ring' : Ring) (feed feed' : Feed) (result : Result A ReadlineError)
+      (reads : ReadsLine custom (drawn_and_turned custom config.indent_size i ring feed.coming) s feed t ring' feed' result)
+      (ran : Ran Out H K T) (out_is : ran.out ≡ t.out) (helper_is : ran.helper ≡ t.helper) (outcome_is : outcome_of ran ≡ text_or result t.line.text) where
+    abbrev setting : Setting
+    setting = setting_by (renderer.canvas.ruler out) prompt (helps s helper) (history.entries hist)
+
+    setting_same : setting_of s ≡ setting
+    setting_same =
+        ap (λ o. setting_by (renderer.canvas.ruler o) s.prompt.now (helps s s.helper) (history.entries s.ctx.history.now)) starts.out_is
+        ∙ ap (λ p. setting_by (renderer.canvas.ruler out) p (helps s s.helper) (history.entries s.ctx.history.now)) starts.prompt_is
+        ∙ ap (λ h. setting_by (renderer.canvas.ruler out) prompt (helps s h) (history.entries s.ctx.history.now)) starts.helper_is
+        ∙ ap (λ x. setting_by (renderer.canvas.ruler out) prompt (helps s helper) (history.entries x)) (starts.history_is ∙ shown_is)
+
+    abbrev read_as : ℕ → Telling
+    read_as n = drawn_and_turned custom config.indent_size i ring feed.coming n tt
+
+    abbrev as_meant : ℕ → Told
+    as_meant n = line_meant n setting custom config ring feed.coming
+
+    line_same : (n : ℕ) → read_as n (setting_of s) (value_of s) ≡ as_meant n
+    line_same n = ap (λ a. read_as n a (value_of s)) setting_same ∙ ap (read_as n setting) (starts.value ∙ ap empty_at place_is)
+        ∙ ap (λ x. drawn_and_turned custom config.indent_size x ring feed.coming n tt setting (first_value setting)) input_is ∙ meant custom config ring feed.coming n tt setting
+
+    helper_same_as : Stays s t → helps s ran.helper ≡ helps s helper
+    helper_same_as stays = ap (helps s) helper_is ∙ helper_same s t stays ∙ ap (helps s) starts.helper_is
+
+    whole_line : (n : ℕ) → Read (read_as n) s t ring' feed'.coming result → WholeLine renderer.canvas (as_meant n) out ran.out ring' feed'.coming (outcome_of ran)
+    whole_line n read = record {
+      outcome_is = outcome_is ∙ read.outcome_is ∙ ap (λ p. p.outcome) (line_same n);
+      ring_is = read.ring_is ∙ ap (λ p. p.ring) (line_same n);
+      rest_is = read.rest_is ∙ ap (λ p. p.rest) (line_same n);
+      calls = subst (λ o. FoldsTo renderer.canvas.made out (line_calls (renderer.canvas.ruler out) (as_meant n).turns) o) (sym out_is)
+          (subst (λ (p : Told). FoldsTo renderer.canvas.made out (line_calls (renderer.canvas.ruler out) p.turns) t.out) (line_same n)
+          (subst (λ l. FoldsTo renderer.canvas.made out (asked (renderer.canvas.ruler out) l (flat_map redraws_in (read_as n (setting_of s) (value_of s)).turns)).calls t.out) starts.layout
+          (subst (λ o. FoldsTo renderer.canvas.made o (asked (renderer.canvas.ruler o) s.layout (flat_map redraws_in (read_as n (setting_of s) (value_of s)).turns)).calls t.out) starts.out_is read.does.calls)));
+    }
+
+    why_cut : (steady : Bool) (e : ReadlineError) → Stays s t → Reason t e ⊎ ((e ≡ Reader) × IsFalse steady)
+        → reason_of (renderer.canvas.failed ran.out) (HelperFails (helps s helper) (history.entries hist)) e ⊎ ((e ≡ Reader) × IsFalse steady)
+    why_cut steady e stays (inr why) = inr why
+    why_cut steady e stays (inl why) = inl (reason_to (renderer.canvas.failed t.out) (renderer.canvas.failed ran.out) (HookFails t) (HelperFails (helps s helper) (history.entries hist)) e
+        (ap renderer.canvas.failed (sym out_is))
+        (λ fails. subst (λ x. HelperFails (helps s helper) (history.entries x)) (stays.history_is ∙ starts.history_is ∙ shown_is)
+        (subst (λ x. HelperFails x (history.entries t.ctx.history.now)) (helper_same s t stays ∙ ap (helps s) starts.helper_is) (failing t fails))) why)
+
+    cut_line : (n : ℕ) → Cut feed.steady (edit_of (read_as n)) s t result
+        → CutLine renderer.canvas (as_meant n) feed.steady (HelperFails (helps s helper) (history.entries hist)) out ran.out (outcome_of ran)
+    cut_line n cut = record {
+      fault = cut.fault;
+      outcome_is = outcome_is ∙ refused_same result t.line.text cut.fault cut.result_is;
+      cause = why_cut feed.steady cut.fault cut.stays cut.cause;
+      begun = subst (λ o. Begun renderer.canvas (line_calls (renderer.canvas.ruler out) (as_meant n).turns) out o) (sym out_is)
+          (subst (λ (p : Told). Begun renderer.canvas (line_calls (renderer.canvas.ruler out) p.turns) out t.out) (line_same n)
+          (subst (λ l. Begun renderer.canvas (asked (renderer.canvas.ruler out) l (flat_map redraws_in (read_as n (setting_of s) (value_of s)).turns)).calls out t.out) starts.layout
+          (subst (λ o. Begun renderer.canvas (asked (renderer.canvas.ruler o) s.layout (flat_map redraws_in (read_as n (setting_of s) (value_of s)).turns)).calls o t.out) starts.out_is cut.begun)));
+    }
+
+    goes_by : (n : ℕ) → Reading feed.steady (read_as n) s t ring' feed'.coming result
+        → WholeLine renderer.canvas (as_meant n) out ran.out ring' feed'.coming (outcome_of ran)
+        ⊎ CutLine renderer.canvas (as_meant n) feed.steady (HelperFails (helps s helper) (history.entries hist)) out ran.out (outcome_of ran)
+    goes_by n (inl read) = inl (whole_line n read)
+    goes_by n (inr cut) = inr (cut_line n cut)
+
+    stays_by : (n : ℕ) → Reading feed.steady (read_as n) s t ring' feed'.coming result → Stays s t
+    stays_by n (inl read) = read.does.stays
+    stays_by n (inr cut) = cut.stays
+
+    stays_told : IsTrue feed.told → Stays s t
+    stays_told told = stays_by (suc feed.bound) (reads.goes told (suc feed.bound) (omega arith) tt)
+
+    pub runs_by : Runs renderer.canvas (helps s) custom prompt helper (history.entries hist) config out ring feed ran ring' feed'
+    runs_by = record {
+      goes = λ told n h. goes_by n (reads.goes told n h tt);
+      told = reads.told;
+      steady = reads.steady;
+      keeps = reads.keeps;
+      falls = same_fall (feed'.bound < feed.bound) string_bytes ran.outcome result t.line.text outcome_is reads.falls;
+      helper_stays = λ told. helper_same_as (stays_told told);
+      ruler_stays = λ told. ap renderer.canvas.ruler out_is ∙ (stays_told told).ruler ∙ ap renderer.canvas.ruler starts.out_is;
+      reason = same_reason string_bytes ran.outcome result t.line.text (Cause custom t feed')
+          (cause_of custom (renderer.canvas.failed ran.out) ((entries : List (List ℕ)) × HelperFails (helps s ran.helper) entries) feed') outcome_is
+          (λ e. cause_to custom (renderer.canvas.failed t.out) (renderer.canvas.failed ran.out) (HookFails t) ((entries : List (List ℕ)) × HelperFails (helps s ran.helper) entries) feed' e
+          (ap renderer.canvas.failed (sym out_is)) (λ fails. (history.entries t.ctx.history.now, subst (λ h. HelperFails (helps s h) (history.entries t.ctx.history.now)) (sym helper_is) (failing t fails))))
+          reads.reason;
+    }

@@ -1,0 +1,115 @@
+-- A whole line: what is handed in for it, what is given back, and what was read and drawn.
+use Rattle.std.specs.Prelude.{◌≡◌, ◌⊎◌, ℕ, ◌<◌, ◌≤◌, Bool, List, Option, None, option_map, Result, Err, string_bytes, flat_map, if◌then◌else◌, IsTrue, IsFalse, IsSomeAnd, IfErr, OnOk}
+use Rattle.std.specs.List.{FoldsTo}
+use Rattle.line_buffer.specs.Cells.{origin}
+use Rattle.line_config.specs.declared.config.Config.{Config}
+use Rattle.line_config.specs.declared.errors.ReadlineError.{ReadlineError}
+use Rattle.line_config.specs.declared.errors.ReadlineError.TheVariants.{Reader}
+use Rattle.line_help.specs.Hints.{Hinted, Answers}
+use Rattle.line_help.specs.declared.validate.ValidationResult.{ValidationResult}
+use Rattle.line_keys.specs.Answers.{Custom}
+use Rattle.line_keys.specs.Coming.{Coming, made_of}
+use Rattle.line_keys.specs.Feeds.{Feed}
+use Rattle.line_keys.specs.InputStates.{new_input}
+use Rattle.line_keys.specs.declared.command.CmdKind.{CmdKind}
+use Rattle.line_record.specs.Ring.{Ring}
+use Rattle.line_editor.specs.Calls.{Call, Canvas, Ruler, Begun}
+use Rattle.line_editor.specs.Courses.{Turn, redraws_in}
+use Rattle.line_editor.specs.Lines.{Told, line_of}
+use Rattle.line_editor.specs.Redraws.{asked, fresh}
+use Rattle.line_editor.specs.States.{reason_of}
+use Rattle.line_editor.specs.Turning.{cause_of}
+use Rattle.line_editor.specs.Values.{Setting}
+use Rattle.line_editor.specs.declared.ran.Ran.{Ran}
+
+-- what a helper answers, if there is one, and where it fails
+pub record Helping : Type 0 where
+  pub hints : Option (Answers (Option Hinted))
+  pub hinting_fails : Option (Answers Bool)
+  pub judge : Option (List ℕ → ValidationResult)
+  pub judging_fails : Option (List ℕ → Bool)
+  pub marks : Option (List ℕ → ℕ → CmdKind → Bool)
+
+-- it fails at some text and place, and at some place in the history
+pub record HelperFails (helping : Helping) (entries : List (List ℕ)) : Type 0 where
+  pub text : List ℕ
+  pub place : ℕ
+  pub history : ℕ
+  pub fails : IsSomeAnd helping.hinting_fails (λ fails. IsTrue (fails text place entries history))
+      ⊎ IsSomeAnd helping.judging_fails (λ fails. IsTrue (fails text))
+
+-- what is handed in for a line
+abbrev pub setting_by : Ruler → List ℕ → Helping → List (List ℕ) → Setting
+setting_by r prompt helping entries = record {
+  prompt = prompt;
+  column = (r.measure prompt origin).col;
+  mode = r.mode;
+  hints = helping.hints;
+  judge = helping.judge;
+  marks = if r.colours then helping.marks else None;
+  entries = entries;
+}
+
+-- the line that is meant: from an empty one at the history's end, by what comes
+abbrev pub line_meant : ℕ → Setting → Custom → Config → Ring → Coming → Told
+line_meant n s custom config ring c =
+    line_of n s custom config.indent_size (new_input config.edit_mode) ring c
+
+-- the calls of its turns, on a display where nothing is drawn
+abbrev pub line_calls : Ruler → List Turn → List Call
+line_calls r turns = (asked r (fresh r.mode) (flat_map redraws_in turns)).calls
+
+-- the line was read and drawn whole
+pub record WholeLine {R : Type 0} (canvas : Canvas R) (line : Told) (old new : R) (ring : Ring)
+    (rest : Coming) (outcome : Result (List ℕ) ReadlineError) : Type 0 where
+  pub outcome_is : outcome ≡ line.outcome
+  pub ring_is : ring ≡ line.ring
+  pub rest_is : rest ≡ line.rest
+  pub calls : FoldsTo canvas.made old (line_calls (canvas.ruler old) line.turns) new
+
+-- a fault came that no input gives: the calls made are the line's first ones, and perhaps a refused
+-- one after them
+pub record CutLine {R : Type 0} (canvas : Canvas R) (line : Told) (steady : Bool) (hook : Type 0)
+    (old new : R) (outcome : Result (List ℕ) ReadlineError) : Type 0 where
+  pub fault : ReadlineError
+  pub outcome_is : outcome ≡ Err fault
+  -- a source that isn't steady may fail at any time
+  pub cause : reason_of (canvas.failed new) hook fault ⊎ ((fault ≡ Reader) × IsFalse steady)
+  pub begun : Begun canvas (line_calls (canvas.ruler old) line.turns) old new
+
+-- a helper, if there is one, by its answers
+abbrev pub helping_by : {H : Type 0} → (H → Answers (Option Hinted)) → (H → Answers Bool)
+    → (H → List ℕ → ValidationResult) → (H → List ℕ → Bool)
+    → (H → List ℕ → ℕ → CmdKind → Bool) → Option H → Helping
+helping_by hint_of hinting_fails verdict_of judging_fails marks helper = record {
+  hints = option_map hint_of helper;
+  hinting_fails = option_map hinting_fails helper;
+  judge = option_map verdict_of helper;
+  judging_fails = option_map judging_fails helper;
+  marks = option_map marks helper;
+}
+
+abbrev pub outcome_of : {R H K T : Type 0} → Ran R H K T → Result (List ℕ) ReadlineError
+outcome_of ran = made_of string_bytes ran.outcome
+
+-- THE relation of `run`. More fuel than the reader has keys and pastes is enough
+pub record Runs {R H K T : Type 0} (canvas : Canvas R) (helps : Option H → Helping) (custom : Custom)
+    (prompt : List ℕ) (helper : Option H) (entries : List (List ℕ)) (config : Config) (out : R)
+    (ring : Ring) (feed : Feed) (ran : Ran R H K T) (ring' : Ring) (feed' : Feed) : Type 0 where
+  pub goes : IsTrue feed.told → (n : ℕ) → feed.bound < n →
+      let setting = setting_by (canvas.ruler out) prompt (helps helper) entries in
+      let line = line_meant n setting custom config ring feed.coming in
+      let hook = HelperFails (helps helper) entries in
+      WholeLine canvas line out ran.out ring' feed'.coming (outcome_of ran)
+      ⊎ CutLine canvas line feed.steady hook out ran.out (outcome_of ran)
+  pub told : IsTrue feed.told → IsTrue feed'.told
+  pub steady : feed'.steady ≡ feed.steady
+  pub keeps : feed'.bound ≤ feed.bound
+  pub falls : OnOk ran.outcome (feed'.bound < feed.bound)
+  -- the helper's answers and the ruler stay
+  pub helper_stays : IsTrue feed.told → helps ran.helper ≡ helps helper
+  pub ruler_stays : IsTrue feed.told → canvas.ruler ran.out ≡ canvas.ruler out
+  -- why there is no line, whatever is told
+  pub reason : IfErr ran.outcome (λ e.
+      let hook = (shown : List (List ℕ)) × HelperFails (helps ran.helper) shown in
+      cause_of custom (canvas.failed ran.out) hook feed' e)
