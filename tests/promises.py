@@ -1,5 +1,5 @@
 #!/usr/bin/env python3
-"""What README, docs/ARCHITECTURE.md and docs/DEFINITIONS.md name stands in the crates: each call, clause, law and definition.
+"""What README and docs/ name stands in the crates: each call, clause, law and definition, and each named wrong body.
 
 A row's place is written `crate` and then its calls: `Type::call`, `Trait::call`, `call` or `laws::law`, each followed by the
 names of its clauses in parentheses where only some of them carry the promise.
@@ -164,6 +164,20 @@ def check_definitions(checks, crates):
         checks.expect(not left, f"DEFINITIONS: {name} has no row for {', '.join(sorted(left))}")
 
 
+def check_wrong_bodies(checks):
+    """docs/GATE.md: each wrong body that it names by a rule is there, and each of must-fail/ stands for one."""
+    named = set()
+    for rule, crate, body in tables(section(lines_of("docs", "GATE.md"), "## Named wrong bodies")):
+        of, name = crate.strip("` |"), body.strip("` |")
+        named.add(f"{of}/{name}")
+        files = [os.path.join(TOP, "crates", of, folder, f"{name}.edit") for folder in ("mutants", "must-fail")]
+        checks.expect(any(map(os.path.isfile, files)), f"GATE: {of} has no wrong body {name}, of the rule: {rule.strip('| ')}")
+    for crate in CRATES:
+        for file in files_under(f"crates/{crate}/must-fail", ".edit"):
+            name = os.path.basename(file).removesuffix(".edit")
+            checks.expect(f"{crate}/{name}" in named, f"GATE: no rule is named of {file}")
+
+
 def crates_listed():
     """The crates of crates.txt, each with the libraries that it stands on, and those that stand before the tests."""
     listed, before_tests, tests = {}, [], False
@@ -185,6 +199,7 @@ def main():
     check_promises(checks, crates)
     check_crates(checks)
     check_definitions(checks, crates)
+    check_wrong_bodies(checks)
     print(f"{checks.passed} passed, {checks.failed} failed")
     return checks.failed > 0
 

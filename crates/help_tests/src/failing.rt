@@ -3,7 +3,7 @@
 use crate::history::{answer_told, entries, saved, with_lines};
 use line_config::{Config, DeviceFailed, ReadlineError, Sink, SliceSource, Source, VecSink};
 use line_help::{FileHistory, History};
-use stand_ins::tables::{call_and_answer, meant_bytes, or_nothing, pictured_bytes};
+use stand_ins::tables::{call_and_answer, meant_bytes, or_nothing, pictured_bytes, word_and_rest};
 use std::alloc::Global;
 use std::process::Abort;
 use std::test::Fail;
@@ -53,6 +53,57 @@ impl Sink for Narrow {
 
     fn flush(&mut self) -> Result<(), DeviceFailed> {
         self.take(1)
+    }
+
+    fn failed(&self) -> bool {
+        self.failed
+    }
+}
+
+/// A sink that writes a bar where it is asked to pass on what was written.
+#[derive(Drop)]
+struct Barred {
+    written: Vec<u8>,
+    failed: bool,
+}
+
+impl Barred {
+    ghost use Rattle.std.specs.Prelude.{◌≡◌, is_err, IsErr, IsTrue};
+
+    fn new(alloc: Global) -> Self {
+        Barred {
+            written: Vec::new(alloc),
+            failed: false,
+        }
+    }
+
+    fn keep(&mut self, bytes: &[u8]) -> Result<(), DeviceFailed>
+        ensures failure { self.new.failed ≡ is_err result }
+        ensures for_good { IsTrue self.old.failed → IsErr result }
+    {
+        if self.failed || self.written.extend_from_slice(bytes).is_err() {
+            self.failed = true;
+            return Err(DeviceFailed);
+        }
+        Ok(())
+    }
+}
+
+impl Sink for Barred {
+    ghost use Rattle.std.specs.Prelude.{false, []};
+
+    ghost told = { λ s. false };
+
+    ghost held = { λ s. [] };
+
+    ghost has_failed = { λ s. s.failed };
+
+    fn write(&mut self, bytes: &[u8]) -> Result<(), DeviceFailed> {
+        self.keep(bytes)
+    }
+
+    fn flush(&mut self) -> Result<(), DeviceFailed> {
+        self.keep(b"|")
     }
 
     fn failed(&self) -> bool {
@@ -222,5 +273,53 @@ fn nothing_new_for_a_failed_sink(rt: HostRuntime) -> Result<(), Fail> {
     let mut sink = Narrow::new(0);
     assert!(rt; sink.flush().is_err());
     assert!(rt; history.save_to(&mut sink) == Ok(()) && history.append_to(&mut sink) == Ok(()));
+    Ok(())
+}
+
+// Calls of one history, and what they write to one sink.
+const PASSED_ON: &str = "
+    save        = nothing
+    append      = nothing
+    add ab      = nothing
+    add cd      = nothing
+    save        = #V2␊ab␊cd␊|
+    save        = nothing
+    append      = nothing
+    add ef      = nothing
+    add g       = nothing
+    append      = ef␊g␊|
+    append      = nothing
+    add h       = nothing
+    save        = #V2␊ab␊cd␊ef␊g␊h␊|
+";
+
+fn call_made(
+    alloc: Global,
+    history: &mut FileHistory,
+    sink: &mut Barred,
+    call: &str,
+) -> Result<(), ReadlineError> {
+    let (call, line) = word_and_rest(call);
+    match call {
+        "save" => history.save_to(sink),
+        "append" => history.append_to(sink),
+        _ => history.add(alloc, line).map(|_| ()),
+    }
+}
+
+/// All rows of a call are passed on at once, after the last of them.
+#[test]
+fn rows_are_passed_on_at_their_end(rt: HostRuntime) -> Result<(), Fail> {
+    let mut history = FileHistory::new(rt.alloc());
+    let mut sink = Barred::new(rt.alloc());
+    for row in PASSED_ON.lines() {
+        if let Some((call, answer)) = call_and_answer(row) {
+            let before = sink.written.len();
+            call_made(rt.alloc(), &mut history, &mut sink, call)?;
+            let written = sink.written.get(before..).unwrap_or(b"?");
+            let said = pictured_bytes(rt.alloc(), written)?;
+            assert_eq!(rt; or_nothing(said.as_str()), answer, "{row}");
+        }
+    }
     Ok(())
 }

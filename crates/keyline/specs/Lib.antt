@@ -1,6 +1,7 @@
 pub mod Calls
 pub mod Closing
 pub mod Desks
+pub mod Edits
 pub mod Endings
 pub mod OneByte
 pub mod Options

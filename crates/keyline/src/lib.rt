@@ -7,12 +7,17 @@
 //! the definitions in `specs/`. All that a call of it needs is handed on here.
 #![tactic(auto)]
 
+pub mod brackets;
 mod desk;
+
 pub mod ending;
 mod help;
 pub mod laws;
 pub mod options;
+pub mod program;
 pub mod session;
+
+pub use brackets::BracketHelper;
 
 pub use ending::Ending;
 pub use line_config::{
@@ -35,4 +40,5 @@ pub use line_keys::{
     Invoke, KeyCode, KeyEvent, Keys, Modifiers, Text,
 };
 pub use options::{Options, Parsed, parse};
+pub use program::edit;
 pub use session::{Ended, Session};

@@ -1,40 +1,23 @@
 //! Emacs mode: bindings, handlers and key sequences.
 
-use crate::commands::{bind, bind_commands, way_named};
-use crate::tables::{Desk, each_row, leads_to};
-use crate::telling::Stage;
+use crate::tables::plays;
 use line_config::EditMode;
-use line_keys::{Bindings, EventHandler};
-use stand_ins::handlers::{HintOrKill, OneWay};
-use stand_ins::tables::call_and_answer;
-use std::alloc::Global;
 use std::test::Fail;
 
-fn desk<'b>(alloc: Global, bindings: &'b Bindings, stage: Stage) -> Desk<'b> {
-    Desk {
-        alloc,
-        mode: EditMode::Emacs,
-        bindings,
-        stage,
-    }
-}
-
-const COMMANDS_BOUND: &str = "
-    C-O            = SelfInsert(1, 'x')
-    C-T            = Yank(2, Before)
-    C-K            = Undo(3)
-    C-R            = Replace(ForwardChar(0), None)
-    C-B            = Move(EndOfLine)
-    C-C            = Repaint
-    C-D            = Noop
-    x              = Newline
-    Esc            = AcceptLine
-    A-7            = Abort
-    5              = Abort
-    C-w            = Abort
-";
-
 const COMMANDS: &str = "
+    bind: C-O          = SelfInsert(1, 'x')
+    bind: C-T          = Yank(2, Before)
+    bind: C-K          = Undo(3)
+    bind: C-R          = Replace(ForwardChar(0), None)
+    bind: C-B          = Move(EndOfLine)
+    bind: C-C          = Repaint
+    bind: C-D          = Noop
+    bind: x            = Newline
+    bind: Esc          = AcceptLine
+    bind: A-7          = Abort
+    bind: 5            = Abort
+    bind: C-w          = Abort
+
     C-O            | SelfInsert(1, 'x')
     A-3 C-O        | <3> <line> SelfInsert(3, 'x')
     A-- 3 C-O      | <-1> <-3> <line> SelfInsert(3, 'x')
@@ -59,9 +42,12 @@ const COMMANDS: &str = "
     C-w            | Unknown
     C-X Esc        | Abort
     C-] x          | Move(ViCharSearch(1, ForwardBefore('x')))
-";
 
-const COMMANDS_AFTER_AN_INSERTION: &str = "
+    line: |
+    C-D            | Noop
+
+    line: a|b
+    inserted: yz
     C-O            | Insert(1, \"yz\")
     A-3 C-O        | <3> <line> Insert(3, \"yz\")
     C-R            | Replace(ForwardChar(2), Some(\"yz\"))
@@ -71,48 +57,26 @@ const COMMANDS_AFTER_AN_INSERTION: &str = "
 
 #[test]
 fn keys_bound_to_commands(rt: HostRuntime) -> Result<(), Fail> {
-    let alloc = rt.alloc();
-    let mut bindings = Bindings::new(alloc)?;
-    bind_commands(alloc, &mut bindings, COMMANDS_BOUND)?;
-    each_row(&rt, &desk(alloc, &bindings, Stage::new("ab", 1)), COMMANDS)?;
-    leads_to(
-        &rt,
-        &desk(alloc, &bindings, Stage::new("", 0)),
-        "C-D",
-        "Noop",
-    )?;
-    let mut stage = Stage::new("ab", 1);
-    stage.inserted = Some("yz");
-    each_row(
-        &rt,
-        &desk(alloc, &bindings, stage),
-        COMMANDS_AFTER_AN_INSERTION,
-    )?;
-    Ok(())
+    plays(&rt, EditMode::Emacs, COMMANDS)
 }
 
-const SEQUENCES_TO_COMMANDS: &str = "
-    C-x C-e        = Repaint
-    C-X C-Y        = SelfInsert(1, 'x')
-    C-X C-U C-F    = Newline
-    F1 F2          = ClearScreen
-    F1 F2 F5       = Complete
-    F2 F2 F2       = Complete
-    C-A C-B        = Complete
-    x y            = Complete
-    F3 F2 F1       = Complete
-";
-
-const SEQUENCES_TO_HANDLERS: &str = "
-    C-X C-A        = Count
-    C-X C-B        = Fails
-    C-X C-W        = WantsMemory
-    C-X C-G        = Nothing
-    F3 F2          = Nothing
-    F4             = Nothing
-";
-
 const SEQUENCES: &str = "
+    bind: C-x C-e      = Repaint
+    bind: C-X C-Y      = SelfInsert(1, 'x')
+    bind: C-X C-U C-F  = Newline
+    bind: F1 F2        = ClearScreen
+    bind: F1 F2 F5     = Complete
+    bind: F2 F2 F2     = Complete
+    bind: C-A C-B      = Complete
+    bind: x y          = Complete
+    bind: F3 F2 F1     = Complete
+    ask: C-X C-A       = Count
+    ask: C-X C-B       = Fails
+    ask: C-X C-W       = WantsMemory
+    ask: C-X C-G       = Nothing
+    ask: F3 F2         = Nothing
+    ask: F4            = Nothing
+
     C-X C-E q          | Repaint; SelfInsert(1, 'q')
     A-3 C-X C-E q      | <3> <line> Repaint; SelfInsert(1, 'q')
     C-X z q            | Unknown; SelfInsert(1, 'q')
@@ -154,9 +118,9 @@ const SEQUENCES: &str = "
     F1 text:ab x       | PasteOutOfPlace left 2
     F2 F2 !failed      | Reader left 0
     F4                 | Eof left 0
-";
 
-const ONE_SEQUENCE: &str = "
+    unbind:
+    bind: C-X C-E      = Repaint
     C-X C-E q          | Repaint; SelfInsert(1, 'q')
     C-X z q            | Unknown; SelfInsert(1, 'q')
     C-X C-U q          | Undo(1); SelfInsert(1, 'q')
@@ -165,39 +129,19 @@ const ONE_SEQUENCE: &str = "
 
 #[test]
 fn bound_sequences(rt: HostRuntime) -> Result<(), Fail> {
-    let alloc = rt.alloc();
-    let stage = Stage::new("ab", 1);
-    let mut bindings = Bindings::new(alloc)?;
-    bind_commands(alloc, &mut bindings, SEQUENCES_TO_COMMANDS)?;
-    for row in SEQUENCES_TO_HANDLERS.lines() {
-        if let Some((keys, way)) = call_and_answer(row) {
-            let handler = Box::new(alloc, way_named(way))?;
-            bind(
-                alloc,
-                &mut bindings,
-                keys,
-                EventHandler::Conditional(handler),
-            )?;
-        }
-    }
-    each_row(&rt, &desk(alloc, &bindings, stage), SEQUENCES)?;
-    let mut one = Bindings::new(alloc)?;
-    bind_commands(alloc, &mut one, "C-X C-E = Repaint")?;
-    each_row(&rt, &desk(alloc, &one, stage), ONE_SEQUENCE)?;
-    Ok(())
+    plays(&rt, EditMode::Emacs, SEQUENCES)
 }
 
-const HANDLERS_BOUND: &str = "
-    C-O            = Count
-    A-f            = Nothing
-    C-X            = Nothing
-    C-C            = Nothing
-    F1             = Nothing
-    x              = Fails
-    C-V            = WantsMemory
-";
-
 const HANDLERS: &str = "
+    ask: C-O           = Count
+    ask: A-f           = Nothing
+    ask: C-X           = Nothing
+    ask: C-C           = Nothing
+    ask: F1            = Nothing
+    ask: x             = Fails
+    ask: C-V           = WantsMemory
+    ask: F2            = HintOrKill
+
     C-O            | Undo(1)
     A-0 C-O        | <0> <line> Undo(1)
     A-5 C-O        | <5> <line> Undo(5)
@@ -215,46 +159,26 @@ const HANDLERS: &str = "
     A-- 3 F2       | <-1> <-3> <line> Kill(BackwardChar(3))
     A-9 F2         | <9> <line> Kill(ForwardChar(9))
     A-1 0 F2 z q   | <1> <10> <line> Unknown; SelfInsert(1, 'q')
+
+    line: |
+    A-5 F2 q       | <5> <line> Handler left 1
+
+    line: ab|
+    hint: c
+    A-5 F2         | <5> <line> CompleteHint
 ";
 
 #[test]
 fn keys_bound_to_handlers(rt: HostRuntime) -> Result<(), Fail> {
-    let alloc = rt.alloc();
-    let mut bindings = Bindings::new(alloc)?;
-    for row in HANDLERS_BOUND.lines() {
-        if let Some((keys, way)) = call_and_answer(row) {
-            let handler = Box::new(alloc, way_named(way))?;
-            bind(
-                alloc,
-                &mut bindings,
-                keys,
-                EventHandler::Conditional(handler),
-            )?;
-        }
-    }
-    let shown = Box::new(alloc, HintOrKill { most: 9 })?;
-    bind(alloc, &mut bindings, "F2", EventHandler::Conditional(shown))?;
-    each_row(&rt, &desk(alloc, &bindings, Stage::new("ab", 1)), HANDLERS)?;
-    let empty = desk(alloc, &bindings, Stage::new("", 0));
-    leads_to(&rt, &empty, "A-5 F2 q", "<5> <line> Handler left 1")?;
-    let mut stage = Stage::new("ab", 2);
-    stage.hint = Some("c");
-    leads_to(
-        &rt,
-        &desk(alloc, &bindings, stage),
-        "A-5 F2",
-        "<5> <line> CompleteHint",
-    )?;
-    Ok(())
+    plays(&rt, EditMode::Emacs, HANDLERS)
 }
 
-const ANY_BOUND: &str = "
-                   = Noop
-    C-O            = Undo(3)
-    C-X C-E        = Repaint
-";
-
 const ANY: &str = "
+    bind:              = Noop
+    bind: C-O          = Undo(3)
+    bind: C-X C-E      = Repaint
+    ask: C-K           = Nothing
+
     x                    | Noop
     A-5 x                | <5> <line> Noop
     C-O                  | Undo(3)
@@ -264,14 +188,12 @@ const ANY: &str = "
     C-X C-E              | Noop; Noop
     UnknownEscSeq        | Noop
     PasteStart text:ab x | Noop; PasteOutOfPlace left 2
-";
 
-const ANY_OF_A_CHARACTER: &str = "
+    bind:              = SelfInsert(9, 'y')
     A-3 x C-K            | <3> <line> SelfInsert(3, 'y'); Kill(EndOfLine)
     C-D                  | SelfInsert(1, 'y')
-";
 
-const ANY_OF_NOTHING: &str = "
+    ask:               = Nothing
     x                    | SelfInsert(1, 'x')
     C-X C-E              | Repaint
     C-X z q              | Unknown; SelfInsert(1, 'q')
@@ -281,17 +203,5 @@ const ANY_OF_NOTHING: &str = "
 
 #[test]
 fn any_key_bound(rt: HostRuntime) -> Result<(), Fail> {
-    let alloc = rt.alloc();
-    let stage = Stage::new("ab", 1);
-    let mut bindings = Bindings::new(alloc)?;
-    bind_commands(alloc, &mut bindings, ANY_BOUND)?;
-    let none = Box::new(alloc, OneWay::Nothing)?;
-    bind(alloc, &mut bindings, "C-K", EventHandler::Conditional(none))?;
-    each_row(&rt, &desk(alloc, &bindings, stage), ANY)?;
-    bind_commands(alloc, &mut bindings, " = SelfInsert(9, 'y')")?;
-    each_row(&rt, &desk(alloc, &bindings, stage), ANY_OF_A_CHARACTER)?;
-    let none = Box::new(alloc, OneWay::Nothing)?;
-    bind(alloc, &mut bindings, "", EventHandler::Conditional(none))?;
-    each_row(&rt, &desk(alloc, &bindings, stage), ANY_OF_NOTHING)?;
-    Ok(())
+    plays(&rt, EditMode::Emacs, ANY)
 }

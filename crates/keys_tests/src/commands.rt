@@ -4,8 +4,7 @@ use crate::typing::event;
 use line_buffer::{Anchor, Movement};
 use line_config::ReadlineError;
 use line_keys::{Bindings, Cmd, EventHandler};
-use stand_ins::handlers::OneWay;
-use stand_ins::tables::call_and_answer;
+use stand_ins::handlers::{HintOrKill, OneWay};
 use std::alloc::Global;
 
 /// The command with these words.
@@ -35,8 +34,8 @@ pub(crate) fn command_named(words: &str) -> Option<Cmd> {
     Some(cmd)
 }
 
-/// The handler that answers in the way of this name.
-pub(crate) fn way_named(name: &str) -> OneWay {
+// The handler that answers in the way of this name.
+fn way_named(name: &str) -> OneWay {
     match name {
         "Count" => OneWay::Count,
         "Fails" => OneWay::Fails,
@@ -45,30 +44,32 @@ pub(crate) fn way_named(name: &str) -> OneWay {
     }
 }
 
-/// Binds keys; without keys, any.
-pub(crate) fn bind(
+/// Binds keys to the command with these words; without keys, any.
+pub(crate) fn bind_command(
     alloc: Global,
     bindings: &mut Bindings,
     keys: &str,
-    handler: EventHandler,
+    words: &str,
 ) -> Result<(), ReadlineError> {
-    let _ = bindings.bind_sequence(event(alloc, keys)?, handler)?;
+    let Some(cmd) = command_named(words) else {
+        return Err(ReadlineError::Helper);
+    };
+    let _ = bindings.bind_sequence(event(alloc, keys)?, EventHandler::from(cmd))?;
     Ok(())
 }
 
-/// Binds each row's keys to its command.
-pub(crate) fn bind_commands(
+/// Binds keys to the handler of this name; without keys, any.
+pub(crate) fn bind_handler(
     alloc: Global,
     bindings: &mut Bindings,
-    table: &str,
+    keys: &str,
+    name: &str,
 ) -> Result<(), ReadlineError> {
-    for row in table.lines() {
-        if let Some((keys, words)) = call_and_answer(row) {
-            let Some(cmd) = command_named(words) else {
-                return Err(ReadlineError::Helper);
-            };
-            bind(alloc, bindings, keys, EventHandler::from(cmd))?;
-        }
-    }
+    let handler = if name == "HintOrKill" {
+        EventHandler::Conditional(Box::new(alloc, HintOrKill { most: 9 })?)
+    } else {
+        EventHandler::Conditional(Box::new(alloc, way_named(name))?)
+    };
+    let _ = bindings.bind_sequence(event(alloc, keys)?, handler)?;
     Ok(())
 }

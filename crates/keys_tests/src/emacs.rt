@@ -1,10 +1,7 @@
 //! Emacs mode: each key with each count.
 
-use crate::tables::{Desk, each_count, each_display, each_row, leads_to};
-use crate::telling::Stage;
+use crate::tables::{each_count, plays};
 use line_config::EditMode;
-use line_keys::Bindings;
-use std::alloc::Global;
 use std::test::Fail;
 
 // Keys of a count, what the display is asked for them, and the count.
@@ -23,6 +20,7 @@ const COUNTS: &str = "
 
 // Keys, the command, and the command where the count is negative.
 const EMACS: &str = "
+    then: SelfInsert(1, 'q')
     x             | SelfInsert(n, 'x')                   | Unknown
     Q             | SelfInsert(n, 'Q')                   | Unknown
     é             | SelfInsert(n, 'é')                   | Unknown
@@ -87,6 +85,7 @@ const EMACS: &str = "
 
 // The keys that Emacs and Vi have in common, as Emacs reads them in a line with text.
 const COMMON: &str = "
+    then: SelfInsert(1, 'q')
     Home          | Move(BeginningOfLine)
     End           | Move(EndOfLine)
     Left          | Move(BackwardChar(n))                | Move(ForwardChar(n))
@@ -129,22 +128,10 @@ const COMMON: &str = "
     C-Z           | Suspend
 ";
 
-fn desk<'b>(alloc: Global, bindings: &'b Bindings, stage: Stage) -> Desk<'b> {
-    Desk {
-        alloc,
-        mode: EditMode::Emacs,
-        bindings,
-        stage,
-    }
-}
-
 #[test]
 fn each_key_with_each_count(rt: HostRuntime) -> Result<(), Fail> {
-    let bindings = Bindings::new(rt.alloc())?;
-    let desk = desk(rt.alloc(), &bindings, Stage::new("ab", 1));
-    each_count(&rt, &desk, COUNTS, EMACS, "SelfInsert(1, 'q')")?;
-    each_count(&rt, &desk, COUNTS, COMMON, "SelfInsert(1, 'q')")?;
-    Ok(())
+    each_count(&rt, EditMode::Emacs, COUNTS, EMACS)?;
+    each_count(&rt, EditMode::Emacs, COUNTS, COMMON)
 }
 
 // Counts, and how they end.
@@ -165,7 +152,15 @@ const TYPED_COUNTS: &str = "
     C-A-- x              | Unknown; SelfInsert(1, 'x')
     - 5                  | SelfInsert(1, '-'); SelfInsert(1, '5')
     A-2 PasteStart text:ab | <2> <line> Insert(1, \"ab\")
+
+    modes:
+    A-2 x                | <2> <line> SelfInsert(2, 'x') in Emacs mode
 ";
+
+#[test]
+fn counts_and_how_they_end(rt: HostRuntime) -> Result<(), Fail> {
+    plays(&rt, EditMode::Emacs, TYPED_COUNTS)
+}
 
 // Where the input ends or is no key, in the middle of a phrase.
 const CUT: &str = "
@@ -198,24 +193,23 @@ const CUT: &str = "
 ";
 
 #[test]
-fn counts_and_cuts(rt: HostRuntime) -> Result<(), Fail> {
-    let bindings = Bindings::new(rt.alloc())?;
-    let desk = desk(rt.alloc(), &bindings, Stage::new("ab", 1));
-    each_row(&rt, &desk, TYPED_COUNTS)?;
-    each_row(&rt, &desk, CUT)?;
-    Ok(())
+fn phrases_cut_off(rt: HostRuntime) -> Result<(), Fail> {
+    plays(&rt, EditMode::Emacs, CUT)
 }
 
-const EMPTY_LINE: &str = "
+const CONDITIONS: &str = "
+    line: |
     C-D                  | EndOfFile
     A-5 C-D              | <5> <line> EndOfFile
     A-- C-D              | <-1> <line> EndOfFile
     C-X C-D              | Unknown
     Delete               | Kill(ForwardChar(1))
     Right                | Move(ForwardChar(1))
-";
 
-const HINT_AT_THE_END: &str = "
+    line: ab|
+    Right                | Move(ForwardChar(1))
+
+    hint: c
     Right                | CompleteHint
     A-5 Right            | <5> <line> CompleteHint
     A-- Right            | <-1> <line> CompleteHint
@@ -223,44 +217,28 @@ const HINT_AT_THE_END: &str = "
     C-F                  | Move(ForwardChar(1))
     End                  | Move(EndOfLine)
     C-D                  | Kill(ForwardChar(1))
+
+    line: a|b
+    Right                | Move(ForwardChar(1))
 ";
 
 #[test]
 fn rows_with_conditions(rt: HostRuntime) -> Result<(), Fail> {
-    let alloc = rt.alloc();
-    let bindings = Bindings::new(alloc)?;
-    each_row(&rt, &desk(alloc, &bindings, Stage::new("", 0)), EMPTY_LINE)?;
-    let mut stage = Stage::new("ab", 2);
-    leads_to(
-        &rt,
-        &desk(alloc, &bindings, stage),
-        "Right",
-        "Move(ForwardChar(1))",
-    )?;
-    stage.hint = Some("c");
-    each_row(&rt, &desk(alloc, &bindings, stage), HINT_AT_THE_END)?;
-    stage.pos = 1;
-    leads_to(
-        &rt,
-        &desk(alloc, &bindings, stage),
-        "Right",
-        "Move(ForwardChar(1))",
-    )?;
-    Ok(())
+    plays(&rt, EditMode::Emacs, CONDITIONS)
 }
 
-// How many requests the display answers, and what the keys `A-- 2 C-B` lead to.
 const FAILING_DISPLAYS: &str = "
-    0 | Display left 2
-    1 | <-1> Display left 1
-    2 | <-1> <-2> Display left 0
-    3 | <-1> <-2> <line> Move(ForwardChar(2))
+    answered: 0
+    A-- 2 C-B | Display left 2
+    answered: 1
+    A-- 2 C-B | <-1> Display left 1
+    answered: 2
+    A-- 2 C-B | <-1> <-2> Display left 0
+    answered: 3
+    A-- 2 C-B | <-1> <-2> <line> Move(ForwardChar(2))
 ";
 
 #[test]
 fn the_display_fails_at_each_call(rt: HostRuntime) -> Result<(), Fail> {
-    let bindings = Bindings::new(rt.alloc())?;
-    let desk = desk(rt.alloc(), &bindings, Stage::new("ab", 1));
-    each_display(&rt, &desk, "A-- 2 C-B", FAILING_DISPLAYS)?;
-    Ok(())
+    plays(&rt, EditMode::Emacs, FAILING_DISPLAYS)
 }

@@ -1,14 +1,13 @@
 //! Keys, bindings and commands at work.
 
-use crate::commands::command_named;
-use crate::typing::{event, typed};
+use crate::commands::{bind_handler, command_named};
+use crate::typing::{event, long_text, typed};
 use line_buffer::{Movement, RepeatCount};
 use line_config::{EditMode, ReadlineError};
 use line_keys::{
     Bindings, Cmd, CmdKind, Decides, Event, EventContext, EventHandler, InputMode, KeyEvent,
     Modifiers, RawReader, Refresher, Text,
 };
-use stand_ins::handlers::HintOrKill;
 use stand_ins::key_names::{key_named, write_key};
 use stand_ins::reader_calls::tell_call;
 use stand_ins::readers::KeyList;
@@ -154,10 +153,10 @@ fn keys_have_one_form(rt: HostRuntime) -> Result<(), Fail> {
 
 // A count, a line with its cursor and a hint behind it, if there is one; what the handler bound to any key answers.
 const DECIDED: &str = "
-    -3 ab|                  = Some(Kill(BackwardChar(3)))
-    1 ab| c                 = Some(CompleteHint)
-    10 ab| c                = None
-    1 |                     = Handler
+    -3 ab|                  = Ok(Some(Kill(BackwardChar(3))))
+    1 ab| c                 = Ok(Some(CompleteHint))
+    10 ab| c                = Ok(None)
+    1 |                     = Err(Handler)
 ";
 
 // The line of a row.
@@ -187,21 +186,21 @@ fn decided(
     }
 }
 
+fn decided_told(alloc: Global, bindings: &Bindings, call: &str) -> Result<String, Fail> {
+    let (count, shown) = word_and_rest(call);
+    let line = line_of(alloc, shown)?;
+    let amount = count.trim_start_matches('-').parse()?;
+    let answer = decided(alloc, bindings, amount, !count.starts_with('-'), &line);
+    Ok(format!(in alloc; "{answer:?}")?)
+}
+
 #[test]
 fn a_boxed_handler_is_asked(rt: HostRuntime) -> Result<(), Fail> {
     let mut bindings = Bindings::new(rt.alloc())?;
-    let handler = Box::new(rt.alloc(), HintOrKill { most: 9 })?;
-    let _ = bindings.bind_sequence(Event::Any, EventHandler::Conditional(handler))?;
+    bind_handler(rt.alloc(), &mut bindings, "", "HintOrKill")?;
     for row in DECIDED.lines() {
         if let Some((call, answer)) = call_and_answer(row) {
-            let (count, shown) = word_and_rest(call);
-            let line = line_of(rt.alloc(), shown)?;
-            let amount = count.trim_start_matches('-').parse()?;
-            let positive = !count.starts_with('-');
-            let said = match decided(rt.alloc(), &bindings, amount, positive, &line) {
-                Ok(cmd) => format!(in rt.alloc(); "{cmd:?}")?,
-                Err(why) => format!(in rt.alloc(); "{why:?}")?,
-            };
+            let said = decided_told(rt.alloc(), &bindings, call)?;
             assert_eq!(rt; said.as_str(), answer, "{row}");
         }
     }
@@ -242,10 +241,7 @@ fn commands_are_made_anew(rt: HostRuntime) -> Result<(), Fail> {
 
 #[test]
 fn a_text_of_any_length_is_typed_over(rt: HostRuntime) -> Result<(), Fail> {
-    let mut long = String::new(rt.alloc());
-    for _ in 0..70_000 {
-        long.push('x')?;
-    }
+    let long = long_text(rt.alloc())?;
     let mut line = PlainLine::new(rt.alloc(), Text::try_from_str(rt.alloc(), "")?);
     line.inserted = Some(Text::from(long));
     match Cmd::Replace(Movement::ForwardChar(0), None).redo(rt.alloc(), None, &line)? {
@@ -305,25 +301,38 @@ fn a_reader_knows_signals(rt: HostRuntime) -> Result<(), Fail> {
     Ok(())
 }
 
-#[test]
-fn requests_stand_in_order(rt: HostRuntime) -> Result<(), Fail> {
-    let mut line = PlainLine::new(rt.alloc(), Text::try_from_str(rt.alloc(), "ab")?);
-    line.hint = Some(Text::try_from_str(rt.alloc(), "c")?);
-    line.refresh_prompt_and_line("(arg: 2) ")?;
-    line.refresh_line()?;
-    assert_eq!(rt; line.hint_text(), Some("c"));
-    line.refresh_line_with_msg(Some("no"), CmdKind::Other)?;
-    assert!(rt; !line.has_hint());
-    line.doing_insert()?;
-    line.done_inserting()?;
-    let mut said = String::new(rt.alloc());
-    for request in &line.requests {
-        write!(said, "{request:?} ")?;
+// Calls of a line with the hint `c`; the request that it keeps, and the hint then.
+const REQUESTS: &str = "
+    prompt (arg: 2)         = Some(Prompt(\"(arg: 2)\")) Some(\"c\") true
+    line                    = Some(Line) Some(\"c\") true
+    message no              = Some(Message(Some(\"no\"), Other)) None false
+    doing_insert            = Some(DoingInsert) None false
+    done_inserting          = Some(DoneInserting) None false
+";
+
+fn request(line: &mut PlainLine, call: &str) -> Result<(), ReadlineError> {
+    let (call, text) = word_and_rest(call);
+    match call {
+        "prompt" => line.refresh_prompt_and_line(text),
+        "line" => line.refresh_line(),
+        "message" => line.refresh_line_with_msg(Some(text), CmdKind::Other),
+        "doing_insert" => line.doing_insert(),
+        _ => line.done_inserting(),
     }
-    assert_eq!(rt;
-        said.as_str(),
-        "Prompt(\"(arg: 2) \") Line Message(Some(\"no\"), Other) DoingInsert DoneInserting "
-    );
+}
+
+#[test]
+fn requests_are_kept(rt: HostRuntime) -> Result<(), Fail> {
+    let mut line = line_of(rt.alloc(), "ab| c")?;
+    for row in REQUESTS.lines() {
+        if let Some((call, answer)) = call_and_answer(row) {
+            request(&mut line, call)?;
+            let (last, hint) = (line.requests.last(), line.hint_text());
+            let said = format!(in rt.alloc(); "{last:?} {hint:?} {}", line.has_hint())?;
+            assert_eq!(rt; said.as_str(), answer, "{row}");
+        }
+    }
+    assert_eq!(rt; line.requests.len(), 5);
     Ok(())
 }
 

@@ -1,18 +1,80 @@
 //! Tables of keys and what they lead to.
+//!
+//! A row has keys, ` | `, and what they lead to. A row that begins with one of these words sets what stands there for the
+//! rows after it: `line: a|b` the line, with a bar at its cursor; `hint: c` the hint after it; `inserted: kl` the text that
+//! was inserted last; `answered: 3` how many requests the display answers before it fails, all of them where no number
+//! stands there; `bind: C-O = Undo(3)` and `ask: C-O = Count` bind keys to a command or a handler, and any key where no
+//! keys are named; `unbind:` takes all bindings off; from `modes:` on, the mode that a command leaves is told after it;
+//! `then: Noop` is the command of the key `q` that a row with a count ends with.
 
-use crate::telling::{Stage, told};
+use crate::commands::{bind_command, bind_handler};
+use crate::telling::told;
 use line_config::{EditMode, ReadlineError};
 use line_keys::Bindings;
+use stand_ins::tables::word_and_rest;
 use std::alloc::Global;
 use std::process::Abort;
+use std::test::Fail;
 
 /// Where the keys of a table are typed.
-#[derive(Clone, Copy)]
-pub struct Desk<'b> {
+#[derive(Drop)]
+pub struct Desk<'t> {
     pub alloc: Global,
     pub mode: EditMode,
-    pub bindings: &'b Bindings,
-    pub stage: Stage,
+    pub bindings: Bindings,
+    /// The line, with a bar at the cursor.
+    pub line: &'t str,
+    pub hint: Option<&'t str>,
+    pub inserted: Option<&'t str>,
+    /// How many requests the display answers, if not all.
+    pub answered: Option<u32>,
+    /// Whether the mode is told after each command.
+    pub modes: bool,
+    then: &'t str,
+}
+
+impl<'t> Desk<'t> {
+    /// The cursor between the two characters of a line; nothing is bound.
+    pub(crate) fn new(alloc: Global, mode: EditMode) -> Result<Self, ReadlineError> {
+        Ok(Desk {
+            alloc,
+            mode,
+            bindings: Bindings::new(alloc)?,
+            line: "a|b",
+            hint: None,
+            inserted: None,
+            answered: None,
+            modes: false,
+            then: "",
+        })
+    }
+
+    // Does what a row says that has no ` | `.
+    fn set(&mut self, row: &'t str) -> Result<(), Fail> {
+        let (word, rest) = word_and_rest(row);
+        match word {
+            "" => {}
+            "line:" => self.line = rest,
+            "hint:" => self.hint = Some(rest),
+            "inserted:" => self.inserted = Some(rest),
+            "answered:" => self.answered = rest.parse().ok(),
+            "modes:" => self.modes = true,
+            "then:" => self.then = rest,
+            "unbind:" => self.bindings = Bindings::new(self.alloc)?,
+            _ => self.bind(word, rest)?,
+        }
+        Ok(())
+    }
+
+    fn bind(&mut self, word: &str, rest: &str) -> Result<(), Fail> {
+        let (keys, bound) = rest.split_once("= ").ok_or("nothing to bind")?;
+        match word {
+            "bind:" => bind_command(self.alloc, &mut self.bindings, keys, bound)?,
+            "ask:" => bind_handler(self.alloc, &mut self.bindings, keys, bound)?,
+            _ => return Err(Fail::new(format_args!("no row: {word} {rest}"))),
+        }
+        Ok(())
+    }
 }
 
 /// A line of a table that is no row of it has to be blank.
@@ -28,51 +90,23 @@ pub(crate) fn leads_to(
     wanted: &str,
 ) -> Result<(), ReadlineError> {
     for first_by_key in [false, true] {
-        let said = told(
-            desk.alloc,
-            desk.mode,
-            desk.bindings,
-            &desk.stage,
-            first_by_key,
-            keys,
-        )?;
+        let said = told(desk, first_by_key, keys)?;
         assert_eq!(rt; said.as_str(), wanted, "typed: {keys}");
     }
     Ok(())
 }
 
-/// Each row has keys and, behind a bar, what they lead to.
-pub(crate) fn each_row(rt: &impl Abort, desk: &Desk<'_>, table: &str) -> Result<(), ReadlineError> {
-    for row in table.lines() {
-        match row.split_once('|') {
-            Some((keys, wanted)) => leads_to(rt, desk, keys, wanted.trim())?,
-            None => is_blank(rt, row),
-        }
-    }
-    Ok(())
-}
-
-/// Each row has a number of requests that the display answers and, behind a bar, what the keys lead to then.
-pub(crate) fn each_display(
-    rt: &impl Abort,
-    desk: &Desk<'_>,
-    keys: &str,
+/// Types the keys of each row, from the desk as it stands at first.
+pub(crate) fn plays(
+    rt: &(impl AllocGlobal + Abort),
+    mode: EditMode,
     table: &str,
-) -> Result<(), ReadlineError> {
+) -> Result<(), Fail> {
+    let mut desk = Desk::new(rt.alloc(), mode)?;
     for row in table.lines() {
-        match row.split_once('|') {
-            Some((answered, wanted)) => {
-                let mut stage = desk.stage;
-                stage.answered = answered.trim().parse().ok();
-                let desk = Desk {
-                    alloc: desk.alloc,
-                    mode: desk.mode,
-                    bindings: desk.bindings,
-                    stage,
-                };
-                leads_to(rt, &desk, keys, wanted.trim())?;
-            }
-            None => is_blank(rt, row),
+        match row.split_once(" | ") {
+            Some((keys, wanted)) => leads_to(rt, &desk, keys, wanted.trim())?,
+            None => desk.set(row.trim())?,
         }
     }
     Ok(())
@@ -86,22 +120,23 @@ pub(crate) fn three_columns(row: &str) -> Option<(&str, &str, &str)> {
 }
 
 /// Each row has keys and a command, and perhaps the command where the count is negative. `n` in parentheses stands for
-/// the count's amount. Each row of `counts` has keys, what the display is asked for them, and the count. Behind all the
-/// key `q` is typed, which `after` is the command of.
+/// the count's amount. Each row of `counts` has keys, what the display is asked for them, and the count. After all the
+/// key `q` is typed.
 pub(crate) fn each_count(
-    rt: &impl Abort,
-    desk: &Desk<'_>,
+    rt: &(impl AllocGlobal + Abort),
+    mode: EditMode,
     counts: &str,
     table: &str,
-    after: &str,
-) -> Result<(), ReadlineError> {
+) -> Result<(), Fail> {
+    let mut desk = Desk::new(rt.alloc(), mode)?;
     for row in table.lines() {
-        let Some((keys, commands)) = row.split_once('|') else {
-            is_blank(rt, row);
-            continue;
-        };
-        let (plus, minus) = commands.split_once('|').unwrap_or((commands, commands));
-        counted(rt, desk, counts, keys, plus.trim(), minus.trim(), after)?;
+        match row.split_once(" | ") {
+            Some((keys, commands)) => {
+                let (plus, minus) = commands.split_once(" | ").unwrap_or((commands, commands));
+                counted(rt, &desk, counts, keys, plus.trim(), minus.trim())?;
+            }
+            None => desk.set(row.trim())?,
+        }
     }
     Ok(())
 }
@@ -113,7 +148,6 @@ fn counted(
     keys: &str,
     plus: &str,
     minus: &str,
-    after: &str,
 ) -> Result<(), ReadlineError> {
     for row in counts.lines() {
         let Some((typed, asked, count)) = three_columns(row) else {
@@ -124,11 +158,14 @@ fn counted(
             Some(amount) => (minus, amount),
             None => (plus, count),
         };
-        let amount = format!(in desk.alloc; "({amount}")?;
-        let command = command.replace(desk.alloc, "(n", amount.as_str())?;
+        let (before, amount, after) = match command.split_once("(n") {
+            Some((before, after)) => (before, amount, after),
+            None => (command, "", ""),
+        };
+        let open = if amount.is_empty() { "" } else { "(" };
         let keys = format!(in desk.alloc; "{typed} {keys} q")?;
-        let wanted = format!(in desk.alloc; "{asked} {command}; {after}")?;
-        leads_to(rt, desk, keys.as_str(), wanted.trim())?;
+        let led = format!(in desk.alloc; "{asked} {before}{open}{amount}{after}; {}", desk.then)?;
+        leads_to(rt, desk, keys.as_str(), led.as_str().trim())?;
     }
     Ok(())
 }

@@ -1,44 +1,24 @@
 //! What typed keys lead to, in words.
 
+use crate::tables::Desk;
 use crate::typing::typed;
-use line_config::{Config, EditMode, ReadlineError};
-use line_keys::{Bindings, Cmd, InputState, Text};
+use line_config::{Config, ReadlineError};
+use line_keys::{Cmd, InputState, Text};
 use stand_ins::readers::KeyList;
 use stand_ins::refreshers::{PlainLine, Request};
+use stand_ins::tables::line_and_place;
 use std::alloc::Global;
+use std::mem::replace;
 
-/// The line that stands there when keys are typed.
-#[derive(Clone, Copy)]
-pub struct Stage {
-    pub text: &'static str,
-    /// The place of the cursor, in bytes.
-    pub pos: usize,
-    pub hint: Option<&'static str>,
-    pub inserted: Option<&'static str>,
-    /// How many requests the display answers, if not all.
-    pub answered: Option<u32>,
-}
-
-impl Stage {
-    /// A line without hint, and without a text inserted before.
-    pub(crate) const fn new(text: &'static str, pos: usize) -> Self {
-        Stage {
-            text,
-            pos,
-            hint: None,
-            inserted: None,
-            answered: None,
-        }
-    }
-
-    fn line(&self, alloc: Global) -> Result<PlainLine, ReadlineError> {
-        let mut line = PlainLine::new(alloc, Text::try_from_str(alloc, self.text)?);
-        line.pos = self.pos;
-        line.hint = copied(alloc, self.hint)?;
-        line.inserted = copied(alloc, self.inserted)?;
-        line.answered = self.answered;
-        Ok(line)
-    }
+// The line that stands there when keys are typed.
+fn line_at(desk: &Desk<'_>) -> Result<PlainLine, ReadlineError> {
+    let (text, pos) = line_and_place(desk.alloc, desk.line)?;
+    let mut line = PlainLine::new(desk.alloc, Text::from(text));
+    line.pos = pos;
+    line.hint = copied(desk.alloc, desk.hint)?;
+    line.inserted = copied(desk.alloc, desk.inserted)?;
+    line.answered = desk.answered;
+    Ok(line)
 }
 
 fn copied(alloc: Global, text: Option<&str>) -> Result<Option<Text>, ReadlineError> {
@@ -51,43 +31,53 @@ fn copied(alloc: Global, text: Option<&str>) -> Result<Option<Text>, ReadlineErr
 /// The commands of what is typed, parted by `; `. Before each command stands what was asked of the display for it, as
 /// `<line>`, or `<7>` for the prompt of the count 7. A refusal is the last, with how many keys and pastes it leaves.
 pub(crate) fn told(
-    alloc: Global,
-    mode: EditMode,
-    bindings: &Bindings,
-    stage: &Stage,
+    desk: &Desk<'_>,
     first_by_key: bool,
     words: &str,
 ) -> Result<String, ReadlineError> {
-    let config = Config::builder().edit_mode(mode).build();
+    let alloc = desk.alloc;
+    let config = Config::builder().edit_mode(desk.mode).build();
     let input = typed(alloc, words)?;
     let mut reader = KeyList::new(&input.typed, input.cut, input.after);
-    let mut line = stage.line(alloc)?;
-    let mut state = InputState::new(alloc, &config, bindings)?;
+    let mut line = line_at(desk)?;
+    let mut state = InputState::new(alloc, &config, &desk.bindings)?;
     let mut said = String::new(alloc);
     for _ in 0..100 {
         let answer = state.next_cmd(alloc, &mut reader, &mut line, false, first_by_key);
-        for request in &line.requests {
-            tell_request(&mut said, request)?;
-        }
-        line.requests = Vec::new(alloc);
-        match answer {
-            Ok(cmd) => tell_command(&mut said, &cmd)?,
-            Err(why) => {
-                write!(said, "{why:?} left {}", reader.left().len())?;
-                break;
-            }
-        }
-        if reader.left().is_empty() {
+        let mode = match (desk.modes, state.is_emacs_mode(), state.is_vi_cmd_mode()) {
+            (false, _, _) => "",
+            (true, true, _) => " in Emacs mode",
+            (true, false, true) => " in command mode",
+            (true, false, false) => " in insert mode",
+        };
+        let requests = replace(&mut line.requests, Vec::new(alloc));
+        if tell(&mut said, &requests, answer, mode, reader.left().len())? {
             break;
         }
-        said.push_str("; ")?;
     }
     Ok(said)
 }
 
-fn tell_command(said: &mut String, cmd: &Cmd) -> Result<(), ReadlineError> {
-    write!(said, "{cmd:?}")?;
-    Ok(())
+// Tells one phrase, and answers whether it was the last.
+fn tell(
+    said: &mut String,
+    requests: &[Request],
+    answer: Result<Cmd, ReadlineError>,
+    mode: &str,
+    left: usize,
+) -> Result<bool, ReadlineError> {
+    for request in requests {
+        tell_request(said, request)?;
+    }
+    match &answer {
+        Ok(cmd) => write!(said, "{cmd:?}{mode}")?,
+        Err(why) => write!(said, "{why:?} left {left}")?,
+    }
+    let last = answer.is_err() || left == 0;
+    if !last {
+        said.push_str("; ")?;
+    }
+    Ok(last)
 }
 
 fn tell_request(said: &mut String, request: &Request) -> Result<(), ReadlineError> {

@@ -5,7 +5,7 @@ use line_keys::{Event, Keys, Text};
 use stand_ins::key_names::key_named;
 use stand_ins::readers::{After, Typed};
 use stand_ins::tables::{call_and_answer, meant};
-use std::alloc::Global;
+use std::alloc::{AllocError, Global};
 use std::test::Fail;
 
 /// The event of keys by their names; without any, any event.
@@ -60,6 +60,15 @@ fn item(alloc: Global, word: &str) -> Result<Typed, ReadlineError> {
         Some(key) => Ok(Typed::Key(key)),
         None => Err(ReadlineError::Helper),
     }
+}
+
+/// More characters than a count can name.
+pub(crate) fn long_text(alloc: Global) -> Result<String, AllocError> {
+    let mut long = String::new(alloc);
+    for _ in 0..70_000 {
+        long.push('x')?;
+    }
+    Ok(long)
 }
 
 const NAMES: &str = "

@@ -1,14 +1,9 @@
 //! Vi: command mode.
 
-use crate::tables::{each_count, each_row};
-use crate::telling::Stage;
-use crate::typing::typed;
-use crate::vi_insert::desk;
-use line_buffer::Movement;
-use line_config::{Config, EditMode};
-use line_keys::{Bindings, Cmd, InputState, Text};
-use stand_ins::readers::KeyList;
-use stand_ins::refreshers::PlainLine;
+use crate::tables::{Desk, each_count, plays};
+use crate::telling::told;
+use crate::typing::long_text;
+use line_config::EditMode;
 use std::test::Fail;
 
 // Keys of a count, what the display is asked for them, and the count. Esc leaves insert mode, in which a line begins.
@@ -21,8 +16,9 @@ const COUNTS: &str = "
     Esc 9 9 9 9 9 | <done> Move(BackwardChar(1)); <9> <99> <999> <9999> <9999> <line> | 9999
 ";
 
-// What stays in command mode.
+// What stays in command mode, what enters insert mode, and what enters replace mode.
 const COMMANDS: &str = "
+    then: Unknown
     $             | Move(EndOfLine)
     End           | Move(EndOfLine)
     ^             | Move(ViFirstPrint)
@@ -110,10 +106,8 @@ const COMMANDS: &str = "
     C-C           | Interrupt
     C-\\          | Interrupt
     C-Z           | Suspend
-";
 
-// What enters insert mode.
-const INSERTING: &str = "
+    then: SelfInsert(1, 'q')
     a             | <insert> Move(ForwardChar(n))
     A             | <insert> Move(EndOfLine)
     i             | <insert> Noop
@@ -123,14 +117,17 @@ const INSERTING: &str = "
     S             | Replace(WholeLine, None)
     C-R           | ReverseSearchHistory
     C-S           | ForwardSearchHistory
-";
 
-// What enters replace mode.
-const REPLACING: &str = "
+    then: Overwrite('q')
     R             | Replace(ForwardChar(0), None)
 ";
 
-// What `0` does where no count is typed.
+#[test]
+fn each_key_of_command_mode(rt: HostRuntime) -> Result<(), Fail> {
+    each_count(&rt, EditMode::Vi, COUNTS, COMMANDS)
+}
+
+// What `0` does where no count is typed, and what ends a count.
 const NO_COUNT: &str = "
     Esc 0 q              | <done> Move(BackwardChar(1)); Move(BeginningOfLine); Unknown
     Esc 0 5 x            | <done> Move(BackwardChar(1)); Move(BeginningOfLine); <5> <line> Kill(ForwardChar(5))
@@ -143,14 +140,8 @@ const NO_COUNT: &str = "
 ";
 
 #[test]
-fn each_key_of_command_mode(rt: HostRuntime) -> Result<(), Fail> {
-    let bindings = Bindings::new(rt.alloc())?;
-    let desk = desk(rt.alloc(), &bindings, Stage::new("ab", 1));
-    each_count(&rt, &desk, COUNTS, COMMANDS, "Unknown")?;
-    each_count(&rt, &desk, COUNTS, INSERTING, "SelfInsert(1, 'q')")?;
-    each_count(&rt, &desk, COUNTS, REPLACING, "Overwrite('q')")?;
-    each_row(&rt, &desk, NO_COUNT)?;
-    Ok(())
+fn what_is_no_count(rt: HostRuntime) -> Result<(), Fail> {
+    plays(&rt, EditMode::Vi, NO_COUNT)
 }
 
 // Where the input ends or is no key, in the middle of a phrase of command mode.
@@ -173,9 +164,7 @@ const CUT: &str = "
 
 #[test]
 fn phrases_cut_off(rt: HostRuntime) -> Result<(), Fail> {
-    let bindings = Bindings::new(rt.alloc())?;
-    each_row(&rt, &desk(rt.alloc(), &bindings, Stage::new("ab", 1)), CUT)?;
-    Ok(())
+    plays(&rt, EditMode::Vi, CUT)
 }
 
 // Searches of a character, as they are remembered.
@@ -192,8 +181,18 @@ const SEARCHES: &str = "
     A-; d ; d ,          | <done> Noop; Unknown; Unknown
 ";
 
-// Changes made anew by `.`, where the text `kl` was inserted last.
+#[test]
+fn searches_are_remembered(rt: HostRuntime) -> Result<(), Fail> {
+    plays(&rt, EditMode::Vi, SEARCHES)
+}
+
+// Changes made anew by `.`, where no text was inserted before, and where the text `kl` was.
 const DOTS: &str = "
+    k l A-. 2 .          | SelfInsert(1, 'k'); SelfInsert(1, 'l'); <done> SelfInsert(1, 'k'); <2> <line> SelfInsert(2, 'k')
+    A-R Esc .            | <done> Replace(ForwardChar(0), None); <done> Move(BackwardChar(1)); Replace(ForwardChar(0), None)
+    A-c w Esc 2 .        | <done> Replace(ForwardWord(1, AfterEnd, Vi), None); <done> Move(BackwardChar(1)); <2> <line> Replace(ForwardWord(2, AfterEnd, Vi), None)
+
+    inserted: kl
     A-x . 3 . .          | <done> Kill(ForwardChar(1)); Kill(ForwardChar(1)); <3> <line> Kill(ForwardChar(3)); Kill(ForwardChar(3))
     A-3 x .              | <done> <3> <line> Kill(ForwardChar(3)); Kill(ForwardChar(3))
     A-X .                | <done> Kill(BackwardChar(1)); Kill(BackwardChar(1))
@@ -225,49 +224,21 @@ const DOTS: &str = "
     C-W x A-.            | Kill(BackwardWord(1, Big)); SelfInsert(1, 'x'); <done> Insert(1, \"kl\")
 ";
 
-// The same where no text was inserted.
-const DOTS_WITHOUT_TEXT: &str = "
-    k l A-. 2 .          | SelfInsert(1, 'k'); SelfInsert(1, 'l'); <done> SelfInsert(1, 'k'); <2> <line> SelfInsert(2, 'k')
-    A-R Esc .            | <done> Replace(ForwardChar(0), None); <done> Move(BackwardChar(1)); Replace(ForwardChar(0), None)
-    A-c w Esc 2 .        | <done> Replace(ForwardWord(1, AfterEnd, Vi), None); <done> Move(BackwardChar(1)); <2> <line> Replace(ForwardWord(2, AfterEnd, Vi), None)
-";
-
 #[test]
-fn what_is_remembered(rt: HostRuntime) -> Result<(), Fail> {
-    let bindings = Bindings::new(rt.alloc())?;
-    let mut stage = Stage::new("ab", 1);
-    each_row(&rt, &desk(rt.alloc(), &bindings, stage), SEARCHES)?;
-    each_row(&rt, &desk(rt.alloc(), &bindings, stage), DOTS_WITHOUT_TEXT)?;
-    stage.inserted = Some("kl");
-    each_row(&rt, &desk(rt.alloc(), &bindings, stage), DOTS)?;
-    Ok(())
+fn changes_are_remembered(rt: HostRuntime) -> Result<(), Fail> {
+    plays(&rt, EditMode::Vi, DOTS)
 }
 
 #[test]
 fn a_long_text_typed_over(rt: HostRuntime) -> Result<(), Fail> {
-    let alloc = rt.alloc();
-    let mut long = String::new(alloc);
-    for _ in 0..70_000 {
-        long.push('x')?;
-    }
-    let mut line = PlainLine::new(alloc, Text::try_from_str(alloc, "ab")?);
-    line.inserted = Some(Text::from(long));
-    let bindings = Bindings::new(alloc)?;
-    let config = Config::builder().edit_mode(EditMode::Vi).build();
-    let mut state = InputState::new(alloc, &config, &bindings)?;
-    assert!(rt; !state.is_emacs_mode());
-    let input = typed(alloc, "Esc R Esc .")?;
-    let mut reader = KeyList::new(&input.typed, input.cut, input.after);
-    for in_command_mode in [true, false, true] {
-        let _ = state.next_cmd(alloc, &mut reader, &mut line, false, true)?;
-        assert_eq!(rt; state.is_vi_cmd_mode(), in_command_mode);
-    }
-    match state.next_cmd(alloc, &mut reader, &mut line, false, true)? {
-        Cmd::Replace(movement, Some(text)) => {
-            assert_eq!(rt; movement, Movement::ForwardChar(65535));
-            assert_eq!(rt; text.as_str().len(), 70_000);
-        }
-        other => assert_eq!(rt; other, Cmd::Noop),
-    }
+    let long = long_text(rt.alloc())?;
+    let mut desk = Desk::new(rt.alloc(), EditMode::Vi)?;
+    desk.inserted = Some(long.as_str());
+    let said = told(&desk, true, "Esc R Esc .")?;
+    let said = said.replace(rt.alloc(), long.as_str(), "LONG")?;
+    assert_eq!(rt;
+        said.as_str(),
+        "<done> Move(BackwardChar(1)); Replace(ForwardChar(0), None); <done> Move(BackwardChar(1)); Replace(ForwardChar(65535), Some(\"LONG\"))"
+    );
     Ok(())
 }

@@ -1,27 +1,14 @@
 //! Vi: insert and replace mode.
 
-use crate::commands::{bind, bind_commands, way_named};
-use crate::tables::{Desk, each_count, each_display, each_row, leads_to};
-use crate::telling::Stage;
+use crate::tables::{each_count, plays};
 use line_config::EditMode;
-use line_keys::{Bindings, EventHandler};
-use stand_ins::tables::call_and_answer;
-use std::alloc::Global;
 use std::test::Fail;
-
-pub(crate) fn desk<'b>(alloc: Global, bindings: &'b Bindings, stage: Stage) -> Desk<'b> {
-    Desk {
-        alloc,
-        mode: EditMode::Vi,
-        bindings,
-        stage,
-    }
-}
 
 const NO_COUNT: &str = "| | 1";
 
 // Insert mode.
 const INSERT: &str = "
+    then: SelfInsert(1, 'q')
     x             | SelfInsert(1, 'x')
     é             | SelfInsert(1, 'é')
     5             | SelfInsert(1, '5')
@@ -78,6 +65,11 @@ const INSERT: &str = "
     C-Z           | Suspend
 ";
 
+#[test]
+fn each_key_of_insert_mode(rt: HostRuntime) -> Result<(), Fail> {
+    each_count(&rt, EditMode::Vi, NO_COUNT, INSERT)
+}
+
 // How insert and replace mode are left and entered.
 const MODES: &str = "
     Esc u                | <done> Move(BackwardChar(1)); Undo(1)
@@ -97,7 +89,15 @@ const MODES: &str = "
     A-- u                | <done> LineUpOrPreviousHistory(1); Undo(1)
     A-f x ;              | <done> Move(ViCharSearch(1, Forward('x'))); Move(ViCharSearch(1, Forward('x')))
     A-é u                | <done> Unknown; Undo(1)
+
+    modes:
+    x Esc R Esc          | SelfInsert(1, 'x') in insert mode; <done> Move(BackwardChar(1)) in command mode; Replace(ForwardChar(0), None) in insert mode; <done> Move(BackwardChar(1)) in command mode
 ";
+
+#[test]
+fn modes_left_and_entered(rt: HostRuntime) -> Result<(), Fail> {
+    plays(&rt, EditMode::Vi, MODES)
+}
 
 // Where the input ends or is no key, in the middle of a phrase of insert mode.
 const CUT: &str = "
@@ -115,70 +115,51 @@ const CUT: &str = "
 ";
 
 #[test]
-fn each_key_of_insert_mode(rt: HostRuntime) -> Result<(), Fail> {
-    let bindings = Bindings::new(rt.alloc())?;
-    let desk = desk(rt.alloc(), &bindings, Stage::new("ab", 1));
-    each_count(&rt, &desk, NO_COUNT, INSERT, "SelfInsert(1, 'q')")?;
-    each_row(&rt, &desk, MODES)?;
-    each_row(&rt, &desk, CUT)?;
-    Ok(())
+fn phrases_cut_off(rt: HostRuntime) -> Result<(), Fail> {
+    plays(&rt, EditMode::Vi, CUT)
 }
 
-const HINT_AT_THE_END: &str = "
-    Right                | CompleteHint
-    A-x                  | <done> Kill(ForwardChar(1))
-    Esc Right            | <done> Move(BackwardChar(1)); Move(ForwardChar(1))
-    Esc R Right          | <done> Move(BackwardChar(1)); Replace(ForwardChar(0), None); CompleteHint
-";
-
-const EMPTY_LINE: &str = "
+const CONDITIONS: &str = "
+    line: |
     C-D                  | EndOfFile
     Esc C-D              | <done> Move(BackwardChar(1)); EndOfFile
     Esc 5 C-D            | <done> Move(BackwardChar(1)); <5> <line> EndOfFile
     Esc d C-D            | <done> Move(BackwardChar(1)); Unknown
+
+    line: ab|
+    hint: c
+    Right                | CompleteHint
+    A-x                  | <done> Kill(ForwardChar(1))
+    Esc Right            | <done> Move(BackwardChar(1)); Move(ForwardChar(1))
+    Esc R Right          | <done> Move(BackwardChar(1)); Replace(ForwardChar(0), None); CompleteHint
+
+    line: a|b
+    Right                | Move(ForwardChar(1))
 ";
 
 #[test]
 fn rows_with_conditions(rt: HostRuntime) -> Result<(), Fail> {
-    let alloc = rt.alloc();
-    let bindings = Bindings::new(alloc)?;
-    each_row(&rt, &desk(alloc, &bindings, Stage::new("", 0)), EMPTY_LINE)?;
-    let mut stage = Stage::new("ab", 2);
-    stage.hint = Some("c");
-    each_row(&rt, &desk(alloc, &bindings, stage), HINT_AT_THE_END)?;
-    stage.pos = 1;
-    leads_to(
-        &rt,
-        &desk(alloc, &bindings, stage),
-        "Right",
-        "Move(ForwardChar(1))",
-    )?;
-    Ok(())
+    plays(&rt, EditMode::Vi, CONDITIONS)
 }
-
-const COMMANDS_BOUND: &str = "
-    C-O            = SelfInsert(2, 'y')
-    C-T            = Kill(BackwardChar(2))
-    C-N            = Undo(3)
-    z              = Kill(ForwardChar(4))
-    Esc            = AcceptLine
-    3              = Abort
-    C-X C-E        = Repaint
-    C-X C-K        = Kill(EndOfLine)
-";
-
-const HANDLERS_BOUND: &str = "
-    C-L            = Count
-    C-P            = Nothing
-    C-X C-B        = Count
-    C-X C-F        = Fails
-    C-V            = WantsMemory
-    A-w            = Nothing
-    w              = Count
-";
 
 // Bindings, first in insert mode and then, after ALT with `u`, in command mode.
 const BOUND: &str = "
+    bind: C-O          = SelfInsert(2, 'y')
+    bind: C-T          = Kill(BackwardChar(2))
+    bind: C-N          = Undo(3)
+    bind: z            = Kill(ForwardChar(4))
+    bind: Esc          = AcceptLine
+    bind: 3            = Abort
+    bind: C-X C-E      = Repaint
+    bind: C-X C-K      = Kill(EndOfLine)
+    ask: C-L           = Count
+    ask: C-P           = Nothing
+    ask: C-X C-B       = Count
+    ask: C-X C-F       = Fails
+    ask: C-V           = WantsMemory
+    ask: A-w           = Nothing
+    ask: w             = Count
+
     C-O                  | SelfInsert(2, 'y')
     C-T                  | Kill(BackwardChar(2))
     C-N                  | Undo(3)
@@ -215,63 +196,37 @@ const BOUND: &str = "
     A-z .                | <done> Kill(ForwardChar(4)); Kill(ForwardChar(4))
     A-u z .              | <done> Undo(1); Kill(ForwardChar(4)); Noop
     C-X C-K A-.          | Kill(EndOfLine); <done> Kill(EndOfLine)
+
+    inserted: kl
+    C-O                  | Insert(2, \"kl\")
 ";
 
 #[test]
 fn bindings_in_vi(rt: HostRuntime) -> Result<(), Fail> {
-    let alloc = rt.alloc();
-    let mut bindings = Bindings::new(alloc)?;
-    bind_commands(alloc, &mut bindings, COMMANDS_BOUND)?;
-    for row in HANDLERS_BOUND.lines() {
-        if let Some((keys, way)) = call_and_answer(row) {
-            let handler = Box::new(alloc, way_named(way))?;
-            bind(
-                alloc,
-                &mut bindings,
-                keys,
-                EventHandler::Conditional(handler),
-            )?;
-        }
-    }
-    each_row(&rt, &desk(alloc, &bindings, Stage::new("ab", 1)), BOUND)?;
-    let mut stage = Stage::new("ab", 1);
-    stage.inserted = Some("kl");
-    leads_to(
-        &rt,
-        &desk(alloc, &bindings, stage),
-        "C-O",
-        "Insert(2, \"kl\")",
-    )?;
-    Ok(())
+    plays(&rt, EditMode::Vi, BOUND)
 }
 
-// How many requests the display answers, and what the keys `A-3 0 d 2 w` lead to.
 const FAILING_DISPLAYS: &str = "
-    0 | Display left 4
-    1 | <done> Display left 4
-    2 | <done> <3> Display left 3
-    3 | <done> <3> <30> Display left 2
-    4 | <done> <3> <30> <line> Display left 1
-    5 | <done> <3> <30> <line> <2> Display left 0
-    6 | <done> <3> <30> <line> <2> <line> Kill(ForwardWord(60, Start, Vi))
+    answered: 0
+    A-3 0 d 2 w | Display left 4
+    answered: 1
+    A-3 0 d 2 w | <done> Display left 4
+    answered: 2
+    A-3 0 d 2 w | <done> <3> Display left 3
+    answered: 3
+    A-3 0 d 2 w | <done> <3> <30> Display left 2
+    answered: 4
+    A-3 0 d 2 w | <done> <3> <30> <line> Display left 1
+    answered: 5
+    A-3 0 d 2 w | <done> <3> <30> <line> <2> Display left 0
+    answered: 6
+    A-3 0 d 2 w | <done> <3> <30> <line> <2> <line> Kill(ForwardWord(60, Start, Vi))
+
+    answered: 1
+    Esc a x | <done> Move(BackwardChar(1)); Display left 1
 ";
 
 #[test]
 fn the_display_fails_at_each_call(rt: HostRuntime) -> Result<(), Fail> {
-    let bindings = Bindings::new(rt.alloc())?;
-    let mut stage = Stage::new("ab", 1);
-    each_display(
-        &rt,
-        &desk(rt.alloc(), &bindings, stage),
-        "A-3 0 d 2 w",
-        FAILING_DISPLAYS,
-    )?;
-    stage.answered = Some(1);
-    leads_to(
-        &rt,
-        &desk(rt.alloc(), &bindings, stage),
-        "Esc a x",
-        "<done> Move(BackwardChar(1)); Display left 1",
-    )?;
-    Ok(())
+    plays(&rt, EditMode::Vi, FAILING_DISPLAYS)
 }

@@ -1,10 +1,7 @@
 //! Vi: operators and the ranges that they take.
 
 use crate::tables::{Desk, is_blank, leads_to, three_columns};
-use crate::telling::Stage;
-use crate::vi_insert::desk;
-use line_config::ReadlineError;
-use line_keys::Bindings;
+use line_config::{EditMode, ReadlineError};
 use std::process::Abort;
 use std::test::Fail;
 
@@ -190,8 +187,7 @@ fn with_each_count(
 
 #[test]
 fn each_operator_with_each_motion(rt: HostRuntime) -> Result<(), Fail> {
-    let bindings = Bindings::new(rt.alloc())?;
-    let desk = desk(rt.alloc(), &bindings, Stage::new("ab", 1));
+    let desk = Desk::new(rt.alloc(), EditMode::Vi)?;
     for row in OPERATORS.lines() {
         let Some((key, command, after)) = three_columns(row) else {
             is_blank(&rt, row);

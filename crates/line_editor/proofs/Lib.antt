@@ -4,9 +4,9 @@ pub mod CommandsLead
 pub mod DoesLemmas
 pub mod KillLemmas
 pub mod LeadLemmas
+pub mod LineLeads
 pub mod LoopLemmas
 pub mod CarriesLemmas
-pub mod LineLeads
 pub mod ReachLemmas
 pub mod RefusedLemmas
 pub mod ReplaysLemmas

@@ -44,7 +44,10 @@ impl<'p, 'h, Out: Renderer, H: Helper + Drop, Hi: History> State<'p, 'h, Out, H,
         ensures outcome { outcome_of result ≡ text_or read self.entry.line.text }
     {
         let State {
-            out, helper, line, ..
+            out,
+            helper,
+            line,
+            ..
         } = self;
         let outcome = match read {
             Ok(()) => Ok(line.into_string()),

@@ -165,7 +165,10 @@ fn call_made<Out: Renderer>(
 ) -> Result<(), ReadlineError> {
     let here = Position { col: 12, row: 3 };
     let there = Position { col: 2, row: 1 };
-    let layout = Layout::new(GraphemeClusterMode::Unicode);
+    let mut layout = Layout::new(GraphemeClusterMode::Unicode);
+    if call == "refresh_inside" {
+        (layout.cursor, layout.end) = (there, here);
+    }
     match call {
         "up" => screen.move_cursor(here, there),
         "stay" => screen.move_cursor(here, here),
@@ -237,6 +240,7 @@ fn answers_each_failed_write(rt: HostRuntime) -> Result<(), Fail> {
 // Calls, and whether they write anything; nothing waits behind them.
 const PASSED_ON: &str = "
     refresh_line ab     = written
+    refresh_inside ab   = written
     up                  = written
     write a             = written
     beep                = written

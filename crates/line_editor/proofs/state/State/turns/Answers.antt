@@ -14,10 +14,12 @@ pub turns-smaller : goal.turns-smaller
 turns-smaller g c = c.in_ok-turn.ensures.turn.falls
 
 pub turns-preserved : goal.turns-preserved
-turns-preserved g c =
-    (carries_next (Unit {0}) _ _ _ _ _ _ _ _ _ _ c.turns.invariant.0 _ (same_custom c.turns.input_state c.args.input_state.now g.D.Decides.decides c.turns.invariant.1)
-    _ _ _ _ (rw c.in-Proceed.is at c.in_ok-turn.ensures.turn),
-    c.in_ok-turn.ensures.bindings ∙ c.turns.invariant.1, refl)
+turns-preserved g c = (
+  carries_next (Unit {0}) _ _ _ _ _ _ _ _ _ _ c.turns.invariant.0 _ (same_custom c.turns.input_state c.args.input_state.now g.D.Decides.decides c.turns.invariant.1)
+      _ _ _ _ (rw c.in-Proceed.is at c.in_ok-turn.ensures.turn),
+  c.in_ok-turn.ensures.bindings ∙ c.turns.invariant.1,
+  refl,
+)
 
 pub returns-in-Submit : goal.returns-in-Submit
 returns-in-Submit g c =
