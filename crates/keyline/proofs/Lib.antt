@@ -1,5 +1,6 @@
 pub mod CloseLemmas
 pub mod DeskLemmas
+pub mod EditLemmas
 pub mod OneByteLemmas
 pub mod OptionsLemmas
 pub mod PlaysLemmas

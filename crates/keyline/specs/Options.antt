@@ -89,3 +89,7 @@ Answers words (Run options) =
 Answers words (Help text) = IsAmong DisplayHelp (fault_of command_line words)
 Answers words (Usage text) = IsMistaken words
 Answers words Memory = ⊤
+
+abbrev pub HasColumns : Parsed → Type 0
+HasColumns (Run options) = (2 ≤ options.columns) × (options.columns ≤ 1000)
+HasColumns answer = ⊤

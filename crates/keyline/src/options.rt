@@ -1,10 +1,11 @@
 //! The program's options, from the words of a command line.
 
-ghost use Rattle.std.specs.Prelude.{◌≡◌, ◌↔◌, IfOk, IsTrue, MatchOption, Some, codes, map};
+ghost use Rattle.std.specs.Prelude.{◌≡◌, ◌≤◌, ◌↔◌, IfOk, IfSome, IsTrue, MatchOption, Some, codes, map};
 ghost use Rattle.std.specs.Prelude.{false, option_map};
 ghost use Rattle.clap.specs.Words.{app_of, first_of, found_of, kind_of, new_app};
 ghost use Rattle.clap.specs.Words.{rows_of, rule_of};
-ghost use Rattle.keyline.specs.Options.{Answers, AreColumns, Chooses, ChoosesNone, Gives, IsMode};
+ghost use Rattle.keyline.specs.Options.{Answers, AreColumns, Chooses, ChoosesNone, Gives};
+ghost use Rattle.keyline.specs.Options.{HasColumns, IsMode};
 ghost use Rattle.keyline.specs.Options.{Says, command_line, defaulted, flag, text_option};
 
 use crate::help::keys;
@@ -45,7 +46,8 @@ pub enum Parsed {
 /// Reads the words of a command line, of which the first is the program's name:
 /// `[--mode emacs|vi] [--columns 2..1000] [--prompt TEXT] [--history FILE] [--brackets]`.
 pub fn parse<S: AsStr>(alloc: Global, words: &[S]) -> Parsed
-    ensures { Answers (map S.text words.now) result }
+    ensures answers { Answers (map S.text words.now) result }
+    ensures columns { HasColumns result }
 {
     match try_parse(alloc, words) {
         Ok(options) => Parsed::Run(options),
@@ -55,7 +57,8 @@ pub fn parse<S: AsStr>(alloc: Global, words: &[S]) -> Parsed
 
 // What is said of words that give no options.
 fn refused(alloc: Global, error: &Error) -> Parsed
-    ensures { Says (kind_of error.now) result }
+    ensures says { Says (kind_of error.now) result }
+    ensures columns { HasColumns result }
 {
     let Ok(text) = error.to_string(alloc) else {
         return Parsed::Memory;
@@ -68,7 +71,8 @@ fn refused(alloc: Global, error: &Error) -> Parsed
 }
 
 fn try_parse<'a, S: AsStr>(alloc: Global, words: &'a [S]) -> Result<Options, Error>
-    ensures { Gives (map S.text words.now) result }
+    ensures gives { Gives (map S.text words.now) result }
+    ensures columns { IfOk result (λ options. (2 ≤ options.columns) × (options.columns ≤ 1000)) }
 {
     let matches = command_line(alloc)?.try_get_matches_from(words)?;
     match chosen(alloc, &matches)? {
@@ -155,9 +159,11 @@ fn flag<'a>(alloc: Global, id: &'a str, help: &'a str) -> Arg<'a>
 }
 
 fn chosen(alloc: Global, matches: &ArgMatches<'_>) -> Result<Option<Options>, AllocError>
-    ensures { IfOk result (λ options. MatchOption options
+    ensures choice { IfOk result (λ options. MatchOption options
         (ChoosesNone (rows_of (found_of matches.now)))
         (Chooses (rows_of (found_of matches.now)))) }
+    ensures columns { IfOk result (λ options. IfSome options (λ o.
+        (2 ≤ o.columns) × (o.columns ≤ 1000))) }
 {
     let Some(mode) = mode_of(given(matches, "mode")) else {
         return Ok(None);
@@ -201,9 +207,10 @@ fn mode_of(name: Option<&str>) -> Option<EditMode>
 }
 
 fn columns_of(text: Option<&str>) -> Option<u16>
-    ensures { MatchOption result
+    ensures choice { MatchOption result
         ((columns : _) → AreColumns (option_map (λ s. s.now) text.entry) columns → ⊥)
         (AreColumns (option_map (λ s. s.now) text.entry)) }
+    ensures range { IfSome result (λ columns. (2 ≤ columns) × (columns ≤ 1000)) }
 {
     match text?.parse::<u16>() {
         Ok(columns) if 2 <= columns && columns <= 1000 => Some(columns),
