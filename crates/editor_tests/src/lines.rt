@@ -1,19 +1,21 @@
 //! Lines as they are typed. A row has keys by their names, parted by blanks, and after ` = ` how the line ends and the line
 //! then. `text:ab` is the pasted text `ab`; `!failed` at the end is a source that fails there.
 
+use crate::calls::CallList;
 use crate::desk::{
     Desk, PLAIN, Stage, empty_desk, history_of, lent_by, line_shown, make, status_of,
 };
 use crate::helpers::{Adviser, Verdict};
 use line_config::{Config, EditMode, ReadlineError};
 use line_editor::commands::Status;
+use line_editor::run;
 use line_help::Helper;
 use line_keys::{Bindings, Cmd, CmdKind, Decides, Event, EventHandler, InputState, Text};
 use line_record::KillRing;
 use stand_ins::commands::command_named;
 use stand_ins::key_names::key_named;
 use stand_ins::readers::{After, KeyList, Typed};
-use stand_ins::tables::{call_and_answer, meant};
+use stand_ins::tables::{call_and_answer, meant, pictured};
 use std::alloc::Global;
 use std::process::Abort;
 use std::test::Fail;
@@ -155,12 +157,73 @@ fn typed_over<H: Helper + Drop>(
     end_of(alloc, &desk, &mut ring, answer)
 }
 
-// Types a row's keys.
-fn typed_out(alloc: Global, stage: &Stage, bound: &str, keys: &str) -> Result<Ended, Fail> {
+// What `run` leaves of the same line: its text, or why there is none, all calls, and what a yank would give.
+fn run_over<H: Helper + Drop>(
+    alloc: Global,
+    stage: &Stage,
+    helper: Option<H>,
+    bindings: &Bindings,
+    keys: &Input,
+) -> Result<String, Fail> {
+    let history = history_of(alloc, stage.history)?;
+    let config = Config::builder().edit_mode(stage.mode).build();
+    let mut ring = KillRing::new(alloc, 60)?;
+    let mut reader = KeyList::new(&keys.typed, false, keys.after);
+    let mut out = CallList::new(alloc, stage.columns, stage.colours);
+    out.answer(stage.answered);
+    let ran = run(
+        alloc,
+        &mut reader,
+        out,
+        "> ",
+        helper,
+        &history,
+        &config,
+        bindings,
+        &mut ring,
+    );
+    let text = outcome_shown(alloc, ran.outcome)?;
+    let lent = lent_by(alloc, &mut ring)?;
+    Ok(format!(in alloc; "{text} / {} / {lent}", ran.out.calls())?)
+}
+
+// The text of a line, with pictures, or why there is none.
+fn outcome_shown(
+    alloc: Global,
+    outcome: Result<String, ReadlineError>,
+) -> Result<String, ReadlineError> {
+    match outcome {
+        Ok(text) => Ok(pictured(alloc, text.as_str())?),
+        Err(refusal) => Ok(format!(in alloc; "{refusal:?}")?),
+    }
+}
+
+impl Ended {
+    // What `run` is to leave of this line.
+    fn whole(&self, alloc: Global) -> Result<String, Fail> {
+        let text = match self.status.as_str() {
+            "Submit " => self.line.as_str().trim_end_matches('|'),
+            refusal => refusal.trim(),
+        };
+        Ok(format!(in alloc; "{text} / {} / {}", self.calls, self.ring)?)
+    }
+}
+
+// Types a row's keys, turn by turn and as a whole line, which is the same.
+fn typed_out(
+    rt: &(impl AllocGlobal + Abort),
+    stage: &Stage,
+    bound: &str,
+    keys: &str,
+) -> Result<Ended, Fail> {
+    let alloc = rt.alloc();
     let mut bindings = Bindings::new(alloc)?;
     bind(alloc, &mut bindings, bound)?;
-    let keys = typed(alloc, keys)?;
-    typed_over(alloc, stage, stage.helper, &bindings, &keys)
+    let input = typed(alloc, keys)?;
+    let found = typed_over(alloc, stage, stage.helper, &bindings, &input)?;
+    let whole = run_over(alloc, stage, stage.helper, &bindings, &input)?;
+    assert_eq!(rt; whole.as_str(), found.whole(alloc)?.as_str(), "{keys}");
+    Ok(found)
 }
 
 /// Each row has, after ` / `, all calls from the first drawing on.
@@ -174,7 +237,7 @@ fn types(
         let Some((keys, wanted)) = call_and_answer(row) else {
             continue;
         };
-        let found = typed_out(rt.alloc(), stage, bound, keys)?;
+        let found = typed_out(rt, stage, bound, keys)?;
         let said = format!(in rt.alloc(); "{}{} / {}", found.status, found.line, found.calls)?;
         assert_eq!(rt; said.as_str().trim(), wanted, "{row}");
     }
@@ -187,7 +250,7 @@ fn leaves(rt: &(impl AllocGlobal + Abort), stage: &Stage, table: &str) -> Result
         let Some((keys, wanted)) = call_and_answer(row) else {
             continue;
         };
-        let found = typed_out(rt.alloc(), stage, "", keys)?;
+        let found = typed_out(rt, stage, "", keys)?;
         let said = format!(in rt.alloc(); "{}{} / {}", found.status, found.line, found.ring)?;
         assert_eq!(rt; said.as_str().trim(), wanted, "{row}");
     }
@@ -207,7 +270,7 @@ fn fails_after(
         };
         let mut failing = *stage;
         failing.answered = answered.parse().ok();
-        let found = typed_out(rt.alloc(), &failing, "", keys)?;
+        let found = typed_out(rt, &failing, "", keys)?;
         let said = format!(in rt.alloc(); "{}{} / {}", found.status, found.line, found.calls)?;
         assert_eq!(rt; said.as_str().trim(), wanted, "{row}");
     }

@@ -220,11 +220,13 @@ module _ {S H D L K T : Type 0} (k : Known S D L) (helps : Option H → Helping)
         → Ended t.outcome → Lined k given t old new result
     after_whole t w (inl c) =
         let sent = sent_in_all k.shows k.shown k.show_failed (line_calls (ruler_of (screen_of old.out)) t.turns) old.out ran.out w.calls in
-        inl (whole_then k.shows k.shown k.writes k.written_in config.auto_add_history _ (break_if (breaks t.outcome)) t.outcome
-        (sink_of old.out) (sink_of ran.out) (sink_of out) old.lines lines old.history history result sent.takes c,
-        ap (λ r. record { ring = r; history = history; coming = (items_of k.feed reader).coming }) w.ring_is
-        ∙ (ap (λ h. record { ring = t.ring; history = h; coming = (items_of k.feed reader).coming }) c.history_is
-        ∙ ap (λ c'. record { ring = t.ring; history = history_after config.auto_add_history t.outcome old.history; coming = c' }) w.rest_is))
+        inl (
+          whole_then k.shows k.shown k.writes k.written_in config.auto_add_history _ (break_if (breaks t.outcome)) t.outcome
+              (sink_of old.out) (sink_of ran.out) (sink_of out) old.lines lines old.history history result sent.takes c,
+          ap (λ r. record { ring = r; history = history; coming = (items_of k.feed reader).coming }) w.ring_is
+              ∙ (ap (λ h. record { ring = t.ring; history = h; coming = (items_of k.feed reader).coming }) c.history_is
+              ∙ ap (λ c'. record { ring = t.ring; history = history_after config.auto_add_history t.outcome old.history; coming = c' }) w.rest_is),
+        )
     after_whole t w (inr c) =
         inr (cut_by k.shows k.shown k.writes k.written_in config.auto_add_history (feed_of k old).steady t.outcome (work_of k old) (work_of k new) (sink_of ran.out) result c)
 
@@ -254,7 +256,7 @@ module _ {S H D L K T : Type 0} (k : Known S D L) (helps : Option H → Helping)
     reason_of_close runs e (inl p) =
         let cause = err_given ran.outcome string_bytes e _ runs.reason p.0 in
         let of_line = reason_by (feed_of k old).told given _ (k.show_failed (sink_of ran.out)) (k.write_failed lines) (items_of k.feed reader) _ e (λ r. r)
-            (λ hook t. (hook.0, subst (λ h. HelperFails h hook.0) (runs.helper_stays t) hook.1)) cause in
+        (λ hook t. (hook.0, subst (λ h. HelperFails h hook.0) (runs.helper_stays t) hook.1)) cause in
         let P : Bool → Type 0 = λ failed. Reason (feed_of k old).told given (k.feed reader.bytes.source).failed failed (k.write_failed lines) e in
         subst P (sym p.1) of_line
     reason_of_close runs e (inr (inl p)) =

@@ -4,6 +4,8 @@ pub mod EditLemmas
 pub mod OneByteLemmas
 pub mod OptionsLemmas
 pub mod PlaysLemmas
+pub mod SessionCourse
+pub mod SessionLawLemmas
 pub mod SessionSteps
 pub mod ShowCourse
 pub mod ShowSteps

@@ -202,11 +202,13 @@ module _ {S H D L : Type 0} (k : Known S D L) where
       went t (suc m) b {Q} so =
           let lined : Lined k g (line_in (suc m) g (standing_of k now)) now next (Ok (tt {0})) =
           let P : Given → Type 0 = λ g. Lined k g (line_in (suc m) g (standing_of k now)) now next (Ok (tt {0})) in
-          subst P (before.given t) (line.goes (before.told t) (suc m) b) in
-          (m, lower (feed_of k next).bound (feed_of k now).bound m line.falls b,
-          λ end why r.
-          let R : Bool → Type 0 = λ steady. At g steady m next end why → At g steady (suc m) now end why in
-          so end why (subst R before.steady (line_on g m now next lined end why) r))
+          subst P (before.given t) (line.goes (before.told t) (suc m) b) in (
+            m,
+            lower (feed_of k next).bound (feed_of k now).bound m line.falls b,
+            λ end why r.
+                let R : Bool → Type 0 = λ steady. At g steady m next end why → At g steady (suc m) now end why in
+                so end why (subst R before.steady (line_on g m now next lined end why) r),
+          )
 
   pub onward_end : (g g' g'' : Given) (first now next : Desk S H D L) (e : ReadlineError) → Onward k g g' first now → TakesLine k g' g'' now next (Err e)
       → TakesLines k g first next e

@@ -15,7 +15,7 @@ use Rattle.line_screen.proofs.LawLemmas.{start_is_empty, shown_is_meant, line_en
 use Rattle.keyline.specs.Shows.{picture, place_in, LowAll, LowTurns, top_by, top_after, next_top, above_by, above_after, drawn_by, bytes_for, Means, MomentShown, EachShown, DrawingsShow}
 use Rattle.keyline.proofs.ShowSteps.{view_in, Holds, fresh_holds, step}
 
-flat_both : {A B : Type 0} (f : A → List B) (xs ys : List A) → flat_map f (xs ++ ys) ≡ flat_map f xs ++ flat_map f ys
+pub flat_both : {A B : Type 0} (f : A → List B) (xs ys : List A) → flat_map f (xs ++ ys) ≡ flat_map f xs ++ flat_map f ys
 flat_both f [] ys = refl
 flat_both f (x ∷ xs) ys = ap (λ zs. f x ++ zs) (flat_both f xs ys) ∙ sym (append_assoc (f x) (flat_map f xs) (flat_map f ys))
 

@@ -7,5 +7,7 @@ pub mod OneByte
 pub mod Options
 pub mod Playing
 pub mod Plays
+pub mod SessionLaws
+pub mod SessionShows
 pub mod Sessions
 pub mod Shows

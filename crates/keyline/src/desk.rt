@@ -168,7 +168,15 @@ impl<S: Source + Drop, H: Helper + Drop, D: Sink + Drop, L: Sink + Drop> Desk<S,
             helper,
             outcome,
         } = run(
-            alloc, &mut reader, out, prompt, helper, &history, config, bindings, &mut ring,
+            alloc,
+            &mut reader,
+            out,
+            prompt,
+            helper,
+            &history,
+            config,
+            bindings,
+            &mut ring,
         );
         let adds = config.auto_add_history();
         let outcome = close(alloc, outcome, adds, &mut out, &mut history, &mut lines);

@@ -1,6 +1,8 @@
 //! Laws of the definitions: each is the contract of a function that does nothing.
 
 ghost use Rattle.keyline.specs.OneByte.{LayoutsTell, OneByte};
+ghost use Rattle.keyline.specs.SessionLaws.{ColumnsAreFree, LastAreKept};
+ghost use Rattle.keyline.specs.SessionShows.{SessionsShow};
 ghost use Rattle.keyline.specs.Shows.{DrawingsShow};
 
 /// The bytes up to each moment of a session show its value at its top, as one drawing from nothing,
@@ -15,4 +17,22 @@ pub fn drawings_show()
 pub fn one_byte()
     ensures tells { LayoutsTell }
     ensures sends { OneByte }
+{}
+
+/// A session's display bytes are parts, one for each moment and one for each line's close, and up to
+/// each moment they show its value at its top.
+pub fn sessions_show()
+    ensures { SessionsShow }
+{}
+
+/// Two sessions that differ in columns alone accept the same lines and save the same text, where the
+/// prompt ends in the same column on both: they are the same, turn for turn.
+pub fn columns()
+    ensures { ColumnsAreFree }
+{}
+
+/// A history that began empty holds, under fixed settings, the last of the accepted lines that
+/// weren't ignored, in order.
+pub fn kept()
+    ensures { LastAreKept }
 {}

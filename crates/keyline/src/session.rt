@@ -4,9 +4,10 @@ ghost use Rattle.std.specs.Prelude.{◌≡◌, ◌≤◌, IfErr, IfOk, false, st
 ghost use Rattle.line_keys.specs.Answers.{custom_of};
 ghost use Rattle.line_editor.specs.Running.{helping_by};
 ghost use Rattle.line_screen.specs.Calls.{screen_of};
-ghost use Rattle.keyline.specs.Desks.{known_by};
+ghost use Rattle.keyline.specs.Desks.{known_by, standing_of};
 ghost use Rattle.keyline.specs.Playing.{Saves, ending_after};
 ghost use Rattle.keyline.specs.Plays.{LoadFault, Loaded, Opens, Plays};
+ghost use Rattle.keyline.specs.SessionShows.{Displays};
 ghost use Rattle.keyline.specs.Sessions.{given_by};
 
 use crate::desk::{Desk, Stopped};
@@ -82,16 +83,18 @@ fn ending_after(why: ReadlineError, saved: bool) -> ReadlineError
         | ReadlineError::Interrupted
         | ReadlineError::NotUtf8
         | ReadlineError::PasteOutOfPlace
-            if !saved =>
-        {
-            ReadlineError::HistoryText
-        }
+            if !saved => { ReadlineError::HistoryText }
         _ => why,
     }
 }
 
-impl<S: Source + Drop, H: Helper + Drop, D: Sink + Drop, L: Sink + Drop, T: Sink + Drop>
-    Session<S, H, D, L, T>
+impl<S: Source, H: Helper, D: Sink, L: Sink, T: Sink> Session<S, H, D, L, T>
+where
+    S: Drop,
+    H: Drop,
+    D: Drop,
+    L: Drop,
+    T: Drop,
 {
     /// Opens a session: the history is loaded, no key is read, and nothing is drawn yet. Rows of
     /// the display have `columns` cells.
@@ -148,12 +151,18 @@ impl<S: Source + Drop, H: Helper + Drop, D: Sink + Drop, L: Sink + Drop, T: Sink
     /// Reads lines, draws and writes them, until the input or a fault ends it. The history is saved
     /// once, after every ending.
     pub fn run(self) -> Ended<S, D, L, T>
-        ensures { let custom = custom_of self.bindings ⟦<EventHandler as Decides>⟧.decides in
+        ensures plays { let custom = custom_of self.bindings ⟦<EventHandler as Decides>⟧.decides in
             let helps = helping_by H.hint_of H.fails H.verdict_of H.validating_fails H.marks in
             let given = given_by self.config custom (string_bytes self.prompt)
-                (screen_of self.desk.out) (helps self.desk.helper) in
+            (screen_of self.desk.out) (helps self.desk.helper) in
             let known = known_by S.feed D.told D.held D.has_failed L.told L.held L.has_failed in
             Plays known T.told T.held T.has_failed given self.desk self.text result }
+        ensures shows { let custom = custom_of self.bindings ⟦<EventHandler as Decides>⟧.decides in
+            let helps = helping_by H.hint_of H.fails H.verdict_of H.validating_fails H.marks in
+            let given = given_by self.config custom (string_bytes self.prompt)
+            (screen_of self.desk.out) (helps self.desk.helper) in
+            let known = known_by S.feed D.told D.held D.has_failed L.told L.held L.has_failed in
+            Displays given (standing_of known self.desk) }
     {
         let Session {
             alloc,

@@ -12,8 +12,8 @@ impl<'p, 'h, Out: Renderer, H: Helper + Drop, Hi: History> State<'p, 'h, Out, H,
     ghost use Rattle.line_editor.specs.States.{value_of, setting_of, Does, Stays, reason_of, HookFails};
     ghost use Rattle.line_editor.specs.Accepting.{bare, verdict, told_if, verdict_told, validate, accepts_found, newline, accept, accepts, newline_if, accept_or_insert, submitted};
 
-    /// Draws the line as it was typed, without hint and highlighted character, where one stands or the prompt isn't the
-    /// session's own.
+    /// Draws the line as it was typed, without hint and highlighted character, where one stands or
+    /// the prompt isn't the session's own.
     pub(crate) fn bare_line(&mut self) -> Result<(), ReadlineError>
         ensures does { Does bare self.old self.new result }
     {
@@ -29,7 +29,8 @@ impl<'p, 'h, Out: Renderer, H: Helper + Drop, Hi: History> State<'p, 'h, Out, H,
 
     /// What the helper finds of the line.
     fn judge(&self) -> Result<ValidationResult, ReadlineError>
-        ensures verdict { IfOk result (λ found. found ≡ verdict (setting_of self.now) (value_of self.now)) }
+        ensures verdict { IfOk result
+            (λ found. found ≡ verdict (setting_of self.now) (value_of self.now)) }
         ensures reason { IfErr result (λ e. reason_of false (HookFails self.now) e) }
     {
         let Some(helper) = &self.helper else {
@@ -42,7 +43,8 @@ impl<'p, 'h, Out: Renderer, H: Helper + Drop, Hi: History> State<'p, 'h, Out, H,
         }
     }
 
-    /// Tells what was found: of a line that isn't incomplete, where something is to be drawn anew or there is a message.
+    /// Tells what was found: of a line that isn't incomplete, where something is to be drawn anew
+    /// or there is a message.
     fn tell_verdict(&mut self, found: &ValidationResult, draws: bool) -> Result<(), ReadlineError>
         ensures does { Does (verdict_told found.now draws) self.old self.new result }
     {
@@ -68,11 +70,13 @@ impl<'p, 'h, Out: Renderer, H: Helper + Drop, Hi: History> State<'p, 'h, Out, H,
         Ok(())
     }
 
-    /// Asks the helper whether the line is whole. Where a message came, or a group was closed or a hint stands, the line
-    /// is drawn without hint and with the message. Where the helper refuses, the group that was opened for it stays open.
+    /// Asks the helper whether the line is whole. Where a message came, or a group was closed or a
+    /// hint stands, the line is drawn without hint and with the message. Where the helper refuses,
+    /// the group that was opened for it stays open.
     pub fn validate(&mut self) -> Result<ValidationResult, ReadlineError>
         ensures does { Does validate self.old self.new result }
-        ensures verdict { IfOk result (λ found. found ≡ verdict (setting_of self.old) (value_of self.old)) }
+        ensures verdict { IfOk result
+            (λ found. found ≡ verdict (setting_of self.old) (value_of self.old)) }
     {
         if self.helper.is_none() {
             return Ok(ValidationResult::Valid(None));
@@ -88,7 +92,8 @@ impl<'p, 'h, Out: Renderer, H: Helper + Drop, Hi: History> State<'p, 'h, Out, H,
     /// Draws the line as it was typed, and asks the helper whether it is whole.
     pub(crate) fn accept(&mut self) -> Result<ValidationResult, ReadlineError>
         ensures does { Does accept self.old self.new result }
-        ensures verdict { IfOk result (λ found. found ≡ verdict (setting_of self.old) (value_of self.old)) }
+        ensures verdict { IfOk result
+            (λ found. found ≡ verdict (setting_of self.old) (value_of self.old)) }
         ensures line { OnOk result (self.new.line ≡ self.old.line) }
     {
         self.bare_line()?;
@@ -120,7 +125,8 @@ impl<'p, 'h, Out: Renderer, H: Helper + Drop, Hi: History> State<'p, 'h, Out, H,
     /// Accepts a valid line, and inserts a newline into any other; whether it is accepted.
     pub(crate) fn accept_or_insert(&mut self, middle: bool) -> Result<bool, ReadlineError>
         ensures does { Does (accept_or_insert middle) self.old self.new result }
-        ensures accepted { IfOk result (λ b. b ≡ accepts middle (setting_of self.old) (value_of self.old)) }
+        ensures accepted { IfOk result
+            (λ b. b ≡ accepts middle (setting_of self.old) (value_of self.old)) }
     {
         let found = self.accept()?;
         let accepted = self.accepts_line(&found, middle);
@@ -137,7 +143,8 @@ impl<'p, 'h, Out: Renderer, H: Helper + Drop, Hi: History> State<'p, 'h, Out, H,
         Ok(())
     }
 
-    /// The end of an accepted line: the cursor behind the text, then the display's behind the drawing.
+    /// The end of an accepted line: the cursor behind the text, then the display's behind the
+    /// drawing.
     pub(crate) fn submit(&mut self) -> Result<(), ReadlineError>
         ensures does { Does submitted self.old self.new result }
     {

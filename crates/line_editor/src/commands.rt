@@ -67,8 +67,11 @@ impl<'p, 'h, Out: Renderer, H: Helper + Drop, Hi: History> State<'p, 'h, Out, H,
         ring: &mut KillRing,
         indent: u8,
     ) -> Result<Result<Status, ReadlineError>, ReadlineError>
-        ensures does { Does (effect (means_of (input_of input_state.now) indent ring.old) cmd.now) self.old self.new result }
-        ensures outcome { IfOk result (λ o. o ≡ outcome (means_of (input_of input_state.now) indent ring.old) cmd.now (setting_of self.old) (value_of self.old)) }
+        ensures does { Does (effect (means_of (input_of input_state.now) indent ring.old) cmd.now)
+            self.old self.new result }
+        ensures outcome { IfOk result
+            (λ o. o ≡ outcome (means_of (input_of input_state.now) indent ring.old) cmd.now
+            (setting_of self.old) (value_of self.old)) }
         ensures ring { OnOk result (ring.new ≡ ring_after cmd.now (value_of self.old) ring.old) }
     {
         match cmd {
@@ -137,8 +140,8 @@ impl<'p, 'h, Out: Renderer, H: Helper + Drop, Hi: History> State<'p, 'h, Out, H,
     }
 }
 
-/// Does what a command says. `Eof` and `Interrupted` are ends that commands have; any other refusal is a fault, behind which
-/// the state's text and record still fit each other.
+/// Does what a command says. `Eof` and `Interrupted` are ends that commands have; any other refusal
+/// is a fault, behind which the state's text and record still fit each other.
 pub fn execute<'p, 'h, Out: Renderer, H: Helper + Drop, Hi: History, D: Decides>(
     cmd: Cmd,
     s: &mut State<'p, 'h, Out, H, Hi>,
@@ -146,7 +149,8 @@ pub fn execute<'p, 'h, Out: Renderer, H: Helper + Drop, Hi: History, D: Decides>
     kill_ring: &mut KillRing,
     config: &Config,
 ) -> Result<Status, ReadlineError>
-    ensures { Executes (means_of (input_of input_state.now) config.now.indent_size kill_ring.old) cmd s.old s.new kill_ring.new result }
+    ensures { Executes (means_of (input_of input_state.now) config.now.indent_size kill_ring.old)
+        cmd s.old s.new kill_ring.new result }
 {
     match s.perform(&cmd, input_state, kill_ring, config.indent_size()) {
         Ok(answer) => answer,

@@ -39,7 +39,8 @@ impl<'p, 'h, Out: Renderer, H: Helper + Drop, Hi: History> State<'p, 'h, Out, H,
 
     /// Asks the helper for the hint.
     pub(crate) fn ask_hint(&mut self) -> Result<(), ReadlineError>
-        ensures value { OnOk result (value_of self.new ≡ with_hint (setting_of self.old) (value_of self.old)) }
+        ensures value { OnOk result
+            (value_of self.new ≡ with_hint (setting_of self.old) (value_of self.old)) }
         ensures out { self.new.out ≡ self.old.out }
         ensures layout { self.new.layout ≡ self.old.layout }
         ensures stays { Stays self.old self.new }
@@ -64,7 +65,8 @@ impl<'p, 'h, Out: Renderer, H: Helper + Drop, Hi: History> State<'p, 'h, Out, H,
 
     /// Asks the helper whether a character is highlighted, where the display has colours.
     pub(crate) fn mark(&mut self, kind: CmdKind)
-        ensures value { value_of self.new ≡ with_mark kind (setting_of self.old) (value_of self.old) }
+        ensures value { value_of self.new
+            ≡ with_mark kind (setting_of self.old) (value_of self.old) }
         ensures out { self.new.out ≡ self.old.out }
         ensures layout { self.new.layout ≡ self.old.layout }
         ensures stays { Stays self.old self.new }
@@ -130,7 +132,8 @@ impl<'p, 'h, Out: Renderer, H: Helper + Drop, Hi: History> State<'p, 'h, Out, H,
 
     /// Asks the helper for the hint, and whether a character is highlighted.
     pub(crate) fn ask_anew(&mut self) -> Result<(), ReadlineError>
-        ensures value { OnOk result (value_of self.new ≡ asked_anew (setting_of self.old) (value_of self.old)) }
+        ensures value { OnOk result
+            (value_of self.new ≡ asked_anew (setting_of self.old) (value_of self.old)) }
         ensures out { self.new.out ≡ self.old.out }
         ensures layout { self.new.layout ≡ self.old.layout }
         ensures stays { Stays self.old self.new }
@@ -183,8 +186,8 @@ impl<'p, 'h, Out: Renderer, H: Helper + Drop, Hi: History> State<'p, 'h, Out, H,
         Ok(())
     }
 
-    /// Moves the display's cursor to the text's. Where a character is highlighted, or was until now, the line is drawn
-    /// in its place, without hint and message.
+    /// Moves the display's cursor to the text's. Where a character is highlighted, or was until
+    /// now, the line is drawn in its place, without hint and message.
     pub fn move_cursor(&mut self, kind: CmdKind) -> Result<(), ReadlineError>
         ensures does { Does (cursor_moved kind) self.old self.new result }
     {
@@ -244,10 +247,11 @@ impl<'p, 'h, Out: Renderer, H: Helper + Drop, Hi: History> State<'p, 'h, Out, H,
         Ok(())
     }
 
-    /// Shows a character that was typed at the end: its byte alone, where nothing stands behind it and it doesn't fill its
-    /// row.
+    /// Shows a character that was typed at the end: its byte alone, where nothing stands behind it
+    /// and it doesn't fill its row.
     pub(crate) fn show_short_typed(&mut self, ch: char) -> Result<(), ReadlineError>
-        ensures does { Does (λ s v. redrawn (Typed s.prompt ch v.line.text v.line.place) s v) self.old self.new result }
+        ensures does { Does (λ s v. redrawn (Typed s.prompt ch v.line.text v.line.place) s v)
+            self.old self.new result }
     {
         let columns = self.out.get_columns();
         let col = self.layout.cursor.col;
@@ -261,10 +265,11 @@ impl<'p, 'h, Out: Renderer, H: Helper + Drop, Hi: History> State<'p, 'h, Out, H,
         self.draw_with(None)
     }
 
-    /// Shows that so many characters were taken from the end: the rest of the row is erased, where they stood in it and
-    /// nothing stands behind them.
+    /// Shows that so many characters were taken from the end: the rest of the row is erased, where
+    /// they stood in it and nothing stands behind them.
     pub(crate) fn show_short_taken(&mut self, count: usize) -> Result<(), ReadlineError>
-        ensures does { Does (λ s v. redrawn (Taken s.prompt count v.line.text v.line.place) s v) self.old self.new result }
+        ensures does { Does (λ s v. redrawn (Taken s.prompt count v.line.text v.line.place) s v)
+            self.old self.new result }
     {
         let end = self.layout.end;
         if !self.layout.has_info
@@ -286,7 +291,8 @@ impl<'p, 'h, Out: Renderer, H: Helper + Drop, Hi: History> State<'p, 'h, Out, H,
 
     /// Draws the line without hint where another prompt than its own stands.
     pub(crate) fn show_bare(&mut self) -> Result<(), ReadlineError>
-        ensures does { Does (λ s v. redrawn (Bared s.prompt v.line.text v.line.place) s v) self.old self.new result }
+        ensures does { Does (λ s v. redrawn (Bared s.prompt v.line.text v.line.place) s v)
+            self.old self.new result }
     {
         if self.layout.default_prompt {
             return Ok(());

@@ -21,8 +21,8 @@ impl<'p, 'h, Out: Renderer, H: Helper + Drop, Hi: History> State<'p, 'h, Out, H,
         self.hint.is_none() && !self.highlight_char
     }
 
-    /// Whether what was typed is all that is to be drawn: a printable character at the end of a plain line, with neither
-    /// hint nor highlighted character, before and behind it.
+    /// Whether what was typed is all that is to be drawn: a printable character at the end of a
+    /// plain line, with neither hint nor highlighted character, before and behind it.
     fn stands_alone(
         &self,
         ch: char,
@@ -31,12 +31,14 @@ impl<'p, 'h, Out: Renderer, H: Helper + Drop, Hi: History> State<'p, 'h, Out, H,
         plain: bool,
         was_bare: bool,
     ) -> bool
-        ensures { result ≡ ((n == 1) && (at_end && (plain && (is_printable ch && (was_bare && is_bare (value_of self.now)))))) }
+        ensures { result ≡ ((n == 1) &&
+            (at_end && (plain && (is_printable ch && (was_bare && is_bare (value_of self.now)))))) }
     {
         n == 1 && (at_end && (plain && (is_printable(ch) && (was_bare && self.is_bare()))))
     }
 
-    /// Inserts a character so many times. At the end of the line its byte alone is drawn where that shows it.
+    /// Inserts a character so many times. At the end of the line its byte alone is drawn where that
+    /// shows it.
     pub fn edit_insert(&mut self, ch: char, n: RepeatCount) -> Result<(), ReadlineError>
         ensures does { Does (insert_char ch n) self.old self.new result }
     {

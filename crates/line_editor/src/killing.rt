@@ -18,25 +18,29 @@ impl<'p, 'h, Out: Renderer, H: Helper + Drop, Hi: History> State<'p, 'h, Out, H,
     ghost use Rattle.line_editor.specs.Inserting.{is_bare};
     ghost use Rattle.line_editor.specs.Killing.{kill, insert_text_if, replace, killed_into, copied_into};
 
-    /// Whether what was taken is all that is to be erased: printable characters from the end of a plain line, with neither
-    /// hint nor highlighted character, before and behind it.
+    /// Whether what was taken is all that is to be erased: printable characters from the end of a
+    /// plain line, with neither hint nor highlighted character, before and behind it.
     fn stood_at_end(&self, printable: usize, was_bare: bool) -> bool
-        ensures { result ≡ (is_plain self.now.line.text && (nat_le printable (length self.now.line.text) && ((self.now.line.place == length self.now.line.text) && (was_bare && is_bare (value_of self.now))))) }
+        ensures { result ≡ (is_plain self.now.line.text &&
+            (nat_le printable (length self.now.line.text) &&
+            ((self.now.line.place == length self.now.line.text) &&
+            (was_bare && is_bare (value_of self.now))))) }
     {
         self.plain
             && (printable <= self.line.len()
                 && (self.line.is_cursor_at_end() && (was_bare && self.is_bare())))
     }
 
-    /// Kills what a movement names; the ring is told first, the record last. At the end of the line what was killed is
-    /// erased where that is enough.
+    /// Kills what a movement names; the ring is told first, the record last. At the end of the line
+    /// what was killed is erased where that is enough.
     pub fn edit_kill(
         &mut self,
         movement: &Movement,
         ring: &mut KillRing,
     ) -> Result<(), ReadlineError>
         ensures does { Does (kill movement.now) self.old self.new result }
-        ensures ring { OnOk result (ring.new ≡ killed_into movement.now (value_of self.old) ring.old) }
+        ensures ring { OnOk result
+            (ring.new ≡ killed_into movement.now (value_of self.old) ring.old) }
     {
         let was_bare = self.is_bare();
         let before = self.line.len();
@@ -80,7 +84,8 @@ impl<'p, 'h, Out: Renderer, H: Helper + Drop, Hi: History> State<'p, 'h, Out, H,
         ring: &mut KillRing,
     ) -> Result<(), ReadlineError>
         ensures does { Does (replace movement.now text.now) self.old self.new result }
-        ensures ring { OnOk result (ring.new ≡ killed_into movement.now (value_of self.old) ring.old) }
+        ensures ring { OnOk result
+            (ring.new ≡ killed_into movement.now (value_of self.old) ring.old) }
     {
         self.edit_kill(movement, ring)?;
         self.insert_some(text)?;
@@ -93,7 +98,8 @@ impl<'p, 'h, Out: Renderer, H: Helper + Drop, Hi: History> State<'p, 'h, Out, H,
         movement: &Movement,
         ring: &mut KillRing,
     ) -> Result<(), ReadlineError>
-        ensures ring { OnOk result (ring.new ≡ copied_into movement.now (value_of self.now) ring.old) }
+        ensures ring { OnOk result
+            (ring.new ≡ copied_into movement.now (value_of self.now) ring.old) }
         ensures fault { IfErr result (λ e. e ≡ ReadlineError.Memory) }
     {
         if let Some(text) = self.line.copy(self.alloc, movement)? {

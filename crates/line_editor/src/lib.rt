@@ -28,6 +28,24 @@ pub use line_buffer::{
     Anchor, At, CharSearch, Direction, GraphemeClusterMode, Layout, LineBuffer, Mode, Movement,
     Position, RepeatCount, Unit, Word, WordAction,
 };
+pub use line_config::{
+    Behavior, BellStyle, Buffer, Builder, ColorMode, CompletionType, Config, Configurer,
+    DeviceFailed, EditMode, HistoryDuplicates, HookFault, Last, ReadSource, ReadlineError, Sink,
+    SliceSource, Source, VecSink, WriteSink,
+};
+pub use line_help::{
+    Candidate, Completer, Context, DefaultHistory, FileHistory, FilenameCompleter, Helper,
+    Highlighter, Hint, Hinter, History, HistoryHinter, HistoryIter, Listed, Lister,
+    MatchingBracketHighlighter, MatchingBracketValidator, MemHistory, Pair, Prompt, Quote,
+    SearchDirection, SearchResult, ValidationContext, ValidationResult, Validator, check_bracket,
+    escape, extract_word, find_matching_bracket, longest_common_prefix, unescape,
+    validate_brackets,
+};
+pub use line_keys::{
+    Bindings, Cmd, CmdKind, ConditionalEventHandler, Decides, Event, EventContext, EventHandler,
+    EventMap, InputMode, InputState, Invoke, KeyCode, KeyEvent, Keys, Modifiers, RawReader,
+    Refresher, Text,
+};
 pub use ran::{Ran, run};
 pub use renderer::{RefreshKind, Renderer};
 pub use state::State;

@@ -131,7 +131,9 @@ impl<'p, 'h, Out: Renderer, H: Helper + Drop, Hi: History> State<'p, 'h, Out, H,
     /// Moves up by rows. Answers false in the first row.
     pub fn edit_move_line_up(&mut self, n: RepeatCount) -> Result<bool, ReadlineError>
         ensures does { Does (move_line_up n) self.old self.new result }
-        ensures answer { IfOk result (λ b. b ≡ is_some (line_up (setting_of self.old).mode (setting_of self.old).column n self.old.line)) }
+        ensures answer { IfOk result
+            (λ b. b ≡ is_some
+            (line_up (setting_of self.old).mode (setting_of self.old).column n self.old.line)) }
     {
         let layout = self.prompt_layout();
         if !self.line.move_to_line_up(n, &layout) {
@@ -144,7 +146,9 @@ impl<'p, 'h, Out: Renderer, H: Helper + Drop, Hi: History> State<'p, 'h, Out, H,
     /// Moves down by rows. Answers false in the last row.
     pub fn edit_move_line_down(&mut self, n: RepeatCount) -> Result<bool, ReadlineError>
         ensures does { Does (move_line_down n) self.old self.new result }
-        ensures answer { IfOk result (λ b. b ≡ is_some (line_down (setting_of self.old).mode (setting_of self.old).column n self.old.line)) }
+        ensures answer { IfOk result
+            (λ b. b ≡ is_some
+            (line_down (setting_of self.old).mode (setting_of self.old).column n self.old.line)) }
     {
         let layout = self.prompt_layout();
         if !self.line.move_to_line_down(n, &layout) {
@@ -156,7 +160,8 @@ impl<'p, 'h, Out: Renderer, H: Helper + Drop, Hi: History> State<'p, 'h, Out, H,
 
     /// Moves to the row's start, and on to the next word.
     fn edit_move_home_and_on(&mut self) -> Result<(), ReadlineError>
-        ensures does { Does (then_do move_home (move_to_next_word Start Big 1)) self.old self.new result }
+        ensures does { Does (then_do move_home (move_to_next_word Start Big 1))
+            self.old self.new result }
     {
         self.edit_move_home()?;
         self.edit_move_to_next_word(At::Start, Word::Big, 1)?;

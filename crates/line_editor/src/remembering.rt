@@ -111,7 +111,8 @@ impl<'p, 'h, Out: Renderer, H: Helper + Drop, Hi: History> State<'p, 'h, Out, H,
         self.refresh()
     }
 
-    /// One entry back, or one on. Leaving the history's end keeps the line, coming back to it restores it.
+    /// One entry back, or one on. Leaving the history's end keeps the line, coming back to it
+    /// restores it.
     pub fn edit_history_next(&mut self, prev: bool) -> Result<(), ReadlineError>
         ensures does { Does (history_step prev) self.old self.new result }
     {
@@ -193,8 +194,8 @@ impl<'p, 'h, Out: Renderer, H: Helper + Drop, Hi: History> State<'p, 'h, Out, H,
         self.refresh()
     }
 
-    /// The nearest entry before or behind the present one that begins with the text before the cursor. The place in the
-    /// history moves by one also where there is none.
+    /// The nearest entry before or behind the present one that begins with the text before the
+    /// cursor. The place in the history moves by one also where there is none.
     pub fn edit_history_search(&mut self, dir: SearchDirection) -> Result<(), ReadlineError>
         ensures does { Does (history_search dir) self.old self.new result }
     {

@@ -20,8 +20,9 @@ pub enum RefreshKind {
 
 /// Draws a line on a display.
 ///
-/// `canvas` is what is known of it: the step of each call that it makes, and of one that it refuses, whether the display
-/// has failed, and what it measures by. A call is refused only since the display has failed.
+/// `canvas` is what is known of it: the step of each call that it makes, and of one that it
+/// refuses, whether the display has failed, and what it measures by. A call is refused only since
+/// the display has failed.
 pub trait Renderer: Drop {
     ghost canvas: { Canvas Self };
 
@@ -29,8 +30,8 @@ pub trait Renderer: Drop {
     fn move_cursor(&mut self, old: Position, new: Position) -> Result<(), ReadlineError>
         ensures { Makes canvas (Move old new) self.old self.new result };
 
-    /// Draws prompt, line, and hint or message behind it. Without an old layout nothing is erased: the cursor is on the
-    /// prompt's first cell, and the cells from there on are blank.
+    /// Draws prompt, line, and hint or message behind it. Without an old layout nothing is erased:
+    /// the cursor is on the prompt's first cell, and the cells from there on are blank.
     ///
     /// A highlighter is handed in where the display has colours.
     fn refresh_line<H: Highlighter>(
@@ -42,7 +43,9 @@ pub trait Renderer: Drop {
         new_layout: &Layout,
         highlighter: Option<&H>,
     ) -> Result<(), ReadlineError>
-        ensures { Makes canvas (Draw (old_row old_layout) prompt.now line.now.text (text_of (option_copied hint.entry)) new_layout.now.end new_layout.now.cursor) self.old self.new result };
+        ensures { Makes canvas (Draw (old_row old_layout) prompt.now line.now.text
+            (text_of (option_copied hint.entry)) new_layout.now.end new_layout.now.cursor)
+            self.old self.new result };
 
     /// Writes a text at the cursor.
     fn write_and_flush(&mut self, text: &str) -> Result<(), ReadlineError>
@@ -98,8 +101,8 @@ pub trait Renderer: Drop {
     fn calculate_position(&self, text: &str, orig: Position) -> Position
         ensures { result ≡ (canvas.ruler self.now).measure text.now orig };
 
-    /// The layout of a line behind a prompt that ends at `prompt_size`, with a hint or message behind it. The end is that
-    /// of the whole drawing.
+    /// The layout of a line behind a prompt that ends at `prompt_size`, with a hint or message
+    /// behind it. The end is that of the whole drawing.
     fn compute_layout(
         &self,
         prompt_size: Position,
@@ -107,7 +110,8 @@ pub trait Renderer: Drop {
         line: &LineBuffer,
         info: Option<&str>,
     ) -> Layout
-        ensures { result ≡ layout_of (canvas.ruler self.now) prompt_size default_prompt line.now.text line.now.place (option_copied info.entry) }
+        ensures { result ≡ layout_of (canvas.ruler self.now) prompt_size default_prompt
+            line.now.text line.now.place (option_copied info.entry) }
     {
         let grapheme_cluster_mode = self.grapheme_cluster_mode();
         let pos = line.pos();

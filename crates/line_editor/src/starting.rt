@@ -32,7 +32,8 @@ impl<'p, 'h, Out: Renderer, H: Helper + Drop, Hi: History> State<'p, 'h, Out, H,
         helper: Option<H>,
         ctx: Context<'h, Hi>,
     ) -> Result<Self, ReadlineError>
-        ensures { IfOk result (λ s. Starts out prompt.now helper ctx.entry.history.now ctx.entry.place s) }
+        ensures { IfOk result
+            (λ s. Starts out prompt.now helper ctx.entry.history.now ctx.entry.place s) }
     {
         let line = empty_line(alloc)?;
         let changes = Changeset::new(alloc)?;
@@ -72,7 +73,8 @@ impl<'p, 'h, Out: Renderer, H: Helper + Drop, Hi: History> State<'p, 'h, Out, H,
 
     /// The helper, where the display has colours.
     pub fn highlighter(&self) -> Option<&H>
-        ensures { option_copied result ≡ (if (Out.canvas.ruler self.now.out).colours then self.now.helper else None) }
+        ensures { option_copied result
+            ≡ (if (Out.canvas.ruler self.now.out).colours then self.now.helper else None) }
     {
         highlighter_of(&self.helper, self.out.colors_enabled())
     }

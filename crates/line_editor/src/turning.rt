@@ -32,8 +32,8 @@ impl<'p, 'h, Out: Renderer, H: Helper + Drop, Hi: History> State<'p, 'h, Out, H,
     ghost use Rattle.line_editor.specs.Displays.{display_of};
     ghost use Rattle.line_editor.specs.States.{value_of};
 
-    /// The next command: the keys and pastes that it is made of are read, and no more. A group is begun where it changes
-    /// a range for what is typed next.
+    /// The next command: the keys and pastes that it is made of are read, and no more. A group is
+    /// begun where it changes a range for what is typed next.
     pub fn next_cmd<R: RawReader, D: Decides>(
         &mut self,
         input_state: &mut InputState<'_, D>,
@@ -44,8 +44,10 @@ impl<'p, 'h, Out: Renderer, H: Helper + Drop, Hi: History> State<'p, 'h, Out, H,
         ensures phrase { let custom = custom_in input_state.old D.decides in
             let input = input_of input_state.old in
             let coming = (R.feed rdr.old).coming in
-            Follows display_of custom (line_phrase custom input (shown_in (value_of self.old)) coming)
-            self.old input self.new (input_of input_state.new) (R.feed rdr.old) (R.feed rdr.new) result }
+            Follows display_of custom
+            (line_phrase custom input (shown_in (value_of self.old)) coming)
+            self.old input self.new (input_of input_state.new)
+            (R.feed rdr.old) (R.feed rdr.new) result }
         ensures bindings { input_state.new.custom_bindings ≡ input_state.old.custom_bindings }
         ensures falls { OnOk result ((R.feed rdr.new).bound < (R.feed rdr.old).bound) }
     {

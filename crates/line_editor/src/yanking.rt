@@ -25,7 +25,8 @@ impl<'p, 'h, Out: Renderer, H: Helper + Drop, Hi: History> State<'p, 'h, Out, H,
         anchor: Anchor,
         n: RepeatCount,
     ) -> Result<(), ReadlineError>
-        ensures does { Does (yank (is_vi_command input_state.now.mode input_state.now.input_mode) text.now anchor n) self.old self.new result }
+        ensures does { Does (yank (is_vi_command input_state.now.mode input_state.now.input_mode)
+            text.now anchor n) self.old self.new result }
     {
         let stepped = match anchor {
             Anchor::After => self.line.move_forward(1),
@@ -48,7 +49,8 @@ impl<'p, 'h, Out: Renderer, H: Helper + Drop, Hi: History> State<'p, 'h, Out, H,
         Ok(())
     }
 
-    /// Puts a text in place of the one that was yanked, where so many bytes stand before the cursor.
+    /// Puts a text in place of the one that was yanked, where so many bytes stand before the
+    /// cursor.
     pub fn edit_yank_pop(&mut self, yank_size: usize, text: &str) -> Result<(), ReadlineError>
         ensures does { Does (yank_pop yank_size text.now) self.old self.new result }
     {
@@ -74,7 +76,9 @@ impl<'p, 'h, Out: Renderer, H: Helper + Drop, Hi: History> State<'p, 'h, Out, H,
         anchor: Anchor,
         n: RepeatCount,
     ) -> Result<(), ReadlineError>
-        ensures does { Does (yank_lent (is_vi_command input_state.now.mode input_state.now.input_mode) anchor n (slice_get ring.old.slots ring.old.place)) self.old self.new result }
+        ensures does { Does (yank_lent
+            (is_vi_command input_state.now.mode input_state.now.input_mode) anchor n
+            (slice_get ring.old.slots ring.old.place)) self.old self.new result }
         ensures ring { ring.new ≡ yanked ring.old }
     {
         if let Some(text) = ring.yank() {

@@ -59,7 +59,8 @@ fn exchange(
     n: RepeatCount,
 ) -> Result<(), OutOfMemory>
     requires { ItemsStand changes.old line.old.text }
-    ensures writes { Writes (exchanged_for ch n (clusters_after n line.old)) line.old line.new changes.old changes.new result }
+    ensures writes { Writes (exchanged_for ch n (clusters_after n line.old))
+        line.old line.new changes.old changes.new result }
 {
     let count = clusters_after(line, n);
     delete_told(alloc, line, changes, n)?;
@@ -84,8 +85,8 @@ fn exchange_in_group(
     Ok(())
 }
 
-/// Exchanges up to `n` clusters after the cursor for a character each, in one group, the cursor on the last one.
-/// Answers whether any stands there; else nothing is done.
+/// Exchanges up to `n` clusters after the cursor for a character each, in one group, the cursor on
+/// the last one. Answers whether any stands there; else nothing is done.
 pub fn replace_chars(
     alloc: Global,
     line: &mut LineBuffer,
@@ -97,7 +98,8 @@ pub fn replace_chars(
     requires stand { ItemsStand changes.old line.old.text }
     requires plain { plain.old ≡ is_plain line.old.text }
     ensures answer { IfOk result (λ b. b ≡ is_some (place_forward n line.old)) }
-    ensures writes { Writes (replaced_if_any ch n) line.old line.new changes.old changes.new result }
+    ensures writes { Writes (replaced_if_any ch n)
+        line.old line.new changes.old changes.new result }
     ensures plain { plain.new ≡ is_plain line.new.text }
 {
     if line.next_pos(n).is_none() {
@@ -130,7 +132,8 @@ fn put_over(
     }
 }
 
-/// Writes a character over the cluster at the cursor. Answers whether one stands there; else nothing is done.
+/// Writes a character over the cluster at the cursor. Answers whether one stands there; else
+/// nothing is done.
 pub fn overwrite(
     alloc: Global,
     line: &mut LineBuffer,

@@ -30,7 +30,8 @@ pub(crate) fn insert_told(
     }
 }
 
-/// Inserts a character so many times. `None`: there is no room for it; else whether that is at the text's end.
+/// Inserts a character so many times. `None`: there is no room for it; else whether that is at the
+/// text's end.
 #[tactic(auto, using(crate::proofs::PlainLemmas::typed_plain))]
 pub fn insert_char(
     alloc: Global,
@@ -137,7 +138,8 @@ fn pop_told(
     requires size { yank_size ≤ line.old.place }
     requires start { IsCharBoundary line.old.text (line.old.place - yank_size) }
     requires stand { ItemsStand changes.old line.old.text }
-    ensures writes { Writes (popped yank_size text.now) line.old line.new changes.old changes.new result }
+    ensures writes { Writes (popped yank_size text.now)
+        line.old line.new changes.old changes.new result }
 {
     let _text = line.as_str();
     match line.yank_pop(alloc, yank_size, text, changes) {
@@ -156,7 +158,8 @@ fn pop_told_in_group(
     requires size { yank_size ≤ line.old.place }
     requires start { IsCharBoundary line.old.text (line.old.place - yank_size) }
     requires stand { ItemsStand changes.old line.old.text }
-    ensures writes { Writes (pop_in_group yank_size text.now) line.old line.new changes.old changes.new result }
+    ensures writes { Writes (pop_in_group yank_size text.now)
+        line.old line.new changes.old changes.new result }
 {
     changes.begin(alloc)?;
     pop_told(alloc, line, changes, yank_size, text)?;
@@ -164,7 +167,8 @@ fn pop_told_in_group(
     Ok(())
 }
 
-/// Puts a text in place of so many bytes before the cursor, in one group. They begin between two characters.
+/// Puts a text in place of so many bytes before the cursor, in one group. They begin between two
+/// characters.
 pub fn yank_pop(
     alloc: Global,
     line: &mut LineBuffer,
@@ -176,7 +180,8 @@ pub fn yank_pop(
     requires size { yank_size ≤ line.old.place }
     requires start { IsCharBoundary line.old.text (line.old.place - yank_size) }
     requires stand { ItemsStand changes.old line.old.text }
-    ensures writes { Writes (pop_in_group yank_size text.now) line.old line.new changes.old changes.new result }
+    ensures writes { Writes (pop_in_group yank_size text.now)
+        line.old line.new changes.old changes.new result }
     ensures plain { plain.new ≡ is_plain line.new.text }
 {
     let done = pop_told_in_group(alloc, line, changes, yank_size, text);

@@ -22,8 +22,10 @@ fn kill_told(
 ) -> Result<bool, OutOfMemory>
     requires { ItemsStand both.old.second.now line.old.text }
     ensures answer { IfOk result (λ b. b ≡ is_some (range_of movement.now line.old)) }
-    ensures writes { Writes (killed movement.now) line.old line.new both.old.second.now both.new.second.now result }
-    ensures ring { OnOk result (both.new.first.now ≡ ring_all (kill_events movement.now line.old) both.old.first.now) }
+    ensures writes { Writes (killed movement.now)
+        line.old line.new both.old.second.now both.new.second.now result }
+    ensures ring { OnOk result
+        (both.new.first.now ≡ ring_all (kill_events movement.now line.old) both.old.first.now) }
     ensures names { SameNames both.old.first both.old.second both.new.first both.new.second }
     ensures shrinks { length line.new.text ≤ length line.old.text }
 {
@@ -34,7 +36,8 @@ fn kill_told(
     }
 }
 
-/// Kills what a movement names: the ring is told first, the record last. Answers whether it names anything.
+/// Kills what a movement names: the ring is told first, the record last. Answers whether it names
+/// anything.
 pub fn kill(
     alloc: Global,
     line: &mut LineBuffer,

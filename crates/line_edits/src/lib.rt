@@ -1,7 +1,7 @@
 //! Edits of a line that is followed by its record, a kill ring, and the mark of a plain text.
 //!
-//! Each call takes the record's changes to stand on the line's text, and leaves them so also where it is refused. It
-//! keeps the mark `plain` true of the text, so that a drawing needn't ask anew.
+//! Each call takes the record's changes to stand on the line's text, and leaves them so also where
+//! it is refused. It keeps the mark `plain` true of the text, so that a drawing needn't ask anew.
 #![tactic(auto)]
 
 pub mod exchanging;

@@ -24,7 +24,8 @@ pub fn is_plain(text: &str) -> bool
 /// From which place on a text is printable ASCII to its end.
 #[tactic(auto, using(crate::proofs::TailLemmas::tail_passes))]
 pub fn printable_from(text: &str) -> usize
-    ensures { (i : ℕ) → i ≤ length text.now → list_all is_printable (drop i text.now) ≡ nat_le result i }
+    ensures { (i : ℕ) → i ≤ length text.now → list_all is_printable (drop i text.now)
+        ≡ nat_le result i }
 {
     text.len() - printable_bytes_before(text.as_bytes())
 }

@@ -35,7 +35,8 @@ fn chars_in_group(
 ) -> Result<bool, OutOfMemory>
     requires { ItemsStand changes.old line.old.text }
     ensures answer { IfOk result (λ b. b ≡ transposes_chars line.old) }
-    ensures writes { Writes transpose_chars_in_group line.old line.new changes.old changes.new result }
+    ensures writes { Writes transpose_chars_in_group
+        line.old line.new changes.old changes.new result }
 {
     changes.begin(alloc)?;
     let done = chars_told(alloc, line, changes)?;
@@ -53,7 +54,8 @@ pub fn transpose_chars(
     requires stand { ItemsStand changes.old line.old.text }
     requires plain { plain.old ≡ is_plain line.old.text }
     ensures answer { IfOk result (λ b. b ≡ transposes_chars line.old) }
-    ensures writes { Writes transpose_chars_in_group line.old line.new changes.old changes.new result }
+    ensures writes { Writes transpose_chars_in_group
+        line.old line.new changes.old changes.new result }
     ensures plain { plain.new ≡ is_plain line.new.text }
 {
     let done = chars_in_group(alloc, line, changes);
@@ -86,7 +88,8 @@ fn words_in_group(
 ) -> Result<bool, OutOfMemory>
     requires { ItemsStand changes.old line.old.text }
     ensures answer { IfOk result (λ b. b ≡ transposes_words n line.old) }
-    ensures writes { Writes (transpose_words_in_group n) line.old line.new changes.old changes.new result }
+    ensures writes { Writes (transpose_words_in_group n)
+        line.old line.new changes.old changes.new result }
 {
     changes.begin(alloc)?;
     let done = words_told(alloc, line, changes, n)?;
@@ -94,8 +97,8 @@ fn words_in_group(
     Ok(done)
 }
 
-/// Exchanges the word at the cursor or after it with the one `n` words before it, in one group. Answers whether
-/// there are two; else the cursor may have moved.
+/// Exchanges the word at the cursor or after it with the one `n` words before it, in one group.
+/// Answers whether there are two; else the cursor may have moved.
 pub fn transpose_words(
     alloc: Global,
     line: &mut LineBuffer,
@@ -106,7 +109,8 @@ pub fn transpose_words(
     requires stand { ItemsStand changes.old line.old.text }
     requires plain { plain.old ≡ is_plain line.old.text }
     ensures answer { IfOk result (λ b. b ≡ transposes_words n line.old) }
-    ensures writes { Writes (transpose_words_in_group n) line.old line.new changes.old changes.new result }
+    ensures writes { Writes (transpose_words_in_group n)
+        line.old line.new changes.old changes.new result }
     ensures plain { plain.new ≡ is_plain line.new.text }
 {
     let done = words_in_group(alloc, line, changes, n);
@@ -139,7 +143,8 @@ fn word_in_group(
 ) -> Result<bool, OutOfMemory>
     requires { ItemsStand changes.old line.old.text }
     ensures answer { IfOk result (λ b. b ≡ is_some (word_to_edit line.old)) }
-    ensures writes { Writes (edit_word_in_group action) line.old line.new changes.old changes.new result }
+    ensures writes { Writes (edit_word_in_group action)
+        line.old line.new changes.old changes.new result }
 {
     changes.begin(alloc)?;
     let done = word_told(alloc, line, changes, action)?;
@@ -147,7 +152,8 @@ fn word_in_group(
     Ok(done)
 }
 
-/// Sets the letters of the word at the cursor or after it in another case, in one group. Answers whether there is one.
+/// Sets the letters of the word at the cursor or after it in another case, in one group. Answers
+/// whether there is one.
 pub fn edit_word(
     alloc: Global,
     line: &mut LineBuffer,
@@ -158,7 +164,8 @@ pub fn edit_word(
     requires stand { ItemsStand changes.old line.old.text }
     requires plain { plain.old ≡ is_plain line.old.text }
     ensures answer { IfOk result (λ b. b ≡ is_some (word_to_edit line.old)) }
-    ensures writes { Writes (edit_word_in_group action) line.old line.new changes.old changes.new result }
+    ensures writes { Writes (edit_word_in_group action)
+        line.old line.new changes.old changes.new result }
     ensures plain { plain.new ≡ is_plain line.new.text }
 {
     let done = word_in_group(alloc, line, changes, action);
@@ -175,7 +182,8 @@ fn rows_told(
     dedent: bool,
 ) -> Result<(), OutOfMemory>
     requires { ItemsStand changes.old line.old.text }
-    ensures writes { Writes (indented movement.now amount dedent) line.old line.new changes.old changes.new result }
+    ensures writes { Writes (indented movement.now amount dedent)
+        line.old line.new changes.old changes.new result }
 {
     let _text = line.as_str();
     match line.indent(alloc, movement, amount, dedent, changes) {
@@ -196,7 +204,8 @@ pub fn indent(
 ) -> Result<(), OutOfMemory>
     requires stand { ItemsStand changes.old line.old.text }
     requires plain { plain.old ≡ is_plain line.old.text }
-    ensures writes { Writes (indented movement.now amount dedent) line.old line.new changes.old changes.new result }
+    ensures writes { Writes (indented movement.now amount dedent)
+        line.old line.new changes.old changes.new result }
     ensures plain { plain.new ≡ is_plain line.new.text }
 {
     let done = rows_told(alloc, line, changes, movement, amount, dedent);

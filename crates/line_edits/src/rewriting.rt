@@ -20,7 +20,8 @@ fn put(
 ) -> Result<(), OutOfMemory>
     requires boundary { IsCharBoundary text.now pos }
     requires stand { ItemsStand changes.old line.old.text }
-    ensures writes { Writes (updated text.now pos) line.old line.new changes.old changes.new result }
+    ensures writes { Writes (updated text.now pos)
+        line.old line.new changes.old changes.new result }
 {
     let _text = line.as_str();
     match line.update(alloc, text, pos, changes) {
@@ -38,7 +39,8 @@ fn put_in_group(
 ) -> Result<(), OutOfMemory>
     requires boundary { IsCharBoundary text.now pos }
     requires stand { ItemsStand changes.old line.old.text }
-    ensures writes { Writes (update_in_group text.now pos) line.old line.new changes.old changes.new result }
+    ensures writes { Writes (update_in_group text.now pos)
+        line.old line.new changes.old changes.new result }
 {
     changes.begin(alloc)?;
     put(alloc, line, changes, text, pos)?;
@@ -57,7 +59,8 @@ pub fn update(
 ) -> Result<(), OutOfMemory>
     requires boundary { IsCharBoundary text.now pos }
     requires stand { ItemsStand changes.old line.old.text }
-    ensures writes { Writes (updated text.now pos) line.old line.new changes.old changes.new result }
+    ensures writes { Writes (updated text.now pos)
+        line.old line.new changes.old changes.new result }
     ensures plain { plain.new ≡ is_plain line.new.text }
 {
     let done = put(alloc, line, changes, text, pos);
@@ -76,7 +79,8 @@ pub fn update_grouped(
 ) -> Result<(), OutOfMemory>
     requires boundary { IsCharBoundary text.now pos }
     requires stand { ItemsStand changes.old line.old.text }
-    ensures writes { Writes (update_in_group text.now pos) line.old line.new changes.old changes.new result }
+    ensures writes { Writes (update_in_group text.now pos)
+        line.old line.new changes.old changes.new result }
     ensures plain { plain.new ≡ is_plain line.new.text }
 {
     let done = put_in_group(alloc, line, changes, text, pos);
@@ -84,7 +88,8 @@ pub fn update_grouped(
     done
 }
 
-/// Takes back the last `n` items that were recorded, 0 acting as 1. Answers whether a change was among them.
+/// Takes back the last `n` items that were recorded, 0 acting as 1. Answers whether a change was
+/// among them.
 pub fn undo(
     alloc: Global,
     line: &mut LineBuffer,

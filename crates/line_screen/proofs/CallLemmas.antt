@@ -1,5 +1,5 @@
 -- Calls of a screen one after the other.
-use Rattle.std.proofs.Common.{◌≡◌, ℕ, Bool, List, [], ◌∷◌, ◌++◌, inl, inr, refl, sym, ap, ◌∙◌, subst, append-nil}
+use Rattle.std.proofs.Common.{◌≡◌, ◌≤◌, ℕ, Bool, List, [], ◌∷◌, ◌++◌, inl, inr, refl, sym, ap, ◌∙◌, subst, append-nil}
 use Rattle.std.specs.List.{FoldsTo, flat_map}
 use Rattle.line_editor.specs.Calls.{Call, Begun}
 use Rattle.line_screen.specs.Calls.{Sent, canvas_of, bytes_of, screen_of, sink_of}
@@ -33,3 +33,7 @@ module _ {D : Type 0} (told : D → Bool) (held : D → List ℕ) (failed : D �
   begun_stays (call ∷ calls) a b (inl h) = ap screen_of h
   begun_stays (call ∷ calls) a b (inr (inl h)) = h.screen
   begun_stays (call ∷ calls) a b (inr (inr h)) = begun_stays calls h.0 b h.2 ∙ h.1.screen
+
+-- the columns of a screen
+pub columns_in : {D : Type 0} (r : ScreenRenderer D) → (2 ≤ (screen_of r).columns) × ((screen_of r).columns ≤ 1000)
+columns_in r = (r.grid.room, r.grid.limit)

@@ -37,6 +37,19 @@ fn made(alloc: Global, changes: &mut Changeset, call: &str) -> Result<String, Fa
     Ok(String::new(alloc))
 }
 
+/// Tells the last insertion, which two calls answer.
+fn tell_last(alloc: Global, changes: &Changeset, shown: &mut String) -> Result<(), Fail> {
+    let last = changes.last_insert(alloc)?;
+    let copied = last.as_ref().map(|text| text.as_str());
+    let lent = changes.last_insert_text();
+    shown.push_str(if copied == lent {
+        lent.unwrap_or("none")
+    } else {
+        "two answers"
+    })?;
+    Ok(())
+}
+
 /// Makes each row's call.
 fn plays(rt: &(impl AllocGlobal + Abort), changes: &mut Changeset, rows: &str) -> Result<(), Fail> {
     for row in rows.lines() {
@@ -44,12 +57,7 @@ fn plays(rt: &(impl AllocGlobal + Abort), changes: &mut Changeset, rows: &str) -
             continue;
         };
         let mut shown = made(rt.alloc(), changes, call)?;
-        let last = changes.last_insert(rt.alloc())?;
-        match (&last, changes.last_insert_text()) {
-            (Some(last), Some(text)) if last.as_str() == text => shown.push_str(text)?,
-            (None, None) => shown.push_str("none")?,
-            _ => shown.push_str("two answers")?,
-        }
+        tell_last(rt.alloc(), changes, &mut shown)?;
         assert_eq!(rt; shown.as_str(), want, "{row}");
     }
     Ok(())

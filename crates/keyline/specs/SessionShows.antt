@@ -1,0 +1,37 @@
+-- What the display bytes of a session show.
+use Rattle.std.specs.Prelude.{◌≡◌, ℕ, ◌≤◌, List, [], ◌∷◌, ◌++◌}
+use Rattle.std.specs.List.{flat_map}
+use Rattle.line_buffer.specs.declared.layout.Layout.{Layout}
+use Rattle.line_editor.specs.Courses.{Turn, Open, Accept, Last, Course}
+use Rattle.line_editor.specs.Redraws.{fresh}
+use Rattle.line_editor.specs.Sights.{no_sight}
+use Rattle.line_screen.specs.Calls.{Screen}
+use Rattle.line_screen.specs.Drawing.{row_break, break_if}
+use Rattle.keyline.specs.Sessions.{Given, Standing, session, turns_of, display_bytes}
+use Rattle.keyline.specs.Shows.{drawn_by, bytes_for, LowTurns, EachShown}
+
+-- the display bytes in parts: one for each moment, and one for each line's close
+abbrev pub parts_of : Screen → Layout → List Turn → List (List ℕ)
+parts_of s l [] = []
+parts_of s l (Open redraws y ∷ rest) =
+    bytes_for s l redraws ∷ parts_of s (drawn_by s l redraws).layout rest
+parts_of s l (Accept redraws y ∷ rest) =
+    (bytes_for s l redraws ++ row_break) ∷ parts_of s (fresh s.mode) rest
+parts_of s l (Last redraws breaks ∷ rest) = (bytes_for s l redraws ++ break_if breaks) ∷ []
+
+abbrev pub all_of : List (List ℕ) → List ℕ
+all_of parts = flat_map (λ part. part) parts
+
+-- the turns of a session are a course; its display bytes are their parts in order; and where all
+-- that is to be seen stays within the rows that can be counted, the bytes up to each moment show it
+-- at its top
+abbrev pub Displays : Given → Standing → Type 0
+Displays g x =
+    (n : ℕ) → let turns = turns_of (session n g x) in let s = g.screen in
+    Course g.prompt no_sight turns
+    × (all_of (parts_of s (fresh s.mode) turns) ≡ display_bytes s (session n g x))
+    × (LowTurns s no_sight turns → EachShown s [] 0 [] (fresh s.mode) turns)
+
+abbrev pub SessionsShow : Type 0
+SessionsShow =
+    (g : Given) (x : Standing) → 2 ≤ g.screen.columns → g.screen.columns ≤ 1000 → Displays g x
