@@ -7,9 +7,10 @@ use Rattle.line_help.specs.Validation.{bracket_verdict}
 use Rattle.line_keys.specs.Answers.{Custom}
 use Rattle.line_editor.specs.Running.{Helping, helping_by}
 use Rattle.line_screen.specs.Calls.{screen_of}
-use Rattle.keyline.specs.Desks.{Known}
+use Rattle.keyline.specs.Desks.{Known, standing_of}
 use Rattle.keyline.specs.Plays.{Opens, Plays}
-use Rattle.keyline.specs.Sessions.{given_by}
+use Rattle.keyline.specs.SessionShows.{Displays}
+use Rattle.keyline.specs.Sessions.{Given, given_by}
 use Rattle.keyline.specs.declared.brackets.BracketHelper.{BracketHelper}
 use Rattle.keyline.specs.declared.desk.Desk.{Desk}
 use Rattle.keyline.specs.declared.options.Options.{Options}
@@ -35,6 +36,10 @@ bracket_helping = helping_by (λ helper line pos entries place. None)
 abbrev pub nothing_bound : Custom
 nothing_bound = record { answers = λ event. None; begins = λ keys. false }
 
+abbrev pub given_to : {S D L : Type 0} → Options → Desk S BracketHelper D L → Given
+given_to options desk = given_by (config_of options) nothing_bound (string_bytes options.prompt)
+    (screen_of desk.out) (bracket_helping desk.helper)
+
 -- a session was opened by these options, and run
 pub record Edits {S D L T : Type 0} (k : Known S D L) (told : T → Bool) (held : T → List ℕ)
     (failed : T → Bool) (options : Options) (history : Bytes) (source : S) (display : D)
@@ -42,6 +47,5 @@ pub record Edits {S D L T : Type 0} (k : Known S D L) (told : T → Bool) (held 
   pub desk : Desk S BracketHelper D L
   pub opens : Opens k.feed (config_of options) history (helper_of options) source options.columns
       display lines desk
-  pub plays : Plays k told held failed (given_by (config_of options) nothing_bound
-      (string_bytes options.prompt) (screen_of desk.out) (bracket_helping desk.helper))
-      desk text ended
+  pub plays : Plays k told held failed (given_to options desk) desk text ended
+  pub shows : Displays (given_to options desk) (standing_of k desk)

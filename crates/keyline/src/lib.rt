@@ -9,7 +9,6 @@
 
 pub mod brackets;
 mod desk;
-
 pub mod ending;
 mod help;
 pub mod laws;
@@ -18,7 +17,6 @@ pub mod program;
 pub mod session;
 
 pub use brackets::BracketHelper;
-
 pub use ending::Ending;
 pub use line_config::{
     Behavior, BellStyle, Builder, ColorMode, CompletionType, Config, Configurer, DeviceFailed,
