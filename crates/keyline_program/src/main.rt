@@ -1,10 +1,13 @@
 //! The program `keyline`: keys from standard input, accepted lines to standard output, the display on standard error.
 #![tactic(auto)]
 
+ghost use Rattle.std.specs.Prelude.{◌≤◌};
+
 mod history_file;
 
 use keyline::{
-    Ending, Options, Parsed, ReadSource, ReadlineError, SliceSource, VecSink, WriteSink, edit, parse,
+    Ending, Options, Parsed, ReadSource, ReadlineError, Sink, SliceSource, VecSink, WriteSink,
+    edit, parse,
 };
 use std::env;
 use std::process::ExitCode;
@@ -73,10 +76,8 @@ fn kept(rt: &HostRuntime, options: &Options, ending: Ending, text: &VecSink) -> 
         return ending;
     }
     match (history_file::save(rt, path.as_str(), text.bytes()), ending) {
-        (
-            Err(_),
-            Ending::Eof | Ending::Interrupted | Ending::NotUtf8 | Ending::PasteOutOfPlace,
-        ) => Ending::HistoryText,
+        (Err(_), Ending::Eof | Ending::Interrupted | Ending::NotUtf8 | Ending::PasteOutOfPlace) =>
+            Ending::HistoryText,
         _ => ending,
     }
 }
