@@ -61,7 +61,7 @@ def help_is_asked_for():
     for flag in ("--help", "-h"):
         run = ran(b"ab\r", flag)
         expect(run, display=b"")
-        for part in (b"Usage: keyline [OPTIONS]", b"--mode <emacs|vi>", b"[default: emacs]", b"[default: 80]",
+        for part in (b"Usage: keyline", b"--mode <emacs|vi>", b"[default: emacs]", b"[default: 80]",
                      b"--prompt <TEXT>", b"--history <FILE>", b"--brackets", b"Ctrl-Y"):
             same(f"{part!r} is there", part in run.stdout, True)
 

@@ -10,6 +10,7 @@ use keyline::{
     edit, parse,
 };
 use std::env;
+use std::io::ErrorKind;
 use std::process::ExitCode;
 
 /// The status where words are no command line.
@@ -21,8 +22,9 @@ const NO_HISTORY: u8 = 5;
 fn main(rt: HostRuntime) -> ExitCode {
     let words: Vec<String> = match env::args(&rt).and_then(|words| Ok(words.collect(rt.alloc())?)) {
         Ok(words) => words,
+        Err(error) if error.kind() == ErrorKind::OutOfMemory => return ended(&rt, Ending::Memory),
         Err(_) => {
-            let _ = eprintln!(rt; "keyline: the arguments are not UTF-8, or memory is wanting");
+            let _ = eprintln!(rt; "keyline: an argument is not UTF-8");
             return ExitCode::from(USAGE);
         }
     };
@@ -48,8 +50,10 @@ fn run(rt: &HostRuntime, options: &Options) -> ExitCode
         Some(path) => history_file::load(rt, path.as_str()),
         None => Ok(Vec::new(rt.alloc())),
     };
-    let Ok(old) = old else {
-        return not_loaded(rt);
+    let old = match old {
+        Ok(old) => old,
+        Err(error) if error.kind() == ErrorKind::OutOfMemory => return ended(rt, Ending::Memory),
+        Err(_) => return not_loaded(rt),
     };
     let played = edit(
         rt.alloc(),
