@@ -8,5 +8,6 @@ pub mod SessionCourse
 pub mod SessionLawLemmas
 pub mod SessionSteps
 pub mod ShowCourse
+mod ShowRows
 pub mod ShowSteps
 pub mod Told

@@ -1,4 +1,4 @@
--- What a display shows over a session: what is to be seen of a line, at its top, and the rows above.
+-- What a display shows over a session: what is to be seen of a line at its top, and what above.
 use Rattle.std.specs.Prelude.{◌≡◌, ⊤, ℕ, ◌+◌, ◌≤◌, Bool, true, false, if◌then◌else◌, List, [], ◌∷◌, ◌++◌, Some}
 use Rattle.std.specs.List.{filter, flat_map}
 use Rattle.line_buffer.specs.declared.layout.Layout.{Layout}

@@ -6,7 +6,7 @@ ghost use Rattle.keyline.specs.SessionShows.{SessionsShow};
 ghost use Rattle.keyline.specs.Shows.{DrawingsShow};
 
 /// The bytes up to each moment of a session show its value at its top, as one drawing from nothing,
-/// and all that was sent has a meaning. The rows above keep their cells until the screen is cleared.
+/// and all that was sent has a meaning. The rows above keep their cells until a screen is cleared.
 pub fn drawings_show()
     ensures { DrawingsShow }
 {}
@@ -19,14 +19,14 @@ pub fn one_byte()
     ensures sends { OneByte }
 {}
 
-/// A session's display bytes are parts, one for each moment and one for each line's close, and up to
-/// each moment they show its value at its top.
+/// A session's display bytes are parts, one for each moment and one for each line's close, and up
+/// to each moment they show its value at its top.
 pub fn sessions_show()
     ensures { SessionsShow }
 {}
 
-/// Two sessions that differ in columns alone accept the same lines and save the same text, where the
-/// prompt ends in the same column on both: they are the same, turn for turn.
+/// Two sessions that differ in columns alone accept the same lines and save the same text, where
+/// the prompt ends in the same column on both: they are the same, turn for turn.
 pub fn columns()
     ensures { ColumnsAreFree }
 {}

@@ -1,5 +1,5 @@
 -- Calls of which the first ones were made.
-use Rattle.std.proofs.Common.{◌≡◌, List, [], ◌∷◌, ◌++◌, refl, sym, ap, subst, inl, inr}
+use Rattle.std.proofs.Common.{◌≡◌, List, [], ◌∷◌, ◌++◌, sym, subst, inl, inr}
 use Rattle.std.specs.List.{FoldsTo}
 use Rattle.line_editor.specs.Calls.{Call, Canvas, Begun}
 

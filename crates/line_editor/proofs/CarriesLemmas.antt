@@ -1,6 +1,6 @@
 -- The loop of a line: what was done so far by turns, and what is left.
 use Rattle.std.proofs.Common.{◌≡◌, ◌⊎◌, inl, inr, ℕ, zero, suc, ◌<◌, ◌≤◌, Bool, List, refl, sym, ap, subst, ◌∙◌, IsTrue, arith, le_refl}
-use Rattle.std.specs.Prelude.{Option, None, Result, Ok, Err, IfErr, OnOk, IsErrAnd, ⊤}
+use Rattle.std.specs.Prelude.{Option, None, Result, Ok, Err, IfErr, OnOk, IsErrAnd}
 use Rattle.line_config.specs.declared.errors.ReadlineError.{ReadlineError}
 use Rattle.line_help.specs.declared.completion as completions
 use Rattle.line_help.specs.declared.hint as hints
@@ -17,11 +17,11 @@ use Rattle.line_keys.specs.Phrases.{Input}
 use Rattle.line_record.specs.Ring.{Ring}
 use Rattle.line_editor.specs.Accepting.{submitted}
 use Rattle.line_editor.specs.Drawing.{refreshed}
-use Rattle.line_editor.specs.Reading.{Telling, turns_left, drawn_and_turned, edit_of, Read, Reading, ReadsLine}
+use Rattle.line_editor.specs.Reading.{Telling, turns_left, drawn_and_turned, edit_of, Reading, ReadsLine}
 use Rattle.line_editor.specs.Sights.{Sight, sight_of, info_after}
 use Rattle.line_editor.specs.States.{value_of, setting_of, Reason, Does}
 use Rattle.line_editor.specs.Turning.{Cut, Cause, Whole, turning, Takes}
-use Rattle.line_editor.specs.Values.{Value, Setting, Effect, Edit}
+use Rattle.line_editor.specs.Values.{Edit}
 use Rattle.line_editor.specs.declared.commands.Status.{Status}
 use Rattle.line_editor.specs.declared.commands.Status.TheVariants.{Proceed, Submit}
 use Rattle.line_editor.specs.declared.renderer as renderers

@@ -1,5 +1,5 @@
 -- A phrase, then what its command makes.
-use Rattle.std.proofs.Common.{◌≡◌, ◌⊎◌, inl, inr, ℕ, ◌<◌, ◌≤◌, Bool, true, false, if◌then◌else◌, List, refl, sym, ap, subst, ◌∙◌, IsTrue, le_refl, true≢false}
+use Rattle.std.proofs.Common.{◌≡◌, ◌⊎◌, inl, inr, ℕ, ◌<◌, Bool, true, false, if◌then◌else◌, refl, sym, ap, subst, ◌∙◌, true≢false}
 use Rattle.std.specs.Prelude.{Result, Ok, Err, IfErr, OnOk, IsErrAnd, length, ◌==◌}
 use Rattle.line_config.specs.declared.errors.ReadlineError.{ReadlineError}
 use Rattle.line_config.specs.declared.errors.ReadlineError.TheVariants.{Eof, Interrupted, NotUtf8, PasteOutOfPlace, Reader, Display, Lines, HistoryText, Helper, Handler, Memory}
@@ -19,13 +19,13 @@ use Rattle.line_keys.specs.declared.command.Cmd.TheVariants.{Abort, AcceptLine, 
 use Rattle.line_record.specs.Ring.{Ring}
 use Rattle.line_editor.specs.Accepting.{accepts}
 use Rattle.line_editor.specs.Asks.{shown_in}
-use Rattle.line_editor.specs.Commands.{Means, means_of, effect, ring_after, outcome, end_of_file}
+use Rattle.line_editor.specs.Commands.{Means, means_of, effect, ring_after, outcome}
 use Rattle.line_editor.specs.Displays.{display_of}
 use Rattle.line_editor.specs.Executing.{Done, Executes}
 use Rattle.line_editor.specs.Lines.{Enacted, enacted, line_phrase, phrase_enacted, Turned, turned_by, turn_of, reset_by}
-use Rattle.line_editor.specs.States.{value_of, setting_of, Stays, Reason, Does}
+use Rattle.line_editor.specs.States.{value_of, setting_of, Reason, Does}
 use Rattle.line_editor.specs.Turning.{Cut, Cause, Whole, turning, Takes}
-use Rattle.line_editor.specs.Values.{Value, Setting, Effect, Edit, then_do}
+use Rattle.line_editor.specs.Values.{Value, Setting, Edit, then_do}
 use Rattle.line_editor.specs.declared.commands.Status.{Status}
 use Rattle.line_editor.specs.declared.commands.Status.TheVariants.{Proceed, Submit}
 use Rattle.line_editor.specs.declared.renderer as renderers

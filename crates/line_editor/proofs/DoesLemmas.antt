@@ -13,10 +13,10 @@ use Rattle.line_help.specs.declared.hint as hints
 use Rattle.line_help.specs.declared.highlight as highlights
 use Rattle.line_help.specs.declared.validate as verdicts
 use Rattle.line_help.specs.declared.history as histories
-use Rattle.line_editor.specs.Calls.{Call, Canvas, Ruler, Begun}
-use Rattle.line_editor.specs.Redraws.{Redraw, Asked, one, asked, then_asked, nothing_asked}
+use Rattle.line_editor.specs.Calls.{Ruler, Begun}
+use Rattle.line_editor.specs.Redraws.{Redraw, Asked, one, asked, then_asked}
 use Rattle.line_editor.specs.States.{value_of, setting_of, Stays, Does}
-use Rattle.line_editor.specs.Values.{Value, Setting, Effect, Edit, then_do}
+use Rattle.line_editor.specs.Values.{Setting, Effect, Edit, then_do}
 use Rattle.line_editor.specs.declared.renderer as renderers
 use Rattle.line_editor.specs.declared.state.State.{State}
 use Rattle.line_editor.proofs.BegunLemmas.{begun_before, begun_behind, folds_both}

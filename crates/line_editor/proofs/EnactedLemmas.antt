@@ -1,6 +1,6 @@
 -- A script that a state followed is enacted, or cut by a fault.
-use Rattle.std.proofs.Common.{◌≡◌, ◌⊎◌, inl, inr, Bool, true, false, List, refl, sym, ap, subst, ◌∙◌, IsTrue}
-use Rattle.std.specs.Prelude.{ℕ, Result, Ok, Err, IsFalse}
+use Rattle.std.proofs.Common.{◌≡◌, ◌⊎◌, inl, inr, Bool, refl, sym, ap, subst, ◌∙◌}
+use Rattle.std.specs.Prelude.{Result, Ok, Err, IsFalse}
 use Rattle.line_config.specs.declared.errors.ReadlineError.{ReadlineError}
 use Rattle.line_config.specs.declared.errors.ReadlineError.TheVariants.{Eof, Interrupted, NotUtf8, PasteOutOfPlace, Reader, Display, Lines, HistoryText, Helper, Handler, Memory}
 use Rattle.line_help.specs.declared.completion as completions
@@ -8,7 +8,7 @@ use Rattle.line_help.specs.declared.hint as hints
 use Rattle.line_help.specs.declared.highlight as highlights
 use Rattle.line_help.specs.declared.validate as verdicts
 use Rattle.line_help.specs.declared.history as histories
-use Rattle.line_keys.specs.Coming.{Coming, left_by}
+use Rattle.line_keys.specs.Coming.{Coming}
 use Rattle.line_keys.specs.Feeds.{Item, Key, Paste, IsReadFault}
 use Rattle.line_keys.specs.Follows.{Goes}
 use Rattle.line_keys.specs.Phrases.{Input, Script, Ends, Needs, Asks, Reads, Becomes}
@@ -18,7 +18,7 @@ use Rattle.line_editor.specs.Lines.{Enacted, enacted}
 use Rattle.line_editor.specs.Redraws.{asked}
 use Rattle.line_editor.specs.States.{value_of, setting_of, Stays, Reason, Does}
 use Rattle.line_editor.specs.Turning.{Cut}
-use Rattle.line_editor.specs.Values.{Value, Setting, Effect, Edit, unchanged, then_do}
+use Rattle.line_editor.specs.Values.{Value, Setting, Edit, unchanged, then_do}
 use Rattle.line_editor.specs.declared.renderer as renderers
 use Rattle.line_editor.specs.declared.state.State.{State}
 use Rattle.line_editor.proofs.BegunLemmas.{begun_none}

@@ -1,6 +1,6 @@
 -- The turns of a line, one after the other.
-use Rattle.std.proofs.Common.{◌≡◌, ◌⊎◌, inl, inr, ℕ, zero, suc, ◌<◌, ◌≤◌, Bool, true, false, List, [], ◌∷◌, ◌++◌, refl, sym, ap, subst, ◌∙◌, IsTrue, arith, true≢false, append-nil}
-use Rattle.std.specs.Prelude.{Option, None, Result, Ok, Err, IfErr, OnOk, IsErrAnd, flat_map}
+use Rattle.std.proofs.Common.{◌≡◌, inl, inr, ℕ, suc, Bool, List, [], ◌++◌, refl, sym, ap, ◌∙◌, arith, append-nil}
+use Rattle.std.specs.Prelude.{Option, Result, Ok, Err, flat_map}
 use Rattle.line_config.specs.declared.errors.ReadlineError.{ReadlineError}
 use Rattle.line_config.specs.declared.errors.ReadlineError.TheVariants.{Memory}
 use Rattle.line_help.specs.declared.completion as completions
@@ -10,26 +10,23 @@ use Rattle.line_help.specs.declared.validate as verdicts
 use Rattle.line_help.specs.declared.history as histories
 use Rattle.line_keys.specs.Answers.{Custom}
 use Rattle.line_keys.specs.Coming.{Coming}
-use Rattle.line_keys.specs.Feeds.{Feed}
 use Rattle.line_keys.specs.Phrases.{Input}
 use Rattle.line_record.specs.Ring.{Ring}
 use Rattle.line_editor.specs.Accepting.{submitted}
-use Rattle.line_editor.specs.Courses.{Turn, Open, Accept, Last, redraws_in, breaks_after}
-use Rattle.line_editor.specs.Drawing.{refreshed}
-use Rattle.line_editor.specs.Lines.{Told, Turned, turn_of, line_from, after_turn, opened_by, submits, ends, drawn_first}
-use Rattle.line_editor.specs.Reading.{Telling, turns_left, drawn_and_turned, edit_of, text_or, Read, Reading, ReadsLine}
+use Rattle.line_editor.specs.Courses.{Open, redraws_in}
+use Rattle.line_editor.specs.Lines.{Told, Turned, turn_of, line_from, after_turn, opened_by}
+use Rattle.line_editor.specs.Reading.{Telling, turns_left, edit_of, text_or, Read, Reading}
 use Rattle.line_editor.specs.Redraws.{Redraw}
 use Rattle.line_editor.specs.Sights.{Sight, sight_of, info_after}
 use Rattle.line_editor.specs.States.{value_of, setting_of, Does}
-use Rattle.line_editor.specs.Turning.{Cut, Cause, Whole, turning, Takes}
+use Rattle.line_editor.specs.Turning.{Cut, Whole, turning}
 use Rattle.line_editor.specs.Values.{Value, Setting, Effect, Edit, then_do, unchanged}
 use Rattle.line_editor.specs.declared.commands.Status.{Status}
 use Rattle.line_editor.specs.declared.commands.Status.TheVariants.{Proceed, Submit}
 use Rattle.line_editor.specs.declared.renderer as renderers
 use Rattle.line_editor.specs.declared.state.State.{State}
-use Rattle.line_editor.proofs.CommandedLemmas.{edit_cause}
 use Rattle.line_editor.proofs.DoesLemmas.{does_both, does_cut, does_as, setting_stays}
-use Rattle.line_editor.proofs.EnactedLemmas.{as_refused, cut_as, refused_cut, stays_same}
+use Rattle.line_editor.proofs.EnactedLemmas.{as_refused, cut_as, refused_cut}
 
 -- one turn of a line with fuel
 turned : (n : ℕ) (s : Setting) (custom : Custom) (indent : ℕ) (i : Input) (r : Ring) (info : Option (List ℕ)) (v : Value) (c : Coming)

@@ -1,5 +1,5 @@
 -- A refused edit is a display's refusal.
-use Rattle.std.specs.Prelude.{⊤, Bool, Result, Err, IsTrue}
+use Rattle.std.specs.Prelude.{Bool}
 use Rattle.line_config.specs.declared.errors.ReadlineError.{ReadlineError}
 use Rattle.line_config.specs.declared.errors.ReadlineError.TheVariants.{Eof, Interrupted, NotUtf8, PasteOutOfPlace, Reader, Display, Lines, HistoryText, Helper, Handler, Memory}
 use Rattle.line_keys.specs.Refreshing.{IsDrawFault}

@@ -1,6 +1,6 @@
 -- Motions by rows, or through the history where there is no such row.
 use Rattle.std.proofs.Common.{◌≡◌, ℕ, Bool, true, false, List, [], refl, sym, ap, subst, if◌then◌else◌}
-use Rattle.std.specs.Prelude.{Option, is_some, Result, Ok, Err, IsErrAnd}
+use Rattle.std.specs.Prelude.{Option, is_some, Result, Err, IsErrAnd}
 use Rattle.line_buffer.specs.Columns.{line_up, line_down}
 use Rattle.line_config.specs.declared.errors.ReadlineError.{ReadlineError}
 use Rattle.line_help.specs.declared.completion as completions
@@ -16,7 +16,7 @@ use Rattle.line_editor.specs.Moving.{stepped, to_found, move_line_up, move_line_
 use Rattle.line_editor.specs.Redraws.{asked, Redraw}
 use Rattle.line_editor.specs.Remembering.{history_step}
 use Rattle.line_editor.specs.States.{value_of, setting_of, Does}
-use Rattle.line_editor.specs.Values.{Value, Setting, Effect, Edit}
+use Rattle.line_editor.specs.Values.{Edit}
 use Rattle.line_editor.specs.declared.renderer as renderers
 use Rattle.line_editor.specs.declared.state.State.{State}
 use Rattle.line_editor.proofs.BegunLemmas.{begun_none}

@@ -1,5 +1,5 @@
 -- A whole line.
-use Rattle.std.proofs.Common.{◌≡◌, ◌⊎◌, inl, inr, ℕ, suc, ◌<◌, ◌≤◌, Bool, List, refl, sym, ap, subst, ◌∙◌, IsTrue, arith, le_refl}
+use Rattle.std.proofs.Common.{◌≡◌, ◌⊎◌, inl, inr, ℕ, suc, ◌<◌, Bool, List, refl, sym, ap, subst, ◌∙◌, IsTrue, arith, le_refl}
 use Rattle.std.specs.Prelude.{⊤, Option, Some, None, option_map, Result, Ok, Err, length, flat_map, string_bytes, IsFalse, IsSomeAnd, IfErr, OnOk}
 use Rattle.std.specs.List.{FoldsTo}
 use Rattle.line_config.specs.declared.config.Config.{Config}
@@ -23,12 +23,12 @@ use Rattle.line_editor.specs.Calls.{Canvas, Begun}
 use Rattle.line_editor.specs.Courses.{redraws_in}
 use Rattle.line_editor.specs.Lines.{Told, line_of}
 use Rattle.line_editor.specs.Reading.{Telling, drawn_and_turned, edit_of, text_or, Read, Reading, ReadsLine}
-use Rattle.line_editor.specs.Redraws.{asked, fresh}
+use Rattle.line_editor.specs.Redraws.{asked}
 use Rattle.line_editor.specs.Running.{Helping, HelperFails, helping_by, setting_by, line_meant, line_calls, outcome_of, WholeLine, CutLine, Runs}
 use Rattle.line_editor.specs.Starts.{empty_at, first_value, Starts}
 use Rattle.line_editor.specs.States.{value_of, setting_of, reason_of, HookFails, Reason, Stays}
 use Rattle.line_editor.specs.Turning.{Cut, cause_of, Cause}
-use Rattle.line_editor.specs.Values.{Value, Setting}
+use Rattle.line_editor.specs.Values.{Setting}
 use Rattle.line_editor.specs.declared.ran.Ran.{Ran}
 use Rattle.line_editor.specs.declared.renderer as renderers
 use Rattle.line_editor.specs.declared.state.State.{State}

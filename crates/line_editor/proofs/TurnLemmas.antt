@@ -3,12 +3,11 @@ use Rattle.std.proofs.Common.{◌≡◌, Bool, true, false, refl, sym, ap, subst
 use Rattle.std.specs.Prelude.{Result, Ok, Err, IsErrAnd}
 use Rattle.line_config.specs.declared.errors.ReadlineError.{ReadlineError}
 use Rattle.line_keys.specs.Answers.{Custom}
-use Rattle.line_keys.specs.Coming.{Coming}
 use Rattle.line_keys.specs.Feeds.{Feed}
 use Rattle.line_keys.specs.Follows.{Follows}
 use Rattle.line_keys.specs.Phrase.{phrase}
 use Rattle.line_keys.specs.Phrases.{Input, Script, Ends, Asks}
-use Rattle.line_keys.specs.Refreshing.{Shown, Display, Draws}
+use Rattle.line_keys.specs.Refreshing.{Display, Draws}
 use Rattle.line_keys.specs.Refreshing.Ask.{DoingInsert}
 use Rattle.line_keys.specs.declared.command.Cmd.{Cmd}
 use Rattle.line_keys.proofs.Following.{then_stops, then_follows, ends_follow, ask_follows, ask_stops, as_follows}

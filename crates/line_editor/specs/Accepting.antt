@@ -1,5 +1,5 @@
 -- Lines that are to be accepted.
-use Rattle.std.specs.Prelude.{ℕ, ◌==◌, ◌&&◌, ◌||◌, not, Bool, true, false, if◌then◌else◌, List, [], ◌∷◌, length, Option, Some, None, is_some, chars}
+use Rattle.std.specs.Prelude.{ℕ, ◌&&◌, ◌||◌, not, Bool, true, if◌then◌else◌, List, [], ◌∷◌, Option, Some, None, is_some, chars}
 use Rattle.std.specs.Char.{is_whitespace}
 use Rattle.std.specs.List.{list_all}
 use Rattle.line_buffer.specs.Line.{Line, text_after}
@@ -15,7 +15,7 @@ use Rattle.line_editor.specs.Inserting.{insert_char}
 use Rattle.line_editor.specs.Moving.{move_buffer_end}
 use Rattle.line_editor.specs.Redraws.{Redraw}
 use Rattle.line_editor.specs.Redraws.Redraw.{Drawn, Bared}
-use Rattle.line_editor.specs.Values.{Value, Setting, Effect, Edit, unchanged, quietly, then_do, rewritten, without_hint, with_mark}
+use Rattle.line_editor.specs.Values.{Value, Setting, Edit, unchanged, then_do, rewritten, without_hint, with_mark}
 
 -- ---- before a line is accepted: without hint, highlighted character and a count's prompt
 

@@ -6,7 +6,7 @@ use Rattle.line_keys.specs.Refreshing.{Shown, Ask}
 use Rattle.line_keys.specs.Refreshing.Ask.{Line, Message, Prompted, DoingInsert, DoneInserting}
 use Rattle.line_record.specs.Held.{last_inserted}
 use Rattle.line_editor.specs.Drawing.{refreshed, refreshed_behind, told}
-use Rattle.line_editor.specs.Values.{Value, Setting, Effect, Edit, quietly, rewritten}
+use Rattle.line_editor.specs.Values.{Value, Edit, quietly, rewritten}
 
 abbrev pub completion_in : Option Hinted → Option (List ℕ)
 completion_in None = None

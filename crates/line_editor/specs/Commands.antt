@@ -1,5 +1,5 @@
 -- What each command makes of the editor's value and of the ring, and how it ends.
-use Rattle.std.specs.Prelude.{ℕ, ◌==◌, Bool, true, false, if◌then◌else◌, List, Option, Some, None, Result, Ok, Err, slice_get, length, is_some}
+use Rattle.std.specs.Prelude.{ℕ, ◌==◌, Bool, true, false, if◌then◌else◌, Result, Ok, Err, slice_get, length, is_some}
 use Rattle.line_buffer.specs.Columns.{line_up, line_down}
 use Rattle.line_buffer.specs.declared.types.Anchor.TheVariants.{Before}
 use Rattle.line_buffer.specs.declared.types.WordAction.TheVariants.{Capitalize, Lowercase, Uppercase}
@@ -10,7 +10,7 @@ use Rattle.line_help.specs.declared.search.SearchDirection.TheVariants.{Forward,
 use Rattle.line_keys.specs.Phrases.{Input}
 use Rattle.line_keys.specs.Modes.{is_emacs, is_vi_command}
 use Rattle.line_keys.specs.declared.command.Cmd.{Cmd}
-use Rattle.line_keys.specs.declared.command.Cmd.TheVariants.{Abort, AcceptLine, BeginningOfHistory, CapitalizeWord, ClearScreen, Complete, CompleteBackward, CompleteHint, Dedent, DowncaseWord, EndOfFile, EndOfHistory, ForwardSearchHistory, HistorySearchBackward, HistorySearchForward, Indent, Insert, Interrupt, Kill, Move, NextHistory, Noop, Repaint, Overwrite, PreviousHistory, QuotedInsert, ReplaceChar, Replace, ReverseSearchHistory, SelfInsert, Suspend, TransposeChars, TransposeWords, Undo, Unknown, UpcaseWord, ViYankTo, Yank, YankPop, LineUpOrPreviousHistory, LineDownOrNextHistory, Newline, AcceptOrInsertLine}
+use Rattle.line_keys.specs.declared.command.Cmd.TheVariants.{AcceptLine, BeginningOfHistory, CapitalizeWord, ClearScreen, CompleteHint, Dedent, DowncaseWord, EndOfFile, EndOfHistory, HistorySearchBackward, HistorySearchForward, Indent, Insert, Interrupt, Kill, Move, NextHistory, Repaint, Overwrite, PreviousHistory, ReplaceChar, Replace, SelfInsert, TransposeChars, TransposeWords, Undo, UpcaseWord, ViYankTo, Yank, YankPop, LineUpOrPreviousHistory, LineDownOrNextHistory, Newline, AcceptOrInsertLine}
 use Rattle.line_keys.specs.declared.command.InputMode.{InputMode}
 use Rattle.line_record.specs.Ring.{Ring, yanked, turned, exchanged}
 use Rattle.line_editor.specs.Accepting.{bare, newline, accept, accepts, accept_or_insert}
@@ -21,7 +21,7 @@ use Rattle.line_editor.specs.Killing.{kill, replace, killed_into, copied_into}
 use Rattle.line_editor.specs.Moving.{move_by, move_line_up, move_line_down}
 use Rattle.line_editor.specs.Remembering.{history_step, history_end, history_search}
 use Rattle.line_editor.specs.Rewording.{transpose_chars, transpose_words, edit_word, indent, undo}
-use Rattle.line_editor.specs.Values.{Value, Setting, Effect, Edit, unchanged}
+use Rattle.line_editor.specs.Values.{Value, Setting, Edit, unchanged}
 use Rattle.line_editor.specs.Yanking.{yank, yank_lent, pop_lent}
 use Rattle.line_editor.specs.declared.commands.Status.{Status}
 use Rattle.line_editor.specs.declared.commands.Status.TheVariants.{Proceed, Submit}

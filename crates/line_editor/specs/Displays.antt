@@ -1,12 +1,11 @@
 -- A state as a display of the key tables.
-use Rattle.std.specs.Prelude.{Result, Ok, Err}
-use Rattle.line_config.specs.declared.errors.ReadlineError.{ReadlineError}
+use Rattle.std.specs.Prelude.{Ok, Err}
 use Rattle.line_help.specs.declared.completion as completions
 use Rattle.line_help.specs.declared.hint as hints
 use Rattle.line_help.specs.declared.highlight as highlights
 use Rattle.line_help.specs.declared.validate as verdicts
 use Rattle.line_help.specs.declared.history as histories
-use Rattle.line_keys.specs.Refreshing.{Ask, Display}
+use Rattle.line_keys.specs.Refreshing.{Display}
 use Rattle.line_editor.specs.Asks.{shown_in, ask_effect}
 use Rattle.line_editor.specs.States.{value_of, Does}
 use Rattle.line_editor.specs.declared.renderer as renderers

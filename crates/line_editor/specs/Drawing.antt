@@ -1,10 +1,10 @@
 -- What is drawn of a value.
-use Rattle.std.specs.Prelude.{ℕ, ◌||◌, Bool, true, false, if◌then◌else◌, List, [], ◌∷◌, Option, Some, None}
+use Rattle.std.specs.Prelude.{ℕ, ◌||◌, Bool, true, false, if◌then◌else◌, List, [], ◌∷◌, Option, None}
 use Rattle.line_keys.specs.declared.command.CmdKind.{CmdKind}
-use Rattle.line_keys.specs.declared.command.CmdKind.TheVariants.{MoveCursor, Other}
+use Rattle.line_keys.specs.declared.command.CmdKind.TheVariants.{Other}
 use Rattle.line_editor.specs.Redraws.{Redraw}
 use Rattle.line_editor.specs.Redraws.Redraw.{Drawn, Moved, ToEnd, Beeped, Cleared}
-use Rattle.line_editor.specs.Values.{Value, Setting, Effect, Edit, then_do, redrawn, with_hint, without_hint, with_mark, shown_hint}
+use Rattle.line_editor.specs.Values.{Value, Setting, Edit, then_do, redrawn, with_hint, without_hint, with_mark, shown_hint}
 
 -- the line with its hint behind the session's own prompt
 abbrev pub drawn : Setting → Value → Redraw

@@ -1,12 +1,11 @@
 -- The hint taken into the line.
 use Rattle.std.specs.Prelude.{ℕ, if◌then◌else◌, List, Option, Some, None, is_some}
 use Rattle.line_buffer.specs.Insertions.{yank as yanked_in}
-use Rattle.line_buffer.specs.Line.{Line}
 use Rattle.line_buffer.specs.Rows.{row_end}
 use Rattle.line_edits.specs.Edits.{yanked}
 use Rattle.line_help.specs.Hints.{Hinted}
 use Rattle.line_editor.specs.Drawing.{refreshed, beeped}
-use Rattle.line_editor.specs.Values.{Value, Setting, Effect, Edit, unchanged, then_do, rewritten, at_line}
+use Rattle.line_editor.specs.Values.{Value, Edit, unchanged, then_do, rewritten, at_line}
 
 -- at the row's end
 abbrev pub at_row_end : Value → Value

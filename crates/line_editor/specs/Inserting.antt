@@ -1,15 +1,14 @@
 -- Characters and texts put in, and clusters exchanged for characters.
-use Rattle.std.specs.Prelude.{ℕ, ◌==◌, ◌&&◌, not, Bool, if◌then◌else◌, List, [], ◌∷◌, length, Option, Some, None, is_some}
+use Rattle.std.specs.Prelude.{ℕ, ◌==◌, ◌&&◌, not, Bool, if◌then◌else◌, List, [], ◌∷◌, length, is_some}
 use Rattle.line_buffer.specs.Clusters.{place_forward}
 use Rattle.line_buffer.specs.Insertions.{insert as insertion}
-use Rattle.line_buffer.specs.Line.{Line}
 use Rattle.line_edits.specs.Edits.{typed, put_behind, chars_replaced, overwritten}
 use Rattle.line_buffer.specs.Short.{is_printable}
 use Rattle.line_edits.specs.Plain.{is_plain}
 use Rattle.line_editor.specs.Drawing.{drawn, asked_anew, refreshed}
 use Rattle.line_editor.specs.Redraws.{Redraw}
 use Rattle.line_editor.specs.Redraws.Redraw.{Typed}
-use Rattle.line_editor.specs.Values.{Value, Setting, Effect, Edit, unchanged, quietly, then_do, rewritten}
+use Rattle.line_editor.specs.Values.{Value, Setting, Edit, unchanged, rewritten}
 
 -- neither hint nor highlighted character
 abbrev pub is_bare : Value → Bool

@@ -1,7 +1,6 @@
 -- What is killed, and what is copied into the ring.
 use Rattle.std.specs.Prelude.{ℕ, ◌-◌, ◌==◌, ◌&&◌, if◌then◌else◌, Bool, List, [], ◌∷◌, length, drop, Option, Some, None, is_some, option_map}
 use Rattle.std.specs.List.{list_all}
-use Rattle.line_buffer.specs.Line.{Line}
 use Rattle.line_buffer.specs.Range.{range_of, copied_range, span_text, kill_events}
 use Rattle.line_buffer.specs.declared.types.Mode.TheVariants.{Append}
 use Rattle.line_buffer.specs.declared.types.Movement.{Movement}
@@ -13,7 +12,7 @@ use Rattle.line_editor.specs.Drawing.{drawn, asked_anew}
 use Rattle.line_editor.specs.Inserting.{is_bare, insert_text}
 use Rattle.line_editor.specs.Redraws.{Redraw}
 use Rattle.line_editor.specs.Redraws.Redraw.{Taken}
-use Rattle.line_editor.specs.Values.{Value, Setting, Effect, Edit, unchanged, then_do, rewritten}
+use Rattle.line_editor.specs.Values.{Value, Setting, Edit, unchanged, then_do, rewritten}
 
 -- printable characters from the end of a plain line, with nothing to show, before and behind it
 abbrev pub may_be_taken : Value → Value → Bool

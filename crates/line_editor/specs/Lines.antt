@@ -1,5 +1,5 @@
 -- A line: its first drawing, then phrases and commands until one ends it.
-use Rattle.std.specs.Prelude.{ℕ, zero, suc, ◌++◌, Bool, true, false, if◌then◌else◌, List, [], ◌∷◌, length, Option, None, Result, Ok, Err}
+use Rattle.std.specs.Prelude.{ℕ, zero, suc, ◌++◌, Bool, true, false, if◌then◌else◌, List, [], ◌∷◌, Option, None, Result, Ok, Err}
 use Rattle.line_config.specs.declared.errors.ReadlineError.{ReadlineError}
 use Rattle.line_config.specs.declared.errors.ReadlineError.TheVariants.{Memory}
 use Rattle.line_keys.specs.declared.command.Cmd.{Cmd}
@@ -15,13 +15,12 @@ use Rattle.line_record.specs.Ring.{Ring}
 use Rattle.line_record.specs.declared.kill_ring.Action.TheVariants.{Other}
 use Rattle.line_editor.specs.Accepting.{submitted}
 use Rattle.line_editor.specs.Asks.{shown_in, ask_effect}
-use Rattle.line_editor.specs.Commands.{Means, means_of, effect, ring_after, outcome}
+use Rattle.line_editor.specs.Commands.{means_of, effect, ring_after, outcome}
 use Rattle.line_editor.specs.Courses.{Turn, Open, Accept, Last, breaks_after}
 use Rattle.line_editor.specs.Drawing.{refreshed}
-use Rattle.line_editor.specs.Redraws.{Redraw}
 use Rattle.line_editor.specs.Starts.{first_value}
-use Rattle.line_editor.specs.Sights.{Sight, sight_of, ended_sight, info_after}
-use Rattle.line_editor.specs.Values.{Value, Setting, Effect, Edit, unchanged, then_do}
+use Rattle.line_editor.specs.Sights.{sight_of, ended_sight, info_after}
+use Rattle.line_editor.specs.Values.{Value, Setting, Effect, unchanged, then_do}
 use Rattle.line_editor.specs.declared.commands.Status.{Status}
 use Rattle.line_editor.specs.declared.commands.Status.TheVariants.{Proceed, Submit}
 

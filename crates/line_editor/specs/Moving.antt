@@ -1,6 +1,5 @@
 -- Motions of the cursor.
-use Rattle.std.specs.Prelude.{ℕ, ◌==◌, not, Bool, if◌then◌else◌, List, [], ◌∷◌, length, Option, Some, is_some, chars}
-use Rattle.std.specs.Char.{is_whitespace}
+use Rattle.std.specs.Prelude.{ℕ, ◌==◌, not, Bool, if◌then◌else◌, length, Option, is_some}
 use Rattle.line_buffer.specs.Clusters.{place_forward, place_backward}
 use Rattle.line_buffer.specs.Columns.{line_up, line_down}
 use Rattle.line_buffer.specs.Hits.{search_place}
@@ -18,7 +17,7 @@ use Rattle.line_help.specs.History.{begins_with_space}
 use Rattle.line_keys.specs.declared.command.CmdKind.{CmdKind}
 use Rattle.line_keys.specs.declared.command.CmdKind.TheVariants.{MoveCursor}
 use Rattle.line_editor.specs.Drawing.{cursor_moved}
-use Rattle.line_editor.specs.Values.{Value, Setting, Effect, Edit, unchanged, then_do, at_line}
+use Rattle.line_editor.specs.Values.{Edit, unchanged, then_do, at_line}
 
 -- where it moves, the display's cursor follows
 abbrev pub stepped : CmdKind → Bool → Line → Edit

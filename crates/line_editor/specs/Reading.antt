@@ -17,7 +17,7 @@ use Rattle.line_editor.specs.Lines.{Told, line_from, drawn_first}
 use Rattle.line_editor.specs.Sights.{info_after}
 use Rattle.line_editor.specs.States.{value_of, setting_of, Does}
 use Rattle.line_editor.specs.Turning.{Cut, Cause}
-use Rattle.line_editor.specs.Values.{Value, Setting, Effect, Edit}
+use Rattle.line_editor.specs.Values.{Value, Setting, Edit}
 use Rattle.line_editor.specs.declared.renderer as renderers
 use Rattle.line_editor.specs.declared.state.State.{State}
 

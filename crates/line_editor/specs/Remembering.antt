@@ -1,11 +1,11 @@
 -- The history: entries in place of the line, and the line that was left for them.
-use Rattle.std.specs.Prelude.{ℕ, ◌+◌, ◌-◌, ◌==◌, Bool, true, false, if◌then◌else◌, List, [], ◌∷◌, take, length, Option, Some, None}
+use Rattle.std.specs.Prelude.{ℕ, ◌+◌, ◌-◌, ◌==◌, Bool, true, false, if◌then◌else◌, List, take, length, Option, Some, None}
 use Rattle.line_edits.specs.Edits.{updated, update_in_group}
 use Rattle.line_help.specs.Search.{Hit, entry_at, searched}
 use Rattle.line_help.specs.declared.search.SearchDirection.{SearchDirection}
 use Rattle.line_help.specs.declared.search.SearchDirection.TheVariants.{Forward, Reverse}
 use Rattle.line_editor.specs.Drawing.{refreshed, beeped}
-use Rattle.line_editor.specs.Values.{Value, Setting, Effect, Edit, unchanged, rewritten}
+use Rattle.line_editor.specs.Values.{Value, Setting, Edit, unchanged, rewritten}
 
 -- the line kept for coming back to it
 abbrev pub saved_now : Value → Value

@@ -1,5 +1,5 @@
 -- What redraws lead to, without a screen.
-use Rattle.std.specs.Prelude.{◌≡◌, ⊤, ℕ, ◌+◌, Bool, true, false, List, [], ◌∷◌, ◌++◌, length, Option, Some, None}
+use Rattle.std.specs.Prelude.{◌≡◌, ⊤, ℕ, ◌+◌, Bool, true, false, List, [], ◌∷◌, ◌++◌, length, Option, None}
 use Rattle.std.specs.List.{list_all}
 use Rattle.line_buffer.specs.Short.{is_printable}
 use Rattle.line_edits.specs.Plain.{is_plain}

@@ -1,6 +1,5 @@
 -- A state that a line begins with.
-use Rattle.std.specs.Prelude.{◌≡◌, ℕ, true, false, [], length, option_map, Option, None, List}
-use Rattle.line_buffer.specs.declared.layout.Layout.{Layout}
+use Rattle.std.specs.Prelude.{◌≡◌, ℕ, true, false, [], length, Option, None, List}
 use Rattle.line_help.specs.declared.completion as completions
 use Rattle.line_help.specs.declared.hint as hints
 use Rattle.line_help.specs.declared.highlight as highlights

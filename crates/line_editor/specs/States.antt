@@ -1,5 +1,5 @@
 -- What a state holds, as a value; what was handed in for it; and what an edit makes of it.
-use Rattle.std.specs.Prelude.{◌≡◌, ◌⊎◌, ⊤, ℕ, Bool, if◌then◌else◌, List, Option, Some, None, option_map, Result, string_bytes, IsTrue, IsSomeAnd, IfErr, OnOk, OnErr}
+use Rattle.std.specs.Prelude.{◌≡◌, ◌⊎◌, ⊤, Bool, if◌then◌else◌, None, option_map, Result, string_bytes, IsTrue, IsSomeAnd, IfErr, OnOk, OnErr}
 use Rattle.std.specs.List.{FoldsTo}
 use Rattle.line_buffer.specs.Cells.{origin}
 use Rattle.line_config.specs.declared.errors.ReadlineError.{ReadlineError}
@@ -12,7 +12,7 @@ use Rattle.line_help.specs.declared.history as histories
 use Rattle.line_record.specs.Items.{held_on}
 use Rattle.line_editor.specs.Calls.{Begun}
 use Rattle.line_editor.specs.Redraws.{asked}
-use Rattle.line_editor.specs.Values.{Value, Setting, Effect, Edit}
+use Rattle.line_editor.specs.Values.{Value, Setting, Edit}
 use Rattle.line_editor.specs.declared.renderer as renderers
 use Rattle.line_editor.specs.declared.state.State.{State}
 

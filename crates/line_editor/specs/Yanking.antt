@@ -1,5 +1,5 @@
 -- Texts yanked from the ring, and exchanged.
-use Rattle.std.specs.Prelude.{ℕ, ◌||◌, Bool, true, false, if◌then◌else◌, List, [], ◌∷◌, Option, Some, None, is_some}
+use Rattle.std.specs.Prelude.{ℕ, ◌||◌, Bool, true, false, if◌then◌else◌, List, Option, Some, None, is_some}
 use Rattle.line_buffer.specs.Clusters.{place_forward, place_backward}
 use Rattle.line_buffer.specs.Insertions.{yank as yanked_in, can_take_before}
 use Rattle.line_buffer.specs.Line.{Line, moved_to}
@@ -7,7 +7,7 @@ use Rattle.line_buffer.specs.declared.types.Anchor.{Anchor}
 use Rattle.line_buffer.specs.declared.types.Anchor.TheVariants.{After, Before}
 use Rattle.line_edits.specs.Edits.{yanked, pop_in_group}
 use Rattle.line_editor.specs.Drawing.{refreshed}
-use Rattle.line_editor.specs.Values.{Value, Setting, Effect, Edit, unchanged, rewritten, at_line}
+use Rattle.line_editor.specs.Values.{Value, Edit, unchanged, rewritten, at_line}
 
 -- behind the cluster at the cursor
 abbrev pub anchored : Anchor → Line → Line

@@ -37,8 +37,8 @@ impl<'p, 'h, Out: Renderer, H: Helper + Drop, Hi: History> State<'p, 'h, Out, H,
     ghost use Rattle.line_editor.specs.Calls.Call.{ToLeftmost};
     ghost use Rattle.line_keys.specs.declared.command.CmdKind.TheVariants.{Other};
 
-    /// Asks the helper for the hint.
-    pub(crate) fn ask_hint(&mut self) -> Result<(), ReadlineError>
+    /// Asks the helper for the hint. Nothing is drawn.
+    pub fn hint(&mut self) -> Result<(), ReadlineError>
         ensures value { OnOk result
             (value_of self.new ≡ with_hint (setting_of self.old) (value_of self.old)) }
         ensures out { self.new.out ≡ self.old.out }
@@ -139,7 +139,7 @@ impl<'p, 'h, Out: Renderer, H: Helper + Drop, Hi: History> State<'p, 'h, Out, H,
         ensures stays { Stays self.old self.new }
         ensures reason { IfErr result (λ e. reason_of false (HookFails self.new) e) }
     {
-        self.ask_hint()?;
+        self.hint()?;
         self.mark(CmdKind::Other);
         Ok(())
     }

@@ -4,8 +4,8 @@ ghost use Rattle.line_editor.specs.Leads.{CommandsLead, SubmittingLeads, AsksLea
 ghost use Rattle.line_editor.specs.Returns.{ComesBack};
 ghost use Rattle.line_editor.specs.UndoAll.{UndoReaches, UndoesAll};
 
-/// What a command wants to be seen leads from a display that shows the value before to one that shows the value behind, so
-/// that nothing of an older drawing is left standing.
+/// What a command wants to be seen leads from a display that shows the value before to one that
+/// shows the value behind, so that nothing of an older drawing is left standing.
 pub fn commands_lead()
     ensures { CommandsLead }
 {}
@@ -20,14 +20,15 @@ pub fn asks_lead()
     ensures { AsksLead }
 {}
 
-/// Whatever comes, the turns of a line lead, drawing after drawing, from a display that shows nothing of the line to what
-/// each turn says is to be seen, and the turn that accepts the line, or ends the session, is the last.
+/// Whatever comes, the turns of a line lead, drawing after drawing, from a display that shows
+/// nothing of the line to what each turn says is to be seen, and the turn that accepts the line, or
+/// ends the session, is the last.
 pub fn lines_lead()
     ensures { LinesLead }
 {}
 
-/// Where the history's end is left by a step back or to the first entry, and later its end is come back to with no search
-/// between, line and cursor are as they were.
+/// Where the history's end is left by a step back or to the first entry, and later its end is come
+/// back to with no search between, line and cursor are as they were.
 pub fn come_back()
     ensures { ComesBack }
 {}
@@ -37,8 +38,9 @@ pub fn undo_reaches()
     ensures { UndoReaches }
 {}
 
-/// Whatever commands and asks were done to a line since nothing was held for an undo, as on a new line, an undo by as many
-/// items as are held now, or more, gives the text that stood there then: on a new line none.
+/// Whatever commands and asks were done to a line since nothing was held for an undo, as on a new
+/// line, an undo by as many items as are held now, or more, gives the text that stood there then:
+/// on a new line none.
 pub fn undo_all()
     ensures { UndoesAll }
 {}

@@ -1,5 +1,5 @@
-//! The editor of a line: keys become commands, commands edit the line and its record, and a renderer is asked for exactly
-//! what is to be drawn.
+//! The editor of a line: keys become commands, commands edit the line and its record, and a
+//! renderer is asked for exactly what is to be drawn.
 #![tactic(auto)]
 
 mod accepting;

@@ -117,7 +117,11 @@ pub trait Renderer: Drop {
         let pos = line.pos();
         let text = line.as_str();
         let cursor = self.calculate_position(&text[..pos], prompt_size);
-        let end = self.calculate_position(text, prompt_size);
+        let end = if pos < text.len() {
+            self.calculate_position(text, prompt_size)
+        } else {
+            cursor
+        };
         let (end, has_info) = match info {
             None => (self.calculate_position("", end), false),
             Some(info) => (self.calculate_position(info, end), true),

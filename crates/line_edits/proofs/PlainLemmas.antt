@@ -1,13 +1,13 @@
 -- A printable character typed into a plain line leaves it plain.
-use Rattle.std.proofs.Common.{◌≡◌, ℕ, ◌+◌, ◌==◌, ◌&&◌, ◌||◌, ◌<◌, Bool, true, false, List, [], ◌∷◌, ◌++◌, take, drop, refl, sym, ap, subst, ◌∙◌, encode_utf8, arith, append_assoc, if◌then◌else◌, length, Some}
-use Rattle.std.specs.List.{list_all, replace_range}
+use Rattle.std.proofs.Common.{◌≡◌, ℕ, ◌==◌, ◌&&◌, ◌||◌, ◌<◌, Bool, true, false, List, [], ◌∷◌, ◌++◌, take, drop, refl, sym, ap, subst, ◌∙◌, encode_utf8, arith, append_assoc, if◌then◌else◌, length, Some}
+use Rattle.std.specs.List.{replace_range}
 use Rattle.std.proofs.lemmas.Bool.{and_parts}
 use Rattle.std.proofs.lemmas.List.{take-append-drop}
 use Rattle.std.proofs.lemmas.List.Folds.{list_all-append}
 use Rattle.std.proofs.lemmas.Str.{encode_ascii}
 use Rattle.line_buffer.specs.Event.{Event}
 use Rattle.line_buffer.specs.Event.Event.{InsertChar}
-use Rattle.line_buffer.specs.Insertions.{Insertion, insertion_by, no_insertion, has_room, put_at_cursor, insert as insertion}
+use Rattle.line_buffer.specs.Insertions.{no_insertion, has_room, put_at_cursor, insert as insertion}
 use Rattle.line_buffer.specs.Line.{Line}
 use Rattle.line_buffer.specs.Short.{is_printable}
 use Rattle.line_edits.specs.Plain.{is_plain, is_plain_byte}

@@ -1,9 +1,8 @@
 //! The notation of the tables of sessions, and what the tests of sessions share.
 
 use keyline::{
-    Bindings, Cmd, Config, EditMode, Ended, Event, EventHandler, Helper, KeyEvent,
-    ReadlineError, Session, Sink,
-    SliceSource, Source, VecSink,
+    Bindings, Cmd, Config, EditMode, Ended, Event, EventHandler, Helper, KeyEvent, ReadlineError,
+    Session, Sink, SliceSource, Source, VecSink,
 };
 use stand_ins::tables::meant_bytes;
 use std::alloc::{AllocError, Global};

@@ -50,17 +50,41 @@ fn session(
 ) -> Result<(), Fail> {
     let alloc = rt.alloc();
     let keys = keys_of(alloc, field(keys))?;
-    let sinks = (VecSink::new(alloc), VecSink::new(alloc), VecSink::new(alloc));
+    let sinks = (
+        VecSink::new(alloc),
+        VecSink::new(alloc),
+        VecSink::new(alloc),
+    );
     let source = SliceSource::new(&keys);
-    let end = played(rt, play, advice().filter(|_| helped), source, sinks.0, sinks.1, sinks.2)?;
+    let end = played(
+        rt,
+        play,
+        advice().filter(|_| helped),
+        source,
+        sinks.0,
+        sinks.1,
+        sinks.2,
+    )?;
     compare(rt, &end, text, want)?;
     let calls = Cell::new(0);
     let source = ReadSource::new(Pieces {
         bytes: &keys,
         turns: Turns::new("1..", &calls),
     });
-    let sinks = (VecSink::new(alloc), VecSink::new(alloc), VecSink::new(alloc));
-    let end = played(rt, play, advice().filter(|_| helped), source, sinks.0, sinks.1, sinks.2)?;
+    let sinks = (
+        VecSink::new(alloc),
+        VecSink::new(alloc),
+        VecSink::new(alloc),
+    );
+    let end = played(
+        rt,
+        play,
+        advice().filter(|_| helped),
+        source,
+        sinks.0,
+        sinks.1,
+        sinks.2,
+    )?;
     compare(rt, &end, text, want)
 }
 

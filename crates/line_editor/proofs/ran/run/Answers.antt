@@ -1,5 +1,5 @@
 use Rattle.std.proofs.Common.{◌≡◌, ap}
-use Rattle.line_keys.specs.Answers.{Custom, custom_of}
+use Rattle.line_keys.specs.Answers.{custom_of}
 use Rattle.line_keys.specs.InputStates.{custom_in, input_of}
 use Rattle.line_editor.proofs.RunLemmas.{not_begun_by, same_reads, runs_by}
 use Rattle.line_editor.proofs.ran.run.Goals as goal

@@ -1,4 +1,4 @@
-use Rattle.std.proofs.Common.{◌≡◌, sym, ap, ◌∙◌, subst}
+use Rattle.std.proofs.Common.{◌∙◌}
 use Rattle.line_buffer.proofs.CutLemmas.{start_replaced}
 use Rattle.line_buffer.specs.Replay.{insertion}
 use Rattle.line_record.specs.Items.{held_on}

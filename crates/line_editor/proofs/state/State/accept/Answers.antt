@@ -1,5 +1,5 @@
 use Rattle.line_editor.specs.Accepting.{bare, validate}
-use Rattle.line_editor.proofs.DoesLemmas.{does_both, does_both_by, does_cut_by}
+use Rattle.line_editor.proofs.DoesLemmas.{does_both_by, does_cut_by}
 use Rattle.line_editor.proofs.state.State.accept.Goals as goal
 
 pub returns-in_err-bare_line-clause-does : goal.returns-in_err-bare_line-clause-does

@@ -1,4 +1,4 @@
-use Rattle.std.proofs.Common.{◌≡◌, ◌∙◌, refl}
+use Rattle.std.proofs.Common.{◌∙◌, refl}
 use Rattle.line_editor.proofs.CarriesLemmas.{same_custom, carries_first, carries_next, carries_ended, carries_closed}
 use Rattle.line_editor.proofs.state.State.turns.Goals as goal
 
