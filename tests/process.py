@@ -75,7 +75,7 @@ def an_end_typed_before_more_keys():
 
 
 def interrupted():
-    expect(b"ab" + ENTER + b"\x03cd", b"ab\n", FIRST_LINE + drawing(b"") + NEW_ROW + b"keyline: Interrupted\n", 130)
+    expect(b"ab" + ENTER + b"\x03cd", b"ab\n", FIRST_LINE + drawing(b"") + NEW_ROW, 130)
 
 
 def input_that_is_no_text():
@@ -204,15 +204,6 @@ def standard_error_whose_reader_goes():
         program.lines.expect_end(b"ab\n")
 
 
-def an_argument():
-    for arguments in (["x"], ["--help"], ["-"], ["", ""]):
-        ran = subprocess.run([SCRIPT, *arguments], input=b"ab\r", capture_output=True, timeout=HUNG)
-        same("standard output", ran.stdout, b"")
-        same("lines of usage", ran.stderr.count(b"\n"), 1)
-        same("its first word", ran.stderr.split()[0], b"usage:")
-        same("status", ran.returncode, 2)
-
-
 def no_toolchain():
     with tempfile.TemporaryDirectory() as folder:
         for name in ("bash", "dirname", "readlink"):
@@ -275,7 +266,6 @@ if __name__ == "__main__":
         standard_error_closed_from_the_start,
         standard_error_that_is_full,
         standard_error_whose_reader_goes,
-        an_argument,
         no_toolchain,
         another_folder_and_a_link,
         the_program_itself,

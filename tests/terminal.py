@@ -172,7 +172,7 @@ def interrupt_typed():
     with Terminal() as terminal:
         terminal.expect(drawing(b""))
         terminal.type(b"a\x03")
-        terminal.expect(b"a" + NEW_ROW + b"keyline: Interrupted\n")
+        terminal.expect(b"a" + NEW_ROW)
         terminal.expect_ended(130)
 
 

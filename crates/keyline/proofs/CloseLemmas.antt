@@ -1,15 +1,14 @@
 -- The end of a line: an exit for each fault, and the one where all went well.
-use Rattle.std.proofs.Common.{◌≡◌, ℕ, Bool, true, false, List, [], ◌∷◌, ◌++◌, inl, inr, ◌⊎◌, refl, sym, ap, ◌∙◌, subst, append-nil, IsTrue, Result, Ok, Err, IfErr, OnOk, OnErr}
+use Rattle.std.proofs.Common.{◌≡◌, ℕ, Bool, true, false, List, [], ◌∷◌, inl, inr, refl, sym, ap, ◌∙◌, subst, append-nil, IsTrue, Result, Ok, Err, IfErr}
 use Rattle.line_config.specs.declared.errors.ReadlineError.{ReadlineError}
-use Rattle.line_config.specs.declared.errors.ReadlineError.TheVariants.{Eof, Interrupted, NotUtf8, PasteOutOfPlace, Reader, Display, Lines, HistoryText, Helper, Handler, Memory}
+use Rattle.line_config.specs.declared.errors.ReadlineError.TheVariants.{Display, Memory}
 use Rattle.line_config.specs.Sending.{Takes}
 use Rattle.line_editor.specs.Courses.{breaks_after}
 use Rattle.line_help.specs.History.{Filed}
 use Rattle.line_screen.specs.Drawing.{row_break, break_if}
-use Rattle.keyline.specs.Calls.{TakesSome}
 use Rattle.keyline.specs.Closing.{Closes, CloseReason, WritesLine, work}
-use Rattle.keyline.specs.Playing.{Work, LineWhole, LineCut, CutsBy, accepted_of}
-use Rattle.keyline.specs.Sessions.{breaks, remembered, history_after, line_text, lines_text}
+use Rattle.keyline.specs.Playing.{Work, LineCut, CutsBy, accepted_of}
+use Rattle.keyline.specs.Sessions.{remembered, line_text}
 use Rattle.keyline.proofs.Told.{Takes-none}
 
 pub remembered_none : (adds : Bool) (h : Filed) → remembered adds [] h ≡ h

@@ -1,6 +1,5 @@
 -- A line at a desk: what `run` gives, and then the line's end.
-use Rattle.std.proofs.Common.{◌≡◌, ℕ, suc, ◌<◌, ◌≤◌, Bool, true, false, List, [], ◌∷◌, ◌++◌, inl, inr, ◌⊎◌, refl, sym, ap, ◌∙◌, subst, append-nil, IsTrue, IsFalse, Option, Result, Ok, Err, IfErr, OnOk, OnErr, le_refl}
-use Rattle.std.specs.List.{flat_map}
+use Rattle.std.proofs.Common.{◌≡◌, ℕ, suc, ◌<◌, Bool, true, List, [], ◌∷◌, ◌++◌, inl, inr, ◌⊎◌, refl, sym, ap, ◌∙◌, subst, IsTrue, IsFalse, Option, Result, Ok, Err, IfErr, OnOk, le_refl}
 use Rattle.std.specs.Prelude.{string_bytes}
 use Rattle.line_config.specs.declared.config.Config.{Config}
 use Rattle.line_config.specs.declared.errors.ReadlineError.{ReadlineError}
@@ -16,7 +15,7 @@ use Rattle.line_editor.specs.Running.{Helping, HelperFails, Runs, WholeLine, Cut
 use Rattle.line_editor.specs.States.{reason_of}
 use Rattle.line_editor.specs.Turning.{cause_of}
 use Rattle.line_editor.specs.declared.ran.Ran.{Ran}
-use Rattle.line_screen.specs.Calls.{Screen, Sent, canvas_of, screen_of, sink_of, bytes_of, ruler_of}
+use Rattle.line_screen.specs.Calls.{canvas_of, screen_of, sink_of, ruler_of}
 use Rattle.line_screen.specs.Drawing.{break_if}
 use Rattle.line_screen.specs.Reader.{items_of}
 use Rattle.line_screen.specs.declared.reading.reader.KeyReader.{KeyReader}
@@ -25,7 +24,7 @@ use Rattle.line_screen.proofs.CallLemmas.{sent_in_all, begun_stays}
 use Rattle.keyline.specs.Closing.{Closes, CloseReason, work}
 use Rattle.keyline.specs.Desks.{Known, Lined, TakesLine, DeskReason, feed_of, standing_of, work_of}
 use Rattle.keyline.specs.Playing.{Work, LineWhole, LineCut, CutsBy, Reason, accepted_of}
-use Rattle.keyline.specs.Sessions.{Given, Standing, given_by, breaks, line_in, after_line, line_bytes, lines_text, remembered, history_after}
+use Rattle.keyline.specs.Sessions.{Given, given_by, breaks, line_in, lines_text, remembered, history_after}
 use Rattle.keyline.specs.declared.desk.Desk.{Desk}
 use Rattle.keyline.proofs.CloseLemmas.{remembered_none}
 use Rattle.keyline.proofs.Told.{Takes-then}

@@ -1,6 +1,8 @@
 pub mod CloseLemmas
 pub mod DeskLemmas
+pub mod EditLemmas
 pub mod OneByteLemmas
+pub mod OptionsLemmas
 pub mod PlaysLemmas
 pub mod SessionCourse
 pub mod SessionLawLemmas

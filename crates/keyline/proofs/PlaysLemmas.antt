@@ -1,17 +1,16 @@
 -- A session by its lines, its history's saving and its ending.
-use Rattle.std.proofs.Common.{◌≡◌, ℕ, ◌<◌, Bool, List, refl, sym, subst, IsTrue}
+use Rattle.std.proofs.Common.{◌≡◌, ℕ, Bool, List, sym, subst}
 use Rattle.line_config.specs.declared.errors.ReadlineError.{ReadlineError}
 use Rattle.line_help.specs.History.{Filed}
 use Rattle.line_screen.specs.Calls.{sink_of}
 use Rattle.line_screen.specs.Reader.{source_of}
-use Rattle.keyline.specs.Desks.{Known, TakesLines, DeskReason, feed_of, standing_of, work_of}
+use Rattle.keyline.specs.Desks.{Known, TakesLines, feed_of, standing_of, work_of}
 use Rattle.keyline.specs.Endings.{ending_of}
-use Rattle.keyline.specs.Playing.{Work, Reason, Reads, Saves, ending_after}
+use Rattle.keyline.specs.Playing.{Reason, Reads, Saves, ending_after}
 use Rattle.keyline.specs.Plays.{Plays}
 use Rattle.keyline.specs.Sessions.{Given, session}
 use Rattle.keyline.specs.declared.desk.Desk.{Desk}
 use Rattle.keyline.specs.declared.ending.Ending.{Ending}
-use Rattle.keyline.specs.declared.session.Ended.{Ended}
 
 pub plays : {S H D L T : Type 0} (k : Known S D L) (told : T → Bool) (held : T → List ℕ) (failed : T → Bool) (g : Given) (desk end : Desk S H D L)
     (why : ReadlineError) (history : Filed) (text text' : T) (saved : Bool) (ending : Ending) (source : S) (display : D)

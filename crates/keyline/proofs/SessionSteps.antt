@@ -1,5 +1,5 @@
 -- Lines one after the other make a session: a line in front of a session, and the line that ends it.
-use Rattle.std.proofs.Common.{◌≡◌, ℕ, zero, suc, ◌<◌, ◌≤◌, Bool, true, false, List, [], ◌∷◌, ◌++◌, length, inl, inr, ◌⊎◌, refl, sym, ap, ◌∙◌, subst, append-nil, append_assoc, IsTrue, Result, Ok, Err, IfErr, OnOk, le_refl, arith}
+use Rattle.std.proofs.Common.{◌≡◌, ℕ, zero, suc, ◌<◌, ◌≤◌, Bool, true, false, List, [], ◌∷◌, ◌++◌, length, inl, inr, refl, sym, ap, ◌∙◌, subst, append-nil, append_assoc, IsTrue, Result, Ok, Err, arith}
 use Rattle.line_config.specs.declared.errors.ReadlineError.{ReadlineError}
 use Rattle.line_config.specs.declared.errors.ReadlineError.TheVariants.{Eof, Interrupted, NotUtf8, PasteOutOfPlace, Reader, Display, Lines, HistoryText, Helper, Handler, Memory}
 use Rattle.line_config.specs.Sending.{Takes}
@@ -8,7 +8,7 @@ use Rattle.line_editor.specs.Running.{HelperFails}
 use Rattle.line_help.specs.History.{Filed}
 use Rattle.line_keys.specs.Answers.{HandlerFails}
 use Rattle.keyline.specs.Desks.{Known, Lined, TakesLine, TakesLines, DeskReason, feed_of, standing_of, work_of}
-use Rattle.keyline.specs.Playing.{Work, LineWhole, LineCut, CutsBy, Reads, Reason, accepted_of}
+use Rattle.keyline.specs.Playing.{Work, LineWhole, LineCut, CutsBy, Reads}
 use Rattle.keyline.specs.Sessions.{Given, Standing, Report, line_in, after_line, goes_on, line_text, lines_text, line_bytes, display_bytes, remembered, session}
 use Rattle.keyline.specs.declared.desk.Desk.{Desk}
 use Rattle.keyline.proofs.CloseLemmas.{remembered_none}

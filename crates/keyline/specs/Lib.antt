@@ -1,8 +1,10 @@
 pub mod Calls
 pub mod Closing
 pub mod Desks
+pub mod Edits
 pub mod Endings
 pub mod OneByte
+pub mod Options
 pub mod Playing
 pub mod Plays
 pub mod SessionLaws

@@ -1,18 +1,17 @@
 -- A session that is opened and run: what it is opened on, and what it gives back.
-use Rattle.std.specs.Prelude.{◌≡◌, ℕ, ◌<◌, ⊤, Bool, true, false, List, Option, Result, Ok, Err, IsOk, IsTrue, IfOk, IfErr}
+use Rattle.std.specs.Prelude.{◌≡◌, ℕ, ◌<◌, ⊤, Bool, List, Option, Result, Err, IsOk, IsTrue}
 use Rattle.line_config.specs.Feed.{Feed as Bytes}
-use Rattle.line_config.specs.Sending.{Takes}
 use Rattle.line_config.specs.declared.config.Config.{Config}
 use Rattle.line_config.specs.declared.errors.ReadlineError.{ReadlineError}
 use Rattle.line_config.specs.declared.errors.ReadlineError.TheVariants.{Eof, Interrupted, NotUtf8, PasteOutOfPlace, Reader, Display, Lines, HistoryText, Helper, Handler, Memory}
-use Rattle.line_help.specs.History.{Filed, settings_of, nothing_filed, all_saved}
-use Rattle.line_help.specs.HistoryText.{text_rows, text_to_save, load_answer, load_leaves}
+use Rattle.line_help.specs.History.{Filed, settings_of, nothing_filed}
+use Rattle.line_help.specs.HistoryText.{text_rows, load_answer, load_leaves}
 use Rattle.line_record.specs.Ring.{new_ring}
-use Rattle.line_screen.specs.Calls.{Screen, screen_of, sink_of}
+use Rattle.line_screen.specs.Calls.{screen_of, sink_of}
 use Rattle.line_screen.specs.Reader.{coming_in, source_of}
 use Rattle.keyline.specs.Desks.{Known, feed_of, standing_of, work_of}
 use Rattle.keyline.specs.Endings.{ending_of}
-use Rattle.keyline.specs.Playing.{Work, Reason, Reads, Saves, ending_after}
+use Rattle.keyline.specs.Playing.{Reason, Reads, Saves, ending_after}
 use Rattle.keyline.specs.Sessions.{Given, coming_from, session}
 use Rattle.keyline.specs.declared.desk.Desk.{Desk}
 use Rattle.keyline.specs.declared.session.Ended.{Ended}

@@ -10,7 +10,10 @@
 pub mod brackets;
 mod desk;
 pub mod ending;
+mod help;
 pub mod laws;
+pub mod options;
+pub mod program;
 pub mod session;
 
 pub use brackets::BracketHelper;
@@ -34,4 +37,6 @@ pub use line_keys::{
     Bindings, Cmd, CmdKind, ConditionalEventHandler, Event, EventContext, EventHandler, InputMode,
     Invoke, KeyCode, KeyEvent, Keys, Modifiers, Text,
 };
+pub use options::{Options, Parsed, parse};
+pub use program::edit;
 pub use session::{Ended, Session};

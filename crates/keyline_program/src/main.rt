@@ -1,41 +1,99 @@
 //! The program `keyline`: keys from standard input, accepted lines to standard output, the display on standard error.
 #![tactic(auto)]
 
+ghost use Rattle.std.specs.Prelude.{◌≤◌};
+
+mod history_file;
+
 use keyline::{
-    Bindings, Config, Ending, ReadSource, ReadlineError, Session, SliceSource, WriteSink,
+    Ending, Options, Parsed, ReadSource, ReadlineError, Sink, SliceSource, VecSink, WriteSink,
+    edit, parse,
 };
-use std::io;
+use std::env;
+use std::io::ErrorKind;
 use std::process::ExitCode;
 
-const PROMPT: &str = "> ";
+/// The status where words are no command line.
+const USAGE: u8 = 2;
 
-const COLUMNS: u16 = 80;
-
-/// Runs a session without a helper, whose history begins empty and is kept nowhere.
-fn play(rt: &HostRuntime) -> Result<Ending, ReadlineError> {
-    let alloc = rt.alloc();
-    let session = Session::open(
-        alloc,
-        Config::builder().auto_add_history(true).build(),
-        Bindings::new(alloc)?,
-        SliceSource::new(b""),
-        None::<()>,
-        PROMPT,
-        ReadSource::new(rt.reader()),
-        COLUMNS,
-        WriteSink::new(rt.stderr()),
-        WriteSink::new(rt.stdout()),
-        WriteSink::new(io::sink()),
-    )?;
-    Ok(session.run().ending)
-}
+/// The status where a history doesn't load.
+const NO_HISTORY: u8 = 5;
 
 fn main(rt: HostRuntime) -> ExitCode {
-    let ending = match play(&rt) {
-        Ok(ending) => ending,
-        Err(refusal) => Ending::from(refusal),
+    let words: Vec<String> = match env::args(&rt).and_then(|words| Ok(words.collect(rt.alloc())?)) {
+        Ok(words) => words,
+        Err(error) if error.kind() == ErrorKind::OutOfMemory => return ended(&rt, Ending::Memory),
+        Err(_) => {
+            let _ = eprintln!(rt; "keyline: an argument is not UTF-8");
+            return ExitCode::from(USAGE);
+        }
     };
-    if ending != Ending::Eof {
+    match parse(rt.alloc(), words.as_slice()) {
+        Parsed::Run(options) => run(&rt, &options),
+        Parsed::Help(text) => {
+            let _ = print!(rt; "{}", text.as_str());
+            ExitCode::SUCCESS
+        }
+        Parsed::Usage(text) => {
+            let _ = eprint!(rt; "{}", text.as_str());
+            ExitCode::from(USAGE)
+        }
+        Parsed::Memory => ended(&rt, Ending::Memory),
+    }
+}
+
+/// Loads the history, runs a session, and saves the history.
+fn run(rt: &HostRuntime, options: &Options) -> ExitCode
+    requires { (2 ≤ options.now.columns) × (options.now.columns ≤ 1000) }
+{
+    let old = match &options.history {
+        Some(path) => history_file::load(rt, path.as_str()),
+        None => Ok(Vec::new(rt.alloc())),
+    };
+    let old = match old {
+        Ok(old) => old,
+        Err(error) if error.kind() == ErrorKind::OutOfMemory => return ended(rt, Ending::Memory),
+        Err(_) => return not_loaded(rt),
+    };
+    let played = edit(
+        rt.alloc(),
+        options,
+        SliceSource::new(old.as_slice()),
+        ReadSource::new(rt.reader()),
+        WriteSink::new(rt.stderr()),
+        WriteSink::new(rt.stdout()),
+        VecSink::new(rt.alloc()),
+    );
+    match played {
+        Ok(played) => ended(rt, kept(rt, options, played.ending, &played.text)),
+        Err(ReadlineError::HistoryText | ReadlineError::Reader) => not_loaded(rt),
+        Err(refusal) => ended(rt, Ending::from(refusal)),
+    }
+}
+
+/// Writes the history's text, if there is any, and answers what the session ends with then.
+fn kept(rt: &HostRuntime, options: &Options, ending: Ending, text: &VecSink) -> Ending {
+    let Some(path) = &options.history else {
+        return ending;
+    };
+    if text.bytes().is_empty() || text.failed() {
+        return ending;
+    }
+    match (history_file::save(rt, path.as_str(), text.bytes()), ending) {
+        (Err(_), Ending::Eof | Ending::Interrupted | Ending::NotUtf8 | Ending::PasteOutOfPlace) =>
+            Ending::HistoryText,
+        _ => ending,
+    }
+}
+
+fn not_loaded(rt: &HostRuntime) -> ExitCode {
+    let _ = eprintln!(rt; "keyline: history does not load");
+    ExitCode::from(NO_HISTORY)
+}
+
+/// Says how the session ended, where that was a fault.
+fn ended(rt: &HostRuntime, ending: Ending) -> ExitCode {
+    if !matches!(ending, Ending::Eof | Ending::Interrupted) {
         let _ = eprintln!(rt; "keyline: {}", ending.text());
     }
     ExitCode::from(ending.status())

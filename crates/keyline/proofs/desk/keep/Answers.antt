@@ -1,5 +1,5 @@
 -- A fault of the display, of memory or of the sink of lines, or none.
-use Rattle.std.proofs.Common.{refl, ◌∙◌}
+use Rattle.std.proofs.Common.{◌∙◌}
 use Rattle.std.proofs.lemmas.Result.{err_from_is_err_and}
 use Rattle.keyline.proofs.CloseLemmas.{closes_undrawn, closes_unkept, closes_written}
 use Rattle.keyline.proofs.desk.keep.Goals as goal

@@ -1,0 +1,45 @@
+-- A session opened by options, and run, is what the options say.
+use Rattle.std.proofs.Common.{◌≡◌, ◌∙◌, ℕ, Bool, List, [], Option, ap, subst}
+use Rattle.std.specs.Prelude.{string_bytes}
+use Rattle.line_config.specs.Feed.{Feed as Bytes}
+use Rattle.line_config.specs.declared.config.Config.{Config}
+use Rattle.line_keys.specs.Answers.{Custom, custom_of}
+use Rattle.line_keys.specs.Handling.{Meaning}
+use Rattle.line_keys.specs.declared.events.Event.{Event}
+use Rattle.line_screen.specs.Calls.{screen_of}
+use Rattle.keyline.specs.Desks.{Known, standing_of}
+use Rattle.keyline.specs.Edits.{Edits, bracket_helping, config_of, given_to, helper_of, nothing_bound}
+use Rattle.keyline.specs.Plays.{Opens, Plays}
+use Rattle.keyline.specs.SessionShows.{Displays}
+use Rattle.keyline.specs.Sessions.{Given, given_by}
+use Rattle.keyline.specs.declared.brackets.BracketHelper.{BracketHelper}
+use Rattle.keyline.specs.declared.desk.Desk.{Desk}
+use Rattle.keyline.specs.declared.options.Options.{Options}
+use Rattle.keyline.specs.declared.session.Ended.{Ended}
+
+pub none_bound : {D : Type 0} (bindings : List (Event × D)) (means : D → Meaning) → bindings ≡ [] → custom_of bindings means ≡ nothing_bound
+none_bound bindings means none = ap (λ b. custom_of b means) none
+
+module _ {S D L T : Type 0} (k : Known S D L) (told : T → Bool) (held : T → List ℕ) (failed : T → Bool) where
+  pub edited : (options : Options) (history : Bytes) (source : S) (display : D) (lines : L) (text text' : T) (ended : Ended S D L T)
+      (desk : Desk S BracketHelper D L) (config config' : Config) (custom : Custom) (prompt : List ℕ) (helper : Option BracketHelper)
+      → Opens k.feed config history helper source options.columns display lines desk
+      → Plays k told held failed (given_by config' custom prompt (screen_of desk.out) (bracket_helping desk.helper)) desk text' ended
+      → Displays (given_by config' custom prompt (screen_of desk.out) (bracket_helping desk.helper)) (standing_of k desk)
+      → config ≡ config_of options → config' ≡ config → prompt ≡ string_bytes options.prompt → helper ≡ helper_of options → text' ≡ text → custom ≡ nothing_bound
+      → Edits k told held failed options history source display lines text ended
+  edited options history source display lines text text' ended desk config config' custom prompt helper opens plays shows config_is config_is' prompt_is helper_is text_is custom_is =
+      let screen = screen_of desk.out in
+      let helping = bracket_helping desk.helper in
+      let given : given_by config' custom prompt screen helping ≡ given_to options desk =
+      ap (λ (x : Config). given_by x custom prompt screen helping) (config_is' ∙ config_is)
+      ∙ (ap (λ (x : Custom). given_by (config_of options) x prompt screen helping) custom_is
+      ∙ ap (λ (x : List ℕ). given_by (config_of options) nothing_bound x screen helping) prompt_is) in
+      let opens' = subst (λ (x : Config). Opens k.feed x history helper source options.columns display lines desk) config_is opens in
+      let plays' = subst (λ (x : Given). Plays k told held failed x desk text' ended) given plays in
+      record {
+        desk = desk;
+        opens = subst (λ (x : Option BracketHelper). Opens k.feed (config_of options) history x source options.columns display lines desk) helper_is opens';
+        plays = subst (λ (x : T). Plays k told held failed (given_to options desk) desk x ended) text_is plays';
+        shows = subst (λ (x : Given). Displays x (standing_of k desk)) given shows;
+      }

@@ -1,0 +1,14 @@
+use Rattle.std.proofs.Common.{◌∙◌, ap₂}
+use Rattle.std.proofs.lemmas.Result.{IfOk-weaker}
+use Rattle.clap.specs.Words.{with_rule}
+use Rattle.keyline.specs.Options.{command_line}
+use Rattle.keyline.proofs.options.command_line.Goals as goal
+
+pub returns : goal.returns
+unfolding command_line
+returns c =
+    let mode = c.in_ok-arg.ensures.shape c.defaulted.ensures.local ∙ ap₂ with_rule c.described.ensures c.defaulted.ensures.rule in
+    let columns = c.in_ok-arg-2.ensures.shape c.defaulted-2.ensures.local ∙ ap₂ with_rule mode c.defaulted-2.ensures.rule in
+    let prompt = c.in_ok-arg-3.ensures.shape c.defaulted-3.ensures.local ∙ ap₂ with_rule columns c.defaulted-3.ensures.rule in
+    let history = c.in_ok-arg-4.ensures.shape c.text_option.ensures.local ∙ ap₂ with_rule prompt c.text_option.ensures.rule in
+    IfOk-weaker c.arg-5.result _ _ (λ command adds. adds.shape c.flag.ensures.local ∙ ap₂ with_rule history c.flag.ensures.rule) c.arg-5.ensures

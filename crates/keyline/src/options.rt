@@ -1,0 +1,225 @@
+//! The program's options, from the words of a command line.
+
+ghost use Rattle.std.specs.Prelude.{◌≡◌, ◌≤◌, ◌↔◌, IfOk, IfSome, IsTrue, MatchOption, Some, codes, map};
+ghost use Rattle.std.specs.Prelude.{false, option_map};
+ghost use Rattle.clap.specs.Words.{app_of, first_of, found_of, kind_of, new_app};
+ghost use Rattle.clap.specs.Words.{rows_of, rule_of};
+ghost use Rattle.keyline.specs.Options.{Answers, AreColumns, Chooses, ChoosesNone, Gives};
+ghost use Rattle.keyline.specs.Options.{HasColumns, IsMode};
+ghost use Rattle.keyline.specs.Options.{Says, command_line, defaulted, flag, text_option};
+
+use crate::help::keys;
+use clap::error::ErrorKind;
+use clap::{Arg, ArgAction, ArgMatches, Command, Error};
+use line_config::EditMode;
+use std::alloc::{AllocError, Global};
+use std::convert::AsStr;
+
+/// How the program is to run.
+#[derive(Debug, Drop)]
+pub struct Options {
+    /// The keymap.
+    pub mode: EditMode,
+    /// Columns of a row, 2 to 1,000.
+    pub columns: u16,
+    /// What stands before each line.
+    pub prompt: String,
+    /// The path of the file that keeps the history, if any.
+    pub history: Option<String>,
+    /// Whether a line with open brackets goes on.
+    pub brackets: bool,
+}
+
+/// What the words of a command line ask for.
+#[derive(Debug, Drop)]
+pub enum Parsed {
+    /// A session with these options.
+    Run(Options),
+    /// The help text, for standard output; the program then ends with status 0.
+    Help(String),
+    /// What is wrong with the words, with the usage, for standard error; the status is 2.
+    Usage(String),
+    /// Nothing that can be known: a growth of memory was refused.
+    Memory,
+}
+
+/// Reads the words of a command line, of which the first is the program's name:
+/// `[--mode emacs|vi] [--columns 2..1000] [--prompt TEXT] [--history FILE] [--brackets]`.
+pub fn parse<S: AsStr>(alloc: Global, words: &[S]) -> Parsed
+    ensures answers { Answers (map S.text words.now) result }
+    ensures columns { HasColumns result }
+{
+    match try_parse(alloc, words) {
+        Ok(options) => Parsed::Run(options),
+        Err(error) => refused(alloc, &error),
+    }
+}
+
+// What is said of words that give no options.
+fn refused(alloc: Global, error: &Error) -> Parsed
+    ensures says { Says (kind_of error.now) result }
+    ensures columns { HasColumns result }
+{
+    let Ok(text) = error.to_string(alloc) else {
+        return Parsed::Memory;
+    };
+    match error.kind() {
+        ErrorKind::DisplayHelp => Parsed::Help(text),
+        ErrorKind::OutOfMemory => Parsed::Memory,
+        _ => Parsed::Usage(text),
+    }
+}
+
+fn try_parse<'a, S: AsStr>(alloc: Global, words: &'a [S]) -> Result<Options, Error>
+    ensures gives { Gives (map S.text words.now) result }
+    ensures columns { IfOk result (λ options. (2 ≤ options.columns) × (options.columns ≤ 1000)) }
+{
+    let matches = command_line(alloc)?.try_get_matches_from(words)?;
+    match chosen(alloc, &matches)? {
+        Some(options) => Ok(options),
+        None => Err(none_chosen(alloc)?),
+    }
+}
+
+fn none_chosen(alloc: Global) -> Result<Error, AllocError>
+    ensures { IfOk result (λ error. kind_of error ≡ ErrorKind.InvalidValue) }
+{
+    command_line(alloc)?.error(
+        ErrorKind::InvalidValue,
+        "--mode is emacs or vi, and --columns a number from 2 to 1000",
+    )
+}
+
+fn command_line<'a>(alloc: Global) -> Result<Command<'a>, AllocError>
+    ensures { IfOk result (λ command. app_of command ≡ command_line) }
+{
+    described(alloc)
+        .arg(defaulted(alloc, "mode", "emacs|vi", "emacs", "Keymap"))?
+        .arg(defaulted(alloc, "columns", "2..1000", "80", COLUMNS))?
+        .arg(defaulted(
+            alloc,
+            "prompt",
+            "TEXT",
+            "> ",
+            "What stands before each line",
+        ))?
+        .arg(text_option(
+            alloc,
+            "history",
+            "FILE",
+            "File that keeps the lines [default: none]",
+        ))?
+        .arg(flag(alloc, "brackets", BRACKETS))
+}
+
+const COLUMNS: &str = "Columns of a row; ./keyline takes the terminal's";
+
+const BRACKETS: &str = "Lets a line go on while a bracket is open [default: off]";
+
+fn described<'a>(alloc: Global) -> Command<'a>
+    ensures { app_of result ≡ new_app (codes "keyline") }
+{
+    Command::new(alloc, "keyline")
+        .about("A line editor: keys from standard input, accepted lines to standard output")
+        .after_help(keys())
+}
+
+fn text_option<'a>(alloc: Global, id: &'a str, value: &'a str, help: &'a str) -> Arg<'a>
+    ensures rule { rule_of result ≡ text_option id.entry.now }
+    ensures local { result.global ≡ false }
+{
+    Arg::new(alloc, id).long(id).value_name(value).help(help)
+}
+
+fn defaulted<'a>(
+    alloc: Global,
+    id: &'a str,
+    value: &'a str,
+    text: &'a str,
+    help: &'a str,
+) -> Arg<'a>
+    ensures rule { rule_of result ≡ defaulted id.entry.now text.entry.now }
+    ensures local { result.global ≡ false }
+{
+    Arg::new(alloc, id)
+        .long(id)
+        .value_name(value)
+        .default_value(text)
+        .help(help)
+}
+
+fn flag<'a>(alloc: Global, id: &'a str, help: &'a str) -> Arg<'a>
+    ensures rule { rule_of result ≡ flag id.entry.now }
+    ensures local { result.global ≡ false }
+{
+    Arg::new(alloc, id)
+        .long(id)
+        .action(ArgAction::SetTrue)
+        .help(help)
+}
+
+fn chosen(alloc: Global, matches: &ArgMatches<'_>) -> Result<Option<Options>, AllocError>
+    ensures choice { IfOk result (λ options. MatchOption options
+        (ChoosesNone (rows_of (found_of matches.now)))
+        (Chooses (rows_of (found_of matches.now)))) }
+    ensures columns { IfOk result (λ options. IfSome options (λ o.
+        (2 ≤ o.columns) × (o.columns ≤ 1000))) }
+{
+    let Some(mode) = mode_of(given(matches, "mode")) else {
+        return Ok(None);
+    };
+    let Some(columns) = columns_of(given(matches, "columns")) else {
+        return Ok(None);
+    };
+    let Some(prompt) = given(matches, "prompt") else {
+        return Ok(None);
+    };
+    let history = match given(matches, "history") {
+        Some(path) => Some(String::from_str(alloc, path)?),
+        None => None,
+    };
+    Ok(Some(Options {
+        mode,
+        columns,
+        prompt: String::from_str(alloc, prompt)?,
+        history,
+        brackets: is_on(given(matches, "brackets")),
+    }))
+}
+
+// The text of an option.
+fn given<'a>(matches: &ArgMatches<'a>, id: &str) -> Option<&'a str>
+    ensures { option_map (λ s. s.now) result ≡ first_of id.now (rows_of (found_of matches.now)) }
+{
+    matches.get_str(id)
+}
+
+fn mode_of(name: Option<&str>) -> Option<EditMode>
+    ensures { MatchOption result
+        ((mode : _) → IsMode (option_map (λ s. s.now) name.entry) mode → ⊥)
+        (IsMode (option_map (λ s. s.now) name.entry)) }
+{
+    match name? {
+        "emacs" => Some(EditMode::Emacs),
+        "vi" => Some(EditMode::Vi),
+        _ => None,
+    }
+}
+
+fn columns_of(text: Option<&str>) -> Option<u16>
+    ensures choice { MatchOption result
+        ((columns : _) → AreColumns (option_map (λ s. s.now) text.entry) columns → ⊥)
+        (AreColumns (option_map (λ s. s.now) text.entry)) }
+    ensures range { IfSome result (λ columns. (2 ≤ columns) × (columns ≤ 1000)) }
+{
+    match text?.parse::<u16>() {
+        Ok(columns) if 2 <= columns && columns <= 1000 => Some(columns),
+        _ => None,
+    }
+}
+
+fn is_on(text: Option<&str>) -> bool
+    ensures { IsTrue result ↔ (option_map (λ s. s.now) text.entry ≡ Some (codes "true")) }
+{
+    text == Some("true")
+}

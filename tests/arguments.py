@@ -1,0 +1,257 @@
+#!/usr/bin/env python3
+"""The program's arguments and its history file. Run it by ./test, or alone once `rt ci` or ./keyline has built the program."""
+import os
+import stat
+import subprocess
+import tempfile
+
+from checks import BACKSPACE, CTRL_D, ENTER, HUNG, NEW_ROW, PROGRAM, drawing, run_all, same
+
+UP = b"\x1b[A"
+NOT_LOADED = b"keyline: history does not load\n"
+NOT_SAVED = b"keyline: history text failed\n"
+
+
+def ran(keys, *arguments, **streams):
+    given = streams if "stdin" in streams else {"input": keys}
+    return subprocess.run([PROGRAM, *arguments], capture_output=True, timeout=HUNG, **given)
+
+
+def expect(run, lines=None, display=None, status=0):
+    if lines is not None:
+        same("lines", run.stdout, lines)
+    if display is not None:
+        same("display", run.stderr, display)
+    same("status", run.returncode, status)
+
+
+def words_end(run, words, status):
+    same("status", run.returncode, status)
+    same("last words", run.stderr[-len(words):], words)
+
+
+class History:
+    """A folder with a history file of this text, or without one."""
+
+    def __init__(self, text=None):
+        self.folder = tempfile.TemporaryDirectory()
+        self.path = os.path.join(self.folder.name, "history")
+        if text is not None:
+            self.write(text)
+
+    def __enter__(self):
+        return self
+
+    def __exit__(self, *_):
+        self.folder.cleanup()
+
+    def write(self, text):
+        with open(self.path, "wb") as it:
+            it.write(text)
+
+    def text(self):
+        with open(self.path, "rb") as it:
+            return it.read()
+
+    def names(self):
+        return os.listdir(self.folder.name)
+
+
+def help_is_asked_for():
+    for flag in ("--help", "-h"):
+        run = ran(b"ab\r", flag)
+        expect(run, display=b"")
+        for part in (b"Usage: keyline", b"--mode <emacs|vi>", b"[default: emacs]", b"[default: 80]",
+                     b"--prompt <TEXT>", b"--history <FILE>", b"--brackets", b"Ctrl-Y"):
+            same(f"{part!r} is there", part in run.stdout, True)
+
+
+def wrong_arguments():
+    wrong = [["--columns", "1"], ["--columns", "1001"], ["--columns", "70000"], ["--columns", "x"], ["--columns="],
+             ["--columns"], ["--mode", "ed"], ["--mode"], ["--brackets=on"], ["--nothing"], ["-x"], ["word"], ["-"], ["", ""],
+             ["--mode", "vi", "--mode", "vi"]]
+    for arguments in wrong:
+        with History(b"\xff") as history:
+            run = ran(b"ab\r", "--history", history.path, *arguments)
+            same(f"status of {arguments}", run.returncode, 2)
+            same("lines", run.stdout, b"")
+            same("its first word", run.stderr.split()[0], b"error:")
+            same("a drawing", b"\x1b" in run.stderr, False)
+
+
+def an_argument_that_is_no_text():
+    run = ran(b"ab\r", b"\xff")
+    same("status", run.returncode, 2)
+    same("lines", run.stdout, b"")
+
+
+def no_device_is_touched_before():
+    # The keys are left to whoever reads next.
+    with tempfile.TemporaryFile() as keys:
+        keys.write(b"ab\r")
+        keys.seek(0)
+        for arguments in (["--columns", "1"], ["--help"]):
+            ran(None, *arguments, stdin=keys)
+            same("place in the keys", os.lseek(keys.fileno(), 0, os.SEEK_CUR), 0)
+
+
+def prompts_and_columns():
+    shown = drawing(b"").replace(b"> ", b"? ") + NEW_ROW
+    expect(ran(b"", "--prompt", "? "), b"", shown)
+    expect(ran(b"", "--prompt="), b"", drawing(b"").replace(b"> ", b"") + NEW_ROW)
+    # `abc` after `> ` fills four columns at the second letter, and the third stands in a row of its own.
+    narrow = ran(b"abc" + ENTER, "--columns", "4")
+    expect(narrow, b"abc\n")
+    same("the same display", narrow.stderr == ran(b"abc" + ENTER).stderr, False)
+
+
+def vi_mode():
+    expect(ran(b"abc\x1b0x\r", "--mode", "vi"), b"bc\n")
+    expect(ran(b"abc\x1b0x\r", "--mode=vi"), b"bc\n")
+
+
+def brackets():
+    expect(ran(b"(a\rb)\r", "--brackets"), b"(a\nb)\n")
+    expect(ran(b"(a\rb)\r"), b"(a\nb)\n")
+    expect(ran(b"(a\r", "--brackets"), b"")
+    expect(ran(b"(a\r"), b"(a\n")
+    expect(ran(b"a)\r" + BACKSPACE + ENTER, "--brackets"), b"a\n")
+
+
+def a_missing_history():
+    with History() as history:
+        expect(ran(b"one\rtwo\r", "--history", history.path), b"one\ntwo\n")
+        same("history", history.text(), b"#V2\none\ntwo\n")
+        same("its rights", stat.S_IMODE(os.stat(history.path).st_mode), 0o600)
+        same("the folder", history.names(), ["history"])
+
+
+def two_programs_one_after_the_other():
+    with History() as history:
+        ran(b"one\r", "--history", history.path)
+        expect(ran(UP + ENTER + b"two\r", "--history", history.path), b"one\ntwo\n")
+        expect(ran(UP + UP + ENTER, "--history", history.path), b"one\n")
+        same("history", history.text(), b"#V2\none\ntwo\none\n")
+
+
+def rights_are_kept():
+    with History(b"#V2\none\n") as history:
+        os.chmod(history.path, 0o640)
+        expect(ran(b"two\r", "--history", history.path), b"two\n")
+        same("its rights", stat.S_IMODE(os.stat(history.path).st_mode), 0o640)
+        same("the folder", history.names(), ["history"])
+
+
+def a_link_stays():
+    with History(b"#V2\none\n") as history:
+        link = os.path.join(history.folder.name, "link")
+        os.symlink("history", link)
+        expect(ran(b"two\r", "--history", link), b"two\n")
+        same("still a link", os.path.islink(link), True)
+        same("history", history.text(), b"#V2\none\ntwo\n")
+
+
+def nothing_new_writes_nothing():
+    with History() as history:
+        expect(ran(b"ab" + CTRL_D, "--history", history.path), b"")
+        same("the folder", history.names(), [])
+
+
+def old_rows():
+    kept = [b"#V2\none\ntwo\n", b"one\ntwo\n", b"#V2\r\none\r\ntwo\r\n", b"one\r\ntwo"]
+    for text in kept:
+        with History(text) as history:
+            expect(ran(UP + UP + ENTER, "--history", history.path), b"one\n")
+
+
+def rows_of_several_rows():
+    with History() as history:
+        expect(ran(b"(a\rb)\r", "--brackets", "--history", history.path), b"(a\nb)\n")
+        expect(ran(UP + ENTER, "--history", history.path), b"(a\nb)\n")
+
+
+def not_loaded(history, path=None):
+    run = ran(b"ab\r", "--history", path or history.path)
+    expect(run, b"", NOT_LOADED, 5)
+
+
+def histories_that_do_not_load():
+    with History(b"#V2\nab\xff\n") as history:
+        not_loaded(history)
+        same("history", history.text(), b"#V2\nab\xff\n")
+        not_loaded(history, history.folder.name)
+        not_loaded(history, history.path + "/under-a-file")
+    if os.geteuid() != 0:
+        with History(b"one\n") as history:
+            os.chmod(history.path, 0)
+            not_loaded(history)
+
+
+def histories_that_cannot_be_written():
+    with History() as history:
+        missing = os.path.join(history.folder.name, "no-folder", "history")
+        words_end(ran(b"ab\r", "--history", missing), NOT_SAVED, 1)
+        words_end(ran(b"ab\r\xff", "--history", missing), NOT_SAVED, 1)
+        words_end(ran(b"ab\r", "--history", "/proc/keyline-history"), NOT_SAVED, 1)
+    if os.geteuid() != 0:
+        with History(b"one\n") as history:
+            os.chmod(history.path, 0o400)
+            words_end(ran(b"ab\r", "--history", history.path), NOT_SAVED, 1)
+            same("history", history.text(), b"one\n")
+
+
+def another_fault_comes_first():
+    with History() as history:
+        missing = os.path.join(history.folder.name, "no-folder", "history")
+        with open("/dev/full", "wb") as full:
+            run = subprocess.run([PROGRAM, "--history", missing], input=b"ab\r", stdout=full, stderr=subprocess.PIPE, timeout=HUNG)
+        words_end(run, b"keyline: line output failed\n", 1)
+
+
+def a_device_is_no_file():
+    expect(ran(b"ab\r", "--history", os.devnull), b"ab\n")
+    same("still a device", stat.S_ISCHR(os.stat(os.devnull).st_mode), True)
+
+
+def what_a_crash_left():
+    with History(b"#V2\none\n") as history:
+        for number in range(3):
+            with open(f"{history.path}.{number}.new", "wb") as it:
+                it.write(b"half")
+        expect(ran(b"two\r", "--history", history.path), b"two\n")
+        same("history", history.text(), b"#V2\none\ntwo\n")
+        same("the folder", len(history.names()), 4)
+
+
+def many_entries():
+    with History(b"#V2\n" + b"".join(b"entry %d\n" % number for number in range(100000))) as history:
+        expect(ran(UP + ENTER, "--history", history.path), b"entry 99999\n")
+        expect(ran(b"new\r", "--history", history.path), b"new\n")
+        rows = history.text().splitlines()
+        same("rows", len(rows), 101)
+        same("the last ones", rows[-2:], [b"entry 99999", b"new"])
+
+
+if __name__ == "__main__":
+    run_all([
+        help_is_asked_for,
+        wrong_arguments,
+        an_argument_that_is_no_text,
+        no_device_is_touched_before,
+        prompts_and_columns,
+        vi_mode,
+        brackets,
+        a_missing_history,
+        two_programs_one_after_the_other,
+        rights_are_kept,
+        a_link_stays,
+        nothing_new_writes_nothing,
+        old_rows,
+        rows_of_several_rows,
+        histories_that_do_not_load,
+        histories_that_cannot_be_written,
+        another_fault_comes_first,
+        a_device_is_no_file,
+        what_a_crash_left,
+        many_entries,
+    ])
