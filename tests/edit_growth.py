@@ -19,10 +19,10 @@ MOST = 10000
 # Rows of calls that grow, so that each of them must have been refused once at least.
 GROWING = {
     "insert", "update", "yank", "indent",
-    "letter recorded", "letter joined", "paste recorded", "backspace recorded", "backspace joined",
-    "replacement joined", "update recorded", "edit_word recorded", "transpose_words recorded", "indent recorded",
+    "letter recorded", "letter joined", "paste recorded", "replacement joined",
+    "update recorded", "edit_word recorded", "transpose_words recorded", "indent recorded",
     "kill in the ring", "kill joined in the ring", "kill over the oldest",
-    "end", "undo", "undo of all", "redo of all", "last_insert", "copy of the record",
+    "undo", "undo of all", "redo of all", "last_insert", "copy of the record",
     "history add", "history add where full", "history add_owned", "history load_from", "history save_to",
     "history append_to", "history hint",
 }

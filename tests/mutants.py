@@ -350,9 +350,9 @@ def tried(crate, checker, jobs, by_hand):
             said = Said(crate, crate.texts(group), checker.check(crate, group, jobs, kept))
             save(checker.top, f"{crate.name}-{count}.log", said.text)
             if said.lines:
-                # Where a callee in the same check is refused too, some goals are not tried: such a body has its own.
+                # Where a callee in the same check is refused too, some goals are not tried: such bodies have their own.
                 waiting = [it for it in group if len(group) > 1 and {*it.paths()} & said.waiting]
-                left += [[it] for it in waiting]
+                left += [waiting] if 0 < len(waiting) < len(group) else [[it] for it in waiting]
                 names = {f"{crate.name}/{it.name}" for it in waiting}
                 yield from (it for it in judged(crate, group, said, by_hand) if it[1] not in names)
             else:

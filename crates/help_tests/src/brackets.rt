@@ -231,6 +231,12 @@ fn verdict_told(alloc: Global, found: &ValidationResult) -> Result<String, Fail>
     Ok(said)
 }
 
+// What a validator says of a text.
+fn validated<V: Validator>(alloc: Global, validator: &V, text: &str) -> Result<String, Fail> {
+    let found = validator.validate(alloc, &ValidationContext::new(text))?;
+    verdict_told(alloc, &found)
+}
+
 // Validates each row's text.
 fn validates<V: Validator>(
     rt: &(impl AllocGlobal + Abort),
@@ -240,8 +246,7 @@ fn validates<V: Validator>(
     for row in table.lines() {
         if let Some((text, answer)) = call_and_answer(row) {
             let text = meant(rt.alloc(), text)?;
-            let found = validator.validate(rt.alloc(), &ValidationContext::new(text.as_str()))?;
-            let said = verdict_told(rt.alloc(), &found)?;
+            let said = validated(rt.alloc(), validator, text.as_str())?;
             assert_eq!(rt; said.as_str(), answer, "{row}");
         }
     }

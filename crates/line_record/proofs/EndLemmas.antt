@@ -1,25 +1,21 @@
 -- Groups that are closed.
-use Rattle.std.proofs.Common.{◌≡◌, ℕ, suc, ◌+◌, ◌-◌, ◌<◌, ◌≤◌, ◌==◌, ◌||◌, Bool, true, false, List, [], ◌∷◌, ◌++◌, length, take, drop, map, reverse, refl, sym, ap, subst, ◌∙◌, arith, get_or, Some, None, append_assoc, drop-cons, add-one, eqb-true, Result, Ok, Err}
-use Rattle.std.proofs.Math.Seq.{take-suc, take-length}
-use Rattle.std.specs.Prelude.{if◌then◌else◌, is_some, slice_get, position, not, cond, nat_lt, IfOk, OnOk}
-use Rattle.std.specs.List.{prefix_len, position_or_len}
-use Rattle.std.proofs.lemmas.Bool.Decides.{nat_tests}
-use Rattle.std.proofs.lemmas.List.{append-nil, take-append-drop, reverse-append, drop-map, take-map, length-map, length-drop, get_or-map, get_or-take, length-take-le}
-use Rattle.std.proofs.lemmas.List.Quantifiers.{position-Some}
+use Rattle.std.proofs.Common.{◌≡◌, ℕ, ◌||◌, Bool, true, false, List, [], ◌∷◌, ◌++◌, reverse, refl, sym, ap, subst, ◌∙◌, None, append_assoc}
+use Rattle.std.specs.Prelude.{if◌then◌else◌, is_some, slice_get}
+use Rattle.std.proofs.lemmas.List.{append-nil, reverse-append}
 use Rattle.line_record.specs.Edit.{Edit, newest_of, all_taken_back, AllStandIn, undo_place, taken_back, StandsIn}
 use Rattle.line_record.specs.Held.{Held, has_mark, closes, grouped, ended}
 use Rattle.line_record.specs.Held.Held.{Stepped}
 use Rattle.line_record.specs.Items.{Item, changes_of, before_item, done_held, DoneStand, gathered, group_of, EndedBy}
 use Rattle.line_record.specs.Items.Item.{Open, Lone, Group}
+use Rattle.line_record.specs.Steps.{oldest_mark}
 use Rattle.line_record.specs.Stored.{is_open, item_from}
-use Rattle.line_record.proofs.StoredLemmas.{reverse_push}
 
 pub has_open : List Item → Bool
 has_open [] = false
 has_open (x ∷ items) = is_open x || has_open items
 
 -- the changes of items, the newest item first, in the order in which they were made
-gather : List Item → List Edit
+pub gather : List Item → List Edit
 gather [] = []
 gather (x ∷ items) = gather items ++ changes_of x
 
@@ -115,7 +111,7 @@ nonempty : {A : Type 0} (xs : List A) (x : A) (ys : List A) → is_some (slice_g
 nonempty [] x ys = refl
 nonempty (z ∷ xs) x ys = refl
 
-closing : (newer older : List Item) (text : List ℕ) → has_open older ≡ false → EndedAs (newer ++ (Open ∷ older)) (gather newer) (group_of (gather newer) older) text
+pub closing : (newer older : List Item) (text : List ℕ) → has_open older ≡ false → EndedAs (newer ++ (Open ∷ older)) (gather newer) (group_of (gather newer) older) text
 unfolding gather
 closing [] older text h = record { held = sym (free_ended older text h); closes = sym (free_closes older text h); stand = λ k. k.1 }
 closing (Open ∷ newer) older text h =
@@ -139,74 +135,15 @@ closing (Group c cs ∷ newer) older text h =
       stand = λ k. closing_stand c cs (gather newer) (newer ++ (Open ∷ older)) older text e k.0 k.1;
     }
 
-has_open-append : (xs ys : List Item) → has_open xs ≡ false → has_open ys ≡ false → has_open (xs ++ ys) ≡ false
-unfolding has_open
-has_open-append [] ys h k = k
-has_open-append (Open ∷ xs) ys h k = cc
-has_open-append (Lone c ∷ xs) ys h k = has_open-append xs ys h k
-has_open-append (Group c cs ∷ xs) ys h k = has_open-append xs ys h k
-
-one_open : (x : Item) → is_open x ≡ false → has_open (x ∷ []) ≡ false
-unfolding has_open
-one_open x h = ap (λ b. b || false) h
-
--- no mark among the items that stand for some steps
-free_of : {A : Type 0} (f : A → Item) (xs : List A) (d : A) → ((k : ℕ) → k < length xs → is_open (f (get_or xs k d)) ≡ false) → has_open (reverse (map f xs)) ≡ false
-unfolding has_open
-free_of f [] d h = refl
-free_of f (x ∷ xs) d h =
-    subst (λ ys. has_open ys ≡ false) (sym (reverse-append (f x ∷ []) (map f xs)))
-    (has_open-append (reverse (map f xs)) (f x ∷ []) (free_of f xs d (λ k l. h (suc k) (omega arith))) (one_open (f x) (h 0 (omega arith))))
-
 gather-push : (items : List Item) (x : Item) → gather (items ++ (x ∷ [])) ≡ changes_of x ++ gather items
 unfolding gather
 gather-push [] x = sym (append-nil (changes_of x))
 gather-push (y ∷ items) x = ap (λ cs. cs ++ changes_of y) (gather-push items x) ∙ append_assoc (changes_of x) (gather items) (changes_of y)
 
-gather-reverse : (items : List Item) → gather (reverse items) ≡ gathered items
+pub gather-reverse : (items : List Item) → gather (reverse items) ≡ gathered items
 unfolding gather
 gather-reverse [] = refl
 gather-reverse (x ∷ items) = ap gather (reverse-append (x ∷ []) items) ∙ gather-push (reverse items) x ∙ ap (λ cs. changes_of x ++ cs) (gather-reverse items)
-
-open_is : (x : Item) → is_open x ≡ true → x ≡ Open
-open_is Open h = refl
-open_is (Lone c) h = cc
-open_is (Group c cs) h = cc
-
--- the group from the first mark on is closed
-pub ended_at : {A : Type 0} (f : A → Item) (xs : List A) (i : ℕ) (d : A) → position (λ x. is_open (f x)) xs ≡ Some i → (text : List ℕ)
-    → EndedAs (reverse (map f xs)) (gathered (drop i (map f xs))) (group_of (gathered (drop i (map f xs))) (reverse (map f (take i xs)))) text
-ended_at f xs i d found text =
-    let h = position-Some (λ x. is_open (f x)) xs i d found in
-    let newer = map f (drop (suc i) xs) in
-    let older = reverse (map f (take i xs)) in
-    let from : drop i xs ≡ get_or xs i d ∷ drop (suc i) xs = drop-cons xs i d h.0 in
-    let behind : drop i (map f xs) ≡ Open ∷ newer = drop-map f i xs ∙ ap (map f) from ∙ ap (λ x. x ∷ newer) (open_is (f (get_or xs i d)) h.1) in
-    let split : map f xs ≡ map f (take i xs) ++ (Open ∷ newer) = sym (take-append-drop i (map f xs)) ∙ ap (λ ys. take i (map f xs) ++ ys) behind ∙ ap (λ ys. ys ++ (Open ∷ newer)) (take-map f i xs) in
-    let turned : reverse (map f xs) ≡ reverse newer ++ (Open ∷ older) =
-    ap reverse split ∙ reverse-append (map f (take i xs)) (Open ∷ newer) ∙ ap (λ ys. ys ++ older) (reverse-append (Open ∷ []) newer) ∙ append_assoc (reverse newer) (Open ∷ []) older in
-    let group : gather (reverse newer) ≡ gathered (drop i (map f xs)) = gather-reverse newer ∙ sym (ap gathered behind) in
-    let free : has_open older ≡ false = free_of f (take i xs) d (λ k l. ap (λ x. is_open (f x)) (get_or-take i xs k d (omega (arith, l, length-take-le i xs (omega (arith, h.0))))) ∙ h.2 k (omega (arith, l, length-take-le i xs (omega (arith, h.0))))) in
-    subst (λ items. EndedAs items (gathered (drop i (map f xs))) (group_of (gathered (drop i (map f xs))) older) text) (sym turned)
-    (subst (λ g. EndedAs (reverse newer ++ (Open ∷ older)) g (group_of g older) text) group (closing (reverse newer) older text free))
-
-free_prefix_step : (b : Bool) (x : Item) (items : List Item) (n k : ℕ) → is_open x ≡ b → suc n ≤ cond (not b) (1 + k) 0 → (n ≤ k → has_open items ≡ false) → has_open (items ++ (x ∷ [])) ≡ false
-free_prefix_step true x items n k e h below = absurd (omega arith)
-free_prefix_step false x items n k e h below = has_open-append items (x ∷ []) (below (omega arith)) (one_open x e)
-
-free_prefix : {A : Type 0} (f : A → Item) (xs : List A) → length xs ≤ prefix_len (λ x. not (is_open (f x))) xs → has_open (reverse (map f xs)) ≡ false
-unfolding has_open
-free_prefix f [] h = refl
-free_prefix f (x ∷ xs) h =
-    subst (λ ys. has_open ys ≡ false) (sym (reverse-append (f x ∷ []) (map f xs)))
-    (free_prefix_step (is_open (f x)) (f x) (reverse (map f xs)) (length xs) (prefix_len (λ y. not (is_open (f y))) xs) refl h (λ k. free_prefix f xs k))
-
-untested : (k n : ℕ) → cond (nat_lt k n) (Some k) None ≡ None → n ≤ k
-untested k n e = grind (arith, nat_tests)
-
-pub ended_none : {A : Type 0} (f : A → Item) (xs : List A) → position (λ x. is_open (f x)) xs ≡ None → (text : List ℕ)
-    → EndedAs (reverse (map f xs)) [] (reverse (map f xs)) text
-ended_none f xs none text = unmarked (reverse (map f xs)) text (free_prefix f xs (untested (position_or_len (λ x. is_open (f x)) xs) (length xs) none))
 
 pub changes_of-item_from : (closed : Bool) (cs : List Edit) → changes_of (item_from closed cs) ≡ cs
 changes_of-item_from true [] = refl
@@ -225,59 +162,20 @@ pub group_pushed : (cs : List Edit) (older : List Item) → is_some (slice_get c
 group_pushed [] older h = cc
 group_pushed (c ∷ cs) older h = ap (λ x. x ∷ older) (item_from_closed c cs)
 
-pub gathered-push : (items : List Item) (x : Item) → gathered (items ++ (x ∷ [])) ≡ gathered items ++ changes_of x
-gathered-push [] x = append-nil (changes_of x)
-gathered-push (y ∷ items) x = ap (λ cs. changes_of y ++ cs) (gathered-push items x) ∙ sym (append_assoc (changes_of y) (gathered items) (changes_of x))
-
--- one more item gathered
-pub gathered_more : {A B : Type 0} (f : A → Item) (g : B → Edit) (xs : List A) (i : ℕ) (x : A) (cs ds : List B) (es : List Edit) → i < length xs → x ≡ get_or xs i x
-    → map g cs ≡ gathered (take i (map f xs)) → changes_of (f x) ≡ es → map g ds ≡ map g cs ++ es → map g ds ≡ gathered (take (i + 1) (map f xs))
-gathered_more f g xs i x cs ds es inside is before e new =
-    let within : i < length (map f xs) = omega (arith, length-map xs f) in
-    let item : get_or (map f xs) i (f x) ≡ f x = get_or-map f xs i x (f x) inside ∙ ap f (sym is) in
-    let upto : take (i + 1) (map f xs) ≡ take i (map f xs) ++ (f x ∷ []) =
-    ap (λ k. take k (map f xs)) (add-one i) ∙ take-suc (map f xs) i (f x) within ∙ ap (λ y. take i (map f xs) ++ (y ∷ [])) item in
-    new ∙ ap (λ ys. ys ++ es) before ∙ ap (λ ys. gathered (take i (map f xs)) ++ ys) (sym e) ∙ sym (gathered-push (take i (map f xs)) (f x)) ∙ sym (ap gathered upto)
-
--- a group of the changes that were gathered, by their number
-pub none_gathered : {B : Type 0} (g : B → Edit) (cs : List B) (n : ℕ) (group : List Edit) → (n == 0) ≡ true → length cs ≡ n → map g cs ≡ group → group ≡ []
-none_gathered g [] n group e count is = sym is
-none_gathered g (c ∷ cs) n group e count is = absurd (omega (arith, eqb-true n 0 e))
-
-pub some_gathered : {B : Type 0} (g : B → Edit) (cs : List B) (n : ℕ) (group : List Edit) → (n == 0) ≡ false → length cs ≡ n → map g cs ≡ group → is_some (slice_get group 0) ≡ true
-some_gathered g [] n group e count is = cc (ap (λ k. k == 0) count)
-some_gathered g (c ∷ cs) n group e count is = subst (λ xs. is_some (slice_get xs 0) ≡ true) is refl
-
--- what was gathered from an index on
-pub gathered_from : {A B : Type 0} (f : A → Item) (g : B → Edit) (cs : List B) (seen xs : List A) (i : ℕ) → map g cs ≡ gathered (map f (take (length seen - i) (drop i seen))) → seen ≡ xs
-    → map g cs ≡ gathered (drop i (map f xs))
-gathered_from f g cs seen xs i h e =
-    let all : take (length seen - i) (drop i seen) ≡ drop i seen = ap (λ k. take k (drop i seen)) (sym (length-drop i seen)) ∙ take-length (drop i seen) in
-    h ∙ ap (λ ys. gathered (map f ys)) all ∙ ap (λ ys. gathered (map f (drop i ys))) e ∙ ap gathered (sym (drop-map f i xs))
-
-pub ended_result : {E : Type 0} (r : Result Bool E) (items after new : List Item) (group : List Edit) → IfOk r (λ closed. closed ≡ is_some (slice_get group 0)) → OnOk r (new ≡ after)
-    → ((text : List ℕ) → EndedAs items group after text) → IfOk r (λ closed. (text : List ℕ) → EndedBy closed items new text)
-ended_result (Ok closed) items after new group answer value e = λ text. record {
-  answer = answer ∙ (e text).closes;
-  held = ap (λ xs. done_held xs text) value ∙ (e text).held;
-  stand = λ h. subst (λ xs. DoneStand xs text) (sym value) ((e text).stand h);
-}
-ended_result (Err x) items after new group answer value e = tt
-
 pub ended_nothing : (items : List Item) (text : List ℕ) → EndedAs items [] items text → EndedBy false items items text
 ended_nothing items text e = record { answer = e.closes; held = e.held; stand = e.stand }
 
--- the steps that are kept, with the group behind them
-pub closed_pushed : {A : Type 0} (f : A → Item) (new cut kept : List A) (x : A) (cs group : List Edit) → new ≡ cut ++ (x ∷ []) → cut ≡ kept → f x ≡ item_from true cs → cs ≡ group
-    → is_some (slice_get group 0) ≡ true → reverse (map f new) ≡ group_of group (reverse (map f kept))
-closed_pushed f new cut kept x cs group pushed same item is some =
-    ap (λ xs. reverse (map f xs)) pushed ∙ reverse_push f cut x ∙ ap (λ xs. f x ∷ reverse (map f xs)) same ∙ ap (λ y. y ∷ reverse (map f kept)) (item ∙ ap (item_from true) is)
-    ∙ group_pushed group (reverse (map f kept)) some
+-- no mark stands where none is the oldest
+pub mark_none : (items : List Item) → oldest_mark items ≡ None → has_open items ≡ false
+unfolding has_open
+mark_none [] e = refl
+mark_none (Open ∷ items) e = cc
+mark_none (Lone c ∷ items) e = mark_none items e
+mark_none (Group c cs ∷ items) e = mark_none items e
 
-pub closed_cut : {A : Type 0} (f : A → Item) (cut kept : List A) (group : List Edit) → cut ≡ kept → group ≡ [] → reverse (map f cut) ≡ group_of group (reverse (map f kept))
-closed_cut f cut kept group same none = ap (λ xs. reverse (map f xs)) same ∙ sym (ap (λ g. group_of g (reverse (map f kept))) none)
-
-pub ended_found : {A : Type 0} (f : A → Item) (xs : List A) (i : ℕ) → position (λ x. is_open (f x)) xs ≡ Some i → (text : List ℕ)
-    → EndedAs (reverse (map f xs)) (gathered (drop i (map f xs))) (group_of (gathered (drop i (map f xs))) (reverse (map f (take i xs)))) text
-ended_found f [] i found text = cc
-ended_found f (x ∷ xs) i found text = ended_at f (x ∷ xs) i x found text
+pub none_marked : (items : List Item) → has_open items ≡ false → oldest_mark items ≡ None
+unfolding has_open
+none_marked [] h = refl
+none_marked (Open ∷ items) h = cc
+none_marked (Lone c ∷ items) h = none_marked items h
+none_marked (Group c cs ∷ items) h = none_marked items h

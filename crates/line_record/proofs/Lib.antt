@@ -1,10 +1,12 @@
 pub mod CourseLemmas
 pub mod DirectedLemmas
+pub mod DoneLemmas
 pub mod EndLemmas
 pub mod Exchange
 pub mod GroupLaws
 pub mod JoinedLaws
 pub mod KillLaws
+pub mod LogLemmas
 pub mod NotedLemmas
 pub mod RecordLaws
 mod RecordRows
@@ -13,6 +15,8 @@ pub mod RingLemmas
 mod RingRows
 pub mod RootLaws
 pub mod RunLemmas
+pub mod SpanLemmas
 pub mod StepLemmas
+pub mod StepsLemmas
 pub mod StoredLemmas
 pub mod UndoLemmas

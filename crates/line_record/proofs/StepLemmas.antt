@@ -73,22 +73,3 @@ ahead_turn f xs i x first l inside is line fit =
       line = ap (made_anew_in (f x)) line ∙ sym (lines_ahead-append (take i (map f xs)) (f x ∷ []) first) ∙ sym (ap (λ cs. lines_ahead cs first) upto);
       fit = λ after e. subst (λ (m : Line). AllFitIn (drop (i + 1) (map f xs)) m.text) (sym e) both.1;
     }
-
--- one more of some items copied
-pub one_more : {A B : Type 0} (f : A → B) (xs : List A) (i : ℕ) (x : A) (ys more : List A) (y : A) → i < length xs → x ≡ get_or xs i x → map f ys ≡ take i (map f xs)
-    → f y ≡ f x → more ≡ ys ++ (y ∷ []) → map f more ≡ take (i + 1) (map f xs)
-one_more f xs i x ys more y inside is copied same pushed =
-    let within : i < length (map f xs) = omega (arith, length-map xs f) in
-    let item : f x ≡ get_or (map f xs) i (f x) = sym (get_or-map f xs i x (f x) inside ∙ ap f (sym is)) in
-    ap (map f) pushed ∙ map-append f ys (y ∷ []) ∙ ap (λ zs. zs ++ (f y ∷ [])) copied ∙ ap (λ z. take i (map f xs) ++ (z ∷ [])) (same ∙ item)
-    ∙ sym (take-suc (map f xs) i (f x) within) ∙ sym (ap (λ k. take k (map f xs)) (add-one i))
-
--- one more of some items put behind others
-pub one_behind : {A B : Type 0} (f : A → B) (xs : List A) (i : ℕ) (x : A) (ys more : List A) (y : A) (front : List B) → i < length xs → x ≡ get_or xs i x
-    → map f ys ≡ front ++ take i (map f xs) → f y ≡ f x → more ≡ ys ++ (y ∷ []) → map f more ≡ front ++ take (i + 1) (map f xs)
-one_behind f xs i x ys more y front inside is copied same pushed =
-    let within : i < length (map f xs) = omega (arith, length-map xs f) in
-    let item : f x ≡ get_or (map f xs) i (f x) = sym (get_or-map f xs i x (f x) inside ∙ ap f (sym is)) in
-    ap (map f) pushed ∙ map-append f ys (y ∷ []) ∙ ap (λ zs. zs ++ (f y ∷ [])) copied ∙ append_assoc front (take i (map f xs)) (f y ∷ [])
-    ∙ ap (λ z. front ++ (take i (map f xs) ++ (z ∷ []))) (same ∙ item)
-    ∙ ap (λ zs. front ++ zs) (sym (take-suc (map f xs) i (f x) within)) ∙ ap (λ k. front ++ take k (map f xs)) (sym (add-one i))

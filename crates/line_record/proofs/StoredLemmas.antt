@@ -1,14 +1,12 @@
 -- The items that stored steps stand for.
-use Rattle.std.proofs.Common.{◌≡◌, ℕ, zero, suc, ◌-◌, ◌<◌, Bool, true, false, List, [], ◌∷◌, ◌++◌, length, take, drop, map, reverse, refl, sym, ap, subst, ◌∙◌, arith, get_or, Option, Some, None}
-use Rattle.std.specs.Prelude.{slice_set, unwrap_or, option_map}
+use Rattle.std.proofs.Common.{◌≡◌, ℕ, zero, suc, ◌-◌, ◌<◌, Bool, true, false, List, [], ◌∷◌, ◌++◌, length, take, drop, map, reverse, refl, sym, ap, subst, ◌∙◌, arith, get_or}
 use Rattle.std.proofs.Math.Seq.{take-suc, take-length, drop-append_seam}
-use Rattle.std.proofs.lemmas.List.{take-append-drop, length-map, map-append, map_push, length-reverse, reverse-append, length-drop, length-take-le}
-use Rattle.line_buffer.specs.Event.{Event}
+use Rattle.std.proofs.lemmas.List.{take-append-drop, length-map, map-append, map_push, length-reverse, reverse-append, length-drop}
 use Rattle.line_record.specs.Edit.{Edit, newest_of}
 use Rattle.line_record.specs.Held.{text_of, text_back, text_kept, first_held, inserted_by}
 use Rattle.line_record.specs.Items.{Item, before_item, holding, done_held, DoneStand, Items, ItemsStand, held_on, truncated}
 use Rattle.line_record.specs.Items.Item.{Open, Lone, Group}
-use Rattle.line_record.specs.Stored.{joined_item, joined_items, item_from, item_inserted}
+use Rattle.line_record.specs.Stored.{item_from, item_inserted}
 
 pub before_last : {A : Type 0} (xs : List A) (d : A) → 0 < length xs → xs ≡ take (length xs - 1) xs ++ (get_or xs (length xs - 1) d ∷ [])
 before_last xs d h =
@@ -19,54 +17,9 @@ before_last xs d h =
 pub reverse_push : {A B : Type 0} (f : A → B) (xs : List A) (x : A) → reverse (map f (xs ++ (x ∷ []))) ≡ f x ∷ reverse (map f xs)
 reverse_push f xs x = ap reverse (map_push f xs x) ∙ reverse-append (map f xs) (f x ∷ [])
 
-set_last : {A : Type 0} (front : List A) (x y : A) → slice_set (front ++ (x ∷ [])) (length front) y ≡ front ++ (y ∷ [])
-set_last [] x y = refl
-set_last (z ∷ front) x y = ap (λ zs. z ∷ zs) (set_last front x y)
-
 -- the nearest of several items, seen from the last of what stands for them
 pub nearest : {A B : Type 0} (f : A → B) (xs : List A) (d : A) → 0 < length xs → reverse (map f xs) ≡ f (get_or xs (length xs - 1) d) ∷ reverse (map f (take (length xs - 1) xs))
 nearest f xs d h = ap (λ ys. reverse (map f ys)) (before_last xs d h) ∙ reverse_push f (take (length xs - 1) xs) (get_or xs (length xs - 1) d)
-
-pub nearest_changed : {A B : Type 0} (f : A → B) (xs : List A) (y : A) → 0 < length xs → reverse (map f (slice_set xs (length xs - 1) y)) ≡ f y ∷ reverse (map f (take (length xs - 1) xs))
-nearest_changed f xs y h =
-    let n : length (take (length xs - 1) xs) ≡ length xs - 1 = length-take-le (length xs - 1) xs (omega arith) in
-    let split : xs ≡ take (length xs - 1) xs ++ (get_or xs (length xs - 1) y ∷ []) = before_last xs y h in
-    let set : slice_set xs (length xs - 1) y ≡ take (length xs - 1) xs ++ (y ∷ []) =
-    ap (λ ys. slice_set ys (length xs - 1) y) split ∙ ap (λ k. slice_set (take (length xs - 1) xs ++ (get_or xs (length xs - 1) y ∷ [])) k y) (sym n)
-    ∙ set_last (take (length xs - 1) xs) (get_or xs (length xs - 1) y) y in
-    ap (λ ys. reverse (map f ys)) set ∙ reverse_push f (take (length xs - 1) xs) y
-
-unwrap_joined : (o : Option Item) (x : Item) (items : List Item) → unwrap_or (option_map (λ y. y ∷ items) o) (x ∷ items) ≡ unwrap_or o x ∷ items
-unwrap_joined None x items = refl
-unwrap_joined (Some y) x items = refl
-
--- the last step is joined
-pub last_joined : {A : Type 0} (f : A → Item) (e : Event) (xs : List A) (x y : A) → 0 < length xs → x ≡ get_or xs (length xs - 1) x → f y ≡ unwrap_or (joined_item e (f x)) (f x)
-    → reverse (map f (slice_set xs (length xs - 1) y)) ≡ unwrap_or (joined_items e (reverse (map f xs))) (reverse (map f xs))
-last_joined f e xs x y h is new =
-    let older = reverse (map f (take (length xs - 1) xs)) in
-    let now : reverse (map f xs) ≡ f x ∷ older = nearest f xs x h ∙ ap (λ z. f z ∷ older) (sym is) in
-    nearest_changed f xs y h ∙ ap (λ z. z ∷ older) new ∙ sym (unwrap_joined (joined_item e (f x)) (f x) older)
-    ∙ sym (ap (λ items. unwrap_or (joined_items e items) items) now)
-
-pub last_same : {A : Type 0} (f : A → Item) (xs : List A) (x y : A) → 0 < length xs → x ≡ get_or xs (length xs - 1) x → f y ≡ f x
-    → reverse (map f (slice_set xs (length xs - 1) y)) ≡ reverse (map f xs)
-last_same f xs x y h is new =
-    let older = reverse (map f (take (length xs - 1) xs)) in
-    nearest_changed f xs y h ∙ ap (λ z. z ∷ older) (new ∙ ap f is) ∙ sym (nearest f xs x h)
-
--- the same where the number of steps is known by another name
-pub counted_joined : {A : Type 0} (f : A → Item) (e : Event) (xs : List A) (n : ℕ) (x y : A) → length xs ≡ n → 0 < n → x ≡ get_or xs (n - 1) x → f y ≡ unwrap_or (joined_item e (f x)) (f x)
-    → reverse (map f (slice_set xs (n - 1) y)) ≡ unwrap_or (joined_items e (reverse (map f xs))) (reverse (map f xs))
-counted_joined f e xs n x y count h is new =
-    let P : ℕ → Type 0 = λ k. 0 < k → x ≡ get_or xs (k - 1) x → reverse (map f (slice_set xs (k - 1) y)) ≡ unwrap_or (joined_items e (reverse (map f xs))) (reverse (map f xs)) in
-    subst P count (λ i j. last_joined f e xs x y i j new) h is
-
-pub counted_same : {A : Type 0} (f : A → Item) (xs : List A) (n : ℕ) (x y : A) → length xs ≡ n → 0 < n → x ≡ get_or xs (n - 1) x → f y ≡ f x
-    → reverse (map f (slice_set xs (n - 1) y)) ≡ reverse (map f xs)
-counted_same f xs n x y count h is new =
-    let P : ℕ → Type 0 = λ k. 0 < k → x ≡ get_or xs (k - 1) x → reverse (map f (slice_set xs (k - 1) y)) ≡ reverse (map f xs) in
-    subst P count (λ i j. last_same f xs x y i j new) h is
 
 pub length-reverse_map : {A B : Type 0} (f : A → B) (xs : List A) → length (reverse (map f xs)) ≡ length xs
 length-reverse_map f xs = length-reverse (map f xs) ∙ length-map xs f
@@ -108,20 +61,13 @@ newest_of-push c d [] = refl
 newest_of-push c d (e ∷ cs) = newest_of-push e d cs
 
 -- the newest change says what an item put in
-inserted_last : (closed : Bool) (cs : List Edit) (d : Edit) → item_inserted (item_from closed (cs ++ (d ∷ []))) ≡ inserted_by d
+pub inserted_last : (closed : Bool) (cs : List Edit) (d : Edit) → item_inserted (item_from closed (cs ++ (d ∷ []))) ≡ inserted_by d
 inserted_last true [] d = refl
 inserted_last false [] d = refl
 inserted_last true (c ∷ []) d = refl
 inserted_last false (c ∷ []) d = refl
 inserted_last true (c ∷ (e ∷ cs)) d = ap inserted_by (newest_of-push e d cs)
 inserted_last false (c ∷ (e ∷ cs)) d = ap inserted_by (newest_of-push e d cs)
-
-pub inserted_nearest : {A : Type 0} (f : A → Edit) (closed : Bool) (xs : List A) (x : A) → 0 < length xs → x ≡ get_or xs (length xs - 1) x
-    → item_inserted (item_from closed (map f xs)) ≡ inserted_by (f x)
-inserted_nearest f closed xs x h is =
-    ap (λ ys. item_inserted (item_from closed (map f ys))) (before_last xs x h)
-    ∙ ap (λ ys. item_inserted (item_from closed ys)) (map_push f (take (length xs - 1) xs) (get_or xs (length xs - 1) x))
-    ∙ inserted_last closed (map f (take (length xs - 1) xs)) (f (get_or xs (length xs - 1) x)) ∙ ap (λ z. inserted_by (f z)) (sym is)
 
 pub truncated_held : (n : ℕ) (s : Items) (text : List ℕ) (t : Items) → t ≡ truncated n s → held_on t (text_kept n (held_on s text) text) ≡ first_held n (held_on s text)
 truncated_held n s text t e =

@@ -1,5 +1,5 @@
 -- What undoing and making anew do to the record of texts.
-use Rattle.std.proofs.Common.{◌≡◌, ℕ, zero, suc, ◌+◌, ◌-◌, ◌<◌, ◌≤◌, ◌||◌, Bool, true, false, List, [], ◌∷◌, ◌++◌, drop, map, reverse, refl, sym, ap, subst, ◌∙◌, arith, Some, None, add-zero, zero-add}
+use Rattle.std.proofs.Common.{◌≡◌, ℕ, zero, suc, ◌+◌, ◌-◌, ◌<◌, ◌≤◌, ◌||◌, Bool, true, false, List, [], ◌∷◌, drop, refl, sym, ap, subst, ◌∙◌, arith, Some, None, add-zero, zero-add}
 use Rattle.std.proofs.Math.Nat.{sub-zero}
 use Rattle.std.proofs.Math.Bool.{or_assoc}
 use Rattle.std.specs.Prelude.{IsUtf8}
@@ -10,7 +10,7 @@ use Rattle.line_record.specs.Items.{Item, Items, changes_of, before_item, after_
 use Rattle.line_record.specs.Items.Item.{Open, Lone, Group}
 use Rattle.line_record.proofs.Exchange.{exchanged}
 use Rattle.line_record.proofs.StepLemmas.{lines_back_text, lines_ahead_text, lines_back_but_place}
-use Rattle.line_record.proofs.StoredLemmas.{text_of-holding, reverse_push}
+use Rattle.line_record.proofs.StoredLemmas.{text_of-holding}
 
 -- changes that were taken back can be made anew
 pub record TakenBack (cs : List Edit) (text : List ℕ) : Type 0 where
@@ -213,12 +213,6 @@ pub part_left : (end counter : ℕ) (first now : Items) (before after left : Lin
     → (j : ℕ) × (left ≡ part_back 0 j now.done after) → (k : ℕ) × (j : ℕ) × (k < end) × (left ≡ part_back k j first.done before)
 part_left end counter first now before after left undone u less (j, e) =
     (counter, j, less, e ∙ u.part 0 j ∙ ap (λ k. part_back k j first.done before) (add-zero counter))
-
--- the nearest item, where its changes went all
-pub whole_part : {A : Type 0} (f : A → Item) (xs ys : List A) (x : A) (done : List Item) (cs : List Edit) (l left : Line) → reverse (map f xs) ≡ done → xs ≡ ys ++ (x ∷ [])
-    → changes_of (f x) ≡ cs → left ≡ lines_back cs l → (j : ℕ) × (left ≡ part_back 0 j done l)
-whole_part f xs ys x done cs l left is popped changes line =
-    (0, line ∙ ap (λ c. lines_back c l) (sym changes) ∙ sym (ap (λ items. part_back 0 0 items l) (sym is ∙ ap (λ z. reverse (map f z)) popped ∙ reverse_push f ys x)))
 
 -- a redo by its definition
 pub record RedoneAs (first last : Items) (before after : Line) : Type 0 where

@@ -1,25 +1,13 @@
--- What the stored changes and steps stand for.
-use Rattle.std.specs.Prelude.{ℕ, Bool, true, false, List, [], ◌∷◌, ◌++◌, map, reverse, Option, None, option_map, string_bytes}
+-- What is told, and what stored steps stand for.
+use Rattle.std.specs.Prelude.{ℕ, Bool, true, false, List, [], ◌∷◌, Option, None, option_map}
 use Rattle.line_buffer.specs.Event.{Event}
 use Rattle.line_buffer.specs.Event.Event.{Delete, InsertChar, InsertStr, Replace}
 use Rattle.line_record.specs.Edit.{Edit, newest_of}
-use Rattle.line_record.specs.Edit.Edit.{Inserted, Deleted, Replaced}
 use Rattle.line_record.specs.Held.{joined_to, inserted_by}
 use Rattle.line_record.specs.Items.{Item}
 use Rattle.line_record.specs.Items.Item.{Open, Lone, Group}
-use Rattle.line_record.specs.declared.change.Change.{Change}
-use Rattle.line_record.specs.declared.change.Change.TheVariants.{Insertion, Deletion, Replacement}
 use Rattle.line_record.specs.declared.report.Report.{Report}
 use Rattle.line_record.specs.declared.report.Report.TheVariants as told
-use Rattle.line_record.specs.declared.step.Step.{Step}
-
-abbrev pub edit_of : Change → Edit
-edit_of (Insertion at text) = Inserted at (string_bytes text)
-edit_of (Deletion at text) = Deleted at (string_bytes text)
-edit_of (Replacement at removed added) = Replaced at (string_bytes removed) (string_bytes added)
-
-abbrev pub edits_of : List Change → List Edit
-edits_of changes = map edit_of changes
 
 -- a step without changes is an open mark, and a closed step of one change is a group
 abbrev pub item_from : Bool → List Edit → Item
@@ -27,13 +15,6 @@ item_from closed [] = Open
 item_from false (c ∷ []) = Lone c
 item_from true (c ∷ []) = Group c []
 item_from closed (c ∷ (d ∷ cs)) = Group c (d ∷ cs)
-
-abbrev pub item_of : Step → Item
-item_of s = item_from s.closed (edits_of s.changes.items)
-
--- nearest first
-abbrev pub items_of : List Step → List Item
-items_of steps = reverse (map item_of steps)
 
 -- the event that is told
 abbrev pub event_of : Report → Event
@@ -62,8 +43,3 @@ abbrev pub is_open : Item → Bool
 is_open Open = true
 is_open (Lone c) = false
 is_open (Group c cs) = false
-
--- the changes of the steps, the oldest first
-abbrev pub all_changes : List Step → List Change
-all_changes [] = []
-all_changes (s ∷ steps) = s.changes.items ++ all_changes steps

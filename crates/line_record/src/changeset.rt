@@ -1,18 +1,19 @@
 //! The undo record of a line.
 
-use crate::change::Change;
 use crate::report::Report;
-use crate::step::{Step, copy_changes};
+use crate::steps::Steps;
 use line_buffer::{Direction, OutOfMemory};
 use std::alloc::Global;
 use std::marker::Model;
 
 /// What was changed in a line, for undoing it and for making it anew. Changes may be grouped: a
-/// group is undone as one.
+/// group is undone as one. The steps after the first `done` are undone, and `mark` is the index of
+/// the oldest open mark before them.
 #[derive(Debug, Drop)]
 pub struct Changeset {
-    pub(crate) done: Vec<Step>,
-    pub(crate) undone: Vec<Step>,
+    pub(crate) steps: Steps,
+    pub(crate) done: usize,
+    pub(crate) mark: Option<usize>,
 }
 
 impl Model for Changeset {
@@ -20,9 +21,11 @@ impl Model for Changeset {
 
     ghost Value = { Items };
 
-    ghost use Rattle.line_record.specs.Stored.{items_of};
+    ghost use Rattle.line_record.specs.Steps.{record_of, IsRecord};
 
-    ghost view = { λ c. record { done = items_of c.done.items; undone = items_of c.undone.items } };
+    ghost view = { λ c. record_of c.steps c.done };
+
+    ghost invariant = { λ c. IsRecord c.steps c.done c.mark };
 }
 
 impl Changeset {
@@ -39,8 +42,9 @@ impl Changeset {
         ensures { IfOk result (λ c. c ≡ no_items) }
     {
         Ok(Changeset {
-            done: Vec::new(alloc),
-            undone: Vec::new(alloc),
+            steps: Steps::new(alloc),
+            done: 0,
+            mark: None,
         })
     }
 
@@ -48,9 +52,11 @@ impl Changeset {
     pub fn try_clone(&self, alloc: Global) -> Result<Self, OutOfMemory>
         ensures { IfOk result (λ c. c ≡ self.now) }
     {
-        let done = clone_steps(alloc, &self.done)?;
-        let undone = clone_steps(alloc, &self.undone)?;
-        Ok(Changeset { done, undone })
+        Ok(Changeset {
+            steps: self.steps.try_clone(alloc)?,
+            done: self.done,
+            mark: self.mark,
+        })
     }
 
     /// Sets the mark that begins a group. Answers how many items stood before it: steps and open
@@ -60,9 +66,10 @@ impl Changeset {
         ensures value { OnOk result (self.new ≡ opened self.old) }
         ensures kept { OnErr result (self.new ≡ self.old) }
     {
-        let before = self.done.len();
-        push_step(&mut self.done, Step::mark(alloc))?;
-        self.undone.clear();
+        let before = self.done;
+        self.steps.open(before)?;
+        self.done = self.steps.len();
+        self.mark = mark_with(self.mark, true, before);
         Ok(before)
     }
 
@@ -76,8 +83,9 @@ impl Changeset {
         ensures cleared { OnOk result (self.new.undone ≡ []) }
         ensures kept { OnErr result (self.new ≡ self.old) }
     {
-        let closed = close_marks(alloc, &mut self.done)?;
-        self.undone.clear();
+        let closed = close(&mut self.steps, self.done, self.mark);
+        self.done = self.steps.len();
+        self.mark = None;
         Ok(closed)
     }
 
@@ -89,8 +97,10 @@ impl Changeset {
         ensures stand { (text : List ℕ) → ItemsStand self.old text → ItemsStand self.new
             (text_kept n (held_on self.old text) text) }
     {
-        self.done.truncate(n);
-        self.undone.clear();
+        let kept = n.min(self.done);
+        self.steps.truncate(kept);
+        self.done = kept;
+        self.mark = mark_within(self.mark, kept);
     }
 
     /// The text that was put in last: `None` where the last item is a mark or took text out.
@@ -108,8 +118,8 @@ impl Changeset {
     pub fn last_insert_text(&self) -> Option<&str>
         ensures { (text : List ℕ) → option_copied result ≡ last_inserted (held_on self.now text) }
     {
-        match self.done.last() {
-            Some(step) => step.inserted(),
+        match self.done.checked_sub(1) {
+            Some(last) => self.steps.inserted(last),
             None => None,
         }
     }
@@ -179,111 +189,46 @@ impl Changeset {
         ensures recorded { OnOk result (RecordedIn self.old (event_of report.entry) self.new) }
         ensures kept { OnErr result (self.new ≡ self.old) }
     {
-        note(alloc, &mut self.done, report)?;
-        self.undone.clear();
+        self.steps.note(self.done, report)?;
+        self.done = self.steps.len();
         Ok(())
     }
 }
 
-ghost use Rattle.std.specs.Prelude.{◌≡◌, ◌<◌, ◌∷◌, ℕ, List, take, drop, map, reverse, length, position, slice_get, IfOk, OnOk, OnErr, is_some, unwrap_or};
-ghost use Rattle.line_record.specs.Held.{change_of};
-ghost use Rattle.line_record.specs.Items.{noted_if, gathered, group_of, EndedBy};
-ghost use Rattle.line_record.specs.Stored.{event_of, item_of, items_of, edits_of, is_open, joined_items};
+ghost use Rattle.std.specs.Prelude.{◌≡◌, ℕ, List, take, reverse, None};
+ghost use Rattle.line_record.specs.Items.{EndedBy};
+ghost use Rattle.line_record.specs.Steps as marked;
 
-/// One more step.
-pub(crate) fn push_step(steps: &mut Vec<Step>, step: Step) -> Result<(), OutOfMemory>
-    ensures ok { OnOk result (items_of steps.new.items ≡ item_of step ∷ items_of steps.old.items) }
-    ensures kept { OnErr result (items_of steps.new.items ≡ items_of steps.old.items) }
+/// Closes the open marks of the first `done` steps, the oldest of which is given; false where
+/// nothing was recorded since.
+fn close(steps: &mut Steps, done: usize, mark: Option<usize>) -> bool
+    requires { marked.IsRecord steps.old done mark }
+    ensures ended { (text : List ℕ) → EndedBy result (reverse (take done steps.old))
+        (reverse steps.new) text }
+    ensures unmarked { marked.oldest_mark (reverse steps.new) ≡ None }
 {
-    steps.push(step)?;
-    Ok(())
-}
-
-/// The steps with what is told behind them.
-fn note(alloc: Global, steps: &mut Vec<Step>, report: Report<'_>) -> Result<(), OutOfMemory>
-    ensures ok { OnOk result (items_of steps.new.items ≡ noted_if (event_of report.entry)
-        (change_of (event_of report.entry)) (items_of steps.old.items)) }
-    ensures kept { OnErr result (items_of steps.new.items ≡ items_of steps.old.items) }
-{
-    if report.is_empty() || join_last(steps, report)? {
-        return Ok(());
-    }
-    let step = Step::lone(alloc, report.change(alloc)?)?;
-    push_step(steps, step)
-}
-
-/// Joins what is told to the last step; false where it joins none.
-fn join_last(steps: &mut Vec<Step>, report: Report<'_>) -> Result<bool, OutOfMemory>
-    ensures answer { IfOk result (λ joined. joined ≡ is_some
-        (joined_items (event_of report.entry) (items_of steps.old.items))) }
-    ensures value { OnOk result (items_of steps.new.items ≡ unwrap_or
-        (joined_items (event_of report.entry) (items_of steps.old.items))
-        (items_of steps.old.items)) }
-    ensures kept { OnErr result (items_of steps.new.items ≡ items_of steps.old.items) }
-{
-    match steps.last_mut() {
-        Some(step) => step.join(report),
-        None => Ok(false),
+    match mark {
+        Some(mark) => steps.close(done, mark),
+        None => {
+            steps.truncate(done);
+            false
+        }
     }
 }
 
-/// The same steps in memory of their own.
-fn clone_steps(alloc: Global, steps: &[Step]) -> Result<Vec<Step>, OutOfMemory>
-    ensures { IfOk result (λ v. items_of v.items ≡ items_of steps.now) }
+/// The oldest mark, with one more item after so many.
+pub(crate) fn mark_with(mark: Option<usize>, is_mark: bool, before: usize) -> Option<usize>
+    ensures { result ≡ marked.mark_with mark is_mark before }
 {
-    let mut clones = Vec::with_capacity(alloc, steps.len())?;
-    for step in steps {
-        clones.push(step.try_clone(alloc)?)?;
-    }
-    Ok(clones)
+    if is_mark { mark.or(Some(before)) } else { mark }
 }
 
-/// Closes the open marks; false where nothing was recorded since the oldest.
-fn close_marks(alloc: Global, steps: &mut Vec<Step>) -> Result<bool, OutOfMemory>
-    ensures ended { IfOk result (λ closed. (text : List ℕ) → EndedBy closed
-        (items_of steps.old.items) (items_of steps.new.items) text) }
-    ensures kept { OnErr result (items_of steps.new.items ≡ items_of steps.old.items) }
+/// The oldest mark, if it is among the first `n` items.
+pub(crate) fn mark_within(mark: Option<usize>, n: usize) -> Option<usize>
+    ensures { result ≡ marked.mark_within mark n }
 {
-    match first_mark(steps) {
-        Some(mark) => close_group(alloc, steps, mark),
-        None => Ok(false),
+    match mark {
+        Some(mark) if mark < n => Some(mark),
+        _ => None,
     }
-}
-
-/// The oldest open mark.
-fn first_mark(steps: &[Step]) -> Option<usize>
-    ensures { result ≡ position (λ s. is_open (item_of s)) steps.now }
-{
-    steps.iter().position(|step| step.is_mark())
-}
-
-/// The steps from the mark on become one, which nothing joins; false where they have no changes.
-fn close_group(alloc: Global, steps: &mut Vec<Step>, mark: usize) -> Result<bool, OutOfMemory>
-    requires { mark < length steps.old.items }
-    ensures answer { IfOk result (λ closed. closed ≡ is_some
-        (slice_get (gathered (drop mark (map item_of steps.old.items))) 0)) }
-    ensures items { OnOk result (items_of steps.new.items ≡ group_of
-        (gathered (drop mark (map item_of steps.old.items)))
-        (reverse (map item_of (take mark steps.old.items)))) }
-    ensures kept { OnErr result (items_of steps.new.items ≡ items_of steps.old.items) }
-{
-    let changes = gather(alloc, &steps[mark..])?;
-    steps.truncate(mark);
-    if changes.is_empty() {
-        return Ok(false);
-    }
-    let closed = true;
-    steps.push(Step { closed, changes })?;
-    Ok(true)
-}
-
-/// The changes of several steps, in memory of their own.
-fn gather(alloc: Global, steps: &[Step]) -> Result<Vec<Change>, OutOfMemory>
-    ensures { IfOk result (λ v. edits_of v.items ≡ gathered (map item_of steps.now)) }
-{
-    let mut changes = Vec::new(alloc);
-    for step in steps {
-        copy_changes(alloc, &step.changes, &mut changes)?;
-    }
-    Ok(changes)
 }

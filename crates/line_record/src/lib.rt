@@ -2,14 +2,15 @@
 //! record, which brings earlier texts back.
 #![tactic(auto)]
 
-mod change;
 pub mod changeset;
+mod entry;
 pub mod joined;
 pub mod kill_ring;
 pub mod laws;
 mod listen;
+mod log;
 mod report;
-mod step;
+mod steps;
 mod undo;
 mod words;
 

@@ -1,8 +1,7 @@
 //! The changes that a record is told of.
 
-use crate::change::Change;
-use line_buffer::{Direction, OutOfMemory};
-use std::alloc::Global;
+use crate::entry::Kind;
+use line_buffer::Direction;
 
 /// A change as it is told, its texts borrowed. Places are in bytes.
 #[derive(Clone, Copy)]
@@ -28,9 +27,10 @@ pub enum Report<'a> {
 }
 
 impl<'a> Report<'a> {
-    ghost use Rattle.std.specs.Prelude.{◌≡◌, IfOk, Some, true, not, is_some};
+    ghost use Rattle.std.specs.Prelude.{◌≡◌, Some, true, not, is_some};
     ghost use Rattle.line_record.specs.Held.{change_of};
-    ghost use Rattle.line_record.specs.Stored.{event_of, edit_of};
+    ghost use Rattle.line_record.specs.Logged.{edit_from, place_told, removed_told, added_told};
+    ghost use Rattle.line_record.specs.Stored.{event_of};
 
     /// Nothing is put in, and nothing taken out.
     pub fn is_empty(self) -> bool
@@ -44,31 +44,50 @@ impl<'a> Report<'a> {
         }
     }
 
-    /// The change, with texts of its own.
-    pub fn change(self, alloc: Global) -> Result<Change, OutOfMemory>
-        requires { is_some (change_of (event_of self)) ≡ true }
-        ensures { IfOk result (λ x. change_of (event_of self.entry) ≡ Some (edit_of x)) }
+    /// What it does.
+    pub fn kind(self) -> Kind
+        ensures { is_some (change_of (event_of self.entry)) ≡ true → change_of (event_of self.entry)
+            ≡ Some (edit_from result (place_told (event_of self.entry))
+            (removed_told (event_of self.entry)) (added_told (event_of self.entry))) }
     {
-        let change = match self {
-            Report::Char { at, c } => {
-                let mut text = String::new(alloc);
-                text.push(c)?;
-                Change::Insertion { at, text }
-            }
-            Report::Text { at, text } => Change::Insertion {
-                at,
-                text: String::from_str(alloc, text)?,
-            },
-            Report::Deletion { at, text, .. } => Change::Deletion {
-                at,
-                text: String::from_str(alloc, text)?,
-            },
-            Report::Replacement { at, removed, added } => Change::Replacement {
-                at,
-                removed: String::from_str(alloc, removed)?,
-                added: String::from_str(alloc, added)?,
-            },
-        };
-        Ok(change)
+        match self {
+            Report::Char { .. } | Report::Text { .. } => Kind::Insertion,
+            Report::Deletion { .. } => Kind::Deletion,
+            Report::Replacement { .. } => Kind::Replacement,
+        }
+    }
+
+    pub fn at(self) -> usize
+        ensures { result ≡ place_told (event_of self.entry) }
+    {
+        match self {
+            Report::Char { at, .. } => at,
+            Report::Text { at, .. } => at,
+            Report::Deletion { at, .. } => at,
+            Report::Replacement { at, .. } => at,
+        }
+    }
+
+    /// The text that was taken out.
+    pub fn removed(self) -> &'a str
+        ensures { result.now ≡ removed_told (event_of self.entry) }
+    {
+        match self {
+            Report::Char { .. } | Report::Text { .. } => "",
+            Report::Deletion { text, .. } => text,
+            Report::Replacement { removed, .. } => removed,
+        }
+    }
+
+    /// The text that was put in; `room` is for that of a character.
+    pub fn added(self, room: &'a mut [u8; 4]) -> &'a str
+        ensures { result.now ≡ added_told (event_of self.entry) }
+    {
+        match self {
+            Report::Char { c, .. } => c.encode_utf8(room),
+            Report::Text { text, .. } => text,
+            Report::Deletion { .. } => "",
+            Report::Replacement { added, .. } => added,
+        }
     }
 }

@@ -1,7 +1,6 @@
 //! Undoing what was recorded, and making it anew.
 
-use crate::changeset::{Changeset, push_step};
-use crate::step::{make_anew, take_back};
+use crate::changeset::{Changeset, mark_with, mark_within};
 use line_buffer::{LineBuffer, OutOfMemory, RepeatCount};
 use std::alloc::Global;
 
@@ -59,19 +58,17 @@ impl Changeset {
         ensures refused { OnErr result (self.new ≡ no_items) }
         ensures part { OnErr result ((j : ℕ) × (line.new ≡ part_back 0 j self.old.done line.old)) }
     {
-        let Some(step) = self.done.pop() else {
+        let Some(last) = self.done.checked_sub(1) else {
             return Ok(None);
         };
-        let is_step = !step.is_mark();
-        if let Err(refusal) = take_back(alloc, &step.changes, line) {
+        let is_mark = self.steps.is_mark(last);
+        if let Err(refusal) = self.steps.take_back(alloc, last, line) {
             self.forget();
             return Err(refusal);
         }
-        if let Err(refusal) = push_step(&mut self.undone, step) {
-            self.forget();
-            return Err(refusal);
-        }
-        Ok(Some(is_step))
+        self.done = last;
+        self.mark = mark_within(self.mark, last);
+        Ok(Some(!is_mark))
     }
 
     /// Makes the item anew that was undone last, if there is one; true where it is a step. The
@@ -111,26 +108,26 @@ impl Changeset {
         ensures refused { OnErr result (self.new ≡ no_items) }
         ensures part { OnErr result ((j : ℕ) × (line.new ≡ part_ahead j self.old.undone line.old)) }
     {
-        let Some(step) = self.undone.pop() else {
+        let next = self.done;
+        if next == self.steps.len() {
             return Ok(None);
-        };
-        let is_step = !step.is_mark();
-        if let Err(refusal) = make_anew(alloc, &step.changes, line) {
+        }
+        let is_mark = self.steps.is_mark(next);
+        if let Err(refusal) = self.steps.make_anew(alloc, next, line) {
             self.forget();
             return Err(refusal);
         }
-        if let Err(refusal) = push_step(&mut self.done, step) {
-            self.forget();
-            return Err(refusal);
-        }
-        Ok(Some(is_step))
+        self.done = next + 1;
+        self.mark = mark_with(self.mark, is_mark, next);
+        Ok(Some(!is_mark))
     }
 
     /// Nothing is recorded any more.
     fn forget(&mut self)
         ensures { self.new ≡ no_items }
     {
-        self.done.clear();
-        self.undone.clear();
+        self.steps.truncate(0);
+        self.done = 0;
+        self.mark = None;
     }
 }

@@ -238,6 +238,29 @@ fn joins_at_each_edge(rt: HostRuntime) -> Result<(), Fail> {
 }
 
 #[test]
+fn erased_letters_are_one_step(rt: HostRuntime) -> Result<(), Fail> {
+    plays(
+        &rt,
+        "
+        put a = a|
+        put b = ab|
+        put c = abc|
+        backspace 1 = ab|
+        backspace 1 = a|
+        backspace 1 = |
+        undo 1 = true abc|
+        undo 1 = true |
+        redo = true abc|
+        redo = true |
+        undo 1 = true abc|
+        put d = abcd|
+        redo = false abcd|
+        undo 1 = true |
+        ",
+    )
+}
+
+#[test]
 fn pasted_text_joined_by_typing(rt: HostRuntime) -> Result<(), Fail> {
     plays(
         &rt,

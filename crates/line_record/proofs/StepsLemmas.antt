@@ -1,0 +1,374 @@
+-- What the steps over a log hold where some are cut off, put in, closed and read.
+use Rattle.std.proofs.Common.{◌≡◌, ℕ, suc, ◌+◌, ◌-◌, ◌<◌, ◌≤◌, Bool, true, false, List, [], ◌∷◌, ◌++◌, length, take, drop, reverse, refl, sym, ap, subst, ◌∙◌, arith, get_or, Some, None, Option, ◌==◌, not, ◌&&◌, add-one, eqb-true}
+use Rattle.std.proofs.Math.Seq.{take-add}
+use Rattle.std.specs.Prelude.{slice_range, is_some, slice_get, option_map, ⊤, unwrap_or, slice_set}
+use Rattle.std.proofs.lemmas.Bool.Decides.{nat_tests}
+use Rattle.std.proofs.lemmas.List.{take-take, take_at, drop_at, take-map, drop-map, get_or-map, get_or-take, get_or-drop, length-map, length-append, length-take, length-drop, length-take-le, map_push, reverse-append, take_more, take_more_set, drop-drop}
+use Rattle.line_record.specs.declared.steps.Step.{Step}
+use Rattle.line_record.specs.Edit.{Edit}
+use Rattle.line_buffer.specs.Event.{Event}
+use Rattle.line_record.specs.Edit.Edit.{Inserted}
+use Rattle.line_record.specs.Held.{joined_to, inserted_by}
+use Rattle.line_record.specs.Logged.{joined_at}
+use Rattle.line_record.specs.Items.{Item, changes_of, gathered, group_of}
+use Rattle.line_record.specs.Items.Item.{Open, Lone}
+use Rattle.line_record.specs.Spans.{Adjoin, place_of_span}
+use Rattle.line_record.specs.Steps.{item_in, items_in, AreSteps}
+use Rattle.line_record.specs.Stored.{item_from, item_inserted, is_open, joined_item, joined_items}
+use Rattle.line_record.proofs.EndLemmas.{changes_of-item_from, group_pushed}
+use Rattle.line_record.proofs.LogLemmas.{mapped_twice, joined_at_is}
+use Rattle.line_record.proofs.StoredLemmas.{before_last, inserted_last}
+use Rattle.line_record.proofs.SpanLemmas.{take_lower, slice_same, adjoin_le, adjoin_cut, adjoin_drop, adjoin_at, place_le, adjoin_push, adjoin_kept, views_kept}
+
+abbrev first_of : Step → ℕ
+first_of s = s.first
+
+abbrev last_of : Step → ℕ
+last_of s = s.last
+
+abbrev Any : List Edit → Step → Type 0
+Any edits s = ⊤
+
+item_kept : (s : Step) (xs ys : List Edit) → s.first ≤ s.last → take s.last xs ≡ take s.last ys → Any xs s → item_in ys s ≡ item_in xs s
+item_kept s xs ys le e h = ap (item_from s.closed) (sym (slice_same s.first s.last xs ys le e))
+
+-- the first n steps, over any changes that begin as theirs do
+pub record KeptSteps (edits : List Edit) (steps : List Step) (n : ℕ) (after : List Edit) : Type 0 where
+  pub laid : Adjoin first_of last_of Any after 0 (take n steps) (place_of_span first_of steps n (length edits))
+  pub items : items_in after (take n steps) ≡ take n (items_in edits steps)
+
+pub steps_kept : (edits after : List Edit) (steps : List Step) (n place : ℕ) → AreSteps edits steps → place ≡ place_of_span first_of steps n (length edits) → take place edits ≡ take place after
+    → KeptSteps edits steps n after
+steps_kept edits after steps n place h is e =
+    let p = place_of_span first_of steps n (length edits) in
+    let cut : Adjoin first_of last_of Any edits 0 (take n steps) p = adjoin_cut first_of last_of Any n edits steps 0 (length edits) h in
+    let same : take p edits ≡ take p after = subst (λ k. take k edits ≡ take k after) is e in
+    record {
+      laid = adjoin_kept first_of last_of Any (λ s xs ys le k a. a) edits after (take n steps) 0 p cut same;
+      items = views_kept first_of last_of Any item_in item_kept edits after (take n steps) 0 p cut same ∙ sym (take-map (item_in edits) n steps);
+    }
+
+pub step_place_inside : (edits : List Edit) (steps : List Step) (n : ℕ) → AreSteps edits steps → place_of_span first_of steps n (length edits) ≤ length edits
+step_place_inside edits steps n h = place_le first_of last_of Any n edits steps 0 (length edits) h
+
+-- the place by what the code reads
+pub step_place_is : (edits : List Edit) (seen steps : List Step) (n place count : ℕ) → place ≡ place_of_span first_of seen n count → seen ≡ steps → count ≡ length edits
+    → place ≡ place_of_span first_of steps n (length edits)
+step_place_is edits seen steps n place count is same long =
+    is ∙ ap (λ ss. place_of_span first_of ss n count) same ∙ ap (place_of_span first_of steps n) long
+
+-- cut off
+pub record CutSteps (edits : List Edit) (steps : List Step) (n : ℕ) (after : List Edit) (left : List Step) : Type 0 where
+  pub are : AreSteps after left
+  pub items : items_in after left ≡ take n (items_in edits steps)
+
+pub steps_cut : (edits after : List Edit) (steps left : List Step) (n place : ℕ) → AreSteps edits steps → place ≡ place_of_span first_of steps n (length edits) → after ≡ take place edits → left ≡ take n steps
+    → CutSteps edits steps n after left
+steps_cut edits after steps left n place h is cut kept =
+    let inside : place ≤ length edits = omega (arith, is, step_place_inside edits steps n h) in
+    let count : length after ≡ place = ap length cut ∙ length-take-le place edits inside in
+    let same : take place edits ≡ take place after = sym (ap (take place) cut ∙ take-take place place edits (omega arith)) in
+    let k = steps_kept edits after steps n place h is same in
+    record {
+      are = subst (λ ss. AreSteps after ss) (sym kept) (subst (λ m. Adjoin first_of last_of Any after 0 (take n steps) m) (sym is ∙ sym count) k.laid);
+      items = ap (items_in after) kept ∙ k.items;
+    }
+
+-- one more
+pub record PushedStep (edits : List Edit) (steps : List Step) (n : ℕ) (item : Item) (after : List Edit) (new : List Step) : Type 0 where
+  pub are : AreSteps after new
+  pub items : items_in after new ≡ take n (items_in edits steps) ++ (item ∷ [])
+
+pub step_pushed : (edits after : List Edit) (steps new : List Step) (n : ℕ) (s : Step) (item : Item) → AreSteps edits steps → s.first ≡ place_of_span first_of steps n (length edits)
+    → take s.first edits ≡ take s.first after → s.first ≤ s.last → s.last ≡ length after → item_in after s ≡ item → new ≡ take n steps ++ (s ∷ []) → PushedStep edits steps n item after new
+step_pushed edits after steps new n s item h is same order end meant pushed =
+    let k = steps_kept edits after steps n s.first h is same in
+    record {
+      are = subst (AreSteps after) (sym pushed) (subst (λ m. Adjoin first_of last_of Any after 0 (take n steps ++ (s ∷ [])) m) end
+          (adjoin_push first_of last_of Any after (take n steps) 0 (place_of_span first_of steps n (length edits)) s k.laid is (omega (arith, is, order)) tt));
+      items = ap (items_in after) pushed ∙ map_push (item_in after) (take n steps) s ∙ ap (λ xs. xs ++ (item_in after s ∷ [])) k.items
+          ∙ ap (λ x. take n (items_in edits steps) ++ (x ∷ [])) meant;
+    }
+
+no_slice : {A : Type 0} (xs : List A) (i : ℕ) → slice_range xs i i ≡ []
+no_slice xs i =
+    let n : i - i ≡ 0 = omega arith in
+    ap (λ k. take k (drop i xs)) n
+
+-- an open mark
+pub mark_pushed : (edits after : List Edit) (steps new : List Step) (n place : ℕ) → AreSteps edits steps → place ≡ place_of_span first_of steps n (length edits) → after ≡ take place edits
+    → new ≡ take n steps ++ ((record { closed = false; first = place; last = place }) ∷ []) → PushedStep edits steps n Open after new
+mark_pushed edits after steps new n place h is cut pushed =
+    let inside : place ≤ length edits = omega (arith, is, step_place_inside edits steps n h) in
+    step_pushed edits after steps new n (record { closed = false; first = place; last = place }) Open h is (sym (ap (take place) cut ∙ take-take place place edits (omega arith))) (omega arith)
+    (sym (ap length cut ∙ length-take-le place edits inside)) (ap (item_from false) (no_slice after place)) pushed
+
+one_slice : {A : Type 0} (xs : List A) (front : List A) (x : A) (i j : ℕ) → xs ≡ front ++ (x ∷ []) → length front ≡ i → j ≡ suc i → slice_range xs i j ≡ x ∷ []
+one_slice xs front x i j is count next =
+    let n : j - i ≡ 1 = omega (arith, next) in
+    ap (λ k. take k (drop i xs)) n ∙ ap (take 1) (ap (drop i) is ∙ drop_at front (x ∷ []) i count)
+
+-- a lone change
+pub lone_pushed : (edits after : List Edit) (steps new : List Step) (n place last : ℕ) (e : Edit) → AreSteps edits steps → place ≡ place_of_span first_of steps n (length edits) → after ≡ take place edits ++ (e ∷ [])
+    → last ≡ length after → new ≡ take n steps ++ ((record { closed = false; first = place; last = last }) ∷ []) → PushedStep edits steps n (Lone e) after new
+lone_pushed edits after steps new n place last e h is put end pushed =
+    let inside : place ≤ length edits = omega (arith, is, step_place_inside edits steps n h) in
+    let count : length (take place edits) ≡ place = length-take-le place edits inside in
+    let long : last ≡ suc place = omega (arith, end, ap length put, length-append (take place edits) (e ∷ []), count) in
+    step_pushed edits after steps new n (record { closed = false; first = place; last = last }) (Lone e) h is
+    (sym (ap (take place) put ∙ take_at (take place edits) (e ∷ []) place count)) (omega (arith, long)) end
+    (ap (item_from false) (one_slice after (take place edits) e place last put count long)) pushed
+
+-- the step of an index
+pub record StepAt (edits : List Edit) (steps : List Step) (items : List Item) (n : ℕ) (s : Step) : Type 0 where
+  pub order : s.first ≤ s.last
+  pub inside : s.last ≤ length edits
+  pub place : s.first ≡ place_of_span first_of steps n (length edits)
+  pub next : s.last ≡ place_of_span first_of steps (suc n) (length edits)
+  pub item : get_or items n Open ≡ item_in edits s
+  pub changes : changes_of (get_or items n Open) ≡ slice_range edits s.first s.last
+  pub within : n < length steps
+
+pub step_at : (edits : List Edit) (steps : List Step) (items : List Item) (n : ℕ) (s : Step) → AreSteps edits steps → items_in edits steps ≡ items → n < length items → s ≡ get_or steps n s
+    → StepAt edits steps items n s
+step_at edits steps items n s h view inside is =
+    let within : n < length steps = omega (arith, inside, ap length view, length-map steps (item_in edits)) in
+    let r = adjoin_at first_of last_of Any n edits steps 0 (length edits) s h within in
+    let item : get_or items n Open ≡ item_in edits s =
+    ap (λ xs. get_or xs n Open) (sym view) ∙ get_or-map (item_in edits) steps n s Open within ∙ ap (item_in edits) (sym is) in
+    record {
+      order = subst (λ t. t.first ≤ t.last) (sym is) r.order;
+      inside = subst (λ t. t.last ≤ length edits) (sym is) r.inside;
+      place = sym (r.place ∙ ap first_of (sym is));
+      next = sym (r.next ∙ ap last_of (sym is));
+      item = item;
+      changes = ap changes_of item ∙ changes_of-item_from s.closed (slice_range edits s.first s.last);
+      within = within;
+    }
+
+slice_split : {A : Type 0} (xs : List A) (i j k : ℕ) → i ≤ j → j ≤ k → slice_range xs i j ++ slice_range xs j k ≡ slice_range xs i k
+slice_split xs i j k le more =
+    let a : (j - i) + (k - j) ≡ k - i = omega arith in
+    let b : i + (j - i) ≡ j = omega arith in
+    sym (ap (λ n. take n (drop i xs)) (sym a) ∙ take-add (j - i) (k - j) (drop i xs)
+    ∙ ap (λ ys. slice_range xs i j ++ take (k - j) ys) (drop-drop (j - i) i xs ∙ ap (λ n. drop n xs) b))
+
+-- the changes of steps that adjoin
+pub gathered_spans : (edits : List Edit) (steps : List Step) (from to : ℕ) → Adjoin first_of last_of Any edits from steps to → gathered (items_in edits steps) ≡ slice_range edits from to
+gathered_spans edits [] from to h = sym (ap (slice_range edits from) (sym h) ∙ no_slice edits from)
+gathered_spans edits (s ∷ steps) from to h =
+    ap (λ cs. cs ++ gathered (items_in edits steps)) (changes_of-item_from s.closed (slice_range edits s.first s.last) ∙ ap (λ k. slice_range edits k s.last) h.0)
+    ∙ ap (λ cs. slice_range edits from s.last ++ cs) (gathered_spans edits steps s.last to h.3)
+    ∙ slice_split edits from s.last to h.1 (adjoin_le first_of last_of Any edits steps s.last to h.3)
+
+pub slice_length : {A : Type 0} (xs : List A) (i j : ℕ) → j ≤ length xs → length (slice_range xs i j) ≡ j - i
+slice_length xs i j le = length-take-le (j - i) (drop i xs) (omega (arith, le, length-drop i xs))
+
+suc_zero : (n : ℕ) → false ≡ (suc n == 0)
+suc_zero n = grind (arith, nat_tests)
+
+suc_one : (n : ℕ) → (suc (suc n) == 1) ≡ false
+suc_one n = grind (arith, nat_tests)
+
+is_open-item_from : (closed : Bool) (cs : List Edit) → is_open (item_from closed cs) ≡ (length cs == 0)
+is_open-item_from true [] = refl
+is_open-item_from false [] = refl
+is_open-item_from true (c ∷ []) = suc_zero 0
+is_open-item_from false (c ∷ []) = suc_zero 0
+is_open-item_from true (c ∷ (d ∷ cs)) = suc_zero (suc (length cs))
+is_open-item_from false (c ∷ (d ∷ cs)) = suc_zero (suc (length cs))
+
+same_zero : (i j : ℕ) → i ≤ j → (i == j) ≡ (j - i == 0)
+same_zero i j le = grind (arith, nat_tests)
+
+pub marks : (edits : List Edit) (steps : List Step) (items : List Item) (n : ℕ) (s : Step) → StepAt edits steps items n s → (s.first == s.last) ≡ is_open (get_or items n Open)
+marks edits steps items n s h =
+    same_zero s.first s.last h.order ∙ ap (λ k. k == 0) (sym (slice_length edits s.first s.last h.inside))
+    ∙ sym (ap is_open h.item ∙ is_open-item_from s.closed (slice_range edits s.first s.last))
+
+-- the text that a step's newest change put in
+pub step_inserted : (edits : List Edit) (steps : List Step) (items : List Item) (n : ℕ) (s : Step) (d : Edit) → StepAt edits steps items n s → s.first < s.last
+    → item_inserted (get_or items n Open) ≡ inserted_by (get_or edits (s.last - 1) d)
+step_inserted edits steps items n s d h some =
+    let cs = slice_range edits s.first s.last in
+    let count : length cs ≡ s.last - s.first = slice_length edits s.first s.last h.inside in
+    let at : s.first + (length cs - 1) ≡ s.last - 1 = omega (arith, count, some) in
+    ap item_inserted h.item ∙ ap (λ xs. item_inserted (item_from s.closed xs)) (before_last cs d (omega (arith, count, some)))
+    ∙ inserted_last s.closed (take (length cs - 1) cs) (get_or cs (length cs - 1) d)
+    ∙ ap inserted_by (get_or-take (s.last - s.first) (drop s.first edits) (length cs - 1) d (omega (arith, count, some)) ∙ get_or-drop s.first edits (length cs - 1) d ∙ ap (λ k. get_or edits k d) at)
+
+-- the newest of some items
+pub newest_item : (items : List Item) (n : ℕ) → n < length items → reverse (take (n + 1) items) ≡ get_or items n Open ∷ reverse (take n items)
+newest_item items n h = ap reverse (take_more items n Open h) ∙ reverse-append (take n items) (get_or items n Open ∷ [])
+
+not_lone : (e : Event) (closed : Bool) (cs : List Edit) → (not closed && (length cs == 1)) ≡ false → joined_item e (item_from closed cs) ≡ None
+not_lone e true [] h = refl
+not_lone e false [] h = refl
+not_lone e true (c ∷ []) h = refl
+not_lone e false (c ∷ []) h = cc
+not_lone e true (c ∷ (d ∷ cs)) h = refl
+not_lone e false (c ∷ (d ∷ cs)) h = refl
+
+is_lone : (closed : Bool) (cs : List Edit) (d : Edit) → (not closed && (length cs == 1)) ≡ true → item_from closed cs ≡ Lone (get_or cs 0 d)
+is_lone true cs d h = cc
+is_lone false [] d h = cc
+is_lone false (c ∷ []) d h = refl
+is_lone false (c ∷ (b ∷ cs)) d h = cc (suc_one (length cs))
+
+lone_count : (closed : Bool) (n : ℕ) → (not closed && (n == 1)) ≡ true → n ≡ 1
+lone_count true n h = cc
+lone_count false n h = eqb-true n 1 h
+
+lone_from : (closed : Bool) (n : ℕ) (j : Edit) → (not closed && (n == 1)) ≡ true → item_from closed (j ∷ []) ≡ Lone j
+lone_from true n j h = cc
+lone_from false n j h = refl
+
+pub joins_none : (e : Event) (edits : List Edit) (steps : List Step) (items : List Item) (n : ℕ) (s : Step) → StepAt edits steps items n s → n < length items
+    → (not s.closed && (s.last - s.first == 1)) ≡ false → joined_items e (reverse (take (n + 1) items)) ≡ None
+joins_none e edits steps items n s h inside lone =
+    ap (joined_items e) (newest_item items n inside)
+    ∙ ap (option_map (λ y. y ∷ reverse (take n items))) (ap (joined_item e) h.item
+    ∙ not_lone e s.closed (slice_range edits s.first s.last) (ap (λ k. not s.closed && (k == 1)) (slice_length edits s.first s.last h.inside) ∙ lone))
+
+-- a lone step is joined as its change is
+joins_lone : (e : Event) (edits : List Edit) (steps : List Step) (items : List Item) (n : ℕ) (s : Step) (d : Edit) → StepAt edits steps items n s → n < length items
+    → (not s.closed && (s.last - s.first == 1)) ≡ true
+    → joined_items e (reverse (take (n + 1) items)) ≡ option_map (λ j. Lone j ∷ reverse (take n items)) (joined_to e (get_or edits s.first d))
+joins_lone e edits steps items n s d h inside lone =
+    let cs = slice_range edits s.first s.last in
+    let count : length cs ≡ s.last - s.first = slice_length edits s.first s.last h.inside in
+    let here : (not s.closed && (length cs == 1)) ≡ true = ap (λ k. not s.closed && (k == 1)) count ∙ lone in
+    let one : s.last - s.first ≡ 1 = lone_count s.closed (s.last - s.first) lone in
+    let at : s.first + 0 ≡ s.first = omega arith in
+    let read : get_or cs 0 d ≡ get_or edits s.first d =
+    get_or-take (s.last - s.first) (drop s.first edits) 0 d (omega (arith, one)) ∙ get_or-drop s.first edits 0 d ∙ ap (λ k. get_or edits k d) at in
+    ap (joined_items e) (newest_item items n inside)
+    ∙ ap (λ x. option_map (λ y. y ∷ reverse (take n items)) (joined_item e x)) (h.item ∙ is_lone s.closed cs d here ∙ ap Lone read)
+    ∙ mapped_twice Lone (λ y. y ∷ reverse (take n items)) (joined_to e (get_or edits s.first d))
+
+no_join : (J : Option (List Edit)) (f : Edit → List Edit) (g : Edit → List Item) (o : Option Edit) → J ≡ option_map f o → false ≡ is_some J → (J ≡ None) × (option_map g o ≡ None)
+no_join J f g None e h = (e, refl)
+no_join J f g (Some j) e h = cc
+
+a_join : (J : Option (List Edit)) (f : Edit → List Edit) (g : Edit → List Item) (o : Option Edit) → J ≡ option_map f o → true ≡ is_some J
+    → (j : Edit) × (J ≡ Some (f j)) × (option_map g o ≡ Some (g j))
+a_join J f g None e h = cc
+a_join J f g (Some j) e h = (j, e, refl)
+
+pub record LeftAlone (e : Event) (edits after : List Edit) (items : List Item) (n : ℕ) : Type 0 where
+  pub same : after ≡ edits
+  pub none : joined_items e (reverse (take (n + 1) items)) ≡ None
+
+pub left_alone : (e : Event) (edits after : List Edit) (steps : List Step) (items : List Item) (n : ℕ) (s : Step) → StepAt edits steps items n s → n < length items
+    → (not s.closed && (s.last - s.first == 1)) ≡ true → false ≡ is_some (joined_at e s.first edits) → after ≡ unwrap_or (joined_at e s.first edits) edits → LeftAlone e edits after items n
+left_alone e edits after steps items n s h inside lone answer value =
+    let d = Inserted 0 [] in
+    let one : s.last - s.first ≡ 1 = lone_count s.closed (s.last - s.first) lone in
+    let j = no_join (joined_at e s.first edits) (λ j. take s.first edits ++ (j ∷ [])) (λ j. Lone j ∷ reverse (take n items)) (joined_to e (get_or edits s.first d))
+    (joined_at_is e s.first edits d (omega (arith, one, h.inside))) answer in
+    record { same = value ∙ ap (λ o. unwrap_or o edits) j.0; none = joins_lone e edits steps items n s d h inside lone ∙ j.1 }
+
+pub record JoinedOn (e : Event) (edits after : List Edit) (steps left : List Step) (items : List Item) (n : ℕ) : Type 0 where
+  pub are : AreSteps after left
+  pub joined : joined_items e (reverse (take (n + 1) items)) ≡ Some (reverse (items_in after left))
+
+pub joined_on : (e : Event) (edits after : List Edit) (steps left : List Step) (items : List Item) (n : ℕ) (s : Step) → AreSteps edits steps → items_in edits steps ≡ items → StepAt edits steps items n s
+    → s ≡ get_or steps n s → n < length items → (not s.closed && (s.last - s.first == 1)) ≡ true → true ≡ is_some (joined_at e s.first edits)
+    → after ≡ unwrap_or (joined_at e s.first edits) edits → left ≡ take (n + 1) steps → JoinedOn e edits after steps left items n
+joined_on e edits after steps left items n s are view h is inside lone answer value cut =
+    let d = Inserted 0 [] in
+    let one : s.last - s.first ≡ 1 = lone_count s.closed (s.last - s.first) lone in
+    let long : s.last ≡ suc s.first = omega (arith, one) in
+    let j = a_join (joined_at e s.first edits) (λ j. take s.first edits ++ (j ∷ [])) (λ j. Lone j ∷ reverse (take n items)) (joined_to e (get_or edits s.first d))
+    (joined_at_is e s.first edits d (omega (arith, one, h.inside))) answer in
+    let put : after ≡ take s.first edits ++ (j.0 ∷ []) = value ∙ ap (λ o. unwrap_or o edits) j.1 in
+    let count : length (take s.first edits) ≡ s.first = length-take-le s.first edits (omega (arith, h.inside, h.order)) in
+    let pushed : left ≡ take n steps ++ (s ∷ []) = cut ∙ take_more steps n s h.within ∙ ap (λ t. take n steps ++ (t ∷ [])) (sym is) in
+    let p = step_pushed edits after steps left n s (Lone j.0) are h.place (sym (ap (take s.first) put ∙ take_at (take s.first edits) (j.0 ∷ []) s.first count)) h.order
+    (long ∙ sym (ap length put ∙ length-append (take s.first edits) (j.0 ∷ []) ∙ ap (λ k. k + 1) count ∙ add-one s.first))
+    (ap (item_from s.closed) (one_slice after (take s.first edits) j.0 s.first s.last put count long) ∙ lone_from s.closed (s.last - s.first) j.0 lone) pushed in
+    record {
+      are = p.are;
+      joined = joins_lone e edits steps items n s d h inside lone ∙ j.2
+          ∙ sym (ap Some (ap reverse (p.items ∙ ap (λ xs. take n xs ++ (Lone j.0 ∷ [])) view) ∙ reverse-append (take n items) (Lone j.0 ∷ [])));
+    }
+
+-- the steps from an index on as one
+pub record ClosedFrom (edits : List Edit) (steps : List Step) (items : List Item) (n index : ℕ) (a b : Step) : Type 0 where
+  pub group : gathered (drop index (take n items)) ≡ slice_range edits a.first b.last
+  pub order : a.first ≤ b.last
+  pub end : b.last ≡ place_of_span first_of steps n (length edits)
+
+pub closed_from : (edits : List Edit) (steps : List Step) (items : List Item) (n index last : ℕ) (a b : Step) → AreSteps edits steps → items_in edits steps ≡ items → StepAt edits steps items index a
+    → StepAt edits steps items last b → suc last ≡ n → index < n → a ≡ get_or steps index a → ClosedFrom edits steps items n index a b
+closed_from edits steps items n index last a b are view ha hb next order is =
+    let end : b.last ≡ place_of_span first_of steps n (length edits) = hb.next ∙ ap (λ k. place_of_span first_of steps k (length edits)) next in
+    let front : Adjoin first_of last_of Any edits 0 (take n steps) b.last =
+    subst (λ m. Adjoin first_of last_of Any edits 0 (take n steps) m) (sym end) (adjoin_cut first_of last_of Any n edits steps 0 (length edits) are) in
+    let few : index < length (take n steps) = omega (arith, order, next, hb.within, length-take n steps) in
+    let r = adjoin_at first_of last_of Any index edits (take n steps) 0 b.last a front few in
+    let place : place_of_span first_of (take n steps) index b.last ≡ a.first =
+    r.place ∙ ap first_of (get_or-take n steps index a order ∙ sym is) in
+    let back : Adjoin first_of last_of Any edits a.first (drop index (take n steps)) b.last =
+    subst (λ m. Adjoin first_of last_of Any edits m (drop index (take n steps)) b.last) place (adjoin_drop first_of last_of Any index edits (take n steps) 0 b.last front) in
+    record {
+      group = ap (λ xs. gathered (drop index (take n xs))) (sym view) ∙ ap (λ xs. gathered (drop index xs)) (take-map (item_in edits) n steps)
+          ∙ ap gathered (drop-map (item_in edits) index (take n steps)) ∙ gathered_spans edits (drop index (take n steps)) a.first b.last back;
+      order = adjoin_le first_of last_of Any edits (drop index (take n steps)) a.first b.last back;
+      end = end;
+    }
+
+pub group_none : (edits : List Edit) (group : List Edit) (i j : ℕ) → group ≡ slice_range edits i j → i ≡ j → group ≡ []
+group_none edits group i j is e = is ∙ ap (slice_range edits i) (sym e) ∙ no_slice edits i
+
+some_items : {A : Type 0} (xs : List A) → 0 < length xs → is_some (slice_get xs 0) ≡ true
+some_items [] h = absurd (omega (arith, h))
+some_items (x ∷ xs) h = refl
+
+pub group_some : (edits : List Edit) (group : List Edit) (i j : ℕ) → group ≡ slice_range edits i j → i < j → j ≤ length edits → is_some (slice_get group 0) ≡ true
+group_some edits group i j is less inside =
+    ap (λ cs. is_some (slice_get cs 0)) is ∙ some_items (slice_range edits i j) (omega (arith, slice_length edits i j inside, less))
+
+-- the group put in their place
+pub group_pushed_on : (edits after : List Edit) (steps new : List Step) (items : List Item) (n index : ℕ) (a b : Step) → AreSteps edits steps → items_in edits steps ≡ items → StepAt edits steps items index a
+    → ClosedFrom edits steps items n index a b → a.first < b.last → b.last ≤ length edits → after ≡ take b.last edits
+    → new ≡ take index steps ++ ((record { closed = true; first = a.first; last = b.last }) ∷ [])
+    → AreSteps after new × (reverse (items_in after new) ≡ group_of (gathered (drop index (take n items))) (reverse (take index items)))
+group_pushed_on edits after steps new items n index a b are view ha h less inside cut pushed =
+    let s : Step = record { closed = true; first = a.first; last = b.last } in
+    let same : take b.last edits ≡ take b.last after = sym (ap (take b.last) cut ∙ take-take b.last b.last edits (omega arith)) in
+    let cs = slice_range edits a.first b.last in
+    let p = step_pushed edits after steps new index s (item_from true cs) are ha.place (take_lower a.first b.last edits after h.order same) h.order
+    (sym (ap length cut ∙ length-take-le b.last edits inside)) (ap (item_from true) (sym (slice_same a.first b.last edits after h.order same))) pushed in (
+      p.are,
+      ap reverse (p.items ∙ ap (λ xs. take index xs ++ (item_from true cs ∷ [])) view) ∙ reverse-append (take index items) (item_from true cs ∷ [])
+          ∙ group_pushed cs (reverse (take index items)) (group_some edits cs a.first b.last refl less inside)
+          ∙ sym (ap (λ g. group_of g (reverse (take index items))) h.group),
+    )
+
+pub group_gone : (edits after : List Edit) (steps left : List Step) (items : List Item) (n index : ℕ) (a b : Step) → AreSteps edits steps → items_in edits steps ≡ items → StepAt edits steps items index a
+    → ClosedFrom edits steps items n index a b → a.first ≡ b.last → after ≡ take b.last edits → left ≡ take index steps
+    → AreSteps after left × (reverse (items_in after left) ≡ group_of (gathered (drop index (take n items))) (reverse (take index items)))
+group_gone edits after steps left items n index a b are view ha h same cut kept =
+    let p = steps_cut edits after steps left index a.first are ha.place (cut ∙ ap (λ k. take k edits) (sym same)) kept in
+    (p.are, ap reverse (p.items ∙ ap (take index) view) ∙ sym (ap (λ g. group_of g (reverse (take index items))) (group_none edits _ a.first b.last h.group same)))
+
+pub lone_inside : (edits : List Edit) (steps : List Step) (items : List Item) (n : ℕ) (s : Step) → StepAt edits steps items n s → (not s.closed && (s.last - s.first == 1)) ≡ true → s.first < length edits
+lone_inside edits steps items n s h lone =
+    let one : s.last - s.first ≡ 1 = lone_count s.closed (s.last - s.first) lone in
+    omega (arith, one, h.inside)
+
+pub less : (i j : ℕ) → i ≤ j → (i ≡ j → ⊥) → i < j
+less i j le ne = omega (arith, le, ne)
+
+pub first_inside : (index n : ℕ) (items : List Item) → index < n → n ≤ length items → index < length items
+first_inside index n items order inside = omega (arith, order, inside)
+
+pub last_inside : (index n : ℕ) (items : List Item) → index < n → n ≤ length items → n - 1 < length items
+last_inside index n items order inside = omega (arith, order, inside)
+
+pub last_next : (index n : ℕ) → index < n → suc (n - 1) ≡ n
+last_next index n order = omega (arith, order)
+
+pub set_kept : (steps : List Step) (index : ℕ) (s : Step) → index < length steps → take (index + 1) (slice_set steps index s) ≡ take index steps ++ (s ∷ [])
+set_kept steps index s h = take_more_set steps index s h

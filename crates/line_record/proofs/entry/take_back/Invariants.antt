@@ -1,0 +1,15 @@
+use Rattle.std.proofs.Common.{◌≡◌, take, drop, length}
+use Rattle.std.specs.Prelude.{All}
+use Rattle.line_record.specs.Items.{lines_back}
+use Rattle.line_record.specs.Logged.{edits_in, Spelt}
+use Rattle.line_record.proofs.entry.take_back.Given as goal
+
+abbrev pub invariant-loop-newest : goal.invariant-loop-newest
+invariant-loop-newest l = record {
+  left : l.left ≡ take (length l.left) l.entries;
+  spelt : All (Spelt l.log) l.left;
+  line : l.line ≡ lines_back (drop (length l.left) (edits_in l.log l.entries)) l.fn.line;
+}
+
+abbrev pub decreases-loop-newest : goal.decreases-loop-newest
+decreases-loop-newest l = length l.left

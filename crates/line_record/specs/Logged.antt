@@ -1,0 +1,78 @@
+-- What the entries of a log stand for.
+use Rattle.std.specs.Prelude.{◌≤◌, ℕ, zero, suc, Bool, if◌then◌else◌, List, [], ◌∷◌, ◌++◌, map, take, length, slice_range, encode_utf8, Option, None, option_map, IsUtf8}
+use Rattle.line_buffer.specs.Event.{Event}
+use Rattle.line_buffer.specs.Event.Event.{StartKilling, StopKilling, Delete, InsertChar, InsertStr, Replace}
+use Rattle.line_record.specs.Edit.{Edit}
+use Rattle.line_record.specs.Edit.Edit.{Inserted, Deleted, Replaced}
+use Rattle.line_record.specs.Held.{joined_to}
+use Rattle.line_record.specs.Spans.{Adjoin}
+use Rattle.line_record.specs.declared.entry.Entry.{Entry}
+use Rattle.line_record.specs.declared.entry.Kind.{Kind}
+use Rattle.line_record.specs.declared.entry.Kind.TheVariants.{Insertion, Deletion, Replacement}
+
+-- a change by its kind, the text that stood at its place, and the one that has stood there since
+abbrev pub edit_from : Kind → ℕ → List ℕ → List ℕ → Edit
+edit_from Insertion at removed added = Inserted at added
+edit_from Deletion at removed added = Deleted at removed
+edit_from Replacement at removed added = Replaced at removed added
+
+abbrev pub edit_in : List ℕ → Entry → Edit
+edit_in text x =
+    edit_from x.kind x.at (slice_range text x.start x.middle) (slice_range text x.middle x.end)
+
+abbrev pub edits_in : List ℕ → List Entry → List Edit
+edits_in text entries = map (edit_in text) entries
+
+-- the old text stands before the new one, and each begins and ends between characters
+pub record Spelt (text : List ℕ) (x : Entry) : Type 0 where
+  pub removed : x.start ≤ x.middle
+  pub added : x.middle ≤ x.end
+  pub inside : x.end ≤ length text
+  pub before : IsUtf8 (take x.start text)
+  pub between : IsUtf8 (take x.middle text)
+  pub after : IsUtf8 (take x.end text)
+
+-- the entries' spans adjoin in their order and cover the text
+abbrev pub IsLog : List ℕ → List Entry → Type 0
+IsLog text entries = Adjoin (λ x. x.start) (λ x. x.end) Spelt text 0 entries (length text)
+
+-- the texts that an event tells of: what was taken out, and what was put in
+abbrev pub removed_told : Event → List ℕ
+removed_told (Delete at text direction) = text
+removed_told (Replace at before after) = before
+removed_told (InsertChar at c) = []
+removed_told (InsertStr at text) = []
+removed_told StartKilling = []
+removed_told StopKilling = []
+
+abbrev pub added_told : Event → List ℕ
+added_told (InsertChar at c) = encode_utf8 c
+added_told (InsertStr at text) = text
+added_told (Replace at before after) = after
+added_told (Delete at text direction) = []
+added_told StartKilling = []
+added_told StopKilling = []
+
+abbrev pub place_told : Event → ℕ
+place_told (InsertChar at c) = at
+place_told (InsertStr at text) = at
+place_told (Replace at before after) = at
+place_told (Delete at text direction) = at
+place_told StartKilling = 0
+place_told StopKilling = 0
+
+-- a change with more text: the old before or after its own, the new after its own
+abbrev pub grown_old : Bool → List ℕ → List ℕ → List ℕ
+grown_old before removed text = if before then removed ++ text else text ++ removed
+
+abbrev pub grown : ℕ → Bool → List ℕ → List ℕ → Edit → Edit
+grown at before removed added (Inserted place text) = Inserted at (text ++ added)
+grown at before removed added (Deleted place text) = Deleted at (grown_old before removed text)
+grown at before removed added (Replaced place was is) =
+    Replaced at (grown_old before removed was) (is ++ added)
+
+-- the changes up to that of an index, which an event joins, if it does
+abbrev pub joined_at : Event → ℕ → List Edit → Option (List Edit)
+joined_at e n [] = None
+joined_at e zero (d ∷ edits) = option_map (λ j. j ∷ []) (joined_to e d)
+joined_at e (suc n) (d ∷ edits) = option_map (λ es. d ∷ es) (joined_at e n edits)

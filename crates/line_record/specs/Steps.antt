@@ -1,0 +1,50 @@
+-- What the steps over a log stand for.
+use Rattle.std.specs.Prelude.{◌≡◌, ◌≤◌, ℕ, Bool, true, false, if◌then◌else◌, nat_lt, List, [], ◌∷◌, map, reverse, length, take, drop, slice_range, Option, Some, None, unwrap_or, ⊤}
+use Rattle.line_record.specs.Edit.{Edit}
+use Rattle.line_record.specs.Items.{Item, Items}
+use Rattle.line_record.specs.Items.Item.{Open, Lone, Group}
+use Rattle.line_record.specs.Spans.{Adjoin}
+use Rattle.line_record.specs.Stored.{item_from}
+use Rattle.line_record.specs.declared.steps.Step.{Step}
+
+abbrev pub item_in : List Edit → Step → Item
+item_in edits s = item_from s.closed (slice_range edits s.first s.last)
+
+abbrev pub items_in : List Edit → List Step → List Item
+items_in edits steps = map (item_in edits) steps
+
+-- the steps' changes adjoin in their order and are all that there are
+abbrev pub AreSteps : List Edit → List Step → Type 0
+AreSteps edits steps =
+    Adjoin (λ s. s.first) (λ s. s.last) (λ edits s. ⊤) edits 0 steps (length edits)
+
+-- items that were joined to, nearest first, stand in place of the old ones; where none was joined to, the old ones stay
+abbrev pub JoinedIn : Option (List Item) → List Item → List Item → Type 0
+JoinedIn None old new = new ≡ old
+JoinedIn (Some items) old new = reverse new ≡ items
+
+-- the record, of which the first n items are done
+abbrev pub record_of : List Item → ℕ → Items
+record_of items n = record { done = reverse (take n items); undone = drop n items }
+
+-- the number of items before the oldest open mark, of items that are nearest first
+abbrev pub oldest_mark : List Item → Option ℕ
+oldest_mark [] = None
+oldest_mark (Open ∷ items) = Some (unwrap_or (oldest_mark items) (length items))
+oldest_mark (Lone c ∷ items) = oldest_mark items
+oldest_mark (Group c cs ∷ items) = oldest_mark items
+
+-- no more items are done than there are, and the mark is the oldest of theirs
+pub record IsRecord (items : List Item) (n : ℕ) (mark : Option ℕ) : Type 0 where
+  pub inside : n ≤ length items
+  pub marked : mark ≡ oldest_mark (reverse (take n items))
+
+-- the oldest mark among the first n items
+abbrev pub mark_within : Option ℕ → ℕ → Option ℕ
+mark_within None n = None
+mark_within (Some i) n = if nat_lt i n then Some i else None
+
+-- the oldest mark with one more item
+abbrev pub mark_with : Option ℕ → Bool → ℕ → Option ℕ
+mark_with mark true n = Some (unwrap_or mark n)
+mark_with mark false n = mark

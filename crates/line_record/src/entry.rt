@@ -1,0 +1,199 @@
+//! The changes of a record, whose texts stand in one log.
+
+use crate::report::Report;
+use crate::words::is_one_alphanumeric;
+use line_buffer::{LineBuffer, NoListener, OutOfMemory, is_alphanumeric};
+use std::alloc::Global;
+
+/// What a change does.
+#[derive(Clone, Copy, Debug)]
+pub enum Kind {
+    Insertion,
+    Deletion,
+    Replacement,
+}
+
+/// A change by its place in the line and its spans of the log, all in bytes: the old text from
+/// `start` to `middle`, the new one from there to `end`.
+#[derive(Clone, Copy, Debug)]
+pub struct Entry {
+    pub kind: Kind,
+    pub at: usize,
+    pub start: usize,
+    pub middle: usize,
+    pub end: usize,
+}
+
+impl Entry {
+    ghost use Rattle.std.specs.Prelude.{◌≡◌, ◌≤◌, ◌-◌, ℕ, List, length, OnOk, OnErr, option_copied, option_map, if◌then◌else◌};
+    ghost use Rattle.line_record.specs.Edit.{removed_of, added_of, StandsIn, FitsIn, taken_back, made_anew, undo_place, redo_place};
+    ghost use Rattle.line_record.specs.Held.{joined_to, inserted_by};
+    ghost use Rattle.line_record.specs.Logged.{edit_from, edit_in, Spelt, removed_told, added_told, grown};
+    ghost use Rattle.line_record.specs.Stored.{event_of};
+
+    /// Where more of the old text is put in: before its own, or after it.
+    pub fn seam(&self, before: bool) -> usize
+        ensures { result ≡ (if before then self.now.start else self.now.middle) }
+    {
+        if before { self.start } else { self.middle }
+    }
+
+    fn removed<'a>(&self, log: &'a str) -> &'a str
+        requires { Spelt log.now self.now }
+        ensures { result.now ≡ removed_of (edit_in log.now self.now) }
+    {
+        match self.kind {
+            Kind::Insertion => "",
+            Kind::Deletion | Kind::Replacement => &log[self.start..self.middle],
+        }
+    }
+
+    fn added<'a>(&self, log: &'a str) -> &'a str
+        requires { Spelt log.now self.now }
+        ensures { result.now ≡ added_of (edit_in log.now self.now) }
+    {
+        match self.kind {
+            Kind::Deletion => "",
+            Kind::Insertion | Kind::Replacement => &log[self.middle..self.end],
+        }
+    }
+
+    /// The text that this change put in, if it is no deletion.
+    pub fn inserted<'a>(&self, log: &'a str) -> Option<&'a str>
+        requires { Spelt log.now self.now }
+        ensures { option_copied result ≡ inserted_by (edit_in log.now self.now) }
+    {
+        match self.kind {
+            Kind::Deletion => None,
+            Kind::Insertion | Kind::Replacement => Some(self.added(log)),
+        }
+    }
+
+    /// Puts back what stood there before, the cursor after it.
+    fn take_back(&self, alloc: Global, log: &str, line: &mut LineBuffer) -> Result<(), OutOfMemory>
+        requires spelt { Spelt log.now self.now }
+        requires stands { StandsIn (edit_in log.now self.now) line.old.text }
+        ensures line { OnOk result (line.new ≡ record line.old {
+          text = taken_back (edit_in log.now self.now) line.old.text;
+          place = undo_place (edit_in log.now self.now);
+        }) }
+        ensures kept { OnErr result (line.new ≡ line.old) }
+    {
+        // Its contract says that the length fits.
+        let _longest = line.len();
+        let added = self.added(log);
+        line.replace(
+            alloc,
+            self.at..self.at + added.len(),
+            self.removed(log),
+            &mut NoListener,
+        )
+    }
+
+    /// Puts in again what was there after the change, the cursor after it.
+    fn make_anew(&self, alloc: Global, log: &str, line: &mut LineBuffer) -> Result<(), OutOfMemory>
+        requires spelt { Spelt log.now self.now }
+        requires fits { FitsIn (edit_in log.now self.now) line.old.text }
+        ensures line { OnOk result (line.new ≡ record line.old {
+          text = made_anew (edit_in log.now self.now) line.old.text;
+          place = redo_place (edit_in log.now self.now);
+        }) }
+        ensures kept { OnErr result (line.new ≡ line.old) }
+    {
+        // Its contract says that the length fits.
+        let _longest = line.len();
+        let removed = self.removed(log);
+        line.replace(
+            alloc,
+            self.at..self.at + removed.len(),
+            self.added(log),
+            &mut NoListener,
+        )
+    }
+
+    /// Whether what is told joins this change, which was the last before it: the place of the two
+    /// together, and whether the old text that is told comes before this one's.
+    pub fn joined(&self, report: Report<'_>) -> Option<(usize, bool)>
+        requires { self.now.middle ≤ self.now.end }
+        ensures { (removed added : List ℕ) → length added ≡ self.now.end - self.now.middle →
+            joined_to (event_of report.entry) (edit_from self.now.kind self.now.at removed added)
+            ≡ option_map (λ j. grown j.0 j.1 (removed_told (event_of report.entry))
+            (added_told (event_of report.entry)) (edit_from self.now.kind self.now.at removed added))
+            result }
+    {
+        let added = self.end - self.middle;
+        match (self.kind, report) {
+            (Kind::Insertion, Report::Char { at, c }) => {
+                (is_alphanumeric(c) && follows(at, self.at, added)).then_some((self.at, false))
+            }
+            (Kind::Deletion, Report::Deletion { at, text, .. }) => {
+                if !is_one_alphanumeric(text) {
+                    None
+                } else if at == self.at {
+                    Some((at, false))
+                } else if follows(self.at, at, text.len()) {
+                    Some((at, true))
+                } else {
+                    None
+                }
+            }
+            (Kind::Replacement, Report::Replacement { at, .. }) => {
+                follows(at, self.at, added).then_some((self.at, false))
+            }
+            _ => None,
+        }
+    }
+}
+
+ghost use Rattle.std.specs.Prelude.{◌≡◌, ◌+◌, ◌==◌, ℕ, All, take, drop, OnOk, OnErr};
+ghost use Rattle.line_record.specs.Edit.{AllStandIn, AllFitIn};
+ghost use Rattle.line_record.specs.Items.{lines_back, lines_ahead};
+ghost use Rattle.line_record.specs.Logged.{edits_in, Spelt};
+
+/// A place stands so many bytes after another.
+fn follows(place: usize, before: usize, length: usize) -> bool
+    ensures { result ≡ (place == before + length) }
+{
+    before <= place && place - before == length
+}
+
+/// Takes changes back, the newest first. After a refusal some of them are taken back, the newest
+/// ones.
+pub(crate) fn take_back(
+    alloc: Global,
+    log: &str,
+    entries: &[Entry],
+    line: &mut LineBuffer,
+) -> Result<(), OutOfMemory>
+    requires spelt { All (Spelt log.now) entries.now }
+    requires stand { AllStandIn (edits_in log.now entries.now) line.old.text }
+    ensures line { OnOk result (line.new ≡ lines_back (edits_in log.now entries.now) line.old) }
+    ensures part { OnErr result ((j : ℕ)
+        × (line.new ≡ lines_back (drop j (edits_in log.now entries.now)) line.old)) }
+{
+    let mut left = entries;
+    while let Some((newest, earlier)) = left.split_last() {
+        newest.take_back(alloc, log, line)?;
+        left = earlier;
+    }
+    Ok(())
+}
+
+/// Makes changes anew, the oldest first. After a refusal some of them are made, the oldest ones.
+pub(crate) fn make_anew(
+    alloc: Global,
+    log: &str,
+    entries: &[Entry],
+    line: &mut LineBuffer,
+) -> Result<(), OutOfMemory>
+    requires spelt { All (Spelt log.now) entries.now }
+    requires fit { AllFitIn (edits_in log.now entries.now) line.old.text }
+    ensures line { OnOk result (line.new ≡ lines_ahead (edits_in log.now entries.now) line.old) }
+    ensures part { OnErr result ((j : ℕ)
+        × (line.new ≡ lines_ahead (take j (edits_in log.now entries.now)) line.old)) }
+{
+    for change in entries {
+        change.make_anew(alloc, log, line)?;
+    }
+    Ok(())
+}

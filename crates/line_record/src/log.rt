@@ -1,0 +1,219 @@
+//! The texts of recorded changes, one after the other.
+
+use crate::entry::{Entry, Kind, make_anew, take_back};
+use crate::report::Report;
+use line_buffer::{LineBuffer, OutOfMemory};
+use std::alloc::Global;
+use std::marker::Model;
+
+/// The changes of a record, the oldest first, with all their texts in one.
+#[derive(Debug, Drop)]
+pub struct Log {
+    text: String,
+    entries: Vec<Entry>,
+}
+
+impl Model for Log {
+    ghost use Rattle.std.specs.Prelude.{List, string_bytes};
+    ghost use Rattle.line_record.specs.Edit.{Edit};
+
+    ghost Value = { List Edit };
+
+    ghost use Rattle.line_record.specs.Logged.{edits_in, IsLog};
+
+    ghost view = { λ l. edits_in (string_bytes l.text) l.entries.items };
+
+    ghost invariant = { λ l. IsLog (string_bytes l.text) l.entries.items };
+}
+
+impl Log {
+    ghost use Rattle.std.specs.Prelude.{◌≡◌, ◌<◌, ◌≤◌, ◌++◌, ℕ, [], ◌∷◌, length, take, drop, slice_range, slice_index_or, IfOk, OnOk, OnErr, is_some, unwrap_or, option_copied};
+    ghost use Rattle.line_record.specs.Edit.{Edit, AllStandIn, AllFitIn};
+    ghost use Rattle.line_record.specs.Held.{inserted_by};
+    ghost use Rattle.line_record.specs.Items.{lines_back, lines_ahead};
+    ghost use Rattle.line_record.specs.Logged.{edit_from, grown, joined_at};
+    ghost use Rattle.line_record.specs.Stored.{event_of};
+
+    pub fn new(alloc: Global) -> Self
+        ensures { result ≡ [] }
+    {
+        Log {
+            text: String::new(alloc),
+            entries: Vec::new(alloc),
+        }
+    }
+
+    /// The same changes in memory of their own.
+    pub fn try_clone(&self, alloc: Global) -> Result<Self, OutOfMemory>
+        ensures { IfOk result (λ l. l ≡ self.now) }
+    {
+        let text = String::from_str(alloc, &self.text)?;
+        let mut entries = Vec::with_capacity(alloc, self.entries.len())?;
+        entries.extend_from_slice(&self.entries)?;
+        Ok(Log { text, entries })
+    }
+
+    /// The number of changes.
+    pub fn len(&self) -> usize
+        ensures { result ≡ length self.now }
+    {
+        self.entries.len()
+    }
+
+    /// Keeps the first `n` changes.
+    pub fn truncate(&mut self, n: usize)
+        ensures { self.new ≡ take n self.old }
+    {
+        let end = place(&self.entries, n, self.text.len());
+        self.text.truncate(end);
+        self.entries.truncate(n);
+    }
+
+    /// The first `n` changes, and one more.
+    pub fn record(
+        &mut self,
+        n: usize,
+        kind: Kind,
+        at: usize,
+        removed: &str,
+        added: &str,
+    ) -> Result<(), OutOfMemory>
+        ensures ok { OnOk result (self.new ≡ take n self.old
+            ++ edit_from kind at removed.now added.now ∷ []) }
+        ensures kept { OnErr result (self.new ≡ self.old) }
+    {
+        let Some(more) = removed.len().checked_add(added.len()) else {
+            return Err(OutOfMemory);
+        };
+        self.text.reserve(more)?;
+        self.entries.reserve(1)?;
+        let start = place(&self.entries, n, self.text.len());
+        self.text.truncate(start);
+        self.entries.truncate(n);
+        self.text.push_str(removed)?;
+        let middle = self.text.len();
+        self.text.push_str(added)?;
+        let end = self.text.len();
+        self.entries.push(Entry {
+            kind,
+            at,
+            start,
+            middle,
+            end,
+        })?;
+        Ok(())
+    }
+
+    /// The changes up to that of an index, what is told joined to it; false where it joins none.
+    pub fn join(&mut self, index: usize, report: Report<'_>) -> Result<bool, OutOfMemory>
+        requires { index < length self.old }
+        ensures answer { IfOk result (λ joined. joined
+            ≡ is_some (joined_at (event_of report.entry) index self.old)) }
+        ensures value { OnOk result (self.new
+            ≡ unwrap_or (joined_at (event_of report.entry) index self.old) self.old) }
+        ensures kept { OnErr result (self.new ≡ self.old) }
+    {
+        let Some((at, before)) = self.entries[index].joined(report) else {
+            return Ok(false);
+        };
+        let mut room = [0; 4];
+        self.grow(index, at, before, report.removed(), report.added(&mut room))?;
+        Ok(true)
+    }
+
+    /// The changes up to that of an index, which takes more text in: the old before or after its
+    /// own, the new after its own.
+    fn grow(
+        &mut self,
+        index: usize,
+        at: usize,
+        before: bool,
+        removed: &str,
+        added: &str,
+    ) -> Result<(), OutOfMemory>
+        requires { index < length self.old }
+        ensures ok { OnOk result ((d : Edit) → self.new ≡ take index self.old
+            ++ grown at before removed.now added.now (slice_index_or self.old index d) ∷ []) }
+        ensures kept { OnErr result (self.new ≡ self.old) }
+    {
+        let last = self.entries[index];
+        let Some(more) = removed.len().checked_add(added.len()) else {
+            return Err(OutOfMemory);
+        };
+        self.text.reserve(more)?;
+        self.text.truncate(last.end);
+        self.entries.truncate(index);
+        self.text.insert_str(last.seam(before), removed)?;
+        self.text.push_str(added)?;
+        let end = self.text.len();
+        self.entries.push(Entry {
+            at,
+            middle: last.middle + removed.len(),
+            end,
+            ..last
+        })?;
+        Ok(())
+    }
+
+    /// The text that a change put in, if it is no deletion.
+    pub fn inserted(&self, index: usize) -> Option<&str>
+        requires { index < length self.now }
+        ensures { (d : Edit) → option_copied result
+            ≡ inserted_by (slice_index_or self.now index d) }
+    {
+        self.entries[index].inserted(&self.text)
+    }
+
+    /// Takes changes back, the newest first. After a refusal some of them are taken back, the
+    /// newest ones.
+    pub fn take_back(
+        &self,
+        alloc: Global,
+        first: usize,
+        last: usize,
+        line: &mut LineBuffer,
+    ) -> Result<(), OutOfMemory>
+        requires order { first ≤ last }
+        requires inside { last ≤ length self.now }
+        requires stand { AllStandIn (slice_range self.now first last) line.old.text }
+        ensures line { OnOk result (line.new
+            ≡ lines_back (slice_range self.now first last) line.old) }
+        ensures part { OnErr result ((j : ℕ)
+            × (line.new ≡ lines_back (drop j (slice_range self.now first last)) line.old)) }
+    {
+        take_back(alloc, &self.text, &self.entries[first..last], line)
+    }
+
+    /// Makes changes anew, the oldest first. After a refusal some of them are made, the oldest
+    /// ones.
+    pub fn make_anew(
+        &self,
+        alloc: Global,
+        first: usize,
+        last: usize,
+        line: &mut LineBuffer,
+    ) -> Result<(), OutOfMemory>
+        requires order { first ≤ last }
+        requires inside { last ≤ length self.now }
+        requires fit { AllFitIn (slice_range self.now first last) line.old.text }
+        ensures line { OnOk result (line.new
+            ≡ lines_ahead (slice_range self.now first last) line.old) }
+        ensures part { OnErr result ((j : ℕ)
+            × (line.new ≡ lines_ahead (take j (slice_range self.now first last)) line.old)) }
+    {
+        make_anew(alloc, &self.text, &self.entries[first..last], line)
+    }
+}
+
+ghost use Rattle.std.specs.Prelude.{◌≡◌};
+ghost use Rattle.line_record.specs.Spans.{place_of_span};
+
+/// Where the entry of an index begins, or the end of all.
+fn place(entries: &[Entry], n: usize, end: usize) -> usize
+    ensures { result ≡ place_of_span (λ x. x.start) entries.now n end }
+{
+    match entries.get(n) {
+        Some(entry) => entry.start,
+        None => end,
+    }
+}

@@ -1,0 +1,268 @@
+//! The steps of a record, over one log: open marks, lone changes and closed groups.
+
+use crate::log::Log;
+use crate::report::Report;
+use line_buffer::{LineBuffer, OutOfMemory};
+use std::alloc::Global;
+use std::marker::Model;
+
+/// The changes from `first` up to `last`, which are undone together. A step without any is the open
+/// mark of a group, and only a step of one change that isn't closed is joined.
+#[derive(Clone, Copy, Debug)]
+pub struct Step {
+    pub closed: bool,
+    pub first: usize,
+    pub last: usize,
+}
+
+impl Step {
+    ghost use Rattle.std.specs.Prelude.{◌≡◌, ◌-◌, ◌≤◌, ◌==◌, ◌&&◌, not};
+
+    /// One change that others may join.
+    fn is_lone(&self) -> bool
+        requires { self.now.first ≤ self.now.last }
+        ensures { result ≡ (not self.now.closed && (self.now.last - self.now.first == 1)) }
+    {
+        !self.closed && self.last - self.first == 1
+    }
+}
+
+/// Steps, the oldest first, with their changes.
+#[derive(Debug, Drop)]
+pub struct Steps {
+    log: Log,
+    steps: Vec<Step>,
+}
+
+impl Model for Steps {
+    ghost use Rattle.std.specs.Prelude.{List};
+    ghost use Rattle.line_record.specs.Items.{Item};
+
+    ghost Value = { List Item };
+
+    ghost use Rattle.line_record.specs.Steps.{items_in, AreSteps};
+
+    ghost view = { λ s. items_in s.log s.steps.items };
+
+    ghost invariant = { λ s. AreSteps s.log s.steps.items };
+}
+
+impl Steps {
+    ghost use Rattle.std.specs.Prelude.{◌≡◌, ◌+◌, ◌<◌, ◌≤◌, ◌++◌, ℕ, true, [], ◌∷◌, length, take, drop, reverse, slice_get, slice_index_or, IfOk, OnOk, OnErr, Some, is_some, option_map, option_copied};
+    ghost use Rattle.line_record.specs.Edit.{AllStandIn, AllFitIn};
+    ghost use Rattle.line_record.specs.Held.{change_of};
+    ghost use Rattle.line_record.specs.Items.{changes_of, lines_back, lines_ahead, is_step_item, gathered, group_of, noted_if};
+    ghost use Rattle.line_record.specs.Items.Item.{Open, Lone};
+    ghost use Rattle.line_record.specs.Steps.{JoinedIn};
+    ghost use Rattle.line_record.specs.Stored.{event_of, is_open, joined_items, item_inserted};
+
+    pub fn new(alloc: Global) -> Self
+        ensures { result ≡ [] }
+    {
+        Steps {
+            log: Log::new(alloc),
+            steps: Vec::new(alloc),
+        }
+    }
+
+    /// The same steps in memory of their own.
+    pub fn try_clone(&self, alloc: Global) -> Result<Self, OutOfMemory>
+        ensures { IfOk result (λ s. s ≡ self.now) }
+    {
+        let log = self.log.try_clone(alloc)?;
+        let mut steps = Vec::with_capacity(alloc, self.steps.len())?;
+        steps.extend_from_slice(&self.steps)?;
+        Ok(Steps { log, steps })
+    }
+
+    /// The number of steps and open marks.
+    pub fn len(&self) -> usize
+        ensures { result ≡ length self.now }
+    {
+        self.steps.len()
+    }
+
+    /// Keeps the first `n`.
+    pub fn truncate(&mut self, n: usize)
+        ensures { self.new ≡ take n self.old }
+    {
+        let end = place(&self.steps, n, self.log.len());
+        self.log.truncate(end);
+        self.steps.truncate(n);
+    }
+
+    /// The first `n`, and an open mark.
+    pub fn open(&mut self, n: usize) -> Result<(), OutOfMemory>
+        ensures ok { OnOk result (self.new ≡ take n self.old ++ Open ∷ []) }
+        ensures kept { OnErr result (self.new ≡ self.old) }
+    {
+        self.steps.reserve(1)?;
+        let end = place(&self.steps, n, self.log.len());
+        self.log.truncate(end);
+        self.steps.truncate(n);
+        self.steps.push(Step {
+            closed: false,
+            first: end,
+            last: end,
+        })?;
+        Ok(())
+    }
+
+    /// The first `n` with what is told after them, joined to the last where it joins.
+    pub fn note(&mut self, n: usize, report: Report<'_>) -> Result<(), OutOfMemory>
+        requires { n ≤ length self.old }
+        ensures ok { OnOk result (reverse self.new ≡ noted_if (event_of report.entry)
+            (change_of (event_of report.entry)) (reverse (take n self.old))) }
+        ensures kept { OnErr result (self.new ≡ self.old) }
+    {
+        if report.is_empty() {
+            self.truncate(n);
+            return Ok(());
+        }
+        if n > 0 && self.join(n - 1, report)? {
+            return Ok(());
+        }
+        self.add(n, report)
+    }
+
+    /// The first `n`, and what is told as a step of its own.
+    fn add(&mut self, n: usize, report: Report<'_>) -> Result<(), OutOfMemory>
+        requires { is_some (change_of (event_of report)) ≡ true }
+        ensures ok { OnOk result (option_map (λ c. take n self.old ++ Lone c ∷ [])
+            (change_of (event_of report.entry)) ≡ Some self.new) }
+        ensures kept { OnErr result (self.new ≡ self.old) }
+    {
+        self.steps.reserve(1)?;
+        let first = place(&self.steps, n, self.log.len());
+        let mut room = [0; 4];
+        let added = report.added(&mut room);
+        self.log
+            .record(first, report.kind(), report.at(), report.removed(), added)?;
+        self.steps.truncate(n);
+        self.steps.push(Step {
+            closed: false,
+            first,
+            last: self.log.len(),
+        })?;
+        Ok(())
+    }
+
+    /// The steps up to that of an index, what is told joined to it; false where it joins none.
+    fn join(&mut self, index: usize, report: Report<'_>) -> Result<bool, OutOfMemory>
+        requires { index < length self.old }
+        ensures answer { IfOk result (λ joined. joined ≡ is_some
+            (joined_items (event_of report.entry) (reverse (take (index + 1) self.old)))) }
+        ensures value { OnOk result (JoinedIn
+            (joined_items (event_of report.entry) (reverse (take (index + 1) self.old)))
+            self.old self.new) }
+        ensures kept { OnErr result (self.new ≡ self.old) }
+    {
+        let step = self.steps[index];
+        if !step.is_lone() {
+            return Ok(false);
+        }
+        if !self.log.join(step.first, report)? {
+            return Ok(false);
+        }
+        self.steps.truncate(index + 1);
+        Ok(true)
+    }
+
+    /// The first `n`, of which those from an index on become one that nothing joins, or go where
+    /// they have no changes. Answers whether they have.
+    pub fn close(&mut self, n: usize, index: usize) -> bool
+        requires order { index < n }
+        requires inside { n ≤ length self.old }
+        ensures answer { result ≡ is_some (slice_get (gathered (drop index (take n self.old))) 0) }
+        ensures items { reverse self.new ≡ group_of (gathered (drop index (take n self.old)))
+            (reverse (take index self.old)) }
+    {
+        let (first, last) = (self.steps[index].first, self.steps[n - 1].last);
+        self.log.truncate(last);
+        if first == last {
+            self.steps.truncate(index);
+            return false;
+        }
+        let closed = true;
+        self.steps[index] = Step {
+            closed,
+            first,
+            last,
+        };
+        self.steps.truncate(index + 1);
+        true
+    }
+
+    /// The open mark of a group stands at an index.
+    pub fn is_mark(&self, index: usize) -> bool
+        requires { index < length self.now }
+        ensures { result ≡ is_open (slice_index_or self.now index Open) }
+    {
+        let step = self.steps[index];
+        step.first == step.last
+    }
+
+    /// The text that the newest change of a step put in, if it put one in.
+    pub fn inserted(&self, index: usize) -> Option<&str>
+        requires { index < length self.now }
+        ensures { option_copied result ≡ item_inserted (slice_index_or self.now index Open) }
+    {
+        let step = self.steps[index];
+        if step.first == step.last {
+            return None;
+        }
+        self.log.inserted(step.last - 1)
+    }
+
+    /// Takes a step's changes back, the newest first. After a refusal some of them are taken back,
+    /// the newest ones.
+    pub fn take_back(
+        &self,
+        alloc: Global,
+        index: usize,
+        line: &mut LineBuffer,
+    ) -> Result<(), OutOfMemory>
+        requires inside { index < length self.now }
+        requires stand { AllStandIn (changes_of (slice_index_or self.now index Open))
+            line.old.text }
+        ensures line { OnOk result (line.new
+            ≡ lines_back (changes_of (slice_index_or self.now index Open)) line.old) }
+        ensures part { OnErr result ((j : ℕ) × (line.new
+            ≡ lines_back (drop j (changes_of (slice_index_or self.now index Open))) line.old)) }
+    {
+        let step = self.steps[index];
+        self.log.take_back(alloc, step.first, step.last, line)
+    }
+
+    /// Makes a step's changes anew, the oldest first. After a refusal some of them are made, the
+    /// oldest ones.
+    pub fn make_anew(
+        &self,
+        alloc: Global,
+        index: usize,
+        line: &mut LineBuffer,
+    ) -> Result<(), OutOfMemory>
+        requires inside { index < length self.now }
+        requires fit { AllFitIn (changes_of (slice_index_or self.now index Open)) line.old.text }
+        ensures line { OnOk result (line.new
+            ≡ lines_ahead (changes_of (slice_index_or self.now index Open)) line.old) }
+        ensures part { OnErr result ((j : ℕ) × (line.new
+            ≡ lines_ahead (take j (changes_of (slice_index_or self.now index Open))) line.old)) }
+    {
+        let step = self.steps[index];
+        self.log.make_anew(alloc, step.first, step.last, line)
+    }
+}
+
+ghost use Rattle.std.specs.Prelude.{◌≡◌};
+ghost use Rattle.line_record.specs.Spans.{place_of_span};
+
+/// Where the step of an index begins, or the end of all.
+fn place(steps: &[Step], n: usize, end: usize) -> usize
+    ensures { result ≡ place_of_span (λ s. s.first) steps.now n end }
+{
+    match steps.get(n) {
+        Some(step) => step.first,
+        None => end,
+    }
+}
