@@ -2,7 +2,8 @@
 """The program with its growths refused in turn. Run it by ./test, or alone once `rt ci` or ./keyline has built it.
 
 A session is run once for each call that asks the C library for memory, and that call is refused. Such a run ends with
-status 1 and the words for it; what it wrote before is the beginning of what a run with ample memory writes. The count
+status 1 and the words for it; what it wrote before is the beginning of what a run with ample memory writes. A refusal
+that the program gets over, as one that was to make a block smaller, must leave the run whole. The count
 ends with the first run that meets no refusal, which must be as if nothing stood in its way.
 """
 import os
@@ -13,6 +14,8 @@ from checks import HUNG, NEW_ROW, PROGRAM, TOP, Failed, drawing, run_all, same
 
 SHIM = os.path.join(TOP, "build", "refuse_growth.so")
 WORDS = b"keyline: out of memory\n"
+# Where the history's text doesn't fit into memory, after everything else was done.
+NO_TEXT = b"keyline: history text failed\n"
 MOST = 10000
 
 
@@ -30,6 +33,7 @@ class Session:
             self.breaks.append(len(self.parts))
             self.parts += [NEW_ROW, drawing(b"")]
         self.parts.append(NEW_ROW)
+        self.got_over = 0
 
     def check_whole(self, ran):
         same("lines", ran.stdout, b"".join(self.lines))
@@ -37,9 +41,15 @@ class Session:
         same("status", ran.returncode, 0)
 
     def check_refused(self, ran):
+        if ran.returncode == 0:
+            self.got_over += 1
+            return self.check_whole(ran)
         same("status", ran.returncode, 1)
-        same("the end of standard error", ran.stderr[-len(WORDS) :], WORDS)
-        display = ran.stderr[: -len(WORDS)]
+        words = NO_TEXT if ran.stderr.endswith(NO_TEXT) else WORDS
+        same("the end of standard error", ran.stderr[-len(words) :], words)
+        display = ran.stderr[: -len(words)]
+        if words == NO_TEXT:
+            same("display", display, b"".join(self.parts))
         begun = [b"".join(self.parts[:count]) for count in range(len(self.parts) + 1)]
         if display not in begun:
             raise Failed(f"the display is no beginning of the whole one, by parts: {display!r}")
@@ -66,7 +76,7 @@ class Session:
                 os.remove(report)
             else:
                 raise Failed(f"{MOST} calls, and no end")
-        print(f"calls refused in turn: {number - 1}", flush=True)
+        print(f"calls refused in turn: {number - 1}, got over: {self.got_over}", flush=True)
         same("whether any call was met", number > 1, True)
 
 
