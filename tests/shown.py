@@ -1,18 +1,19 @@
 #!/usr/bin/env python3
-"""What a terminal shows after each key of whole sessions: tmux runs the program, and is asked for its cells and cursor.
+"""What a terminal shows after each key of whole sessions: tmux runs ./keyline, and is asked for its cells and cursor.
 
 The sessions stand in tests/shown.txt. `rt ci` builds the program first. Texts are those whose widths tmux counts as the
-editor does.
+editor does. Each session is ended by Ctrl-C, and then the terminal's settings must be those that were found.
 """
 import os
 import pathlib
 import shlex
 import sys
 import tempfile
+import termios
 import time
 import unicodedata
 
-from checks import PROGRAM, Failed, run_all
+from checks import Failed, placed_script, run_all, same
 from drawings import Terminal
 
 ROWS = pathlib.Path(__file__).with_name("shown.txt")
@@ -23,13 +24,13 @@ PATIENCE = 60
 NAMED = {
     "Enter": b"\r", "Tab": b"\t", "Backspace": b"\x7f", "Esc": b"\x1b", "Left": b"\x1b[D", "Right": b"\x1b[C",
     "Up": b"\x1b[A", "Down": b"\x1b[B", "Home": b"\x1b[H", "End": b"\x1b[F", "Delete": b"\x1b[3~",
-    "Paste": b"\x1b[200~", "Pasted": b"\x1b[201~", "nothing": b"",
+    "Paste": b"\x1b[200~", "Pasted": b"\x1b[201~",
 }
 
 
 def meant(text):
     """A text in which a control character or a blank may stand as its picture."""
-    return "".join(chr(ord(c) - 0x2400) if 0x2400 <= ord(c) <= 0x2420 else c for c in text).encode()
+    return "".join(chr(ord(c) - 0x2400) if 0x2400 <= ord(c) <= 0x2420 else c for c in text)
 
 
 def key(word):
@@ -38,8 +39,8 @@ def key(word):
     if word.startswith("C-") and len(word) == 3:
         return bytes([ord(word[2]) & 0x1F])
     if word.startswith("M-") and len(word) > 2:
-        return b"\x1b" + meant(word[2:])
-    return meant(word)
+        return b"\x1b" + meant(word[2:]).encode()
+    return meant(word).encode()
 
 
 def width(text):
@@ -51,26 +52,83 @@ def pictured(shown):
     """The rows of a row of the file, and the row and column of its bar."""
     rows, cursor = [], None
     for number, row in enumerate(shown.split(" / ")):
-        before, bar, after = row.strip().partition("|")
+        before, bar, after = meant(row).partition("|")
         if bar:
-            cursor = (number, width(before.replace("␠", " ")))
-        rows.append((before + after).replace("␠", " ").rstrip())
+            cursor = (number, width(before))
+        rows.append((before + after).rstrip())
     while rows and not rows[-1]:
         rows.pop()
     return rows, cursor
 
 
+class Session:
+    """A session of the file: its name, the program's arguments, and the rows below them."""
+
+    def __init__(self, words):
+        self.name, *self.arguments = shlex.split(words)
+        self.steps, self.before, self.saved, self.lines = [], None, None, None
+
+    def add(self, line):
+        word, _, rest = line.partition(" ")
+        if word == "history:":
+            self.before = meant(rest)
+        elif word == "saves:":
+            self.saved = meant(rest)
+        elif word == "writes:":
+            self.lines = "".join(f"{meant(text)}\n" for text in rest.split())
+        elif " = " in line:
+            keys, shown = line.split(" = ", 1)
+            self.steps.append((line, b"".join(map(key, keys.split())), pictured(shown)))
+
+    def argument(self, name, default):
+        return self.arguments[self.arguments.index(name) + 1] if name in self.arguments else default
+
+    def plays(self, terminal):
+        until_taken(terminal)
+        prompt = self.argument("--prompt", "> ")
+        expect(terminal, "before the first key", pictured(f"{prompt}|"))
+        for line, keys, wanted in self.steps:
+            terminal.ask("send-keys", "-H", *(f"{byte:02x}" for byte in keys))
+            expect(terminal, line, wanted)
+        terminal.ask("send-keys", "-H", "03")
+
+    def left(self, folder):
+        """Compares what the session left behind it."""
+        read = lambda name: pathlib.Path(folder, name).read_text(encoding="utf-8")
+        end = time.monotonic() + PATIENCE
+        while not (os.path.exists(os.path.join(folder, "after")) and read("after")):
+            if time.monotonic() > end:
+                raise Failed("hung: it has not ended")
+            time.sleep(0.02)
+        same("the terminal's settings", read("after"), read("before"))
+        same("status", read("status"), "130\n")
+        if self.lines is not None:
+            same("lines", read("lines"), self.lines)
+        if self.saved is not None:
+            same("the history's file", read("history"), self.saved)
+
+
 def sessions():
-    """The sessions of the file: name, arguments, and the keys of each row with what is shown after them."""
     found = []
     for line in ROWS.read_text(encoding="utf-8").splitlines():
         if line.startswith(":"):
-            name, *arguments = shlex.split(line[1:])
-            found.append((name, arguments, []))
-        elif " = " in line and not line.startswith("#"):
-            keys, shown = line.split(" = ", 1)
-            found[-1][2].append((line, b"".join(map(key, keys.split())), pictured(shown)))
+            found.append(Session(line[1:]))
+        elif found and not line.startswith("#"):
+            found[-1].add(line)
     return found
+
+
+def until_taken(terminal):
+    """Waits until keys reach the program as they are."""
+    end = time.monotonic() + PATIENCE
+    tty = os.open(terminal.ask("display-message", "-p", "#{pane_tty}").strip(), os.O_RDONLY | os.O_NOCTTY)
+    try:
+        while termios.tcgetattr(tty)[3] & termios.ICANON:
+            if time.monotonic() > end:
+                raise Failed("hung: the terminal is not taken")
+            time.sleep(0.02)
+    finally:
+        os.close(tty)
 
 
 def expect(terminal, line, wanted):
@@ -81,29 +139,28 @@ def expect(terminal, line, wanted):
         time.sleep(0.02)
 
 
-def test_of(name, arguments, steps):
+def test_of(session):
     """A test that types a session's keys, and compares what is shown after each row."""
 
     def plays():
-        columns = int(arguments[arguments.index("--columns") + 1]) if "--columns" in arguments else 80
         with tempfile.TemporaryDirectory() as folder:
-            program = " ".join(map(shlex.quote, [PROGRAM, *arguments]))
-            lines = shlex.quote(os.path.join(folder, "lines"))
-            terminal = Terminal(folder, columns, f"stty raw -echo; {program} > {lines}; exec sleep 120")
+            if session.before is not None:
+                pathlib.Path(folder, "history").write_text(session.before, encoding="utf-8")
+            run = " ".join(map(shlex.quote, [SCRIPT, *session.arguments]))
+            around = f"cd {shlex.quote(folder)}; stty -g > before; {run} > lines; echo $? > status; stty -g > after"
+            terminal = Terminal(folder, int(session.argument("--columns", "80")), f"{around}; exec sleep 120")
             try:
-                expect(terminal, "before the first key", ([">"], (0, 2)))
-                for line, keys, wanted in steps:
-                    if keys:
-                        terminal.ask("send-keys", "-H", *(f"{byte:02x}" for byte in keys))
-                    expect(terminal, line, wanted)
+                session.plays(terminal)
+                session.left(folder)
             finally:
                 terminal.close()
 
-    plays.__name__ = name.replace("-", "_")
+    plays.__name__ = session.name.replace("-", "_")
     return plays
 
 
 if __name__ == "__main__":
     os.environ["LC_ALL"] = "C.UTF-8"
-    chosen = [session for session in sessions() if not sys.argv[1:] or session[0] in sys.argv[1:]]
-    run_all([test_of(*session) for session in chosen])
+    SCRIPT = placed_script()
+    chosen = [session for session in sessions() if not sys.argv[1:] or session.name in sys.argv[1:]]
+    run_all([test_of(session) for session in chosen])
