@@ -8,10 +8,12 @@ import fcntl
 import os
 import resource
 import signal
+import struct
+import subprocess
 import termios
 import time
 
-from checks import CTRL_D, ENTER, HUNG, LEFT, NEW_ROW, Failed, Incoming, drawing, placed_script, run_all, same
+from checks import CTRL_D, ENTER, HUNG, LEFT, NEW_ROW, PROGRAM, Failed, Incoming, drawing, placed_script, run_all, same
 
 SCRIPT = placed_script()
 
@@ -21,7 +23,7 @@ def shown(display):
     return display.replace(b"\n", b"\r\n")
 
 
-def lead(slave, reports, orders):
+def lead(slave, reports, orders, arguments):
     """Leads the session, and never returns. It reports each stop and the end; each order lets the job go on."""
     os.setsid()
     fcntl.ioctl(slave, termios.TIOCSCTTY, 0)
@@ -37,7 +39,7 @@ def lead(slave, reports, orders):
         resource.setrlimit(resource.RLIMIT_CORE, (0, 0))
         for stream in range(3):
             os.dup2(slave, stream)
-        os.execv(SCRIPT, [SCRIPT])
+        os.execv(SCRIPT, [SCRIPT, *arguments])
     os.write(reports, b"%d\n" % job)
     while True:
         _, status = os.waitpid(job, os.WUNTRACED)
@@ -55,15 +57,19 @@ def lead(slave, reports, orders):
 class Terminal:
     """A terminal with ./keyline on it."""
 
+    def __init__(self, columns=80, arguments=()):
+        self.columns, self.arguments = columns, arguments
+
     def __enter__(self):
         self.master, self.slave = os.openpty()
+        fcntl.ioctl(self.slave, termios.TIOCSWINSZ, struct.pack("HHHH", 24, self.columns, 0, 0))
         self.found = termios.tcgetattr(self.slave)
         report, reports = os.pipe()
         orders, self.order = os.pipe()
         self.leader = os.fork()
         if self.leader == 0:
             try:
-                lead(self.slave, reports, orders)
+                lead(self.slave, reports, orders, self.arguments)
             finally:
                 os._exit(127)
         os.close(reports)
@@ -176,6 +182,18 @@ def interrupt_typed():
         terminal.expect_ended(130)
 
 
+def the_width_at_the_start():
+    """The terminal's width is the program's, but for widths that it doesn't take and where the arguments name one."""
+    for columns, arguments, width in [(4, [], 4), (2000, [], 1000), (0, [], 80), (1, [], 80), (4, ["--columns", "7"], 7),
+                                      (4, ["--columns=7", "--prompt", "> "], 7)]:
+        ran = subprocess.run([PROGRAM, f"--columns={width}"], input=b"abcdef\x03", capture_output=True, timeout=HUNG)
+        with Terminal(columns, arguments) as terminal:
+            terminal.expect(drawing(b""))
+            terminal.type(b"abcdef\x03")
+            terminal.expect(ran.stderr[len(drawing(b"")):])
+            terminal.expect_ended(130)
+
+
 def quit_typed():
     ended_by(lambda terminal: terminal.type(b"\x1c"), 131)
 
@@ -227,6 +245,7 @@ if __name__ == "__main__":
         a_line_typed_edited_and_accepted,
         bytes_that_a_terminal_would_keep,
         interrupt_typed,
+        the_width_at_the_start,
         quit_typed,
         signals_to_the_script,
         signals_to_the_job,
