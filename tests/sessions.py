@@ -1,0 +1,159 @@
+#!/usr/bin/env python3
+"""The sessions of `crates/sessions_program/data/` through the built program. Run it by ./test, or alone once `rt ci` or
+./keyline has built the program.
+
+Each row is played twice: its bytes in one piece, and one byte a read. Rows need what the program has by its arguments;
+those with a bound key, or with a hint, are for `sessions_program` alone.
+"""
+import os
+import re
+import subprocess
+import tempfile
+
+from checks import HUNG, PROGRAM, TOP, Failed, run_all, same
+
+DATA = os.path.join(TOP, "crates", "sessions_program", "data")
+SHIM = os.path.join(TOP, "build", "one_byte.so")
+STATUS = {"Eof": 0, "Interrupted": 130, "NotUtf8": 3, "PasteOutOfPlace": 4}
+NAMED = {
+    "nothing": b"", "Enter": b"\r", "Tab": b"\t", "Backspace": b"\x7f", "Esc": b"\x1b", "Left": b"\x1b[D",
+    "Right": b"\x1b[C", "Up": b"\x1b[A", "Down": b"\x1b[B", "Home": b"\x1b[H", "End": b"\x1b[F",
+    "Delete": b"\x1b[3~", "Paste": b"\x1b[200~", "Pasted": b"\x1b[201~",
+}
+
+
+def meant(text):
+    """The bytes of a text with pictures: a control character's own, `␠` for a blank, hexadecimal digits in `‹›`."""
+    held = b""
+    for part in re.split("(‹[0-9a-f]+›)", text):
+        if part.startswith("‹"):
+            held += bytes.fromhex(part[1:-1])
+            continue
+        for char in part:
+            code = ord(char)
+            pictured = 0x2400 <= code <= 0x2420
+            held += bytes([code - 0x2400]) if pictured else b"\x7f" if code == 0x2421 else char.encode()
+    return held
+
+
+def key(word):
+    if word in NAMED:
+        return NAMED[word]
+    if word.startswith("C-") and len(word) == 3:
+        return bytes([ord(word[2]) & 0x1F])
+    if word.startswith("M-") and len(word) > 2:
+        return b"\x1b" + meant(word[2:])
+    return meant(word)
+
+
+def drawn(text):
+    """The bytes of a display: `{` begins a drawing, up to the line, and `}` ends one with nothing after the line."""
+    pieces = [meant(piece) for piece in re.split("[{}]", text)]
+    signs = [b"\r\x1b[J\x1b[m> \x1b[m" if sign == "{" else b"\x1b[m\x1b[m" for sign in re.findall("[{}]", text)]
+    return b"".join(piece + sign for piece, sign in zip(pieces, [*signs, b""]))
+
+
+class Row:
+    def __init__(self, settings, text):
+        self.settings = settings.split()
+        self.text = text
+        keys, wanted = text.split(" = ", 1)
+        self.keys = b"".join(key(word) for word in keys.split())
+        first, *others = wanted.split(" | ")
+        self.lines = b"" if first == "nothing" else b"".join(
+            b"\n" if word == '""' else meant(word) + b"\n" for word in first.split())
+        said = dict(part.split(" ", 1) for part in others)
+        self.ends = said.get("ends", "Eof").strip()
+        self.saves = said.get("saves")
+        self.shows = said.get("shows")
+
+    def value(self, name, default):
+        found = [word[len(name):] for word in self.settings if word.startswith(name)]
+        return found[0] if found else default
+
+    def is_played(self):
+        """Whether the program has what the row needs: it binds no key and gives no hint."""
+        return "bound" not in self.settings and not ("helped" in self.settings and self.value("loaded:", ""))
+
+    def arguments(self):
+        given = ["--mode", "vi" if "vi" in self.settings else "emacs", "--columns", self.value("columns:", "80")]
+        given += ["--prompt=" if "bare" in self.settings else "--prompt=> "]
+        return given + (["--brackets"] if "helped" in self.settings else [])
+
+    def play(self, one_byte):
+        with tempfile.TemporaryDirectory() as folder:
+            path = os.path.join(folder, "history")
+            loaded = meant(self.value("loaded:", ""))
+            if loaded:
+                with open(path, "wb") as file:
+                    file.write(loaded)
+            environment = dict(os.environ, LD_PRELOAD=SHIM) if one_byte else None
+            ran = subprocess.run([PROGRAM, *self.arguments(), "--history", path], input=self.keys, timeout=HUNG,
+                                 capture_output=True, env=environment)
+            same("lines", ran.stdout, self.lines)
+            same("status", ran.returncode, STATUS[self.ends])
+            if self.shows is not None:
+                same("display", ran.stderr, drawn("".join(self.shows.split())))
+            if self.saves is not None and "adding" in self.settings:
+                wanted = loaded if self.saves.strip() == "nothing" else meant(self.saves.strip())
+                with open(path, "rb") as file:
+                    same("history", file.read(), wanted)
+
+
+def rows_of(name):
+    settings = ""
+    with open(os.path.join(DATA, name), encoding="utf-8") as file:
+        for line in file.read().splitlines():
+            if line.startswith(":"):
+                settings = line[1:]
+            elif " = " in line and not line.startswith("#"):
+                yield Row(settings, line)
+
+
+def played(name, one_byte):
+    """The rows of a file that the program can play; they are there, and each is as it says."""
+    count = 0
+    faults = []
+    for row in rows_of(name):
+        if not row.is_played():
+            continue
+        count += 1
+        try:
+            row.play(one_byte)
+        except Failed as fault:
+            faults.append(f"{row.text}: {fault}")
+    if faults:
+        raise Failed("\n  ".join([f"{len(faults)} of {count} rows", *faults]))
+    if count < 10:
+        raise Failed(f"only {count} rows of {name}")
+
+
+def worked_rows():
+    played("rows.txt", False)
+
+
+def worked_rows_one_byte_a_read():
+    played("rows.txt", True)
+
+
+def keys_of_emacs():
+    played("emacs.txt", False)
+
+
+def keys_of_emacs_one_byte_a_read():
+    played("emacs.txt", True)
+
+
+def keys_of_vi():
+    played("vi.txt", False)
+
+
+def keys_of_vi_one_byte_a_read():
+    played("vi.txt", True)
+
+
+if __name__ == "__main__":
+    os.makedirs(os.path.dirname(SHIM), exist_ok=True)
+    subprocess.run(["gcc", "-shared", "-fPIC", "-O2", "-o", SHIM, os.path.join(TOP, "tests", "one_byte.c")], check=True)
+    run_all([worked_rows, worked_rows_one_byte_a_read, keys_of_emacs, keys_of_emacs_one_byte_a_read, keys_of_vi,
+             keys_of_vi_one_byte_a_read])
