@@ -2,6 +2,8 @@
 #![tactic(auto)]
 
 #[cfg(test)]
+mod by_options;
+#[cfg(test)]
 mod command_lines;
 #[cfg(test)]
 mod endings;
