@@ -1,6 +1,7 @@
 #!/usr/bin/env python3
 """The program's arguments and its history file. Run it by ./test, or alone once `rt ci` or ./keyline has built the program."""
 import os
+import resource
 import stat
 import subprocess
 import tempfile
@@ -10,6 +11,8 @@ from checks import BACKSPACE, CTRL_D, ENTER, HUNG, NEW_ROW, PROGRAM, drawing, ru
 UP = b"\x1b[A"
 NOT_LOADED = b"keyline: history does not load\n"
 NOT_SAVED = b"keyline: history text failed\n"
+# What a program may take of memory that reads what never ends, in bytes.
+SPACE = 300_000_000
 
 
 def ran(keys, *arguments, **streams):
@@ -213,6 +216,13 @@ def a_device_is_no_file():
     same("still a device", stat.S_ISCHR(os.stat(os.devnull).st_mode), True)
 
 
+def a_history_without_end():
+    with open(os.devnull, "rb") as keys:
+        run = ran(b"", "--history", "/dev/zero", stdin=keys,
+                  preexec_fn=lambda: resource.setrlimit(resource.RLIMIT_AS, (SPACE, SPACE)))
+    expect(run, b"", b"keyline: out of memory\n", 1)
+
+
 def what_a_crash_left():
     with History(b"#V2\none\n") as history:
         for number in range(3):
@@ -252,6 +262,7 @@ if __name__ == "__main__":
         histories_that_cannot_be_written,
         another_fault_comes_first,
         a_device_is_no_file,
+        a_history_without_end,
         what_a_crash_left,
         many_entries,
     ])

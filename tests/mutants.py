@@ -4,10 +4,10 @@
 Such a file is written as those of must-fail/ are: a line `file: src/lib.rt` and pairs of lines `old: TEXT` and
 `new: TEXT`, each text once in the file. Wrong bodies in different functions share a check of their crate, over the
 libraries that `rt ci` left in crates/*/out. A wrong body passes where each function that it changes is refused for its
-own sake. It fails where a function is proved all the same, where it no longer fits or changes nothing, and where only a
-stored proof doesn't fit it any more, which says nothing of the contract: tests/mutants-by-hand.txt names those of
-which it is known otherwise that the contract refuses them. A function that is refused though nothing is wrong with it
-fails too.
+own sake: a goal of it is open, or rattle says in another way why. It fails where a function is proved all the same,
+where it no longer fits or changes nothing, and where only a stored proof doesn't fit it any more, which says nothing of
+the contract: tests/mutants-by-hand.txt names those of which it is known otherwise that the contract refuses them. A
+function that is refused though nothing is wrong with it fails too.
 
     tests/mutants.py [CRATE..]          all crates, or these
     tests/mutants.py --fit [CRATE..]    says in a second which wrong bodies no longer fit, and tries none
@@ -28,6 +28,14 @@ TOP = os.path.dirname(os.path.dirname(os.path.realpath(__file__)))
 PARTS = ("src", "specs", "proofs")
 # What a check takes at most of memory, in bytes.
 NEED = 2_500_000_000
+# Rattle writes out what is to be proved of a function that it refuses, at the cost of half the check again, but not
+# where one of the function's answers does not read. It takes the others as ever, so such a one ends their file.
+UNREAD = "no_lines_wanted"
+UNREAD_ANSWER = f"\nabbrev {UNREAD} : NoLinesWanted\n{UNREAD} = tt\n"
+
+
+# What stands before the word `fn` of a function: attributes, and who may call it.
+ATTRIBUTES = re.compile(r"(?:#\[(?:[^][]|\[[^][]*\])*\]\s*)*(?:pub(?:\([^)]*\))?\s+)?(?:(?:const|unsafe)\s+)*\Z")
 
 
 class Unfit(Exception):
@@ -103,7 +111,7 @@ class Crate:
 
     def __init__(self, top, name):
         self.name, self.folder = name, os.path.join(top, "crates", name)
-        self.checks, self.seconds = 0, 0
+        self.checks = []
         self.edits, self.unfit = [], {}
         room = os.path.join(self.folder, "mutants")
         files = sorted(it for it in os.listdir(room) if it.endswith(".edit")) if os.path.isdir(room) else []
@@ -118,9 +126,18 @@ class Crate:
         """What its checks cost, roughly: the lines of its code, and some a wrong body."""
         return sum(it.count("\n") for it in self.sources.texts.values()) + 40 * len(self.edits)
 
+    def answers(self, path):
+        """Where the files of a function's proof stand."""
+        return os.path.join("proofs", *path.split("::")[1:])
+
+    def brief(self, group):
+        """The functions of a group that may have answers, and so one that does not read."""
+        paths = {path for edit in group for path in edit.paths()}
+        return {it for it in paths if not os.path.isfile(os.path.join(self.folder, self.answers(it), "Proof.antt"))}
+
     def answered(self, path):
         """The goals that the function's proof files have answers for; None where it has no such file."""
-        folder = os.path.join(self.folder, "proofs", *path.split("::")[1:])
+        folder = os.path.join(self.folder, self.answers(path))
         files = [os.path.join(folder, it) for it in os.listdir(folder)] if os.path.isdir(folder) else []
         files = [it for it in files if it.endswith(".antt") and os.path.isfile(it)]
         if not files:
@@ -133,15 +150,7 @@ class Crate:
 
     def groups(self):
         """The edits in as few groups as their functions allow: no function is changed twice in one."""
-        made = []
-        for edit in self.edits:
-            for group in made:
-                if not {path for it in group for path in it.paths()} & {*edit.paths()}:
-                    group.append(edit)
-                    break
-            else:
-                made.append([edit])
-        return made
+        return joined([], self.edits)
 
     def texts(self, group):
         """The files that a group changes, each with all its new bodies."""
@@ -202,28 +211,45 @@ class Checker:
         words += ["--logic-built", os.path.join(self.kit, "logic_built"), "--links", f"{crate.name}="]
         return [*words, "--jobs", str(jobs), "--incremental", kept]
 
-    def check(self, crate, group, jobs, kept):
-        """What rattle says of the crate with a group's bodies in place of its own."""
-        with tempfile.TemporaryDirectory(prefix="mutants-") as room:
+    def check(self, crate, group, brief, whole, jobs):
+        """What rattle says of the crate with a group's bodies in place of its own, of some functions in brief.
+
+        A check that isn't of the whole crate is of the changed functions and those that they call. Each has a copy of
+        what the crate's own check kept, since over what another one kept the bodies changed there are proved again.
+        """
+        with tempfile.TemporaryDirectory(prefix="mutants-") as top:
+            kept, room = os.path.join(top, "kept"), os.path.join(top, "crate")
+            own = os.path.join(crate.folder, "out", "incremental")
+            for folder in (kept, room):
+                os.mkdir(folder)
+            if os.path.isdir(own):
+                subprocess.run(["cp", "-a", f"{own}/.", kept], check=True)
             for part in PARTS:
                 if os.path.isdir(os.path.join(crate.folder, part)):
                     shutil.copytree(os.path.join(crate.folder, part), os.path.join(room, part))
             for file, text in crate.texts(group).items():
                 with open(os.path.join(room, file), "w", encoding="utf-8") as it:
                     it.write(text)
-            status, said = self.ran(crate, self.words(crate, jobs, kept), room)
+            for path in brief:
+                folder = os.path.join(room, crate.answers(path))
+                os.makedirs(folder, exist_ok=True)
+                with open(os.path.join(folder, "Answers.antt"), "a", encoding="utf-8") as it:
+                    it.write(UNREAD_ANSWER)
+            paths = [] if whole else sorted({path for edit in group for path in edit.paths()})
+            only = [word for path in paths for word in ("--only", path.partition("::")[2])]
+            status, said = self.ran(crate, group, self.words(crate, jobs, kept) + only, room)
             if status == -9 and jobs > 1:  # killed, most likely for memory
-                status, said = self.ran(crate, self.words(crate, 1, kept), room)
+                status, said = self.ran(crate, group, self.words(crate, 1, kept) + only, room)
         return said
 
-    def ran(self, crate, words, room):
+    def ran(self, crate, group, words, room):
         """The status of a command and what it says; its processor time is counted for the crate."""
         with tempfile.TemporaryFile("w+", errors="replace") as said:
             how = {"stdin": subprocess.DEVNULL, "stdout": said, "stderr": subprocess.STDOUT}
             with subprocess.Popen(words, cwd=room, **how) as it:
                 _, status, used = os.wait4(it.pid, 0)
                 it.returncode = os.waitstatus_to_exitcode(status)
-            crate.checks, crate.seconds = crate.checks + 1, crate.seconds + used.ru_utime + used.ru_stime
+            crate.checks.append((used.ru_utime + used.ru_stime, [it.name for it in group]))
             said.seek(0)
             return it.returncode, said.read()
 
@@ -239,8 +265,8 @@ class Said:
     WAITS = re.compile(r"(?m)^note: `search` has not tried the goals of `([^`]+)`, which wait for a callee's proof")
     FRONT = re.compile(r"(?m)^(?:\./)?(src/[^\s:]+):(\d+):\d+: error\S* (.*)$")
 
-    def __init__(self, crate, texts, said):
-        self.crate, self.text = crate, said
+    def __init__(self, crate, texts, said, brief=()):
+        self.crate, self.text, self.brief = crate, said, brief
         self.lines = {it[1]: (it[2], it[3].strip(": ")) for it in self.FUNCTION.finditer(said)}
         self.waiting = {*self.WAITS.findall(said)}
         self.places = {file: spans(crate.sources, file, text) for file, text in texts.items()}
@@ -267,8 +293,21 @@ class Said:
         return [it for it in self.lines if it == path or it.replace("::fn::", "::", 1).startswith(f"{path}::")]
 
     def refusals(self, path):
-        """Why a function or a closure in it is refused for its own sake."""
+        """Why a function or a closure in it is refused for its own sake; of one told of in brief, its open goals."""
+        if path in self.brief:
+            goals = [f"`{it}`" for it in self.open.get(path, {})]
+            told = f": `search` did not prove {', '.join(goals)}" if goals else ""
+            return [f"not proved{told}"] * bool(goals or self.misfits(path))
         return [why for why in map(self.why, self.of(path)) if why]
+
+    def misfits(self, path):
+        """Whether a stored answer of a function's does not fit its body."""
+        folder = re.escape(self.crate.answers(path))
+        return bool(re.search(rf"(?m)^(?:\./)?{folder}/.*: error(?!: `{UNREAD}`)", self.text))
+
+    def silent(self, edit):
+        """Whether a function of an edit was told of in brief, and nothing of it is open."""
+        return any(path in self.brief and not self.refusals(path) for path in edit.paths())
 
     def goals(self, path):
         """The open goals of a function but those of invariants, and whether values are known at which each is false."""
@@ -287,8 +326,7 @@ class Said:
         if stored is None:
             return True
         clauses = {clause_of(it) for it in stored}
-        folder = "/".join(path.split("::")[1:])
-        fits = keeps_shape and not re.search(rf"(?m)^(?:\./)?proofs/{re.escape(folder)}/.*: error", self.text)
+        fits = keeps_shape and not self.misfits(path)
         return any(
             false or clause_of(goal) not in clauses or fits and goal not in stored
             for goal, false in self.goals(path).items()
@@ -302,10 +340,11 @@ def clause_of(goal):
 
 
 def spans(sources, file, text):
-    """The functions of a text of a file, each with its first and last line."""
+    """The functions of a text of a file, each with its first line, where its attributes begin, and its last."""
     line = lambda place: text.count("\n", 0, place) + 1
     found = functions(text, sources.module_of(file))
-    return [(sources.path(it), line(it.begun), line(it.body[1])) for it in found]
+    head = lambda it: ATTRIBUTES.search(text, max(0, it.begun - 400), it.begun).start()
+    return [(sources.path(it), line(head(it)), line(it.body[1])) for it in found]
 
 
 def judged(crate, group, said, by_hand):
@@ -340,27 +379,41 @@ def tried(crate, checker, jobs, by_hand):
     if lacking:
         yield False, crate.name, f"no library of {', '.join(lacking)} is built: run rt ci first"
         return
-    with tempfile.TemporaryDirectory(prefix="mutants-kept-") as kept:
-        own = os.path.join(crate.folder, "out", "incremental")
-        if os.path.isdir(own):
-            subprocess.run(["cp", "-a", f"{own}/.", kept], check=True)
-        left, count = crate.groups(), 0
-        while left:
-            group, count = left.pop(0), count + 1
-            said = Said(crate, crate.texts(group), checker.check(crate, group, jobs, kept))
-            save(checker.top, f"{crate.name}-{count}.log", said.text)
-            if said.lines:
-                # Where a callee in the same check is refused too, some goals are not tried: such bodies have their own.
-                waiting = [it for it in group if len(group) > 1 and {*it.paths()} & said.waiting]
-                left += [waiting] if 0 < len(waiting) < len(group) else [[it] for it in waiting]
-                names = {f"{crate.name}/{it.name}" for it in waiting}
-                yield from (it for it in judged(crate, group, said, by_hand) if it[1] not in names)
-            else:
-                culprits = refused_unread(said, group)
-                for edit, why in culprits.items():
-                    yield False, f"{crate.name}/{edit.name}", f"it did not reach the prover: {why}"
-                rest = [it for it in group if it not in culprits]
-                left[:0] = [rest] * bool(rest)
+    left, full, whole = crate.groups(), set(), True
+    while left:
+        group = left.pop(0)
+        brief = crate.brief([it for it in group if it not in full])
+        said = Said(crate, crate.texts(group), checker.check(crate, group, brief, whole, jobs), brief)
+        save(checker.top, f"{crate.name}-{len(crate.checks)}.log", said.text)
+        if said.lines:
+            whole = False
+            # Where a callee in the same check is refused too, some goals are not tried: such bodies have another.
+            waiting = [it for it in group if len(group) > 1 and {*it.paths()} & said.waiting]
+            # Where nothing is open, it is told in full why: the body is proved, or refused in another way.
+            silent = [it for it in group if it not in waiting and said.silent(it)]
+            full.update(silent)
+            again = [*waiting, *silent]
+            left = joined(left, again) if len(again) < len(group) else left + [[it] for it in again]
+            names = {f"{crate.name}/{it.name}" for it in again}
+            yield from (it for it in judged(crate, group, said, by_hand) if it[1] not in names)
+        else:
+            culprits = refused_unread(said, group)
+            for edit, why in culprits.items():
+                yield False, f"{crate.name}/{edit.name}", f"it did not reach the prover: {why}"
+            rest = [it for it in group if it not in culprits]
+            left[:0] = [rest] * bool(rest)
+
+
+def joined(groups, edits):
+    """Groups of edits with more of them, each in the first group that changes no function that it changes."""
+    for edit in edits:
+        for group in groups:
+            if not {path for it in group for path in it.paths()} & {*edit.paths()}:
+                group.append(edit)
+                break
+        else:
+            groups.append([edit])
+    return groups
 
 
 def refused_unread(said, group):
@@ -416,8 +469,11 @@ def main(words):
         for crate, run in runs:
             found = run.result()
             count = len(crate.edits) + len(crate.unfit)
-            cost = f"checks {crate.checks}, {crate.seconds:.0f} s of processor"
+            cost = f"checks {len(crate.checks)}, {sum(cost for cost, _ in crate.checks):.0f} s of processor"
             print(f"-- {crate.name}: wrong bodies {count}, {cost}", flush=True)
+            for at, (cost, names) in enumerate(crate.checks, 1):
+                of = ", ".join(names[:8]) + " .." * (len(names) > 8)
+                print(f"   check {at}: {cost:.0f} s, wrong bodies {len(names)}: {of}", flush=True)
             for well, name, text in found:
                 print(f"{'refused' if well else 'FAILED'} {name}: {text[:400]}", flush=True)
                 passed, failed = passed + well, failed + (not well)

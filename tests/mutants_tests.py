@@ -137,6 +137,51 @@ def a_caller_is_not_blamed_for_its_callee():
     expect(small.judged(callee + caller), "small::fourfold", False, "nothing is wrong with it")
 
 
+def a_function_told_of_in_brief():
+    crate = Small("added-once").crate()
+    group = crate.groups()[0]
+    refused = f"fn {DOUBLED}: not proved\n"
+    note = "note: src/lib.rt:21:1: it is not proved that what the function ensures holds when it returns (`returns`)\n"
+    answers = "./proofs/doubled/Answers.antt:2:1: error: `"
+    for text, silent in (
+        (note + refused, False),
+        (refused, True),
+        (note.replace(":21:", ":27:") + refused, True),
+        (f"{answers}{mutants.UNREAD}`: `NoLinesWanted` is not in scope\n{refused}", True),
+        (f"{answers}returns`: `c.none` is not in scope\n{refused}", False),
+    ):
+        said = mutants.Said(crate, crate.texts(group), text, crate.brief(group))
+        same("whether nothing of it is open", said.silent(group[0]), silent)
+        same("how often it is refused", len(said.refusals(DOUBLED)), 0 if silent else 1)
+    same("whether it is silent where it is told of in full",
+         mutants.Said(crate, crate.texts(group), refused).silent(group[0]), False)
+
+
+def a_body_joins_the_first_group_that_leaves_its_functions_alone():
+    edits = Small("added-once", "nothing-said", "other-for-one", "same-sum").crate().edits
+    once, nothing, other, whole = edits
+    groups = mutants.joined([[once], [whole]], [once, nothing, other])
+    same("groups", [[it.name for it in group] for group in groups],
+         [["added-once", "nothing-said", "other-for-one"], ["same-sum", "added-once"]])
+
+
+def attributes_are_lines_of_their_function():
+    small = Small()
+    small.write("crates/small/src/at.rt", """
+fn one() {}
+
+/// Told of.
+#[tactic(auto, using(crate::proofs::At::lemma))]
+#[cycle(at)]
+pub(crate) fn other(a: [u8; 2]) -> u8 {
+    a[0]
+}
+""")
+    sources = Sources(small.crate().folder, "small")
+    same("lines", mutants.spans(sources, "src/at.rt", sources.texts["src/at.rt"]),
+         [("small::at::one", 2, 2), ("small::at::other", 5, 9)])
+
+
 def paths_as_rattle_prints_them():
     small = Small()
     small.write("crates/small/src/at/place.rt", """
@@ -201,6 +246,9 @@ if __name__ == "__main__":
         edits_that_no_longer_fit,
         no_function_changed_twice_in_a_check,
         a_caller_is_not_blamed_for_its_callee,
+        a_function_told_of_in_brief,
+        a_body_joins_the_first_group_that_leaves_its_functions_alone,
+        attributes_are_lines_of_their_function,
         paths_as_rattle_prints_them,
         a_body_keeps_its_shape,
         a_stored_proof_that_no_longer_fits,

@@ -8,7 +8,7 @@ use line_config::{Config, ReadlineError};
 use line_keys::{Bindings, Cmd, Decides, InputState, RawReader, Refresher};
 use std::alloc::Global;
 
-/// The command behind the next one.
+/// The command after the next one.
 pub fn second_cmd<R: RawReader, W: Refresher, D: Decides>(
     alloc: Global,
     input_state: &mut InputState<'_, D>,

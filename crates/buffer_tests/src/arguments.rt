@@ -5,7 +5,7 @@ use std::test::Fail;
 
 /// A call by its name, with what it was given, and what it is given by default.
 ///
-/// - A number is the count, and a second one the column behind the prompt.
+/// - A number is the count, and a second one the column after the prompt.
 /// - `fx`, `tx`, `Fx` and `Tx` are searches for the character `x`, as Vi has them.
 /// - `>2` indents by two columns, and `<2` takes two away.
 /// - `'ab'` is a text.

@@ -1,4 +1,4 @@
-//! Kills and copies by each movement, with the events that they tell. A row is a movement; behind `=` stand what it
+//! Kills and copies by each movement, with the events that they tell. A row is a movement; after `=` stand what it
 //! copies, whether it killed, the line then, and the events.
 
 use crate::arguments::Arguments;

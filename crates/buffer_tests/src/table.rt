@@ -125,7 +125,7 @@ fn moved(line: &mut LineBuffer, a: &Arguments<'_>) -> Option<bool> {
     })
 }
 
-/// The layout behind a prompt that ends at a column.
+/// The layout after a prompt that ends at a column.
 fn layout(a: &Arguments<'_>) -> Layout {
     let mut layout = Layout::new(a.mode);
     layout.prompt_size = Position {

@@ -233,7 +233,7 @@ fn written_by(rt: &(impl AllocGlobal + Abort), turns: &str, flushes: &str) -> Re
     Ok(format!(in rt.alloc(); "{taken}, {unsent}, {last}")?)
 }
 
-/// The turns at writes, and behind a bar those at flushes; what is taken, what stays unsent, and how the flush ends.
+/// The turns at writes, and after a bar those at flushes; what is taken, what stays unsent, and how the flush ends.
 #[test]
 fn writes_that_take_a_part_or_fail(rt: HostRuntime) -> Result<(), Fail> {
     let rows = "

@@ -10,7 +10,7 @@ use line_screen::ScreenRenderer;
 use std::alloc::Global;
 use std::env;
 
-/// A line on so many columns, with the line's text before the cursor, and what stands behind the line.
+/// A line on so many columns, with the line's text before the cursor, and what stands after the line.
 #[derive(Clone, Copy)]
 struct Case<'a> {
     columns: u16,

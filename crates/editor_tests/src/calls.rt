@@ -13,7 +13,7 @@ use std::alloc::{AllocError, Global};
 
 /// Writes each call down in words, parted by `; `. Places are rows and columns: `1,4` is the fifth column of the second
 /// row. `draw '> a|b{c}' at 0,3 to 0,5` is prompt, line with a bar at the cursor, and hint or message in braces, then the
-/// place of the cursor and the end. `below 2` stands behind it where the older drawing's cursor is in row 2, `fresh`
+/// place of the cursor and the end. `below 2` stands after it where the older drawing's cursor is in row 2, `fresh`
 /// where there is no older one, and `lit` where a highlighter is handed in.
 #[derive(Drop)]
 pub struct CallList {
@@ -29,7 +29,7 @@ pub struct CallList {
 }
 
 impl CallList {
-    ghost use Rattle.editor_tests.specs.Rulers.{ruler_of};
+    ghost use Rattle.editor_tests.specs.Rulers.{call_list_ruler};
 
     /// A display of so many columns, and of at least 2 and at most 1,000.
     pub fn new(alloc: Global, columns: Unit, colours: bool) -> Self {
@@ -50,14 +50,14 @@ impl CallList {
 
     /// Forgets the calls that were made.
     pub fn forget(&mut self)
-        ensures { ruler_of self.new ≡ ruler_of self.old }
+        ensures { call_list_ruler self.new ≡ call_list_ruler self.old }
     {
         self.calls = String::new(self.alloc);
     }
 
     /// Sets how many more calls are made, if not all.
     pub fn answer(&mut self, answered: Option<u32>)
-        ensures { ruler_of self.new ≡ ruler_of self.old }
+        ensures { call_list_ruler self.new ≡ call_list_ruler self.old }
     {
         self.answered = answered;
         self.failed = false;
@@ -65,7 +65,7 @@ impl CallList {
 
     // Whether one more call is made.
     fn answers(&mut self) -> bool
-        ensures { ruler_of self.new ≡ ruler_of self.old }
+        ensures { call_list_ruler self.new ≡ call_list_ruler self.old }
     {
         match self.answered {
             None => !self.failed,
@@ -78,7 +78,7 @@ impl CallList {
     }
 
     fn keep(&mut self, call: &str) -> Result<(), AllocError>
-        ensures { ruler_of self.new ≡ ruler_of self.old }
+        ensures { call_list_ruler self.new ≡ call_list_ruler self.old }
     {
         if !self.calls.is_empty() {
             self.calls.push_str("; ")?;
@@ -90,7 +90,7 @@ impl CallList {
     fn note(&mut self, call: Result<String, AllocError>) -> Result<(), ReadlineError>
         ensures fault { IfErr result (λ e. e ≡ Display) }
         ensures failed { OnErr result (IsTrue self.new.failed) }
-        ensures ruler { ruler_of self.new ≡ ruler_of self.old }
+        ensures ruler { call_list_ruler self.new ≡ call_list_ruler self.old }
     {
         if self.answers()
             && let Ok(call) = call
@@ -103,7 +103,7 @@ impl CallList {
     }
 }
 
-// The text that is drawn: prompt, line and what stands behind it.
+// The text that is drawn: prompt, line and what stands after it.
 fn drawn(
     alloc: Global,
     prompt: &str,
@@ -142,9 +142,9 @@ fn drawing(
 }
 
 impl Renderer for CallList {
-    ghost use Rattle.editor_tests.specs.Rulers.{canvas_of};
+    ghost use Rattle.editor_tests.specs.Rulers.{call_list_canvas};
 
-    ghost canvas = { canvas_of };
+    ghost canvas = { call_list_canvas };
 
     fn move_cursor(&mut self, old: Position, new: Position) -> Result<(), ReadlineError> {
         self.note(format!(in self.alloc; "move {},{} to {},{}", old.row, old.col, new.row, new.col))

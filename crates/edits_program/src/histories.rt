@@ -122,7 +122,7 @@ fn add_all(alloc: Global, size: usize, owned: bool) -> Came {
     }
 }
 
-/// Loads behind an entry that was saved. A refusal leaves the rows before it, which are new.
+/// Loads after an entry that was saved. A refusal leaves the rows before it, which are new.
 fn load(alloc: Global) -> Option<Came> {
     let mut history = with_saved(alloc, &["old"])?;
     let answer = history.load_from(alloc, &mut SliceSource::new(ESCAPED));

@@ -1,14 +1,14 @@
 //! Brackets: their matches, the line that shows one, and what validation says of them. A bar marks a place in a line.
 
+use crate::rows::{Player, rows_hold, trimmed};
 use line_config::{CompletionType, HookFault};
 use line_help::{
     Highlighter, MatchingBracketHighlighter, MatchingBracketValidator, ValidationContext,
     ValidationResult, Validator, check_bracket, find_matching_bracket, validate_brackets,
 };
 use line_keys::CmdKind;
-use stand_ins::tables::{call_and_answer, line_and_place, marked, meant, pictured, word_and_rest};
+use stand_ins::tables::{line_and_place, marked, meant, pictured, word_and_rest};
 use std::alloc::Global;
-use std::process::Abort;
 use std::test::Fail;
 
 // A bracket and the line that it stands in; the bracket that matches it, and where.
@@ -66,32 +66,49 @@ fn place_told(alloc: Global, line: &str, found: Option<(u8, usize)>) -> Result<S
     Ok(said)
 }
 
-#[test]
-fn matches_of_brackets(rt: HostRuntime) -> Result<(), Fail> {
-    for row in MATCHES.lines() {
-        if let Some((call, answer)) = call_and_answer(row) {
-            let (bracket, line) = word_and_rest(call);
-            let bracket = bracket.bytes().next().unwrap_or(b' ');
-            let (line, place) = line_and_place(rt.alloc(), line)?;
-            let found = find_matching_bracket(line.as_str(), place, bracket);
-            let said = place_told(rt.alloc(), line.as_str(), found)?;
-            assert_eq!(rt; said.as_str(), answer, "{row}");
+/// What the rows of a table ask.
+#[derive(Clone, Copy, Drop)]
+enum Ask {
+    Match,
+    AtTheCursor,
+    Brackets,
+    Validator,
+    NoValidator,
+}
+
+impl Player for Ask {
+    fn play(&mut self, alloc: Global, call: &str) -> Result<String, Fail> {
+        match self {
+            Ask::Match => match_told(alloc, call),
+            Ask::AtTheCursor => bracket_at_the_cursor(alloc, call),
+            _ => validated(alloc, *self, call),
         }
     }
-    Ok(())
+}
+
+// The bracket that matches a row's.
+fn match_told(alloc: Global, call: &str) -> Result<String, Fail> {
+    let (bracket, line) = word_and_rest(call);
+    let bracket = bracket.bytes().next().unwrap_or(b' ');
+    let (line, place) = line_and_place(alloc, line)?;
+    let found = find_matching_bracket(line.as_str(), place, bracket);
+    place_told(alloc, line.as_str(), found)
+}
+
+// The bracket at the cursor of a row's line, or before it.
+fn bracket_at_the_cursor(alloc: Global, line: &str) -> Result<String, Fail> {
+    let (line, place) = line_and_place(alloc, line)?;
+    place_told(alloc, line.as_str(), check_bracket(line.as_str(), place))
+}
+
+#[test]
+fn matches_of_brackets(rt: HostRuntime) -> Result<(), Fail> {
+    rows_hold(&rt, &mut Ask::Match, MATCHES)
 }
 
 #[test]
 fn brackets_at_the_cursor(rt: HostRuntime) -> Result<(), Fail> {
-    for row in AT_THE_CURSOR.lines() {
-        if let Some((call, answer)) = call_and_answer(row) {
-            let (line, place) = line_and_place(rt.alloc(), call)?;
-            let found = check_bracket(line.as_str(), place);
-            let said = place_told(rt.alloc(), line.as_str(), found)?;
-            assert_eq!(rt; said.as_str(), answer, "{row}");
-        }
-    }
-    Ok(())
+    rows_hold(&rt, &mut Ask::AtTheCursor, AT_THE_CURSOR)
 }
 
 // What a highlighter is told of a line before it is drawn, whether it marks something in it, and the line as it is drawn.
@@ -140,12 +157,12 @@ fn shown<H: Highlighter>(
     place: usize,
 ) -> Result<String, HookFault> {
     let shown = match call {
-        "prompt" => highlighter.highlight_prompt(alloc, text, true)?,
-        "hint" => highlighter.highlight_hint(alloc, text)?,
-        "candidate" => highlighter.highlight_candidate(alloc, text, CompletionType::List)?,
-        _ => highlighter.highlight(alloc, text, place)?,
+        "prompt" => highlighter.highlight_prompt(alloc, text, true),
+        "hint" => highlighter.highlight_hint(alloc, text),
+        "candidate" => highlighter.highlight_candidate(alloc, text, CompletionType::List),
+        _ => highlighter.highlight(alloc, text, place),
     };
-    Ok(pictured(alloc, shown.as_str())?)
+    Ok(pictured(alloc, shown?.as_str())?)
 }
 
 // Why the line is to be drawn, where a call tells of it.
@@ -158,37 +175,42 @@ fn kind_of(call: &str) -> Option<CmdKind> {
     }
 }
 
-// Makes each row's calls on the highlighter.
-fn highlights<H: Highlighter>(
-    rt: &(impl AllocGlobal + Abort),
-    highlighter: &mut H,
-    table: &str,
-) -> Result<(), Fail> {
-    for row in table.lines() {
-        if let Some((call, answer)) = call_and_answer(row) {
-            let (call, line) = word_and_rest(call);
-            let (line, place) = line_and_place(rt.alloc(), line)?;
-            let mut said = String::new(rt.alloc());
-            if let Some(kind) = kind_of(call) {
-                let marks = highlighter.highlight_char(line.as_str(), place, kind);
-                said.push_str(if marks { "marks " } else { "leaves " })?;
-            }
-            if call != "told" && call != "denied" {
-                let shown = shown(rt.alloc(), highlighter, call, line.as_str(), place)?;
-                said.push_str(shown.as_str())?;
-            }
-            assert_eq!(rt; said.as_str().trim(), answer, "{row}");
+/// A highlighter on which each row's calls are made.
+#[derive(Drop)]
+struct Asked<H> {
+    highlighter: H,
+}
+
+impl<H: Highlighter> Player for Asked<H> {
+    fn play(&mut self, alloc: Global, call: &str) -> Result<String, Fail> {
+        let (call, line) = word_and_rest(call);
+        let (line, place) = line_and_place(alloc, line)?;
+        let mut said = String::new(alloc);
+        if let Some(kind) = kind_of(call) {
+            let marks = self.highlighter.highlight_char(line.as_str(), place, kind);
+            said.push_str(if marks { "marks " } else { "leaves " })?;
         }
+        if call != "told" && call != "denied" {
+            let shown = shown(alloc, &self.highlighter, call, line.as_str(), place)?;
+            said.push_str(shown.as_str())?;
+        }
+        trimmed(alloc, said.as_str())
     }
-    Ok(())
+}
+
+fn for_brackets() -> Asked<MatchingBracketHighlighter> {
+    Asked {
+        highlighter: MatchingBracketHighlighter::new(),
+    }
 }
 
 #[test]
 fn texts_highlighted(rt: HostRuntime) -> Result<(), Fail> {
-    highlights(&rt, &mut MatchingBracketHighlighter::new(), LINES)?;
-    highlights(&rt, &mut MatchingBracketHighlighter::new(), KEPT_BRACKETS)?;
-    highlights(&rt, &mut MatchingBracketHighlighter::new(), OTHER_TEXTS)?;
-    highlights(&rt, &mut Box::new(rt.alloc(), ())?, NOTHING_HIGHLIGHTED)
+    rows_hold(&rt, &mut for_brackets(), LINES)?;
+    rows_hold(&rt, &mut for_brackets(), KEPT_BRACKETS)?;
+    rows_hold(&rt, &mut for_brackets(), OTHER_TEXTS)?;
+    let highlighter = Box::new(rt.alloc(), ())?;
+    rows_hold(&rt, &mut Asked { highlighter }, NOTHING_HIGHLIGHTED)
 }
 
 const VERDICTS: &str = "
@@ -232,39 +254,26 @@ fn verdict_told(alloc: Global, found: &ValidationResult) -> Result<String, Fail>
 }
 
 // What a validator says of a text.
-fn validated<V: Validator>(alloc: Global, validator: &V, text: &str) -> Result<String, Fail> {
+fn said_by<V: Validator>(alloc: Global, validator: &V, text: &str) -> Result<String, Fail> {
     let found = validator.validate(alloc, &ValidationContext::new(text))?;
     verdict_told(alloc, &found)
 }
 
-// Validates each row's text.
-fn validates<V: Validator>(
-    rt: &(impl AllocGlobal + Abort),
-    validator: &V,
-    table: &str,
-) -> Result<(), Fail> {
-    for row in table.lines() {
-        if let Some((text, answer)) = call_and_answer(row) {
-            let text = meant(rt.alloc(), text)?;
-            let said = validated(rt.alloc(), validator, text.as_str())?;
-            assert_eq!(rt; said.as_str(), answer, "{row}");
-        }
+// What is said of a row's text, by a validator or by the function alone.
+fn validated(alloc: Global, ask: Ask, text: &str) -> Result<String, Fail> {
+    let text = meant(alloc, text)?;
+    match ask {
+        Ask::Validator => said_by(alloc, &MatchingBracketValidator::new(), text.as_str()),
+        Ask::NoValidator => said_by(alloc, &(), text.as_str()),
+        _ => verdict_told(alloc, &validate_brackets(alloc, text.as_str())?),
     }
-    Ok(())
 }
 
 #[test]
 fn texts_validated(rt: HostRuntime) -> Result<(), Fail> {
-    for row in VERDICTS.lines() {
-        if let Some((text, answer)) = call_and_answer(row) {
-            let text = meant(rt.alloc(), text)?;
-            let found = validate_brackets(rt.alloc(), text.as_str())?;
-            let said = verdict_told(rt.alloc(), &found)?;
-            assert_eq!(rt; said.as_str(), answer, "{row}");
-        }
-    }
-    validates(&rt, &MatchingBracketValidator::new(), VERDICTS)?;
-    validates(&rt, &(), "    ( = valid")
+    rows_hold(&rt, &mut Ask::Brackets, VERDICTS)?;
+    rows_hold(&rt, &mut Ask::Validator, VERDICTS)?;
+    rows_hold(&rt, &mut Ask::NoValidator, "    ( = valid")
 }
 
 #[test]

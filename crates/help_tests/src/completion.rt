@@ -3,15 +3,14 @@ ghost use Rattle.std.specs.Prelude.{◌≡◌, List, ℕ, [], true, false, map, 
 ghost use Rattle.line_config.specs.declared.errors.HookFault.TheVariants.{Memory};
 ghost use Rattle.line_help.specs.FileNames.{Named};
 
+use crate::rows::{Player, rows_hold, trimmed};
 use line_buffer::{LineBuffer, NoListener};
 use line_config::HookFault;
 use line_help::{
     Candidate, Completer, Context, FilenameCompleter, Listed, Lister, MemHistory, Pair, Quote,
     escape, extract_word, longest_common_prefix, unescape,
 };
-use stand_ins::tables::{
-    call_and_answer, line_and_place, marked, meant, or_nothing, word_and_rest,
-};
+use stand_ins::tables::{call_and_answer, line_and_place, marked, meant, word_and_rest};
 use std::alloc::Global;
 use std::process::Abort;
 use std::test::Fail;
@@ -87,7 +86,7 @@ impl Lister for Broken {
     }
 }
 
-// The line with a bar where the completed word begins, and behind it each candidate with its replacement.
+// The line with a bar where the completed word begins, and after it each candidate with its replacement.
 fn told<C: Candidate>(
     alloc: Global,
     line: &str,
@@ -102,7 +101,26 @@ fn told<C: Candidate>(
     Ok(said)
 }
 
-// Completes each row's line at its end, by the name of the call.
+/// Completes each row's line at its end, by the name of the call.
+#[derive(Drop)]
+struct PathCompleter {
+    completer: FilenameCompleter<Folder>,
+}
+
+impl Player for PathCompleter {
+    fn play(&mut self, alloc: Global, call: &str) -> Result<String, Fail> {
+        let (call, line) = word_and_rest(call);
+        let found = match call {
+            "sorted" => self.completer.complete_path(alloc, line, line.len()),
+            _ => self
+                .completer
+                .complete_path_unsorted(alloc, line, line.len()),
+        };
+        let (start, pairs) = found?;
+        told(alloc, line, start, &pairs)
+    }
+}
+
 fn completes_paths(
     rt: &(impl AllocGlobal + Abort),
     path: &'static str,
@@ -110,18 +128,7 @@ fn completes_paths(
     table: &str,
 ) -> Result<(), Fail> {
     let completer = FilenameCompleter::new(Folder { path, names });
-    for row in table.lines() {
-        if let Some((call, answer)) = call_and_answer(row) {
-            let (call, line) = word_and_rest(call);
-            let (start, pairs) = match call {
-                "sorted" => completer.complete_path(rt.alloc(), line, line.len())?,
-                _ => completer.complete_path_unsorted(rt.alloc(), line, line.len())?,
-            };
-            let said = told(rt.alloc(), line, start, &pairs)?;
-            assert_eq!(rt; said.as_str(), answer, "{row}");
-        }
-    }
-    Ok(())
+    rows_hold(rt, &mut PathCompleter { completer }, table)
 }
 
 const IN_USR: &str = r#"
@@ -221,7 +228,7 @@ fn candidates_copied(rt: HostRuntime) -> Result<(), Fail> {
     Ok(())
 }
 
-// A line in which the text from `[` to the cursor is replaced by what stands behind the colon; the line then.
+// A line in which the text from `[` to the cursor is replaced by what stands after the colon; the line then.
 const UPDATES: &str = "
     cat [lo| x : log  = cat log| x
     cat [log| x :     = cat | x
@@ -315,26 +322,41 @@ fn made(alloc: Global, call: &str, esc: Option<char>, text: &str) -> Result<Stri
     Ok(escape(alloc, input, esc, ends_word, quote)?)
 }
 
-#[test]
-fn words_and_escapes(rt: HostRuntime) -> Result<(), Fail> {
-    for row in WORDS.lines() {
-        if let Some((call, answer)) = call_and_answer(row) {
-            let (call, rest) = word_and_rest(call);
-            let (esc, text) = word_and_rest(rest);
-            let esc = if esc == "none" {
-                None
-            } else {
-                esc.chars().next()
-            };
-            let text = meant(rt.alloc(), text)?;
-            let said = made(rt.alloc(), call, esc, text.as_str())?;
-            assert_eq!(rt; or_nothing(said.as_str().trim()), answer, "{row}");
-        }
-    }
-    Ok(())
+/// What the rows of a table ask.
+#[derive(Clone, Copy, Drop)]
+enum Ask {
+    Words,
+    CommonPrefixes,
 }
 
-// Candidates, with a semicolon behind each, and what all of them begin with.
+impl Player for Ask {
+    fn play(&mut self, alloc: Global, call: &str) -> Result<String, Fail> {
+        match self {
+            Ask::Words => made_of_row(alloc, call),
+            Ask::CommonPrefixes => common_prefix(alloc, call),
+        }
+    }
+}
+
+// What a row's call makes of its text.
+fn made_of_row(alloc: Global, call: &str) -> Result<String, Fail> {
+    let (call, rest) = word_and_rest(call);
+    let (esc, text) = word_and_rest(rest);
+    let esc = if esc == "none" {
+        None
+    } else {
+        esc.chars().next()
+    };
+    let text = meant(alloc, text)?;
+    trimmed(alloc, made(alloc, call, esc, text.as_str())?.as_str())
+}
+
+#[test]
+fn words_and_escapes(rt: HostRuntime) -> Result<(), Fail> {
+    rows_hold(&rt, &mut Ask::Words, WORDS)
+}
+
+// Candidates, with a semicolon after each, and what all of them begin with.
 const COMMON_PREFIXES: &str = "
                             = none
     User;                   = User
@@ -346,18 +368,18 @@ const COMMON_PREFIXES: &str = "
     漢字b; 漢字ab; 漢字a;      = 漢字
 ";
 
+// What a row's candidates begin with.
+fn common_prefix(alloc: Global, texts: &str) -> Result<String, Fail> {
+    let mut candidates: Vec<&str> = Vec::new(alloc);
+    for text in texts.split_terminator(';') {
+        candidates.push(text.trim())?;
+    }
+    let prefix = longest_common_prefix(&candidates).unwrap_or("none");
+    Ok(String::from_str(alloc, prefix)?)
+}
+
 #[test]
 fn common_prefixes(rt: HostRuntime) -> Result<(), Fail> {
-    for row in COMMON_PREFIXES.lines() {
-        if let Some((texts, answer)) = call_and_answer(row) {
-            let mut candidates: Vec<&str> = Vec::new(rt.alloc());
-            for text in texts.split_terminator(';') {
-                candidates.push(text.trim())?;
-            }
-            let said = longest_common_prefix(&candidates).map_or("none", or_nothing);
-            assert_eq!(rt; said, answer, "{row}");
-        }
-    }
     assert_eq!(rt; "text".display(), "text");
-    Ok(())
+    rows_hold(&rt, &mut Ask::CommonPrefixes, COMMON_PREFIXES)
 }

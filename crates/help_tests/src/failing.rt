@@ -1,11 +1,11 @@
 //! Devices that fail at each byte in turn, and what a history is then.
 
 use crate::history::{answer_told, entries, saved, with_lines};
+use crate::rows::{Player, rows_hold};
 use line_config::{Config, DeviceFailed, ReadlineError, Sink, SliceSource, Source, VecSink};
 use line_help::{FileHistory, History};
-use stand_ins::tables::{call_and_answer, meant_bytes, or_nothing, pictured_bytes, word_and_rest};
+use stand_ins::tables::{meant_bytes, or_nothing, pictured_bytes, word_and_rest};
 use std::alloc::Global;
-use std::process::Abort;
 use std::test::Fail;
 
 /// A sink that has room for so many bytes and one flush, which takes the place of a byte.
@@ -111,61 +111,79 @@ impl Sink for Barred {
     }
 }
 
-// What the history `old` is after a source that failed behind these bytes: its entries, and what of them is new.
+// What the history `old` answers to a source that fails after these bytes, its entries then, and what of them is new.
 const CUT_TEXTS: &str = r"
-                            = old|
-    #                       = old|
-    #V                      = old|
-    #V2                     = old|
-    #V2␊                    = old|
-    #V2␊a                   = old|
-    #V2␊a\                  = old|
-    #V2␊a\n                 = old|
-    #V2␊a\nb                = old|
-    #V2␊a\nb␊               = old|a␊b|, new a\nb␊
-    #V2␊a\nb␊c              = old|a␊b|, new a\nb␊
-    #V2␊a\nb␊c␊             = old|a␊b|c|, new a\nb␊c␊
-    #V2␊a\nb␊c␊d            = old|a␊b|c|, new a\nb␊c␊
+                            = Reader old|
+    #                       = Reader old|
+    #V                      = Reader old|
+    #V2                     = Reader old|
+    #V2␊                    = Reader old|
+    #V2␊a                   = Reader old|
+    #V2␊a\                  = Reader old|
+    #V2␊a\n                 = Reader old|
+    #V2␊a\nb                = Reader old|
+    #V2␊a\nb␊               = Reader old|a␊b|, new a\nb␊
+    #V2␊a\nb␊c              = Reader old|a␊b|, new a\nb␊
+    #V2␊a\nb␊c␊             = Reader old|a␊b|c|, new a\nb␊c␊
+    #V2␊a\nb␊c␊d            = Reader old|a␊b|c|, new a\nb␊c␊
 ";
 
-// What a history answers twice to such a source, its entries after both, and what of them is new.
+// What a history answers to such a source, and its entries then.
+fn refused(
+    alloc: Global,
+    history: &mut FileHistory,
+    source: &mut SliceSource<'_>,
+) -> Result<String, Fail> {
+    let answer = answer_told(history.load_from(alloc, source));
+    let entries = entries(alloc, history)?;
+    let failed = if source.failed() {
+        ""
+    } else {
+        " at no failure"
+    };
+    Ok(format!(in alloc; "{answer}{failed} {entries}")?)
+}
+
+// What a history answers twice to a source that fails after these bytes, and what of its entries is new.
 fn after_failing_source(
-    rt: &(impl AllocGlobal + Abort),
+    alloc: Global,
     history: &mut FileHistory,
     bytes: &[u8],
 ) -> Result<String, Fail> {
     let mut source = SliceSource::failing_after(bytes);
-    let first = history.load_from(rt.alloc(), &mut source);
-    assert!(rt; first == Err(ReadlineError::Reader) && source.failed());
-    let left = entries(rt.alloc(), history)?;
-    let second = history.load_from(rt.alloc(), &mut source);
-    assert!(rt; second == Err(ReadlineError::Reader));
-    assert_eq!(rt; entries(rt.alloc(), history)?, left);
-    let mut said = left;
-    let mut sink = VecSink::new(rt.alloc());
+    let mut said = refused(alloc, history, &mut source)?;
+    let second = refused(alloc, history, &mut source)?;
+    if second != said {
+        write!(said, ", then {second}")?;
+    }
+    let mut sink = VecSink::new(alloc);
     history.append_to(&mut sink)?;
-    let new = pictured_bytes(rt.alloc(), sink.bytes())?;
+    let new = pictured_bytes(alloc, sink.bytes())?;
     if !new.is_empty() {
         write!(said, ", new {new}")?;
     }
     Ok(said)
 }
 
-#[test]
-fn sources_that_fail_at_each_byte(rt: HostRuntime) -> Result<(), Fail> {
-    for row in CUT_TEXTS.lines() {
-        if let Some((text, answer)) = call_and_answer(row) {
-            let mut history = with_lines(rt.alloc(), "old|")?;
-            let _ = saved(rt.alloc(), &mut history)?;
-            let bytes = meant_bytes(rt.alloc(), text)?;
-            let said = after_failing_source(&rt, &mut history, &bytes)?;
-            assert_eq!(rt; said.as_str(), answer, "{row}");
-        }
+/// Sources that fail after each row's bytes.
+#[derive(Drop)]
+struct CutTexts;
+
+impl Player for CutTexts {
+    fn play(&mut self, alloc: Global, text: &str) -> Result<String, Fail> {
+        let mut history = with_lines(alloc, "old|")?;
+        let _ = saved(alloc, &mut history)?;
+        let bytes = meant_bytes(alloc, text)?;
+        after_failing_source(alloc, &mut history, &bytes)
     }
-    Ok(())
 }
 
-/// A row that isn't UTF-8 is met before the failure behind it.
+#[test]
+fn sources_that_fail_at_each_byte(rt: HostRuntime) -> Result<(), Fail> {
+    rows_hold(&rt, &mut CutTexts, CUT_TEXTS)
+}
+
+/// A row that isn't UTF-8 is met before the failure after it.
 #[test]
 fn bad_rows_before_a_failure(rt: HostRuntime) -> Result<(), Fail> {
     let mut history = FileHistory::new(rt.alloc());
@@ -179,21 +197,38 @@ fn bad_rows_before_a_failure(rt: HostRuntime) -> Result<(), Fail> {
     Ok(())
 }
 
-// A save to a sink with room for so many bytes, the first and the last such number: what it answers twice, the entries
-// then, and what a further save writes.
+// A save to a sink with room for so many bytes: what it answers twice, the entries then, and what a further save writes.
 const SAVES: &str = r"
-    0 12    = HistoryText, HistoryText, a\|b␊|, #V2␊a\\␊b\n␊
-    13 13   = fine, fine, a\|b␊|, nothing
+    0       = HistoryText, HistoryText, a\|b␊|, #V2␊a\\␊b\n␊
+    1       = HistoryText, HistoryText, a\|b␊|, #V2␊a\\␊b\n␊
+    2       = HistoryText, HistoryText, a\|b␊|, #V2␊a\\␊b\n␊
+    3       = HistoryText, HistoryText, a\|b␊|, #V2␊a\\␊b\n␊
+    4       = HistoryText, HistoryText, a\|b␊|, #V2␊a\\␊b\n␊
+    5       = HistoryText, HistoryText, a\|b␊|, #V2␊a\\␊b\n␊
+    6       = HistoryText, HistoryText, a\|b␊|, #V2␊a\\␊b\n␊
+    7       = HistoryText, HistoryText, a\|b␊|, #V2␊a\\␊b\n␊
+    8       = HistoryText, HistoryText, a\|b␊|, #V2␊a\\␊b\n␊
+    9       = HistoryText, HistoryText, a\|b␊|, #V2␊a\\␊b\n␊
+    10      = HistoryText, HistoryText, a\|b␊|, #V2␊a\\␊b\n␊
+    11      = HistoryText, HistoryText, a\|b␊|, #V2␊a\\␊b\n␊
+    12      = HistoryText, HistoryText, a\|b␊|, #V2␊a\\␊b\n␊
+    13      = fine, fine, a\|b␊|, nothing
 ";
 
-// The same of an addition behind a saved text.
+// The same of an addition after a saved text.
 const ADDITIONS: &str = r"
-    0 6     = HistoryText, HistoryText, a|b␊|c|, b\n␊c␊
-    7 7     = fine, fine, a|b␊|c|, nothing
+    0       = HistoryText, HistoryText, a|b␊|c|, b\n␊c␊
+    1       = HistoryText, HistoryText, a|b␊|c|, b\n␊c␊
+    2       = HistoryText, HistoryText, a|b␊|c|, b\n␊c␊
+    3       = HistoryText, HistoryText, a|b␊|c|, b\n␊c␊
+    4       = HistoryText, HistoryText, a|b␊|c|, b\n␊c␊
+    5       = HistoryText, HistoryText, a|b␊|c|, b\n␊c␊
+    6       = HistoryText, HistoryText, a|b␊|c|, b\n␊c␊
+    7       = fine, fine, a|b␊|c|, nothing
 ";
 
 /// Where the text of a history goes.
-#[derive(Clone, Copy)]
+#[derive(Clone, Copy, Drop)]
 enum Way {
     Save,
     Append,
@@ -214,21 +249,23 @@ fn write_to<S: Sink>(way: Way, history: &mut FileHistory, sink: &mut S) -> &'sta
 
 // What happens with so much room.
 fn with_room(
-    rt: &(impl AllocGlobal + Abort),
+    alloc: Global,
     way: Way,
     history: &mut FileHistory,
     room: usize,
 ) -> Result<String, Fail> {
     let mut sink = Narrow::new(room);
     let first = write_to(way, history, &mut sink);
-    assert_eq!(rt; sink.failed(), first != "fine");
+    if sink.failed() == (first == "fine") {
+        return Err(Fail::new("a sink's failure is answered, and nothing else"));
+    }
     let second = write_to(way, history, &mut sink);
-    let entries = entries(rt.alloc(), history)?;
-    let mut rest = VecSink::new(rt.alloc());
+    let entries = entries(alloc, history)?;
+    let mut rest = VecSink::new(alloc);
     let _ = write_to(way, history, &mut rest);
-    let rest = pictured_bytes(rt.alloc(), rest.bytes())?;
+    let rest = pictured_bytes(alloc, rest.bytes())?;
     let rest = or_nothing(rest.as_str());
-    Ok(format!(in rt.alloc(); "{first}, {second}, {entries}, {rest}")?)
+    Ok(format!(in alloc; "{first}, {second}, {entries}, {rest}")?)
 }
 
 // A history with entries that are to be written.
@@ -245,25 +282,17 @@ fn to_be_written(alloc: Global, way: Way) -> Result<FileHistory, Fail> {
     }
 }
 
-// Tries each room of each row.
-fn fills(rt: &(impl AllocGlobal + Abort), way: Way, table: &str) -> Result<(), Fail> {
-    for row in table.lines() {
-        if let Some((rooms, answer)) = call_and_answer(row) {
-            let (first, last) = rooms.split_once(' ').ok_or("no rooms")?;
-            for room in first.parse::<usize>()?..=last.parse()? {
-                let mut history = to_be_written(rt.alloc(), way)?;
-                let said = with_room(rt, way, &mut history, room)?;
-                assert_eq!(rt; said.as_str(), answer, "room for {room} bytes");
-            }
-        }
+impl Player for Way {
+    fn play(&mut self, alloc: Global, room: &str) -> Result<String, Fail> {
+        let mut history = to_be_written(alloc, *self)?;
+        with_room(alloc, *self, &mut history, room.parse()?)
     }
-    Ok(())
 }
 
 #[test]
 fn sinks_that_fail_at_each_byte(rt: HostRuntime) -> Result<(), Fail> {
-    fills(&rt, Way::Save, SAVES)?;
-    fills(&rt, Way::Append, ADDITIONS)
+    rows_hold(&rt, &mut Way::Save, SAVES)?;
+    rows_hold(&rt, &mut Way::Append, ADDITIONS)
 }
 
 /// A sink that has failed isn't asked where nothing is new.
@@ -293,33 +322,39 @@ const PASSED_ON: &str = "
     save        = #V2␊ab␊cd␊ef␊g␊h␊|
 ";
 
-fn call_made(
-    alloc: Global,
-    history: &mut FileHistory,
-    sink: &mut Barred,
-    call: &str,
-) -> Result<(), ReadlineError> {
-    let (call, line) = word_and_rest(call);
-    match call {
-        "save" => history.save_to(sink),
-        "append" => history.append_to(sink),
-        _ => history.add(alloc, line).map(|_| ()),
+/// A history and its sink.
+#[derive(Drop)]
+struct Desk {
+    history: FileHistory,
+    sink: Barred,
+}
+
+impl Desk {
+    fn made(&mut self, alloc: Global, call: &str) -> Result<(), ReadlineError> {
+        let (call, line) = word_and_rest(call);
+        match call {
+            "save" => self.history.save_to(&mut self.sink),
+            "append" => self.history.append_to(&mut self.sink),
+            _ => self.history.add(alloc, line).map(|_| ()),
+        }
+    }
+}
+
+impl Player for Desk {
+    fn play(&mut self, alloc: Global, call: &str) -> Result<String, Fail> {
+        let before = self.sink.written.len();
+        self.made(alloc, call)?;
+        let Some(written) = self.sink.written.get(before..) else {
+            return Err(Fail::new("less is written than before"));
+        };
+        Ok(pictured_bytes(alloc, written)?)
     }
 }
 
 /// All rows of a call are passed on at once, after the last of them.
 #[test]
 fn rows_are_passed_on_at_their_end(rt: HostRuntime) -> Result<(), Fail> {
-    let mut history = FileHistory::new(rt.alloc());
-    let mut sink = Barred::new(rt.alloc());
-    for row in PASSED_ON.lines() {
-        if let Some((call, answer)) = call_and_answer(row) {
-            let before = sink.written.len();
-            call_made(rt.alloc(), &mut history, &mut sink, call)?;
-            let written = sink.written.get(before..).unwrap_or(b"?");
-            let said = pictured_bytes(rt.alloc(), written)?;
-            assert_eq!(rt; or_nothing(said.as_str()), answer, "{row}");
-        }
-    }
-    Ok(())
+    let history = FileHistory::new(rt.alloc());
+    let sink = Barred::new(rt.alloc());
+    rows_hold(&rt, &mut Desk { history, sink }, PASSED_ON)
 }

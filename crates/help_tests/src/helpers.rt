@@ -5,6 +5,7 @@ ghost use Rattle.line_help.specs.Completion.{nothing_offered};
 ghost use Rattle.line_config.specs.declared.errors.HookFault.{HookFault};
 ghost use Rattle.line_help.specs.declared.validate.ValidationResult.TheVariants.{Valid};
 
+use crate::rows::{Player, rows_hold};
 use line_buffer::{ChangeListener, LineBuffer};
 use line_config::{CompletionType, HookFault};
 use line_help::{
@@ -13,7 +14,7 @@ use line_help::{
     ValidationResult, Validator,
 };
 use line_keys::CmdKind;
-use stand_ins::tables::{call_and_answer, meant, pictured, word_and_rest};
+use stand_ins::tables::{meant, pictured, word_and_rest};
 use std::alloc::Global;
 use std::borrow::CowStr;
 use std::process::Abort;
@@ -312,11 +313,11 @@ fn drawn<H: Helper>(
     text: &str,
 ) -> Result<String, HookFault> {
     let shown = match call {
-        "prompt" => helper.highlight_prompt(alloc, text, true)?,
-        "hint_shown" => helper.highlight_hint(alloc, text)?,
-        _ => helper.highlight(alloc, text, text.len())?,
+        "prompt" => helper.highlight_prompt(alloc, text, true),
+        "hint_shown" => helper.highlight_hint(alloc, text),
+        _ => helper.highlight(alloc, text, text.len()),
     };
-    let shown = pictured(alloc, shown.as_str())?;
+    let shown = pictured(alloc, shown?.as_str())?;
     Ok(format!(in alloc; "\"{shown}\"")?)
 }
 
@@ -356,28 +357,35 @@ fn asked<H: Helper>(
     }
 }
 
-// Asks a helper each row's question, with one entry in the history.
-fn answers<H: Helper>(
+/// A helper that is asked each row's question, with a history.
+#[derive(Drop)]
+struct Answering<H> {
+    helper: H,
+    history: MemHistory,
+}
+
+impl<H: Helper> Player for Answering<H> {
+    fn play(&mut self, alloc: Global, call: &str) -> Result<String, Fail> {
+        let (call, text) = word_and_rest(call);
+        let text = meant(alloc, text)?;
+        let context = Context::new(&self.history);
+        match asked(alloc, &mut self.helper, call, text.as_str(), &context) {
+            Ok(said) => Ok(said),
+            Err(fault) => Ok(format!(in alloc; "{fault:?}")?),
+        }
+    }
+}
+
+// Asks a helper, with one entry in the history.
+fn answers<H: Helper + Drop>(
     rt: &(impl AllocGlobal + Abort),
-    helper: &mut H,
+    helper: H,
     entry: &str,
     table: &str,
 ) -> Result<(), Fail> {
     let mut history = MemHistory::new(rt.alloc());
     history.add(rt.alloc(), entry)?;
-    for row in table.lines() {
-        if let Some((call, answer)) = call_and_answer(row) {
-            let (call, text) = word_and_rest(call);
-            let text = meant(rt.alloc(), text)?;
-            let context = Context::new(&history);
-            let said = match asked(rt.alloc(), helper, call, text.as_str(), &context) {
-                Ok(said) => said,
-                Err(fault) => format!(in rt.alloc(); "{fault:?}")?,
-            };
-            assert_eq!(rt; said.as_str(), answer, "{row}");
-        }
-    }
-    Ok(())
+    rows_hold(rt, &mut Answering { helper, history }, table)
 }
 
 fn make_helper() -> Whole {
@@ -421,10 +429,10 @@ const WANTS_MEMORY: &str = "
 
 #[test]
 fn what_helpers_answer(rt: HostRuntime) -> Result<(), Fail> {
-    answers(&rt, &mut make_helper(), "(hello)", EVERYTHING)?;
-    answers(&rt, &mut (), "hello", NOTHING)?;
-    answers(&rt, &mut Refusing { fails: true }, "a", FAILED)?;
-    answers(&rt, &mut Refusing { fails: false }, "a", WANTS_MEMORY)
+    answers(&rt, make_helper(), "(hello)", EVERYTHING)?;
+    answers(&rt, (), "hello", NOTHING)?;
+    answers(&rt, Refusing { fails: true }, "a", FAILED)?;
+    answers(&rt, Refusing { fails: false }, "a", WANTS_MEMORY)
 }
 
 // A prompt in both versions.
@@ -433,13 +441,28 @@ fn both_texts<P: Prompt>(alloc: Global, prompt: &P) -> Result<String, Fail> {
     Ok(format!(in alloc; "\"{raw}\" \"{styled}\"")?)
 }
 
+// The type of a prompt, and its versions.
+const PROMPTS: &str = r#"
+    str     = "> " "> "
+    String  = "é " "é "
+    pair    = "> " "␛[1m> ␛[m"
+"#;
+
+/// A prompt of each type.
+#[derive(Drop)]
+struct Prompts;
+
+impl Player for Prompts {
+    fn play(&mut self, alloc: Global, call: &str) -> Result<String, Fail> {
+        match call {
+            "str" => both_texts(alloc, &"> "),
+            "String" => both_texts(alloc, &String::from_str(alloc, "é ")?),
+            _ => both_texts(alloc, &("> ", "\x1b[1m> \x1b[m")),
+        }
+    }
+}
+
 #[test]
 fn prompts_in_both_versions(rt: HostRuntime) -> Result<(), Fail> {
-    let text = both_texts(rt.alloc(), &"> ")?;
-    assert_eq!(rt; text.as_str(), r#""> " "> ""#);
-    let text = both_texts(rt.alloc(), &String::from_str(rt.alloc(), "é ")?)?;
-    assert_eq!(rt; text.as_str(), r#""é " "é ""#);
-    let text = both_texts(rt.alloc(), &("> ", "\x1b[1m> \x1b[m"))?;
-    assert_eq!(rt; text.as_str(), r#""> " "␛[1m> ␛[m""#);
-    Ok(())
+    rows_hold(&rt, &mut Prompts, PROMPTS)
 }

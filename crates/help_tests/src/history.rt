@@ -1,19 +1,18 @@
-//! Histories, call by call. An entry has a bar behind it.
+//! Histories, call by call. An entry has a bar after it.
 
+use crate::rows::{Player, rows_hold, trimmed};
 use line_config::{Config, Configurer, ReadlineError, SliceSource, VecSink};
 use line_help::{
     Context, FileHistory, Hint, Hinter, History, HistoryHinter, MemHistory, SearchDirection,
     SearchResult,
 };
 use stand_ins::tables::{
-    call_and_answer, line_and_place, marked, meant, meant_bytes, or_nothing, pictured,
-    pictured_bytes, word_and_rest,
+    line_and_place, marked, meant, meant_bytes, pictured, pictured_bytes, word_and_rest,
 };
 use std::alloc::Global;
-use std::process::Abort;
 use std::test::Fail;
 
-/// The entries of a history, a bar behind each.
+/// The entries of a history, a bar after each.
 pub(crate) fn entries<H: History>(alloc: Global, history: &H) -> Result<String, Fail> {
     let mut text = String::new(alloc);
     for index in 0..history.len() {
@@ -80,16 +79,32 @@ fn loaded(alloc: Global, history: &mut FileHistory, text: &[u8]) -> Result<Strin
     Ok(format!(in alloc; "{answer} {entries}{mark}{new}")?)
 }
 
-#[test]
-fn texts_that_are_loaded(rt: HostRuntime) -> Result<(), Fail> {
-    for row in LOADED.lines() {
-        if let Some((text, answer)) = call_and_answer(row) {
-            let text = meant_bytes(rt.alloc(), text)?;
-            let said = loaded(rt.alloc(), &mut FileHistory::new(rt.alloc()), &text)?;
-            assert_eq!(rt; said.as_str().trim(), answer, "{row}");
+/// What the rows of a table ask.
+#[derive(Clone, Copy, Drop)]
+enum Ask {
+    Loaded,
+    Settings,
+}
+
+impl Player for Ask {
+    fn play(&mut self, alloc: Global, call: &str) -> Result<String, Fail> {
+        match self {
+            Ask::Loaded => loaded_anew(alloc, call),
+            Ask::Settings => loaded_under(alloc, call),
         }
     }
-    Ok(())
+}
+
+// What a new history answers to a row's text.
+fn loaded_anew(alloc: Global, text: &str) -> Result<String, Fail> {
+    let text = meant_bytes(alloc, text)?;
+    let said = loaded(alloc, &mut FileHistory::new(alloc), &text)?;
+    trimmed(alloc, said.as_str())
+}
+
+#[test]
+fn texts_that_are_loaded(rt: HostRuntime) -> Result<(), Fail> {
+    rows_hold(&rt, &mut Ask::Loaded, LOADED)
 }
 
 // A text that is loaded by histories with these settings: the most entries, and what is ignored.
@@ -106,24 +121,24 @@ const SETTINGS: &str = "
     0                   = part
 ";
 
+// What a history with a row's settings answers to the text, and its entries then.
+fn loaded_under(alloc: Global, settings: &str) -> Result<String, Fail> {
+    let (size, ignored) = word_and_rest(settings);
+    let mut history = FileHistory::new(alloc);
+    history.set_max_len(size.parse()?);
+    history.ignore_space(ignored.contains("spaces"));
+    history.ignore_dups(ignored.contains("repeated"));
+    let text = meant_bytes(alloc, SETTINGS_TEXT)?;
+    let answered = answer_told(history.load_from(alloc, &mut SliceSource::new(&text)));
+    let entries = entries(alloc, &history)?;
+    let said = format!(in alloc; "{answered} {entries}")?;
+    trimmed(alloc, said.as_str())
+}
+
 /// Loading goes by the history's own settings, as adding does.
 #[test]
 fn texts_under_other_settings(rt: HostRuntime) -> Result<(), Fail> {
-    let text = meant_bytes(rt.alloc(), SETTINGS_TEXT)?;
-    for row in SETTINGS.lines() {
-        if let Some((settings, answer)) = call_and_answer(row) {
-            let (size, ignored) = word_and_rest(settings);
-            let mut history = FileHistory::new(rt.alloc());
-            history.set_max_len(size.parse()?);
-            history.ignore_space(ignored.contains("spaces"));
-            history.ignore_dups(ignored.contains("repeated"));
-            let answered = answer_told(history.load_from(rt.alloc(), &mut SliceSource::new(&text)));
-            let entries = entries(rt.alloc(), &history)?;
-            let said = format!(in rt.alloc(); "{answered} {entries}")?;
-            assert_eq!(rt; said.as_str().trim(), answer, "{row}");
-        }
-    }
-    Ok(())
+    rows_hold(&rt, &mut Ask::Settings, SETTINGS)
 }
 
 /// The settings of a configuration are those of a history made with it.
@@ -211,7 +226,7 @@ struct Desk {
 
 impl Desk {
     // Makes a call, and tells what it answers: of a save what it writes, and of an addition the whole text then.
-    fn play(&mut self, call: &str, text: &str) -> Result<String, Fail> {
+    fn made(&mut self, call: &str, text: &str) -> Result<String, Fail> {
         match call {
             "save" => self.save(),
             "append" => {
@@ -239,37 +254,35 @@ impl Desk {
     }
 }
 
-// Makes each row's call on a history with these lines.
-fn plays(rt: &(impl AllocGlobal + Abort), lines: &str, table: &str) -> Result<(), Fail> {
-    let mut desk = Desk {
-        alloc: rt.alloc(),
-        history: with_lines(rt.alloc(), lines)?,
-        file: VecSink::new(rt.alloc()),
-    };
-    for row in table.lines() {
-        if let Some((call, answer)) = call_and_answer(row) {
-            let (call, text) = word_and_rest(call);
-            let said = desk.play(call, text)?;
-            assert_eq!(rt; or_nothing(said.as_str().trim()), answer, "{row}");
-        }
+impl Player for Desk {
+    fn play(&mut self, alloc: Global, call: &str) -> Result<String, Fail> {
+        let (call, text) = word_and_rest(call);
+        let said = self.made(call, text)?;
+        trimmed(alloc, said.as_str())
     }
-    Ok(())
 }
 
-// The same of a history in memory.
-fn plays_in_memory<H: History>(
-    rt: &(impl AllocGlobal + Abort),
-    history: &mut H,
-    table: &str,
-) -> Result<(), Fail> {
-    for row in table.lines() {
-        if let Some((call, answer)) = call_and_answer(row) {
-            let (call, text) = word_and_rest(call);
-            let said = answered(rt.alloc(), history, call, text)?;
-            assert_eq!(rt; or_nothing(said.as_str().trim()), answer, "{row}");
-        }
+// A history with these lines.
+fn desk_with(alloc: Global, lines: &str) -> Result<Desk, Fail> {
+    Ok(Desk {
+        alloc,
+        history: with_lines(alloc, lines)?,
+        file: VecSink::new(alloc),
+    })
+}
+
+/// A history in memory.
+#[derive(Drop)]
+struct Memory {
+    history: MemHistory,
+}
+
+impl Player for Memory {
+    fn play(&mut self, alloc: Global, call: &str) -> Result<String, Fail> {
+        let (call, text) = word_and_rest(call);
+        let said = answered(alloc, &mut self.history, call, text)?;
+        trimmed(alloc, said.as_str())
     }
-    Ok(())
 }
 
 const SAVED: &str = r"
@@ -283,7 +296,7 @@ const SAVED: &str = r"
     save                = nothing
 ";
 
-// What is appended behind a saved text, with more lines added than the history keeps, and the first of them like the last
+// What is appended after a saved text, with more lines added than the history keeps, and the first of them like the last
 // one saved: the list comes back all the same, and so it does after a second round, where a repeated row is ignored.
 const APPENDED: &str = r"
     max_len 2           = nothing
@@ -318,9 +331,10 @@ const SEARCHES: &str = "
 
 #[test]
 fn histories_with_texts(rt: HostRuntime) -> Result<(), Fail> {
-    plays(&rt, r"x\y|", SAVED)?;
-    plays(&rt, "", APPENDED)?;
-    plays(&rt, "line1|line2|line3|", SEARCHES)
+    rows_hold(&rt, &mut desk_with(rt.alloc(), r"x\y|")?, SAVED)?;
+    rows_hold(&rt, &mut desk_with(rt.alloc(), "")?, APPENDED)?;
+    let mut three = desk_with(rt.alloc(), "line1|line2|line3|")?;
+    rows_hold(&rt, &mut three, SEARCHES)
 }
 
 const FOUR_ADDED: &str = "
@@ -355,15 +369,16 @@ const ONE_KEPT: &str = "
 
 #[test]
 fn lines_that_are_added(rt: HostRuntime) -> Result<(), Fail> {
-    let mut history = MemHistory::with_config(rt.alloc(), &Config::default());
-    plays_in_memory(&rt, &mut history, FOUR_ADDED)?;
-    assert_eq!(rt; history.len(), 4);
-    assert_eq!(rt; history.iter().count(), 4);
-    plays_in_memory(&rt, &mut history, TWO_KEPT)?;
-    assert_eq!(rt; history.len(), 2);
-    assert_eq!(rt; history[1].as_str(), " a");
-    plays_in_memory(&rt, &mut history, ONE_KEPT)?;
-    assert!(rt; history.is_empty());
+    let history = MemHistory::with_config(rt.alloc(), &Config::default());
+    let mut memory = Memory { history };
+    rows_hold(&rt, &mut memory, FOUR_ADDED)?;
+    assert_eq!(rt; memory.history.len(), 4);
+    assert_eq!(rt; memory.history.iter().count(), 4);
+    rows_hold(&rt, &mut memory, TWO_KEPT)?;
+    assert_eq!(rt; memory.history.len(), 2);
+    assert_eq!(rt; memory.history[1].as_str(), " a");
+    rows_hold(&rt, &mut memory, ONE_KEPT)?;
+    assert!(rt; memory.history.is_empty());
     Ok(())
 }
 
@@ -378,19 +393,39 @@ const HINTS: &str = r#"
 
 // What a hinter has for a line.
 fn hint_told<Hi: Hinter>(
-    rt: &(impl AllocGlobal + Abort),
+    alloc: Global,
     hinter: &Hi,
     line: &str,
     context: &Context<'_, FileHistory>,
 ) -> Result<String, Fail> {
-    let (line, pos) = line_and_place(rt.alloc(), line)?;
-    assert!(rt; pos <= line.len());
-    match hinter.hint(rt.alloc(), line.as_str(), pos, context)? {
+    let (line, pos) = line_and_place(alloc, line)?;
+    if pos > line.len() {
+        return Err(Fail::new("a cursor beyond the line"));
+    }
+    match hinter.hint(alloc, line.as_str(), pos, context)? {
         Some(hint) => {
             let (shown, taken) = (hint.display(), hint.completion().unwrap_or("none"));
-            Ok(format!(in rt.alloc(); "{shown:?}, takes {taken:?}")?)
+            Ok(format!(in alloc; "{shown:?}, takes {taken:?}")?)
         }
-        None => Ok(String::from_str(rt.alloc(), "none")?),
+        None => Ok(String::from_str(alloc, "none")?),
+    }
+}
+
+/// A history with the line that is hinted.
+#[derive(Drop)]
+struct Hinted {
+    history: FileHistory,
+}
+
+impl Player for Hinted {
+    fn play(&mut self, alloc: Global, line: &str) -> Result<String, Fail> {
+        let context = Context::new(&self.history);
+        let mut said = hint_told(alloc, &HistoryHinter::new(), line, &context)?;
+        let other = hint_told(alloc, &(), line, &context)?;
+        if other.as_str() != "none" {
+            write!(said, ", and without a hinter {other}")?;
+        }
+        Ok(said)
     }
 }
 
@@ -399,15 +434,7 @@ fn hints(rt: HostRuntime) -> Result<(), Fail> {
     let history = with_lines(rt.alloc(), "hello world|")?;
     let mut context = Context::new(&history);
     assert_eq!(rt; context.history_index(), 1);
-    for row in HINTS.lines() {
-        if let Some((line, answer)) = call_and_answer(row) {
-            let said = hint_told(&rt, &HistoryHinter::new(), line, &context)?;
-            assert_eq!(rt; said.as_str(), answer, "{row}");
-            let none = hint_told(&rt, &(), line, &context)?;
-            assert_eq!(rt; none.as_str(), "none", "{row}");
-        }
-    }
     context.set_history_index(0);
     assert_eq!(rt; context.history_index(), 0);
-    Ok(())
+    rows_hold(&rt, &mut Hinted { history }, HINTS)
 }

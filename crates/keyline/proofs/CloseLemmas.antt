@@ -20,10 +20,10 @@ module _ {D L : Type 0} (shows : D → Bool) (shown : D → List ℕ) (show_fail
   Ends adds outcome old new result = Closes shows shown show_failed writes written_in write_failed adds outcome old new result
 
   -- nothing was kept and written
-  pub cut_before : (adds steady : Bool) (outcome : Result (List ℕ) ReadlineError) (old new : Work D L) (result : Result (Unit {0}) ReadlineError) (e : ReadlineError)
-      → result ≡ Err e → CutsBy steady e → new.lines ≡ old.lines → new.history ≡ old.history
-      → LineCut shows shown writes written_in adds steady outcome old new result
-  cut_before adds steady outcome old new result e is cut lines history = record {
+  pub cut_before : (adds : Bool) (outcome : Result (List ℕ) ReadlineError) (old new : Work D L) (result : Result (Unit {0}) ReadlineError) (e : ReadlineError)
+      → result ≡ Err e → CutsBy e → new.lines ≡ old.lines → new.history ≡ old.history
+      → LineCut shows shown writes written_in adds outcome old new result
+  cut_before adds outcome old new result e is cut lines history = record {
     fault = e;
     result_is = is;
     cut = cut;
@@ -44,7 +44,7 @@ module _ {D L : Type 0} (shows : D → Bool) (shown : D → List ℕ) (show_fail
   closes_undrawn adds outcome d d' l h result e is display failed =
       let now : result ≡ Err Display = is ∙ ap (λ e. Err e) display in
       record {
-        goes = inr (cut_before adds true outcome (work d l h) (work d' l h) result Display now tt refl refl);
+        goes = inr (cut_before adds outcome (work d l h) (work d' l h) result Display now tt refl refl);
         reason = let P : Result (Unit {0}) ReadlineError → Type 0 = λ r. IfErr r (CloseReason outcome (show_failed d) (show_failed d') (write_failed l)) in
             subst P (sym now) (inr (inl (refl, failed)));
       }
@@ -55,7 +55,7 @@ module _ {D L : Type 0} (shows : D → Bool) (shown : D → List ℕ) (show_fail
   closes_unkept adds outcome d d' l h h' result e is memory kept =
       let now : result ≡ Err Memory = is ∙ ap (λ e. Err e) memory in
       record {
-        goes = inr (cut_before adds true outcome (work d l h) (work d' l h') result Memory now tt refl kept);
+        goes = inr (cut_before adds outcome (work d l h) (work d' l h') result Memory now tt refl kept);
         reason = let P : Result (Unit {0}) ReadlineError → Type 0 = λ r. IfErr r (CloseReason outcome (show_failed d) (show_failed d') (write_failed l)) in
             subst P (sym now) (inr (inr (inr refl)));
       }
@@ -80,7 +80,7 @@ module _ {D L : Type 0} (shows : D → Bool) (shown : D → List ℕ) (show_fail
         goes = inr (record {
           fault = e;
           result_is = refl;
-          cut = let P : ReadlineError → Type 0 = CutsBy true in subst P (sym wrote.fault.0) tt;
+          cut = let P : ReadlineError → Type 0 = CutsBy in subst P (sym wrote.fault.0) tt;
           in_hand = text ∷ [];
           others = [];
           first = refl;

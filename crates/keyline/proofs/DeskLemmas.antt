@@ -1,5 +1,5 @@
 -- A line at a desk: what `run` gives, and then the line's end.
-use Rattle.std.proofs.Common.{◌≡◌, ℕ, suc, ◌<◌, Bool, true, List, [], ◌∷◌, ◌++◌, inl, inr, ◌⊎◌, refl, sym, ap, ◌∙◌, subst, IsTrue, IsFalse, Option, Result, Ok, Err, IfErr, OnOk, le_refl}
+use Rattle.std.proofs.Common.{◌≡◌, ℕ, suc, ◌<◌, Bool, List, [], ◌∷◌, ◌++◌, inl, inr, ◌⊎◌, refl, sym, ap, ◌∙◌, subst, IsTrue, Option, Result, Ok, Err, IfErr, OnOk, le_refl}
 use Rattle.std.specs.Prelude.{string_bytes}
 use Rattle.line_config.specs.declared.config.Config.{Config}
 use Rattle.line_config.specs.declared.errors.ReadlineError.{ReadlineError}
@@ -7,14 +7,19 @@ use Rattle.line_config.specs.declared.errors.ReadlineError.TheVariants.{Eof, Int
 use Rattle.line_config.specs.Sending.{Takes}
 use Rattle.line_help.specs.History.{Filed}
 use Rattle.line_keys.specs.Answers.{Custom}
-use Rattle.line_keys.specs.Coming.{made_of}
-use Rattle.line_keys.specs.Feeds.{Feed}
+use Rattle.line_keys.specs.Coming.{Coming, made_of}
+use Rattle.line_keys.specs.Feeds.{KeyFeed}
+use Rattle.line_keys.specs.InputStates.{new_input}
 use Rattle.line_record.specs.Ring.{Ring}
+use Rattle.line_editor.specs.Acts.{stage}
 use Rattle.line_editor.specs.Lines.{Told}
-use Rattle.line_editor.specs.Running.{Helping, HelperFails, Runs, WholeLine, CutLine, outcome_of, line_calls}
+use Rattle.line_editor.specs.Redraws.{fresh}
+use Rattle.line_editor.specs.Running.{Helping, HelperFails, Runs, WholeLine, CutLine, acts_meant, line_meant, outcome_of, line_calls, setting_by}
 use Rattle.line_editor.specs.States.{reason_of}
 use Rattle.line_editor.specs.Turning.{cause_of}
+use Rattle.line_editor.specs.Values.{Setting}
 use Rattle.line_editor.specs.declared.ran.Ran.{Ran}
+use Rattle.line_editor.proofs.ActsLemmas.{begun_of_line}
 use Rattle.line_screen.specs.Calls.{canvas_of, screen_of, sink_of, ruler_of}
 use Rattle.line_screen.specs.Drawing.{break_if}
 use Rattle.line_screen.specs.Reader.{items_of}
@@ -22,8 +27,8 @@ use Rattle.line_screen.specs.declared.reading.reader.KeyReader.{KeyReader}
 use Rattle.line_screen.specs.declared.renderer.ScreenRenderer.{ScreenRenderer}
 use Rattle.line_screen.proofs.CallLemmas.{sent_in_all, begun_stays}
 use Rattle.keyline.specs.Closing.{Closes, CloseReason, work}
-use Rattle.keyline.specs.Desks.{Known, Lined, TakesLine, DeskReason, feed_of, standing_of, work_of}
-use Rattle.keyline.specs.Playing.{Work, LineWhole, LineCut, CutsBy, Reason, accepted_of}
+use Rattle.keyline.specs.Desks.{Known, Lined, TakesLine, DeskReason, feed_of, hearing, work_of}
+use Rattle.keyline.specs.Playing.{Work, LineWhole, LineCut, CutsBy, SessionReason, accepted_of}
 use Rattle.keyline.specs.Sessions.{Given, given_by, breaks, line_in, lines_text, remembered, history_after}
 use Rattle.keyline.specs.declared.desk.Desk.{Desk}
 use Rattle.keyline.proofs.CloseLemmas.{remembered_none}
@@ -32,38 +37,24 @@ use Rattle.keyline.proofs.Told.{Takes-then}
 -- ---- faults
 
 -- a fault of a line is one that no input gives
-cuts_of : (steady failed : Bool) (hook : Type 0) (e : ReadlineError) → reason_of failed hook e ⊎ ((e ≡ Reader) × IsFalse steady) → CutsBy steady e
-cuts_of steady failed hook Display (inl r) = tt
-cuts_of steady failed hook Helper (inl r) = tt
-cuts_of steady failed hook Memory (inl r) = tt
-cuts_of steady failed hook Eof (inl r) = absurd r
-cuts_of steady failed hook Interrupted (inl r) = absurd r
-cuts_of steady failed hook NotUtf8 (inl r) = absurd r
-cuts_of steady failed hook PasteOutOfPlace (inl r) = absurd r
-cuts_of steady failed hook Reader (inl r) = absurd r
-cuts_of steady failed hook Lines (inl r) = absurd r
-cuts_of steady failed hook HistoryText (inl r) = absurd r
-cuts_of steady failed hook Handler (inl r) = absurd r
-cuts_of steady failed hook e (inr r) = let P : ReadlineError → Type 0 = CutsBy steady in subst P (sym r.0) r.1
-
-cuts_by_any : (steady : Bool) (e : ReadlineError) → CutsBy true e → CutsBy steady e
-cuts_by_any steady Eof p = absurd p
-cuts_by_any steady Interrupted p = absurd p
-cuts_by_any steady NotUtf8 p = absurd p
-cuts_by_any steady PasteOutOfPlace p = absurd p
-cuts_by_any steady Reader p = absurd (cc)
-cuts_by_any steady Display p = tt
-cuts_by_any steady Lines p = tt
-cuts_by_any steady HistoryText p = absurd p
-cuts_by_any steady Helper p = tt
-cuts_by_any steady Handler p = absurd p
-cuts_by_any steady Memory p = tt
+cuts_of : (failed : Bool) (hook : Type 0) (e : ReadlineError) → reason_of failed hook e → CutsBy e
+cuts_of failed hook Display r = tt
+cuts_of failed hook Helper r = tt
+cuts_of failed hook Memory r = tt
+cuts_of failed hook Eof r = absurd r
+cuts_of failed hook Interrupted r = absurd r
+cuts_of failed hook NotUtf8 r = absurd r
+cuts_of failed hook PasteOutOfPlace r = absurd r
+cuts_of failed hook Reader r = absurd r
+cuts_of failed hook Lines r = absurd r
+cuts_of failed hook HistoryText r = absurd r
+cuts_of failed hook Handler r = absurd r
 
 -- the reasons of a line are those of a desk
-reason_by : (told : Bool) (g : Given) (source display lines : Bool) (feed : Feed) (hook : Type 0) (e : ReadlineError)
+reason_by : (told : Bool) (g : Given) (source display lines : Bool) (feed : KeyFeed) (hook : Type 0) (e : ReadlineError)
     → (feed.reason e → e ≡ Reader → IsTrue source)
     → (hook → IsTrue told → (shown : List (List ℕ)) × HelperFails g.helping shown)
-    → cause_of g.custom display hook feed e → Reason told g source display lines e
+    → cause_of g.custom display hook feed e → SessionReason told g source display lines e
 reason_by told g source display lines feed hook Eof of_source of_hook c = tt
 reason_by told g source display lines feed hook Interrupted of_source of_hook c = tt
 reason_by told g source display lines feed hook NotUtf8 of_source of_hook c = tt
@@ -102,16 +93,16 @@ nil_front_bytes (x ∷ xs) ys e = absurd (cc)
 
 module _ {D L : Type 0} (shows : D → Bool) (shown : D → List ℕ) (writes : L → Bool) (written_in : L → List ℕ) where
   -- after a line that is refused nothing is added and written, whatever was to come of it
-  cut_as : (adds steady : Bool) (e : ReadlineError) (outcome : Result (List ℕ) ReadlineError) (old new : Work D L) (d : D) (result : Result (Unit {0}) ReadlineError)
-      → LineCut shows shown writes written_in adds true (Err e) (record old { display = d }) new result
-      → LineCut shows shown writes written_in adds steady outcome old new result
-  cut_as adds steady e outcome old new d result c =
+  cut_as : (adds : Bool) (e : ReadlineError) (outcome : Result (List ℕ) ReadlineError) (old new : Work D L) (d : D) (result : Result (Unit {0}) ReadlineError)
+      → LineCut shows shown writes written_in adds (Err e) (record old { display = d }) new result
+      → LineCut shows shown writes written_in adds outcome old new result
+  cut_as adds e outcome old new d result c =
       let none : c.in_hand ≡ [] = nil_front c.in_hand c.others c.first in
       let untorn : c.torn ≡ [] = nil_front_bytes c.torn c.more (ap lines_text (sym none) ∙ c.part) in
       record {
         fault = c.fault;
         result_is = c.result_is;
-        cut = cuts_by_any steady c.fault c.cut;
+        cut = c.cut;
         in_hand = [];
         others = accepted_of outcome;
         first = refl;
@@ -124,10 +115,10 @@ module _ {D L : Type 0} (shows : D → Bool) (shown : D → List ℕ) (writes : 
       }
 
   -- the end of a line that a fault had cut off
-  cut_then : (adds steady : Bool) (e : ReadlineError) (outcome : Result (List ℕ) ReadlineError) (bytes : List ℕ) (old new : Work D L) (d : D) (result : Result (Unit {0}) ReadlineError)
-      → CutsBy steady e → LineWhole shows shown writes written_in adds bytes (Err e) (record old { display = d }) new result
-      → LineCut shows shown writes written_in adds steady outcome old new result
-  cut_then adds steady e outcome bytes old new d result cut c = record {
+  cut_then : (adds : Bool) (e : ReadlineError) (outcome : Result (List ℕ) ReadlineError) (bytes : List ℕ) (old new : Work D L) (d : D) (result : Result (Unit {0}) ReadlineError)
+      → CutsBy e → LineWhole shows shown writes written_in adds bytes (Err e) (record old { display = d }) new result
+      → LineCut shows shown writes written_in adds outcome old new result
+  cut_then adds e outcome bytes old new d result cut c = record {
     fault = e;
     result_is = c.result_is;
     cut = cut;
@@ -142,14 +133,14 @@ module _ {D L : Type 0} (shows : D → Bool) (shown : D → List ℕ) (writes : 
     history_is = c.history_is ∙ sym (remembered_none adds old.history);
   }
 
-  -- a cut line is one under any steadiness
-  cut_by : (adds steady : Bool) (outcome : Result (List ℕ) ReadlineError) (old new : Work D L) (d : D) (result : Result (Unit {0}) ReadlineError)
-      → LineCut shows shown writes written_in adds true outcome (record old { display = d }) new result
-      → LineCut shows shown writes written_in adds steady outcome old new result
-  cut_by adds steady outcome old new d result c = record {
+  -- a line whose end was cut was cut
+  cut_by : (adds : Bool) (outcome : Result (List ℕ) ReadlineError) (old new : Work D L) (d : D) (result : Result (Unit {0}) ReadlineError)
+      → LineCut shows shown writes written_in adds outcome (record old { display = d }) new result
+      → LineCut shows shown writes written_in adds outcome old new result
+  cut_by adds outcome old new d result c = record {
     fault = c.fault;
     result_is = c.result_is;
-    cut = cuts_by_any steady c.fault c.cut;
+    cut = c.cut;
     in_hand = c.in_hand;
     others = c.others;
     first = c.first;
@@ -184,16 +175,31 @@ module _ {S H D L K T : Type 0} (k : Known S D L) (helps : Option H → Helping)
   RunsAt = Runs (canvas_of k.shows k.shown k.show_failed) helps custom prompt old.helper old.history.kept.entries config
       old.out old.ring (items_of k.feed old.reader) ran ring (items_of k.feed reader)
 
-  abbrev Went : Told → Type 0
-  Went t = WholeLine (canvas_of k.shows k.shown k.show_failed) t old.out ran.out ring (items_of k.feed reader).coming (outcome_of ran)
-      ⊎ CutLine (canvas_of k.shows k.shown k.show_failed) t (feed_of k old).steady (HelperFails (helps old.helper) old.history.kept.entries) old.out ran.out (outcome_of ran)
+  abbrev setting : Setting
+  setting = setting_by (ruler_of (screen_of old.out)) prompt (helps old.helper) old.history.kept.entries
 
-  screen_by : (t : Told) → Went t → screen_of ran.out ≡ screen_of old.out
-  screen_by t (inl w) = (sent_in_all k.shows k.shown k.show_failed (line_calls (ruler_of (screen_of old.out)) t.turns) old.out ran.out w.calls).screen
-  screen_by t (inr w) = begun_stays k.shows k.shown k.show_failed (line_calls (ruler_of (screen_of old.out)) t.turns) old.out ran.out w.begun
+  -- the line that was read whole, or cut by a fault
+  abbrev WentWhole : Told → Type 0
+  WentWhole t = WholeLine (canvas_of k.shows k.shown k.show_failed) t old.out ran.out ring (items_of k.feed reader).coming (outcome_of ran)
+
+  abbrev WentCut : ℕ → Coming → Type 0
+  WentCut n heard = CutLine (canvas_of k.shows k.shown k.show_failed) (acts_meant n setting custom config old.ring heard)
+      (HelperFails (helps old.helper) old.history.kept.entries) (stage old.out heard old.ring) (stage ran.out (items_of k.feed reader).coming ring) (outcome_of ran)
+
+  abbrev Went : ℕ → Coming → Type 0
+  Went n heard = WentWhole (line_meant n setting custom config old.ring heard) ⊎ WentCut n heard
+
+  screen_by : (n : ℕ) (heard : Coming) → Went n heard → screen_of ran.out ≡ screen_of old.out
+  screen_by n heard (inl w) =
+      (sent_in_all k.shows k.shown k.show_failed (line_calls (ruler_of (screen_of old.out)) (line_meant n setting custom config old.ring heard).turns) old.out ran.out w.calls).screen
+  screen_by n heard (inr w) =
+      let begun = begun_of_line (canvas_of k.shows k.shown k.show_failed) (ruler_of (screen_of old.out)) w.fault n setting custom config.indent_size
+      (new_input config.edit_mode) old.ring heard (fresh (ruler_of (screen_of old.out)).mode) (stage old.out heard old.ring) (stage ran.out (items_of k.feed reader).coming ring) w.done in
+      begun_stays k.shows k.shown k.show_failed (line_calls (ruler_of (screen_of old.out)) (line_meant n setting custom config old.ring heard).turns) old.out ran.out begun
 
   screen_stays : RunsAt → IsTrue (feed_of k old).told → screen_of ran.out ≡ screen_of old.out
-  screen_stays runs t = screen_by _ (runs.goes t (suc (feed_of k old).bound) (le_refl _))
+  screen_stays runs t =
+      let n = suc (feed_of k old).bound in let went = runs.goes t n (le_refl _) in screen_by n went.0 went.2
 
   module _ (out : ScreenRenderer D) (history : Filed) (lines : L) (result : Result (Unit {0}) ReadlineError) where
     abbrev Ends : Result (List ℕ) ReadlineError → Type 0
@@ -212,10 +218,10 @@ module _ {S H D L K T : Type 0} (k : Known S D L) (helps : Option H → Helping)
     abbrev Ended : Result (List ℕ) ReadlineError → Type 0
     Ended outcome = LineWhole k.shows k.shown k.writes k.written_in config.auto_add_history (break_if (breaks outcome)) outcome
         (work (sink_of ran.out) old.lines old.history) (work (sink_of out) lines history) result
-        ⊎ LineCut k.shows k.shown k.writes k.written_in config.auto_add_history true outcome
+        ⊎ LineCut k.shows k.shown k.writes k.written_in config.auto_add_history outcome
         (work (sink_of ran.out) old.lines old.history) (work (sink_of out) lines history) result
 
-    after_whole : (t : Told) → WholeLine (canvas_of k.shows k.shown k.show_failed) t old.out ran.out ring (items_of k.feed reader).coming (outcome_of ran)
+    after_whole : (t : Told) → WentWhole t
         → Ended t.outcome → Lined k given t old new result
     after_whole t w (inl c) =
         let sent = sent_in_all k.shows k.shown k.show_failed (line_calls (ruler_of (screen_of old.out)) t.turns) old.out ran.out w.calls in
@@ -227,19 +233,18 @@ module _ {S H D L K T : Type 0} (k : Known S D L) (helps : Option H → Helping)
               ∙ ap (λ c'. record { ring = t.ring; history = history_after config.auto_add_history t.outcome old.history; coming = c' }) w.rest_is),
         )
     after_whole t w (inr c) =
-        inr (cut_by k.shows k.shown k.writes k.written_in config.auto_add_history (feed_of k old).steady t.outcome (work_of k old) (work_of k new) (sink_of ran.out) result c)
+        inr (cut_by k.shows k.shown k.writes k.written_in config.auto_add_history t.outcome (work_of k old) (work_of k new) (sink_of ran.out) result c)
 
-    after_cut : (t : Told) → (w : CutLine (canvas_of k.shows k.shown k.show_failed) t (feed_of k old).steady (HelperFails (helps old.helper) old.history.kept.entries) old.out ran.out (outcome_of ran))
-        → Ended (Err w.fault) → Lined k given t old new result
-    after_cut t w (inl c) =
-        inr (cut_then k.shows k.shown k.writes k.written_in config.auto_add_history (feed_of k old).steady w.fault t.outcome _ (work_of k old) (work_of k new) (sink_of ran.out) result
-        (cuts_of (feed_of k old).steady _ _ w.fault w.cause) c)
-    after_cut t w (inr c) =
-        inr (cut_as k.shows k.shown k.writes k.written_in config.auto_add_history (feed_of k old).steady w.fault t.outcome (work_of k old) (work_of k new) (sink_of ran.out) result c)
+    after_cut : (t : Told) (n : ℕ) (heard : Coming) → (w : WentCut n heard) → Ended (Err w.fault) → Lined k given t old new result
+    after_cut t n heard w (inl c) =
+        inr (cut_then k.shows k.shown k.writes k.written_in config.auto_add_history w.fault t.outcome _ (work_of k old) (work_of k new) (sink_of ran.out) result
+        (cuts_of _ _ w.fault w.cause) c)
+    after_cut t n heard w (inr c) =
+        inr (cut_as k.shows k.shown k.writes k.written_in config.auto_add_history w.fault t.outcome (work_of k old) (work_of k new) (sink_of ran.out) result c)
 
-    lined : (t : Told) → Went t → Ends (outcome_of ran) → Lined k given t old new result
-    lined t (inl w) closes = after_whole t w (subst Ended w.outcome_is closes.goes)
-    lined t (inr w) closes = after_cut t w (subst Ended w.outcome_is closes.goes)
+    lined : (n : ℕ) (heard : Coming) → Went n heard → Ends (outcome_of ran) → Lined k given (line_in n given (hearing k old heard)) old new result
+    lined n heard (inl w) closes = after_whole (line_in n given (hearing k old heard)) w (subst Ended w.outcome_is closes.goes)
+    lined n heard (inr w) closes = after_cut (line_in n given (hearing k old heard)) n heard w (subst Ended w.outcome_is closes.goes)
 
     lined_falls : RunsAt → Ended (outcome_of ran) → OnOk result ((feed_of k new).bound < (feed_of k old).bound)
     lined_falls runs (inl c) = ok_given ran.outcome string_bytes result _ runs.falls c.result_is
@@ -256,7 +261,7 @@ module _ {S H D L K T : Type 0} (k : Known S D L) (helps : Option H → Helping)
         let cause = err_given ran.outcome string_bytes e _ runs.reason p.0 in
         let of_line = reason_by (feed_of k old).told given _ (k.show_failed (sink_of ran.out)) (k.write_failed lines) (items_of k.feed reader) _ e (λ r. r)
         (λ hook t. (hook.0, subst (λ h. HelperFails h hook.0) (runs.helper_stays t) hook.1)) cause in
-        let P : Bool → Type 0 = λ failed. Reason (feed_of k old).told given (k.feed reader.bytes.source).failed failed (k.write_failed lines) e in
+        let P : Bool → Type 0 = λ failed. SessionReason (feed_of k old).told given (k.feed reader.bytes.source).failed failed (k.write_failed lines) e in
         subst P (sym p.1) of_line
     reason_of_close runs e (inr (inl p)) =
         let P : ReadlineError → Type 0 = DeskReason k (feed_of k old).told given new in subst P (sym p.0) p.1
@@ -267,7 +272,7 @@ module _ {S H D L K T : Type 0} (k : Known S D L) (helps : Option H → Helping)
 
     pub takes_line : RunsAt → Ends (outcome_of ran) → screen_of out ≡ screen_of ran.out → TakesLine k given given' old new result
     takes_line runs closes screen = record {
-      goes = λ t n b. lined (line_in n given (standing_of k old)) (runs.goes t n b) closes;
+      goes = λ t n b. let went = runs.goes t n b in (went.0, went.1, lined n went.0 went.2 closes);
       given = lined_given runs screen;
       custom = refl;
       told = runs.told;

@@ -1,13 +1,14 @@
 -- A session opened by options, and run, is what the options say.
 use Rattle.std.proofs.Common.{◌≡◌, ◌∙◌, ℕ, Bool, List, [], Option, ap, subst}
 use Rattle.std.specs.Prelude.{string_bytes}
-use Rattle.line_config.specs.Feed.{Feed as Bytes}
+use Rattle.line_config.specs.Feed.{Feed}
 use Rattle.line_config.specs.declared.config.Config.{Config}
 use Rattle.line_keys.specs.Answers.{Custom, custom_of}
+use Rattle.line_keys.specs.Coming.{Coming}
 use Rattle.line_keys.specs.Handling.{Meaning}
 use Rattle.line_keys.specs.declared.events.Event.{Event}
 use Rattle.line_screen.specs.Calls.{screen_of}
-use Rattle.keyline.specs.Desks.{Known, standing_of}
+use Rattle.keyline.specs.Desks.{Known, hearing}
 use Rattle.keyline.specs.Edits.{Edits, bracket_helping, config_of, given_to, helper_of, nothing_bound}
 use Rattle.keyline.specs.Plays.{Opens, Plays}
 use Rattle.keyline.specs.SessionShows.{Displays}
@@ -21,11 +22,11 @@ pub none_bound : {D : Type 0} (bindings : List (Event × D)) (means : D → Mean
 none_bound bindings means none = ap (λ b. custom_of b means) none
 
 module _ {S D L T : Type 0} (k : Known S D L) (told : T → Bool) (held : T → List ℕ) (failed : T → Bool) where
-  pub edited : (options : Options) (history : Bytes) (source : S) (display : D) (lines : L) (text text' : T) (ended : Ended S D L T)
+  pub edited : (options : Options) (history : Feed) (source : S) (display : D) (lines : L) (text text' : T) (ended : Ended S D L T)
       (desk : Desk S BracketHelper D L) (config config' : Config) (custom : Custom) (prompt : List ℕ) (helper : Option BracketHelper)
       → Opens k.feed config history helper source options.columns display lines desk
       → Plays k told held failed (given_by config' custom prompt (screen_of desk.out) (bracket_helping desk.helper)) desk text' ended
-      → Displays (given_by config' custom prompt (screen_of desk.out) (bracket_helping desk.helper)) (standing_of k desk)
+      → ((heard : Coming) → Displays (given_by config' custom prompt (screen_of desk.out) (bracket_helping desk.helper)) (hearing k desk heard))
       → config ≡ config_of options → config' ≡ config → prompt ≡ string_bytes options.prompt → helper ≡ helper_of options → text' ≡ text → custom ≡ nothing_bound
       → Edits k told held failed options history source display lines text ended
   edited options history source display lines text text' ended desk config config' custom prompt helper opens plays shows config_is config_is' prompt_is helper_is text_is custom_is =
@@ -41,5 +42,5 @@ module _ {S D L T : Type 0} (k : Known S D L) (told : T → Bool) (held : T → 
         desk = desk;
         opens = subst (λ (x : Option BracketHelper). Opens k.feed (config_of options) history x source options.columns display lines desk) helper_is opens';
         plays = subst (λ (x : T). Plays k told held failed (given_to options desk) desk x ended) text_is plays';
-        shows = subst (λ (x : Given). Displays x (standing_of k desk)) given shows;
+        shows = λ heard. subst (λ (x : Given). Displays x (hearing k desk heard)) given (shows heard);
       }

@@ -1,6 +1,7 @@
 pub mod CloseLemmas
 pub mod DeskLemmas
 pub mod EditLemmas
+pub mod HeardSteps
 pub mod OneByteLemmas
 pub mod OptionsLemmas
 pub mod PlaysLemmas

@@ -3,6 +3,7 @@ use Rattle.std.proofs.Common.{◌≡◌, ℕ, ◌+◌, ◌<◌, ◌==◌, ◌&&�
 use Rattle.std.specs.List.{list_all, flat_map}
 use Rattle.std.proofs.lemmas.Bool.{and_parts, and_from, eq-eqb, lt-ltb, ltb-true}
 use Rattle.std.proofs.lemmas.Str.{encode_ascii}
+use Rattle.line_buffer.specs.CellOrder.{same_cell}
 use Rattle.line_buffer.specs.Insertions.{insert as insertion}
 use Rattle.line_buffer.specs.Short.{is_printable}
 use Rattle.line_buffer.specs.declared.layout.Layout.{Layout}
@@ -14,13 +15,13 @@ use Rattle.line_record.specs.Ring.{Ring}
 use Rattle.line_editor.specs.Drawing.{drawn, asked_anew}
 use Rattle.line_editor.specs.Inserting.{is_bare, may_be_typed, show_typed, insert_char}
 use Rattle.line_editor.specs.Lines.{Enacted, turned_by, phrase_enacted, turn_of}
-use Rattle.line_editor.specs.Redraws.{Redraw, full, same_cell, nothing_asked, moved_by_call, typed_short, taken_short, may_type, may_take, one}
+use Rattle.line_editor.specs.Redraws.{Redraw, full, nothing_asked, moved_by_call, typed_short, taken_short, may_type, may_take, one}
 use Rattle.line_editor.specs.Redraws.Redraw.{Drawn, Moved, Typed, Taken, Bared, ToEnd, Beeped, Cleared}
 use Rattle.line_editor.specs.Sights.{Sight, sight, Fits}
 use Rattle.line_editor.specs.Values.{Value, Setting, Effect, unchanged}
 use Rattle.line_screen.specs.Calls.{Screen, bytes_of, ruler_of}
 use Rattle.line_screen.specs.Chain.{is_simple}
-use Rattle.keyline.specs.OneByte.{Tells, LayoutsTell, TypedAtEnd, OneByte}
+use Rattle.keyline.specs.OneByte.{TellsSight, LayoutsTell, TypedAtEnd, OneByte}
 use Rattle.keyline.specs.Shows.{bytes_for}
 
 not_true : (b : Bool) → not b ≡ true → b ≡ false
@@ -32,11 +33,11 @@ small c h = let parts = and_parts (nat_le 32 c) (nat_lt c 127) h in let k = ltb-
 
 -- ---- the layout that is kept
 
-moved_tells : (l : Layout) (x : Sight) (cursor : Position) (b : Bool) → Tells l x → Tells (if b then nothing_asked l else moved_by_call l cursor).layout x
+moved_tells : (l : Layout) (x : Sight) (cursor : Position) (b : Bool) → TellsSight l x → TellsSight (if b then nothing_asked l else moved_by_call l cursor).layout x
 moved_tells l x cursor true h = h
 moved_tells l x cursor false h = record { info_is = h.info_is; given_is = h.given_is }
 
-one_tells : (s : Screen) (own : List ℕ) (l : Layout) (x : Sight) (r : Redraw) → Tells l x → Fits own x r → Tells (one (ruler_of s) l r).layout (sight x r)
+one_tells : (s : Screen) (own : List ℕ) (l : Layout) (x : Sight) (r : Redraw) → TellsSight l x → Fits own x r → TellsSight (one (ruler_of s) l r).layout (sight x r)
 one_tells s own l x (Drawn prompt given text at info) h fits = record { info_is = refl; given_is = refl }
 one_tells s own l x (Moved text at) h fits =
     let cursor = (ruler_of s).measure (take at text) l.prompt_size in
@@ -44,17 +45,17 @@ one_tells s own l x (Moved text at) h fits =
     record { info_is = t.info_is; given_is = t.given_is }
 one_tells s own l x (Typed prompt c text at) h fits = by_test (may_type (ruler_of s) l) refl
   where
-    by_test : (b : Bool) → may_type (ruler_of s) l ≡ b → Tells (if b then typed_short l c else full (ruler_of s) l prompt true text at None).layout (sight x (Typed prompt c text at))
+    by_test : (b : Bool) → may_type (ruler_of s) l ≡ b → TellsSight (if b then typed_short l c else full (ruler_of s) l prompt true text at None).layout (sight x (Typed prompt c text at))
     by_test true e = record { info_is = not_true l.has_info (and_parts (not l.has_info) _ e).0; given_is = h.given_is ∙ fits.0 }
     by_test false e = record { info_is = refl; given_is = refl }
 one_tells s own l x (Taken prompt count text at) h fits = by_test (may_take l count) refl
   where
-    by_test : (b : Bool) → may_take l count ≡ b → Tells (if b then taken_short l count else full (ruler_of s) l prompt true text at None).layout (sight x (Taken prompt count text at))
+    by_test : (b : Bool) → may_take l count ≡ b → TellsSight (if b then taken_short l count else full (ruler_of s) l prompt true text at None).layout (sight x (Taken prompt count text at))
     by_test true e = record { info_is = not_true l.has_info (and_parts (not l.has_info) _ e).0; given_is = h.given_is ∙ fits.0 }
     by_test false e = record { info_is = refl; given_is = refl }
 one_tells s own l x (Bared prompt text at) h fits = by_test l.default_prompt (h.given_is ∙ fits)
   where
-    by_test : (b : Bool) → b ≡ true → Tells (if b then nothing_asked l else full (ruler_of s) l prompt true text at None).layout x
+    by_test : (b : Bool) → b ≡ true → TellsSight (if b then nothing_asked l else full (ruler_of s) l prompt true text at None).layout x
     by_test true e = h
     by_test false e = cc
 one_tells s own l x ToEnd h fits =

@@ -8,13 +8,13 @@ use Rattle.clap.specs.declared.parser.matches.ArgMatches.{ArgMatches}
 use Rattle.clap.specs.declared.error.kind.ErrorKind.{ErrorKind}
 use Rattle.clap.specs.declared.error.kind.ErrorKind.TheVariants.{DisplayHelp, InvalidValue, OutOfMemory}
 use Rattle.clap.proofs.OnLiterals.{clap_on_literals}
-use Rattle.keyline.specs.Options.{Answers, FailsBy, Gives, Says, command_line}
+use Rattle.keyline.specs.Options.{ParsesTo, FailsBy, TakesOptions, Says, command_line}
 use Rattle.keyline.specs.declared.options.Options.{Options}
 use Rattle.keyline.specs.declared.options.Parsed.{Parsed}
 use Rattle.keyline.specs.declared.options.Parsed.TheVariants.{Run, Help, Usage, Memory}
 
 -- an error is answered as its kind says
-pub answered : (words : List Text) (kind : ErrorKind) (r : Parsed) → FailsBy words kind → Says kind r → Answers words r
+pub answered : (words : List Text) (kind : ErrorKind) (r : Parsed) → FailsBy words kind → Says kind r → ParsesTo words r
 answered words kind (Run options) fails says = absurd says
 answered words kind Memory fails says = tt
 answered words kind (Help text) (inl memory) says =
@@ -52,6 +52,6 @@ fails_by app words e is kinds = elim (subst (λ a. is_simple_and_free a ≡ true
   | inr among ↦ inr (inl among)
 ]
 
-pub fails_with : (words : List Text) (e : Error) (r : Result Options Error) → FailsBy words (kind_of e) → IsErrAnd r (λ x. x ≡ e) → Gives words r
+pub fails_with : (words : List Text) (e : Error) (r : Result Options Error) → FailsBy words (kind_of e) → IsErrAnd r (λ x. x ≡ e) → TakesOptions words r
 fails_with words e (Ok options) fails same = absurd same
 fails_with words e (Err x) fails same = subst (λ (y : Error). FailsBy words (kind_of y)) (sym same) fails

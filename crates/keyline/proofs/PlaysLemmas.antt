@@ -3,10 +3,10 @@ use Rattle.std.proofs.Common.{◌≡◌, ℕ, Bool, List, sym, subst}
 use Rattle.line_config.specs.declared.errors.ReadlineError.{ReadlineError}
 use Rattle.line_help.specs.History.{Filed}
 use Rattle.line_screen.specs.Calls.{sink_of}
-use Rattle.line_screen.specs.Reader.{source_of}
-use Rattle.keyline.specs.Desks.{Known, TakesLines, feed_of, standing_of, work_of}
+use Rattle.line_screen.specs.Reader.{coming_in, source_of}
+use Rattle.keyline.specs.Desks.{Known, TakesLines, feed_of, hearing, work_of}
 use Rattle.keyline.specs.Endings.{ending_of}
-use Rattle.keyline.specs.Playing.{Reason, Reads, Saves, ending_after}
+use Rattle.keyline.specs.Playing.{SessionReason, Reads, Saves, ending_after}
 use Rattle.keyline.specs.Plays.{Plays}
 use Rattle.keyline.specs.Sessions.{Given, session}
 use Rattle.keyline.specs.declared.desk.Desk.{Desk}
@@ -19,16 +19,19 @@ pub plays : {S H D L T : Type 0} (k : Known S D L) (told : T → Bool) (held : T
     → Plays {H = H} k told held failed g desk text (record { ending = ending; history = history; source = source; display = display; lines = end.lines; text = text' })
 plays {S} {H} {D} {L} {T} k told held failed g desk end why history text text' saved ending source display lines saves is source_is display_is = record {
   kept = end.history;
+  reader = end.reader;
+  source_is = source_is;
   why = why;
   saved = saved;
   goes = λ t n b.
-      let P : D → Type 0 = λ display. Reads k.shows k.shown k.writes k.written_in g (feed_of k desk).steady (session n g (standing_of k desk)) (work_of k desk)
-      (record { display = display; lines = end.lines; history = end.history }) why in
-      subst P (sym display_is) (lines.goes t n b);
+      let went = lines.goes t n b in
+      let P : D → Type 0 = λ display. Reads k.shows k.shown k.writes k.written_in g (session n g (hearing k desk went.0)) (work_of k desk)
+      (record { display = display; lines = end.lines; history = end.history }) (coming_in k.feed end.reader) why in
+      (went.0, went.1, subst P (sym display_is) went.2);
   saves = saves;
   ending_is = is;
   reason =
-      let P : D → Type 0 = λ display. Reason (feed_of k desk).told g (k.feed source).failed (k.show_failed display) (k.write_failed end.lines) why in
-      let Q : S → Type 0 = λ source. Reason (feed_of k desk).told g (k.feed source).failed (k.show_failed (sink_of end.out)) (k.write_failed end.lines) why in
+      let P : D → Type 0 = λ display. SessionReason (feed_of k desk).told g (k.feed source).failed (k.show_failed display) (k.write_failed end.lines) why in
+      let Q : S → Type 0 = λ source. SessionReason (feed_of k desk).told g (k.feed source).failed (k.show_failed (sink_of end.out)) (k.write_failed end.lines) why in
       subst P (sym display_is) (subst Q (sym source_is) lines.reason);
 }

@@ -3,7 +3,7 @@ use Rattle.std.proofs.Common.{◌≡◌, ℕ, zero, suc, List, [], ◌∷◌, �
 use Rattle.std.specs.List.{flat_map}
 use Rattle.line_buffer.specs.declared.layout.Layout.{Layout}
 use Rattle.line_config.specs.declared.errors.ReadlineError.{ReadlineError}
-use Rattle.line_editor.specs.Courses.{Turn, Open, Accept, Last, Course, EndsLine, redraws_in}
+use Rattle.line_editor.specs.Courses.{Turn, Open, Accept, Last, TurnsLead, EndsLine, redraws_in}
 use Rattle.line_editor.specs.Lines.{Told}
 use Rattle.line_editor.specs.Redraws.{Redraw, Asked, fresh}
 use Rattle.line_editor.specs.Sights.{Sight, no_sight}
@@ -13,17 +13,17 @@ use Rattle.line_keys.specs.InputStates.{new_input}
 use Rattle.line_screen.specs.Calls.{Screen, bytes_of, ruler_of}
 use Rattle.line_screen.specs.Drawing.{row_break, break_if}
 use Rattle.keyline.specs.SessionShows.{parts_of, all_of, SessionsShow}
-use Rattle.keyline.specs.Sessions.{Given, Standing, Report, setting_in, line_in, after_line, goes_on, session, turns_of, breaks, line_bytes, display_bytes}
+use Rattle.keyline.specs.Sessions.{Given, SessionState, Report, setting_in, line_in, after_line, line_reported, session, turns_of, breaks, line_bytes, display_bytes}
 use Rattle.keyline.specs.Shows.{drawn_by, bytes_for}
 use Rattle.keyline.proofs.ShowCourse.{flat_both, drawings_show}
 
 -- ---- turns
 
 -- a line that is accepted, and the lines after it
-course_both : (own : List ℕ) (x : Sight) (ts us : List Turn) (text : List ℕ) → Course own x ts → EndsLine (Ok text) ts → Course own no_sight us → Course own x (ts ++ us)
+course_both : (own : List ℕ) (x : Sight) (ts us : List Turn) (text : List ℕ) → TurnsLead own x ts → EndsLine (Ok text) ts → TurnsLead own no_sight us → TurnsLead own x (ts ++ us)
 course_both own x [] us text h end k = cc
 course_both own x (Open rs y ∷ rest) us text h end k = (h.0, h.1, course_both own y rest us text h.2 end k)
-course_both own x (Accept rs y ∷ rest) us text h end k = (h.0, h.1, subst (λ ts. Course own no_sight (ts ++ us)) (sym end.1) k)
+course_both own x (Accept rs y ∷ rest) us text h end k = (h.0, h.1, subst (λ ts. TurnsLead own no_sight (ts ++ us)) (sym end.1) k)
 course_both own x (Last rs b ∷ rest) us text h end k = elim end.0 [ ]
 
 -- ---- bytes
@@ -70,11 +70,11 @@ module _ (s : Screen) where
 -- ---- a session
 
 record Shown (g : Given) (r : Report) : Type 0 where
-  course : Course g.prompt no_sight (turns_of r)
+  course : TurnsLead g.prompt no_sight (turns_of r)
   bytes : all_of (parts_of g.screen (fresh g.screen.mode) (turns_of r)) ≡ display_bytes g.screen r
 
 -- a line, and what comes after it
-line_shown : (g : Given) (t : Told) (later : Report) (o : Result (List ℕ) ReadlineError) → t.outcome ≡ o → Course g.prompt no_sight t.turns → EndsLine t.outcome t.turns → Shown g later → Shown g (goes_on t o later)
+line_shown : (g : Given) (t : Told) (later : Report) (o : Result (List ℕ) ReadlineError) → t.outcome ≡ o → TurnsLead g.prompt no_sight t.turns → EndsLine t.outcome t.turns → Shown g later → Shown g (line_reported t o later)
 line_shown g t later (Ok text) is course ends rest =
     let s = g.screen in
     let l = fresh s.mode in
@@ -90,14 +90,14 @@ line_shown g t later (Err e) is course ends rest =
     let l = fresh s.mode in
     let end : EndsLine (Err e) t.turns = subst (λ o. EndsLine o t.turns) is ends in
     record {
-      course = subst (Course g.prompt no_sight) (sym (append-nil t.turns)) course;
+      course = subst (TurnsLead g.prompt no_sight) (sym (append-nil t.turns)) course;
       bytes = ap (λ ts. all_of (parts_of s l ts)) (append-nil t.turns)
           ∙ last_parts s l t.turns e end
           ∙ ap (λ o. bytes_for s l (flat_map redraws_in t.turns) ++ break_if (breaks o)) (sym is)
           ∙ sym (append-nil (line_bytes s t));
     }
 
-session_shown : (n : ℕ) (g : Given) (x : Standing) → Shown g (session n g x)
+session_shown : (n : ℕ) (g : Given) (x : SessionState) → Shown g (session n g x)
 unfolding session
 session_shown zero g x = record { course = tt; bytes = refl }
 session_shown (suc n) g x =

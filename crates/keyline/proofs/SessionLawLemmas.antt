@@ -6,14 +6,14 @@ use Rattle.line_help.specs.History.{Filed, nothing_filed, ignored, filed_with_al
 use Rattle.line_help.proofs.NewestLemmas.{all_new, length-newest, newest_behind}
 use Rattle.line_keys.specs.InputStates.{new_input}
 use Rattle.keyline.specs.SessionLaws.{at_columns, prompt_column, ColumnsAreFree, taken_of, LastAreKept}
-use Rattle.keyline.specs.Sessions.{Given, Standing, setting_in, line_in, after_line, goes_on, session}
+use Rattle.keyline.specs.Sessions.{Given, SessionState, setting_in, line_in, after_line, line_reported, session}
 
 -- ---- columns
 
 setting_at : Given → List (List ℕ) → ℕ → Setting
 setting_at g entries column = record (setting_in g entries) { column = column }
 
-line_same : (n : ℕ) (g : Given) (x : Standing) (columns : ℕ) → prompt_column (at_columns columns g) ≡ prompt_column g → line_in n (at_columns columns g) x ≡ line_in n g x
+line_same : (n : ℕ) (g : Given) (x : SessionState) (columns : ℕ) → prompt_column (at_columns columns g) ≡ prompt_column g → line_in n (at_columns columns g) x ≡ line_in n g x
 unfolding setting_at
 line_same n g x columns e = ap (λ column. line_of n (setting_at g x.history.kept.entries column) g.custom g.config.indent_size (new_input g.config.edit_mode) x.ring x.coming) e
 
@@ -23,8 +23,8 @@ columns_are_free zero g x columns e = refl
 columns_are_free (suc n) g x columns e =
     let other = at_columns columns g in
     let t = line_in (suc n) g x in
-    ap (λ (t : Told). goes_on t t.outcome (session n other (after_line other t x))) (line_same (suc n) g x columns e)
-    ∙ ap (goes_on t t.outcome) (columns_are_free n g (after_line g t x) columns e)
+    ap (λ (t : Told). line_reported t t.outcome (session n other (after_line other t x))) (line_same (suc n) g x columns e)
+    ∙ ap (line_reported t t.outcome) (columns_are_free n g (after_line g t x) columns e)
 
 -- ---- the history
 

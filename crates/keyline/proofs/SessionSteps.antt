@@ -7,17 +7,24 @@ use Rattle.line_editor.specs.Lines.{Told}
 use Rattle.line_editor.specs.Running.{HelperFails}
 use Rattle.line_help.specs.History.{Filed}
 use Rattle.line_keys.specs.Answers.{HandlerFails}
-use Rattle.keyline.specs.Desks.{Known, Lined, TakesLine, TakesLines, DeskReason, feed_of, standing_of, work_of}
+use Rattle.line_keys.specs.Coming.{Coming}
+use Rattle.line_keys.specs.Early.{Heard}
+use Rattle.keyline.specs.Desks.{Known, Lined, TakesLine, TakesLines, DeskReason, HeardAt, feed_of, hearing, session_state_of, work_of}
 use Rattle.keyline.specs.Playing.{Work, LineWhole, LineCut, CutsBy, Reads}
-use Rattle.keyline.specs.Sessions.{Given, Standing, Report, line_in, after_line, goes_on, line_text, lines_text, line_bytes, display_bytes, remembered, session}
+use Rattle.keyline.specs.Sessions.{Given, SessionState, Report, line_in, after_line, line_reported, line_text, lines_text, line_bytes, display_bytes, remembered, session}
 use Rattle.keyline.specs.declared.desk.Desk.{Desk}
 use Rattle.keyline.proofs.CloseLemmas.{remembered_none}
+use Rattle.keyline.proofs.HeardSteps.{heard_before}
 use Rattle.keyline.proofs.Told.{Takes-then}
 
-pub session_step : (n : ℕ) (g : Given) (x : Standing)
-    → session (suc n) g x ≡ goes_on (line_in (suc n) g x) (line_in (suc n) g x).outcome (session n g (after_line g (line_in (suc n) g x) x))
+pub session_step : (n : ℕ) (g : Given) (x : SessionState)
+    → session (suc n) g x ≡ line_reported (line_in (suc n) g x) (line_in (suc n) g x).outcome (session n g (after_line g (line_in (suc n) g x) x))
 unfolding session
 session_step n g x = refl
+
+-- the same by what the line is
+session_by : (n : ℕ) (g : Given) (x : SessionState) (t : Told) → line_in (suc n) g x ≡ t → session (suc n) g x ≡ line_reported t t.outcome (session n g (after_line g t x))
+session_by n g x t is = session_step n g x ∙ ap (λ (t : Told). line_reported t t.outcome (session n g (after_line g t x))) is
 
 remembered_more : (adds : Bool) (text : List ℕ) (lines : List (List ℕ)) (h : Filed) → remembered adds lines (remembered adds (text ∷ []) h) ≡ remembered adds (text ∷ lines) h
 remembered_more true text lines h = refl
@@ -38,7 +45,7 @@ fault_by r e d one other = cc
 ok_not_err : (u : Unit {0}) (e : ReadlineError) → Ok u ≡ Err e → ⊥
 ok_not_err u e same = absurd (cc)
 
-module _ {D L : Type 0} (shows : D → Bool) (shown : D → List ℕ) (writes : L → Bool) (written_in : L → List ℕ) (g : Given) (steady : Bool) where
+module _ {D L : Type 0} (shows : D → Bool) (shown : D → List ℕ) (writes : L → Bool) (written_in : L → List ℕ) (g : Given) where
   abbrev adds : Bool
   adds = g.config.auto_add_history
 
@@ -46,23 +53,24 @@ module _ {D L : Type 0} (shows : D → Bool) (shown : D → List ℕ) (writes : 
   Whole t o old new result = LineWhole shows shown writes written_in adds (line_bytes g.screen t) o old new result
 
   abbrev Cut : Result (List ℕ) ReadlineError → Work D L → Work D L → Result (Unit {0}) ReadlineError → Type 0
-  Cut o old new result = LineCut shows shown writes written_in adds steady o old new result
+  Cut o old new result = LineCut shows shown writes written_in adds o old new result
 
-  abbrev All : Report → Work D L → Work D L → ReadlineError → Type 0
-  All report old new why = Reads shows shown writes written_in g steady report old new why
+  abbrev All : Report → Work D L → Work D L → Coming → ReadlineError → Type 0
+  All report old new left why = Reads shows shown writes written_in g report old new left why
 
   -- an accepted line, and then a session
-  then_reads : (t : Told) (o : Result (List ℕ) ReadlineError) (later : Report) (old mid new : Work D L) (why : ReadlineError)
-      → Whole t o old mid (Ok (tt {0})) → All later mid new why → All (goes_on t o later) old new why
-  then_reads t (Ok text) later old mid new why w (inl r) = inl (record {
+  then_reads : (t : Told) (o : Result (List ℕ) ReadlineError) (later : Report) (old mid new : Work D L) (left : Coming) (why : ReadlineError)
+      → Whole t o old mid (Ok (tt {0})) → All later mid new left why → All (line_reported t o later) old new left why
+  then_reads t (Ok text) later old mid new left why w (inl r) = inl (record {
     why_is = r.why_is;
+    rest_is = r.rest_is;
     history_is = r.history_is ∙ (ap (λ h. remembered adds later.accepted h) w.history_is ∙ remembered_more adds text later.accepted old.history);
     drawn = Takes-then shows shown old.display mid.display new.display (line_bytes g.screen t) (display_bytes g.screen later) w.drawn r.drawn;
     wrote =
         let P : List ℕ → Type 0 = λ line. Takes writes written_in old.lines new.lines (line ++ lines_text later.accepted) in
         subst P (append-nil (line_text text)) (Takes-then writes written_in old.lines mid.lines new.lines (lines_text (text ∷ [])) (lines_text later.accepted) w.wrote r.wrote);
   })
-  then_reads t (Ok text) later old mid new why w (inr r) = inr (record {
+  then_reads t (Ok text) later old mid new left why w (inr r) = inr (record {
     cut = r.cut;
     written = text ∷ r.written;
     in_hand = r.in_hand;
@@ -80,26 +88,27 @@ module _ {D L : Type 0} (shows : D → Bool) (shown : D → List ℕ) (writes : 
     whole = r.whole;
     history_is = r.history_is ∙ (ap (λ h. remembered adds (r.written ++ r.in_hand) h) w.history_is ∙ remembered_more adds text (r.written ++ r.in_hand) old.history);
   })
-  then_reads t (Err e) later old mid new why w r = absurd (ok_not_err (tt {0}) e w.result_is)
+  then_reads t (Err e) later old mid new left why w r = absurd (ok_not_err (tt {0}) e w.result_is)
 
   -- the line that ends the session
-  ends_reads : (t : Told) (o : Result (List ℕ) ReadlineError) (later : Report) (old new : Work D L) (e : ReadlineError)
-      → Whole t o old new (Err e) → All (goes_on t o later) old new e
-  ends_reads t (Ok text) later old new e w = absurd (ok_not_err (tt {0}) e (sym w.result_is))
-  ends_reads t (Err d) later old new e w = inl (record {
+  ends_reads : (t : Told) (o : Result (List ℕ) ReadlineError) (later : Report) (old new : Work D L) (left : Coming) (e : ReadlineError)
+      → Whole t o old new (Err e) → left ≡ t.rest → All (line_reported t o later) old new left e
+  ends_reads t (Ok text) later old new left e w rest = absurd (ok_not_err (tt {0}) e (sym w.result_is))
+  ends_reads t (Err d) later old new left e w rest = inl (record {
     why_is = fault_by (Err e) e d refl w.result_is;
+    rest_is = rest;
     history_is = w.history_is ∙ sym (remembered_none adds old.history);
     drawn = let P : List ℕ → Type 0 = Takes shows shown old.display new.display in subst P (sym (append-nil (line_bytes g.screen t))) w.drawn;
     wrote = w.wrote;
   })
 
   -- a line that a fault cut off
-  cut_reads : (t : Told) (o : Result (List ℕ) ReadlineError) (later : Report) (old new : Work D L) (e : ReadlineError)
-      → Cut o old new (Err e) → All (goes_on t o later) old new e
-  cut_reads t (Ok text) later old new e c =
+  cut_reads : (t : Told) (o : Result (List ℕ) ReadlineError) (later : Report) (old new : Work D L) (left : Coming) (e : ReadlineError)
+      → Cut o old new (Err e) → All (line_reported t o later) old new left e
+  cut_reads t (Ok text) later old new left e c =
       let same : e ≡ c.fault = fault_by (Err e) e c.fault refl c.result_is in
       inr (record {
-        cut = let P : ReadlineError → Type 0 = CutsBy steady in subst P (sym same) c.cut;
+        cut = let P : ReadlineError → Type 0 = CutsBy in subst P (sym same) c.cut;
         written = [];
         in_hand = c.in_hand;
         others = c.others ++ later.accepted;
@@ -112,10 +121,10 @@ module _ {D L : Type 0} (shows : D → Bool) (shown : D → List ℕ) (writes : 
         whole = λ other. c.whole (λ lines. other (same ∙ lines));
         history_is = c.history_is;
       })
-  cut_reads t (Err d) later old new e c =
+  cut_reads t (Err d) later old new left e c =
       let same : e ≡ c.fault = fault_by (Err e) e c.fault refl c.result_is in
       inr (record {
-        cut = let P : ReadlineError → Type 0 = CutsBy steady in subst P (sym same) c.cut;
+        cut = let P : ReadlineError → Type 0 = CutsBy in subst P (sym same) c.cut;
         written = [];
         in_hand = c.in_hand;
         others = c.others;
@@ -134,6 +143,12 @@ lower a b m less below = search arith
 
 -- ---- the loop
 
+module _ {S H D L : Type 0} (k : Known S D L) where
+  -- a session from this desk on, over what is heard of what is to come there
+  abbrev pub Onwards : Given → ℕ → Desk S H D L → Work D L → Coming → ReadlineError → Type 0
+  Onwards g n d end left why =
+      (heard : Coming) × HeardAt k d heard × Reads k.shows k.shown k.writes k.written_in g (session n g (hearing k d heard)) (work_of k d) end left why
+
 -- lines were taken: what is read, drawn, kept and written from here on is, with them, what is so from the first desk on
 pub record Onward {S H D L : Type 0} (k : Known S D L) (g g' : Given) (first now : Desk S H D L) : Type 0 where
   pub told : IsTrue (feed_of k first).told → IsTrue (feed_of k now).told
@@ -141,9 +156,7 @@ pub record Onward {S H D L : Type 0} (k : Known S D L) (g g' : Given) (first now
   pub given : IsTrue (feed_of k first).told → g' ≡ g
   pub custom : g'.custom ≡ g.custom
   pub onward : IsTrue (feed_of k first).told → (n : ℕ) → (feed_of k first).bound < n → (m : ℕ) × ((feed_of k now).bound < m)
-      × ((end : Work D L) (why : ReadlineError)
-      → Reads k.shows k.shown k.writes k.written_in g (feed_of k first).steady (session m g (standing_of k now)) (work_of k now) end why
-      → Reads k.shows k.shown k.writes k.written_in g (feed_of k first).steady (session n g (standing_of k first)) (work_of k first) end why)
+      × ((end : Work D L) (left : Coming) (why : ReadlineError) → Onwards k g m now end left why → Onwards k g n first end left why)
 
 module _ {S H D L : Type 0} (k : Known S D L) where
   pub onward_nowhere : (g : Given) (d : Desk S H D L) → Onward k g g d d
@@ -152,38 +165,55 @@ module _ {S H D L : Type 0} (k : Known S D L) where
     steady = refl;
     given = λ t. refl;
     custom = refl;
-    onward = λ t n b. (n, b, λ end why r. r);
+    onward = λ t n b. (n, b, λ end left why r. r);
   }
 
-  abbrev At : Given → Bool → ℕ → Desk S H D L → Work D L → ReadlineError → Type 0
-  At g steady n d end why = Reads k.shows k.shown k.writes k.written_in g steady (session n g (standing_of k d)) (work_of k d) end why
+  -- what a line makes of what is heard
+  abbrev LinedAt : Given → ℕ → Desk S H D L → Desk S H D L → Result (Unit {0}) ReadlineError → Type 0
+  LinedAt g n now next result = (heard : Coming) × HeardAt k now heard × Lined k g (line_in n g (hearing k now heard)) now next result
 
-  -- a line that was accepted
-  line_on : (g : Given) (n : ℕ) (now next : Desk S H D L) → Lined k g (line_in (suc n) g (standing_of k now)) now next (Ok (tt {0}))
-      → (end : Work D L) (why : ReadlineError) → At g (feed_of k now).steady n next end why → At g (feed_of k now).steady (suc n) now end why
-  line_on g n now next (inl w) end why r =
-      let t = line_in (suc n) g (standing_of k now) in
-      let R : Report → Type 0 = λ report. Reads k.shows k.shown k.writes k.written_in g (feed_of k now).steady report (work_of k next) end why in
-      let X : Standing → Type 0 = λ x. R (session n g x) in
-      let Q : Report → Type 0 = λ report. Reads k.shows k.shown k.writes k.written_in g (feed_of k now).steady report (work_of k now) end why in
-      subst Q (sym (session_step n g (standing_of k now)))
-      (then_reads k.shows k.shown k.writes k.written_in g (feed_of k now).steady t t.outcome (session n g (after_line g t (standing_of k now)))
-      (work_of k now) (work_of k next) end why w.0 (subst X w.1 r))
-  line_on g n now next (inr c) end why r = absurd (ok_not_err (tt {0}) c.fault c.result_is)
+  -- a line that was accepted, and a session after it
+  line_then : (g : Given) (n : ℕ) (now next : Desk S H D L) (heard later : Coming) (t : Told) → line_in (suc n) g (hearing k now heard) ≡ t
+      → LineWhole k.shows k.shown k.writes k.written_in g.config.auto_add_history (line_bytes g.screen t) t.outcome (work_of k now) (work_of k next) (Ok (tt {0}))
+      → hearing k next later ≡ after_line g t (hearing k now heard) → (end : Work D L) (left : Coming) (why : ReadlineError)
+      → Reads k.shows k.shown k.writes k.written_in g (session n g (hearing k next later)) (work_of k next) end left why
+      → Reads k.shows k.shown k.writes k.written_in g (session (suc n) g (hearing k now heard)) (work_of k now) end left why
+  line_then g n now next heard later t is whole after end left why r =
+      let x = hearing k now heard in
+      let X : SessionState → Type 0 = λ x. Reads k.shows k.shown k.writes k.written_in g (session n g x) (work_of k next) end left why in
+      let Q : Report → Type 0 = λ report. Reads k.shows k.shown k.writes k.written_in g report (work_of k now) end left why in
+      subst Q (sym (session_by n g x t is))
+      (then_reads k.shows k.shown k.writes k.written_in g t t.outcome (session n g (after_line g t x)) (work_of k now) (work_of k next) end left why whole (subst X after r))
+
+  line_on : (g : Given) (n : ℕ) (now next : Desk S H D L) → (feed_of k next).steady ≡ (feed_of k now).steady → LinedAt g (suc n) now next (Ok (tt {0}))
+      → (end : Work D L) (left : Coming) (why : ReadlineError) → Onwards k g n next end left why → Onwards k g (suc n) now end left why
+  line_on g n now next same (heard, is, inl w) end left why (later, later_is, r) =
+      let t = line_in (suc n) g (hearing k now heard) in
+      let steady = (feed_of k now).steady in
+      let P : Coming → Type 0 = λ c. Heard steady c later in
+      let Q : Bool → Type 0 = λ steady. Heard steady (feed_of k next).coming later in
+      let rest : Heard steady t.rest later = subst P (ap (λ (x : SessionState). x.coming) w.1) (subst Q same later_is) in
+      let first = heard_before (suc n) g (session_state_of k now) steady (feed_of k now).coming heard is t.outcome refl w.0.result_is later rest in
+      let over : SessionState → SessionState = λ x. record x { coming = later } in
+      (first.0, first.1, line_then g n now next first.0 later (record t { rest = later }) first.2 w.0 (ap over w.1) end left why r)
+  line_on g n now next same (heard, is, inr c) end left why r = absurd (ok_not_err (tt {0}) c.fault c.result_is)
 
   -- a line that wasn't
-  line_off : (g : Given) (n : ℕ) (now next : Desk S H D L) (e : ReadlineError) → Lined k g (line_in (suc n) g (standing_of k now)) now next (Err e)
-      → At g (feed_of k now).steady (suc n) now (work_of k next) e
-  line_off g n now next e lined =
-      let Q : Report → Type 0 = λ report. Reads k.shows k.shown k.writes k.written_in g (feed_of k now).steady report (work_of k now) (work_of k next) e in
-      subst Q (sym (session_step n g (standing_of k now))) (by_cases lined)
+  line_off : (g : Given) (n : ℕ) (now next : Desk S H D L) (e : ReadlineError) → LinedAt g (suc n) now next (Err e)
+      → Onwards k g (suc n) now (work_of k next) (feed_of k next).coming e
+  line_off g n now next e (heard, is, lined) =
+      let x = hearing k now heard in
+      let t = line_in (suc n) g x in
+      let Q : Report → Type 0 = λ report. Reads k.shows k.shown k.writes k.written_in g report (work_of k now) (work_of k next) (feed_of k next).coming e in
+      (heard, is, subst Q (sym (session_step n g x)) (by_cases x t lined))
     where
-      by_cases : Lined k g (line_in (suc n) g (standing_of k now)) now next (Err e)
-          → Reads k.shows k.shown k.writes k.written_in g (feed_of k now).steady
-          (goes_on (line_in (suc n) g (standing_of k now)) (line_in (suc n) g (standing_of k now)).outcome
-          (session n g (after_line g (line_in (suc n) g (standing_of k now)) (standing_of k now)))) (work_of k now) (work_of k next) e
-      by_cases (inl w) = ends_reads k.shows k.shown k.writes k.written_in g (feed_of k now).steady _ _ _ (work_of k now) (work_of k next) e w.0
-      by_cases (inr c) = cut_reads k.shows k.shown k.writes k.written_in g (feed_of k now).steady _ _ _ (work_of k now) (work_of k next) e c
+      by_cases : (x : SessionState) (t : Told) → Lined k g t now next (Err e)
+          → Reads k.shows k.shown k.writes k.written_in g (line_reported t t.outcome (session n g (after_line g t x))) (work_of k now) (work_of k next) (feed_of k next).coming e
+      by_cases x t (inl w) =
+          ends_reads k.shows k.shown k.writes k.written_in g t t.outcome (session n g (after_line g t x)) (work_of k now) (work_of k next) (feed_of k next).coming e w.0
+          (ap (λ (x : SessionState). x.coming) w.1)
+      by_cases x t (inr c) =
+          cut_reads k.shows k.shown k.writes k.written_in g t t.outcome (session n g (after_line g t x)) (work_of k now) (work_of k next) (feed_of k next).coming e c
 
   pub onward_line : (g g' g'' : Given) (first now next : Desk S H D L) → Onward k g g' first now
       → TakesLine k g' g'' now next (Ok (tt {0})) → Onward k g g'' first next
@@ -196,34 +226,30 @@ module _ {S H D L : Type 0} (k : Known S D L) where
   }
     where
       went : IsTrue (feed_of k first).told → (m : ℕ) → (feed_of k now).bound < m
-          → {Q : Work D L → ReadlineError → Type 0} → ((end : Work D L) (why : ReadlineError) → At g (feed_of k first).steady m now end why → Q end why)
-          → (m' : ℕ) × ((feed_of k next).bound < m') × ((end : Work D L) (why : ReadlineError) → At g (feed_of k first).steady m' next end why → Q end why)
+          → {Q : Work D L → Coming → ReadlineError → Type 0}
+          → ((end : Work D L) (left : Coming) (why : ReadlineError) → Onwards k g m now end left why → Q end left why)
+          → (m' : ℕ) × ((feed_of k next).bound < m') × ((end : Work D L) (left : Coming) (why : ReadlineError) → Onwards k g m' next end left why → Q end left why)
       went t zero b so = absurd (search arith)
       went t (suc m) b {Q} so =
-          let lined : Lined k g (line_in (suc m) g (standing_of k now)) now next (Ok (tt {0})) =
-          let P : Given → Type 0 = λ g. Lined k g (line_in (suc m) g (standing_of k now)) now next (Ok (tt {0})) in
-          subst P (before.given t) (line.goes (before.told t) (suc m) b) in (
+          let P : Given → Type 0 = λ g. LinedAt g (suc m) now next (Ok (tt {0})) in
+          let lined = subst P (before.given t) (line.goes (before.told t) (suc m) b) in (
             m,
             lower (feed_of k next).bound (feed_of k now).bound m line.falls b,
-            λ end why r.
-                let R : Bool → Type 0 = λ steady. At g steady m next end why → At g steady (suc m) now end why in
-                so end why (subst R before.steady (line_on g m now next lined end why) r),
+            λ end left why r. so end left why (line_on g m now next line.steady lined end left why r),
           )
 
   pub onward_end : (g g' g'' : Given) (first now next : Desk S H D L) (e : ReadlineError) → Onward k g g' first now → TakesLine k g' g'' now next (Err e)
       → TakesLines k g first next e
   onward_end g g' g'' first now next e before line = record {
-    goes = λ t n b. let so = before.onward t n b in ends t so.0 so.1 (so.2 (work_of k next) e);
+    goes = λ t n b. let so = before.onward t n b in ends t so.0 so.1 (so.2 (work_of k next) (feed_of k next).coming e);
     reason = reason_kept e line.reason;
   }
     where
-      ends : IsTrue (feed_of k first).told → (m : ℕ) → (feed_of k now).bound < m → {Q : Type 0} → (At g (feed_of k first).steady m now (work_of k next) e → Q) → Q
+      ends : IsTrue (feed_of k first).told → (m : ℕ) → (feed_of k now).bound < m → {Q : Type 0} → (Onwards k g m now (work_of k next) (feed_of k next).coming e → Q) → Q
       ends t zero b so = absurd (search arith)
       ends t (suc m) b so =
-          let P : Given → Type 0 = λ g. Lined k g (line_in (suc m) g (standing_of k now)) now next (Err e) in
-          let lined = subst P (before.given t) (line.goes (before.told t) (suc m) b) in
-          let R : Bool → Type 0 = λ steady. At g steady (suc m) now (work_of k next) e in
-          so (subst R before.steady (line_off g m now next e lined))
+          let P : Given → Type 0 = λ g. LinedAt g (suc m) now next (Err e) in
+          so (line_off g m now next e (subst P (before.given t) (line.goes (before.told t) (suc m) b)))
 
       reason_kept : (e : ReadlineError) → DeskReason k (feed_of k now).told g' next e → DeskReason k (feed_of k first).told g next e
       reason_kept Eof r = tt

@@ -2,17 +2,17 @@
 use Rattle.std.proofs.Common.{◌≡◌, ℕ, ◌≤◌, Bool, true, false, List, [], ◌∷◌, ◌++◌, Some, refl, sym, ap, ◌∙◌, subst, append_assoc, append-nil, arith, if◌then◌else◌}
 use Rattle.std.specs.List.{filter, flat_map}
 use Rattle.line_buffer.specs.declared.layout.Layout.{Layout}
-use Rattle.line_editor.specs.Courses.{Turn, Open, Accept, Last, Course}
+use Rattle.line_editor.specs.Courses.{Turn, Open, Accept, Last, TurnsLead}
 use Rattle.line_editor.specs.Redraws.{Redraw, one, fresh}
 use Rattle.line_editor.specs.Sights.{Sight, no_sight, sight, sight_all, FitsAll}
 use Rattle.line_screen.specs.Calls.{Screen, bytes_of, ruler_of}
-use Rattle.line_screen.specs.Chain.{View, Good, empty_at}
+use Rattle.line_screen.specs.Chain.{View, Good, empty_view}
 use Rattle.line_screen.specs.Display.{Display, Placed, meaning, at_cursor}
 use Rattle.line_screen.specs.Drawing.{row_break, break_if, next_row}
 use Rattle.line_screen.specs.Laws.{widths}
 use Rattle.line_screen.specs.Showing.{finish_of, cursor_of, above}
 use Rattle.line_screen.proofs.LawLemmas.{start_is_empty, shown_is_meant, line_ends_anywhere, ended_line_stays}
-use Rattle.keyline.specs.Shows.{picture, place_in, LowAll, LowTurns, top_by, top_after, next_top, above_by, above_after, drawn_by, bytes_for, Means, MomentShown, EachShown, DrawingsShow}
+use Rattle.keyline.specs.Shows.{picture, place_in, LowAll, LowTurns, top_by, top_after, next_top, above_by, above_after, drawn_by, bytes_for, HasMeaning, MomentShown, EachShown, DrawingsShow}
 use Rattle.keyline.proofs.ShowSteps.{view_in, Holds, fresh_holds, step}
 
 pub flat_both : {A B : Type 0} (f : A → List B) (xs ys : List A) → flat_map f (xs ++ ys) ≡ flat_map f xs ++ flat_map f ys
@@ -46,7 +46,7 @@ module _ (s : Screen) (low : 2 ≤ s.columns) (high : s.columns ≤ 1000) (own :
       record { display = m.0; means = m.1; shows = m.4 (place_by x false unended); over_is = m.3 }
 
   -- CR LF wherever the cursor stands: every cell stays
-  pub closed : (bytes : List ℕ) (over : List Placed) (w : View) → Good s.columns (widths s) bytes over w → (breaks : Bool) → Means s (bytes ++ break_if breaks) w.top over
+  pub closed : (bytes : List ℕ) (over : List Placed) (w : View) → Good s.columns (widths s) bytes over w → (breaks : Bool) → HasMeaning s (bytes ++ break_if breaks) w.top over
   closed bytes over w g true =
       let m = shown_is_meant s bytes over w g in
       let e = line_ends_anywhere s (omega arith) bytes over w g in
@@ -57,14 +57,14 @@ module _ (s : Screen) (low : 2 ≤ s.columns) (high : s.columns ≤ 1000) (own :
 
   -- the next line's top, under all that stands
   next_line : (bytes : List ℕ) (over : List Placed) (top : ℕ) (x : Sight) (g : Good s.columns (widths s) bytes over (view_in s top x)) → x.ended ≡ true
-      → (let m = closed bytes over (view_in s top x) g true in Good s.columns (widths s) (bytes ++ row_break) m.display.placed (empty_at (next_top s top x)))
+      → (let m = closed bytes over (view_in s top x) g true in Good s.columns (widths s) (bytes ++ row_break) m.display.placed (empty_view (next_top s top x)))
   unfolding closed
   next_line bytes over top x g ended =
-      let e = ended_line_stays s low high bytes over (view_in s top x) (empty_at (next_top s top x)) row_break g (record { text_is = refl; place_is = place_by x true ended; view = refl }) in
+      let e = ended_line_stays s low high bytes over (view_in s top x) (empty_view (next_top s top x)) row_break g (record { text_is = refl; place_is = place_by x true ended; view = refl }) in
       let closing = line_ends_anywhere s (omega arith) bytes over (view_in s top x) g in
-      subst (λ xs. Good s.columns (widths s) (bytes ++ row_break) xs (empty_at (next_top s top x))) (ap (λ (d : Display). d.placed) (some_same (sym e.1 ∙ closing.1))) e.2
+      subst (λ xs. Good s.columns (widths s) (bytes ++ row_break) xs (empty_view (next_top s top x))) (ap (λ (d : Display). d.placed) (some_same (sym e.1 ∙ closing.1))) e.2
 
-  shown_each : (bytes : List ℕ) (over : List Placed) (top : ℕ) (l : Layout) (x : Sight) (turns : List Turn) → Holds s bytes over top l x → Course own x turns → LowTurns s x turns → EachShown s bytes top over l turns
+  shown_each : (bytes : List ℕ) (over : List Placed) (top : ℕ) (l : Layout) (x : Sight) (turns : List Turn) → Holds s bytes over top l x → TurnsLead own x turns → LowTurns s x turns → EachShown s bytes top over l turns
   shown_each bytes over top l x [] h course rows = tt
   shown_each bytes over top l x (Open rs y ∷ rest) h course rows =
       let t = course.0 in

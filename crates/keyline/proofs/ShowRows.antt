@@ -1,12 +1,12 @@
 -- A worked course: its parts as bytes, and that it is one.
-use Rattle.std.proofs.Common.{◌≡◌, ℕ, Bool, true, false, List, [], ◌∷◌, ◌++◌, None, refl}
+use Rattle.std.proofs.Common.{◌≡◌, ℕ, true, List, [], ◌∷◌, ◌++◌, None, refl}
 use Rattle.std.specs.Prelude.{codes}
 use Rattle.line_buffer.specs.declared.layout.GraphemeClusterMode.TheVariants as Modes
 use Rattle.line_config.specs.declared.settings.BellStyle.TheVariants as Bells
-use Rattle.line_editor.specs.Courses.{Turn, Open, Accept, Last, Course}
+use Rattle.line_editor.specs.Courses.{Turn, Open, Accept, Last, TurnsLead}
 use Rattle.line_editor.specs.Redraws.{fresh}
 use Rattle.line_editor.specs.Redraws.Redraw.{Drawn, Moved, Typed, Bared, ToEnd, Cleared}
-use Rattle.line_editor.specs.Sights.{Sight, sight_as, ended_sight, no_sight}
+use Rattle.line_editor.specs.Sights.{sight_as, ended_sight, no_sight}
 use Rattle.line_screen.specs.Calls.{Screen}
 use Rattle.keyline.specs.SessionShows.{parts_of}
 
@@ -45,7 +45,7 @@ row_bytes : parts_of eighty (fresh Modes.Unicode) row ≡ (empty_drawn ∷ (a �
 unfolding row own eighty a plain empty_drawn cleared_drawn line_end lib.Utf8.encode
 row_bytes = refl
 
-row_stands : Course own no_sight row
+row_stands : TurnsLead own no_sight row
 unfolding row own a
 row_stands = (
   record { fits = ((λ e. refl), tt); leads = refl },

@@ -4,19 +4,20 @@ use Rattle.std.specs.List.{list_all, filter, flat_map, FoldsTo}
 use Rattle.std.proofs.lemmas.Bool.{and_parts, and_from, eqb-true, lt-ltb, ltb-true}
 use Rattle.std.proofs.lemmas.Bool.Decides.{nat_tests}
 use Rattle.std.proofs.lemmas.Str.{encode_ascii}
+use Rattle.line_buffer.specs.CellOrder.{same_cell}
 use Rattle.line_buffer.specs.Cells.{origin}
 use Rattle.line_buffer.specs.Short.{is_printable}
 use Rattle.line_buffer.specs.declared.layout.Layout.{Layout}
 use Rattle.line_buffer.specs.declared.layout.Position.{Position}
 use Rattle.line_editor.specs.Calls.{Call}
 use Rattle.line_editor.specs.Calls.Call.{Draw, Move, Write, Beep, ClearScreen, ClearToEol}
-use Rattle.line_editor.specs.Redraws.{Redraw, text_of, fresh, layout_of, full, same_cell, nothing_asked, moved_by_call, column_on, column_back, typed_short, taken_short, may_type, may_take, one}
+use Rattle.line_editor.specs.Redraws.{Redraw, info_text, fresh, layout_of, full, nothing_asked, moved_by_call, column_on, column_back, typed_short, taken_short, may_type, may_take, one}
 use Rattle.line_editor.specs.Redraws.Redraw.{Drawn, Moved, Typed, Taken, Bared, ToEnd, Beeped, Cleared}
 use Rattle.line_editor.specs.Sights.{Sight, sight_with, sight_as, no_sight, sight, ended_sight, TypedFits, TakenFits, Fits}
 use Rattle.line_screen.specs.Calls.{Screen, bytes_of, ruler_of}
-use Rattle.line_screen.specs.Chain.{View, Good, Inside, Leads, empty_at, Types}
+use Rattle.line_screen.specs.Chain.{View, Good, Inside, LeadsView, empty_view, Types}
 use Rattle.line_screen.specs.Display.{Placed, right}
-use Rattle.line_screen.specs.Drawing.{row_break, text_items, after}
+use Rattle.line_screen.specs.Drawing.{row_break, text_items, place_after}
 use Rattle.line_screen.specs.Laws.{widths}
 use Rattle.line_screen.specs.Measure.{measure_of, saturated}
 use Rattle.line_screen.specs.Showing.{Picture, finish_of, cursor_of, above}
@@ -49,7 +50,7 @@ not_true : (b : Bool) → not b ≡ true → b ≡ false
 not_true true h = sym h
 not_true false h = refl
 
-no_text : (info : Option (List ℕ)) → is_some info ≡ false → text_of info ≡ []
+no_text : (info : Option (List ℕ)) → is_some info ≡ false → info_text info ≡ []
 no_text None h = refl
 no_text (Some x) h = cc
 
@@ -75,7 +76,7 @@ module _ (s : Screen) (low : 2 ≤ s.columns) (high : s.columns ≤ 1000) where
   -- ---- a call after the bytes so far
 
   -- the rows above are the same
-  led : (bytes : List ℕ) (over : List Placed) (a b : View) (call : Call) → Good s.columns (widths s) bytes over a → Leads s.columns (widths s) a call b
+  led : (bytes : List ℕ) (over : List Placed) (a b : View) (call : Call) → Good s.columns (widths s) bytes over a → LeadsView s.columns (widths s) a call b
       → b.top ≡ a.top → call ≢ ClearScreen → Good s.columns (widths s) (bytes ++ bytes_of s call) over b
   led bytes over a b call g h top other =
       let done = calls_lead s low high bytes over a b call g h in
@@ -86,19 +87,19 @@ module _ (s : Screen) (low : 2 ≤ s.columns) (high : s.columns ≤ 1000) where
   bytes_one : (bytes : List ℕ) (call : Call) → bytes ++ bytes_of s call ≡ bytes ++ flat_map (bytes_of s) (call ∷ [])
   bytes_one bytes call = ap (λ x. bytes ++ x) (sym (append-nil (bytes_of s call)))
 
-  one_led : (bytes : List ℕ) (over : List Placed) (a b : View) (call : Call) → Good s.columns (widths s) bytes over a → Leads s.columns (widths s) a call b
+  one_led : (bytes : List ℕ) (over : List Placed) (a b : View) (call : Call) → Good s.columns (widths s) bytes over a → LeadsView s.columns (widths s) a call b
       → b.top ≡ a.top → call ≢ ClearScreen → Good s.columns (widths s) (bytes ++ flat_map (bytes_of s) (call ∷ [])) over b
   one_led bytes over a b call g h top other = subst (λ x. Good s.columns (widths s) x over b) (bytes_one bytes call) (led bytes over a b call g h top other)
 
   none_led : (bytes : List ℕ) (over : List Placed) (a : View) → Good s.columns (widths s) bytes over a → Good s.columns (widths s) (bytes ++ flat_map (bytes_of s) []) over a
   none_led bytes over a g = subst (λ x. Good s.columns (widths s) x over a) (sym (append-nil bytes)) g
 
-  cleared_led : (bytes : List ℕ) (over : List Placed) (a : View) → Good s.columns (widths s) bytes over a → Good s.columns (widths s) (bytes ++ flat_map (bytes_of s) (ClearScreen ∷ [])) [] (empty_at 0)
+  cleared_led : (bytes : List ℕ) (over : List Placed) (a : View) → Good s.columns (widths s) bytes over a → Good s.columns (widths s) (bytes ++ flat_map (bytes_of s) (ClearScreen ∷ [])) [] (empty_view 0)
   cleared_led bytes over a g =
-      let done = calls_lead s low high bytes over a (empty_at 0) ClearScreen g refl in
+      let done = calls_lead s low high bytes over a (empty_view 0) ClearScreen g refl in
       let good = done.1 in
       let none : done.0 ≡ [] = sym good.over_is ∙ none_above_first good.display.placed in
-      subst (λ x. Good s.columns (widths s) x [] (empty_at 0)) (bytes_one bytes ClearScreen) (subst (λ xs. Good s.columns (widths s) (bytes ++ bytes_of s ClearScreen) xs (empty_at 0)) none good)
+      subst (λ x. Good s.columns (widths s) x [] (empty_view 0)) (bytes_one bytes ClearScreen) (subst (λ xs. Good s.columns (widths s) (bytes ++ bytes_of s ClearScreen) xs (empty_view 0)) none good)
 
   -- ---- measures
 
@@ -109,7 +110,7 @@ module _ (s : Screen) (low : 2 ≤ s.columns) (high : s.columns ≤ 1000) where
   inside_finish x h = let a = h.cursor in let b = h.finish in (drawable s.mode s.columns some (picture x) (omega arith) (omega arith)).finish
 
   nothing_measured : measure_of s.mode s.columns [] origin ≡ origin
-  nothing_measured = ap (λ b. saturated (after s.columns (text_items (widths s) []) (if b then origin else record { col = 0; row = 1 }))) (lt-ltb 0 s.columns some)
+  nothing_measured = ap (λ b. saturated (place_after s.columns (text_items (widths s) []) (if b then origin else record { col = 0; row = 1 }))) (lt-ltb 0 s.columns some)
 
   -- ---- a full drawing, over anything that is shown, with any layout whose cursor is the display's
 
@@ -127,7 +128,7 @@ module _ (s : Screen) (low : 2 ≤ s.columns) (high : s.columns ≤ 1000) where
       let row_a = ap (λ p. p.row) cursor_is in
       let row_b = ap (λ p. p.row) finish_is in
       record {
-        good = one_led bytes over (view_in s top x) (view_in s top y) (Draw (Some l.cursor.row) prompt text (text_of info) new.end new.cursor) g
+        good = one_led bytes over (view_in s top x) (view_in s top y) (Draw (Some l.cursor.row) prompt text (info_text info) new.end new.cursor) g
             (ap (λ p. p.row) cursor, record { prompt_is = refl; line_is = refl; info_is = refl; finish_is = finish_is; cursor_is = cursor_is; top_is = refl; place_is = sym cursor_is; finish_row = omega arith; cursor_row = omega arith })
             refl (λ e. cc);
         cursor = cursor_is;
@@ -200,7 +201,7 @@ module _ (s : Screen) (low : 2 ≤ s.columns) (high : s.columns ≤ 1000) where
   place_if : (x : Sight) → x.ended ≡ false → place_in s x ≡ cursor_of s.columns (widths s) (picture x)
   place_if x e = ap (λ b. if b then finish_of s.columns (widths s) (picture x) else cursor_of s.columns (widths s) (picture x)) e
 
-  typed_place : (a b : View) (c : ℕ) → Leads s.columns (widths s) a (Write (c ∷ [])) b → b.place ≡ cursor_of s.columns (widths s) b.shown
+  typed_place : (a b : View) (c : ℕ) → LeadsView s.columns (widths s) a (Write (c ∷ [])) b → b.place ≡ cursor_of s.columns (widths s) b.shown
   typed_place a b c (inl t) = typed_at a b c t
     where
       typed_at : (a b : View) (c : ℕ) (t : Types s.columns (widths s) a (c ∷ []) b) → b.place ≡ cursor_of s.columns (widths s) b.shown
@@ -209,7 +210,7 @@ module _ (s : Screen) (low : 2 ≤ s.columns) (high : s.columns ≤ 1000) where
 
   -- nothing after a line, with the cursor at its end
   end_is_cursor : (v : Picture) → v.info ≡ [] → v.place ≡ length v.line → finish_of s.columns (widths s) v ≡ cursor_of s.columns (widths s) v
-  end_is_cursor v none end = ap (λ is. after s.columns is origin) (line_items s.mode s.columns some few v none) ∙ sym (line_cursor s.mode s.columns some few v end)
+  end_is_cursor v none end = ap (λ is. place_after s.columns is origin) (line_items s.mode s.columns some few v none) ∙ sym (line_cursor s.mode s.columns some few v end)
 
   typed_is : (x : Sight) (prompt : List ℕ) (c : ℕ) (text : List ℕ) (at : ℕ) → TypedFits x prompt c text at → sight_as prompt text at None ≡ sight_as x.prompt (x.line ++ c ∷ []) (x.place + 1) None
   typed_is x prompt c text at t =
@@ -222,7 +223,7 @@ module _ (s : Screen) (low : 2 ≤ s.columns) (high : s.columns ≤ 1000) where
   typed_if bytes over top l x prompt c text at true h given unended t rows e =
       let w = view_in s top x in
       let parts = and_parts (not l.has_info) (nat_lt (l.cursor.col + 1) s.columns) e in
-      let none : text_of x.info ≡ [] = no_text x.info (sym h.info_is ∙ not_true l.has_info parts.0) in
+      let none : info_text x.info ≡ [] = no_text x.info (sym h.info_is ∙ not_true l.has_info parts.0) in
       let room : nat_lt (w.place.col + 1) s.columns ≡ true = subst (λ p. nat_lt (p.col + 1) s.columns ≡ true) h.cursor parts.1 in
       let behind = ap (λ b. if b then Some (right 1 w.place) else None) (and_from (is_printable c) (nat_lt (w.place.col + 1) s.columns) t.printable room) in
       let y = sight_as x.prompt (x.line ++ c ∷ []) (x.place + 1) None in
@@ -247,7 +248,7 @@ module _ (s : Screen) (low : 2 ≤ s.columns) (high : s.columns ≤ 1000) where
 
   -- ---- a kill at the line's end
 
-  two_led : (bytes : List ℕ) (over : List Placed) (a b : View) (old new : Position) → Good s.columns (widths s) bytes over a → FoldsTo (Leads s.columns (widths s)) a (Move old new ∷ ClearToEol ∷ []) b
+  two_led : (bytes : List ℕ) (over : List Placed) (a b : View) (old new : Position) → Good s.columns (widths s) bytes over a → FoldsTo (LeadsView s.columns (widths s)) a (Move old new ∷ ClearToEol ∷ []) b
       → Good s.columns (widths s) (bytes ++ flat_map (bytes_of s) (Move old new ∷ ClearToEol ∷ [])) over b
   two_led bytes over a b old new g f =
       let m = f.1 in
@@ -258,7 +259,7 @@ module _ (s : Screen) (low : 2 ≤ s.columns) (high : s.columns ≤ 1000) where
       append_assoc bytes (bytes_of s (Move old new)) (bytes_of s ClearToEol) ∙ ap (λ x. bytes ++ (bytes_of s (Move old new) ++ x)) (sym (append-nil (bytes_of s ClearToEol))) in
       subst (λ x. Good s.columns (widths s) x over b) joined (subst (Good s.columns (widths s) ((bytes ++ bytes_of s (Move old new)) ++ bytes_of s ClearToEol) over) f.2.2 second)
 
-  killed_place : (a b : View) (old new : Position) → FoldsTo (Leads s.columns (widths s)) a (Move old new ∷ ClearToEol ∷ []) b → b.place ≡ cursor_of s.columns (widths s) b.shown
+  killed_place : (a b : View) (old new : Position) → FoldsTo (LeadsView s.columns (widths s)) a (Move old new ∷ ClearToEol ∷ []) b → b.place ≡ cursor_of s.columns (widths s) b.shown
   killed_place a b old new f =
       let k = f.2.1 in
       ap (λ (x : View). x.place) (sym f.2.2) ∙ ap (λ (x : View). x.place) k.view ∙ k.place_is
@@ -275,7 +276,7 @@ module _ (s : Screen) (low : 2 ≤ s.columns) (high : s.columns ≤ 1000) where
       let w = view_in s top x in
       let parts = and_parts (not l.has_info) ((l.cursor.row == l.end.row) && nat_le count l.end.col) e in
       let both = and_parts (l.cursor.row == l.end.row) (nat_le count l.end.col) parts.1 in
-      let none : text_of x.info ≡ [] = no_text x.info (sym h.info_is ∙ not_true l.has_info parts.0) in
+      let none : info_text x.info ≡ [] = no_text x.info (sym h.info_is ∙ not_true l.has_info parts.0) in
       let finish = finish_of s.columns (widths s) (picture x) in
       let n = length t.killed in
       let row : w.place.row ≡ finish.row = ap (λ p. p.row) (sym h.cursor) ∙ eqb-true l.cursor.row l.end.row both.0 ∙ ap (λ p. p.row) h.finish in
@@ -312,7 +313,7 @@ module _ (s : Screen) (low : 2 ≤ s.columns) (high : s.columns ≤ 1000) where
 
   -- ---- before anything is drawn
 
-  pub fresh_holds : (bytes : List ℕ) (over : List Placed) (top : ℕ) (l : Layout) → Good s.columns (widths s) bytes over (empty_at top) → Holds s bytes over top (fresh l.grapheme_cluster_mode) no_sight
+  pub fresh_holds : (bytes : List ℕ) (over : List Placed) (top : ℕ) (l : Layout) → Good s.columns (widths s) bytes over (empty_view top) → Holds s bytes over top (fresh l.grapheme_cluster_mode) no_sight
   fresh_holds bytes over top l g = record { good = g; cursor = refl; finish = refl; prompt_size = sym nothing_measured; info_is = refl; given_is = refl }
 
   -- ---- every redraw

@@ -12,7 +12,7 @@ Takes-then told held a b c xs ys first second t =
     let two = second one.0 in
     (two.0, two.1 ∙ ap (λ zs. zs ++ ys) one.1 ∙ append_assoc (held a) xs ys)
 
--- a write that succeeded, and a flush behind what was taken
+-- a write that succeeded, and a flush after what was taken
 pub Takes-write : {D : Type 0} (told : D → Bool) (held : D → List ℕ) (a b : D) (bytes xs : List ℕ) → bytes ≡ xs
     → (IsTrue (told a) → IsTrue (told b)) → (IsTrue (told a) → held b ≡ held a ++ bytes) → Takes told held a b xs
 Takes-write told held a b bytes xs same stays ok t = (stays t, ok t ∙ ap (λ zs. held a ++ zs) same)

@@ -1,5 +1,5 @@
 -- What the end of a line makes of a session's devices and history.
-use Rattle.std.specs.Prelude.{◌≡◌, ◌⊎◌, ℕ, Bool, true, List, Result, Err, IsTrue, IfErr, OnOk, OnErr}
+use Rattle.std.specs.Prelude.{◌≡◌, ◌⊎◌, ℕ, Bool, List, Result, Err, IsTrue, IfErr, OnOk, OnErr}
 use Rattle.line_config.specs.declared.errors.ReadlineError.{ReadlineError}
 use Rattle.line_config.specs.declared.errors.ReadlineError.TheVariants.{Display, Lines, Memory}
 use Rattle.line_config.specs.Sending.{Takes}
@@ -32,8 +32,9 @@ pub record Closes {D L : Type 0} (shows : D → Bool) (shown : D → List ℕ) (
     (writes : L → Bool) (written_in : L → List ℕ) (write_failed : L → Bool) (adds : Bool)
     (outcome : Result (List ℕ) ReadlineError) (old new : Work D L)
     (result : Result (Unit {0}) ReadlineError) : Type 0 where
-  pub goes : LineWhole shows shown writes written_in adds (break_if (breaks outcome)) outcome old new
+  pub goes : LineWhole shows shown writes written_in adds
+      (break_if (breaks outcome)) outcome old new
       result
-      ⊎ LineCut shows shown writes written_in adds true outcome old new result
+      ⊎ LineCut shows shown writes written_in adds outcome old new result
   pub reason : IfErr result (CloseReason outcome (show_failed old.display)
       (show_failed new.display) (write_failed new.lines))

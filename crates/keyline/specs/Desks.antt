@@ -1,18 +1,20 @@
 -- What goes on from line to line, with its devices, and what a line makes of it.
 use Rattle.std.specs.Prelude.{◌≡◌, ◌⊎◌, ℕ, ◌<◌, Bool, List, Result, IsTrue, IfErr, OnOk}
-use Rattle.line_config.specs.Feed.{Feed as Bytes}
+use Rattle.line_config.specs.Feed.{Feed}
 use Rattle.line_config.specs.declared.errors.ReadlineError.{ReadlineError}
-use Rattle.line_keys.specs.Feeds.{Feed}
+use Rattle.line_keys.specs.Coming.{Coming}
+use Rattle.line_keys.specs.Early.{Heard}
+use Rattle.line_keys.specs.Feeds.{KeyFeed}
 use Rattle.line_editor.specs.Lines.{Told}
 use Rattle.line_screen.specs.Calls.{sink_of}
 use Rattle.line_screen.specs.Reader.{items_of, source_of}
-use Rattle.keyline.specs.Playing.{Work, Reason, LineWhole, LineCut, Reads}
-use Rattle.keyline.specs.Sessions.{Given, Standing, line_in, after_line, line_bytes, session}
+use Rattle.keyline.specs.Playing.{Work, SessionReason, LineWhole, LineCut, Reads}
+use Rattle.keyline.specs.Sessions.{Given, SessionState, line_in, after_line, line_bytes, session}
 use Rattle.keyline.specs.declared.desk.Desk.{Desk}
 
 -- what is known of a source, a display and a sink of lines
 pub record Known (S D L : Type 0) : Type 0 where
-  pub feed : S → Bytes
+  pub feed : S → Feed
   pub shows : D → Bool
   pub shown : D → List ℕ
   pub show_failed : D → Bool
@@ -20,7 +22,7 @@ pub record Known (S D L : Type 0) : Type 0 where
   pub written_in : L → List ℕ
   pub write_failed : L → Bool
 
-abbrev pub known_by : {S D L : Type 0} → (S → Bytes) → (D → Bool) → (D → List ℕ) → (D → Bool)
+abbrev pub known_by : {S D L : Type 0} → (S → Feed) → (D → Bool) → (D → List ℕ) → (D → Bool)
     → (L → Bool) → (L → List ℕ) → (L → Bool) → Known S D L
 known_by feed shows shown show_failed writes written_in write_failed = record {
   feed = feed;
@@ -33,18 +35,26 @@ known_by feed shows shown show_failed writes written_in write_failed = record {
 }
 
 module _ {S H D L : Type 0} (k : Known S D L) where
-  abbrev pub feed_of : Desk S H D L → Feed
+  abbrev pub feed_of : Desk S H D L → KeyFeed
   feed_of d = items_of k.feed d.reader
 
-  abbrev pub standing_of : Desk S H D L → Standing
-  standing_of d = record { ring = d.ring; history = d.history; coming = (feed_of d).coming }
+  abbrev pub session_state_of : Desk S H D L → SessionState
+  session_state_of d = record { ring = d.ring; history = d.history; coming = (feed_of d).coming }
+
+  -- the same, where this is what is heard of what is to come
+  abbrev pub hearing : Desk S H D L → Coming → SessionState
+  hearing d heard = record (session_state_of d) { coming = heard }
+
+  -- what is heard of what is to come
+  abbrev pub HeardAt : Desk S H D L → Coming → Type 0
+  HeardAt d heard = Heard (feed_of d).steady (feed_of d).coming heard
 
   abbrev pub work_of : Desk S H D L → Work D L
   work_of d = record { display = sink_of d.out; lines = d.lines; history = d.history }
 
   -- why no further line is read
   abbrev pub DeskReason : Bool → Given → Desk S H D L → ReadlineError → Type 0
-  DeskReason told g d e = Reason told g (k.feed (source_of d.reader)).failed
+  DeskReason told g d e = SessionReason told g (k.feed (source_of d.reader)).failed
       (k.show_failed (sink_of d.out)) (k.write_failed d.lines) e
 
   abbrev pub Lined : Given → Told → Desk S H D L → Desk S H D L → Result (Unit {0}) ReadlineError
@@ -52,15 +62,16 @@ module _ {S H D L : Type 0} (k : Known S D L) where
   Lined g t old new result =
       (LineWhole k.shows k.shown k.writes k.written_in g.config.auto_add_history
       (line_bytes g.screen t) t.outcome (work_of old) (work_of new) result
-      × (standing_of new ≡ after_line g t (standing_of old)))
-      ⊎ LineCut k.shows k.shown k.writes k.written_in g.config.auto_add_history
-      (feed_of old).steady t.outcome (work_of old) (work_of new) result
+      × (session_state_of new ≡ after_line g t (session_state_of old)))
+      ⊎ LineCut k.shows k.shown k.writes k.written_in g.config.auto_add_history t.outcome
+      (work_of old) (work_of new) result
 
   -- THE relation of a line
   pub record TakesLine (g g' : Given) (old new : Desk S H D L)
       (result : Result (Unit {0}) ReadlineError) : Type 0 where
     pub goes : IsTrue (feed_of old).told → (n : ℕ) → (feed_of old).bound < n
-        → Lined g (line_in n g (standing_of old)) old new result
+        → (heard : Coming) × HeardAt old heard
+        × Lined g (line_in n g (hearing old heard)) old new result
     pub given : IsTrue (feed_of old).told → g' ≡ g
     pub custom : g'.custom ≡ g.custom
     pub told : IsTrue (feed_of old).told → IsTrue (feed_of new).told
@@ -71,6 +82,7 @@ module _ {S H D L : Type 0} (k : Known S D L) where
   -- THE relation of all lines
   pub record TakesLines (g : Given) (old new : Desk S H D L) (why : ReadlineError) : Type 0 where
     pub goes : IsTrue (feed_of old).told → (n : ℕ) → (feed_of old).bound < n
-        → Reads k.shows k.shown k.writes k.written_in g (feed_of old).steady
-        (session n g (standing_of old)) (work_of old) (work_of new) why
+        → (heard : Coming) × HeardAt old heard
+        × Reads k.shows k.shown k.writes k.written_in g (session n g (hearing old heard))
+        (work_of old) (work_of new) (feed_of new).coming why
     pub reason : DeskReason (feed_of old).told g new why

@@ -1,13 +1,14 @@
 -- A session by the program's options: the settings and the helper that they choose.
 use Rattle.std.specs.Prelude.{ℕ, Bool, true, false, if◌then◌else◌, List, Option, Some, None, string_bytes}
 use Rattle.line_config.specs.Config.{default_config, timeout_of}
-use Rattle.line_config.specs.Feed.{Feed as Bytes}
+use Rattle.line_config.specs.Feed.{Feed}
 use Rattle.line_config.specs.declared.config.Config.{Config}
 use Rattle.line_help.specs.Validation.{bracket_verdict}
 use Rattle.line_keys.specs.Answers.{Custom}
+use Rattle.line_keys.specs.Coming.{Coming}
 use Rattle.line_editor.specs.Running.{Helping, helping_by}
 use Rattle.line_screen.specs.Calls.{screen_of}
-use Rattle.keyline.specs.Desks.{Known, standing_of}
+use Rattle.keyline.specs.Desks.{Known, hearing}
 use Rattle.keyline.specs.Plays.{Opens, Plays}
 use Rattle.keyline.specs.SessionShows.{Displays}
 use Rattle.keyline.specs.Sessions.{Given, given_by}
@@ -42,10 +43,10 @@ given_to options desk = given_by (config_of options) nothing_bound (string_bytes
 
 -- a session was opened by these options, and run
 pub record Edits {S D L T : Type 0} (k : Known S D L) (told : T → Bool) (held : T → List ℕ)
-    (failed : T → Bool) (options : Options) (history : Bytes) (source : S) (display : D)
+    (failed : T → Bool) (options : Options) (history : Feed) (source : S) (display : D)
     (lines : L) (text : T) (ended : Ended S D L T) : Type 0 where
   pub desk : Desk S BracketHelper D L
   pub opens : Opens k.feed (config_of options) history (helper_of options) source options.columns
       display lines desk
   pub plays : Plays k told held failed (given_to options desk) desk text ended
-  pub shows : Displays (given_to options desk) (standing_of k desk)
+  pub shows : (heard : Coming) → Displays (given_to options desk) (hearing k desk heard)

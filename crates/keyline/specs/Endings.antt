@@ -12,18 +12,18 @@ status_of NotUtf8 = 3
 status_of PasteOutOfPlace = 4
 status_of _ = 1
 
-abbrev pub text_of : Ending → List ℕ
-text_of Eof = codes "EOF"
-text_of Interrupted = codes "Interrupted"
-text_of NotUtf8 = codes "input is not UTF-8"
-text_of PasteOutOfPlace = codes "paste out of place"
-text_of Reader = codes "input failed"
-text_of Display = codes "display failed"
-text_of Lines = codes "line output failed"
-text_of HistoryText = codes "history text failed"
-text_of Helper = codes "helper failed"
-text_of Handler = codes "handler failed"
-text_of Memory = codes "out of memory"
+abbrev pub ending_text : Ending → List ℕ
+ending_text Eof = codes "EOF"
+ending_text Interrupted = codes "Interrupted"
+ending_text NotUtf8 = codes "input is not UTF-8"
+ending_text PasteOutOfPlace = codes "paste out of place"
+ending_text Reader = codes "input failed"
+ending_text Display = codes "display failed"
+ending_text Lines = codes "line output failed"
+ending_text HistoryText = codes "history text failed"
+ending_text Helper = codes "helper failed"
+ending_text Handler = codes "handler failed"
+ending_text Memory = codes "out of memory"
 
 -- a refusal that ends a session, as its ending
 abbrev pub ending_of : ReadlineError → Ending

@@ -19,7 +19,7 @@ use Rattle.line_screen.specs.Chain.{is_simple}
 use Rattle.keyline.specs.Shows.{drawn_by, bytes_for}
 
 -- the layout that is kept tells whether information stands, and whether the session's own prompt
-pub record Tells (l : Layout) (x : Sight) : Type 0 where
+pub record TellsSight (l : Layout) (x : Sight) : Type 0 where
   pub info_is : l.has_info ≡ is_some x.info
   pub given_is : l.default_prompt ≡ x.given
 
@@ -27,8 +27,8 @@ pub record Tells (l : Layout) (x : Sight) : Type 0 where
 abbrev pub LayoutsTell : Type 0
 LayoutsTell =
     (s : Screen) (own : List ℕ) (redraws : List Redraw) (l : Layout) (x : Sight)
-    → Tells l x → FitsAll own x redraws
-    → Tells (drawn_by s l redraws).layout (sight_all x redraws)
+    → TellsSight l x → FitsAll own x redraws
+    → TellsSight (drawn_by s l redraws).layout (sight_all x redraws)
 
 -- printable ASCII at the end of a line of printable ASCII and newlines, with room, and with neither
 -- hint nor highlighted character before or after

@@ -70,9 +70,10 @@ FailsBy words kind = (kind ≡ OutOfMemory) ⊎ (IsAmong kind (fault_of command_
     ⊎ ((kind ≡ InvalidValue) × ChoosesNone (matches_of command_line words)))
 
 -- the words take the options that they choose, or fail
-abbrev pub Gives : List Text → Result Options Error → Type 0
-Gives words result = MatchResult result
-    (λ options. (fault_of command_line words ≡ []) × Chooses (matches_of command_line words) options)
+abbrev pub TakesOptions : List Text → Result Options Error → Type 0
+TakesOptions words result = MatchResult result
+    (λ options. (fault_of command_line words ≡ [])
+    × Chooses (matches_of command_line words) options)
     (λ error. FailsBy words (kind_of error))
 
 -- what is answered to an error of a kind
@@ -83,12 +84,12 @@ Says kind (Usage text) = (kind ≢ DisplayHelp) × (kind ≢ OutOfMemory)
 Says kind Memory = ⊤
 
 -- what is answered to words, of which the first is the program's name
-abbrev pub Answers : List Text → Parsed → Type 0
-Answers words (Run options) =
+abbrev pub ParsesTo : List Text → Parsed → Type 0
+ParsesTo words (Run options) =
     (fault_of command_line words ≡ []) × Chooses (matches_of command_line words) options
-Answers words (Help text) = IsAmong DisplayHelp (fault_of command_line words)
-Answers words (Usage text) = IsMistaken words
-Answers words Memory = ⊤
+ParsesTo words (Help text) = IsAmong DisplayHelp (fault_of command_line words)
+ParsesTo words (Usage text) = IsMistaken words
+ParsesTo words Memory = ⊤
 
 abbrev pub HasColumns : Parsed → Type 0
 HasColumns (Run options) = (2 ≤ options.columns) × (options.columns ≤ 1000)

@@ -1,6 +1,6 @@
 -- What a session makes of its devices and its history: all that the definition says, or a beginning
 -- of it.
-use Rattle.std.specs.Prelude.{◌≡◌, ◌⊎◌, ⊤, ℕ, ◌≤◌, Bool, true, false, List, [], ◌∷◌, ◌++◌, length, Result, Ok, Err, IsTrue, IsFalse}
+use Rattle.std.specs.Prelude.{◌≡◌, ◌⊎◌, ⊤, ℕ, ◌≤◌, Bool, true, false, List, [], ◌∷◌, ◌++◌, length, Result, Ok, Err, IsTrue}
 use Rattle.line_config.specs.declared.errors.ReadlineError.{ReadlineError}
 use Rattle.line_config.specs.declared.errors.ReadlineError.TheVariants.{Eof, Interrupted, NotUtf8, PasteOutOfPlace, Reader, Display, Lines, HistoryText, Helper, Handler, Memory}
 use Rattle.line_config.specs.Sending.{Takes}
@@ -8,37 +8,37 @@ use Rattle.line_editor.specs.Running.{HelperFails}
 use Rattle.line_help.specs.History.{Filed, all_saved}
 use Rattle.line_help.specs.HistoryText.{text_to_save}
 use Rattle.line_keys.specs.Answers.{HandlerFails}
-use Rattle.line_keys.specs.Coming.{made_of}
+use Rattle.line_keys.specs.Coming.{Coming, made_of}
 use Rattle.keyline.specs.Sessions.{Given, Report, remembered, history_after, lines_text, display_bytes}
 
--- the faults that no input gives: a failure of a source that isn't steady is one
-abbrev pub CutsBy : Bool → ReadlineError → Type 0
-CutsBy steady Eof = ⊥
-CutsBy steady Interrupted = ⊥
-CutsBy steady NotUtf8 = ⊥
-CutsBy steady PasteOutOfPlace = ⊥
-CutsBy steady Reader = IsFalse steady
-CutsBy steady Display = ⊤
-CutsBy steady Lines = ⊤
-CutsBy steady HistoryText = ⊥
-CutsBy steady Helper = ⊤
-CutsBy steady Handler = ⊥
-CutsBy steady Memory = ⊤
+-- the faults that no input gives
+abbrev pub CutsBy : ReadlineError → Type 0
+CutsBy Eof = ⊥
+CutsBy Interrupted = ⊥
+CutsBy NotUtf8 = ⊥
+CutsBy PasteOutOfPlace = ⊥
+CutsBy Reader = ⊥
+CutsBy Display = ⊤
+CutsBy Lines = ⊤
+CutsBy HistoryText = ⊥
+CutsBy Helper = ⊤
+CutsBy Handler = ⊥
+CutsBy Memory = ⊤
 
 -- why lines are read no further: what was given, or a device that has failed
-abbrev pub Reason : Bool → Given → Bool → Bool → Bool → ReadlineError → Type 0
-Reason told g source display lines Eof = ⊤
-Reason told g source display lines Interrupted = ⊤
-Reason told g source display lines NotUtf8 = ⊤
-Reason told g source display lines PasteOutOfPlace = ⊤
-Reason told g source display lines Reader = IsTrue source
-Reason told g source display lines Display = IsTrue display
-Reason told g source display lines Lines = IsTrue lines
-Reason told g source display lines HistoryText = ⊥
-Reason told g source display lines Helper = IsTrue told
+abbrev pub SessionReason : Bool → Given → Bool → Bool → Bool → ReadlineError → Type 0
+SessionReason told g source display lines Eof = ⊤
+SessionReason told g source display lines Interrupted = ⊤
+SessionReason told g source display lines NotUtf8 = ⊤
+SessionReason told g source display lines PasteOutOfPlace = ⊤
+SessionReason told g source display lines Reader = IsTrue source
+SessionReason told g source display lines Display = IsTrue display
+SessionReason told g source display lines Lines = IsTrue lines
+SessionReason told g source display lines HistoryText = ⊥
+SessionReason told g source display lines Helper = IsTrue told
     → (shown : List (List ℕ)) × HelperFails g.helping shown
-Reason told g source display lines Handler = HandlerFails g.custom
-Reason told g source display lines Memory = ⊤
+SessionReason told g source display lines Handler = HandlerFails g.custom
+SessionReason told g source display lines Memory = ⊤
 
 -- what lines are drawn on, written to and kept in
 pub record Work (D L : Type 0) : Type 0 where
@@ -51,7 +51,8 @@ abbrev pub accepted_of : Result (List ℕ) ReadlineError → List (List ℕ)
 accepted_of (Ok text) = text ∷ []
 accepted_of (Err e) = []
 
-module _ {D L : Type 0} (shows : D → Bool) (shown : D → List ℕ) (writes : L → Bool) (written_in : L → List ℕ) where
+module _ {D L : Type 0} (shows : D → Bool) (shown : D → List ℕ) (writes : L → Bool)
+    (written_in : L → List ℕ) where
   -- ---- a line, or the end of one
 
   -- drawn by these bytes, kept and written as its outcome says
@@ -63,11 +64,11 @@ module _ {D L : Type 0} (shows : D → Bool) (shown : D → List ℕ) (writes : 
     pub wrote : Takes writes written_in old.lines new.lines (lines_text (accepted_of outcome))
 
   -- a fault came: the line in hand may have been added to the history, and a part of it written
-  pub record LineCut (adds steady : Bool) (outcome : Result (List ℕ) ReadlineError)
+  pub record LineCut (adds : Bool) (outcome : Result (List ℕ) ReadlineError)
       (old new : Work D L) (result : Result (Unit {0}) ReadlineError) : Type 0 where
     pub fault : ReadlineError
     pub result_is : result ≡ Err fault
-    pub cut : CutsBy steady fault
+    pub cut : CutsBy fault
     pub in_hand : List (List ℕ)
     pub others : List (List ℕ)
     pub first : accepted_of outcome ≡ in_hand ++ others
@@ -80,17 +81,21 @@ module _ {D L : Type 0} (shows : D → Bool) (shown : D → List ℕ) (writes : 
 
   -- ---- a session
 
-  -- every line was read, drawn, kept and written, and the lines end as the definition says
-  pub record Whole (g : Given) (report : Report) (old new : Work D L) (why : ReadlineError) : Type 0 where
+  -- every line was read, drawn, kept and written; the lines end as the definition says, and what is
+  -- left to come is what it leaves
+  pub record Whole (g : Given) (report : Report) (old new : Work D L) (left : Coming)
+      (why : ReadlineError) : Type 0 where
     pub why_is : why ≡ report.ending
+    pub rest_is : left ≡ report.rest
     pub history_is : new.history ≡ remembered g.config.auto_add_history report.accepted old.history
     pub drawn : Takes shows shown old.display new.display (display_bytes g.screen report)
     pub wrote : Takes writes written_in old.lines new.lines (lines_text report.accepted)
 
   -- a fault came: the first lines were written, then perhaps a part of the line in hand, which may
   -- have been added to the history
-  pub record Cut (g : Given) (steady : Bool) (report : Report) (old new : Work D L) (why : ReadlineError) : Type 0 where
-    pub cut : CutsBy steady why
+  pub record Cut (g : Given) (report : Report) (old new : Work D L) (why : ReadlineError)
+      : Type 0 where
+    pub cut : CutsBy why
     pub written : List (List ℕ)
     pub in_hand : List (List ℕ)
     pub others : List (List ℕ)
@@ -101,17 +106,19 @@ module _ {D L : Type 0} (shows : D → Bool) (shown : D → List ℕ) (writes : 
     pub part : lines_text in_hand ≡ torn ++ more
     pub wrote : Takes writes written_in old.lines new.lines (lines_text written ++ torn)
     pub whole : (why ≡ Lines → ⊥) → torn ≡ []
-    pub history_is : new.history ≡ remembered g.config.auto_add_history (written ++ in_hand) old.history
+    pub history_is : new.history
+        ≡ remembered g.config.auto_add_history (written ++ in_hand) old.history
 
-  abbrev pub Reads : Given → Bool → Report → Work D L → Work D L → ReadlineError → Type 0
-  Reads g steady report old new why = Whole g report old new why ⊎ Cut g steady report old new why
+  abbrev pub Reads : Given → Report → Work D L → Work D L → Coming → ReadlineError → Type 0
+  Reads g report old new left why = Whole g report old new left why ⊎ Cut g report old new why
 
 -- ---- the end
 
 -- the history was saved, so that nothing in it is new; or the sink of its text has failed
 pub record Saves {T : Type 0} (told : T → Bool) (held : T → List ℕ) (failed : T → Bool)
     (kept history' : Filed) (text text' : T) (saved : Bool) : Type 0 where
-  pub done : saved ≡ true → (history' ≡ all_saved kept) × Takes told held text text' (text_to_save kept)
+  pub done : saved ≡ true → (history' ≡ all_saved kept)
+      × Takes told held text text' (text_to_save kept)
   pub refused : saved ≡ false → (history' ≡ kept) × IsTrue (failed text')
 
 -- a fault comes before that of the history's text

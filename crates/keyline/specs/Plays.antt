@@ -1,17 +1,19 @@
 -- A session that is opened and run: what it is opened on, and what it gives back.
 use Rattle.std.specs.Prelude.{◌≡◌, ℕ, ◌<◌, ⊤, Bool, List, Option, Result, Err, IsOk, IsTrue}
-use Rattle.line_config.specs.Feed.{Feed as Bytes}
+use Rattle.line_config.specs.Feed.{Feed}
 use Rattle.line_config.specs.declared.config.Config.{Config}
 use Rattle.line_config.specs.declared.errors.ReadlineError.{ReadlineError}
 use Rattle.line_config.specs.declared.errors.ReadlineError.TheVariants.{Eof, Interrupted, NotUtf8, PasteOutOfPlace, Reader, Display, Lines, HistoryText, Helper, Handler, Memory}
 use Rattle.line_help.specs.History.{Filed, settings_of, nothing_filed}
 use Rattle.line_help.specs.HistoryText.{text_rows, load_answer, load_leaves}
+use Rattle.line_keys.specs.Coming.{Coming}
 use Rattle.line_record.specs.Ring.{new_ring}
 use Rattle.line_screen.specs.Calls.{screen_of, sink_of}
 use Rattle.line_screen.specs.Reader.{coming_in, source_of}
-use Rattle.keyline.specs.Desks.{Known, feed_of, standing_of, work_of}
+use Rattle.line_screen.specs.declared.reading.reader.KeyReader.{KeyReader}
+use Rattle.keyline.specs.Desks.{Known, HeardAt, feed_of, hearing, work_of}
 use Rattle.keyline.specs.Endings.{ending_of}
-use Rattle.keyline.specs.Playing.{Reason, Reads, Saves, ending_after}
+use Rattle.keyline.specs.Playing.{SessionReason, Reads, Saves, ending_after}
 use Rattle.keyline.specs.Sessions.{Given, coming_from, session}
 use Rattle.keyline.specs.declared.desk.Desk.{Desk}
 use Rattle.keyline.specs.declared.session.Ended.{Ended}
@@ -19,18 +21,19 @@ use Rattle.keyline.specs.declared.session.Ended.{Ended}
 -- ---- opening
 
 -- what loading the text of a source answers and leaves, in a new history
-abbrev pub loads : Config → Bytes → Result Bool ReadlineError
+abbrev pub loads : Config → Feed → Result Bool ReadlineError
 loads config text =
     load_answer text.last (text_rows text.last text.coming) (nothing_filed (settings_of config))
 
-abbrev pub loaded : Config → Bytes → Filed
-loaded config text =
+abbrev pub loaded_from : Config → Feed → Filed
+loaded_from config text =
     load_leaves text.last (text_rows text.last text.coming) (nothing_filed (settings_of config))
 
 -- why no history is loaded: its text isn't UTF-8, its source fails, or memory is wanting
-abbrev pub LoadFault : Config → Bytes → ReadlineError → Type 0
+abbrev pub LoadFault : Config → Feed → ReadlineError → Type 0
 LoadFault config text HistoryText = IsTrue text.told → loads config text ≡ Err HistoryText
-LoadFault config text Reader = IsTrue text.told → IsTrue text.steady → loads config text ≡ Err Reader
+LoadFault config text Reader =
+    IsTrue text.told → IsTrue text.steady → loads config text ≡ Err Reader
 LoadFault config text Memory = ⊤
 LoadFault config text Eof = ⊥
 LoadFault config text Interrupted = ⊥
@@ -42,12 +45,12 @@ LoadFault config text Helper = ⊥
 LoadFault config text Handler = ⊥
 
 -- a history that was loaded
-pub record Loaded (config : Config) (text : Bytes) (history : Filed) : Type 0 where
+pub record Loaded (config : Config) (text : Feed) (history : Filed) : Type 0 where
   pub whole : IsTrue text.told → IsOk (loads config text)
-  pub history_is : IsTrue text.told → history ≡ loaded config text
+  pub history_is : IsTrue text.told → history ≡ loaded_from config text
 
 -- a session's desk: the devices as they were handed in, nothing read, and nothing drawn
-pub record Opens {S H D L : Type 0} (feed : S → Bytes) (config : Config) (text : Bytes)
+pub record Opens {S H D L : Type 0} (feed : S → Feed) (config : Config) (text : Feed)
     (helper : Option H) (source : S) (columns : ℕ) (display : D) (lines : L) (desk : Desk S H D L)
     : Type 0 where
   pub history : Loaded config text desk.history
@@ -70,16 +73,21 @@ pub record Opens {S H D L : Type 0} (feed : S → Bytes) (config : Config) (text
 pub record Plays {S H D L T : Type 0} (k : Known S D L) (told : T → Bool) (held : T → List ℕ)
     (failed : T → Bool) (g : Given) (desk : Desk S H D L) (text : T) (ended : Ended S D L T)
     : Type 0 where
-  -- the history as the lines left it, why there was no further line, and whether it was saved
+  -- the history as the lines left it, the reader of the source that is handed back, which may keep
+  -- a byte of it, why there was no further line, and whether the history was saved
   pub kept : Filed
+  pub reader : KeyReader S
   pub why : ReadlineError
   pub saved : Bool
   -- with more fuel than the source has keys and pastes
   pub goes : IsTrue (feed_of k desk).told → (n : ℕ) → (feed_of k desk).bound < n
-      → Reads k.shows k.shown k.writes k.written_in g (feed_of k desk).steady
-      (session n g (standing_of k desk)) (work_of k desk)
-      (record { display = ended.display; lines = ended.lines; history = kept }) why
+      → (heard : Coming) × HeardAt k desk heard
+      × Reads k.shows k.shown k.writes k.written_in g (session n g (hearing k desk heard))
+      (work_of k desk)
+      (record { display = ended.display; lines = ended.lines; history = kept })
+      (coming_in k.feed reader) why
+  pub source_is : ended.source ≡ source_of reader
   pub saves : Saves told held failed kept ended.history text ended.text saved
   pub ending_is : ended.ending ≡ ending_of (ending_after why saved)
-  pub reason : Reason (feed_of k desk).told g (k.feed ended.source).failed
+  pub reason : SessionReason (feed_of k desk).told g (k.feed ended.source).failed
       (k.show_failed ended.display) (k.write_failed ended.lines) why

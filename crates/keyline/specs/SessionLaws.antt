@@ -3,7 +3,7 @@ use Rattle.std.specs.Prelude.{◌≡◌, ℕ, true, if◌then◌else◌, List, [
 use Rattle.line_buffer.specs.Cells.{origin}
 use Rattle.line_help.specs.History.{Settings, Filed, nothing_filed, ignored, filed_with, newest}
 use Rattle.line_screen.specs.Measure.{measure_of}
-use Rattle.keyline.specs.Sessions.{Given, Standing, session, remembered}
+use Rattle.keyline.specs.Sessions.{Given, SessionState, session, remembered}
 
 -- the same on rows of so many columns
 abbrev pub at_columns : ℕ → Given → Given
@@ -17,7 +17,7 @@ prompt_column g = (measure_of g.screen.mode g.screen.columns g.prompt origin).co
 -- prompt ends in the same column: so they accept the same lines and save the same text
 abbrev pub ColumnsAreFree : Type 0
 ColumnsAreFree =
-    (n : ℕ) (g : Given) (x : Standing) (columns : ℕ) → let other = at_columns columns g in
+    (n : ℕ) (g : Given) (x : SessionState) (columns : ℕ) → let other = at_columns columns g in
     prompt_column other ≡ prompt_column g → session n other x ≡ session n g x
 
 -- the lines that become entries, of these, added one after the other
@@ -30,6 +30,6 @@ taken_of filed (line ∷ lines) =
 -- a history that began empty holds the last of the accepted lines that weren't ignored, in order
 abbrev pub LastAreKept : Type 0
 LastAreKept =
-    (n : ℕ) (g : Given) (x : Standing) (settings : Settings) →
+    (n : ℕ) (g : Given) (x : SessionState) (settings : Settings) →
     let lines = (session n g x).accepted in let empty = nothing_filed settings in
     (remembered true lines empty).kept.entries ≡ newest settings.max_len (taken_of empty lines)

@@ -1,4 +1,5 @@
--- A session: lines read one after the other; what is written, kept and drawn of them, and how it ends.
+-- A session: lines read one after the other; what is written, kept and drawn of them, and how it
+-- ends.
 use Rattle.std.specs.Prelude.{ℕ, zero, suc, Bool, true, if◌then◌else◌, List, [], ◌∷◌, ◌++◌, Result, Ok, Err}
 use Rattle.std.specs.List.{flat_map}
 use Rattle.line_config.specs.declared.config.Config.{Config}
@@ -38,7 +39,7 @@ given_by config custom prompt screen helping = record {
 }
 
 -- what goes on from line to line
-pub record Standing : Type 0 where
+pub record SessionState : Type 0 where
   pub ring : Ring
   pub history : Filed
   pub coming : Coming
@@ -48,7 +49,7 @@ abbrev pub coming_from : EditMode → List ℕ → Last → Coming
 coming_from mode bytes last = coming_of (readings mode (chars_of bytes last))
 
 -- a session begins with an empty ring of 60 slots
-abbrev pub at_first : Filed → Coming → Standing
+abbrev pub at_first : Filed → Coming → SessionState
 at_first history coming =
     record { ring = new_ring 60; history = history; coming = coming }
 
@@ -57,7 +58,7 @@ abbrev pub setting_in : Given → List (List ℕ) → Setting
 setting_in g entries = setting_by (ruler_of g.screen) g.prompt g.helping entries
 
 -- the next line. More fuel than the source has keys and pastes is enough
-abbrev pub line_in : ℕ → Given → Standing → Told
+abbrev pub line_in : ℕ → Given → SessionState → Told
 line_in n g x =
     line_meant n (setting_in g x.history.kept.entries) g.custom g.config x.ring x.coming
 
@@ -69,7 +70,7 @@ abbrev pub history_after : Bool → Result (List ℕ) ReadlineError → Filed �
 history_after adds (Ok text) history = remembered adds (text ∷ []) history
 history_after adds (Err e) history = history
 
-abbrev pub after_line : Given → Told → Standing → Standing
+abbrev pub after_line : Given → Told → SessionState → SessionState
 after_line g t x = record {
   ring = t.ring;
   history = history_after g.config.auto_add_history t.outcome x.history;
@@ -77,25 +78,30 @@ after_line g t x = record {
 }
 
 -- all lines, the last one that in which the session ended; the texts of those that were accepted;
--- and the refusal that ended it
+-- the refusal that ended it; and what is left to come
 pub record Report : Type 0 where
   pub told : List Told
   pub accepted : List (List ℕ)
   pub ending : ReadlineError
+  pub rest : Coming
 
 abbrev pub then_line : Told → List ℕ → Report → Report
-then_line t text r =
-    record { told = t ∷ r.told; accepted = text ∷ r.accepted; ending = r.ending }
+then_line t text r = record {
+  told = t ∷ r.told;
+  accepted = text ∷ r.accepted;
+  ending = r.ending;
+  rest = r.rest;
+}
 
-abbrev pub goes_on : Told → Result (List ℕ) ReadlineError → Report → Report
-goes_on t (Ok text) later = then_line t text later
-goes_on t (Err e) later = record { told = t ∷ []; accepted = []; ending = e }
+abbrev pub line_reported : Told → Result (List ℕ) ReadlineError → Report → Report
+line_reported t (Ok text) later = then_line t text later
+line_reported t (Err e) later = record { told = t ∷ []; accepted = []; ending = e; rest = t.rest }
 
-unfoldable pub session : ℕ → Given → Standing → Report
-session zero g x = record { told = []; accepted = []; ending = Memory }
+unfoldable pub session : ℕ → Given → SessionState → Report
+session zero g x = record { told = []; accepted = []; ending = Memory; rest = x.coming }
 session (suc n) g x =
     let t = line_in (suc n) g x in
-    goes_on t t.outcome (session n g (after_line g t x))
+    line_reported t t.outcome (session n g (after_line g t x))
 
 -- ---- what is written and drawn
 

@@ -3,8 +3,8 @@ use Rattle.std.specs.Prelude.{◌≡◌, ⊤, ℕ, ◌+◌, ◌≤◌, Bool, tru
 use Rattle.std.specs.List.{filter, flat_map}
 use Rattle.line_buffer.specs.declared.layout.Layout.{Layout}
 use Rattle.line_buffer.specs.declared.layout.Position.{Position}
-use Rattle.line_editor.specs.Courses.{Turn, Open, Accept, Last, Course}
-use Rattle.line_editor.specs.Redraws.{Redraw, Asked, asked, fresh, text_of}
+use Rattle.line_editor.specs.Courses.{Turn, Open, Accept, Last, TurnsLead}
+use Rattle.line_editor.specs.Redraws.{Redraw, Asked, asked, fresh, info_text}
 use Rattle.line_editor.specs.Redraws.Redraw.{Drawn, Moved, Typed, Taken, Bared, ToEnd, Beeped, Cleared}
 use Rattle.line_editor.specs.Sights.{Sight, sight, no_sight}
 use Rattle.line_screen.specs.Calls.{Screen, bytes_of, ruler_of}
@@ -16,7 +16,7 @@ use Rattle.line_screen.specs.Showing.{Picture, Shows, finish_of, cursor_of, abov
 -- ---- what is to be seen, as one drawing from nothing
 
 abbrev pub picture : Sight → Picture
-picture x = record { prompt = x.prompt; line = x.line; place = x.place; info = text_of x.info }
+picture x = record { prompt = x.prompt; line = x.line; place = x.place; info = info_text x.info }
 
 -- the cursor's cell, counted from the top: its place in the line, or the drawing's end
 abbrev pub place_in : Screen → Sight → Position
@@ -82,7 +82,7 @@ bytes_for s l redraws = flat_map (bytes_of s) (drawn_by s l redraws).calls
 -- ---- what these bytes mean
 
 -- a meaning with these rows above the top
-pub record Means (s : Screen) (bytes : List ℕ) (top : ℕ) (over : List Placed) : Type 0 where
+pub record HasMeaning (s : Screen) (bytes : List ℕ) (top : ℕ) (over : List Placed) : Type 0 where
   pub display : Display
   pub means : meaning s.columns (widths s) bytes ≡ Some display
   pub over_is : filter (above top) display.placed ≡ over
@@ -107,10 +107,10 @@ EachShown s bytes top over l (Open redraws y ∷ rest) =
 EachShown s bytes top over l (Accept redraws y ∷ rest) =
     let new = (bytes ++ bytes_for s l redraws) ++ row_break in
     let now = top_after redraws top in
-    (m : Means s new now (above_after redraws over))
+    (m : HasMeaning s new now (above_after redraws over))
     × EachShown s new (next_top s now y) m.display.placed (fresh s.mode) rest
 EachShown s bytes top over l (Last redraws breaks ∷ rest) =
-    Means s ((bytes ++ bytes_for s l redraws) ++ break_if breaks) (top_after redraws top)
+    HasMeaning s ((bytes ++ bytes_for s l redraws) ++ break_if breaks) (top_after redraws top)
     (above_after redraws over)
 
 -- on a display that was blank, over a course of turns whose drawings stay within the rows that can
@@ -118,5 +118,5 @@ EachShown s bytes top over l (Last redraws breaks ∷ rest) =
 abbrev pub DrawingsShow : Type 0
 DrawingsShow =
     (s : Screen) → 2 ≤ s.columns → s.columns ≤ 1000 → (own : List ℕ) (turns : List Turn)
-    → Course own no_sight turns → LowTurns s no_sight turns
+    → TurnsLead own no_sight turns → LowTurns s no_sight turns
     → EachShown s [] 0 [] (fresh s.mode) turns

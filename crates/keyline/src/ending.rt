@@ -1,7 +1,7 @@
 //! How a session ends.
 
 ghost use Rattle.std.specs.Prelude.{◌≡◌};
-ghost use Rattle.keyline.specs.Endings.{status_of, text_of};
+ghost use Rattle.keyline.specs.Endings.{status_of, ending_text};
 
 use line_config::ReadlineError;
 
@@ -49,7 +49,7 @@ impl Ending {
 
     /// The ending in words.
     pub fn text(self) -> &'static str
-        ensures { result.now ≡ text_of self }
+        ensures { result.now ≡ ending_text self }
     {
         match self {
             Ending::Eof => "EOF",

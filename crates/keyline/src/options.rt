@@ -4,7 +4,7 @@ ghost use Rattle.std.specs.Prelude.{◌≡◌, ◌≤◌, ◌↔◌, IfOk, IfSom
 ghost use Rattle.std.specs.Prelude.{false, option_map};
 ghost use Rattle.clap.specs.Words.{app_of, first_of, found_of, kind_of, new_app};
 ghost use Rattle.clap.specs.Words.{rows_of, rule_of};
-ghost use Rattle.keyline.specs.Options.{Answers, AreColumns, Chooses, ChoosesNone, Gives};
+ghost use Rattle.keyline.specs.Options.{ParsesTo, AreColumns, Chooses, ChoosesNone, TakesOptions};
 ghost use Rattle.keyline.specs.Options.{HasColumns, IsMode};
 ghost use Rattle.keyline.specs.Options.{Says, command_line, defaulted, flag, text_option};
 
@@ -46,7 +46,7 @@ pub enum Parsed {
 /// Reads the words of a command line, of which the first is the program's name:
 /// `[--mode emacs|vi] [--columns 2..1000] [--prompt TEXT] [--history FILE] [--brackets]`.
 pub fn parse<S: AsStr>(alloc: Global, words: &[S]) -> Parsed
-    ensures answers { Answers (map S.text words.now) result }
+    ensures answers { ParsesTo (map S.text words.now) result }
     ensures columns { HasColumns result }
 {
     match try_parse(alloc, words) {
@@ -71,7 +71,7 @@ fn refused(alloc: Global, error: &Error) -> Parsed
 }
 
 fn try_parse<'a, S: AsStr>(alloc: Global, words: &'a [S]) -> Result<Options, Error>
-    ensures gives { Gives (map S.text words.now) result }
+    ensures gives { TakesOptions (map S.text words.now) result }
     ensures columns { IfOk result (λ options. (2 ≤ options.columns) × (options.columns ≤ 1000)) }
 {
     let matches = command_line(alloc)?.try_get_matches_from(words)?;

@@ -2,9 +2,10 @@
 
 ghost use Rattle.std.specs.Prelude.{◌≡◌, ◌≤◌, IfErr, IfOk, false, string_bytes};
 ghost use Rattle.line_keys.specs.Answers.{custom_of};
+ghost use Rattle.line_keys.specs.Coming.{Coming};
 ghost use Rattle.line_editor.specs.Running.{helping_by};
 ghost use Rattle.line_screen.specs.Calls.{screen_of};
-ghost use Rattle.keyline.specs.Desks.{known_by, standing_of};
+ghost use Rattle.keyline.specs.Desks.{known_by, hearing};
 ghost use Rattle.keyline.specs.Playing.{Saves, ending_after};
 ghost use Rattle.keyline.specs.Plays.{LoadFault, Loaded, Opens, Plays};
 ghost use Rattle.keyline.specs.SessionShows.{Displays};
@@ -162,7 +163,7 @@ where
             let given = given_by self.config custom (string_bytes self.prompt)
             (screen_of self.desk.out) (helps self.desk.helper) in
             let known = known_by S.feed D.told D.held D.has_failed L.told L.held L.has_failed in
-            Displays given (standing_of known self.desk) }
+            (heard : Coming) → Displays given (hearing known self.desk heard) }
     {
         let Session {
             alloc,

@@ -151,7 +151,7 @@ fn keys_have_one_form(rt: HostRuntime) -> Result<(), Fail> {
     Ok(())
 }
 
-// A count, a line with its cursor and a hint behind it, if there is one; what the handler bound to any key answers.
+// A count, a line with its cursor and a hint after it, if there is one; what the handler bound to any key answers.
 const DECIDED: &str = "
     -3 ab|                  = Ok(Some(Kill(BackwardChar(3))))
     1 ab| c                 = Ok(Some(CompleteHint))

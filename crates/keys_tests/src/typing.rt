@@ -27,12 +27,12 @@ pub(crate) fn event(alloc: Global, words: &str) -> Result<Event, ReadlineError> 
 #[derive(Drop)]
 pub struct Input {
     pub typed: Vec<Typed>,
-    /// A pasted text is owed behind the keys, and is cut off.
+    /// A pasted text is owed after the keys, and is cut off.
     pub cut: bool,
     pub after: After,
 }
 
-/// Keys by their names, parted by blanks. `text:ab` is the pasted text `ab`. What comes behind the keys is the end of
+/// Keys by their names, parted by blanks. `text:ab` is the pasted text `ab`. What comes after the keys is the end of
 /// the input, or bytes that are no character after `!bad`, or a failing source after `!failed`; before these, `!cut`
 /// is a pasted text without its end. A word that names nothing is refused.
 pub(crate) fn typed(alloc: Global, words: &str) -> Result<Input, ReadlineError> {

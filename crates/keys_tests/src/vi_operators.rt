@@ -74,7 +74,7 @@ struct Counts<'t> {
     product: &'t str,
 }
 
-// Types the operator with its counts and the keys behind it, then `q`.
+// Types the operator with its counts and the keys after it, then `q`.
 fn operates(
     rt: &impl Abort,
     desk: &Desk<'_>,
@@ -141,7 +141,7 @@ fn each_other_key(
     Ok(())
 }
 
-// The operator's own key names the whole line, and `0` the line's beginning, but not behind a second count: there the
+// The operator's own key names the whole line, and `0` the line's beginning, but not after a second count: there the
 // one names nothing, and the other is a digit. The other operators' keys name nothing.
 fn each_operator_key(
     rt: &impl Abort,

@@ -13,27 +13,26 @@ use Rattle.unicode_segmentation.proofs.SegmentsLemmas.{concat-segments, IsPieceO
 use Rattle.line_buffer.specs.declared.layout.GraphemeClusterMode.{GraphemeClusterMode}
 use Rattle.line_buffer.specs.Clusters.{clusters}
 use Rattle.line_buffer.specs.Columns.{place_at_column}
-use Rattle.line_buffer.specs.Standing.{adds_up}
 use Rattle.line_buffer.specs.Width.{columns_of, width_of}
-use Rattle.line_buffer.proofs.WidthLemmas.{columns-adds_up}
 
 -- no number of columns that is shown is beyond what is counted
 pub enough : 65535 ≤ 18446744073709551615
 enough = omega arith
 
--- ---- a text without its end, where that adds its own columns
+-- ---- a text without its end, where their columns add up
 
 -- counted up to the most that a number can be
 abbrev pub counted : ℕ → GraphemeClusterMode → List ℕ → ℕ
 counted most mode text = min (columns_of mode (chars text)) most
 
-pub without_end : (mode : GraphemeClusterMode) (most : ℕ) (text : List ℕ) (end whole part : ℕ) → IsUtf8 text → IsCharBoundary text end → adds_up mode (chars (drop end text)) ≡ true
+pub without_end : (mode : GraphemeClusterMode) (most : ℕ) (text : List ℕ) (end whole part : ℕ) → IsUtf8 text → IsCharBoundary text end
+    → columns_of mode (chars (take end text) ++ chars (drop end text)) ≡ columns_of mode (chars (take end text)) + columns_of mode (chars (drop end text))
     → whole ≡ counted most mode text → part ≡ counted most mode (drop end text) → whole < most → (part ≤ whole) × (whole - part ≡ counted most mode (take end text))
 without_end mode most text end whole part u at adds is part_is low =
     let split : chars text ≡ chars (take end text) ++ chars (drop end text) =
     ap chars (sym (take-append-drop end text)) ∙ chars-append (take end text) (drop end text) (IsUtf8-take text end u at) in
     let sum : columns_of mode (chars text) ≡ columns_of mode (chars (take end text)) + columns_of mode (chars (drop end text)) =
-    ap (columns_of mode) split ∙ columns-adds_up mode (chars (take end text)) (chars (drop end text)) adds in
+    ap (columns_of mode) split ∙ adds in
     (omega (arith, sum, is, part_is, low), omega (arith, sum, is, part_is, low))
 
 -- ---- clusters tile their text

@@ -25,13 +25,13 @@ module _ (text : List ℕ) (from upto : ℕ) (added : List ℕ) where
       at_seam _ (take from text) (added ++ drop upto text) from (append_assoc (take from text) added (drop upto text)) (length-take-le from text b.0)
       (IsUtf8-append _ _ v (IsUtf8-drop text upto u e))
 
-  -- the place behind it
+  -- the place after it
   pub end_replaced : IsUtf8 text → IsCharBoundary text from → IsCharBoundary text upto → IsCharBoundary (replace_range text from upto added) (from + length added)
   end_replaced u b e =
       at_seam _ (take from text ++ added) (drop upto text) (from + length added) refl
       (length-append (take from text) added ∙ ap (λ n. n + length added) (length-take-le from text b.0)) (IsUtf8-drop text upto u e)
 
-  -- what lies behind it
+  -- what lies after it
   pub drop_replaced : (i j k : ℕ) → i ≡ (from + length added) + k → j ≡ upto + k → from ≤ length text → drop i (replace_range text from upto added) ≡ drop j text
   drop_replaced i j k is js le =
       ap (λ n. drop n (replace_range text from upto added)) (is ∙ ap (λ n. n + k) (sym long)) ∙ drop-append-add (take from text ++ added) (drop upto text) k

@@ -46,7 +46,7 @@ unfolding is_grapheme_break
 next_alone [] next after more = refl
 next_alone (c ∷ before) next after more = refl
 
--- ---- what stands before a newline isn't seen behind it
+-- ---- what stands before a newline isn't seen after it
 linker-step : (v : IndicConjunctBreak) (xs ys : List IndicConjunctBreak) → ends_in_linker xs ≡ ends_in_linker ys → ends_in_linker (v ∷ xs) ≡ ends_in_linker (v ∷ ys)
 unfolding ends_in_linker
 linker-step InCb.Extend xs ys e = e
@@ -98,7 +98,7 @@ cut-some before c cs = by_test (is_grapheme_break true (c ∷ before) (cs ++ [])
     by_test false [] = omega arith
     by_test false (p ∷ rest) = omega arith
 
--- one turn of a cut, where what is behind is joined to the rest
+-- one turn of a cut, where what follows is joined to the rest
 cut-join : (b : Bool) (c : ℕ) (ps qs : List (List ℕ)) → 0 < length ps → cond b ((c ∷ []) ∷ (ps ++ qs)) (prepend (c ∷ []) (ps ++ qs)) ≡ cond b ((c ∷ []) ∷ ps) (prepend (c ∷ []) ps) ++ qs
 cut-join true c ps qs l = refl
 cut-join false c ps qs l = prepend-append (c ∷ []) ps qs l

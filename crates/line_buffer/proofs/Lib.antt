@@ -4,6 +4,8 @@ mod ColumnRows
 pub mod CutLaws
 pub mod CutLemmas
 pub mod EditLaws
+pub mod EmojiLemmas
+pub mod GapLemmas
 pub mod HitLemmas
 pub mod IndentLaws
 pub mod IndentLemmas
@@ -21,6 +23,7 @@ pub mod RowLemmas
 pub mod RowStartLemmas
 pub mod RowStepLemmas
 pub mod RowWalkLemmas
+pub mod SeamLemmas
 pub mod SpanLemmas
 pub mod StandingLemmas
 pub mod StopLemmas

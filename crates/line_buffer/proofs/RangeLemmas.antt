@@ -8,7 +8,7 @@ use Rattle.std.proofs.lemmas.Str.{IsCharBoundary-after_ascii}
 use Rattle.line_buffer.specs.Rows.{row_end, is_in_row}
 use Rattle.line_buffer.proofs.RowLemmas.{prefix_len-stops}
 
--- the place behind it is one between characters
+-- the place after it is one between characters
 pub after_row : (text : List ℕ) (at end : ℕ) → end ≡ row_end text at → IsUtf8 text → at ≤ length text → end < length text → IsCharBoundary text (end + 1)
 after_row text at end is u le more = elim (prefix_len-stops (drop at text)) [
   | inl e ↦ absurd (omega (arith, is, e, length-drop at text))

@@ -69,7 +69,7 @@ opens_from text start e = record {
 pub opens_last_row : (text : List ℕ) (start : ℕ) → start ≡ row_start text (length text) → OpensLastRow text start
 opens_last_row text start e = opens_from text start (e ∙ ap (λ t. length text - suffix_len is_in_row t) (take_all (length text) text (le_refl _)))
 
--- ---- the places behind newlines
+-- ---- the places after newlines
 
 behind-cons : (from b : ℕ) (bs : List ℕ) → behind_newlines from (b ∷ bs) ≡ cond (b == 10) ((from + 1) ∷ behind_newlines (from + 1) bs) (behind_newlines (from + 1) bs)
 unfolding behind_newlines
@@ -123,7 +123,7 @@ behind-shift at from (b ∷ bs) =
     by true xs = refl
     by false xs = refl
 
--- at a newline the text falls into what stands before it and what stands behind it
+-- at a newline the text falls into what stands before it and what stands after it
 pub split_at_newline : (bs : List ℕ) (k : ℕ) → k < length bs → get_or bs k 0 ≡ 10 → bs ≡ take k bs ++ (10 ∷ drop (k + 1) bs)
 split_at_newline bs k l e = sym (take-append-drop k bs) ∙ ap (λ t. take k bs ++ t) (drop_more bs k 0 l ∙ ap (λ b. b ∷ drop (k + 1) bs) e)
 

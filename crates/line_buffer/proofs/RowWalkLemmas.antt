@@ -23,7 +23,7 @@ took_rest : (found : Option ℕ) (left : ℕ) (xs : List ℕ) → xs ≡ [] → 
 took_rest found zero xs e = refl
 took_rest found (suc left) xs e = ap (λ zs. last_or found (take (suc left) zs)) e
 
--- behind a newline a text may be cut
+-- after a newline a text may be cut
 pub behind_newline : (text : List ℕ) (start : ℕ) → IsUtf8 text → (0 < start → (start - 1 < length text) × (get_or text (start - 1) 0 ≡ 10)) → IsCharBoundary text start
 behind_newline text zero u h = IsCharBoundary-start text u
 behind_newline text (suc k) u h =

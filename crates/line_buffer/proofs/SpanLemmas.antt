@@ -167,7 +167,7 @@ module _ (l : Line) (u : IsUtf8 l.text) (b : IsCharBoundary l.text l.place) wher
           subst (IsCharBoundary l.text) (let k : row_end l.text at + 1 ≡ row_close l.text at = omega (arith, e.0, length-drop at l.text, h.0) in k)
           (after_row l.text at (row_end l.text at) refl u h.0 (omega (arith, e.0, length-drop at l.text)))
 
-  -- behind each newline of what follows on a place
+  -- after each newline of what follows on a place
   All-behind : (from : ℕ) (bs : List ℕ) → from ≤ length l.text → drop from l.text ≡ bs → All (λ i. IsCharBoundary l.text i × (from ≤ i)) (behind_newlines from bs)
   unfolding behind_newlines
   All-behind from [] le e = λ k d h. absurd (omega (arith, h))

@@ -22,13 +22,13 @@ take-nil : {A : Type 0} (n : ℕ) → take n (let xs : List A = [] in xs) ≡ (l
 take-nil zero = refl
 take-nil (suc n) = refl
 
--- the n-th of some places, or else the one behind them
+-- the n-th of some places, or else the one after them
 pub nth-then : (xs : List ℕ) (t : ℕ) (o : Option ℕ) (k : ℕ) → last_or o (take (suc k) (xs ++ t ∷ [])) ≡ option_or (slice_get xs k) (Some t)
 nth-then [] t o k = ap (last_or (Some t)) (take-nil k)
 nth-then (x ∷ xs) t o zero = refl
 nth-then (x ∷ xs) t o (suc k) = nth-then xs t (Some x) k
 
--- places with at most one more behind them, and none where there are none
+-- places with at most one more after them, and none where there are none
 abbrev pub IsTailOf : List ℕ → List ℕ → Type 0
 IsTailOf rest xs = ((rest ≡ []) × (xs ≡ [])) ⊎ ((t : ℕ) × (rest ≡ t ∷ []))
 

@@ -22,7 +22,7 @@ swap_stops takes refuses p text added b later s t u c e told replays stopped =
     subst (λ x. StopsAmong takes refuses [] (replacement p.second_start p.second_end x text ∷ later) s u text c) e
     (stops_later (reports_one takes _ s t text b told replays) stopped)
 
--- behind the first cluster, with another at hand
+-- after the first cluster, with another at hand
 pub transposes : (l : Line) (pos : ℕ) → pos ≡ l.place → (pos ≡ 0 → ⊥) → true ≡ nat_lt 1 (clusters_around l) → transposes_chars l ≡ true
 transposes l pos at behind two = and_from (not (l.place == 0)) (nat_lt 1 (clusters_around l)) (grind (arith, nat_tests)) (sym two)
 
@@ -36,7 +36,7 @@ exchange_event l m parts swapped holds is same made =
     ∙ ap (λ (x : Line). replacement parts.0 parts.2 (later_first parts x.text) x.text ∷ []) (sym same)
     ∙ ap (λ x. replacement parts.0 parts.2 x m.text ∷ []) (sym made)
 
--- behind both parts there is still the same text
+-- after both parts there is still the same text
 pub behind_both : (text x y : List ℕ) (a b c d : ℕ) → IsUtf8 text → IsCharBoundary text d → a ≤ b → b ≤ c → c ≤ d → length x ≡ b - a → length y ≡ d - c
     → IsCharBoundary (replace_range (replace_range text c d x) a b y) d
 behind_both text x y a b c d u e ab bc cd lx ly =

@@ -60,7 +60,7 @@ fronted (c ∷ cs) ds rest u e =
       back_ok = k.back_ok;
     }
 
--- the characters before the first c, and the text behind it
+-- the characters before the first c, and the text after it
 record CutAt (c : ℕ) (w x rest : List ℕ) : Type 0 where
   whole : chars w ≡ chars x ++ (c ∷ chars rest)
   none : All (λ d. (d == c) ≡ false) (chars x)
@@ -158,7 +158,7 @@ unjoined_width : (ds : List ℕ) → list_all stands_alone ds ≡ true → sum_b
 unjoined_width ds h =
     ap (sum_by (str_width false)) (slice_split_none (λ d. d == 0x200D) ds (no_joiners ds h)) ∙ omega (arith, sum_by-cons (str_width false) ds [])
 
--- in each mode the columns of a text and of such characters behind it add up
+-- in each mode the columns of a text and of such characters after it add up
 pub columns-adds_up : (mode : GraphemeClusterMode) (cs ds : List ℕ) → adds_up mode ds ≡ true → columns_of mode (cs ++ ds) ≡ columns_of mode cs + columns_of mode ds
 columns-adds_up Unicode cs ds h = text_longer cs ds h
 columns-adds_up WcWidth cs ds h = sum_by-append char_columns_of cs ds

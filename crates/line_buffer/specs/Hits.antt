@@ -29,7 +29,7 @@ last_char text = unwrap_or (option_map (λ x. x.0) (last_or None (placed_chars t
 abbrev pub past_cluster : Line → ℕ
 past_cluster l = unwrap_or (place_forward 1 l) l.place
 
--- the n-th place of a character behind the cluster at the cursor
+-- the n-th place of a character after the cluster at the cursor
 abbrev pub hit_forward : ℕ → ℕ → Line → Option ℕ
 hit_forward c n l =
     option_map (λ i. past_cluster l + i) (nth_or_last n (hits c (drop (past_cluster l) l.text)))
@@ -52,7 +52,7 @@ hit (ForwardBefore c) n l = hit_forward c n l
 hit (Backward c) n l = hit_backward c n l
 hit (BackwardAfter c) n l = hit_backward c n l
 
--- the place that the cursor takes: the hit's, one character before it, or right behind it
+-- the place that the cursor takes: the hit's, one character before it, or right after it
 abbrev pub search_place : CharSearch → ℕ → Line → Option ℕ
 search_place (Forward c) n l = hit_forward c n l
 search_place (ForwardBefore c) n l = option_map (λ i. last_char (take i l.text)) (hit_forward c n l)

@@ -34,7 +34,8 @@ rows_of text = slice_split (λ byte. byte == 10) text
 abbrev pub leading : ℕ → List ℕ → List ℕ
 leading count row = encode_utf8_all (take count (take_while is_whitespace (chars row)))
 
--- what is told of the row that starts at a place: it gets the margin, or loses at most as many characters
+-- what is told of the row that starts at a place: it gets the margin, or loses at most as many
+-- characters
 abbrev pub row_event : List ℕ → Bool → ℕ → List ℕ → Event
 row_event margin dedent at row =
     if dedent then Delete at (leading (length margin) row) Forward else insertion at margin

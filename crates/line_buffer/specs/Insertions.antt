@@ -44,7 +44,7 @@ pub record Insertion : Type 0 where
 abbrev pub no_insertion : Line → Insertion
 no_insertion l = record { answer = None; events = []; line = l }
 
--- a text put in at the cursor, the cursor behind it
+-- a text put in at the cursor, the cursor after it
 abbrev pub put_at_cursor : List ℕ → Line → Line
 put_at_cursor added l =
     record l { text = insert_slice l.text l.place added; place = l.place + length added }

@@ -26,7 +26,8 @@ deleted_texts [] = []
 deleted_texts (Delete at text direction ∷ es) = text ∷ deleted_texts es
 deleted_texts (e ∷ es) = deleted_texts es
 
--- by such a movement a kill takes something exactly where a copy gives a text, and tells that text alone
+-- by such a movement a kill takes something exactly where a copy gives a text, and tells that text
+-- alone
 abbrev pub KillsWhatIsCopied : Type 0
 KillsWhatIsCopied =
     (movement : Movement) (l : Line) → IsTrue (leaves_rows_whole movement)
@@ -59,7 +60,8 @@ abbrev pub moved_row : List ℕ → Bool → List ℕ → List ℕ
 moved_row margin dedent row =
     if dedent then drop (length (leading (length margin) row)) row else margin ++ row
 
--- what is told of rows in a text gives each its margin, or takes it, and changes nothing before them or after
+-- what is told of rows in a text gives each its margin, or takes it, and changes nothing before
+-- them or after
 abbrev pub RowsGetTheirMargin : Type 0
 RowsGetTheirMargin =
     (margin : List ℕ) (dedent : Bool) (before after : List ℕ) (rows : List (List ℕ))

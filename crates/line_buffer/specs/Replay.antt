@@ -5,7 +5,8 @@ use Rattle.line_buffer.specs.Event.{Event}
 use Rattle.line_buffer.specs.Event.Event.{StartKilling, StopKilling, Delete, InsertChar, InsertStr, Replace}
 use Rattle.line_buffer.specs.declared.types.Direction.{Direction}
 
--- the text `removed` stands at the place, between characters, and `added` is what stands there afterwards
+-- the text `removed` stands at the place, between characters, and `added` is what stands there
+-- afterwards
 pub record Swaps (at : ℕ) (removed added before after : List ℕ) : Type 0 where
   pub start : IsCharBoundary before at
   pub end : IsCharBoundary before (at + length removed)
@@ -45,8 +46,9 @@ TellsOfChange StartKilling = ⊥
 TellsOfChange StopKilling = ⊥
 TellsOfChange e = Unit {0}
 
--- memory was wanting at one of the events: those before it were done, and led to the text that is left; for that one the line
--- found none, or the listener refused it; those after it never come. What closes the call was told in the end
+-- memory was wanting at one of the events: those before it were done, and led to the text that is
+-- left; for that one the line found none, or the listener refused it; those after it never come.
+-- What closes the call was told in the end
 pub record StopsAmong {S : Type 0} (takes refuses : S → Event → S → Type 0)
     (closing events : List Event)
     (s t : S) (before after : List ℕ) : Type 0 where

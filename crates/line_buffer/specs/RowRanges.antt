@@ -1,15 +1,16 @@
--- Where rows start, and the ranges of rows that a movement up or down names. A row ends at a newline, which a range takes along.
+-- Where rows start, and the ranges of rows that a movement up or down names. A row ends at a
+-- newline, which a range takes along.
 use Rattle.std.specs.Prelude.{ℕ, ◌+◌, ◌==◌, min, List, ◌∷◌, length, map, reverse, filter, drop, Option, option_map}
 use Rattle.std.specs.List.{enumerate_from}
 use Rattle.line_buffer.specs.Line.{Line, text_before, text_after}
 use Rattle.line_buffer.specs.Clusters.{nth_or_last}
 use Rattle.line_buffer.specs.Rows.{row_start, row_end}
 
--- the places behind the newlines of a text, which begins at the given place
+-- the places after the newlines of a text, which begins at the given place
 unfoldable pub behind_newlines : ℕ → List ℕ → List ℕ
 behind_newlines from text = map (λ x. x.0 + 1) (filter (λ x. x.1 == 10) (enumerate_from from text))
 
--- a row starts where the text does, and behind each newline
+-- a row starts where the text does, and after each newline
 abbrev pub row_starts : List ℕ → List ℕ
 row_starts text = 0 ∷ behind_newlines 0 text
 
@@ -21,7 +22,7 @@ starts_above l = drop 1 (reverse (row_starts (text_before l)))
 abbrev pub starts_below : Line → List ℕ
 starts_below l = behind_newlines l.place (text_after l)
 
--- the end of a place's row, behind its newline where it has one
+-- the end of a place's row, after its newline where it has one
 abbrev pub row_close : List ℕ → ℕ → ℕ
 row_close text at = min (row_end text at + 1) (length text)
 

@@ -7,7 +7,7 @@ use Rattle.line_buffer.specs.declared.layout.Position.{Position}
 abbrev pub is_printable : ℕ → Bool
 is_printable c = nat_le 0x20 c && nat_lt c 0x7F
 
--- behind one printable character of ASCII, unless it would stand in the row's last column
+-- after one printable character of ASCII, unless it would stand in the row's last column
 abbrev pub behind_typed : ℕ → ℕ → Position → Option Position
 behind_typed columns c end =
     if is_printable c && nat_lt (end.col + 1) columns

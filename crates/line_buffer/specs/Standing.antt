@@ -1,12 +1,14 @@
--- Characters whose columns are their own, whatever stands before them: none is a part of a ligature, a flag or an emoji.
-use Rattle.std.specs.Prelude.{ℕ, Bool, true, ◌||◌, List}
+-- Characters whose columns are their own, whatever stands before them: none is a part of a
+-- ligature, a flag or an emoji.
+use Rattle.std.specs.Prelude.{ℕ, ◌==◌, Bool, true, false, not, ◌&&◌, ◌||◌, List, [], ◌∷◌, None, unwrap_or}
 use Rattle.std.specs.Int.{is_in_range}
-use Rattle.std.specs.List.{list_all}
+use Rattle.std.specs.List.{last_or, list_all}
+use Rattle.ucd_emoji.specs.Binary.{is_emoji_presentation, is_emoji_variation_base}
 use Rattle.line_buffer.specs.declared.layout.GraphemeClusterMode.{GraphemeClusterMode}
 use Rattle.line_buffer.specs.declared.layout.GraphemeClusterMode.TheVariants.{Unicode, WcWidth, NoZwj}
 
--- printable ASCII; Latin, Greek and Cyrillic with their marks, to Hebrew; the scripts of India, Thai, Georgian and Ethiopic;
--- punctuation and symbols; Chinese, Japanese and Korean
+-- printable ASCII; Latin, Greek and Cyrillic with their marks, to Hebrew; the scripts of India,
+-- Thai, Georgian and Ethiopic; punctuation and symbols; Chinese, Japanese and Korean
 abbrev pub stands_alone : ℕ → Bool
 stands_alone c =
     is_in_range 0x20 0x7E c
@@ -24,3 +26,20 @@ abbrev pub adds_up : GraphemeClusterMode → List ℕ → Bool
 adds_up Unicode cs = list_all stands_alone cs
 adds_up WcWidth cs = true
 adds_up NoZwj cs = list_all stands_alone cs
+
+-- an emoji by itself: no letter of a flag, and no tone of skin
+abbrev pub is_own_emoji : ℕ → Bool
+is_own_emoji c =
+    is_emoji_presentation c
+    && not (is_in_range 0x1F1E6 0x1F1FF c || is_in_range 0x1F3FB 0x1F3FF c)
+
+-- such an emoji, or a character that a selector makes one: whatever follows on it, only a joiner
+-- before it takes it in
+abbrev pub begins_with_emoji : List ℕ → Bool
+begins_with_emoji [] = false
+begins_with_emoji (c ∷ []) = is_own_emoji c
+begins_with_emoji (c ∷ d ∷ cs) =
+    is_own_emoji c || (is_emoji_variation_base c && (d == 0xFE0F))
+
+abbrev pub ends_in_joiner : List ℕ → Bool
+ends_in_joiner cs = unwrap_or (last_or None cs) 0 == 0x200D

@@ -10,7 +10,8 @@ use Rattle.line_buffer.specs.Line.{Line, text_before, text_after, moved_to, repl
 use Rattle.line_buffer.specs.Replay.{replacement}
 use Rattle.line_buffer.specs.Words.{prev_word, next_word}
 
--- the cursor between the two clusters that are later_first: one cluster back where it stands at the text's end
+-- the cursor between the two clusters that are later_first: one cluster back where it stands at the
+-- text's end
 abbrev pub between_clusters : Line → Line
 between_clusters l = if l.place == length l.text then moved_to (place_backward 1 l) l else l
 
@@ -23,7 +24,7 @@ clusters_at l =
 abbrev pub clusters_around : Line → ℕ
 clusters_around l = length (graphemes true (text_before l)) + length (graphemes true (text_after l))
 
--- the cursor is behind a cluster, and there are two at least
+-- the cursor is after a cluster, and there are two at least
 abbrev pub transposes_chars : Line → Bool
 transposes_chars l = not (l.place == 0) && nat_lt 1 (clusters_around l)
 

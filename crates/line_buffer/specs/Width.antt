@@ -1,4 +1,5 @@
--- The columns that a text takes in a terminal, by the way in which the terminal counts those of a cluster.
+-- The columns that a text takes in a terminal, by the way in which the terminal counts those of a
+-- cluster.
 use Rattle.std.specs.Prelude.{ℕ, ◌==◌, min, false, List, chars, sum_by, unwrap_or}
 use Rattle.std.specs.List.{slice_split}
 use Rattle.unicode_width.specs.Width.{str_width, char_width}

@@ -45,7 +45,7 @@ kinds word pieces = map (λ x. (x.0, kind_of word x.1)) pieces
 abbrev pub neighbours : {A : Type 0} → List A → List (A × A)
 neighbours xs = zip xs (drop 1 xs)
 
--- the places at which a word starts behind something else
+-- the places at which a word starts after something else
 unfoldable pub starts_of : List (ℕ × Kind) → List ℕ
 starts_of xs = map (λ p. p.1.0) (filter (λ p. starts_between p.0.1 p.1.1) (neighbours xs))
 
@@ -80,12 +80,14 @@ text_end text = if length text == 0 then [] else length text ∷ []
 abbrev pub later_last : List (ℕ × List ℕ) → List ℕ
 later_last pieces = option_to_list (option_map (λ x. x.0) (last_or None (drop 1 pieces)))
 
--- where a motion back over a text can stop, nearest first: at each start of a word, and in the end at the text's start
+-- where a motion back over a text can stop, nearest first: at each start of a word, and in the end
+-- at the text's start
 abbrev pub stops_back : Word → List ℕ → List ℕ
 stops_back word text = reverse (text_start text ++ starts_of (kinds word (clusters text)))
 
--- where a motion over a text can stop inside it: at each start of a word, after its end, or at its last cluster, but there
--- never at the text's first cluster; with Emacs the last cluster counts as the end
+-- where a motion over a text can stop inside it: at each start of a word, after its end, or at its
+-- last cluster, but there never at the text's first cluster; with Emacs the last cluster counts as
+-- the end
 abbrev pub inner_stops : At → Word → List ℕ → List ℕ
 inner_stops BeforeEnd Emacs text = ends_of (kinds Emacs (clusters text))
 inner_stops BeforeEnd word text = lasts_of (kinds word (drop 1 (clusters text)))

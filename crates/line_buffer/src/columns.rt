@@ -1,17 +1,19 @@
 //! Motions up and down by rows, which keep to the cursor's column as nearly as the clusters of the
 //! row allow.
 
-ghost use Rattle.std.specs.Prelude.{◌≡◌, min, take, chars, is_some, IfSome, IsCharBoundary};
+ghost use Rattle.std.specs.Char.{IsScalar};
+ghost use Rattle.std.specs.Prelude.{◌≡◌, ◌==◌, ◌+◌, ◌++◌, true, min, take, chars, is_some, IfSome, IsCharBoundary};
 ghost use Rattle.std.specs.List.{list_all};
 ghost use Rattle.line_buffer.specs.Width.{columns_of};
-ghost use Rattle.line_buffer.specs.Standing.{stands_alone, adds_up};
+ghost use Rattle.line_buffer.specs.Standing.{stands_alone, adds_up, is_own_emoji, begins_with_emoji, ends_in_joiner};
 ghost use Rattle.line_buffer.specs.Line.{moved_to};
 ghost use Rattle.line_buffer.specs.Columns.{place_at_column, first_column, cursor_column, place_in_row, line_up, line_down};
 
-use crate::layout::{GraphemeClusterMode, Layout, Unit};
+use crate::layout::{GraphemeClusterMode, Layout, Unit, ZERO_WIDTH_JOINER};
 use crate::line_buffer::LineBuffer;
 use crate::rows::{first_row_end, last_row_start};
 use crate::types::RepeatCount;
+use ucd_emoji::{is_emoji_presentation, is_emoji_variation_base};
 use unicode_segmentation::UnicodeSegmentation;
 
 /// The column at which the row that starts at a place begins.
@@ -59,6 +61,57 @@ fn all_stand_alone(text: &str) -> bool
     text.chars().all(|c| stands_alone(c))
 }
 
+/// An emoji by itself, no letter of a flag and no tone of skin.
+fn is_own_emoji(c: char) -> bool
+    ensures { result ≡ is_own_emoji c }
+{
+    is_emoji_presentation(c) && !matches!(c, '\u{1F1E6}'..='\u{1F1FF}' | '\u{1F3FB}'..='\u{1F3FF}')
+}
+
+/// The text begins with such an emoji, or with a character that a selector makes one.
+fn begins_with_emoji(text: &str) -> bool
+    ensures { result ≡ begins_with_emoji (chars text.now) }
+{
+    let mut characters = text.chars();
+    let Some(first) = characters.next() else {
+        return false;
+    };
+    if is_own_emoji(first) {
+        return true;
+    }
+    match characters.next() {
+        Some(second) => second == '\u{FE0F}' && is_emoji_variation_base(first),
+        None => false,
+    }
+}
+
+fn is_joiner(c: char) -> bool
+    ensures value { result ≡ (c == 0x200D) }
+    ensures scalar { IsScalar c }
+{
+    c == ZERO_WIDTH_JOINER
+}
+
+fn ends_in_joiner(text: &str) -> bool
+    ensures { result ≡ ends_in_joiner (chars text.now) }
+{
+    match text.chars().next_back() {
+        Some(last) => is_joiner(last),
+        None => false,
+    }
+}
+
+/// The characters where two texts meet tell that their columns add up.
+fn columns_add(mode: GraphemeClusterMode, before: &str, rest: &str) -> bool
+    ensures { result ≡ true → columns_of mode (chars before.now ++ chars rest.now)
+        ≡ columns_of mode (chars before.now) + columns_of mode (chars rest.now) }
+{
+    if adds_up(mode, rest) {
+        return true;
+    }
+    begins_with_emoji(rest) && !ends_in_joiner(before)
+}
+
 /// The columns of a text up to a place, where those of the whole text are known. What follows on
 /// the place is measured alone where it may be, and else the text before it.
 fn columns_up_to(mode: GraphemeClusterMode, text: &str, end: usize, whole: usize) -> usize
@@ -66,11 +119,11 @@ fn columns_up_to(mode: GraphemeClusterMode, text: &str, end: usize, whole: usize
     requires whole { whole ≡ min (columns_of mode (chars text.now)) usize.MAX }
     ensures { result ≡ min (columns_of mode (chars (take end text.now))) usize.MAX }
 {
-    let rest = &text[end..];
-    if whole < usize::MAX && adds_up(mode, rest) {
+    let (before, rest) = (&text[..end], &text[end..]);
+    if whole < usize::MAX && columns_add(mode, before, rest) {
         whole - mode.columns(rest)
     } else {
-        mode.columns(&text[..end])
+        mode.columns(before)
     }
 }
 

@@ -3,10 +3,11 @@
 ghost use Rattle.std.specs.Prelude.{◌≡◌, take, IsCharBoundary};
 ghost use Rattle.line_buffer.specs.Indent.{leading};
 
+use crate::gap_buffer::GapBuffer;
 use crate::line_buffer::{LineBuffer, OutOfMemory};
 use crate::listener::ChangeListener;
 use crate::rows::{first_row_end, last_row_start};
-use crate::types::{Direction, Movement};
+use crate::types::Movement;
 use std::alloc::Global;
 use std::ops::Range;
 
@@ -25,155 +26,136 @@ fn leading_len(row: &str, count: usize) -> usize
     row.len()
 }
 
-impl LineBuffer {
-    ghost use Rattle.std.specs.Prelude.{◌≡◌, ◌+◌, ◌≤◌, ◌⊎◌, true, [], length, slice_range, drop, IfOk, OnOk, OnErr, IsCharBoundary};
-    ghost use Rattle.line_buffer.specs.declared.types.Direction.TheVariants.{Forward};
-    ghost use Rattle.line_buffer.specs.Indent.{leading, rows_covered, rows_of, row_event, row_len, row_events, indent_events, indent_line};
+impl<'a> GapBuffer<'a> {
+    ghost use Rattle.std.specs.Prelude.{◌≡◌, ◌+◌, ◌≤◌, ◌⊎◌, [], length, slice_range, drop, IfOk, OnOk, OnErr, IsCharBoundary};
+    ghost use Rattle.line_buffer.specs.Indent.{leading, rows_of, row_event, row_len, row_events};
     ghost use Rattle.line_buffer.specs.Settings.{SameSettings};
-    ghost use Rattle.line_buffer.specs.Replay.{Replays, Reports, StopsAmong, deletion, insertion};
+    ghost use Rattle.line_buffer.specs.Replay.{Replays, Reports, StopsAmong};
     ghost use Rattle.std.specs.List.{prefix_len};
-    ghost use Rattle.line_buffer.specs.Rows.{is_in_row, row_start, row_end};
+    ghost use Rattle.line_buffer.specs.Rows.{is_in_row};
     ghost use Rattle.line_buffer.specs.Replayed.{carried_line, carried_all};
 
-    /// Puts a margin at a row's start; the cursor stays before the text that follows on it.
-    fn insert_margin<C: ChangeListener>(
-        &mut self,
-        alloc: Global,
-        at: usize,
-        margin: &str,
-        cl: &mut C,
-    ) -> Result<(), OutOfMemory>
-        requires { IsCharBoundary self.old.text at }
-        ensures told { OnOk result (C.takes cl.old (insertion at margin.now) cl.new) }
-        ensures replays { OnOk result (Replays (insertion at margin.now) self.old.text
-            self.new.text) }
-        ensures line { OnOk result (self.new ≡ carried_line (insertion at margin.now) self.old) }
-        ensures refused { OnErr result ((cl.new ≡ cl.old) ⊎ C.refuses cl.old
-            (insertion at margin.now) cl.new) }
-        ensures kept { OnErr result (self.new ≡ self.old) }
-    {
-        // Its contract says that the text is UTF-8.
-        let _text = self.as_str();
-        let place = self.pos();
-        self.set_pos(at);
-        match self.insert_str(alloc, at, margin, cl) {
-            Ok(_) => {
-                // Its contract says that the length fits.
-                let _longest = self.len();
-                let carried = if at <= place {
-                    place + margin.len()
-                } else {
-                    place
-                };
-                self.set_pos(carried);
-                Ok(())
-            }
-            Err(refusal) => {
-                self.set_pos(place);
-                Err(refusal)
-            }
-        }
-    }
-
-    /// Takes a margin away from a row's start; the cursor stays before the text that follows on it.
-    fn remove_margin<C: ChangeListener>(
-        &mut self,
-        alloc: Global,
-        at: usize,
-        upto: usize,
-        cl: &mut C,
-    ) -> Result<(), OutOfMemory>
-        requires order { at ≤ upto }
-        requires start { IsCharBoundary self.old.text at }
-        requires end { IsCharBoundary self.old.text upto }
-        ensures told { OnOk result (C.takes cl.old (deletion at upto Forward self.old.text)
-            cl.new) }
-        ensures replays { OnOk result (Replays (deletion at upto Forward self.old.text)
-            self.old.text self.new.text) }
-        ensures line { OnOk result (self.new ≡ carried_line (deletion at upto Forward self.old.text)
-            self.old) }
-        ensures refused { OnErr result (C.refuses cl.old (deletion at upto Forward self.old.text)
-            cl.new) }
-        ensures kept { OnErr result (self.new ≡ self.old) }
-    {
-        // Its contract says that the text is UTF-8.
-        let _text = self.as_str();
-        let place = self.pos();
-        self.delete_directed(alloc, at..upto, Direction::Forward, cl)?;
-        self.set_pos(place - (upto - at).min(place.saturating_sub(at)));
-        Ok(())
-    }
-
-    /// Gives the row between two places its margin, or takes one away, and answers where the row
-    /// ends then.
+    /// Gives the row between the gap and a place its margin, or takes one away, and answers where
+    /// the row ends then.
     fn change_row<C: ChangeListener>(
         &mut self,
         alloc: Global,
-        row: Range<usize>,
+        end: usize,
         margin: &str,
         dedent: bool,
         cl: &mut C,
     ) -> Result<usize, OutOfMemory>
-        requires order { row.start ≤ row.end }
-        requires start { IsCharBoundary self.old.text row.start }
-        requires end { IsCharBoundary self.old.text row.end }
-        ensures answer { IfOk result (λ end. end ≡ row.start + row_len margin.now dedent
-            (slice_range self.old.text row.start row.end)) }
-        ensures later { IfOk result (λ end. row.start ≤ end) }
-        ensures bound { IfOk result (λ end. end ≤ length self.new.text) }
-        ensures rest { IfOk result (λ end. drop end self.new.text ≡ drop row.end self.old.text) }
-        ensures told { OnOk result (C.takes cl.old (row_event margin.now dedent row.start
-            (slice_range self.old.text row.start row.end)) cl.new) }
-        ensures replays { OnOk result (Replays (row_event margin.now dedent row.start
-            (slice_range self.old.text row.start row.end)) self.old.text self.new.text) }
-        ensures line { OnOk result (self.new ≡ carried_line
-            (row_event margin.now dedent row.start (slice_range self.old.text row.start row.end))
-            self.old) }
+        requires order { self.old.1 ≤ end }
+        requires end { IsCharBoundary self.old.0.text end }
+        ensures answer { IfOk result (λ e. e ≡ self.old.1 + row_len margin.now dedent
+            (slice_range self.old.0.text self.old.1 end)) }
+        ensures gap { IfOk result (λ e. self.new.1 ≤ e) }
+        ensures bound { IfOk result (λ e. e ≤ length self.new.0.text) }
+        ensures rest { IfOk result (λ e. drop e self.new.0.text ≡ drop end self.old.0.text) }
+        ensures told { OnOk result (C.takes cl.old (row_event margin.now dedent self.old.1
+            (slice_range self.old.0.text self.old.1 end)) cl.new) }
+        ensures replays { OnOk result (Replays (row_event margin.now dedent self.old.1
+            (slice_range self.old.0.text self.old.1 end)) self.old.0.text self.new.0.text) }
+        ensures line { OnOk result (self.new.0 ≡ carried_line (row_event margin.now dedent
+            self.old.1 (slice_range self.old.0.text self.old.1 end)) self.old.0) }
         ensures refused { OnErr result ((cl.new ≡ cl.old) ⊎ C.refuses cl.old
-            (row_event margin.now dedent row.start (slice_range self.old.text row.start row.end))
+            (row_event margin.now dedent self.old.1 (slice_range self.old.0.text self.old.1 end))
             cl.new) }
         ensures kept { OnErr result (self.new ≡ self.old) }
     {
-        // Its contract says that the length fits.
-        let _longest = self.len();
+        let gap = self.gap();
         if dedent {
-            let taken = self.margin_len(&row, margin.len());
-            self.remove_margin(alloc, row.start, row.start + taken, cl)?;
-            return Ok(row.end - taken);
+            let taken = self.margin_len(end, margin.len());
+            self.remove(alloc, gap + taken, cl)?;
+            return Ok(end - taken);
         }
-        self.insert_margin(alloc, row.start, margin, cl)?;
+        self.insert(alloc, margin, cl)?;
         // Its contract says that the new length fits.
         let _longer = self.len();
-        Ok(row.end + margin.len())
+        Ok(end + margin.len())
     }
 
-    /// `leading_len` of the row between two places.
-    fn margin_len(&self, row: &Range<usize>, count: usize) -> usize
-        requires order { row.now.start ≤ row.now.end }
-        requires start { IsCharBoundary self.now.text row.now.start }
-        requires end { IsCharBoundary self.now.text row.now.end }
-        ensures value { slice_range self.now.text row.now.start (row.now.start + result) ≡ leading
-            count (slice_range self.now.text row.now.start row.now.end) }
-        ensures boundary { IsCharBoundary self.now.text (row.now.start + result) }
-        ensures bound { row.now.start + result ≤ row.now.end }
+    /// `leading_len` of the row between the gap and a place.
+    fn margin_len(&self, end: usize, count: usize) -> usize
+        requires order { self.now.1 ≤ end }
+        requires end { IsCharBoundary self.now.0.text end }
+        ensures value { slice_range self.now.0.text self.now.1 (self.now.1 + result) ≡ leading
+            count (slice_range self.now.0.text self.now.1 end) }
+        ensures boundary { IsCharBoundary self.now.0.text (self.now.1 + result) }
+        ensures bound { self.now.1 + result ≤ end }
     {
-        leading_len(&self.buf[row.start..row.end], count)
+        // Its contract says that the text is UTF-8.
+        let after = self.after();
+        leading_len(&after[..end - self.gap()], count)
     }
 
-    /// Where the row that starts at a place ends, or where the last row does.
-    fn row_end_before(&self, at: usize, last: usize) -> usize
-        requires order { at ≤ last }
-        requires start { IsCharBoundary self.now.text at }
-        requires end { IsCharBoundary self.now.text last }
-        ensures value { result ≡ at + prefix_len is_in_row (slice_range self.now.text at last) }
-        ensures boundary { IsCharBoundary self.now.text result }
-        ensures later { at ≤ result }
+    /// Where the row that starts at the gap ends, or where the last row does.
+    fn row_end_before(&self, last: usize) -> usize
+        requires order { self.now.1 ≤ last }
+        requires end { IsCharBoundary self.now.0.text last }
+        ensures value { result ≡ self.now.1 + prefix_len is_in_row (slice_range self.now.0.text
+            self.now.1 last) }
+        ensures boundary { IsCharBoundary self.now.0.text result }
+        ensures later { self.now.1 ≤ result }
         ensures before { result ≤ last }
     {
-        at + first_row_end(&self.buf[at..last])
+        let gap = self.gap();
+        let after = self.after();
+        gap + first_row_end(&after[..last - gap])
     }
 
-    /// `change_row` of each row between two places, the first row first.
+    /// `change_row` of each row between the gap and a place, the first row first.
+    fn change_rows<C: ChangeListener>(
+        &mut self,
+        alloc: Global,
+        upto: usize,
+        margin: &str,
+        dedent: bool,
+        cl: &mut C,
+    ) -> Result<(), OutOfMemory>
+        requires order { self.old.1 ≤ upto }
+        requires end { IsCharBoundary self.old.0.text upto }
+        ensures told { OnOk result (Reports C.takes (row_events margin.now dedent self.old.1
+            (rows_of (slice_range self.old.0.text self.old.1 upto))) cl.old cl.new self.old.0.text
+            self.new.0.text) }
+        ensures line { OnOk result (self.new.0 ≡ carried_all
+            (row_events margin.now dedent self.old.1
+            (rows_of (slice_range self.old.0.text self.old.1 upto))) self.old.0) }
+        ensures stopped { OnErr result (StopsAmong C.takes C.refuses []
+            (row_events margin.now dedent self.old.1
+            (rows_of (slice_range self.old.0.text self.old.1 upto))) cl.old cl.new self.old.0.text
+            self.new.0.text) }
+        ensures settings { SameSettings self.old.0 self.new.0 }
+    {
+        // Its contract says that it stands between characters.
+        let _gap = self.gap();
+        let mut last = upto;
+        'rows: loop {
+            // Its contract says that the text is UTF-8.
+            let _text = self.after();
+            let end = self.row_end_before(last);
+            let is_last = end == last;
+            let changed = self.change_row(alloc, end, margin, dedent, cl)?;
+            if is_last {
+                return Ok(());
+            }
+            // Its contract says that the length fits.
+            let _longest = self.len();
+            last = last - end + changed;
+            self.advance(changed + 1);
+        }
+    }
+}
+
+impl LineBuffer {
+    ghost use Rattle.std.specs.Prelude.{◌≡◌, ◌≤◌, true, [], slice_range, IfOk, OnOk, OnErr, IsCharBoundary};
+    ghost use Rattle.line_buffer.specs.Indent.{rows_covered, rows_of, row_events, indent_events, indent_line};
+    ghost use Rattle.line_buffer.specs.Settings.{SameSettings};
+    ghost use Rattle.line_buffer.specs.Replay.{Reports, StopsAmong};
+    ghost use Rattle.line_buffer.specs.Rows.{row_start, row_end};
+    ghost use Rattle.line_buffer.specs.Replayed.{carried_all};
+
+    /// Gives each row between two places its margin, or takes one away, the first row first.
     fn change_rows<C: ChangeListener>(
         &mut self,
         alloc: Global,
@@ -197,22 +179,11 @@ impl LineBuffer {
             self.new.text) }
         ensures settings { SameSettings self.old self.new }
     {
-        let mut at = rows.start;
-        let mut last = rows.end;
-        'rows: loop {
-            // Its contract says that the text is UTF-8.
-            let _text = self.as_str();
-            let end = self.row_end_before(at, last);
-            let is_last = end == last;
-            let changed = self.change_row(alloc, at..end, margin, dedent, cl)?;
-            if is_last {
-                return Ok(());
-            }
-            // Its contract says that the length fits.
-            let _longest = self.len();
-            last = last - end + changed;
-            at = changed + 1;
-        }
+        let mut changed = GapBuffer::new(alloc, self)?;
+        changed.advance(rows.start);
+        let told = changed.change_rows(alloc, rows.end, margin, dedent, cl);
+        *self = changed.into_line();
+        told
     }
 
     /// Where the row of a place starts.

@@ -133,7 +133,7 @@ impl LineBuffer {
         Ok(())
     }
 
-    /// `insert_str` at the cursor, which takes the place behind the text.
+    /// `insert_str` at the cursor, which takes the place after the text.
     fn insert_at_cursor<C: ChangeListener>(
         &mut self,
         alloc: Global,
@@ -159,7 +159,7 @@ impl LineBuffer {
         Ok(at_end)
     }
 
-    /// Puts a character in at the cursor, which takes the place behind it.
+    /// Puts a character in at the cursor, which takes the place after it.
     fn insert_char<C: ChangeListener>(
         &mut self,
         alloc: Global,
@@ -235,7 +235,7 @@ impl LineBuffer {
         self.insert_where_room(alloc, added.as_str(), cl)
     }
 
-    /// Puts n copies of a character in at the cursor, which takes the place behind them: whether
+    /// Puts n copies of a character in at the cursor, which takes the place after them: whether
     /// that was at the text's end, or `None` where the line has no leave to grow as far.
     pub fn insert<C: ChangeListener>(
         &mut self,
@@ -264,7 +264,7 @@ impl LineBuffer {
         Ok(Some(at_end))
     }
 
-    /// Puts n copies of a text in at the cursor, which takes the place behind them: whether that
+    /// Puts n copies of a text in at the cursor, which takes the place after them: whether that
     /// was at the text's end, or `None` where the text is empty or the line has no leave to grow as
     /// far.
     pub fn yank<C: ChangeListener>(

@@ -57,7 +57,7 @@ pub enum GraphemeClusterMode {
 }
 
 /// Joins the emoji before and after it into one.
-const ZERO_WIDTH_JOINER: char = '\u{200D}';
+pub(crate) const ZERO_WIDTH_JOINER: char = '\u{200D}';
 
 /// The columns of a character by itself.
 fn char_columns(c: char) -> Unit

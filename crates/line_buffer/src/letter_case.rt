@@ -92,7 +92,7 @@ impl LineBuffer {
     }
 
     /// Puts the letters of the word at the cursor or after it into another case, those of ASCII
-    /// alone, with the cursor behind the word; false where there is none. A capitalized word has
+    /// alone, with the cursor after the word; false where there is none. A capitalized word has
     /// its first cluster raised and the rest lowered.
     pub fn edit_word<C: ChangeListener>(
         &mut self,

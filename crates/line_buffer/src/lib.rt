@@ -5,6 +5,7 @@
 mod columns;
 mod deletion;
 mod edit;
+mod gap_buffer;
 mod indentation;
 mod insertion;
 pub mod laws;

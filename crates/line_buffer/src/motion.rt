@@ -43,7 +43,7 @@ fn row_bytes_after(bytes: &[u8]) -> usize
     bytes.iter().take_while(|byte| **byte != b'\n').count()
 }
 
-/// How many bytes at the end lie behind the last newline.
+/// How many bytes at the end lie after the last newline.
 fn row_bytes_before(bytes: &[u8]) -> usize
     ensures value { result ≡ suffix_len is_in_row bytes.now }
     ensures bound { result ≤ length bytes.now }

@@ -31,7 +31,7 @@ pub(crate) fn first_row_end(text: &str) -> usize
     }
 }
 
-/// Where the first row of a text ends, behind its newline where it has one.
+/// Where the first row of a text ends, after its newline where it has one.
 fn first_row_close(text: &str) -> usize
     ensures value { result ≡ row_close text.now 0 }
     ensures boundary { IsCharBoundary text.now result }

@@ -89,7 +89,7 @@ impl LineBuffer {
         }
     }
 
-    /// The n-th place of a character behind the cluster at the cursor.
+    /// The n-th place of a character after the cluster at the cursor.
     pub(crate) fn hit_forward(&self, c: char, n: RepeatCount) -> Option<usize>
         ensures value { result ≡ Hits.hit_forward c n self.now }
         ensures part { IfSome result (λ i. IsPart self.now.text i (length (encode_utf8 c))) }

@@ -6,7 +6,7 @@ ghost use Rattle.line_buffer.specs.Short.{is_printable, behind_typed, before_kil
 
 use crate::layout::{Position, Unit};
 
-/// Where the cursor stands behind a character that is typed at the end of a line, if writing its
+/// Where the cursor stands after a character that is typed at the end of a line, if writing its
 /// byte shows it: a printable character of ASCII that doesn't fill its row. `None` asks for a full
 /// drawing.
 ///

@@ -77,7 +77,7 @@ impl LineBuffer {
     }
 
     /// Puts the cluster at the cursor, at the text's end the last one, before the cluster before
-    /// it, and the cursor behind both. False at the text's start, and where there aren't two
+    /// it, and the cursor after both. False at the text's start, and where there aren't two
     /// clusters; a cursor inside a cluster parts it in two.
     pub fn transpose_chars<C: ChangeListener>(
         &mut self,
@@ -135,7 +135,7 @@ impl LineBuffer {
         found
     }
 
-    /// Exchanges two parts, the later one first, with the cursor behind both.
+    /// Exchanges two parts, the later one first, with the cursor after both.
     fn swap<C: ChangeListener>(
         &mut self,
         alloc: Global,
@@ -187,7 +187,7 @@ impl LineBuffer {
     }
 
     /// Exchanges the word at the cursor or after it, the n-th by its end, with the one n words
-    /// before, and puts the cursor behind both. Where these aren't two words, false, and the cursor
+    /// before, and puts the cursor after both. Where these aren't two words, false, and the cursor
     /// stays after the earlier one.
     pub fn transpose_words<C: ChangeListener>(
         &mut self,

@@ -1,4 +1,4 @@
--- The bytes of a buffer, after more were put behind them, or the first were taken.
+-- The bytes of a buffer, once more were put after them, or the first were taken.
 use Rattle.std.proofs.Common.{◌≡◌, ℕ, ◌+◌, ◌-◌, ◌≤◌, List, ◌++◌, length, take, drop, slice_range, refl, sym, ap, ◌∙◌, arith}
 use Rattle.std.proofs.lemmas.List.{take_at, drop_at, take-append-le, drop-append-le, drop-take, drop-drop, length-take-le, length-drop}
 use borrow.Rule.Slice.PartMut.{put_mid, post_of}

@@ -6,7 +6,7 @@ use Rattle.line_config.specs.declared.device.Last.TheVariants.{End}
 use Rattle.line_config.specs.Device.{front_of}
 
 -- whether the bytes still to come are known, and where they are: these bytes, and what stands
--- behind them. A steady source fails there if that says so, and nowhere else; any other may fail at
+-- after them. A steady source fails there if that says so, and nowhere else; any other may fail at
 -- any call, and where it comes to its end says the end. No more bytes than the bound are still
 -- given: the measure of each loop that reads.
 pub record Feed : Type 0 where
@@ -17,7 +17,7 @@ pub record Feed : Type 0 where
   pub bound : ℕ
   pub failed : Bool
 
--- a steady source of these bytes, with this behind them
+-- a steady source of these bytes, with this after them
 abbrev pub steady_feed : List ℕ → Last → Feed
 steady_feed bytes last =
     record {

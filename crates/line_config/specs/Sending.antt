@@ -2,12 +2,12 @@
 use Rattle.std.specs.Prelude.{◌≡◌, ℕ, Bool, List, ◌++◌, IsTrue, Result, OnOk, OnErr}
 use Rattle.line_config.specs.declared.device.DeviceFailed.{DeviceFailed}
 
--- a told sink stays told, and has taken these bytes behind what it held
+-- a told sink stays told, and has taken these bytes after what it held
 abbrev pub Takes : {D : Type 0} → (D → Bool) → (D → List ℕ) → D → D → List ℕ → Type 0
 Takes told held old new bytes = IsTrue (told old) → IsTrue (told new)
     × (held new ≡ held old ++ bytes)
 
--- what is held after is what was held before, and behind it a beginning of these bytes
+-- what is held then is what was held before, and after it a beginning of these bytes
 pub record AppendsSome (before bytes after : List ℕ) : Type 0 where
   pub taken : List ℕ
   pub rest : List ℕ

@@ -149,7 +149,7 @@ impl<W: Write> WriteSink<W> {
         (self.writer, self.unsent)
     }
 
-    // Puts as many of the bytes behind those that wait as there is room for, which is made first.
+    // Puts as many of the bytes after those that wait as there is room for, which is made first.
     fn gather(&mut self, bytes: &[u8]) -> Result<usize, DeviceFailed>
         ensures ok { IfOk result (λ n. Takes (sink_told W.contents) (sink_held W.contents)
             self.old self.new (take n bytes.now)) }

@@ -79,7 +79,7 @@ impl<const N: usize> Buffer<N> {
         Ok(())
     }
 
-    /// Takes as many of the bytes as there is room for behind those that it holds.
+    /// Takes as many of the bytes as there is room for after those that it holds.
     pub(crate) fn append(&mut self, bytes: &[u8]) -> usize
         ensures bytes { bytes_in self.new ≡ bytes_in self.old ++ take result bytes.now }
         ensures bound { result ≤ length bytes.now }

@@ -5,7 +5,7 @@ ghost use Rattle.line_config.specs.Sending.{AppendsSome};
 
 use thiserror::Error;
 
-/// What stands behind the bytes of a steady source: the end, or a failure.
+/// What stands after the bytes of a steady source: the end, or a failure.
 #[derive(Clone, Copy, Debug, PartialEq, Eq)]
 pub enum Last {
     /// The end of the input.

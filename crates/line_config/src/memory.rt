@@ -18,7 +18,7 @@ pub struct SliceSource<'a> {
 }
 
 impl<'a> SliceSource<'a> {
-    /// The bytes, and behind them the end. It never fails.
+    /// The bytes, and after them the end. It never fails.
     pub fn new(bytes: &'a [u8]) -> Self
         ensures { ⟦<SliceSource<'a> as Source>⟧.feed result ≡ steady_feed bytes.entry.now End }
     {
@@ -29,7 +29,7 @@ impl<'a> SliceSource<'a> {
         }
     }
 
-    /// The bytes, and behind them a failure.
+    /// The bytes, and after them a failure.
     pub fn failing_after(bytes: &'a [u8]) -> Self
         ensures { ⟦<SliceSource<'a> as Source>⟧.feed result ≡ steady_feed bytes.entry.now Failed }
     {

@@ -11,17 +11,17 @@ use Rattle.line_help.specs.declared.history as histories
 use Rattle.line_help.specs.declared.validate.ValidationResult.{ValidationResult}
 use Rattle.line_editor.specs.Accepting.{accept, verdict, accepts, accepts_found, newline_if, accept_or_insert}
 use Rattle.line_editor.specs.States.{value_of, setting_of, Does}
-use Rattle.line_editor.specs.Values.{Value, Setting, Edit, then_do}
+use Rattle.line_editor.specs.Values.{Value, Setting, Transition, then_do}
 use Rattle.line_editor.specs.declared.renderer as renderers
 use Rattle.line_editor.specs.declared.state.State.{State}
 use Rattle.line_editor.proofs.DoesLemmas.{does_as, does_both, does_both_by, does_cut_by}
 
-abbrev behind : Bool → Setting → Value → Edit
+abbrev behind : Bool → Setting → Value → Transition
 behind middle s v = newline_if (accepts middle s v) (verdict s v)
 
 module _ {Out H Hi K T : Type 0} {renderer : renderers.Renderer.Ghosts Out} {completer : completions.Completer.Ghosts H K} {candidate : completions.Candidate.Ghosts K}
     {hinter : hints.Hinter.Ghosts H T} {hint : hints.Hint.Ghosts T} {highlighter : highlights.Highlighter.Ghosts H} {validator : verdicts.Validator.Ghosts H} {history : histories.History.Ghosts Hi} where
-  -- what was found decides what comes behind it
+  -- what was found decides what comes after it
   newline_is : {B : Type 0} (middle accepted : Bool) (found : ValidationResult) (s m t : State Out H Hi K T renderer completer candidate hinter hint highlighter validator history) (r : Result B ReadlineError)
       → found ≡ verdict (setting_of s) (value_of s) → m.line ≡ s.line → accepted ≡ accepts_found middle found m.line
       → Does (newline_if accepted found) m t r → Does (behind middle (setting_of s) (value_of s)) m t r
@@ -36,7 +36,7 @@ module _ {Out H Hi K T : Type 0} {renderer : renderers.Renderer.Ghosts Out} {com
       (does_cut_by accept (behind middle (setting_of s) (value_of s)) s t e r is h)
 
   -- what is answered is nothing to it
-  made_as : {A B : Type 0} (edit : Edit) (s t : State Out H Hi K T renderer completer candidate hinter hint highlighter validator history) (x : A) (y : B) → Does edit s t (Ok x) → Does edit s t (Ok y)
+  made_as : {A B : Type 0} (edit : Transition) (s t : State Out H Hi K T renderer completer candidate hinter hint highlighter validator history) (x : A) (y : B) → Does edit s t (Ok x) → Does edit s t (Ok y)
   made_as edit s t x y h = record { value = h.value; calls = h.calls; layout = h.layout; stays = h.stays; reason = tt; begun = tt }
 
   pub accept_newline : {A B C : Type 0} (middle accepted : Bool) (found : ValidationResult) (s m t : State Out H Hi K T renderer completer candidate hinter hint highlighter validator history) (x : A) (y : B)

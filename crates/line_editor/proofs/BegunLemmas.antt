@@ -1,5 +1,5 @@
 -- Calls of which the first ones were made.
-use Rattle.std.proofs.Common.{◌≡◌, List, [], ◌∷◌, ◌++◌, sym, subst, inl, inr}
+use Rattle.std.proofs.Common.{◌≡◌, List, [], ◌∷◌, ◌++◌, refl, sym, subst, inl, inr}
 use Rattle.std.specs.List.{FoldsTo}
 use Rattle.line_editor.specs.Calls.{Call, Canvas, Begun}
 
@@ -20,7 +20,7 @@ pub begun_made : {R : Type 0} (canvas : Canvas R) (call : Call) (calls : List Ca
 unfolding Begun
 begun_made canvas call calls old between new h k = inr (inr (between, h, k))
 
--- more are asked behind them
+-- more are asked after them
 pub begun_before : {R : Type 0} (canvas : Canvas R) (calls more : List Call) (old new : R) → Begun canvas calls old new → Begun canvas (calls ++ more) old new
 unfolding Begun
 begun_before canvas [] more old new h = begun_none canvas more old new h
@@ -39,3 +39,10 @@ pub folds_both : {R : Type 0} (made : R → Call → R → Type 0) (calls more :
     → FoldsTo made old (calls ++ more) new
 folds_both made [] more old between new h k = subst (λ x. FoldsTo made x more new) (sym h) k
 folds_both made (call ∷ calls) more old between new h k = (h.0, h.1, folds_both made calls more h.0 between new h.2 k)
+
+pub folds_apart : {R : Type 0} (made : R → Call → R → Type 0) (calls more : List Call) (old new : R) → FoldsTo made old (calls ++ more) new
+    → (between : R) × FoldsTo made old calls between × FoldsTo made between more new
+folds_apart made [] more old new h = (old, refl, h)
+folds_apart made (call ∷ calls) more old new h =
+    let parts = folds_apart made calls more h.0 new h.2 in
+    (parts.0, (h.0, h.1, parts.1), parts.2)

@@ -1,5 +1,5 @@
 -- A phrase, then what its command makes.
-use Rattle.std.proofs.Common.{◌≡◌, ◌⊎◌, inl, inr, ℕ, ◌<◌, Bool, true, false, if◌then◌else◌, refl, sym, ap, subst, ◌∙◌, true≢false}
+use Rattle.std.proofs.Common.{◌≡◌, ◌⊎◌, inl, inr, ℕ, ◌<◌, Bool, true, false, List, [], ◌∷◌, ◌++◌, if◌then◌else◌, refl, sym, ap, subst, ◌∙◌, true≢false}
 use Rattle.std.specs.Prelude.{Result, Ok, Err, IfErr, OnOk, IsErrAnd, length, ◌==◌}
 use Rattle.line_config.specs.declared.errors.ReadlineError.{ReadlineError}
 use Rattle.line_config.specs.declared.errors.ReadlineError.TheVariants.{Eof, Interrupted, NotUtf8, PasteOutOfPlace, Reader, Display, Lines, HistoryText, Helper, Handler, Memory}
@@ -10,28 +10,33 @@ use Rattle.line_help.specs.declared.validate as verdicts
 use Rattle.line_help.specs.declared.history as histories
 use Rattle.line_keys.specs.Answers.{Custom}
 use Rattle.line_keys.specs.Coming.{Coming}
-use Rattle.line_keys.specs.Feeds.{Feed}
-use Rattle.line_keys.specs.Follows.{Follows, Because}
+use Rattle.line_keys.specs.Early.{Heard}
+use Rattle.line_keys.specs.Feeds.{KeyFeed}
+use Rattle.line_keys.specs.Follows.{Follows, Because, Goes}
 use Rattle.line_keys.specs.Modes.{is_emacs}
-use Rattle.line_keys.specs.Phrases.{Input}
+use Rattle.line_keys.specs.Phrases.{Input, Script}
 use Rattle.line_keys.specs.declared.command.Cmd.{Cmd}
 use Rattle.line_keys.specs.declared.command.Cmd.TheVariants.{Abort, AcceptLine, BeginningOfHistory, CapitalizeWord, ClearScreen, Complete, CompleteBackward, CompleteHint, Dedent, DowncaseWord, EndOfFile, EndOfHistory, ForwardSearchHistory, HistorySearchBackward, HistorySearchForward, Indent, Insert, Interrupt, Kill, Move, NextHistory, Noop, Repaint, Overwrite, PreviousHistory, QuotedInsert, ReplaceChar, Replace, ReverseSearchHistory, SelfInsert, Suspend, TransposeChars, TransposeWords, Undo, Unknown, UpcaseWord, ViYankTo, Yank, YankPop, LineUpOrPreviousHistory, LineDownOrNextHistory, Newline, AcceptOrInsertLine}
 use Rattle.line_record.specs.Ring.{Ring}
 use Rattle.line_editor.specs.Accepting.{accepts}
+use Rattle.line_editor.specs.Acts.{Act, Obeys, stage, CutIn, script_acts, command_acts, turn_acts}
 use Rattle.line_editor.specs.Asks.{shown_in}
-use Rattle.line_editor.specs.Commands.{Means, means_of, effect, ring_after, outcome}
+use Rattle.line_editor.specs.Commands.{Means, means_of, effect, ring_after_command, is_killing, LeavesRing, outcome}
 use Rattle.line_editor.specs.Displays.{display_of}
 use Rattle.line_editor.specs.Executing.{Done, Executes}
 use Rattle.line_editor.specs.Lines.{Enacted, enacted, line_phrase, phrase_enacted, Turned, turned_by, turn_of, reset_by}
 use Rattle.line_editor.specs.States.{value_of, setting_of, Reason, Does}
-use Rattle.line_editor.specs.Turning.{Cut, Cause, Whole, turning, Takes}
-use Rattle.line_editor.specs.Values.{Value, Setting, Edit, then_do}
+use Rattle.line_editor.specs.Turning.{Doing, HeardBy, Cut, Cause, Whole, turning, turn_doing, Takes}
+use Rattle.line_editor.specs.Values.{Value, Setting, Transition, then_do}
 use Rattle.line_editor.specs.declared.commands.Status.{Status}
 use Rattle.line_editor.specs.declared.commands.Status.TheVariants.{Proceed, Submit}
 use Rattle.line_editor.specs.declared.renderer as renderers
 use Rattle.line_editor.specs.declared.state.State.{State}
-use Rattle.line_editor.proofs.DoesLemmas.{does_both, does_cut, does_as, setting_stays}
-use Rattle.line_editor.proofs.EnactedLemmas.{Enacts, Enacting, goes_enacts, as_refused, cut_as, refused_cut}
+use Rattle.line_keys.proofs.HeardLemmas.{goes_heard}
+use Rattle.line_editor.proofs.ActsLemmas.{rest_of, ring_of, script_redraws, script_rest, script_ring, cut_before, cut_obeying}
+use Rattle.line_editor.proofs.DoesLemmas.{does_both, does_as, setting_stays, stays_both}
+use Rattle.line_editor.proofs.EnactedLemmas.{Enacts, Enacting, goes_apart, goes_enacts, cut_onward}
+use Rattle.line_editor.proofs.HeardLemmas.{line_phrase_hears}
 
 pub is_err : {A E : Type 0} (e : E) (result : Result A E) → IsErrAnd result (λ x. x ≡ e) → result ≡ Err e
 is_err e (Ok x) h = elim h [ ]
@@ -59,24 +64,33 @@ turning_is : (custom : Custom) (indent : ℕ) (input : Input) (r : Ring) (c : Co
 unfolding turn_of
 turning_is custom indent input r c a v = refl
 
+acts_same : (custom : Custom) (indent : ℕ) (i : Input) (r : Ring) (c : Coming) (a : Setting) (v : Value)
+    → script_acts a (line_phrase custom i (shown_in v) c) v ++ command_acts a indent r (phrase_enacted a custom i v c) (phrase_enacted a custom i v c).answer ≡ turn_doing custom indent i r c a v
+unfolding turn_acts
+acts_same custom indent i r c a v = refl
+
 abbrev phrased : Custom → ℕ → Input → Ring → Coming → Setting → Value → Enacted Cmd
 phrased custom indent i r c a v = phrase_enacted a custom i v c
 
-abbrev phrased_made : Custom → ℕ → Input → Ring → Coming → Edit
+abbrev phrased_made : Custom → ℕ → Input → Ring → Coming → Transition
 phrased_made custom indent i r c a v = (phrased custom indent i r c a v).made
 
-abbrev made : Custom → ℕ → Input → Ring → Coming → Edit
+abbrev made : Custom → ℕ → Input → Ring → Coming → Transition
 made custom indent i r c a v = (turning custom indent i r c a v).made
 
 fell : (result : Result Status ReadlineError) (a b : ℕ) → a < b → OnOk result (a < b)
 fell (Ok x) a b h = h
 fell (Err e) a b h = tt
 
+heard_by : (steady : Bool) (c heard : Coming) (e : ReadlineError) → e ≡ Reader → Heard steady c heard → HeardBy {A = Status} steady c (Err e) heard
+heard_by steady c heard e is (inl same) = inl same
+heard_by steady c heard e is (inr early) = inr (early.0, early.1, ap (err_of Status) is)
+
 module _ {Out H Hi K T : Type 0} {renderer : renderers.Renderer.Ghosts Out} {completer : completions.Completer.Ghosts H K} {candidate : completions.Candidate.Ghosts K}
     {hinter : hints.Hinter.Ghosts H T} {hint : hints.Hint.Ghosts T} {highlighter : highlights.Highlighter.Ghosts H} {validator : verdicts.Validator.Ghosts H} {history : histories.History.Ghosts Hi} where
   -- ---- causes
 
-  phrase_cause : (custom : Custom) (t : State Out H Hi K T renderer completer candidate hinter hint highlighter validator history) (f : Feed) (e : ReadlineError) → Because display_of custom t f e → Cause custom t f e
+  phrase_cause : (custom : Custom) (t : State Out H Hi K T renderer completer candidate hinter hint highlighter validator history) (f : KeyFeed) (e : ReadlineError) → Because display_of custom t f e → Cause custom t f e
   phrase_cause custom t f Eof why = tt
   phrase_cause custom t f Interrupted why = tt
   phrase_cause custom t f NotUtf8 why = why
@@ -89,7 +103,7 @@ module _ {Out H Hi K T : Type 0} {renderer : renderers.Renderer.Ghosts Out} {com
   phrase_cause custom t f Handler why = why
   phrase_cause custom t f Memory why = tt
 
-  pub edit_cause : (custom : Custom) (t : State Out H Hi K T renderer completer candidate hinter hint highlighter validator history) (f : Feed) (e : ReadlineError) → Reason t e → Cause custom t f e
+  pub edit_cause : (custom : Custom) (t : State Out H Hi K T renderer completer candidate hinter hint highlighter validator history) (f : KeyFeed) (e : ReadlineError) → Reason t e → Cause custom t f e
   edit_cause custom t f Eof why = tt
   edit_cause custom t f Interrupted why = tt
   edit_cause custom t f NotUtf8 why = elim why [ ]
@@ -102,13 +116,13 @@ module _ {Out H Hi K T : Type 0} {renderer : renderers.Renderer.Ghosts Out} {com
   edit_cause custom t f Handler why = elim why [ ]
   edit_cause custom t f Memory why = tt
 
-  if_cause : (custom : Custom) (t : State Out H Hi K T renderer completer candidate hinter hint highlighter validator history) (f : Feed) (b : Bool) (x y : Result Status ReadlineError)
+  if_cause : (custom : Custom) (t : State Out H Hi K T renderer completer candidate hinter hint highlighter validator history) (f : KeyFeed) (b : Bool) (x y : Result Status ReadlineError)
       → IfErr x (λ e. Cause custom t f e) → IfErr y (λ e. Cause custom t f e) → IfErr (if b then x else y) (λ e. Cause custom t f e)
   if_cause custom t f true x y h k = h
   if_cause custom t f false x y h k = k
 
   -- a command's own end
-  end_cause : (custom : Custom) (t : State Out H Hi K T renderer completer candidate hinter hint highlighter validator history) (f : Feed) (m : Means) (s : Setting) (v : Value) (cmd : Cmd) → IfErr (outcome m cmd s v) (λ e. Cause custom t f e)
+  end_cause : (custom : Custom) (t : State Out H Hi K T renderer completer candidate hinter hint highlighter validator history) (f : KeyFeed) (m : Means) (s : Setting) (v : Value) (cmd : Cmd) → IfErr (outcome m cmd s v) (λ e. Cause custom t f e)
   end_cause custom t f m s v EndOfFile = if_cause custom t f (length v.line.text == 0) (Err Eof) (if is_emacs m.mode then Ok Proceed else Ok Submit) tt (if_cause custom t f (is_emacs m.mode) (Ok Proceed) (Ok Submit) tt tt)
   end_cause custom t f m s v (AcceptOrInsertLine middle) = if_cause custom t f (accepts middle s v) (Ok Submit) (Ok Proceed) tt tt
   end_cause custom t f m s v Interrupt = tt
@@ -156,25 +170,27 @@ module _ {Out H Hi K T : Type 0} {renderer : renderers.Renderer.Ghosts Out} {com
   -- ---- what is known of the phrase
 
   module _ (custom : Custom) (indent : ℕ) (i : Input) (r : Ring) (c : Coming) where
-    -- a turn begins with its phrase
-    phrase_first : (x : Result Cmd ReadlineError) (s t : State Out H Hi K T renderer completer candidate hinter hint highlighter validator history) → Does {A = Unit {0}} (phrased_made custom indent i r c) s t (Err Memory)
-        → Does {A = Unit {0}} (λ a v. (turned_by (setting_of s) indent r x ((phrased custom indent i r c) (setting_of s) (value_of s))).made) s t (Err Memory)
-    phrase_first (Ok cmd) s t h =
-        let second : Edit = effect (means_of ((phrased custom indent i r c) (setting_of s) (value_of s)).input indent (reset_by cmd r)) cmd in
-        does_as (then_do (phrased_made custom indent i r c) second) (λ a v. (turned_by (setting_of s) indent r (Ok cmd) ((phrased custom indent i r c) (setting_of s) (value_of s))).made) s t (Err Memory) refl (does_cut (phrased_made custom indent i r c) second s t Memory h)
-    phrase_first (Err e) s t h =
-        does_as (phrased_made custom indent i r c) (λ a v. (turned_by (setting_of s) indent r (Err e) ((phrased custom indent i r c) (setting_of s) (value_of s))).made) s t (Err Memory) refl h
-
     turn_at : (s : State Out H Hi K T renderer completer candidate hinter hint highlighter validator history) → turned custom indent i r c (setting_of s) (value_of s) ≡ turning custom indent i r c (setting_of s) (value_of s)
     turn_at s = turning_is custom indent i r c (setting_of s) (value_of s)
 
-    phrase_cut : (steady : Bool) (s t : State Out H Hi K T renderer completer candidate hinter hint highlighter validator history) (e : ReadlineError) (q : Result Status ReadlineError) → q ≡ Err e
-        → Cut {A = Cmd} steady (phrased_made custom indent i r c) s t (Err e) → Cut steady (made custom indent i r c) s t q
-    phrase_cut steady s t e q is cut =
+    -- the phrase's acts, as it is followed at the state
+    abbrev spoken : State Out H Hi K T renderer completer candidate hinter hint highlighter validator history → Doing
+    spoken s a v = script_acts a (line_phrase custom i (shown_in (value_of s)) c) v
+
+    phrase_cut : (s t : State Out H Hi K T renderer completer candidate hinter hint highlighter validator history) (c' : Coming) (e : ReadlineError) (q : Result Status ReadlineError) → q ≡ Err e
+        → Cut {A = Cmd} (spoken s) s t c c' r r (Err e) → Cut (turn_doing custom indent i r c) s t c c' r r q
+    phrase_cut s t c' e q is cut =
         let p : Enacted Cmd = (phrased custom indent i r c) (setting_of s) (value_of s) in
-        cut_as {A = Cmd} {B = Status} {C = Unit {0}} steady (phrased_made custom indent i r c) (made custom indent i r c) s s t (Err e) q cut (is ∙ ap (λ x. err_of Status (refusal_or x)) cut.result_is)
-        (does_as (λ a v. (turned_by (setting_of s) indent r p.answer p).made) (made custom indent i r c) s t (Err Memory) (ap (λ x. x.made) (turn_at s))
-        (phrase_first p.answer s t (as_refused steady (phrased_made custom indent i r c) s t (Err e) cut)))
+        let front : List Act = spoken s (setting_of s) (value_of s) in
+        let back : List Act = command_acts (setting_of s) indent r p p.answer in
+        record {
+          fault = cut.fault;
+          result_is = is ∙ ap (λ x. err_of Status (refusal_or x)) cut.result_is;
+          cause = cut.cause;
+          stays = cut.stays;
+          done = subst (λ x. CutIn renderer.canvas (renderer.canvas.ruler s.out) cut.fault x s.layout (stage s.out c r) (stage t.out c' r)) (acts_same custom indent i r c (setting_of s) (value_of s))
+              (cut_before renderer.canvas (renderer.canvas.ruler s.out) cut.fault front back s.layout (stage s.out c r) (stage t.out c' r) cut.done);
+        }
 
     -- the phrase's own end
     phrase_ended : (s t : State Out H Hi K T renderer completer candidate hinter hint highlighter validator history) (i' : Input) (c' : Coming) (e : ReadlineError) (q : Result Status ReadlineError) → q ≡ Err e
@@ -195,15 +211,15 @@ module _ {Out H Hi K T : Type 0} {renderer : renderers.Renderer.Ghosts Out} {com
     abbrev followed : State Out H Hi K T renderer completer candidate hinter hint highlighter validator history → Setting → Value → Enacted Cmd
     followed s a v = enacted a (line_phrase custom i (shown_in (value_of s)) c) i v c
 
-    as_phrased : (steady : Bool) (s t : State Out H Hi K T renderer completer candidate hinter hint highlighter validator history) (i' : Input) (c' : Coming) (q : Result Cmd ReadlineError)
-        → Enacting steady (followed s) s t i' c' q → Enacting steady (phrased custom indent i r c) s t i' c' q
-    as_phrased steady s t i' c' q (inl h) = inl (record {
+    as_phrased : (s t : State Out H Hi K T renderer completer candidate hinter hint highlighter validator history) (i' : Input) (c' : Coming) (q : Result Cmd ReadlineError)
+        → Enacting (followed s) (spoken s) s t i' c c' r q → Enacting (phrased custom indent i r c) (spoken s) s t i' c c' r q
+    as_phrased s t i' c' q (inl h) = inl (record {
       does = does_as (λ a v. (followed s a v).made) (phrased_made custom indent i r c) s t (Ok (tt {0})) refl h.does;
       answer_is = h.answer_is;
       input_is = h.input_is;
       rest_is = h.rest_is;
     })
-    as_phrased steady s t i' c' q (inr cut) = inr (record { fault = cut.fault; result_is = cut.result_is; cause = cut.cause; stays = cut.stays; begun = cut.begun })
+    as_phrased s t i' c' q (inr cut) = inr cut
 
     module _ (s m t : State Out H Hi K T renderer completer candidate hinter hint highlighter validator history) (i1 : Input) (c1 : Coming) (cmd : Cmd) (q ring' : Ring) (result : Result Status ReadlineError)
         (h : Enacts (phrased custom indent i r c) s m i1 c1 (Ok cmd)) (reset : q ≡ reset_by cmd r) where
@@ -225,8 +241,8 @@ module _ {Out H Hi K T : Type 0} {renderer : renderers.Renderer.Ghosts Out} {com
           ∙ ap (outcome (means_of before.input indent (reset_by cmd r)) cmd (setting_of s)) h.does.value
           ∙ ap (λ x. x.outcome) commanded_same
 
-      ring_same : ring_after cmd (value_of m) q ≡ (turning custom indent i r c (setting_of s) (value_of s)).ring
-      ring_same = ap (ring_after cmd (value_of m)) reset ∙ ap (λ v. ring_after cmd v (reset_by cmd r)) h.does.value ∙ ap (λ x. x.ring) commanded_same
+      ring_same : ring_after_command cmd (value_of m) q ≡ (turning custom indent i r c (setting_of s) (value_of s)).ring
+      ring_same = ap (ring_after_command cmd (value_of m)) reset ∙ ap (λ v. ring_after_command cmd v (reset_by cmd r)) h.does.value ∙ ap (λ x. x.ring) commanded_same
 
       command_whole : Done (means_of i1 indent q) cmd m t ring' result → Whole (turning custom indent i r c) s t ring' i1 c1 result
       command_whole k = record {
@@ -238,37 +254,107 @@ module _ {Out H Hi K T : Type 0} {renderer : renderers.Renderer.Ghosts Out} {com
         rest_is = h.rest_is ∙ ap (λ x. x.rest) commanded_same;
       }
 
-      command_cut : (steady : Bool) (e : ReadlineError) → result ≡ Err e → Does {A = Unit {0}} (effect (means_of i1 indent q) cmd) m t (Err e) → Cut steady (made custom indent i r c) s t result
-      command_cut steady e is k = refused_cut {A = Unit {0}} steady (made custom indent i r c) s t e result is
-          (does_as (then_do (phrased_made custom indent i r c) (effect (means_of i1 indent q) cmd)) (made custom indent i r c) s t (Err e) made_same
-          (does_both (phrased_made custom indent i r c) (effect (means_of i1 indent q) cmd) s m t (tt {0}) (Err e) h.does k))
+      -- the command's act, as it is done at the state after the phrase
+      abbrev obeyed : Doing
+      obeyed a v = Obeys (is_killing cmd) (ring_after_command cmd v q) (effect (means_of i1 indent q) cmd a v).redraws ∷ []
 
-      command_done : (steady : Bool) → Executes (means_of i1 indent q) cmd m t ring' result
-          → Whole (turning custom indent i r c) s t ring' i1 c1 result ⊎ Cut steady (made custom indent i r c) s t result
-      command_done steady (inl k) = inl (command_whole k)
-      command_done steady (inr (e, is, k)) = inr (command_cut steady e is k)
+      abbrev front : List Act
+      front = spoken s (setting_of s) (value_of s)
+
+      front_rest : rest_of c front ≡ c1
+      front_rest = script_rest (setting_of s) (line_phrase custom i (shown_in (value_of s)) c) i (value_of s) c ∙ sym h.rest_is
+
+      front_ring : ring_of r front ≡ r
+      front_ring = script_ring (setting_of s) (line_phrase custom i (shown_in (value_of s)) c) (value_of s) r
+
+      obeyed_same : front ++ obeyed (setting_of s) before.made.value ≡ turn_doing custom indent i r c (setting_of s) (value_of s)
+      obeyed_same =
+          let v : Value = before.made.value in
+          let act : Input → Ring → List Act = λ x k. Obeys (is_killing cmd) (ring_after_command cmd v k) (effect (means_of x indent k) cmd (setting_of s) v).redraws ∷ [] in
+          ap (λ k. front ++ act i1 k) reset ∙ ap (λ x. front ++ act x (reset_by cmd r)) h.input_is
+          ∙ ap (λ x. front ++ command_acts (setting_of s) indent r before x) h.answer_is
+          ∙ acts_same custom indent i r c (setting_of s) (value_of s)
+
+      command_cut : (e : ReadlineError) → result ≡ Err e → Does {A = Unit {0}} (effect (means_of i1 indent q) cmd) m t (Err e) → LeavesRing cmd (value_of m) q ring' e
+          → Cut (turn_doing custom indent i r c) s t c c1 r ring' result
+      command_cut e is k left = record {
+        fault = e;
+        result_is = is;
+        cause = k.reason;
+        stays = stays_both s m t h.does.stays k.stays;
+        done = subst (λ x. CutIn renderer.canvas (renderer.canvas.ruler s.out) e x s.layout (stage s.out c r) (stage t.out c1 ring')) obeyed_same
+            (cut_onward front obeyed (phrased_made custom indent i r c) s m (tt {0}) e c r (stage t.out c1 ring') h.does
+            (script_redraws (setting_of s) (line_phrase custom i (shown_in (value_of s)) c) i (value_of s) c)
+            (cut_obeying renderer.canvas (renderer.canvas.ruler m.out) e (is_killing cmd) (ring_after_command cmd (value_of m) q) (effect (means_of i1 indent q) cmd (setting_of m) (value_of m)).redraws [] m.layout
+            (stage m.out (rest_of c front) (ring_of r front)) (stage t.out c1 ring') k.begun (sym front_rest) left));
+      }
+
+      command_done : Executes (means_of i1 indent q) cmd m t ring' result
+          → Whole (turning custom indent i r c) s t ring' i1 c1 result ⊎ Cut (turn_doing custom indent i r c) s t c c1 r ring' result
+      command_done (inl k) = inl (command_whole k)
+      command_done (inr (e, is, k, left)) = inr (command_cut e is k left)
 
   -- ---- turns
 
+  -- the phrase, by what was read of what comes
+  abbrev heard_phrase : Custom → Input → State Out H Hi K T renderer completer candidate hinter hint highlighter validator history → Coming → Script Cmd
+  heard_phrase custom i s c = line_phrase custom i (shown_in (value_of s)) c
+
+  stopped_whole : (custom : Custom) (indent : ℕ) (i : Input) (r : Ring) (s t : State Out H Hi K T renderer completer candidate hinter hint highlighter validator history) (i' : Input) (c c' : Coming) (e : ReadlineError) → e ≡ Reader
+      → Enacting (phrased custom indent i r c) (spoken custom indent i r c s) s t i' c c' r (Err e) → Whole (turning custom indent i r c) s t r i' c' (err_of Status e)
+  stopped_whole custom indent i r s t i' c c' e is (inl h) = phrase_ended custom indent i r c s t i' c' e (Err e) refl h
+  stopped_whole custom indent i r s t i' c c' e is (inr cut) = elim (subst (Reason t) (ap refusal_or (sym cut.result_is) ∙ is) cut.cause) [ ]
+
+  abbrev Took : Custom → ℕ → Input → Ring → State Out H Hi K T renderer completer candidate hinter hint highlighter validator history → State Out H Hi K T renderer completer candidate hinter hint highlighter validator history → Bool → Input → Coming → Coming → Ring → Result Status ReadlineError → Type 0
+  Took custom indent i r s t steady i' c c' r' result =
+      ((heard : Coming) × HeardBy steady c result heard × Whole (turning custom indent i r heard) s t r' i' c' result) ⊎ Cut (turn_doing custom indent i r c) s t c c' r r' result
+
+  -- all that comes was heard
+  all_heard : (custom : Custom) (indent : ℕ) (i : Input) (r : Ring) (s t : State Out H Hi K T renderer completer candidate hinter hint highlighter validator history) (steady : Bool) (i' : Input) (c c' : Coming) (r' : Ring) (result : Result Status ReadlineError)
+      → Whole (turning custom indent i r c) s t r' i' c' result ⊎ Cut (turn_doing custom indent i r c) s t c c' r r' result → Took custom indent i r s t steady i' c c' r' result
+  all_heard custom indent i r s t steady i' c c' r' result (inl whole) = inl (c, inl refl, whole)
+  all_heard custom indent i r s t steady i' c c' r' result (inr cut) = inr cut
+
+  stopped_at : (custom : Custom) (indent : ℕ) (i : Input) (r : Ring) (s t : State Out H Hi K T renderer completer candidate hinter hint highlighter validator history) (steady : Bool) (i' : Input) (c c' : Coming) (e : ReadlineError)
+      → Enacting (phrased custom indent i r c) (spoken custom indent i r c s) s t i' c c' r (Err e) → Took custom indent i r s t steady i' c c' r (err_of Status e)
+  stopped_at custom indent i r s t steady i' c c' e (inl h) = inl (c, inl refl, phrase_ended custom indent i r c s t i' c' e (Err e) refl h)
+  stopped_at custom indent i r s t steady i' c c' e (inr cut) = inr (phrase_cut custom indent i r c s t c' e (Err e) refl cut)
+
   stopped_by : (custom : Custom) (indent : ℕ) (i : Input) (r : Ring) (s t : State Out H Hi K T renderer completer candidate hinter hint highlighter validator history) (steady : Bool) (i' : Input) (c c' : Coming) (e : ReadlineError)
-      → Enacting steady (phrased custom indent i r c) s t i' c' (Err e)
-      → Whole (turning custom indent i r c) s t r i' c' (Err e) ⊎ Cut steady (made custom indent i r c) s t (err_of Status e)
-  stopped_by custom indent i r s t steady i' c c' e (inl h) = inl (phrase_ended custom indent i r c s t i' c' e (Err e) refl h)
-  stopped_by custom indent i r s t steady i' c c' e (inr cut) = inr (phrase_cut custom indent i r c steady s t e (Err e) refl cut)
+      → Goes display_of steady (heard_phrase custom i s c) s i c (Err e) t i' c'
+      → Goes display_of true (heard_phrase custom i s c) s i c (Err e) t i' c' ⊎ (err_of Cmd e ≡ Err Reader) → Took custom indent i r s t steady i' c c' r (err_of Status e)
+  stopped_by custom indent i r s t steady i' c c' e goes (inl h) =
+      stopped_at custom indent i r s t steady i' c c' e (as_phrased custom indent i r c s t i' c' (Err e) (goes_enacts (heard_phrase custom i s c) s t i i' c c' r (Err e) h))
+  stopped_by custom indent i r s t steady i' c c' e goes (inr is) =
+      let same : e ≡ Reader = ap refusal_or is in
+      let read = goes_heard display_of (err_of Cmd e) t i' c' steady (heard_phrase custom i s) (line_phrase_hears custom i (shown_in (value_of s))) s i c goes in
+      inl (
+        read.0,
+        heard_by steady c read.0 e same read.1,
+        stopped_whole custom indent i r s t i' read.0 c' e same
+            (as_phrased custom indent i r read.0 s t i' c' (Err e) (goes_enacts (heard_phrase custom i s read.0) s t i i' read.0 c' r (Err e) read.2)),
+      )
+
+  commanded_at : (custom : Custom) (indent : ℕ) (i : Input) (r : Ring) (s m t : State Out H Hi K T renderer completer candidate hinter hint highlighter validator history) (steady : Bool) (i1 : Input) (c c1 : Coming) (cmd : Cmd) (q ring' : Ring)
+      (result : Result Status ReadlineError) → Enacting (phrased custom indent i r c) (spoken custom indent i r c s) s m i1 c c1 r (Ok cmd) → q ≡ reset_by cmd r → Executes (means_of i1 indent q) cmd m t ring' result
+      → Took custom indent i r s t steady i1 c c1 ring' result
+  commanded_at custom indent i r s m t steady i1 c c1 cmd q ring' result (inl h) reset k = all_heard custom indent i r s t steady i1 c c1 ring' result (command_done custom indent i r c s m t i1 c1 cmd q ring' result h reset k)
+  commanded_at custom indent i r s m t steady i1 c c1 cmd q ring' result (inr cut) reset k = not_refused cmd cut.fault cut.result_is
 
   commanded_by : (custom : Custom) (indent : ℕ) (i : Input) (r : Ring) (s m t : State Out H Hi K T renderer completer candidate hinter hint highlighter validator history) (steady : Bool) (i1 : Input) (c c1 : Coming) (cmd : Cmd) (q ring' : Ring)
-      (result : Result Status ReadlineError) → Enacting steady (phrased custom indent i r c) s m i1 c1 (Ok cmd) → q ≡ reset_by cmd r → Executes (means_of i1 indent q) cmd m t ring' result
-      → Whole (turning custom indent i r c) s t ring' i1 c1 result ⊎ Cut steady (made custom indent i r c) s t result
-  commanded_by custom indent i r s m t steady i1 c c1 cmd q ring' result (inl h) reset k = command_done custom indent i r c s m t i1 c1 cmd q ring' result h reset steady k
-  commanded_by custom indent i r s m t steady i1 c c1 cmd q ring' result (inr cut) reset k = not_refused cmd cut.fault cut.result_is
+      (result : Result Status ReadlineError) → Goes display_of true (heard_phrase custom i s c) s i c (Ok cmd) m i1 c1 ⊎ (◌≡◌ {A = Result Cmd ReadlineError} (Ok cmd) (Err Reader))
+      → q ≡ reset_by cmd r → Executes (means_of i1 indent q) cmd m t ring' result → Took custom indent i r s t steady i1 c c1 ring' result
+  commanded_by custom indent i r s m t steady i1 c c1 cmd q ring' result (inl h) reset k =
+      commanded_at custom indent i r s m t steady i1 c c1 cmd q ring' result (as_phrased custom indent i r c s m i1 c1 (Ok cmd) (goes_enacts (heard_phrase custom i s c) s m i i1 c c1 r (Ok cmd) h)) reset k
+  commanded_by custom indent i r s m t steady i1 c c1 cmd q ring' result (inr is) reset k = not_refused cmd Reader is
 
   -- no command came
-  pub turn_refused : (custom : Custom) (indent : ℕ) (s t : State Out H Hi K T renderer completer candidate hinter hint highlighter validator history) (i i' : Input) (r : Ring) (f f' : Feed) (e : ReadlineError) (q : Result Status ReadlineError)
+  pub turn_refused : (custom : Custom) (indent : ℕ) (s t : State Out H Hi K T renderer completer candidate hinter hint highlighter validator history) (i i' : Input) (r : Ring) (f f' : KeyFeed) (e : ReadlineError) (q : Result Status ReadlineError)
       → IsErrAnd q (λ x. x ≡ e) → Follows display_of custom (line_phrase custom i (shown_in (value_of s)) f.coming) s i t i' f f' (Err e) → Takes custom indent s i r f t i' r f' q
   turn_refused custom indent s t i i' r f f' e q is h =
       subst (λ x. Takes custom indent s i r f t i' r f' x) (sym (is_err e q is)) (record {
-        goes = λ told. stopped_by custom indent i r s t f.steady i' f.coming f'.coming e (as_phrased custom indent i r f.coming f.steady s t i' f'.coming (Err e)
-            (goes_enacts f.steady (line_phrase custom i (shown_in (value_of s)) f.coming) s t i i' f.coming f'.coming (Err e) (h.goes told)));
+        goes = λ told. stopped_by custom indent i r s t f.steady i' f.coming f'.coming e (h.goes told)
+            (goes_apart display_of f.steady (err_of Cmd e) t i' f'.coming (heard_phrase custom i s f.coming) s i f.coming (h.goes told));
         told = h.told;
         steady = h.steady;
         keeps = h.keeps;
@@ -277,20 +363,20 @@ module _ {Out H Hi K T : Type 0} {renderer : renderers.Renderer.Ghosts Out} {com
         reason = phrase_cause custom t f' e h.reason;
       })
 
-  executes_cause : (custom : Custom) (m t : State Out H Hi K T renderer completer candidate hinter hint highlighter validator history) (f : Feed) (means : Means) (cmd : Cmd) (ring' : Ring) (result : Result Status ReadlineError)
+  executes_cause : (custom : Custom) (m t : State Out H Hi K T renderer completer candidate hinter hint highlighter validator history) (f : KeyFeed) (means : Means) (cmd : Cmd) (ring' : Ring) (result : Result Status ReadlineError)
       → Executes means cmd m t ring' result → IfErr result (λ e. Cause custom t f e)
   executes_cause custom m t f means cmd ring' result (inl k) =
       subst (λ x. IfErr x (λ e. Cause custom t f e)) (sym k.outcome_is) (end_cause custom t f means (setting_of m) (value_of m) cmd)
-  executes_cause custom m t f means cmd ring' result (inr (e, is, k)) =
+  executes_cause custom m t f means cmd ring' result (inr (e, is, k, left)) =
       subst (λ x. IfErr x (λ e. Cause custom t f e)) (sym is) (edit_cause custom t f e k.reason)
 
   -- a command came
-  pub turn_commanded : (custom : Custom) (indent : ℕ) (s m t : State Out H Hi K T renderer completer candidate hinter hint highlighter validator history) (i i1 : Input) (r q ring' : Ring) (f f1 : Feed) (cmd : Cmd) (result : Result Status ReadlineError)
+  pub turn_commanded : (custom : Custom) (indent : ℕ) (s m t : State Out H Hi K T renderer completer candidate hinter hint highlighter validator history) (i i1 : Input) (r q ring' : Ring) (f f1 : KeyFeed) (cmd : Cmd) (result : Result Status ReadlineError)
       → Follows display_of custom (line_phrase custom i (shown_in (value_of s)) f.coming) s i m i1 f f1 (Ok cmd) → f1.bound < f.bound → q ≡ reset_by cmd r
       → Executes (means_of i1 indent q) cmd m t ring' result → Takes custom indent s i r f t i1 ring' f1 result
   turn_commanded custom indent s m t i i1 r q ring' f f1 cmd result h falls reset k = record {
-    goes = λ told. commanded_by custom indent i r s m t f.steady i1 f.coming f1.coming cmd q ring' result (as_phrased custom indent i r f.coming f.steady s m i1 f1.coming (Ok cmd)
-        (goes_enacts f.steady (line_phrase custom i (shown_in (value_of s)) f.coming) s m i i1 f.coming f1.coming (Ok cmd) (h.goes told))) reset k;
+    goes = λ told. commanded_by custom indent i r s m t f.steady i1 f.coming f1.coming cmd q ring' result
+        (goes_apart display_of f.steady (Ok cmd) m i1 f1.coming (heard_phrase custom i s f.coming) s i f.coming (h.goes told)) reset k;
     told = h.told;
     steady = h.steady;
     keeps = h.keeps;

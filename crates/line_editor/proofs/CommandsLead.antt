@@ -11,8 +11,8 @@ use Rattle.line_buffer.specs.declared.types.Anchor.{Anchor}
 use Rattle.line_buffer.specs.declared.types.Anchor.TheVariants.{After, Before}
 use Rattle.line_buffer.specs.declared.types.WordAction.{WordAction}
 use Rattle.line_buffer.specs.declared.types.WordAction.TheVariants.{Capitalize, Lowercase, Uppercase}
-use Rattle.line_edits.specs.Edits.{yanked, pop_in_group, overwritten, chars_replaced, indented, transpose_chars_in_group, transpose_words_in_group, edit_word_in_group, undone}
-use Rattle.line_edits.specs.Written.{opened, closed}
+use Rattle.line_edits.specs.Edits.{text_yanked, pop_in_group, overwritten, chars_replaced, indented, transpose_chars_in_group, transpose_words_in_group, edit_word_in_group, undone}
+use Rattle.line_edits.specs.Written.{group_opened, group_closed}
 use Rattle.line_help.specs.Hints.{Hinted}
 use Rattle.line_help.specs.Search.{Hit}
 use Rattle.line_help.specs.Validation.{is_valid, has_message}
@@ -33,11 +33,11 @@ use Rattle.line_editor.specs.Inserting.{insert_char}
 use Rattle.line_editor.specs.Leads.{Leads, CommandsLead, SubmittingLeads, AsksLead}
 use Rattle.line_editor.specs.Moving.{move_buffer_end}
 use Rattle.line_editor.specs.Redraws.Redraw.{Drawn, Bared, ToEnd}
-use Rattle.line_editor.specs.Remembering.{saved_now, at_place, restored, recalled, leaving, recall, history_step, history_end, found, history_search}
+use Rattle.line_editor.specs.Remembering.{saved_now, at_place, restored, recalled, saved_on_leaving, recall, history_step, history_end, hit_shown, history_search}
 use Rattle.line_editor.specs.Rewording.{transpose_chars, transpose_words, edit_word, unmarked, undo}
 use Rattle.line_editor.specs.Sights.{sight_as, sight_of, ended_sight, Turns, info_after}
 use Rattle.line_editor.specs.Values.{Value, Setting, rewritten, at_line}
-use Rattle.line_editor.specs.Yanking.{anchored, steps, behind_yank, yanked_by, yank, yank_lent, pop_lent}
+use Rattle.line_editor.specs.Yanking.{anchored, steps, behind_yank, yanked_by, yank_text, yank_lent, pop_lent}
 use Rattle.line_editor.proofs.LeadLemmas.{turns_both, info_both, both_lead, either, refresh_leads, told_leads, rest_leads, beep_leads, clear_leads, refresh_if_leads, step_leads, motion_leads, none_if, insertion_leads, kill_leads, replace_leads}
 
 or_none : (a b : Bool) → (a || b) ≡ false → (a ≡ false) × (b ≡ false)
@@ -69,10 +69,10 @@ not_anchored Before l h = refl
 
 yank_rests : (vi : Bool) (text : List ℕ) (n : ℕ) (v : Value) → is_some (yanked_in text n v.line).answer ≡ false → (yanked_by vi text n v).line ≡ v.line
 yank_rests vi text n v h =
-    let w = rewritten (yanked text n) v in
+    let w = rewritten (text_yanked text n) v in
     ap (λ (x : Value). x.line) (if_none (is_some (yanked_in text n v.line).answer) (at_line (behind_yank vi w.line) w) w h) ∙ no_yank text n v.line (length text == 0) h
 
-yank_leads : (vi : Bool) (text : List ℕ) (anchor : Anchor) (n : ℕ) (s : Setting) (v : Value) → Leads s v (yank vi text anchor n s v)
+yank_leads : (vi : Bool) (text : List ℕ) (anchor : Anchor) (n : ℕ) (s : Setting) (v : Value) → Leads s v (yank_text vi text anchor n s v)
 yank_leads vi text anchor n s v =
     let before = at_line (anchored anchor v.line) v in
     either s v (is_some (yanked_in text n before.line).answer || steps anchor v.line) _ _ (λ e. refresh_leads s v (yanked_by vi text n before)) (λ e.
@@ -127,8 +127,8 @@ leaving_rests : (v : Value) (b : Bool) → (if b then saved_now v else v).line �
 leaving_rests v true = refl
 leaving_rests v false = refl
 
-recall_left : (place : ℕ) (o : Option Hit) (s : Setting) (v : Value) → Leads s v (recall place o s (leaving s v))
-recall_left place o s v = recall_leads place o s v (leaving s v) (leaving_rests v (v.history == length s.entries))
+recall_left : (place : ℕ) (o : Option Hit) (s : Setting) (v : Value) → Leads s v (recall place o s (saved_on_leaving s v))
+recall_left place o s v = recall_leads place o s v (saved_on_leaving s v) (leaving_rests v (v.history == length s.entries))
 
 step_back_leads : (back : Bool) (s : Setting) (v : Value) → Leads s v (history_step back s v)
 step_back_leads true s v = either s v (v.history == 0) _ _ (λ e. rest_leads s v v refl) (λ e. recall_left (v.history - 1) _ s v)
@@ -141,7 +141,7 @@ end_leads true s v = either s v (v.history == 0) _ _ (λ e. rest_leads s v v ref
 end_leads false s v =
     either s v (v.history == length s.entries) _ _ (λ e. rest_leads s v v refl) (λ e. refresh_leads s v (restored (at_place (length s.entries) v)))
 
-found_leads : (o : Option Hit) (s : Setting) (v w : Value) → w.line ≡ v.line → Leads s v (found o s w)
+found_leads : (o : Option Hit) (s : Setting) (v w : Value) → w.line ≡ v.line → Leads s v (hit_shown o s w)
 found_leads None s v w h = beep_leads s v w h
 found_leads (Some hit) s v w h = refresh_leads s v (recalled hit.entry hit.pos (at_place hit.idx w))
 
@@ -169,7 +169,7 @@ verdict_leads (Valid text) draws s v w h = told_if_leads draws text ForcedRefres
 
 validate_leads : (judge : Option (List ℕ → ValidationResult)) (s : Setting) (v : Value) → Leads s v (validate_by judge s v)
 validate_leads None s v = rest_leads s v v refl
-validate_leads (Some judge) s v = verdict_leads (judge v.line.text) (closes v.held || is_some v.hint) s v (rewritten (λ w. closed (opened w)) v) refl
+validate_leads (Some judge) s v = verdict_leads (judge v.line.text) (closes v.held || is_some v.hint) s v (rewritten (λ w. group_closed (group_opened w)) v) refl
 
 accept_leads : (s : Setting) (v : Value) → Leads s v (accept s v)
 accept_leads s v = both_lead s v bare validate (bare_leads s v) (validate_leads s.judge s (bare s v).value)
@@ -191,7 +191,7 @@ accept_or_insert_leads middle s v =
 completion_leads : (o : Option (List ℕ)) (s : Setting) (v w : Value) → Leads s v (completed_by o s w)
 completion_leads None s v w = λ info. record { fits = (tt, ((λ e. refl), tt)); leads = refl }
 completion_leads (Some text) s v w =
-    either s v (is_some (yanked_in text 1 w.line).answer) _ _ (λ e. refresh_leads s v (rewritten (yanked text 1) w)) (λ e info. record { fits = (tt, ((λ e. refl), tt)); leads = refl })
+    either s v (is_some (yanked_in text 1 w.line).answer) _ _ (λ e. refresh_leads s v (rewritten (text_yanked text 1) w)) (λ e info. record { fits = (tt, ((λ e. refl), tt)); leads = refl })
 
 hint_leads : (o : Option Hinted) (s : Setting) (v : Value) → Leads s v (complete_by o s v)
 hint_leads None s v = rest_leads s v v refl

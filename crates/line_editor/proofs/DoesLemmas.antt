@@ -16,7 +16,7 @@ use Rattle.line_help.specs.declared.history as histories
 use Rattle.line_editor.specs.Calls.{Ruler, Begun}
 use Rattle.line_editor.specs.Redraws.{Redraw, Asked, one, asked, then_asked}
 use Rattle.line_editor.specs.States.{value_of, setting_of, Stays, Does}
-use Rattle.line_editor.specs.Values.{Setting, Effect, Edit, then_do}
+use Rattle.line_editor.specs.Values.{Setting, Effect, Transition, then_do}
 use Rattle.line_editor.specs.declared.renderer as renderers
 use Rattle.line_editor.specs.declared.state.State.{State}
 use Rattle.line_editor.proofs.BegunLemmas.{begun_before, begun_behind, folds_both}
@@ -24,7 +24,7 @@ use Rattle.line_editor.proofs.BegunLemmas.{begun_before, begun_behind, folds_bot
 asked_joined : (a : Asked) (b : Asked) (c : Asked) → then_asked a (then_asked b c) ≡ then_asked (then_asked a b) c
 asked_joined a b c = ap (λ calls. record { calls = calls; layout = c.layout }) (sym (append_assoc a.calls b.calls c.calls))
 
--- redraws behind others are asked on the layout that those leave
+-- redraws after others are asked on the layout that those leave
 pub asked_both : (r : Ruler) (l : Layout) (xs ys : List Redraw) → asked r l (xs ++ ys) ≡ then_asked (asked r l xs) (asked r (asked r l xs).layout ys)
 asked_both r l [] ys = refl
 asked_both r l (x ∷ xs) ys = ap (then_asked (one r l x)) (asked_both r (one r l x).layout xs ys) ∙ asked_joined (one r l x) (asked r (one r l x).layout xs) _
@@ -76,11 +76,11 @@ module _ {Out H Hi K T : Type 0} {renderer : renderers.Renderer.Ghosts Out} {com
   }
 
   -- the second edit is that of the value which the first one leaves
-  second_is : {A : Type 0} (first second : Edit) (s m : State Out H Hi K T renderer completer candidate hinter hint highlighter validator history) (x : A) → Does first s m (Ok x)
+  second_is : {A : Type 0} (first second : Transition) (s m : State Out H Hi K T renderer completer candidate hinter hint highlighter validator history) (x : A) → Does first s m (Ok x)
       → second (setting_of m) (value_of m) ≡ second (setting_of s) (first (setting_of s) (value_of s)).value
   second_is first second s m x h = ap (λ a. second a (value_of m)) (setting_stays s m h.stays) ∙ ap (second (setting_of s)) h.value
 
-  asked_is : {A : Type 0} (first second : Edit) (s m : State Out H Hi K T renderer completer candidate hinter hint highlighter validator history) (x : A) → Does first s m (Ok x)
+  asked_is : {A : Type 0} (first second : Transition) (s m : State Out H Hi K T renderer completer candidate hinter hint highlighter validator history) (x : A) → Does first s m (Ok x)
       → asked (renderer.canvas.ruler m.out) m.layout (second (setting_of m) (value_of m)).redraws
       ≡ asked (renderer.canvas.ruler s.out) (asked (renderer.canvas.ruler s.out) s.layout (first (setting_of s) (value_of s)).redraws).layout
       (second (setting_of s) (first (setting_of s) (value_of s)).value).redraws
@@ -90,11 +90,11 @@ module _ {Out H Hi K T : Type 0} {renderer : renderers.Renderer.Ghosts Out} {com
       ∙ ap (λ l. asked (renderer.canvas.ruler s.out) l (second (setting_of s) (first (setting_of s) (value_of s)).value).redraws) h.layout
 
   -- a refusal says nothing of what would have been answered
-  refused_as : {A B : Type 0} (edit : Edit) (s t : State Out H Hi K T renderer completer candidate hinter hint highlighter validator history) (e : ReadlineError) → Does {A = A} edit s t (Err e) → Does {A = B} edit s t (Err e)
+  refused_as : {A B : Type 0} (edit : Transition) (s t : State Out H Hi K T renderer completer candidate hinter hint highlighter validator history) (e : ReadlineError) → Does {A = A} edit s t (Err e) → Does {A = B} edit s t (Err e)
   refused_as edit s t e h = record { value = tt; calls = tt; layout = tt; stays = h.stays; reason = h.reason; begun = h.begun }
 
   -- both were made, or the second was refused
-  pub does_both : {A B : Type 0} (first second : Edit) (s m t : State Out H Hi K T renderer completer candidate hinter hint highlighter validator history) (x : A) (result : Result B ReadlineError)
+  pub does_both : {A B : Type 0} (first second : Transition) (s m t : State Out H Hi K T renderer completer candidate hinter hint highlighter validator history) (x : A) (result : Result B ReadlineError)
       → Does first s m (Ok x) → Does second m t result → Does (then_do first second) s t result
   does_both first second s m t x result h k =
       let e : Effect = first (setting_of s) (value_of s) in
@@ -115,7 +115,7 @@ module _ {Out H Hi K T : Type 0} {renderer : renderers.Renderer.Ghosts Out} {com
       }
 
   -- the first one was refused
-  pub does_cut : {A B : Type 0} (first second : Edit) (s t : State Out H Hi K T renderer completer candidate hinter hint highlighter validator history) (e : ReadlineError)
+  pub does_cut : {A B : Type 0} (first second : Transition) (s t : State Out H Hi K T renderer completer candidate hinter hint highlighter validator history) (e : ReadlineError)
       → Does {A = A} first s t (Err e) → Does {A = B} (then_do first second) s t (Err e)
   does_cut first second s t e h =
       let x : Effect = first (setting_of s) (value_of s) in
@@ -132,18 +132,18 @@ module _ {Out H Hi K T : Type 0} {renderer : renderers.Renderer.Ghosts Out} {com
       }
 
   -- the same as a question mark hands the refusal on
-  pub does_cut_by : {A B : Type 0} (first second : Edit) (s t : State Out H Hi K T renderer completer candidate hinter hint highlighter validator history) (e : ReadlineError) (result : Result B ReadlineError)
+  pub does_cut_by : {A B : Type 0} (first second : Transition) (s t : State Out H Hi K T renderer completer candidate hinter hint highlighter validator history) (e : ReadlineError) (result : Result B ReadlineError)
       → IsErrAnd result (λ x. x ≡ e) → Does {A = A} first s t (Err e) → Does (then_do first second) s t result
   does_cut_by {A} {B} first second s t e result is h =
       subst (λ r. Does {A = B} (then_do first second) s t r) (sym (is_err e result is)) (does_cut first second s t e h)
 
-  pub does_both_by : {A B C : Type 0} (first second : Edit) (s m t : State Out H Hi K T renderer completer candidate hinter hint highlighter validator history) (x : A) (e : ReadlineError) (result : Result C ReadlineError)
+  pub does_both_by : {A B C : Type 0} (first second : Transition) (s m t : State Out H Hi K T renderer completer candidate hinter hint highlighter validator history) (x : A) (e : ReadlineError) (result : Result C ReadlineError)
       → IsErrAnd result (λ y. y ≡ e) → Does first s m (Ok x) → Does {A = B} second m t (Err e) → Does (then_do first second) s t result
   does_both_by {A} {B} {C} first second s m t x e result is h k =
       subst (λ r. Does {A = C} (then_do first second) s t r) (sym (is_err e result is)) (does_both {B = C} first second s m t x (Err e) h (refused_as {A = B} {B = C} second m t e k))
 
   -- an edit that does the same here
-  pub does_as : {A : Type 0} (edit other : Edit) (s t : State Out H Hi K T renderer completer candidate hinter hint highlighter validator history) (result : Result A ReadlineError)
+  pub does_as : {A : Type 0} (edit other : Transition) (s t : State Out H Hi K T renderer completer candidate hinter hint highlighter validator history) (result : Result A ReadlineError)
       → edit (setting_of s) (value_of s) ≡ other (setting_of s) (value_of s) → Does edit s t result → Does other s t result
   does_as edit other s t result is h = record {
     value = subst (λ x. OnOk result (value_of t ≡ x.value)) is h.value;

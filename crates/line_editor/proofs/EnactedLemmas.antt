@@ -1,28 +1,81 @@
 -- A script that a state followed is enacted, or cut by a fault.
-use Rattle.std.proofs.Common.{◌≡◌, ◌⊎◌, inl, inr, Bool, refl, sym, ap, subst, ◌∙◌}
-use Rattle.std.specs.Prelude.{Result, Ok, Err, IsFalse}
+use Rattle.std.proofs.Common.{◌≡◌, ◌⊎◌, inl, inr, Bool, true, true≢false, List, ◌∷◌, ◌++◌, refl, sym, ap, subst, ◌∙◌}
+use Rattle.std.specs.Prelude.{Result, Ok, Err}
 use Rattle.line_config.specs.declared.errors.ReadlineError.{ReadlineError}
 use Rattle.line_config.specs.declared.errors.ReadlineError.TheVariants.{Eof, Interrupted, NotUtf8, PasteOutOfPlace, Reader, Display, Lines, HistoryText, Helper, Handler, Memory}
+use Rattle.std.specs.List.{FoldsTo}
 use Rattle.line_help.specs.declared.completion as completions
 use Rattle.line_help.specs.declared.hint as hints
 use Rattle.line_help.specs.declared.highlight as highlights
 use Rattle.line_help.specs.declared.validate as verdicts
 use Rattle.line_help.specs.declared.history as histories
-use Rattle.line_keys.specs.Coming.{Coming}
-use Rattle.line_keys.specs.Feeds.{Item, Key, Paste, IsReadFault}
+use Rattle.line_keys.specs.Coming.{Coming, left_by}
+use Rattle.line_keys.specs.Feeds.{InputItem, Key, Paste, IsReadFault}
 use Rattle.line_keys.specs.Follows.{Goes}
+use Rattle.line_keys.specs.Refreshing.{KnownDisplay as Displaying}
 use Rattle.line_keys.specs.Phrases.{Input, Script, Ends, Needs, Asks, Reads, Becomes}
+use Rattle.line_record.specs.Ring.{Ring}
+use Rattle.line_editor.specs.Acts.{Act, Sees, Gets, Stage, stage, CutIn, script_acts}
+use Rattle.line_editor.specs.Calls.{Ruler}
 use Rattle.line_editor.specs.Asks.{shown_in, ask_effect}
 use Rattle.line_editor.specs.Displays.{display_of}
 use Rattle.line_editor.specs.Lines.{Enacted, enacted}
 use Rattle.line_editor.specs.Redraws.{asked}
 use Rattle.line_editor.specs.States.{value_of, setting_of, Stays, Reason, Does}
-use Rattle.line_editor.specs.Turning.{Cut}
-use Rattle.line_editor.specs.Values.{Value, Setting, Edit, unchanged, then_do}
+use Rattle.line_editor.specs.Turning.{Doing, Cut}
+use Rattle.line_editor.specs.Values.{Value, Setting, Effect, Transition, unchanged, then_do}
 use Rattle.line_editor.specs.declared.renderer as renderers
 use Rattle.line_editor.specs.declared.state.State.{State}
-use Rattle.line_editor.proofs.BegunLemmas.{begun_none}
-use Rattle.line_editor.proofs.DoesLemmas.{does_both, does_cut, does_as, setting_stays}
+use Rattle.line_editor.proofs.ActsLemmas.{redraws_of, rest_of, ring_of, asked_of, asked_same, cut_behind, cut_none, cut_seen, cut_seeing, cut_got, cut_getting}
+use Rattle.line_editor.proofs.DoesLemmas.{does_both, does_as, setting_stays, stays_both}
+
+-- a read that a steady source cuts wants memory
+wants_memory : (item : InputItem) (e : ReadlineError) → IsReadFault item true e → e ≡ Memory
+wants_memory item Memory is = refl
+wants_memory item Reader is = absurd (true≢false is)
+wants_memory item Eof is = elim is [ ]
+wants_memory item Interrupted is = elim is [ ]
+wants_memory item NotUtf8 is = elim is [ ]
+wants_memory item PasteOutOfPlace is = elim is [ ]
+wants_memory item Display is = elim is [ ]
+wants_memory item Lines is = elim is [ ]
+wants_memory item HistoryText is = elim is [ ]
+wants_memory item Helper is = elim is [ ]
+wants_memory item Handler is = elim is [ ]
+
+fault_apart : (item : InputItem) (steady : Bool) (e : ReadlineError) → IsReadFault item steady e → IsReadFault item true e ⊎ (e ≡ Reader)
+fault_apart item steady Reader is = inr refl
+fault_apart Key steady Memory is = inl is
+fault_apart Paste steady Memory is = inl is
+fault_apart item steady Eof is = elim is [ ]
+fault_apart item steady Interrupted is = elim is [ ]
+fault_apart item steady NotUtf8 is = elim is [ ]
+fault_apart item steady PasteOutOfPlace is = elim is [ ]
+fault_apart item steady Display is = elim is [ ]
+fault_apart item steady Lines is = elim is [ ]
+fault_apart item steady HistoryText is = elim is [ ]
+fault_apart item steady Helper is = elim is [ ]
+fault_apart item steady Handler is = elim is [ ]
+
+first_of : {P Q R : Type 0} → P ⊎ R → (P → Q) → Q ⊎ R
+first_of (inl h) go = inl (go h)
+first_of (inr h) go = inr h
+
+read_apart : {X P : Type 0} {r : Result X ReadlineError} (item : InputItem) (e : ReadlineError) → r ≡ Err e → IsReadFault item true e ⊎ (e ≡ Reader) → (IsReadFault item true e → P) → P ⊎ (r ≡ Err Reader)
+read_apart item e is (inl h) go = inl (go h)
+read_apart item e is (inr h) go = inr (is ∙ ap Err h)
+
+module _ {S X : Type 0} (d : Displaying S) (steady : Bool) (r : Result X ReadlineError) (w' : S) (i' : Input) (c' : Coming) where
+  -- the steps went as a steady source lets them, or the source failed
+  pub goes_apart : (script : Script X) (w : S) (i : Input) (c : Coming) → Goes d steady script w i c r w' i' c' → Goes d true script w i c r w' i' c' ⊎ (r ≡ Err Reader)
+  goes_apart (Ends answer) w i c h = inl h
+  goes_apart (Needs later) w i c (inl h) = first_of (goes_apart later w i c h) (λ k. inl k)
+  goes_apart (Needs later) w i c (inr h) = inl (inr h)
+  goes_apart (Asks ask later) w i c (inl (m, made, h)) = first_of (goes_apart (later (d.shown m)) m i c h) (λ k. inl (m, made, k))
+  goes_apart (Asks ask later) w i c (inr h) = inl (inr h)
+  goes_apart (Reads item rest later) w i c (inl h) = first_of (goes_apart later w i rest h) (λ k. inl k)
+  goes_apart (Reads item rest later) w i c (inr (e, fault, h)) = read_apart item e h.0 (fault_apart item steady e fault) (λ k. inr (e, k, h))
+  goes_apart (Becomes kept later) w i c h = goes_apart later w kept c h
 
 module _ {Out H Hi K T : Type 0} {renderer : renderers.Renderer.Ghosts Out} {completer : completions.Completer.Ghosts H K} {candidate : completions.Candidate.Ghosts K}
     {hinter : hints.Hinter.Ghosts H T} {hint : hints.Hint.Ghosts T} {highlighter : highlights.Highlighter.Ghosts H} {validator : verdicts.Validator.Ghosts H} {history : histories.History.Ghosts Hi} where
@@ -41,46 +94,92 @@ module _ {Out H Hi K T : Type 0} {renderer : renderers.Renderer.Ghosts Out} {com
   pub nothing_done : (s : State Out H Hi K T renderer completer candidate hinter hint highlighter validator history) → Does {A = Unit {0}} unchanged s s (Ok (tt {0}))
   nothing_done s = record { value = refl; calls = refl; layout = refl; stays = stays_same s; reason = tt; begun = tt }
 
-  -- what a cut says of the calls, as an edit that was refused for want of memory
-  pub as_refused : {A : Type 0} (steady : Bool) (edit : Edit) (s t : State Out H Hi K T renderer completer candidate hinter hint highlighter validator history) (r : Result A ReadlineError)
-      → Cut steady edit s t r → Does {A = Unit {0}} edit s t (Err Memory)
-  as_refused steady edit s t r cut = record { value = tt; calls = tt; layout = tt; stays = cut.stays; reason = tt; begun = cut.begun }
+  -- ---- acts that were cut
 
-  -- the same of a larger edit, for the same reason
-  pub cut_as : {A B C : Type 0} (steady : Bool) (edit other : Edit) (s m t : State Out H Hi K T renderer completer candidate hinter hint highlighter validator history) (r : Result A ReadlineError) (q : Result B ReadlineError)
-      (cut : Cut steady edit m t r) → q ≡ Err cut.fault → Does {A = C} other s t (Err Memory) → Cut steady other s t q
-  cut_as steady edit other s m t r q cut is does = record { fault = cut.fault; result_is = is; cause = cut.cause; stays = does.stays; begun = does.begun }
+  -- what is left after an edit, as it stands before it
+  pub left_after : {A : Type 0} (acts : Doing) (first : Transition) (s m : State Out H Hi K T renderer completer candidate hinter hint highlighter validator history) (x : A) (e : ReadlineError) (old new : Stage Out) → Does first s m (Ok x)
+      → CutIn renderer.canvas (renderer.canvas.ruler m.out) e (acts (setting_of m) (value_of m)) m.layout old new
+      → CutIn renderer.canvas (renderer.canvas.ruler s.out) e (acts (setting_of s) (first (setting_of s) (value_of s)).value)
+      (asked (renderer.canvas.ruler s.out) s.layout (first (setting_of s) (value_of s)).redraws).layout old new
+  left_after acts first s m x e old new h k =
+      let f : Effect = first (setting_of s) (value_of s) in
+      subst (λ l. CutIn renderer.canvas (renderer.canvas.ruler s.out) e (acts (setting_of s) f.value) l old new) h.layout
+      (subst (λ v. CutIn renderer.canvas (renderer.canvas.ruler s.out) e (acts (setting_of s) v) m.layout old new) h.value
+      (subst (λ a. CutIn renderer.canvas (renderer.canvas.ruler s.out) e (acts a (value_of m)) m.layout old new) (setting_stays s m h.stays)
+      (subst (λ r. CutIn renderer.canvas r e (acts (setting_of m) (value_of m)) m.layout old new) h.stays.ruler k)))
 
-  -- an edit that was refused is a cut
-  pub refused_cut : {A B : Type 0} (steady : Bool) (edit : Edit) (s t : State Out H Hi K T renderer completer candidate hinter hint highlighter validator history) (e : ReadlineError) (q : Result B ReadlineError)
-      → q ≡ Err e → Does {A = A} edit s t (Err e) → Cut steady edit s t q
-  refused_cut steady edit s t e q is does = record { fault = e; result_is = is; cause = inl does.reason; stays = does.stays; begun = does.begun }
+  -- the acts of an edit were done, and what is left was cut
+  pub cut_onward : {A : Type 0} (front : List Act) (acts : Doing) (first : Transition) (s m : State Out H Hi K T renderer completer candidate hinter hint highlighter validator history) (x : A) (e : ReadlineError) (c : Coming) (r : Ring) (new : Stage Out)
+      → Does first s m (Ok x) → redraws_of front ≡ (first (setting_of s) (value_of s)).redraws
+      → CutIn renderer.canvas (renderer.canvas.ruler m.out) e (acts (setting_of m) (value_of m)) m.layout (stage m.out (rest_of c front) (ring_of r front)) new
+      → CutIn renderer.canvas (renderer.canvas.ruler s.out) e (front ++ acts (setting_of s) (first (setting_of s) (value_of s)).value) s.layout (stage s.out c r) new
+  cut_onward front acts first s m x e c r new h is k =
+      let f : Effect = first (setting_of s) (value_of s) in
+      let u : Ruler = renderer.canvas.ruler s.out in
+      let same : asked_of u s.layout front ≡ asked u s.layout f.redraws = asked_same u s.layout front ∙ ap (asked u s.layout) is in
+      cut_behind renderer.canvas u e front (acts (setting_of s) f.value) s.layout (stage s.out c r) new m.out
+      (subst (λ y. FoldsTo renderer.canvas.made s.out y.calls m.out) (sym same) h.calls)
+      (subst (λ y. CutIn renderer.canvas u e (acts (setting_of s) f.value) y.layout (stage m.out (rest_of c front) (ring_of r front)) new) (sym same)
+      (left_after acts first s m x e (stage m.out (rest_of c front) (ring_of r front)) new h k))
 
-  -- nothing was made
-  cut_here : {A : Type 0} (steady : Bool) (edit : Edit) (s t : State Out H Hi K T renderer completer candidate hinter hint highlighter validator history) (e : ReadlineError) (r : Result A ReadlineError)
-      → r ≡ Err e → t ≡ s → Reason s e ⊎ ((e ≡ Reader) × IsFalse steady) → Cut steady edit s t r
-  cut_here {A} steady edit s t e r is same why = subst (λ x. Cut {A = A} steady edit s x r) (sym same) (record {
+  -- an edit was made, and what is left was cut
+  pub seen_cut : {A B C : Type 0} (first : Transition) (acts : Doing) (s m t : State Out H Hi K T renderer completer candidate hinter hint highlighter validator history) (x : A) (c c' : Coming) (r r' : Ring) (result : Result B ReadlineError) (q : Result C ReadlineError)
+      (cut : Cut acts m t c c' r r' result) → q ≡ Err cut.fault → Does first s m (Ok x)
+      → Cut (λ a v. Sees (first a v).redraws ∷ acts a (first a v).value) s t c c' r r' q
+  seen_cut first acts s m t x c c' r r' result q cut is made = record {
+    fault = cut.fault;
+    result_is = is;
+    cause = cut.cause;
+    stays = stays_both s m t made.stays cut.stays;
+    done = let f : Effect = first (setting_of s) (value_of s) in
+        cut_seen renderer.canvas (renderer.canvas.ruler s.out) cut.fault f.redraws (acts (setting_of s) f.value) s.layout (stage s.out c r) (stage t.out c' r') m.out made.calls
+        (left_after acts first s m x cut.fault (stage m.out c r) (stage t.out c' r') made cut.done);
+  }
+
+  -- an edit was refused
+  pub seeing_cut : {A B : Type 0} (first : Transition) (acts : Doing) (s t : State Out H Hi K T renderer completer candidate hinter hint highlighter validator history) (c : Coming) (r : Ring) (e : ReadlineError) (q : Result B ReadlineError)
+      → q ≡ Err e → Does {A = A} first s t (Err e) → Cut (λ a v. Sees (first a v).redraws ∷ acts a v) s t c c r r q
+  seeing_cut first acts s t c r e q is refused = record {
+    fault = e;
+    result_is = is;
+    cause = refused.reason;
+    stays = refused.stays;
+    done = cut_seeing renderer.canvas (renderer.canvas.ruler s.out) e (first (setting_of s) (value_of s)).redraws (acts (setting_of s) (value_of s)) s.layout s.out t.out c r refused.begun;
+  }
+
+  -- nothing was done
+  cut_still : {A : Type 0} (acts : Doing) (s t : State Out H Hi K T renderer completer candidate hinter hint highlighter validator history) (c c' : Coming) (r : Ring) (e : ReadlineError) (q : Result A ReadlineError)
+      → q ≡ Err e → t ≡ s → c' ≡ c → Reason s e → Cut acts s t c c' r r q
+  cut_still {A} acts s t c c' r e q is same kept why = subst (λ x. Cut {A = A} acts s x c c' r r q) (sym same) (record {
     fault = e;
     result_is = is;
     cause = why;
     stays = stays_same s;
-    begun = begun_none renderer.canvas (asked (renderer.canvas.ruler s.out) s.layout (edit (setting_of s) (value_of s)).redraws).calls s.out s.out refl;
+    done = cut_none renderer.canvas (renderer.canvas.ruler s.out) e (acts (setting_of s) (value_of s)) s.layout (stage s.out c r) (stage s.out c' r) (ap (λ x. stage s.out x r) kept);
   })
 
-  read_cause : (s : State Out H Hi K T renderer completer candidate hinter hint highlighter validator history) (item : Item) (steady : Bool) (e : ReadlineError) → IsReadFault item steady e
-      → Reason s e ⊎ ((e ≡ Reader) × IsFalse steady)
-  read_cause s item steady Reader is = inr (refl, is)
-  read_cause s Key steady Memory is = elim is [ ]
-  read_cause s Paste steady Memory is = inl tt
-  read_cause s item steady Eof is = elim is [ ]
-  read_cause s item steady Interrupted is = elim is [ ]
-  read_cause s item steady NotUtf8 is = elim is [ ]
-  read_cause s item steady PasteOutOfPlace is = elim is [ ]
-  read_cause s item steady Display is = elim is [ ]
-  read_cause s item steady Lines is = elim is [ ]
-  read_cause s item steady HistoryText is = elim is [ ]
-  read_cause s item steady Helper is = elim is [ ]
-  read_cause s item steady Handler is = elim is [ ]
+  -- a read was refused
+  cut_at_read : {A : Type 0} (rest : Coming) (acts : Doing) (s t : State Out H Hi K T renderer completer candidate hinter hint highlighter validator history) (c c' : Coming) (r : Ring) (e : ReadlineError) (q : Result A ReadlineError)
+      → q ≡ Err e → t ≡ s → c' ≡ left_by e → e ≡ Memory → Cut (λ a v. Gets rest ∷ acts a v) s t c c' r r q
+  cut_at_read {A} rest acts s t c c' r e q is same kept why = subst (λ x. Cut {A = A} (λ a v. Gets rest ∷ acts a v) s x c c' r r q) (sym same) (record {
+    fault = e;
+    result_is = is;
+    cause = subst (Reason s) (sym why) tt;
+    stays = stays_same s;
+    done = cut_getting renderer.canvas (renderer.canvas.ruler s.out) e rest (acts (setting_of s) (value_of s)) s.layout (stage s.out c r) (stage s.out c' r) why
+        (ap (λ x. stage s.out x r) (kept ∙ ap left_by why));
+  })
+
+  -- what follows a read was cut
+  cut_after_read : {A : Type 0} (rest : Coming) (acts : Doing) (s t : State Out H Hi K T renderer completer candidate hinter hint highlighter validator history) (c c' : Coming) (r : Ring) (q : Result A ReadlineError)
+      → Cut acts s t rest c' r r q → Cut (λ a v. Gets rest ∷ acts a v) s t c c' r r q
+  cut_after_read rest acts s t c c' r q cut = record {
+    fault = cut.fault;
+    result_is = cut.result_is;
+    cause = cut.cause;
+    stays = cut.stays;
+    done = cut_got renderer.canvas (renderer.canvas.ruler s.out) cut.fault rest (acts (setting_of s) (value_of s)) s.layout (stage s.out c r) (stage t.out c' r) cut.done;
+  }
 
   -- all steps were made
   pub record Enacts {X : Type 0} (p : Setting → Value → Enacted X) (s t : State Out H Hi K T renderer completer candidate hinter hint highlighter validator history)
@@ -90,17 +189,17 @@ module _ {Out H Hi K T : Type 0} {renderer : renderers.Renderer.Ghosts Out} {com
     pub input_is : input ≡ (p (setting_of s) (value_of s)).input
     pub rest_is : rest ≡ (p (setting_of s) (value_of s)).rest
 
-  abbrev pub Enacting : {X : Type 0} → Bool → (Setting → Value → Enacted X) → State Out H Hi K T renderer completer candidate hinter hint highlighter validator history
-      → State Out H Hi K T renderer completer candidate hinter hint highlighter validator history → Input → Coming → Result X ReadlineError → Type 0
-  Enacting steady p s t input rest result = Enacts p s t input rest result ⊎ Cut steady (λ a v. (p a v).made) s t result
+  abbrev pub Enacting : {X : Type 0} → (Setting → Value → Enacted X) → Doing → State Out H Hi K T renderer completer candidate hinter hint highlighter validator history → State Out H Hi K T renderer completer candidate hinter hint highlighter validator history → Input → Coming → Coming → Ring → Result X ReadlineError → Type 0
+  Enacting p acts s t input c c' r result = Enacts p s t input c' result ⊎ Cut acts s t c c' r r result
 
-  -- behind an ask
-  asked_before : {X : Type 0} (steady : Bool) (ask : _) (later : _ → Script X) (i : Input) (c : Coming) (s m t : State Out H Hi K T renderer completer candidate hinter hint highlighter validator history)
+  -- after an ask
+  asked_before : {X : Type 0} (ask : _) (later : _ → Script X) (i : Input) (c : Coming) (k : Ring) (s m t : State Out H Hi K T renderer completer candidate hinter hint highlighter validator history)
       (i' : Input) (c' : Coming) (r : Result X ReadlineError) → Does {A = Unit {0}} (ask_effect ask) s m (Ok (tt {0}))
-      → Enacting steady (λ a v. enacted a (later (shown_in (value_of m))) i v c) m t i' c' r → Enacting steady (λ a v. enacted a (Asks ask later) i v c) s t i' c' r
-  asked_before {X} steady ask later i c s m t i' c' r made (inl e) =
+      → Enacting (λ a v. enacted a (later (shown_in (value_of m))) i v c) (λ a v. script_acts a (later (shown_in (value_of m))) v) m t i' c c' k r
+      → Enacting (λ a v. enacted a (Asks ask later) i v c) (λ a v. script_acts a (Asks ask later) v) s t i' c c' k r
+  asked_before {X} ask later i c k s m t i' c' r made (inl e) =
       let next : Setting → Value → Enacted X = λ a v. enacted a (later (shown_in v)) i v c in
-      let whole : Edit = λ a v. (enacted a (Asks ask later) i v c).made in
+      let whole : Transition = λ a v. (enacted a (Asks ask later) i v c).made in
       let second : Does {A = Unit {0}} (λ a v. (next a v).made) m t (Ok (tt {0})) = does_as (λ a v. (enacted a (later (shown_in (value_of m))) i v c).made) (λ a v. (next a v).made) m t (Ok (tt {0})) refl e.does in
       let same : next (setting_of m) (value_of m) ≡ next (setting_of s) (ask_effect ask (setting_of s) (value_of s)).value =
       ap (λ a. next a (value_of m)) (setting_stays s m made.stays) ∙ ap (next (setting_of s)) made.value in
@@ -110,37 +209,34 @@ module _ {Out H Hi K T : Type 0} {renderer : renderers.Renderer.Ghosts Out} {com
         input_is = e.input_is ∙ ap (λ p. p.input) same;
         rest_is = e.rest_is ∙ ap (λ p. p.rest) same;
       })
-  asked_before {X} steady ask later i c s m t i' c' r made (inr cut) =
-      let here : Edit = λ a v. (enacted a (later (shown_in (value_of m))) i v c).made in
-      let next : Edit = λ a v. (enacted a (later (shown_in v)) i v c).made in
-      let whole : Edit = λ a v. (enacted a (Asks ask later) i v c).made in
-      let second : Does {A = Unit {0}} next m t (Err Memory) = does_as here next m t (Err Memory) refl (as_refused steady here m t r cut) in
-      inr (cut_as {A = X} {B = X} {C = Unit {0}} steady here whole s m t r r cut cut.result_is
-      (does_as (then_do (ask_effect ask) next) whole s t (Err Memory) refl (does_both (ask_effect ask) next s m t (tt {0}) (Err Memory) made second)))
+  asked_before {X} ask later i c k s m t i' c' r made (inr cut) =
+      let next : Doing = λ a v. script_acts a (later (shown_in v)) v in
+      inr (seen_cut {B = X} {C = X} (ask_effect ask) next s m t (tt {0}) c c' k k r r
+      (record { fault = cut.fault; result_is = cut.result_is; cause = cut.cause; stays = cut.stays; done = cut.done }) cut.result_is made)
 
-  -- refused at an ask
-  asked_last : {X : Type 0} (steady : Bool) (ask : _) (later : _ → Script X) (i : Input) (c : Coming) (s t : State Out H Hi K T renderer completer candidate hinter hint highlighter validator history)
-      (e : ReadlineError) (r : Result X ReadlineError) → r ≡ Err e → Does {A = Unit {0}} (ask_effect ask) s t (Err e) → Cut steady (λ a v. (enacted a (Asks ask later) i v c).made) s t r
-  asked_last {X} steady ask later i c s t e r is refused =
-      let next : Edit = λ a v. (enacted a (later (shown_in v)) i v c).made in
-      let whole : Edit = λ a v. (enacted a (Asks ask later) i v c).made in
-      refused_cut {A = Unit {0}} steady whole s t e r is
-      (does_as (then_do (ask_effect ask) next) whole s t (Err e) refl (does_cut (ask_effect ask) next s t e refused))
+  read_before : {X : Type 0} (item : InputItem) (rest : Coming) (later : Script X) (i : Input) (c : Coming) (k : Ring) (s t : State Out H Hi K T renderer completer candidate hinter hint highlighter validator history) (i' : Input) (c' : Coming) (r : Result X ReadlineError)
+      → Enacting (λ a v. enacted a later i v rest) (λ a v. script_acts a later v) s t i' rest c' k r
+      → Enacting (λ a v. enacted a (Reads item rest later) i v c) (λ a v. script_acts a (Reads item rest later) v) s t i' c c' k r
+  read_before item rest later i c k s t i' c' r (inl e) = inl (record { does = e.does; answer_is = e.answer_is; input_is = e.input_is; rest_is = e.rest_is })
+  read_before item rest later i c k s t i' c' r (inr cut) = inr (cut_after_read rest (λ a v. script_acts a later v) s t c c' k r cut)
 
-  pub goes_enacts : {X : Type 0} (steady : Bool) (script : Script X) (s t : State Out H Hi K T renderer completer candidate hinter hint highlighter validator history)
-      (i i' : Input) (c c' : Coming) (r : Result X ReadlineError) → Goes display_of steady script s i c r t i' c' → Enacting steady (λ a v. enacted a script i v c) s t i' c' r
-  goes_enacts {X} steady (Ends answer) s t i i' c c' r is = inl (record {
+  pub goes_enacts : {X : Type 0} (script : Script X) (s t : State Out H Hi K T renderer completer candidate hinter hint highlighter validator history)
+      (i i' : Input) (c c' : Coming) (k : Ring) (r : Result X ReadlineError) → Goes display_of true script s i c r t i' c'
+      → Enacting (λ a v. enacted a script i v c) (λ a v. script_acts a script v) s t i' c c' k r
+  goes_enacts {X} (Ends answer) s t i i' c c' k r is = inl (record {
     does = subst (λ x. Does {A = Unit {0}} (λ a v. (enacted a (Ends answer) i v c).made) s x (Ok (tt {0}))) (sym is.1) (nothing_done s);
     answer_is = is.0;
     input_is = is.2;
     rest_is = is.3;
   })
-  goes_enacts steady (Needs later) s t i i' c c' r (inl goes) = goes_enacts steady later s t i i' c c' r goes
-  goes_enacts steady (Needs later) s t i i' c c' r (inr cut) = inr (cut_here steady (λ a v. (enacted a later i v c).made) s t Memory r cut.0 cut.1 (inl tt))
-  goes_enacts steady (Asks ask later) s t i i' c c' r (inl (m, made, goes)) =
-      asked_before steady ask later i c s m t i' c' r made (goes_enacts steady (later (shown_in (value_of m))) m t i i' c c' r goes)
-  goes_enacts steady (Asks ask later) s t i i' c c' r (inr (e, is, refused, cut, kept, rest)) = inr (asked_last steady ask later i c s t e r cut refused)
-  goes_enacts steady (Reads item rest later) s t i i' c c' r (inl goes) = goes_enacts steady later s t i i' rest c' r goes
-  goes_enacts steady (Reads item rest later) s t i i' c c' r (inr (e, fault, cut)) =
-      inr (cut_here steady (λ a v. (enacted a later i v rest).made) s t e r cut.0 cut.1 (read_cause s item steady e fault))
-  goes_enacts steady (Becomes kept later) s t i i' c c' r goes = goes_enacts steady later s t kept i' c c' r goes
+  goes_enacts (Needs later) s t i i' c c' k r (inl goes) = goes_enacts later s t i i' c c' k r goes
+  goes_enacts (Needs later) s t i i' c c' k r (inr cut) = inr (cut_still (λ a v. script_acts a later v) s t c c' k Memory r cut.0 cut.1 cut.3 tt)
+  goes_enacts (Asks ask later) s t i i' c c' k r (inl (m, made, goes)) =
+      asked_before ask later i c k s m t i' c' r made (goes_enacts (later (shown_in (value_of m))) m t i i' c c' k r goes)
+  goes_enacts {X} (Asks ask later) s t i i' c c' k r (inr (e, is, refused, cut, kept, rest)) =
+      inr (subst (λ x. Cut {A = X} (λ a v. script_acts a (Asks ask later) v) s t c x k k r) (sym rest)
+      (seeing_cut {A = Unit {0}} (ask_effect ask) (λ a v. script_acts a (later (shown_in (ask_effect ask a v).value)) (ask_effect ask a v).value) s t c k e r cut refused))
+  goes_enacts (Reads item rest later) s t i i' c c' k r (inl goes) = read_before item rest later i c k s t i' c' r (goes_enacts later s t i i' rest c' k r goes)
+  goes_enacts (Reads item rest later) s t i i' c c' k r (inr (e, fault, cut)) =
+      inr (cut_at_read rest (λ a v. script_acts a later v) s t c c' k e r cut.0 cut.1 cut.3 (wants_memory item e fault))
+  goes_enacts (Becomes kept later) s t i i' c c' k r goes = goes_enacts later s t kept i' c c' k r goes

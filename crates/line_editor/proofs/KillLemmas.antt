@@ -67,7 +67,7 @@ cut_text text from upto end plain low =
     let whole : replace_range text from upto [] ≡ take from text ++ drop upto text = append_assoc (take from text) [] (drop upto text) in
     whole ∙ cut_by text from upto (nat_le from (length text)) refl (end ∙ ap length whole) (ap is_plain (sym whole) ∙ plain) low
 
--- ---- what a movement names, with the cursor behind the text
+-- ---- what a movement names, with the cursor after the text
 
 abbrev IsLow : Line → Option Span → Type 0
 IsLow l o = IfSome o (λ span. Low l.text span.from span.upto)

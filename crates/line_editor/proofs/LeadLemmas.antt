@@ -1,4 +1,4 @@
--- What commands want to be seen leads from what is to be seen of the value before to the same of the value behind.
+-- What commands want to be seen leads from what is to be seen of the value before to the same of the value after.
 use Rattle.std.proofs.Common.{◌≡◌, ℕ, ◌+◌, ◌-◌, ◌==◌, ◌||◌, not, ◌<◌, nat_le, nat_lt, Bool, true, false, List, [], ◌∷◌, ◌++◌, take, drop, length, take_all, Option, Some, None, IfSome, is_some, encode_utf8, refl, sym, ap, ◌∙◌, subst, append_assoc, append-nil, arith, if◌then◌else◌}
 use Rattle.std.specs.List.{list_all, insert_slice, replace_range}
 use Rattle.std.proofs.lemmas.Bool.{and_parts, eqb-true, ltb-true}
@@ -20,7 +20,7 @@ use Rattle.line_buffer.specs.declared.types.At.TheVariants.{Start}
 use Rattle.line_buffer.specs.declared.types.Movement.{Movement}
 use Rattle.line_buffer.specs.declared.types.Movement.TheVariants.{WholeLine, BeginningOfLine, EndOfLine, BackwardWord, ForwardWord, ViCharSearch, ViFirstPrint, BackwardChar, ForwardChar, LineUp, LineDown, WholeBuffer, BeginningOfBuffer, EndOfBuffer}
 use Rattle.line_buffer.specs.declared.types.Word.TheVariants.{Big}
-use Rattle.line_edits.specs.Edits.{typed, put_behind, killed}
+use Rattle.line_edits.specs.Edits.{char_typed, put_behind, range_killed}
 use Rattle.line_edits.specs.Plain.{is_plain}
 use Rattle.line_help.specs.History.{begins_with_space}
 use Rattle.line_keys.specs.declared.command.CmdKind.{CmdKind}
@@ -30,12 +30,12 @@ use Rattle.line_editor.specs.Drawing.{drawn, asked_anew, refreshed, told, cursor
 use Rattle.line_editor.specs.Inserting.{may_be_typed, show_typed, insert_char, insert_text}
 use Rattle.line_editor.specs.Killing.{may_be_taken, show_taken, kill, insert_text_if, replace}
 use Rattle.line_editor.specs.Leads.{Leads}
-use Rattle.line_editor.specs.Moving.{stepped, to_found, to_place, move_home, move_to_next_word, move_to_first_print, move_by}
+use Rattle.line_editor.specs.Moving.{cursor_moved_if, to_found, to_place, move_home, move_to_next_word, move_to_first_print, move_by}
 use Rattle.line_editor.specs.Redraws.{Redraw}
 use Rattle.line_editor.specs.Redraws.Redraw.{Drawn, Moved, Typed, Taken}
 use Rattle.line_editor.specs.Rewording.{refreshed_if}
 use Rattle.line_editor.specs.Sights.{Sight, sight_as, sight, sight_all, FitsAll, Turns, info_one, info_after, sight_of}
-use Rattle.line_editor.specs.Values.{Value, Setting, Effect, Edit, unchanged, then_do, rewritten, at_line, with_mark}
+use Rattle.line_editor.specs.Values.{Value, Setting, Effect, Transition, unchanged, then_do, rewritten, at_line, with_mark}
 use Rattle.line_editor.proofs.KillLemmas.{Low, cut_text, range_low}
 
 -- ---- one after the other
@@ -58,7 +58,7 @@ turns_both own x y z rs ss h k = record {
   leads = sight_both x rs ss ∙ ap (λ w. sight_all w ss) h.leads ∙ k.leads;
 }
 
-pub both_lead : (s : Setting) (v : Value) (first second : Edit) → Leads s v (first s v) → Leads s (first s v).value (second s (first s v).value) → Leads s v (then_do first second s v)
+pub both_lead : (s : Setting) (v : Value) (first second : Transition) → Leads s v (first s v) → Leads s (first s v).value (second s (first s v).value) → Leads s v (then_do first second s v)
 both_lead s v first second h k info =
     let e = first s v in
     let f = second s e.value in
@@ -101,7 +101,7 @@ shown_or_drawn s v w false h info = record { fits = (h, tt); leads = ap (λ t. s
 pub move_leads : (kind : CmdKind) (s : Setting) (v w : Value) → w.line.text ≡ v.line.text → Leads s v (cursor_moved kind s w)
 move_leads kind s v w h = shown_or_drawn s v (with_mark kind s w) (w.marked || (with_mark kind s w).marked) h
 
-pub step_leads : (kind : CmdKind) (moves : Bool) (l : Line) (s : Setting) (v : Value) → l.text ≡ v.line.text → Leads s v (stepped kind moves l s v)
+pub step_leads : (kind : CmdKind) (moves : Bool) (l : Line) (s : Setting) (v : Value) → l.text ≡ v.line.text → Leads s v (cursor_moved_if kind moves l s v)
 step_leads kind moves l s v h = either s v moves (cursor_moved kind s (at_line l v)) (unchanged s v) (λ e. move_leads kind s v (at_line l v) h) (λ e. rest_leads s v v refl)
 
 found_leads : (o : Option ℕ) (s : Setting) (v : Value) → Leads s v (to_found o s v)
@@ -202,7 +202,7 @@ one_typed c n l false one h = cc
 
 pub insertion_leads : (c n : ℕ) (s : Setting) (v : Value) → Leads s v (insert_char c n s v)
 insertion_leads c n s v =
-    let w = rewritten (typed c n) v in
+    let w = rewritten (char_typed c n) v in
     either s v (is_some (insertion c n v.line).answer) (show_typed c n v s w) (unchanged s w)
     (λ some. typed_by s c n v (asked_anew s w) (may_be_typed c n v (asked_anew s w)) refl (λ h. one_typed c n v.line (n == 1) (and_parts (n == 1) _ h).0 some))
     (λ none. rest_leads s v w (no_typing c n v.line (n == 1) none))
@@ -256,7 +256,7 @@ killed_by s v held (Some span) h =
     taken_by s v (asked_anew s w) span.from span.upto (may_be_taken v (asked_anew s w)) refl h refl refl
 
 pub kill_leads : (m : Movement) (s : Setting) (v : Value) → Leads s v (kill m s v)
-kill_leads m s v = killed_by s v (rewritten (killed m) v).held (range_of m v.line) (λ plain. range_low v.line plain m)
+kill_leads m s v = killed_by s v (rewritten (range_killed m) v).held (range_of m v.line) (λ plain. range_low v.line plain m)
 
 text_if_leads : (text : Option (List ℕ)) (s : Setting) (v : Value) → Leads s v (insert_text_if text s v)
 text_if_leads None s v = rest_leads s v v refl

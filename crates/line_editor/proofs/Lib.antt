@@ -1,7 +1,9 @@
 pub mod AcceptLemmas
+pub mod ActsLemmas
 pub mod BegunLemmas
 pub mod CommandsLead
 pub mod DoesLemmas
+pub mod HeardLemmas
 pub mod KillLemmas
 pub mod LeadLemmas
 pub mod LineLeads

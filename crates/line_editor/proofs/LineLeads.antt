@@ -15,10 +15,10 @@ use Rattle.line_record.specs.Ring.{Ring}
 use Rattle.line_editor.specs.Accepting.{submitted}
 use Rattle.line_editor.specs.Asks.{shown_in, ask_effect}
 use Rattle.line_editor.specs.Commands.{Means, means_of, effect, outcome}
-use Rattle.line_editor.specs.Courses.{Course, EndsLine}
+use Rattle.line_editor.specs.Courses.{TurnsLead, EndsLine}
 use Rattle.line_editor.specs.Drawing.{refreshed}
 use Rattle.line_editor.specs.Leads.{Leads, CommandLeads, LinesLead}
-use Rattle.line_editor.specs.Lines.{Enacted, enacted, begins_group, begun, line_phrase, phrase_enacted, reset_by, Turned, turned_by, turn_of, Told, after_turn, line_from, line_of}
+use Rattle.line_editor.specs.Lines.{Enacted, enacted, begins_group, with_group_begun, line_phrase, phrase_enacted, reset_by, Turned, turned_by, turn_of, Told, after_turn, line_from, line_of}
 use Rattle.line_editor.specs.Sights.{Sight, sight_with, sight_of, ended_sight, sight_all, FitsAll, Turns, info_after}
 use Rattle.line_editor.specs.Starts.{first_value}
 use Rattle.line_editor.specs.Values.{Value, Setting, Effect}
@@ -29,7 +29,7 @@ use Rattle.line_editor.proofs.LeadLemmas.{fits_both, sight_both, info_both, turn
 
 -- ---- a phrase
 
--- the value is seen behind some prompt, the session's own where `own` says so
+-- the value is seen after some prompt, the session's own where `own` says so
 record Behind (s : Setting) (v : Value) (info : Option (List ℕ)) (own : Bool) (x : Sight) : Type 0 where
   prompt : List ℕ
   is : x ≡ sight_with own prompt v.line.text v.line.place info
@@ -83,7 +83,7 @@ begun_settles : (cmd : Cmd) (b : Bool) → Settles true (if b then Asks DoingIns
 begun_settles cmd true = λ shown. refl
 begun_settles cmd false = refl
 
-after_settles : (own : Bool) (script : Script Cmd) (input : Input) (w : Shown) (c : Coming) → Settles own script → Settles own (after begun input w c script)
+after_settles : (own : Bool) (script : Script Cmd) (input : Input) (w : Shown) (c : Coming) → Settles own script → Settles own (after with_group_begun input w c script)
 after_settles true (Ends (Ok cmd)) input w c h = begun_settles cmd (begins_group cmd)
 after_settles false (Ends (Ok cmd)) input w c h = absurd (true≢false (sym h))
 after_settles own (Ends (Err e)) input w c h = tt
@@ -141,7 +141,7 @@ turn_leads s custom indent input r v info c =
 -- ---- a line
 
 abbrev Led : Setting → Sight → Told → Type 0
-Led s x t = Course s.prompt x t.turns × EndsLine t.outcome t.turns
+Led s x t = TurnsLead s.prompt x t.turns × EndsLine t.outcome t.turns
 
 -- what follows on a turn, by its outcome
 after_leads : (next : Input → Ring → Option (List ℕ) → Value → Coming → Told) (s : Setting) (v : Value) (info : Option (List ℕ)) (t : Turned)

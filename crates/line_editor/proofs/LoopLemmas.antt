@@ -1,8 +1,7 @@
 -- The turns of a line, one after the other.
-use Rattle.std.proofs.Common.{◌≡◌, inl, inr, ℕ, suc, Bool, List, [], ◌++◌, refl, sym, ap, ◌∙◌, arith, append-nil}
+use Rattle.std.proofs.Common.{◌≡◌, inl, inr, ℕ, suc, Bool, List, [], ◌∷◌, ◌++◌, refl, sym, ap, subst, ◌∙◌, arith, append-nil}
 use Rattle.std.specs.Prelude.{Option, Result, Ok, Err, flat_map}
 use Rattle.line_config.specs.declared.errors.ReadlineError.{ReadlineError}
-use Rattle.line_config.specs.declared.errors.ReadlineError.TheVariants.{Memory}
 use Rattle.line_help.specs.declared.completion as completions
 use Rattle.line_help.specs.declared.hint as hints
 use Rattle.line_help.specs.declared.highlight as highlights
@@ -10,23 +9,27 @@ use Rattle.line_help.specs.declared.validate as verdicts
 use Rattle.line_help.specs.declared.history as histories
 use Rattle.line_keys.specs.Answers.{Custom}
 use Rattle.line_keys.specs.Coming.{Coming}
+use Rattle.line_keys.specs.Early.{Early}
 use Rattle.line_keys.specs.Phrases.{Input}
 use Rattle.line_record.specs.Ring.{Ring}
 use Rattle.line_editor.specs.Accepting.{submitted}
+use Rattle.line_editor.specs.Acts.{Act, Sees, stage, CutIn, acts_after, acts_from}
 use Rattle.line_editor.specs.Courses.{Open, redraws_in}
 use Rattle.line_editor.specs.Lines.{Told, Turned, turn_of, line_from, after_turn, opened_by}
-use Rattle.line_editor.specs.Reading.{Telling, turns_left, edit_of, text_or, Read, Reading}
+use Rattle.line_editor.specs.Reading.{Telling, turns_left, turns_doing, edit_of, text_or, Read, Reading}
 use Rattle.line_editor.specs.Redraws.{Redraw}
 use Rattle.line_editor.specs.Sights.{Sight, sight_of, info_after}
 use Rattle.line_editor.specs.States.{value_of, setting_of, Does}
-use Rattle.line_editor.specs.Turning.{Cut, Whole, turning}
-use Rattle.line_editor.specs.Values.{Value, Setting, Effect, Edit, then_do, unchanged}
+use Rattle.line_editor.specs.Turning.{Doing, Cut, Whole, turning, turn_doing}
+use Rattle.line_editor.specs.Values.{Value, Setting, Effect, Transition, then_do, unchanged}
 use Rattle.line_editor.specs.declared.commands.Status.{Status}
 use Rattle.line_editor.specs.declared.commands.Status.TheVariants.{Proceed, Submit}
 use Rattle.line_editor.specs.declared.renderer as renderers
 use Rattle.line_editor.specs.declared.state.State.{State}
-use Rattle.line_editor.proofs.DoesLemmas.{does_both, does_cut, does_as, setting_stays}
-use Rattle.line_editor.proofs.EnactedLemmas.{as_refused, cut_as, refused_cut}
+use Rattle.line_editor.proofs.ActsLemmas.{redraws_of, rest_of, ring_of, turn_redraws, turn_rest, turn_ring, cut_before, cut_seeing}
+use Rattle.line_editor.proofs.DoesLemmas.{does_both, does_as, setting_stays, stays_both}
+use Rattle.line_editor.proofs.HeardLemmas.{turn_on as early_turn}
+use Rattle.line_editor.proofs.EnactedLemmas.{cut_onward}
 
 -- one turn of a line with fuel
 turned : (n : ℕ) (s : Setting) (custom : Custom) (indent : ℕ) (i : Input) (r : Ring) (info : Option (List ℕ)) (v : Value) (c : Coming)
@@ -34,11 +37,16 @@ turned : (n : ℕ) (s : Setting) (custom : Custom) (indent : ℕ) (i : Input) (r
 unfolding line_from
 turned n s custom indent i r info v c = refl
 
+acts_turned : (n : ℕ) (s : Setting) (custom : Custom) (indent : ℕ) (i : Input) (r : Ring) (v : Value) (c : Coming)
+    → acts_from (suc n) s custom indent i r v c ≡ turn_doing custom indent i r c s v ++ acts_after (acts_from n s custom indent) s (turn_of s custom indent i r v c) (turn_of s custom indent i r v c).outcome
+unfolding acts_from
+acts_turned n s custom indent i r v c = refl
+
 -- a line as one effect
 abbrev effect_of : Told → Effect
 effect_of t = record { value = t.value; redraws = flat_map redraws_in t.turns }
 
-abbrev pub made : Custom → ℕ → Input → Ring → Coming → Edit
+abbrev pub made : Custom → ℕ → Input → Ring → Coming → Transition
 made custom indent i r c a v = (turning custom indent i r c a v).made
 
 -- results that aren't one another
@@ -53,52 +61,47 @@ proceeds e is = let h : ◌≡◌ {A = ℕ} 0 2 = ap status_is is in absurd (ome
 pub submits_not : {Z : Type 0} (e : ReadlineError) → ◌≡◌ {A = Result Status ReadlineError} (Ok Submit) (Err e) → Z
 submits_not e is = let h : ◌≡◌ {A = ℕ} 1 2 = ap status_is is in absurd (omega arith)
 
--- what a turn is followed by
-abbrev more_after : (Input → Ring → Option (List ℕ) → Value → Coming → Told) → Setting → Option (List ℕ) → Turned → Result Status ReadlineError → Edit
-more_after next s info t (Ok Proceed) a v = effect_of (next t.input t.ring (info_after t.made.redraws info) t.made.value t.rest)
-more_after next s info t (Ok Submit) a v = submitted s t.made.value
-more_after next s info t (Err e) a v = record { value = t.made.value; redraws = [] }
-
-more_is : (next : Input → Ring → Option (List ℕ) → Value → Coming → Told) (s : Setting) (info : Option (List ℕ)) (t : Turned) (o : Result Status ReadlineError) (v : Value)
-    → record { value = (more_after next s info t o s v).value; redraws = t.made.redraws ++ (more_after next s info t o s v).redraws } ≡ effect_of (after_turn next s info t o)
-more_is next s info t (Ok Proceed) v = refl
-more_is next s info t (Ok Submit) v =
+-- a turn that accepts the line, with its close
+accepted_is : (next : Input → Ring → Option (List ℕ) → Value → Coming → Told) (s : Setting) (info : Option (List ℕ)) (t : Turned)
+    → record { value = (submitted s t.made.value).value; redraws = t.made.redraws ++ (submitted s t.made.value).redraws } ≡ effect_of (after_turn next s info t (Ok Submit))
+accepted_is next s info t =
     let close = submitted s t.made.value in
     ap (λ (x : List Redraw). record { value = close.value; redraws = x }) (sym (append-nil (t.made.redraws ++ close.redraws)))
-more_is next s info t (Err e) v = refl
 
 module _ {Out H Hi K T : Type 0} {renderer : renderers.Renderer.Ghosts Out} {completer : completions.Completer.Ghosts H K} {candidate : completions.Candidate.Ghosts K}
     {hinter : hints.Hinter.Ghosts H T} {hint : hints.Hint.Ghosts T} {highlighter : highlights.Highlighter.Ghosts H} {validator : verdicts.Validator.Ghosts H} {history : histories.History.Ghosts Hi} where
   -- ---- after an edit that opens
 
-  -- what is left after it is read whole, or cut
-  pub reads_on : {A : Type 0} (steady : Bool) (first : Edit) (line whole : Telling) (x : Sight) (s m t : State Out H Hi K T renderer completer candidate hinter hint highlighter validator history)
-      (ring : Ring) (rest : Coming) (result : Result A ReadlineError) → Does {A = Unit {0}} first s m (Ok (tt {0}))
+  -- what is left after it is read whole
+  pub reads_on : {A : Type 0} (first : Transition) (line whole : Telling) (x : Sight) (s m t : State Out H Hi K T renderer completer candidate hinter hint highlighter validator history) (c2 : Coming) (r2 : Ring) (result : Result A ReadlineError)
       → whole (setting_of s) (value_of s) ≡ opened_by (Open (first (setting_of s) (value_of s)).redraws x) (line (setting_of s) (first (setting_of s) (value_of s)).value)
-      → Reading steady line m t ring rest result → Reading steady whole s t ring rest result
-  reads_on steady first line whole x s m t ring rest result made is (inl read) =
+      → Does {A = Unit {0}} first s m (Ok (tt {0})) → Read line m t r2 c2 result → Read whole s t r2 c2 result
+  reads_on first line whole x s m t c2 r2 result line_is made read =
       let same : line (setting_of m) (value_of m) ≡ line (setting_of s) (first (setting_of s) (value_of s)).value =
       ap (λ a. line a (value_of m)) (setting_stays s m made.stays) ∙ ap (line (setting_of s)) made.value in
-      inl (record {
-        does = does_as (then_do first (edit_of line)) (edit_of whole) s t (Ok (tt {0})) (ap effect_of (sym is))
+      record {
+        does = does_as (then_do first (edit_of line)) (edit_of whole) s t (Ok (tt {0})) (ap effect_of (sym line_is))
             (does_both first (edit_of line) s m t (tt {0}) (Ok (tt {0})) made read.does);
-        outcome_is = read.outcome_is ∙ ap (λ p. p.outcome) same ∙ ap (λ p. p.outcome) (sym is);
-        ring_is = read.ring_is ∙ ap (λ p. p.ring) same ∙ ap (λ p. p.ring) (sym is);
-        rest_is = read.rest_is ∙ ap (λ p. p.rest) same ∙ ap (λ p. p.rest) (sym is);
-      })
-  reads_on {A} steady first line whole x s m t ring rest result made is (inr cut) =
-      inr (cut_as {A = A} {B = A} {C = Unit {0}} steady (edit_of line) (edit_of whole) s m t result result cut cut.result_is
-      (does_as (then_do first (edit_of line)) (edit_of whole) s t (Err Memory) (ap effect_of (sym is))
-      (does_both first (edit_of line) s m t (tt {0}) (Err Memory) made (as_refused steady (edit_of line) m t result cut))))
+        outcome_is = read.outcome_is ∙ ap (λ p. p.outcome) same ∙ ap (λ p. p.outcome) (sym line_is);
+        ring_is = read.ring_is ∙ ap (λ p. p.ring) same ∙ ap (λ p. p.ring) (sym line_is);
+        rest_is = read.rest_is ∙ ap (λ p. p.rest) same ∙ ap (λ p. p.rest) (sym line_is);
+      }
 
-  -- it was refused
-  pub reads_none : {A B : Type 0} (steady : Bool) (first : Edit) (line whole : Telling) (x : Sight) (s t : State Out H Hi K T renderer completer candidate hinter hint highlighter validator history)
-      (ring : Ring) (rest : Coming) (e : ReadlineError) (result : Result A ReadlineError) → result ≡ Err e
-      → whole (setting_of s) (value_of s) ≡ opened_by (Open (first (setting_of s) (value_of s)).redraws x) (line (setting_of s) (first (setting_of s) (value_of s)).value)
-      → Does {A = B} first s t (Err e) → Reading steady whole s t ring rest result
-  reads_none {A} {B} steady first line whole x s t ring rest e result is same refused =
-      inr (refused_cut {A = Unit {0}} {B = A} steady (edit_of whole) s t e result is
-      (does_as (then_do first (edit_of line)) (edit_of whole) s t (Err e) (ap effect_of (sym same)) (does_cut {A = B} {B = Unit {0}} first (edit_of line) s t e refused)))
+  -- or cut
+  pub cut_on : {A : Type 0} (first : Transition) (front : List Act) (acts all : Doing) (s m t : State Out H Hi K T renderer completer candidate hinter hint highlighter validator history) (c c1 c2 : Coming) (r r1 r2 : Ring) (result : Result A ReadlineError)
+      → redraws_of front ≡ (first (setting_of s) (value_of s)).redraws → rest_of c front ≡ c1 → ring_of r front ≡ r1
+      → front ++ acts (setting_of s) (first (setting_of s) (value_of s)).value ≡ all (setting_of s) (value_of s)
+      → Does {A = Unit {0}} first s m (Ok (tt {0})) → Cut acts m t c1 c2 r1 r2 result → Cut all s t c c2 r r2 result
+  cut_on first front acts all s m t c c1 c2 r r1 r2 result redraws_are rest_is ring_is acts_are made cut = record {
+    fault = cut.fault;
+    result_is = cut.result_is;
+    cause = cut.cause;
+    stays = stays_both s m t made.stays cut.stays;
+    done = subst (λ y. CutIn renderer.canvas (renderer.canvas.ruler s.out) cut.fault y s.layout (stage s.out c r) (stage t.out c2 r2)) acts_are
+        (cut_onward front acts first s m (tt {0}) cut.fault c r (stage t.out c2 r2) made redraws_are
+        (subst (λ y. CutIn renderer.canvas (renderer.canvas.ruler m.out) cut.fault (acts (setting_of m) (value_of m)) m.layout y (stage t.out c2 r2))
+        (ap (λ y. stage m.out y r1) (sym rest_is) ∙ ap (stage m.out (rest_of c front)) (sym ring_is)) cut.done));
+  }
 
   -- ---- turns
 
@@ -116,10 +119,9 @@ module _ {Out H Hi K T : Type 0} {renderer : renderers.Renderer.Ghosts Out} {com
         ∙ ap (after_turn (line_from n (setting_of s) custom indent) (setting_of s) info turn_here) (sym is)
 
     -- one that leaves the line open
-    pub turn_on : {A : Type 0} (steady : Bool) (m t : State Out H Hi K T renderer completer candidate hinter hint highlighter validator history) (i' : Input) (r' r2 : Ring) (c' c2 : Coming)
-        (result : Result A ReadlineError) → Whole (turning custom indent i r c) s m r' i' c' (Ok Proceed)
-        → Reading steady (turns_left custom indent i' r' c' n (info_after turn_here.made.redraws info)) m t r2 c2 result → Reading steady line_here s t r2 c2 result
-    turn_on steady m t i' r' r2 c' c2 result whole read =
+    pub turn_read : {A : Type 0} (m t : State Out H Hi K T renderer completer candidate hinter hint highlighter validator history) (i' : Input) (r' r2 : Ring) (c' c2 : Coming) (result : Result A ReadlineError) → Whole (turning custom indent i r c) s m r' i' c' (Ok Proceed)
+        → Read (turns_left custom indent i' r' c' n (info_after turn_here.made.redraws info)) m t r2 c2 result → Read line_here s t r2 c2 result
+    turn_read m t i' r' r2 c' c2 result whole read =
         let stands : Option (List ℕ) = info_after turn_here.made.redraws info in
         let x : Sight = sight_of (setting_of s) turn_here.made.value stands in
         let v : Value = turn_here.made.value in
@@ -128,8 +130,43 @@ module _ {Out H Hi K T : Type 0} {renderer : renderers.Renderer.Ghosts Out} {com
         ap (λ (y : Input). line_from n a custom indent y turn_here.ring stands v turn_here.rest) (sym whole.input_is)
         ∙ ap (λ (y : Ring). line_from n a custom indent i' y stands v turn_here.rest) (sym whole.ring_is)
         ∙ ap (λ (y : Coming). line_from n a custom indent i' r' stands v y) (sym whole.rest_is) in
-        reads_on steady (made custom indent i r c) (turns_left custom indent i' r' c' n stands) line_here x s m t r2 c2 result whole.does
-        (ends_by (Ok Proceed) whole.outcome_is ∙ ap (opened_by (Open turn_here.made.redraws x)) left) read
+        reads_on (made custom indent i r c) (turns_left custom indent i' r' c' n stands) line_here x s m t c2 r2 result
+        (ends_by (Ok Proceed) whole.outcome_is ∙ ap (opened_by (Open turn_here.made.redraws x)) left) whole.does read
+
+    abbrev doing_here : Doing
+    doing_here = turns_doing custom indent i r c (suc n)
+
+    abbrev front_here : List Act
+    front_here = turn_doing custom indent i r c (setting_of s) (value_of s)
+
+    doing_by : (o : Result Status ReadlineError) → o ≡ turn_here.outcome
+        → front_here ++ acts_after (acts_from n (setting_of s) custom indent) (setting_of s) turn_here o ≡ doing_here (setting_of s) (value_of s)
+    doing_by o is = ap (λ x. front_here ++ acts_after (acts_from n (setting_of s) custom indent) (setting_of s) turn_here x) is ∙ sym (acts_turned n (setting_of s) custom indent i r (value_of s) c)
+
+    pub turn_then_cut : {A : Type 0} (m t : State Out H Hi K T renderer completer candidate hinter hint highlighter validator history) (i' : Input) (r' r2 : Ring) (c' c2 : Coming) (result : Result A ReadlineError) → Whole (turning custom indent i r c) s m r' i' c' (Ok Proceed)
+        → Cut (turns_doing custom indent i' r' c' n) m t c' c2 r' r2 result → Cut doing_here s t c c2 r r2 result
+    turn_then_cut m t i' r' r2 c' c2 result whole cut =
+        let v : Value = turn_here.made.value in
+        let a : Setting = setting_of s in
+        let more : acts_from n a custom indent i' r' v c' ≡ acts_from n a custom indent turn_here.input turn_here.ring v turn_here.rest =
+        ap (λ (y : Input). acts_from n a custom indent y r' v c') whole.input_is
+        ∙ ap (λ (y : Ring). acts_from n a custom indent turn_here.input y v c') whole.ring_is
+        ∙ ap (λ (y : Coming). acts_from n a custom indent turn_here.input turn_here.ring v y) whole.rest_is in
+        cut_on (made custom indent i r c) front_here (turns_doing custom indent i' r' c' n) doing_here s m t c c' c2 r r' r2 result
+        (turn_redraws a custom indent i r (value_of s) c) (turn_rest a custom indent i r (value_of s) c ∙ sym whole.rest_is) (turn_ring a custom indent i r (value_of s) c ∙ sym whole.ring_is)
+        (ap (λ y. front_here ++ y) more ∙ doing_by (Ok Proceed) whole.outcome_is) whole.does cut
+
+    -- the same turn over an input of which less is to come after it
+    pub turn_same : (heard rest : Coming) (m : State Out H Hi K T renderer completer candidate hinter hint highlighter validator history) (i' : Input) (r' : Ring) (c' : Coming) (o : Result Status ReadlineError)
+        → turn_of (setting_of s) custom indent i r (value_of s) heard ≡ record turn_here { rest = rest }
+        → Whole (turning custom indent i r c) s m r' i' c' o → Whole (turning custom indent i r heard) s m r' i' rest o
+    turn_same heard rest m i' r' c' o same whole = record {
+      does = does_as (made custom indent i r c) (made custom indent i r heard) s m (Ok (tt {0})) (sym (ap (λ x. x.made) same)) whole.does;
+      outcome_is = whole.outcome_is ∙ sym (ap (λ x. x.outcome) same);
+      ring_is = whole.ring_is ∙ sym (ap (λ x. x.ring) same);
+      input_is = whole.input_is ∙ sym (ap (λ x. x.input) same);
+      rest_is = sym (ap (λ x. x.rest) same);
+    }
 
     -- one that ends the line
     pub turn_ends : {A : Type 0} (t : State Out H Hi K T renderer completer candidate hinter hint highlighter validator history) (i' : Input) (r' : Ring) (c' : Coming) (e : ReadlineError)
@@ -145,20 +182,23 @@ module _ {Out H Hi K T : Type 0} {renderer : renderers.Renderer.Ghosts Out} {com
         }
 
     -- one that a fault cut
-    pub turn_cut : {A B : Type 0} (steady : Bool) (t : State Out H Hi K T renderer completer candidate hinter hint highlighter validator history) (q : Result B ReadlineError)
-        (result : Result A ReadlineError) (cut : Cut steady (made custom indent i r c) s t q) → result ≡ Err cut.fault → Cut steady (edit_of line_here) s t result
-    turn_cut {A} {B} steady t q result cut is =
-        let more : Edit = more_after (line_from n (setting_of s) custom indent) (setting_of s) info turn_here turn_here.outcome in
-        cut_as {A = B} {B = A} {C = Unit {0}} steady (made custom indent i r c) (edit_of line_here) s s t q result cut is
-        (does_as (then_do (made custom indent i r c) more) (edit_of line_here) s t (Err Memory)
-        (more_is (line_from n (setting_of s) custom indent) (setting_of s) info turn_here turn_here.outcome turn_here.made.value ∙ ap effect_of (sym (ends_by turn_here.outcome refl)))
-        (does_cut {A = Unit {0}} {B = Unit {0}} (made custom indent i r c) more s t Memory (as_refused steady (made custom indent i r c) s t q cut)))
+    pub turn_cut : {A B : Type 0} (t : State Out H Hi K T renderer completer candidate hinter hint highlighter validator history) (c' : Coming) (r' : Ring) (q : Result B ReadlineError)
+        (result : Result A ReadlineError) (cut : Cut (turn_doing custom indent i r c) s t c c' r r' q) → result ≡ Err cut.fault → Cut doing_here s t c c' r r' result
+    turn_cut t c' r' q result cut is = record {
+      fault = cut.fault;
+      result_is = is;
+      cause = cut.cause;
+      stays = cut.stays;
+      done = subst (λ y. CutIn renderer.canvas (renderer.canvas.ruler s.out) cut.fault y s.layout (stage s.out c r) (stage t.out c' r')) (doing_by turn_here.outcome refl)
+          (cut_before renderer.canvas (renderer.canvas.ruler s.out) cut.fault front_here (acts_after (acts_from n (setting_of s) custom indent) (setting_of s) turn_here turn_here.outcome)
+          s.layout (stage s.out c r) (stage t.out c' r') cut.done);
+    }
 
     module _ (m : State Out H Hi K T renderer completer candidate hinter hint highlighter validator history) (i' : Input) (r' : Ring) (c' : Coming)
         (whole : Whole (turning custom indent i r c) s m r' i' c' (Ok Submit)) where
       -- the line, with its close
       closed_same : then_do (made custom indent i r c) submitted (setting_of s) (value_of s) ≡ edit_of line_here (setting_of s) (value_of s)
-      closed_same = more_is (line_from n (setting_of s) custom indent) (setting_of s) info turn_here (Ok Submit) turn_here.made.value ∙ ap effect_of (sym (ends_by (Ok Submit) whole.outcome_is))
+      closed_same = accepted_is (line_from n (setting_of s) custom indent) (setting_of s) info turn_here ∙ ap effect_of (sym (ends_by (Ok Submit) whole.outcome_is))
 
       -- one that accepts the line
       pub turn_accepts : {A : Type 0} (x : A) (t : State Out H Hi K T renderer completer candidate hinter hint highlighter validator history)
@@ -174,8 +214,47 @@ module _ {Out H Hi K T : Type 0} {renderer : renderers.Renderer.Ghosts Out} {com
           }
 
       -- the close was refused
-      pub close_cut : {A B : Type 0} (steady : Bool) (t : State Out H Hi K T renderer completer candidate hinter hint highlighter validator history) (e : ReadlineError)
-          (result : Result A ReadlineError) → result ≡ Err e → Does {A = B} submitted m t (Err e) → Cut steady (edit_of line_here) s t result
-      close_cut {A} {B} steady t e result is refused =
-          refused_cut {A = B} {B = A} steady (edit_of line_here) s t e result is
-          (does_as (then_do (made custom indent i r c) submitted) (edit_of line_here) s t (Err e) closed_same (does_both (made custom indent i r c) submitted s m t (tt {0}) (Err e) whole.does refused))
+      pub close_cut : {A B : Type 0} (t : State Out H Hi K T renderer completer candidate hinter hint highlighter validator history) (e : ReadlineError)
+          (result : Result A ReadlineError) → result ≡ Err e → Does {A = B} submitted m t (Err e) → Cut doing_here s t c c' r r' result
+      close_cut {A} {B} t e result is refused =
+          let closing : Doing = λ a v. Sees (submitted a v).redraws ∷ [] in
+          record {
+            fault = e;
+            result_is = is;
+            cause = refused.reason;
+            stays = stays_both s m t whole.does.stays refused.stays;
+            done = subst (λ y. CutIn renderer.canvas (renderer.canvas.ruler s.out) e y s.layout (stage s.out c r) (stage t.out c' r')) (doing_by (Ok Submit) whole.outcome_is)
+                (cut_onward front_here closing (made custom indent i r c) s m (tt {0}) e c r (stage t.out c' r') whole.does (turn_redraws (setting_of s) custom indent i r (value_of s) c)
+                (subst (λ y. CutIn renderer.canvas (renderer.canvas.ruler m.out) e (closing (setting_of m) (value_of m)) m.layout y (stage t.out c' r'))
+                (ap (λ y. stage m.out y r') (whole.rest_is ∙ sym (turn_rest (setting_of s) custom indent i r (value_of s) c))
+                ∙ ap (stage m.out (rest_of c front_here)) (whole.ring_is ∙ sym (turn_ring (setting_of s) custom indent i r (value_of s) c)))
+                (cut_seeing renderer.canvas (renderer.canvas.ruler m.out) e (submitted (setting_of m) (value_of m)).redraws [] m.layout m.out t.out c' r' refused.begun)));
+          }
+
+  -- ---- over what was heard
+
+  pub turn_on : {A : Type 0} (custom : Custom) (indent : ℕ) (i : Input) (r : Ring) (c : Coming) (n : ℕ) (info : Option (List ℕ)) (s : State Out H Hi K T renderer completer candidate hinter hint highlighter validator history)
+      (steady : Bool) (m t : State Out H Hi K T renderer completer candidate hinter hint highlighter validator history) (i' : Input) (r' r2 : Ring) (c' c2 : Coming) (result : Result A ReadlineError)
+      → Whole (turning custom indent i r c) s m r' i' c' (Ok Proceed)
+      → Reading steady (λ heard. turns_left custom indent i' r' heard n (info_after (turning custom indent i r c (setting_of s) (value_of s)).made.redraws info))
+      (turns_doing custom indent i' r' c' n) m t c' c2 r' r2 result
+      → Reading steady (λ heard. turns_left custom indent i r heard (suc n) info) (turns_doing custom indent i r c (suc n)) s t c c2 r r2 result
+  turn_on custom indent i r c n info s steady m t i' r' r2 c' c2 result whole (inr cut) = inr (turn_then_cut custom indent i r c n info s m t i' r' r2 c' c2 result whole cut)
+  turn_on custom indent i r c n info s steady m t i' r' r2 c' c2 result whole (inl (heard, inl same, read)) =
+      let stands : Option (List ℕ) = info_after (turning custom indent i r c (setting_of s) (value_of s)).made.redraws info in
+      inl (
+        c,
+        inl refl,
+        turn_read custom indent i r c n info s m t i' r' r2 c' c2 result whole
+            (subst (λ y. Read (turns_left custom indent i' r' y n stands) m t r2 c2 result) same read),
+      )
+  turn_on custom indent i r c n info s steady m t i' r' r2 c' c2 result whole (inl (heard, inr (unsteady, early, is), read)) =
+      let u : Turned = turning custom indent i r c (setting_of s) (value_of s) in
+      let on = early_turn (setting_of s) indent r heard custom i (value_of s) c Proceed (sym whole.outcome_is) (subst (Early heard) whole.rest_is early) in
+      inl (
+        on.0,
+        inr (unsteady, on.1, is),
+        turn_read custom indent i r on.0 n info s m t i' r' r2 heard c2 result
+            (turn_same custom indent i r c n info s on.0 heard m i' r' c' (Ok Proceed) on.2 whole)
+            (subst (λ y. Read (turns_left custom indent i' r' heard n (info_after y info)) m t r2 c2 result) (sym (ap (λ x. x.made.redraws) on.2)) read),
+      )

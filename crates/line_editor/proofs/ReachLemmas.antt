@@ -10,8 +10,8 @@ use Rattle.line_buffer.specs.Transpositions.{transpose_chars_events, transpose_c
 use Rattle.line_buffer.specs.declared.types.Movement.{Movement}
 use Rattle.line_buffer.proofs.ReplayedLemmas.{update_replayed, insert_replayed, yank_replayed, indent_replayed}
 use Rattle.line_buffer.proofs.SpanLemmas as spans
-use Rattle.line_edits.specs.Edits.{typed, yanked, updated, killed, chars_transposed, indented}
-use Rattle.line_edits.specs.Written.{Written, edited, opened, grouped as in_group}
+use Rattle.line_edits.specs.Edits.{char_typed, text_yanked, updated, range_killed, chars_transposed, indented}
+use Rattle.line_edits.specs.Written.{Written, edited, group_opened, in_group}
 use Rattle.line_record.specs.Edit.{Edit}
 use Rattle.line_record.specs.Held.{Held, change_of, joined_to, stepped, stepped_on, stepped_if, has_mark, closes, grouped, ended, line_back}
 use Rattle.line_record.specs.Held.Held.{Opened, Stepped}
@@ -93,14 +93,14 @@ pub edit_reaches : (events : List Event) (l : Line) (w : Written) (first : List 
     → Reaches first (edited events l w).held (edited events l w).line.text
 edit_reaches events l w first e r = subst (Reaches first (recorded_all events w.line.text w.held)) (sym e) (events_reach events first w.line.text w.held r)
 
-pub group_reaches : (edit : Written → Written) (w : Written) (first : List ℕ) → (Reaches first (opened w).held w.line.text → Reaches first (edit (opened w)).held (edit (opened w)).line.text)
+pub group_reaches : (edit : Written → Written) (w : Written) (first : List ℕ) → (Reaches first (group_opened w).held w.line.text → Reaches first (edit (group_opened w)).held (edit (group_opened w)).line.text)
     → Reaches first w.held w.line.text → Reaches first (in_group edit w).held (in_group edit w).line.text
-group_reaches edit w first h r = ended_reaches first (edit (opened w)).held (edit (opened w)).line.text (h (refl, r))
+group_reaches edit w first h r = ended_reaches first (edit (group_opened w)).held (edit (group_opened w)).line.text (h (refl, r))
 
-pub typing_reaches : (c n : ℕ) (w : Written) (first : List ℕ) → Reaches first w.held w.line.text → Reaches first (typed c n w).held (typed c n w).line.text
+pub typing_reaches : (c n : ℕ) (w : Written) (first : List ℕ) → Reaches first w.held w.line.text → Reaches first (char_typed c n w).held (char_typed c n w).line.text
 typing_reaches c n w first r = edit_reaches (insertion c n w.line).events (insertion c n w.line).line w first (sym (insert_replayed c n w.line)) r
 
-pub yanking_reaches : (text : List ℕ) (n : ℕ) (w : Written) (first : List ℕ) → Reaches first w.held w.line.text → Reaches first (yanked text n w).held (yanked text n w).line.text
+pub yanking_reaches : (text : List ℕ) (n : ℕ) (w : Written) (first : List ℕ) → Reaches first w.held w.line.text → Reaches first (text_yanked text n w).held (text_yanked text n w).line.text
 yanking_reaches text n w first r = edit_reaches (yanked_in text n w.line).events (yanked_in text n w.line).line w first (sym (yank_replayed text n w.line)) r
 
 pub updating_reaches : (text : List ℕ) (place : ℕ) (w : Written) (first : List ℕ) → Reaches first w.held w.line.text → Reaches first (updated text place w).held (updated text place w).line.text
@@ -112,7 +112,7 @@ indenting_reaches movement amount dedent w first r =
     edit_reaches (indent_events movement amount dedent w.line) (indent_line movement amount dedent w.line) w first (sym (indent_replayed movement amount dedent w.line)) r
 
 pub killing_reaches : (movement : Movement) (w : Written) (first : List ℕ) → IsUtf8 w.line.text → IsCharBoundary w.line.text w.line.place → Reaches first w.held w.line.text
-    → Reaches first (killed movement w).held (killed movement w).line.text
+    → Reaches first (range_killed movement w).held (range_killed movement w).line.text
 killing_reaches movement w first u b r = edit_reaches (kill_events movement w.line) (kill_line movement w.line) w first (sym (spans.kill_replays w.line u b movement)) r
 
 pub transposing_reaches : (w : Written) (first : List ℕ) → IsUtf8 w.line.text → IsCharBoundary w.line.text w.line.place → Reaches first w.held w.line.text

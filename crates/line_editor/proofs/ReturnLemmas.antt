@@ -19,8 +19,8 @@ use Rattle.line_buffer.specs.declared.types.At.TheVariants.{Start}
 use Rattle.line_buffer.specs.declared.types.Word.TheVariants.{Big}
 use Rattle.line_buffer.specs.declared.types.WordAction.{WordAction}
 use Rattle.line_buffer.specs.declared.types.WordAction.TheVariants.{Capitalize, Lowercase, Uppercase}
-use Rattle.line_edits.specs.Edits.{yanked, transpose_chars_in_group, transpose_words_in_group, edit_word_in_group}
-use Rattle.line_edits.specs.Written.{opened, closed}
+use Rattle.line_edits.specs.Edits.{text_yanked, transpose_chars_in_group, transpose_words_in_group, edit_word_in_group}
+use Rattle.line_edits.specs.Written.{group_opened, group_closed}
 use Rattle.line_help.specs.Hints.{Hinted}
 use Rattle.line_help.specs.History.{begins_with_space}
 use Rattle.line_help.specs.Search.{Hit}
@@ -41,13 +41,13 @@ use Rattle.line_editor.specs.Commands.{Means, in_vi_command, effect}
 use Rattle.line_editor.specs.Hinting.{at_row_end, completed_by, complete_by}
 use Rattle.line_editor.specs.Inserting.{insert_char}
 use Rattle.line_editor.specs.Killing.{kill, insert_text_if}
-use Rattle.line_editor.specs.Moving.{stepped, to_found, to_place, move_home, move_to_next_word, move_to_first_print, move_by}
-use Rattle.line_editor.specs.Remembering.{saved_now, leaving, recall, come_back as back_at_end, history_step, history_end}
-use Rattle.line_editor.specs.Returns.{Step, after_step, after_steps, leaving_by, is_search, searches, Away, StaysAway, ComesBack}
-use Rattle.line_editor.specs.Returns.Step.{Done, Asked}
+use Rattle.line_editor.specs.Moving.{cursor_moved_if, to_found, to_place, move_home, move_to_next_word, move_to_first_print, move_by}
+use Rattle.line_editor.specs.Remembering.{saved_now, saved_on_leaving, recall, come_back as back_at_end, history_step, history_end}
+use Rattle.line_editor.specs.Returns.{ValueStep, value_after, value_after_all, leaving_by, is_search, searches, Away, StaysAway, ComesBack}
+use Rattle.line_editor.specs.Returns.ValueStep.{Done, Asked}
 use Rattle.line_editor.specs.Rewording.{refreshed_if, edit_word}
 use Rattle.line_editor.specs.Values.{Value, Setting, Effect, Saved, then_do, rewritten, at_line}
-use Rattle.line_editor.specs.Yanking.{anchored, steps, behind_yank, yanked_by, yank, yank_lent, pop_lent}
+use Rattle.line_editor.specs.Yanking.{anchored, steps, behind_yank, yanked_by, yank_text, yank_lent, pop_lent}
 
 -- ---- what keeps the place and the saved line
 
@@ -71,7 +71,7 @@ kept h k = record { saved = h; history = k }
 insertion_keeps : (c n : ℕ) (s : Setting) (v : Value) → Keeps v (insert_char c n s v).value
 insertion_keeps c n s v = either v (is_some (insertion c n v.line).answer) _ _ (kept refl refl) (kept refl refl)
 
-step_keeps : (kind : CmdKind) (moves : Bool) (l : Line) (s : Setting) (v : Value) → Keeps v (stepped kind moves l s v).value
+step_keeps : (kind : CmdKind) (moves : Bool) (l : Line) (s : Setting) (v : Value) → Keeps v (cursor_moved_if kind moves l s v).value
 step_keeps kind moves l s v = either v moves _ _ (kept refl refl) (kept refl refl)
 
 found_keeps : (o : Option ℕ) (s : Setting) (v : Value) → Keeps v (to_found o s v).value
@@ -116,10 +116,10 @@ yanked_keeps : (b : Bool) (v u w : Value) → Keeps v u → Keeps v w → Keeps 
 yanked_keeps true v u w h k = h
 yanked_keeps false v u w h k = k
 
-yank_keeps : (vi : Bool) (text : List ℕ) (anchor : Anchor) (n : ℕ) (s : Setting) (v : Value) → Keeps v (yank vi text anchor n s v).value
+yank_keeps : (vi : Bool) (text : List ℕ) (anchor : Anchor) (n : ℕ) (s : Setting) (v : Value) → Keeps v (yank_text vi text anchor n s v).value
 yank_keeps vi text anchor n s v =
     let before = at_line (anchored anchor v.line) v in
-    let w = rewritten (yanked text n) before in
+    let w = rewritten (text_yanked text n) before in
     let h : Keeps v (yanked_by vi text n before) = yanked_keeps (is_some (yanked_in text n before.line).answer) v (at_line (behind_yank vi w.line) w) w (kept refl refl) (kept refl refl) in
     either v (is_some (yanked_in text n before.line).answer || steps anchor v.line) _ _ (kept h.saved h.history) h
 
@@ -144,7 +144,7 @@ verdict_keeps (Valid text) draws s v w h = told_keeps draws text ForcedRefresh s
 
 validate_keeps : (judge : Option (List ℕ → ValidationResult)) (s : Setting) (v : Value) → Keeps v (validate_by judge s v).value
 validate_keeps None s v = same v
-validate_keeps (Some judge) s v = verdict_keeps (judge v.line.text) (closes v.held || is_some v.hint) s v (rewritten (λ w. closed (opened w)) v) (kept refl refl)
+validate_keeps (Some judge) s v = verdict_keeps (judge v.line.text) (closes v.held || is_some v.hint) s v (rewritten (λ w. group_closed (group_opened w)) v) (kept refl refl)
 
 bare_keeps : (s : Setting) (v : Value) → Keeps v (bare s v).value
 bare_keeps s v = kept refl refl
@@ -230,7 +230,7 @@ next_below a b h e = by_less (nat_lt (a + 1) b) refl
     by_less false k = let least = ltb-false (a + 1) b k in absurd (eqb-false (a + 1) b e (omega (arith, h, least)))
 
 left_held : (place : ℕ) (o : Option Hit) (s : Setting) (text : List ℕ) (at : ℕ) (v : Value) → place < length s.entries → Held s text at v → Away s v
-    → Held s text at (recall place o s (leaving s v)).value
+    → Held s text at (recall place o s (saved_on_leaving s v)).value
 left_held place o s text at v below h away =
     subst (λ w. Held s text at (recall place o s w).value) (sym (not_left v (v.history == length s.entries) (off_end v.history (length s.entries) _ refl away.place)))
     (recall_held place o s text at v below (h.saved away.place) away.place)
@@ -310,13 +310,13 @@ ask_keeps (Prompted prompt) s v = kept refl refl
 ask_keeps DoingInsert s v = kept refl refl
 ask_keeps DoneInserting s v = kept refl refl
 
-step_held : (step : Step) (s : Setting) (text : List ℕ) (at : ℕ) (v : Value) → searches step ≡ false → at ≤ length text → Held s text at v → Away s v → Held s text at (after_step s step v)
+step_held : (step : ValueStep) (s : Setting) (text : List ℕ) (at : ℕ) (v : Value) → searches step ≡ false → at ≤ length text → Held s text at v → Away s v → Held s text at (value_after s step v)
 step_held (Done m cmd) s text at v quiet inside h away = command_held m cmd s text at v quiet inside h away
 step_held (Asked ask) s text at v quiet inside h away = keeps_held s text at v (ask_effect ask s v).value h away (ask_keeps ask s v)
 
-all_held : (steps : List Step) (s : Setting) (text : List ℕ) (at : ℕ) (v : Value) → at ≤ length text → Held s text at v → StaysAway s steps v → Held s text at (after_steps s steps v)
+all_held : (steps : List ValueStep) (s : Setting) (text : List ℕ) (at : ℕ) (v : Value) → at ≤ length text → Held s text at v → StaysAway s steps v → Held s text at (value_after_all s steps v)
 all_held [] s text at v inside h stays = h
-all_held (step ∷ steps) s text at v inside h stays = all_held steps s text at (after_step s step v) inside (step_held step s text at v stays.1 inside h stays.0) stays.2
+all_held (step ∷ steps) s text at v inside h stays = all_held steps s text at (value_after s step v) inside (step_held step s text at v stays.1 inside h stays.0) stays.2
 
 -- ---- leaving
 
@@ -327,7 +327,7 @@ saved_held place (Some hit) s v there below = record { saved = (λ h. refl); lin
 start_held : (s : Setting) (v : Value) → v.history ≡ length s.entries → Held s v.line.text v.line.place v
 start_held s v there = record { saved = (λ h. absurd (omega (arith, there, h))); line = (λ h. (refl, refl)) }
 
-leave_held : (place : ℕ) (o : Option Hit) (s : Setting) (v : Value) → v.history ≡ length s.entries → place < length s.entries → Held s v.line.text v.line.place (recall place o s (leaving s v)).value
+leave_held : (place : ℕ) (o : Option Hit) (s : Setting) (v : Value) → v.history ≡ length s.entries → place < length s.entries → Held s v.line.text v.line.place (recall place o s (saved_on_leaving s v)).value
 leave_held place o s v there below =
     subst (λ w. Held s v.line.text v.line.place (recall place o s w).value) (sym (now_left v (v.history == length s.entries) (same_place v.history (length s.entries) there))) (saved_held place o s v there below)
   where

@@ -12,23 +12,23 @@ use Rattle.line_keys.specs.declared.command.CmdKind.TheVariants.{MoveCursor}
 use Rattle.line_buffer.specs.Line.{moved_to}
 use Rattle.line_editor.specs.Calls.{Begun}
 use Rattle.line_editor.specs.Commands.{line_up_or_previous, line_down_or_next}
-use Rattle.line_editor.specs.Moving.{stepped, to_found, move_line_up, move_line_down}
+use Rattle.line_editor.specs.Moving.{cursor_moved_if, to_found, move_line_up, move_line_down}
 use Rattle.line_editor.specs.Redraws.{asked, Redraw}
 use Rattle.line_editor.specs.Remembering.{history_step}
 use Rattle.line_editor.specs.States.{value_of, setting_of, Does}
-use Rattle.line_editor.specs.Values.{Edit}
+use Rattle.line_editor.specs.Values.{Transition}
 use Rattle.line_editor.specs.declared.renderer as renderers
 use Rattle.line_editor.specs.declared.state.State.{State}
 use Rattle.line_editor.proofs.BegunLemmas.{begun_none}
 use Rattle.line_editor.proofs.DoesLemmas.{does_as, is_err}
 
-abbrev either : Bool → Edit → Edit → Edit
+abbrev either : Bool → Transition → Transition → Transition
 either b edit other s v = if b then edit s v else other s v
 
 module _ {Out H Hi K T : Type 0} {renderer : renderers.Renderer.Ghosts Out} {completer : completions.Completer.Ghosts H K} {candidate : completions.Candidate.Ghosts K}
     {hinter : hints.Hinter.Ghosts H T} {hint : hints.Hint.Ghosts T} {highlighter : highlights.Highlighter.Ghosts H} {validator : verdicts.Validator.Ghosts H} {history : histories.History.Ghosts Hi} where
   -- a motion that asked for nothing was refused before anything was asked
-  unmoved : {A B : Type 0} (edit other : Edit) (s t : State Out H Hi K T renderer completer candidate hinter hint highlighter validator history) (e : ReadlineError)
+  unmoved : {A B : Type 0} (edit other : Transition) (s t : State Out H Hi K T renderer completer candidate hinter hint highlighter validator history) (e : ReadlineError)
       → (edit (setting_of s) (value_of s)).redraws ≡ [] → Does {A = A} edit s t (Err e) → Does {A = B} other s t (Err e)
   unfolding Begun
   unmoved edit other s t e none h = record {
@@ -41,15 +41,15 @@ module _ {Out H Hi K T : Type 0} {renderer : renderers.Renderer.Ghosts Out} {com
         (subst (λ (xs : List Redraw). Begun renderer.canvas (asked (renderer.canvas.ruler s.out) s.layout xs).calls s.out t.out) none h.begun);
   }
 
-  either_cut : {A B : Type 0} (b : Bool) (edit other : Edit) (s t : State Out H Hi K T renderer completer candidate hinter hint highlighter validator history) (e : ReadlineError)
+  either_cut : {A B : Type 0} (b : Bool) (edit other : Transition) (s t : State Out H Hi K T renderer completer candidate hinter hint highlighter validator history) (e : ReadlineError)
       → (b ≡ false → (edit (setting_of s) (value_of s)).redraws ≡ []) → Does {A = A} edit s t (Err e) → Does {A = B} (either b edit other) s t (Err e)
   either_cut true edit other s t e none h = record { value = tt; calls = tt; layout = tt; stays = h.stays; reason = h.reason; begun = h.begun }
   either_cut {A} {B} false edit other s t e none h = unmoved {A = A} {B = B} edit (either false edit other) s t e (none refl) h
 
-  rows_cut : {A B : Type 0} (found : Option ℕ) (other : Edit) (s t : State Out H Hi K T renderer completer candidate hinter hint highlighter validator history) (e : ReadlineError)
+  rows_cut : {A B : Type 0} (found : Option ℕ) (other : Transition) (s t : State Out H Hi K T renderer completer candidate hinter hint highlighter validator history) (e : ReadlineError)
       → Does {A = A} (to_found found) s t (Err e) → Does {A = B} (either (is_some found) (to_found found) other) s t (Err e)
   rows_cut {A} {B} found other s t e h = either_cut {A = A} {B = B} (is_some found) (to_found found) other s t e
-      (λ none. ap (λ (b : Bool). (stepped MoveCursor b (moved_to found (value_of s).line) (setting_of s) (value_of s)).redraws) none) h
+      (λ none. ap (λ (b : Bool). (cursor_moved_if MoveCursor b (moved_to found (value_of s).line) (setting_of s) (value_of s)).redraws) none) h
 
   pub up_cut : {A B : Type 0} (n : ℕ) (s t : State Out H Hi K T renderer completer candidate hinter hint highlighter validator history) (e : ReadlineError) (r : Result B ReadlineError)
       → IsErrAnd r (λ x. x ≡ e) → Does {A = A} (move_line_up n) s t (Err e) → Does (line_up_or_previous n) s t r

@@ -1,6 +1,6 @@
 -- A whole line.
 use Rattle.std.proofs.Common.{◌≡◌, ◌⊎◌, inl, inr, ℕ, suc, ◌<◌, Bool, List, refl, sym, ap, subst, ◌∙◌, IsTrue, arith, le_refl}
-use Rattle.std.specs.Prelude.{⊤, Option, Some, None, option_map, Result, Ok, Err, length, flat_map, string_bytes, IsFalse, IsSomeAnd, IfErr, OnOk}
+use Rattle.std.specs.Prelude.{⊤, Option, Some, None, option_map, Result, Ok, Err, length, flat_map, string_bytes, IsSomeAnd, IfErr, OnOk}
 use Rattle.std.specs.List.{FoldsTo}
 use Rattle.line_config.specs.declared.config.Config.{Config}
 use Rattle.line_config.specs.declared.errors.ReadlineError.{ReadlineError}
@@ -14,36 +14,43 @@ use Rattle.line_help.specs.declared.validate.ValidationResult.{ValidationResult}
 use Rattle.line_help.specs.declared.history as histories
 use Rattle.line_keys.specs.Answers.{Custom}
 use Rattle.line_keys.specs.Coming.{Coming, made_of}
-use Rattle.line_keys.specs.Feeds.{Feed}
+use Rattle.line_keys.specs.Early.{Heard}
+use Rattle.line_keys.specs.Feeds.{KeyFeed}
 use Rattle.line_keys.specs.InputStates.{new_input}
 use Rattle.line_keys.specs.Phrases.{Input}
 use Rattle.line_keys.specs.declared.command.CmdKind.{CmdKind}
 use Rattle.line_record.specs.Ring.{Ring}
-use Rattle.line_editor.specs.Calls.{Canvas, Begun}
+use Rattle.line_editor.specs.Acts.{Act, acts_of, stage, CutIn}
+use Rattle.line_editor.specs.Calls.{Canvas}
 use Rattle.line_editor.specs.Courses.{redraws_in}
 use Rattle.line_editor.specs.Lines.{Told, line_of}
-use Rattle.line_editor.specs.Reading.{Telling, drawn_and_turned, edit_of, text_or, Read, Reading, ReadsLine}
-use Rattle.line_editor.specs.Redraws.{asked}
-use Rattle.line_editor.specs.Running.{Helping, HelperFails, helping_by, setting_by, line_meant, line_calls, outcome_of, WholeLine, CutLine, Runs}
+use Rattle.line_editor.specs.Reading.{Telling, drawn_and_turned, line_doing, text_or, Read, Reading, ReadsLine}
+use Rattle.line_editor.specs.Redraws.{asked, fresh}
+use Rattle.line_editor.specs.Running.{Helping, HelperFails, helping_by, setting_by, line_meant, acts_meant, line_calls, outcome_of, WholeLine, CutLine, Runs}
 use Rattle.line_editor.specs.Starts.{empty_at, first_value, Starts}
 use Rattle.line_editor.specs.States.{value_of, setting_of, reason_of, HookFails, Reason, Stays}
-use Rattle.line_editor.specs.Turning.{Cut, cause_of, Cause}
+use Rattle.line_editor.specs.Turning.{Doing, HeardBy, Cut, cause_of, Cause}
 use Rattle.line_editor.specs.Values.{Setting}
 use Rattle.line_editor.specs.declared.ran.Ran.{Ran}
 use Rattle.line_editor.specs.declared.renderer as renderers
 use Rattle.line_editor.specs.declared.state.State.{State}
-use Rattle.line_editor.proofs.BegunLemmas.{begun_none}
+use Rattle.line_editor.proofs.ActsLemmas.{cut_none}
 
 -- no memory for a line, and nothing was read or drawn
 pub not_begun : {R H K T : Type 0} (canvas : Canvas R) (helps : Option H → Helping) (custom : Custom) (prompt : List ℕ) (helper : Option H) (entries : List (List ℕ)) (config : Config) (out : R)
-    (ring : Ring) (feed : Feed) → Runs {K = K} {T = T} canvas helps custom prompt helper entries config out ring feed (record { out = out; helper = helper; outcome = Err Memory }) ring feed
+    (ring : Ring) (feed : KeyFeed) → Runs {K = K} {T = T} canvas helps custom prompt helper entries config out ring feed (record { out = out; helper = helper; outcome = Err Memory }) ring feed
 not_begun canvas helps custom prompt helper entries config out ring feed = record {
-  goes = λ told n h. inr (record {
-    fault = Memory;
-    outcome_is = refl;
-    cause = inl tt;
-    begun = begun_none canvas (line_calls (canvas.ruler out) (line_meant n (setting_by (canvas.ruler out) prompt (helps helper) entries) custom config ring feed.coming).turns) out out refl;
-  });
+  goes = λ told n h. (
+    feed.coming,
+    inl refl,
+    inr (record {
+      fault = Memory;
+      outcome_is = refl;
+      cause = tt;
+      done = cut_none canvas (canvas.ruler out) Memory (acts_meant n (setting_by (canvas.ruler out) prompt (helps helper) entries) custom config ring feed.coming) (fresh (canvas.ruler out).mode)
+          (stage out feed.coming ring) (stage out feed.coming ring) refl;
+    }),
+  );
   told = λ told. told;
   steady = refl;
   keeps = le_refl feed.bound;
@@ -54,7 +61,7 @@ not_begun canvas helps custom prompt helper entries config out ring feed = recor
 }
 
 pub not_begun_by : {R H K T : Type 0} (canvas : Canvas R) (helps : Option H → Helping) (custom : Custom) (prompt : List ℕ) (helper : Option H) (entries : List (List ℕ)) (config : Config) (out : R)
-    (ring : Ring) (feed : Feed) (ran : Ran R H K T) → ran ≡ record { out = out; helper = helper; outcome = Err Memory } → Runs canvas helps custom prompt helper entries config out ring feed ran ring feed
+    (ring : Ring) (feed : KeyFeed) (ran : Ran R H K T) → ran ≡ record { out = out; helper = helper; outcome = Err Memory } → Runs canvas helps custom prompt helper entries config out ring feed ran ring feed
 not_begun_by {K = K} {T = T} canvas helps custom prompt helper entries config out ring feed ran is =
     subst (λ x. Runs canvas helps custom prompt helper entries config out ring feed x ring feed) (sym is) (not_begun {K = K} {T = T} canvas helps custom prompt helper entries config out ring feed)
 
@@ -99,7 +106,7 @@ reason_to b c P Q Lines same go why = why
 reason_to b c P Q HistoryText same go why = why
 reason_to b c P Q Handler same go why = why
 
-cause_to : (custom : Custom) (b c : Bool) (P Q : Type 0) (feed : Feed) (e : ReadlineError) → b ≡ c → (P → Q) → cause_of custom b P feed e → cause_of custom c Q feed e
+cause_to : (custom : Custom) (b c : Bool) (P Q : Type 0) (feed : KeyFeed) (e : ReadlineError) → b ≡ c → (P → Q) → cause_of custom b P feed e → cause_of custom c Q feed e
 cause_to custom b c P Q feed Display same go why = subst IsTrue same why
 cause_to custom b c P Q feed Helper same go why = go why
 cause_to custom b c P Q feed Memory same go why = why
@@ -121,6 +128,11 @@ meant : (custom : Custom) (config : Config) (ring : Ring) (c : Coming) (n : ℕ)
     → drawn_and_turned custom config.indent_size (new_input config.edit_mode) ring c n none s (first_value s) ≡ line_meant n s custom config ring c
 unfolding line_of
 meant custom config ring c n none s = refl
+
+acts_are_meant : (custom : Custom) (config : Config) (ring : Ring) (c : Coming) (n : ℕ) (s : Setting)
+    → line_doing custom config.indent_size (new_input config.edit_mode) ring c n s (first_value s) ≡ acts_meant n s custom config ring c
+unfolding acts_of
+acts_are_meant custom config ring c n s = refl
 
 module _ {Out H Hi K T : Type 0} {renderer : renderers.Renderer.Ghosts Out} {completer : completions.Completer.Ghosts H K} {candidate : completions.Candidate.Ghosts K}
     {hinter : hints.Hinter.Ghosts H T} {hint : hints.Hint.Ghosts T} {highlighter : highlights.Highlighter.Ghosts H} {validator : verdicts.Validator.Ghosts H} {history : histories.History.Ghosts Hi} where
@@ -145,16 +157,16 @@ module _ {Out H Hi K T : Type 0} {renderer : renderers.Renderer.Ghosts Out} {com
       ∙ ap (λ x. helping (option_map hinter.hint_of s.helper) (option_map hinter.fails s.helper) (option_map validator.verdict_of s.helper) (option_map validator.validating_fails s.helper) x) h.marks_are
 
   -- bindings that stayed
-  pub same_reads : {A : Type 0} (kept custom : Custom) (indent : ℕ) (i : Input) (ring ring' : Ring) (s t : State Out H Hi K T renderer completer candidate hinter hint highlighter validator history) (feed feed' : Feed)
-      (result : Result A ReadlineError) → kept ≡ custom → ReadsLine kept (drawn_and_turned kept indent i ring feed.coming) s feed t ring' feed' result
-      → ReadsLine custom (drawn_and_turned custom indent i ring feed.coming) s feed t ring' feed' result
+  pub same_reads : {A : Type 0} (kept custom : Custom) (indent : ℕ) (i : Input) (ring ring' : Ring) (s t : State Out H Hi K T renderer completer candidate hinter hint highlighter validator history) (feed feed' : KeyFeed)
+      (result : Result A ReadlineError) → kept ≡ custom → ReadsLine kept (drawn_and_turned kept indent i ring) (line_doing kept indent i ring feed.coming) s ring feed t ring' feed' result
+      → ReadsLine custom (drawn_and_turned custom indent i ring) (line_doing custom indent i ring feed.coming) s ring feed t ring' feed' result
   same_reads kept custom indent i ring ring' s t feed feed' result same reads =
-      subst (λ x. ReadsLine x (drawn_and_turned x indent i ring feed.coming) s feed t ring' feed' result) same reads
+      subst (λ x. ReadsLine x (drawn_and_turned x indent i ring) (line_doing x indent i ring feed.coming) s ring feed t ring' feed' result) same reads
 
   module _ {A : Type 0} (prompt : List ℕ) (helper : Option H) (hist : Hi) (config : Config) (out : Out) (s t : State Out H Hi K T renderer completer candidate hinter hint highlighter validator history)
       (shown : Hi) (place : ℕ) (starts : Starts out prompt helper shown place s) (shown_is : shown ≡ hist) (place_is : place ≡ length (history.entries hist))
-      (custom : Custom) (i : Input) (input_is : i ≡ new_input config.edit_mode) (ring ring' : Ring) (feed feed' : Feed) (result : Result A ReadlineError)
-      (reads : ReadsLine custom (drawn_and_turned custom config.indent_size i ring feed.coming) s feed t ring' feed' result)
+      (custom : Custom) (i : Input) (input_is : i ≡ new_input config.edit_mode) (ring ring' : Ring) (feed feed' : KeyFeed) (result : Result A ReadlineError)
+      (reads : ReadsLine custom (drawn_and_turned custom config.indent_size i ring) (line_doing custom config.indent_size i ring feed.coming) s ring feed t ring' feed' result)
       (ran : Ran Out H K T) (out_is : ran.out ≡ t.out) (helper_is : ran.helper ≡ t.helper) (outcome_is : outcome_of ran ≡ text_or result t.line.text) where
     abbrev setting : Setting
     setting = setting_by (renderer.canvas.ruler out) prompt (helps s helper) (history.entries hist)
@@ -166,58 +178,71 @@ module _ {Out H Hi K T : Type 0} {renderer : renderers.Renderer.Ghosts Out} {com
         ∙ ap (λ h. setting_by (renderer.canvas.ruler out) prompt (helps s h) (history.entries s.ctx.history.now)) starts.helper_is
         ∙ ap (λ x. setting_by (renderer.canvas.ruler out) prompt (helps s helper) (history.entries x)) (starts.history_is ∙ shown_is)
 
-    abbrev read_as : ℕ → Telling
-    read_as n = drawn_and_turned custom config.indent_size i ring feed.coming n tt
+    abbrev read_as : Coming → ℕ → Telling
+    read_as heard n = drawn_and_turned custom config.indent_size i ring heard n tt
 
-    abbrev as_meant : ℕ → Told
-    as_meant n = line_meant n setting custom config ring feed.coming
+    abbrev as_meant : Coming → ℕ → Told
+    as_meant heard n = line_meant n setting custom config ring heard
 
-    line_same : (n : ℕ) → read_as n (setting_of s) (value_of s) ≡ as_meant n
-    line_same n = ap (λ a. read_as n a (value_of s)) setting_same ∙ ap (read_as n setting) (starts.value ∙ ap empty_at place_is)
-        ∙ ap (λ x. drawn_and_turned custom config.indent_size x ring feed.coming n tt setting (first_value setting)) input_is ∙ meant custom config ring feed.coming n tt setting
+    abbrev done_as : ℕ → Doing
+    done_as n = line_doing custom config.indent_size i ring feed.coming n
+
+    abbrev acts_as_meant : ℕ → List Act
+    acts_as_meant n = acts_meant n setting custom config ring feed.coming
+
+    acts_same : (n : ℕ) → done_as n (setting_of s) (value_of s) ≡ acts_as_meant n
+    acts_same n = ap (λ a. done_as n a (value_of s)) setting_same ∙ ap (done_as n setting) (starts.value ∙ ap empty_at place_is)
+        ∙ ap (λ x. line_doing custom config.indent_size x ring feed.coming n setting (first_value setting)) input_is ∙ acts_are_meant custom config ring feed.coming n setting
+
+    line_same : (heard : Coming) (n : ℕ) → read_as heard n (setting_of s) (value_of s) ≡ as_meant heard n
+    line_same heard n = ap (λ a. read_as heard n a (value_of s)) setting_same ∙ ap (read_as heard n setting) (starts.value ∙ ap empty_at place_is)
+        ∙ ap (λ x. drawn_and_turned custom config.indent_size x ring heard n tt setting (first_value setting)) input_is ∙ meant custom config ring heard n tt setting
 
     helper_same_as : Stays s t → helps s ran.helper ≡ helps s helper
     helper_same_as stays = ap (helps s) helper_is ∙ helper_same s t stays ∙ ap (helps s) starts.helper_is
 
-    whole_line : (n : ℕ) → Read (read_as n) s t ring' feed'.coming result → WholeLine renderer.canvas (as_meant n) out ran.out ring' feed'.coming (outcome_of ran)
-    whole_line n read = record {
-      outcome_is = outcome_is ∙ read.outcome_is ∙ ap (λ p. p.outcome) (line_same n);
-      ring_is = read.ring_is ∙ ap (λ p. p.ring) (line_same n);
-      rest_is = read.rest_is ∙ ap (λ p. p.rest) (line_same n);
-      calls = subst (λ o. FoldsTo renderer.canvas.made out (line_calls (renderer.canvas.ruler out) (as_meant n).turns) o) (sym out_is)
-          (subst (λ (p : Told). FoldsTo renderer.canvas.made out (line_calls (renderer.canvas.ruler out) p.turns) t.out) (line_same n)
-          (subst (λ l. FoldsTo renderer.canvas.made out (asked (renderer.canvas.ruler out) l (flat_map redraws_in (read_as n (setting_of s) (value_of s)).turns)).calls t.out) starts.layout
-          (subst (λ o. FoldsTo renderer.canvas.made o (asked (renderer.canvas.ruler o) s.layout (flat_map redraws_in (read_as n (setting_of s) (value_of s)).turns)).calls t.out) starts.out_is read.does.calls)));
+    whole_line : (heard : Coming) (n : ℕ) → Read (read_as heard n) s t ring' feed'.coming result → WholeLine renderer.canvas (as_meant heard n) out ran.out ring' feed'.coming (outcome_of ran)
+    whole_line heard n read = record {
+      outcome_is = outcome_is ∙ read.outcome_is ∙ ap (λ p. p.outcome) (line_same heard n);
+      ring_is = read.ring_is ∙ ap (λ p. p.ring) (line_same heard n);
+      rest_is = read.rest_is ∙ ap (λ p. p.rest) (line_same heard n);
+      calls = subst (λ o. FoldsTo renderer.canvas.made out (line_calls (renderer.canvas.ruler out) (as_meant heard n).turns) o) (sym out_is)
+          (subst (λ (p : Told). FoldsTo renderer.canvas.made out (line_calls (renderer.canvas.ruler out) p.turns) t.out) (line_same heard n)
+          (subst (λ l. FoldsTo renderer.canvas.made out (asked (renderer.canvas.ruler out) l (flat_map redraws_in (read_as heard n (setting_of s) (value_of s)).turns)).calls t.out) starts.layout
+          (subst (λ o. FoldsTo renderer.canvas.made o (asked (renderer.canvas.ruler o) s.layout (flat_map redraws_in (read_as heard n (setting_of s) (value_of s)).turns)).calls t.out) starts.out_is read.does.calls)));
     }
 
-    why_cut : (steady : Bool) (e : ReadlineError) → Stays s t → Reason t e ⊎ ((e ≡ Reader) × IsFalse steady)
-        → reason_of (renderer.canvas.failed ran.out) (HelperFails (helps s helper) (history.entries hist)) e ⊎ ((e ≡ Reader) × IsFalse steady)
-    why_cut steady e stays (inr why) = inr why
-    why_cut steady e stays (inl why) = inl (reason_to (renderer.canvas.failed t.out) (renderer.canvas.failed ran.out) (HookFails t) (HelperFails (helps s helper) (history.entries hist)) e
+    why_cut : (e : ReadlineError) → Stays s t → Reason t e → reason_of (renderer.canvas.failed ran.out) (HelperFails (helps s helper) (history.entries hist)) e
+    why_cut e stays why = reason_to (renderer.canvas.failed t.out) (renderer.canvas.failed ran.out) (HookFails t) (HelperFails (helps s helper) (history.entries hist)) e
         (ap renderer.canvas.failed (sym out_is))
         (λ fails. subst (λ x. HelperFails (helps s helper) (history.entries x)) (stays.history_is ∙ starts.history_is ∙ shown_is)
-        (subst (λ x. HelperFails x (history.entries t.ctx.history.now)) (helper_same s t stays ∙ ap (helps s) starts.helper_is) (failing t fails))) why)
+        (subst (λ x. HelperFails x (history.entries t.ctx.history.now)) (helper_same s t stays ∙ ap (helps s) starts.helper_is) (failing t fails))) why
 
-    cut_line : (n : ℕ) → Cut feed.steady (edit_of (read_as n)) s t result
-        → CutLine renderer.canvas (as_meant n) feed.steady (HelperFails (helps s helper) (history.entries hist)) out ran.out (outcome_of ran)
+    cut_line : (n : ℕ) → Cut (done_as n) s t feed.coming feed'.coming ring ring' result
+        → CutLine renderer.canvas (acts_as_meant n) (HelperFails (helps s helper) (history.entries hist)) (stage out feed.coming ring) (stage ran.out feed'.coming ring') (outcome_of ran)
     cut_line n cut = record {
       fault = cut.fault;
       outcome_is = outcome_is ∙ refused_same result t.line.text cut.fault cut.result_is;
-      cause = why_cut feed.steady cut.fault cut.stays cut.cause;
-      begun = subst (λ o. Begun renderer.canvas (line_calls (renderer.canvas.ruler out) (as_meant n).turns) out o) (sym out_is)
-          (subst (λ (p : Told). Begun renderer.canvas (line_calls (renderer.canvas.ruler out) p.turns) out t.out) (line_same n)
-          (subst (λ l. Begun renderer.canvas (asked (renderer.canvas.ruler out) l (flat_map redraws_in (read_as n (setting_of s) (value_of s)).turns)).calls out t.out) starts.layout
-          (subst (λ o. Begun renderer.canvas (asked (renderer.canvas.ruler o) s.layout (flat_map redraws_in (read_as n (setting_of s) (value_of s)).turns)).calls o t.out) starts.out_is cut.begun)));
+      cause = why_cut cut.fault cut.stays cut.cause;
+      done = let u = renderer.canvas.ruler out in
+          subst (λ o. CutIn renderer.canvas u cut.fault (acts_as_meant n) (fresh u.mode) (stage out feed.coming ring) (stage o feed'.coming ring')) (sym out_is)
+          (subst (λ acts. CutIn renderer.canvas u cut.fault acts (fresh u.mode) (stage out feed.coming ring) (stage t.out feed'.coming ring')) (acts_same n)
+          (subst (λ l. CutIn renderer.canvas u cut.fault (done_as n (setting_of s) (value_of s)) l (stage out feed.coming ring) (stage t.out feed'.coming ring')) starts.layout
+          (subst (λ o. CutIn renderer.canvas (renderer.canvas.ruler o) cut.fault (done_as n (setting_of s) (value_of s)) s.layout (stage o feed.coming ring) (stage t.out feed'.coming ring')) starts.out_is cut.done)));
     }
 
-    goes_by : (n : ℕ) → Reading feed.steady (read_as n) s t ring' feed'.coming result
-        → WholeLine renderer.canvas (as_meant n) out ran.out ring' feed'.coming (outcome_of ran)
-        ⊎ CutLine renderer.canvas (as_meant n) feed.steady (HelperFails (helps s helper) (history.entries hist)) out ran.out (outcome_of ran)
-    goes_by n (inl read) = inl (whole_line n read)
-    goes_by n (inr cut) = inr (cut_line n cut)
+    heard_as : (heard : Coming) → HeardBy feed.steady feed.coming result heard → Heard feed.steady feed.coming heard
+    heard_as heard (inl same) = inl same
+    heard_as heard (inr early) = inr (early.0, early.1)
 
-    stays_by : (n : ℕ) → Reading feed.steady (read_as n) s t ring' feed'.coming result → Stays s t
-    stays_by n (inl read) = read.does.stays
+    goes_by : (n : ℕ) → Reading feed.steady (λ heard. read_as heard n) (done_as n) s t feed.coming feed'.coming ring ring' result
+        → (heard : Coming) × Heard feed.steady feed.coming heard × (WholeLine renderer.canvas (as_meant heard n) out ran.out ring' feed'.coming (outcome_of ran)
+        ⊎ CutLine renderer.canvas (acts_meant n setting custom config ring heard) (HelperFails (helps s helper) (history.entries hist)) (stage out heard ring) (stage ran.out feed'.coming ring') (outcome_of ran))
+    goes_by n (inl (heard, by, read)) = (heard, heard_as heard by, inl (whole_line heard n read))
+    goes_by n (inr cut) = (feed.coming, inl refl, inr (cut_line n cut))
+
+    stays_by : (n : ℕ) → Reading feed.steady (λ heard. read_as heard n) (done_as n) s t feed.coming feed'.coming ring ring' result → Stays s t
+    stays_by n (inl read) = read.2.does.stays
     stays_by n (inr cut) = cut.stays
 
     stays_told : IsTrue feed.told → Stays s t

@@ -3,31 +3,31 @@ use Rattle.std.proofs.Common.{◌≡◌, Bool, true, false, refl, sym, ap, subst
 use Rattle.std.specs.Prelude.{Result, Ok, Err, IsErrAnd}
 use Rattle.line_config.specs.declared.errors.ReadlineError.{ReadlineError}
 use Rattle.line_keys.specs.Answers.{Custom}
-use Rattle.line_keys.specs.Feeds.{Feed}
+use Rattle.line_keys.specs.Feeds.{KeyFeed}
 use Rattle.line_keys.specs.Follows.{Follows}
 use Rattle.line_keys.specs.Phrase.{phrase}
 use Rattle.line_keys.specs.Phrases.{Input, Script, Ends, Asks}
-use Rattle.line_keys.specs.Refreshing.{Display, Draws}
+use Rattle.line_keys.specs.Refreshing.{KnownDisplay, Draws}
 use Rattle.line_keys.specs.Refreshing.Ask.{DoingInsert}
 use Rattle.line_keys.specs.declared.command.Cmd.{Cmd}
 use Rattle.line_keys.proofs.Following.{then_stops, then_follows, ends_follow, ask_follows, ask_stops, as_follows}
-use Rattle.line_editor.specs.Lines.{begins_group, begun, line_phrase}
+use Rattle.line_editor.specs.Lines.{begins_group, with_group_begun, line_phrase}
 use Rattle.line_editor.proofs.DoesLemmas.{is_err}
 
-abbrev by_group : Bool → Cmd → Script Cmd
+abbrev pub by_group : Bool → Cmd → Script Cmd
 by_group b cmd = if b then Asks DoingInsert (λ seen. Ends (Ok cmd)) else Ends (Ok cmd)
 
-module _ {S : Type 0} (d : Display S) (custom : Custom) where
-  pub phrase_stops : (w w1 : S) (i i1 : Input) (f f1 : Feed) (e : ReadlineError) (r : Result Cmd ReadlineError) → IsErrAnd r (λ x. x ≡ e)
+module _ {S : Type 0} (d : KnownDisplay S) (custom : Custom) where
+  pub phrase_stops : (w w1 : S) (i i1 : Input) (f f1 : KeyFeed) (e : ReadlineError) (r : Result Cmd ReadlineError) → IsErrAnd r (λ x. x ≡ e)
       → Follows d custom (phrase custom i (d.shown w) f.coming) w i w1 i1 f f1 (Err e) → Follows d custom (line_phrase custom i (d.shown w) f.coming) w i w1 i1 f f1 r
   phrase_stops w w1 i i1 f f1 e r is first = subst (λ (x : Result Cmd ReadlineError). Follows d custom (line_phrase custom i (d.shown w) f.coming) w i w1 i1 f f1 x) (sym (is_err e r is))
-      (then_stops d custom (phrase custom i (d.shown w) f.coming) begun w w1 i i1 f f1 e first)
+      (then_stops d custom (phrase custom i (d.shown w) f.coming) with_group_begun w w1 i i1 f f1 e first)
 
-  module _ (cmd : Cmd) (w w1 : S) (i i1 : Input) (f f1 : Feed) (first : Follows d custom (phrase custom i (d.shown w) f.coming) w i w1 i1 f f1 (Ok cmd)) where
-    -- behind the phrase
-    on : (w2 : S) (r : Result Cmd ReadlineError) → Follows d custom (begun cmd i1 (d.shown w1) f1.coming) w1 i1 w2 i1 f1 f1 r
+  module _ (cmd : Cmd) (w w1 : S) (i i1 : Input) (f f1 : KeyFeed) (first : Follows d custom (phrase custom i (d.shown w) f.coming) w i w1 i1 f f1 (Ok cmd)) where
+    -- after the phrase
+    on : (w2 : S) (r : Result Cmd ReadlineError) → Follows d custom (with_group_begun cmd i1 (d.shown w1) f1.coming) w1 i1 w2 i1 f1 f1 r
         → Follows d custom (line_phrase custom i (d.shown w) f.coming) w i w2 i1 f f1 r
-    on w2 r second = then_follows d custom (phrase custom i (d.shown w) f.coming) begun cmd w w1 w2 i i1 i1 f f1 f1 r first second
+    on w2 r second = then_follows d custom (phrase custom i (d.shown w) f.coming) with_group_begun cmd w w1 w2 i i1 i1 f f1 f1 r first second
 
     pub phrase_goes : begins_group cmd ≡ false → Follows d custom (line_phrase custom i (d.shown w) f.coming) w i w1 i1 f f1 (Ok cmd)
     phrase_goes other = on w1 (Ok cmd) (ends_follow d custom (by_group (begins_group cmd) cmd) w1 i1 f1 cmd (ap (λ (b : Bool). by_group b cmd) other))

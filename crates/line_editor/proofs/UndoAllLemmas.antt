@@ -22,8 +22,8 @@ use Rattle.line_buffer.specs.declared.types.WordAction.{WordAction}
 use Rattle.line_buffer.specs.declared.types.WordAction.TheVariants.{Capitalize, Lowercase, Uppercase}
 use Rattle.line_buffer.proofs.ReplayedLemmas.{replayed_all-one, replayed_insertion, replayed_replacement, yank_pop_replayed}
 use Rattle.line_buffer.proofs.SpanLemmas.{IsLater, place_forward-later, deletion_replays}
-use Rattle.line_edits.specs.Edits.{put_behind, yanked, updated, popped, deleted, clusters_after, exchanged_for, written_over, overwritten, chars_transposed, transpose_chars_in_group, words_transposed, transpose_words_in_group, word_edited, edit_word_in_group}
-use Rattle.line_edits.specs.Written.{Written, opened, closed}
+use Rattle.line_edits.specs.Edits.{put_behind, text_yanked, updated, popped, deleted, clusters_after, exchanged_for, written_over, overwritten, chars_transposed, transpose_chars_in_group, words_transposed, transpose_words_in_group, word_edited, edit_word_in_group}
+use Rattle.line_edits.specs.Written.{Written, group_opened, group_closed}
 use Rattle.line_help.specs.Hints.{Hinted}
 use Rattle.line_help.specs.History.{begins_with_space}
 use Rattle.line_help.specs.Search.{Hit}
@@ -47,14 +47,14 @@ use Rattle.line_editor.specs.Hinting.{at_row_end, completed_by, complete_by}
 use Rattle.line_editor.specs.Inserting.{insert_char, replace_char, overwrite_char}
 use Rattle.line_editor.specs.Killing.{kill, insert_text_if}
 use Rattle.line_editor.specs.Leads.{Reaches, Sound}
-use Rattle.line_editor.specs.Moving.{stepped, to_found, to_place, move_home, move_to_next_word, move_to_first_print, move_by}
-use Rattle.line_editor.specs.Remembering.{saved_now, at_place, leaving, recall, recalled, restored, found, history_step, history_end, history_search}
-use Rattle.line_editor.specs.Returns.{Step, after_step, after_steps}
-use Rattle.line_editor.specs.Returns.Step.{Done, Asked}
+use Rattle.line_editor.specs.Moving.{cursor_moved_if, to_found, to_place, move_home, move_to_next_word, move_to_first_print, move_by}
+use Rattle.line_editor.specs.Remembering.{saved_now, at_place, saved_on_leaving, recall, recalled, restored, hit_shown, history_step, history_end, history_search}
+use Rattle.line_editor.specs.Returns.{ValueStep, value_after, value_after_all}
+use Rattle.line_editor.specs.Returns.ValueStep.{Done, Asked}
 use Rattle.line_editor.specs.Rewording.{refreshed_if, edit_word}
 use Rattle.line_editor.specs.UndoAll.{BegunSound, UndoesAll}
 use Rattle.line_editor.specs.Values.{Value, Setting, Effect, then_do, rewritten, written_of, at_line}
-use Rattle.line_editor.specs.Yanking.{anchored, steps, behind_yank, yanked_by, yank, yank_lent, pop_lent}
+use Rattle.line_editor.specs.Yanking.{anchored, steps, behind_yank, yanked_by, yank_text, yank_lent, pop_lent}
 use Rattle.line_editor.proofs.ReachLemmas.{ended_reaches, edit_reaches, group_reaches, typing_reaches, yanking_reaches, updating_reaches, indenting_reaches, killing_reaches, transposing_reaches}
 use Rattle.line_editor.proofs.ReplaysLemmas.{transpose_words_replays, edit_word_replays}
 use Rattle.line_editor.proofs.UndoLemmas.{undo_reaches, unmade_reached}
@@ -102,7 +102,7 @@ insertion_reached c n s v first r =
     let h = typing_reaches c n (written_of v) first r in
     either first (is_some (insertion c n v.line).answer) _ _ h h
 
-step_reached : (kind : CmdKind) (moves : Bool) (l : Line) (s : Setting) (v : Value) (first : List ℕ) → l.text ≡ v.line.text → Reached first v → Reached first (stepped kind moves l s v).value
+step_reached : (kind : CmdKind) (moves : Bool) (l : Line) (s : Setting) (v : Value) (first : List ℕ) → l.text ≡ v.line.text → Reached first v → Reached first (cursor_moved_if kind moves l s v).value
 step_reached kind moves l s v first e r = either first moves _ _ (subst (Reaches first v.held) (sym e) r) r
 
 found_reached : (o : Option ℕ) (s : Setting) (v : Value) (first : List ℕ) → Reached first v → Reached first (to_found o s v).value
@@ -157,10 +157,10 @@ anchored_text : (anchor : Anchor) (l : Line) → (anchored anchor l).text ≡ l.
 anchored_text After l = refl
 anchored_text Before l = refl
 
-yank_reached : (vi : Bool) (text : List ℕ) (anchor : Anchor) (n : ℕ) (s : Setting) (v : Value) (first : List ℕ) → Reached first v → Reached first (yank vi text anchor n s v).value
+yank_reached : (vi : Bool) (text : List ℕ) (anchor : Anchor) (n : ℕ) (s : Setting) (v : Value) (first : List ℕ) → Reached first v → Reached first (yank_text vi text anchor n s v).value
 yank_reached vi text anchor n s v first r =
     let before = at_line (anchored anchor v.line) v in
-    let w = rewritten (yanked text n) before in
+    let w = rewritten (text_yanked text n) before in
     let k : Reached first w = yanking_reaches text n (written_of before) first (subst (Reaches first v.held) (sym (anchored_text anchor v.line)) r) in
     let h : Reached first (yanked_by vi text n before) =
     yanked_reached first (is_some (yanked_in text n before.line).answer) (at_line (behind_yank vi w.line) w) w (subst (Reaches first w.held) (sym (behind_text vi w.line)) k) k in
@@ -174,7 +174,7 @@ pop_reached : (o : Option (ℕ × List ℕ)) (s : Setting) (v : Value) (first : 
 pop_reached None s v first ok r = r
 pop_reached (Some lent) s v first ok r =
     either first (can_take_before lent.0 v.line) _ _
-    (group_reaches (popped lent.0 lent.1) (written_of v) first (λ k. popping_reaches first (opened (written_of v)) ok.utf8 ok.boundary k lent.0 lent.1) r) r
+    (group_reaches (popped lent.0 lent.1) (written_of v) first (λ k. popping_reaches first (group_opened (written_of v)) ok.utf8 ok.boundary k lent.0 lent.1) r) r
 
 drawn_reached : (b : Bool) (s : Setting) (v : Value) (first : List ℕ) → Reached first v → Reached first (refreshed_if b s v).value
 drawn_reached b s v first r = either first b _ _ r r
@@ -190,7 +190,7 @@ verdict_reached (Valid text) draws s v first r = told_reached draws text ForcedR
 validate_reached : (judge : Option (List ℕ → ValidationResult)) (s : Setting) (v : Value) (first : List ℕ) → Reached first v → Reached first (validate_by judge s v).value
 validate_reached None s v first r = r
 validate_reached (Some judge) s v first r =
-    verdict_reached (judge v.line.text) (closes v.held || is_some v.hint) s (rewritten (λ w. closed (opened w)) v) first (group_reaches (λ w. w) (written_of v) first (λ k. k) r)
+    verdict_reached (judge v.line.text) (closes v.held || is_some v.hint) s (rewritten (λ w. group_closed (group_opened w)) v) first (group_reaches (λ w. w) (written_of v) first (λ k. k) r)
 
 accept_reached : (s : Setting) (v : Value) (first : List ℕ) → Reached first v → Reached first (accept s v).value
 accept_reached s v first r = validate_reached s.judge s (bare s v).value first r
@@ -213,7 +213,7 @@ char_reached c n s v first ok r =
     let w = written_of v in
     let count = clusters_after n v.line in
     either first (is_some (place_forward n v.line)) _ _
-    (group_reaches (exchanged_for c n count) w first (λ k. typing_reaches c count (deleted n (opened w)) first (deleting_reaches first (opened w) ok.utf8 ok.boundary k n)) r) r
+    (group_reaches (exchanged_for c n count) w first (λ k. typing_reaches c count (deleted n (group_opened w)) first (deleting_reaches first (group_opened w) ok.utf8 ok.boundary k n)) r) r
 
 over_reached : (c : ℕ) (s : Setting) (v : Value) (first : List ℕ) → Sound v → Reached first v → Reached first (overwrite_char c s v).value
 over_reached c s v first ok r = either first (is_some (place_forward 1 v.line)) _ _ (overwriting_reaches first (written_of v) ok.utf8 ok.boundary r c) r
@@ -221,12 +221,12 @@ over_reached c s v first ok r = either first (is_some (place_forward 1 v.line)) 
 word_reached : (action : WordAction) (s : Setting) (v : Value) (first : List ℕ) → Sound v → Reached first v → Reached first (edit_word action s v).value
 word_reached action s v first ok r =
     drawn_reached (is_some (word_to_edit v.line)) s (rewritten (edit_word_in_group action) v) first
-    (group_reaches (word_edited action) (written_of v) first (λ k. word_reaches first (opened (written_of v)) ok.utf8 ok.boundary k action) r)
+    (group_reaches (word_edited action) (written_of v) first (λ k. word_reaches first (group_opened (written_of v)) ok.utf8 ok.boundary k action) r)
 
 -- ---- the history's commands
 
 recalled_reached : (entry : List ℕ) (place : ℕ) (v : Value) (first : List ℕ) → Reached first v → Reached first (recalled entry place v)
-recalled_reached entry place v first r = group_reaches (updated entry place) (written_of v) first (λ k. updating_reaches entry place (opened (written_of v)) first k) r
+recalled_reached entry place v first r = group_reaches (updated entry place) (written_of v) first (λ k. updating_reaches entry place (group_opened (written_of v)) first k) r
 
 restored_reached : (v : Value) (first : List ℕ) → Reached first v → Reached first (restored v)
 restored_reached v first r = updating_reaches v.saved.text v.saved.place (written_of v) first r
@@ -235,19 +235,19 @@ recall_reached : (place : ℕ) (o : Option Hit) (s : Setting) (v : Value) (first
 recall_reached place None s v first r = r
 recall_reached place (Some hit) s v first r = recalled_reached hit.entry (length hit.entry) (at_place place v) first r
 
-leaving_reached : (s : Setting) (v : Value) (first : List ℕ) → Reached first v → Reached first (leaving s v)
+leaving_reached : (s : Setting) (v : Value) (first : List ℕ) → Reached first v → Reached first (saved_on_leaving s v)
 leaving_reached s v first r = yanked_reached first (v.history == length s.entries) (saved_now v) v r r
 
 history_reached : (back : Bool) (s : Setting) (v : Value) (first : List ℕ) → Reached first v → Reached first (history_step back s v).value
-history_reached true s v first r = either first (v.history == 0) _ _ r (recall_reached (v.history - 1) _ s (leaving s v) first (leaving_reached s v first r))
+history_reached true s v first r = either first (v.history == 0) _ _ r (recall_reached (v.history - 1) _ s (saved_on_leaving s v) first (leaving_reached s v first r))
 history_reached false s v first r =
     either first (v.history == length s.entries) _ _ r (either first (v.history + 1 == length s.entries) _ _ (restored_reached (at_place (length s.entries) v) first r) (recall_reached (v.history + 1) _ s v first r))
 
 ends_reached : (start : Bool) (s : Setting) (v : Value) (first : List ℕ) → Reached first v → Reached first (history_end start s v).value
-ends_reached true s v first r = either first (v.history == 0) _ _ r (recall_reached 0 _ s (leaving s v) first (leaving_reached s v first r))
+ends_reached true s v first r = either first (v.history == 0) _ _ r (recall_reached 0 _ s (saved_on_leaving s v) first (leaving_reached s v first r))
 ends_reached false s v first r = either first (v.history == length s.entries) _ _ r (restored_reached (at_place (length s.entries) v) first r)
 
-hit_reached : (o : Option Hit) (s : Setting) (v : Value) (first : List ℕ) → Reached first v → Reached first (found o s v).value
+hit_reached : (o : Option Hit) (s : Setting) (v : Value) (first : List ℕ) → Reached first v → Reached first (hit_shown o s v).value
 hit_reached None s v first r = r
 hit_reached (Some hit) s v first r = recalled_reached hit.entry hit.pos (at_place hit.idx v) first r
 
@@ -277,11 +277,11 @@ command_reached m (ReplaceChar n c) s v first ok r = char_reached c n s v first 
 command_reached m (Overwrite c) s v first ok r = over_reached c s v first ok r
 command_reached m (SelfInsert n c) s v first ok r = insertion_reached c n s v first r
 command_reached m TransposeChars s v first ok r = drawn_reached (transposes_chars v.line) s (rewritten transpose_chars_in_group v) first
-    (group_reaches chars_transposed (written_of v) first (λ k. transposing_reaches (opened (written_of v)) first ok.utf8 ok.boundary k) r)
+    (group_reaches chars_transposed (written_of v) first (λ k. transposing_reaches (group_opened (written_of v)) first ok.utf8 ok.boundary k) r)
 command_reached m (TransposeWords n) s v first ok r =
     let w = rewritten (transpose_words_in_group n) v in
     drawn_reached (transposes_words n v.line || not (w.line.place == v.line.place)) s w first
-    (group_reaches (words_transposed n) (written_of v) first (λ k. words_reach first (opened (written_of v)) ok.utf8 ok.boundary k n) r)
+    (group_reaches (words_transposed n) (written_of v) first (λ k. words_reach first (group_opened (written_of v)) ok.utf8 ok.boundary k n) r)
 command_reached m (Undo n) s v first ok r = unmade_reached n s v first r
 command_reached m PreviousHistory s v first ok r = history_reached true s v first r
 command_reached m NextHistory s v first ok r = history_reached false s v first r
@@ -300,14 +300,14 @@ ask_reached (Prompted prompt) s v first r = r
 ask_reached DoingInsert s v first r = (refl, r)
 ask_reached DoneInserting s v first r = ended_reaches first v.held v.line.text r
 
-one_reached : (step : Step) (s : Setting) (v : Value) (first : List ℕ) → Sound v → Reached first v → Reached first (after_step s step v)
+one_reached : (step : ValueStep) (s : Setting) (v : Value) (first : List ℕ) → Sound v → Reached first v → Reached first (value_after s step v)
 one_reached (Done m cmd) s v first ok r = command_reached m cmd s v first ok r
 one_reached (Asked ask) s v first ok r = ask_reached ask s v first r
 
-all_reached : (steps : List Step) (s : Setting) (v : Value) (first : List ℕ) → BegunSound s steps v → Reached first v → Reached first (after_steps s steps v)
+all_reached : (steps : List ValueStep) (s : Setting) (v : Value) (first : List ℕ) → BegunSound s steps v → Reached first v → Reached first (value_after_all s steps v)
 all_reached [] s v first ok r = r
-all_reached (step ∷ steps) s v first ok r = all_reached steps s (after_step s step v) first ok.1 (one_reached step s v first ok.0 r)
+all_reached (step ∷ steps) s v first ok r = all_reached steps s (value_after s step v) first ok.1 (one_reached step s v first ok.0 r)
 
 pub undo_all : UndoesAll
 undo_all s steps v m n none ok enough =
-    undo_reaches s m (after_steps s steps v) n v.line.text (all_reached steps s v v.line.text ok (subst (λ held. Reaches v.line.text held v.line.text) (sym none) refl)) enough
+    undo_reaches s m (value_after_all s steps v) n v.line.text (all_reached steps s v v.line.text ok (subst (λ held. Reaches v.line.text held v.line.text) (sym none) refl)) enough

@@ -3,7 +3,7 @@ use Rattle.std.specs.Prelude.{ℕ, ◌&&◌, ◌||◌, not, Bool, true, if◌the
 use Rattle.std.specs.Char.{is_whitespace}
 use Rattle.std.specs.List.{list_all}
 use Rattle.line_buffer.specs.Line.{Line, text_after}
-use Rattle.line_edits.specs.Written.{opened, closed}
+use Rattle.line_edits.specs.Written.{group_opened, group_closed}
 use Rattle.line_help.specs.Validation.{is_valid, has_message}
 use Rattle.line_help.specs.declared.validate.ValidationResult.{ValidationResult}
 use Rattle.line_help.specs.declared.validate.ValidationResult.TheVariants.{Incomplete, Invalid, Valid}
@@ -15,19 +15,20 @@ use Rattle.line_editor.specs.Inserting.{insert_char}
 use Rattle.line_editor.specs.Moving.{move_buffer_end}
 use Rattle.line_editor.specs.Redraws.{Redraw}
 use Rattle.line_editor.specs.Redraws.Redraw.{Drawn, Bared}
-use Rattle.line_editor.specs.Values.{Value, Setting, Edit, unchanged, then_do, rewritten, without_hint, with_mark}
+use Rattle.line_editor.specs.Values.{Value, Setting, Transition, unchanged, then_do, rewritten, without_hint, with_mark}
 
 -- ---- before a line is accepted: without hint, highlighted character and a count's prompt
 
 abbrev pub bare_redraw : Setting → Value → Value → Redraw
 bare_redraw s before v =
-    if is_some before.hint || (before.marked || v.marked) then Drawn s.prompt true v.line.text v.line.place None
+    if is_some before.hint || (before.marked || v.marked)
+    then Drawn s.prompt true v.line.text v.line.place None
     else Bared s.prompt v.line.text v.line.place
 
 abbrev pub bared : Value → Setting → Value
 bared v s = with_mark ForcedRefresh s (without_hint v)
 
-abbrev pub bare : Edit
+abbrev pub bare : Transition
 bare s v = record { value = bared v s; redraws = bare_redraw s v (bared v s) ∷ [] }
 
 -- ---- what the helper finds
@@ -39,46 +40,49 @@ verdict_by (Some judge) v = judge v.line.text
 abbrev pub verdict : Setting → Value → ValidationResult
 verdict s v = verdict_by s.judge v
 
-abbrev pub told_if : Bool → Option (List ℕ) → CmdKind → Edit
+abbrev pub told_if : Bool → Option (List ℕ) → CmdKind → Transition
 told_if draws text kind s v = if draws || is_some text then told text kind s v else unchanged s v
 
-abbrev pub verdict_told : ValidationResult → Bool → Edit
+abbrev pub verdict_told : ValidationResult → Bool → Transition
 verdict_told Incomplete draws = unchanged
 verdict_told (Invalid text) draws = told_if draws text Other
 verdict_told (Valid text) draws = told_if draws text ForcedRefresh
 
 -- groups are closed by the way
-abbrev pub validate_by : Option (List ℕ → ValidationResult) → Edit
+abbrev pub validate_by : Option (List ℕ → ValidationResult) → Transition
 validate_by None s v = unchanged s v
 validate_by (Some judge) s v =
-    verdict_told (judge v.line.text) (closes v.held || is_some v.hint) s (rewritten (λ w. closed (opened w)) v)
+    verdict_told (judge v.line.text) (closes v.held || is_some v.hint) s
+    (rewritten (λ w. group_closed (group_opened w)) v)
 
-abbrev pub validate : Edit
+abbrev pub validate : Transition
 validate s v = validate_by s.judge s v
 
 -- ---- the commands
 
-abbrev pub newline : Edit
+abbrev pub newline : Transition
 newline = then_do bare (insert_char 10 1)
 
-abbrev pub accept : Edit
+abbrev pub accept : Transition
 accept = then_do bare validate
 
--- a valid line is accepted, but text behind the cursor may forbid it
+-- a valid line is accepted, but text after the cursor may forbid it
 abbrev pub accepts_found : Bool → ValidationResult → Line → Bool
-accepts_found middle found l = is_valid found && (middle || list_all is_whitespace (chars (text_after l)))
+accepts_found middle found l =
+    is_valid found && (middle || list_all is_whitespace (chars (text_after l)))
 
 abbrev pub accepts : Bool → Setting → Value → Bool
 accepts middle s v = accepts_found middle (verdict s v) v.line
 
 -- a line that isn't accepted gets a newline, unless it is told what is wrong with it
-abbrev pub newline_if : Bool → ValidationResult → Edit
+abbrev pub newline_if : Bool → ValidationResult → Transition
 newline_if accepted found s v =
-    if accepted then unchanged s v else if is_valid found || not (has_message found) then insert_char 10 1 s v else unchanged s v
+    if accepted then unchanged s v else if is_valid found || not (has_message found)
+    then insert_char 10 1 s v else unchanged s v
 
-abbrev pub accept_or_insert : Bool → Edit
+abbrev pub accept_or_insert : Bool → Transition
 accept_or_insert middle s v = then_do accept (newline_if (accepts middle s v) (verdict s v)) s v
 
--- an accepted line: the cursor behind the text, then the display's behind the drawing
-abbrev pub submitted : Edit
+-- an accepted line: the cursor after the text, then the display's after the drawing
+abbrev pub submitted : Transition
 submitted = then_do (move_buffer_end ForcedRefresh) moved_to_end

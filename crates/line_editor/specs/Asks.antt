@@ -1,12 +1,12 @@
 -- What the key tables see of the editor's value, and what their asks make of it.
 use Rattle.std.specs.Prelude.{ℕ, List, Option, None, Some, is_some}
-use Rattle.line_edits.specs.Written.{opened, closed}
+use Rattle.line_edits.specs.Written.{group_opened, group_closed}
 use Rattle.line_help.specs.Hints.{Hinted}
 use Rattle.line_keys.specs.Refreshing.{Shown, Ask}
 use Rattle.line_keys.specs.Refreshing.Ask.{Line, Message, Prompted, DoingInsert, DoneInserting}
 use Rattle.line_record.specs.Held.{last_inserted}
 use Rattle.line_editor.specs.Drawing.{refreshed, refreshed_behind, told}
-use Rattle.line_editor.specs.Values.{Value, Edit, quietly, rewritten}
+use Rattle.line_editor.specs.Values.{Value, Transition, quietly, rewritten}
 
 abbrev pub completion_in : Option Hinted → Option (List ℕ)
 completion_in None = None
@@ -22,13 +22,13 @@ shown_in v = record {
 }
 
 -- a group opened, and all groups closed
-abbrev pub open_group : Edit
-open_group = quietly (rewritten opened)
+abbrev pub open_group : Transition
+open_group = quietly (rewritten group_opened)
 
-abbrev pub close_groups : Edit
-close_groups = quietly (rewritten closed)
+abbrev pub close_groups : Transition
+close_groups = quietly (rewritten group_closed)
 
-abbrev pub ask_effect : Ask → Edit
+abbrev pub ask_effect : Ask → Transition
 ask_effect Line = refreshed
 ask_effect (Prompted prompt) = refreshed_behind prompt
 ask_effect (Message text kind) = told text kind

@@ -7,7 +7,8 @@ use Rattle.line_config.specs.declared.errors.ReadlineError.{ReadlineError}
 use Rattle.line_config.specs.declared.errors.ReadlineError.TheVariants.{Display}
 
 pub data Call : Type 0 where
-  -- prompt, line and information drawn whole; without the row of an older drawing's cursor only what is new is drawn
+  -- prompt, line and information drawn whole; without the row of an older drawing's cursor only
+  -- what is new is drawn
   Draw : (old_row : Option ℕ) (prompt line info : List ℕ) (finish cursor : Position) → Call
   Move : (old new : Position) → Call
   Write : (text : List ℕ) → Call
@@ -17,16 +18,16 @@ pub data Call : Type 0 where
   ClearToEol : Call
   ToLeftmost : Call
 
--- what a renderer measures by: where the drawing of a text from a place on ends, the columns of a row, whether it draws in
--- colours, and how it counts a cluster's columns
+-- what a renderer measures by: where the drawing of a text from a place on ends, the columns of a
+-- row, whether it draws in colours, and how it counts a cluster's columns
 pub record Ruler : Type 0 where
   pub measure : List ℕ → Position → Position
   pub columns : ℕ
   pub colours : Bool
   pub mode : GraphemeClusterMode
 
--- what is known of a renderer: the step of a call that it makes, and of one that it refuses, whether its display has failed,
--- and its ruler
+-- what is known of a renderer: the step of a call that it makes, and of one that it refuses,
+-- whether its display has failed, and its ruler
 pub record Canvas (R : Type 0) : Type 1 where
   pub made : R → Call → R → Type 0
   pub refused : R → Call → R → Type 0
@@ -38,7 +39,8 @@ abbrev pub old_row : Option Layout → Option ℕ
 old_row old = option_map (λ l. l.cursor.row) old
 
 -- a call is made, or refused since the display has failed
-pub record Makes {R A : Type 0} (canvas : Canvas R) (call : Call) (old new : R) (result : Result A ReadlineError) : Type 0 where
+pub record Makes {R A : Type 0} (canvas : Canvas R) (call : Call) (old new : R)
+    (result : Result A ReadlineError) : Type 0 where
   pub made : OnOk result (canvas.made old call new)
   pub refused : OnErr result (canvas.refused old call new)
   pub fault : IfErr result (λ e. e ≡ Display)
@@ -49,10 +51,13 @@ pub record Makes {R A : Type 0} (canvas : Canvas R) (call : Call) (old new : R) 
 unfoldable pub Begun : {R : Type 0} → Canvas R → List Call → R → R → Type 0
 Begun canvas [] old new = new ≡ old
 Begun {R} canvas (call ∷ calls) old new =
-    (new ≡ old) ⊎ (canvas.refused old call new ⊎ ((between : R) × canvas.made old call between × Begun canvas calls between new))
+    (new ≡ old)
+    ⊎ (canvas.refused old call new
+    ⊎ ((between : R) × canvas.made old call between × Begun canvas calls between new))
 
 -- a call that draws nothing
-pub record Idles {R A : Type 0} (canvas : Canvas R) (old new : R) (result : Result A ReadlineError) : Type 0 where
+pub record Idles {R A : Type 0} (canvas : Canvas R) (old new : R)
+    (result : Result A ReadlineError) : Type 0 where
   pub fault : IfErr result (λ e. e ≡ Display)
   pub failed : OnErr result (IsTrue (canvas.failed new))
   pub ruler : canvas.ruler new ≡ canvas.ruler old

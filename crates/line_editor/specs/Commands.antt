@@ -1,10 +1,10 @@
 -- What each command makes of the editor's value and of the ring, and how it ends.
-use Rattle.std.specs.Prelude.{ℕ, ◌==◌, Bool, true, false, if◌then◌else◌, Result, Ok, Err, slice_get, length, is_some}
+use Rattle.std.specs.Prelude.{◌≡◌, ◌⊎◌, IsTrue, ℕ, ◌==◌, Bool, true, false, if◌then◌else◌, Result, Ok, Err, slice_get, length, is_some}
 use Rattle.line_buffer.specs.Columns.{line_up, line_down}
 use Rattle.line_buffer.specs.declared.types.Anchor.TheVariants.{Before}
 use Rattle.line_buffer.specs.declared.types.WordAction.TheVariants.{Capitalize, Lowercase, Uppercase}
 use Rattle.line_config.specs.declared.errors.ReadlineError.{ReadlineError}
-use Rattle.line_config.specs.declared.errors.ReadlineError.TheVariants.{Interrupted, Eof}
+use Rattle.line_config.specs.declared.errors.ReadlineError.TheVariants.{Interrupted, Eof, Memory}
 use Rattle.line_config.specs.declared.settings.EditMode.{EditMode}
 use Rattle.line_help.specs.declared.search.SearchDirection.TheVariants.{Forward, Reverse}
 use Rattle.line_keys.specs.Phrases.{Input}
@@ -21,8 +21,8 @@ use Rattle.line_editor.specs.Killing.{kill, replace, killed_into, copied_into}
 use Rattle.line_editor.specs.Moving.{move_by, move_line_up, move_line_down}
 use Rattle.line_editor.specs.Remembering.{history_step, history_end, history_search}
 use Rattle.line_editor.specs.Rewording.{transpose_chars, transpose_words, edit_word, indent, undo}
-use Rattle.line_editor.specs.Values.{Value, Setting, Edit, unchanged}
-use Rattle.line_editor.specs.Yanking.{yank, yank_lent, pop_lent}
+use Rattle.line_editor.specs.Values.{Value, Setting, Transition, unchanged}
+use Rattle.line_editor.specs.Yanking.{yank_text, yank_lent, pop_lent}
 use Rattle.line_editor.specs.declared.commands.Status.{Status}
 use Rattle.line_editor.specs.declared.commands.Status.TheVariants.{Proceed, Submit}
 
@@ -35,23 +35,32 @@ pub record Means : Type 0 where
   pub ring : Ring
 
 abbrev pub means_of : Input → ℕ → Ring → Means
-means_of input indent r = record { mode = input.mode; input_mode = input.input_mode; indent_size = indent; ring = r }
+means_of input indent r = record {
+  mode = input.mode;
+  input_mode = input.input_mode;
+  indent_size = indent;
+  ring = r;
+}
 
 abbrev pub in_vi_command : Means → Bool
 in_vi_command m = is_vi_command m.mode m.input_mode
 
 -- up or down by rows, and in the last row through the history
-abbrev pub line_up_or_previous : ℕ → Edit
-line_up_or_previous n s v = if is_some (line_up s.mode s.column n v.line) then move_line_up n s v else history_step true s v
+abbrev pub line_up_or_previous : ℕ → Transition
+line_up_or_previous n s v =
+    if is_some (line_up s.mode s.column n v.line) then move_line_up n s v else history_step true s v
 
-abbrev pub line_down_or_next : ℕ → Edit
-line_down_or_next n s v = if is_some (line_down s.mode s.column n v.line) then move_line_down n s v else history_step false s v
+abbrev pub line_down_or_next : ℕ → Transition
+line_down_or_next n s v =
+    if is_some (line_down s.mode s.column n v.line) then move_line_down n s v
+    else history_step false s v
 
-abbrev pub effect : Means → Cmd → Edit
+abbrev pub effect : Means → Cmd → Transition
 effect m (SelfInsert n c) = insert_char c n
 effect m Newline = newline
-effect m (Insert n text) = yank (in_vi_command m) text Before n
-effect m (Yank n anchor) = yank_lent (in_vi_command m) anchor n (slice_get m.ring.slots m.ring.place)
+effect m (Insert n text) = yank_text (in_vi_command m) text Before n
+effect m (Yank n anchor) =
+    yank_lent (in_vi_command m) anchor n (slice_get m.ring.slots m.ring.place)
 effect m YankPop = pop_lent (exchanged m.ring)
 effect m (Move movement) = move_by movement
 effect m (Kill movement) = kill movement
@@ -83,17 +92,31 @@ effect m (AcceptOrInsertLine middle) = accept_or_insert middle
 effect m Interrupt = moved_to_end
 effect m cmd = unchanged
 
-abbrev pub ring_after : Cmd → Value → Ring → Ring
-ring_after (Kill movement) v r = killed_into movement v r
-ring_after (Replace movement text) v r = killed_into movement v r
-ring_after (ViYankTo movement) v r = copied_into movement v r
-ring_after (Yank n anchor) v r = yanked r
-ring_after YankPop v r = turned r
-ring_after cmd v r = r
+abbrev pub ring_after_command : Cmd → Value → Ring → Ring
+ring_after_command (Kill movement) v r = killed_into movement v r
+ring_after_command (Replace movement text) v r = killed_into movement v r
+ring_after_command (ViYankTo movement) v r = copied_into movement v r
+ring_after_command (Yank n anchor) v r = yanked r
+ring_after_command YankPop v r = turned r
+ring_after_command cmd v r = r
+
+-- what takes a text down in the ring
+abbrev pub is_killing : Cmd → Bool
+is_killing (Kill movement) = true
+is_killing (Replace movement text) = true
+is_killing (ViYankTo movement) = true
+is_killing cmd = false
+
+-- a command that is refused leaves the ring that it makes; only where it kills and memory is
+-- wanting isn't the ring known
+abbrev pub LeavesRing : Cmd → Value → Ring → Ring → ReadlineError → Type 0
+LeavesRing cmd v old new e =
+    (new ≡ ring_after_command cmd v old) ⊎ ((e ≡ Memory) × IsTrue (is_killing cmd))
 
 -- an empty line ends the session; in Vi another one is accepted
 abbrev pub end_of_file : Bool → Value → Result Status ReadlineError
-end_of_file emacs v = if length v.line.text == 0 then Err Eof else if emacs then Ok Proceed else Ok Submit
+end_of_file emacs v =
+    if length v.line.text == 0 then Err Eof else if emacs then Ok Proceed else Ok Submit
 
 abbrev pub outcome : Means → Cmd → Setting → Value → Result Status ReadlineError
 outcome m EndOfFile s v = end_of_file (is_emacs m.mode) v

@@ -5,14 +5,15 @@ use Rattle.line_config.specs.declared.errors.ReadlineError.TheVariants.{Eof, Int
 use Rattle.line_editor.specs.Redraws.{Redraw}
 use Rattle.line_editor.specs.Sights.{Sight, no_sight, Turns, FitsAll}
 
--- a first drawing, or a phrase and a command that leave the line open, with what is to be seen behind them; a phrase and a
--- command that accept the line; what ends the session, with whether a line break is written behind it
+-- a first drawing, or a phrase and a command that leave the line open, with what is to be seen
+-- after them; a phrase and a command that accept the line; what ends the session, with whether a
+-- line break is written after it
 pub data Turn : Type 0 where
   Open : (redraws : List Redraw) (value : Sight) → Turn
   Accept : (redraws : List Redraw) (value : Sight) → Turn
   Last : (redraws : List Redraw) (breaks : Bool) → Turn
 
--- the endings behind which a line break is written
+-- the endings after which a line break is written
 abbrev pub breaks_after : ReadlineError → Bool
 breaks_after Eof = true
 breaks_after Interrupted = true
@@ -31,12 +32,15 @@ redraws_in (Open redraws value) = redraws
 redraws_in (Accept redraws value) = redraws
 redraws_in (Last redraws breaks) = redraws
 
--- each turn's redraws lead from what is seen to what is to be seen; a line begins with nothing to see
-abbrev pub Course : List ℕ → Sight → List Turn → Type 0
-Course own x [] = ⊤
-Course own x (Open redraws y ∷ rest) = Turns own x redraws y × (y.ended ≡ false) × Course own y rest
-Course own x (Accept redraws y ∷ rest) = Turns own x redraws y × (y.ended ≡ true) × Course own no_sight rest
-Course own x (Last redraws breaks ∷ rest) = FitsAll own x redraws
+-- each turn's redraws lead from what is seen to what is to be seen; a line begins with nothing to
+-- see
+abbrev pub TurnsLead : List ℕ → Sight → List Turn → Type 0
+TurnsLead own x [] = ⊤
+TurnsLead own x (Open redraws y ∷ rest) =
+    Turns own x redraws y × (y.ended ≡ false) × TurnsLead own y rest
+TurnsLead own x (Accept redraws y ∷ rest) =
+    Turns own x redraws y × (y.ended ≡ true) × TurnsLead own no_sight rest
+TurnsLead own x (Last redraws breaks ∷ rest) = FitsAll own x redraws
 
 -- the turn that accepts a line, or in which its session ends, is the line's last; only where the
 -- fuel was too small there is none

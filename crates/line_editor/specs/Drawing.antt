@@ -4,59 +4,75 @@ use Rattle.line_keys.specs.declared.command.CmdKind.{CmdKind}
 use Rattle.line_keys.specs.declared.command.CmdKind.TheVariants.{Other}
 use Rattle.line_editor.specs.Redraws.{Redraw}
 use Rattle.line_editor.specs.Redraws.Redraw.{Drawn, Moved, ToEnd, Beeped, Cleared}
-use Rattle.line_editor.specs.Values.{Value, Setting, Edit, then_do, redrawn, with_hint, without_hint, with_mark, shown_hint}
+use Rattle.line_editor.specs.Values.{Value, Setting, Transition, then_do, redrawn, with_hint, without_hint, with_mark, shown_hint}
 
--- the line with its hint behind the session's own prompt
+-- the line with its hint after the session's own prompt
 abbrev pub drawn : Setting → Value → Redraw
 drawn s v = Drawn s.prompt true v.line.text v.line.place (shown_hint v)
 
--- drawn behind a prompt, with the hint that is kept
-abbrev pub drawn_behind : List ℕ → Bool → Edit
-drawn_behind prompt given s v = record { value = v; redraws = Drawn prompt given v.line.text v.line.place (shown_hint v) ∷ [] }
+-- drawn after a prompt, with the hint that is kept
+abbrev pub drawn_behind : List ℕ → Bool → Transition
+drawn_behind prompt given s v = record {
+  value = v;
+  redraws = Drawn prompt given v.line.text v.line.place (shown_hint v) ∷ [];
+}
 
-abbrev pub repainted : Edit
+abbrev pub repainted : Transition
 repainted s v = drawn_behind s.prompt true s v
 
 -- drawn with other information in place of the hint
-abbrev pub drawn_with : Option (List ℕ) → Edit
-drawn_with info s v = record { value = v; redraws = Drawn s.prompt true v.line.text v.line.place info ∷ [] }
+abbrev pub drawn_with : Option (List ℕ) → Transition
+drawn_with info s v = record {
+  value = v;
+  redraws = Drawn s.prompt true v.line.text v.line.place info ∷ [];
+}
 
 -- the display's cursor moved to the text's
-abbrev pub cursor_shown : Edit
+abbrev pub cursor_shown : Transition
 cursor_shown s v = record { value = v; redraws = Moved v.line.text v.line.place ∷ [] }
 
 -- the helper asked anew
 abbrev pub asked_anew : Setting → Value → Value
 asked_anew s v = with_mark Other s (with_hint s v)
 
-abbrev pub refreshed : Edit
+abbrev pub refreshed : Transition
 refreshed s v = record { value = asked_anew s v; redraws = drawn s (asked_anew s v) ∷ [] }
 
--- the same behind another prompt
-abbrev pub refreshed_behind : List ℕ → Edit
+-- the same after another prompt
+abbrev pub refreshed_behind : List ℕ → Transition
 refreshed_behind prompt s v =
-    record { value = asked_anew s v; redraws = Drawn prompt false v.line.text v.line.place (shown_hint (asked_anew s v)) ∷ [] }
+    record {
+      value = asked_anew s v;
+      redraws = Drawn prompt false v.line.text v.line.place (shown_hint (asked_anew s v)) ∷ [];
+    }
 
 -- a message, if there is one, in place of the hint
-abbrev pub told : Option (List ℕ) → CmdKind → Edit
+abbrev pub told : Option (List ℕ) → CmdKind → Transition
 told text kind s v =
-    record { value = with_mark kind s (without_hint v); redraws = Drawn s.prompt true v.line.text v.line.place text ∷ [] }
+    record {
+      value = with_mark kind s (without_hint v);
+      redraws = Drawn s.prompt true v.line.text v.line.place text ∷ [];
+    }
 
--- the cursor moved; where a character is highlighted, or was, the line is drawn without hint and message
-abbrev pub cursor_moved : CmdKind → Edit
+-- the cursor moved; where a character is highlighted, or was, the line is drawn without hint and
+-- message
+abbrev pub cursor_moved : CmdKind → Transition
 cursor_moved kind s v = record {
   value = with_mark kind s v;
-  redraws = (if v.marked || (with_mark kind s v).marked then Drawn s.prompt true v.line.text v.line.place None else Moved v.line.text v.line.place) ∷ [];
+  redraws =
+      (if v.marked || (with_mark kind s v).marked
+      then Drawn s.prompt true v.line.text v.line.place None else Moved v.line.text v.line.place)
+      ∷ [];
 }
 
-abbrev pub moved_to_end : Edit
+abbrev pub moved_to_end : Transition
 moved_to_end = redrawn ToEnd
 
-abbrev pub beeped : Edit
+abbrev pub beeped : Transition
 beeped = redrawn Beeped
 
-abbrev pub cleared : Edit
+abbrev pub cleared : Transition
 cleared = redrawn Cleared
 
-abbrev pub cleared_and_drawn : Edit
+abbrev pub cleared_and_drawn : Transition
 cleared_and_drawn = then_do cleared refreshed

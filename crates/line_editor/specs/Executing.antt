@@ -8,21 +8,30 @@ use Rattle.line_help.specs.declared.validate as verdicts
 use Rattle.line_help.specs.declared.history as histories
 use Rattle.line_keys.specs.declared.command.Cmd.{Cmd}
 use Rattle.line_record.specs.Ring.{Ring}
-use Rattle.line_editor.specs.Commands.{Means, effect, ring_after, outcome}
+use Rattle.line_editor.specs.Commands.{Means, effect, ring_after_command, LeavesRing, outcome}
 use Rattle.line_editor.specs.States.{value_of, setting_of, Does}
 use Rattle.line_editor.specs.declared.commands.Status.{Status}
 use Rattle.line_editor.specs.declared.renderer as renderers
 use Rattle.line_editor.specs.declared.state.State.{State}
 
-module _ {Out H Hi K T : Type 0} {renderer : renderers.Renderer.Ghosts Out} {completer : completions.Completer.Ghosts H K} {candidate : completions.Candidate.Ghosts K}
-    {hinter : hints.Hinter.Ghosts H T} {hint : hints.Hint.Ghosts T} {highlighter : highlights.Highlighter.Ghosts H} {validator : verdicts.Validator.Ghosts H} {history : histories.History.Ghosts Hi} where
+module _ {Out H Hi K T : Type 0} {renderer : renderers.Renderer.Ghosts Out}
+    {completer : completions.Completer.Ghosts H K} {candidate : completions.Candidate.Ghosts K}
+    {hinter : hints.Hinter.Ghosts H T} {hint : hints.Hint.Ghosts T}
+    {highlighter : highlights.Highlighter.Ghosts H} {validator : verdicts.Validator.Ghosts H}
+    {history : histories.History.Ghosts Hi} where
   -- the command was done whole, and ends as it says
-  pub record Done (m : Means) (cmd : Cmd) (s t : State Out H Hi K T renderer completer candidate hinter hint highlighter validator history) (ring : Ring) (result : Result Status ReadlineError) : Type 0 where
+  pub record Done (m : Means) (cmd : Cmd)
+      (s t : State Out H Hi K T renderer completer candidate hinter hint highlighter validator
+      history) (ring : Ring) (result : Result Status ReadlineError) : Type 0 where
     pub does : Does {A = Unit {0}} (effect m cmd) s t (Ok (tt {0}))
     pub outcome_is : result ≡ outcome m cmd (setting_of s) (value_of s)
-    pub ring_is : ring ≡ ring_after cmd (value_of s) m.ring
+    pub ring_is : ring ≡ ring_after_command cmd (value_of s) m.ring
 
   -- done whole, or cut by a fault
-  abbrev pub Executes : Means → Cmd → State Out H Hi K T renderer completer candidate hinter hint highlighter validator history
-      → State Out H Hi K T renderer completer candidate hinter hint highlighter validator history → Ring → Result Status ReadlineError → Type 0
-  Executes m cmd s t ring result = Done m cmd s t ring result ⊎ ((e : ReadlineError) × (result ≡ Err e) × Does {A = Unit {0}} (effect m cmd) s t (Err e))
+  abbrev pub Executes : Means → Cmd
+      → State Out H Hi K T renderer completer candidate hinter hint highlighter validator history
+      → State Out H Hi K T renderer completer candidate hinter hint highlighter validator history
+      → Ring → Result Status ReadlineError → Type 0
+  Executes m cmd s t ring result =
+      Done m cmd s t ring result ⊎ ((e : ReadlineError) × (result ≡ Err e)
+      × Does {A = Unit {0}} (effect m cmd) s t (Err e) × LeavesRing cmd (value_of s) m.ring ring e)

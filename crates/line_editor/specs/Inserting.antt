@@ -2,41 +2,54 @@
 use Rattle.std.specs.Prelude.{ℕ, ◌==◌, ◌&&◌, not, Bool, if◌then◌else◌, List, [], ◌∷◌, length, is_some}
 use Rattle.line_buffer.specs.Clusters.{place_forward}
 use Rattle.line_buffer.specs.Insertions.{insert as insertion}
-use Rattle.line_edits.specs.Edits.{typed, put_behind, chars_replaced, overwritten}
+use Rattle.line_edits.specs.Edits.{char_typed, put_behind, chars_replaced, overwritten}
 use Rattle.line_buffer.specs.Short.{is_printable}
 use Rattle.line_edits.specs.Plain.{is_plain}
 use Rattle.line_editor.specs.Drawing.{drawn, asked_anew, refreshed}
 use Rattle.line_editor.specs.Redraws.{Redraw}
 use Rattle.line_editor.specs.Redraws.Redraw.{Typed}
-use Rattle.line_editor.specs.Values.{Value, Setting, Edit, unchanged, rewritten}
+use Rattle.line_editor.specs.Values.{Value, Setting, Transition, unchanged, rewritten}
 
 -- neither hint nor highlighted character
 abbrev pub is_bare : Value → Bool
 is_bare v = not (is_some v.hint) && not v.marked
 
--- a printable character at the end of a plain line, with nothing to show but itself, before and behind it
+-- a printable character at the end of a plain line, with nothing to show but itself, before and
+-- after it
 abbrev pub may_be_typed : ℕ → ℕ → Value → Value → Bool
 may_be_typed c n before v =
-    (n == 1) && ((before.line.place == length before.line.text) && (is_plain before.line.text && (is_printable c && (is_bare before && is_bare v))))
+    (n == 1)
+    && ((before.line.place == length before.line.text)
+    && (is_plain before.line.text && (is_printable c && (is_bare before && is_bare v))))
 
 abbrev pub typed_redraw : ℕ → ℕ → Setting → Value → Value → Redraw
-typed_redraw c n s before v = if may_be_typed c n before v then Typed s.prompt c v.line.text v.line.place else drawn s v
+typed_redraw c n s before v =
+    if may_be_typed c n before v then Typed s.prompt c v.line.text v.line.place else drawn s v
 
 -- a drawing of what was typed
-abbrev pub show_typed : ℕ → ℕ → Value → Edit
-show_typed c n before s v = record { value = asked_anew s v; redraws = typed_redraw c n s before (asked_anew s v) ∷ [] }
+abbrev pub show_typed : ℕ → ℕ → Value → Transition
+show_typed c n before s v = record {
+  value = asked_anew s v;
+  redraws = typed_redraw c n s before (asked_anew s v) ∷ [];
+}
 
-abbrev pub insert_char : ℕ → ℕ → Edit
+abbrev pub insert_char : ℕ → ℕ → Transition
 insert_char c n s v =
-    if is_some (insertion c n v.line).answer then show_typed c n v s (rewritten (typed c n) v) else unchanged s (rewritten (typed c n) v)
+    if is_some (insertion c n v.line).answer then show_typed c n v s (rewritten (char_typed c n) v)
+    else unchanged s (rewritten (char_typed c n) v)
 
 -- a text at the cursor, which stays before it
-abbrev pub insert_text : List ℕ → Edit
-insert_text text s v = if length text == 0 then unchanged s v else refreshed s (rewritten (put_behind text) v)
+abbrev pub insert_text : List ℕ → Transition
+insert_text text s v =
+    if length text == 0 then unchanged s v else refreshed s (rewritten (put_behind text) v)
 
 -- where a cluster stands after the cursor
-abbrev pub replace_char : ℕ → ℕ → Edit
-replace_char c n s v = if is_some (place_forward n v.line) then refreshed s (rewritten (chars_replaced c n) v) else unchanged s v
+abbrev pub replace_char : ℕ → ℕ → Transition
+replace_char c n s v =
+    if is_some (place_forward n v.line) then refreshed s (rewritten (chars_replaced c n) v)
+    else unchanged s v
 
-abbrev pub overwrite_char : ℕ → Edit
-overwrite_char c s v = if is_some (place_forward 1 v.line) then refreshed s (rewritten (overwritten c) v) else unchanged s v
+abbrev pub overwrite_char : ℕ → Transition
+overwrite_char c s v =
+    if is_some (place_forward 1 v.line) then refreshed s (rewritten (overwritten c) v)
+    else unchanged s v

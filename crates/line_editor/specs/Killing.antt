@@ -4,17 +4,17 @@ use Rattle.std.specs.List.{list_all}
 use Rattle.line_buffer.specs.Range.{range_of, copied_range, span_text, kill_events}
 use Rattle.line_buffer.specs.declared.types.Mode.TheVariants.{Append}
 use Rattle.line_buffer.specs.declared.types.Movement.{Movement}
-use Rattle.line_record.specs.Ring.{Ring, ring_all, killed as killed_in}
-use Rattle.line_edits.specs.Edits.{killed}
+use Rattle.line_record.specs.Ring.{Ring, ring_all, killed}
+use Rattle.line_edits.specs.Edits.{range_killed}
 use Rattle.line_buffer.specs.Short.{is_printable}
 use Rattle.line_edits.specs.Plain.{is_plain}
 use Rattle.line_editor.specs.Drawing.{drawn, asked_anew}
 use Rattle.line_editor.specs.Inserting.{is_bare, insert_text}
 use Rattle.line_editor.specs.Redraws.{Redraw}
 use Rattle.line_editor.specs.Redraws.Redraw.{Taken}
-use Rattle.line_editor.specs.Values.{Value, Setting, Edit, unchanged, then_do, rewritten}
+use Rattle.line_editor.specs.Values.{Value, Setting, Transition, unchanged, then_do, rewritten}
 
--- printable characters from the end of a plain line, with nothing to show, before and behind it
+-- printable characters from the end of a plain line, with nothing to show, before and after it
 abbrev pub may_be_taken : Value → Value → Bool
 may_be_taken before v =
     is_plain v.line.text && (list_all is_printable (drop (length v.line.text) before.line.text)
@@ -22,21 +22,27 @@ may_be_taken before v =
 
 abbrev pub taken_redraw : Setting → Value → Value → Redraw
 taken_redraw s before v =
-    if may_be_taken before v then Taken s.prompt (length before.line.text - length v.line.text) v.line.text v.line.place else drawn s v
+    if may_be_taken before v
+    then Taken s.prompt (length before.line.text - length v.line.text) v.line.text v.line.place
+    else drawn s v
 
-abbrev pub show_taken : Value → Edit
-show_taken before s v = record { value = asked_anew s v; redraws = taken_redraw s before (asked_anew s v) ∷ [] }
+abbrev pub show_taken : Value → Transition
+show_taken before s v = record {
+  value = asked_anew s v;
+  redraws = taken_redraw s before (asked_anew s v) ∷ [];
+}
 
-abbrev pub kill : Movement → Edit
+abbrev pub kill : Movement → Transition
 kill movement s v =
-    if is_some (range_of movement v.line) then show_taken v s (rewritten (killed movement) v) else unchanged s (rewritten (killed movement) v)
+    if is_some (range_of movement v.line) then show_taken v s (rewritten (range_killed movement) v)
+    else unchanged s (rewritten (range_killed movement) v)
 
-abbrev pub insert_text_if : Option (List ℕ) → Edit
+abbrev pub insert_text_if : Option (List ℕ) → Transition
 insert_text_if None = unchanged
 insert_text_if (Some text) = insert_text text
 
 -- killed, and a text put there
-abbrev pub replace : Movement → Option (List ℕ) → Edit
+abbrev pub replace : Movement → Option (List ℕ) → Transition
 replace movement text = then_do (kill movement) (insert_text_if text)
 
 -- ---- the ring
@@ -46,7 +52,8 @@ killed_into movement v r = ring_all (kill_events movement v.line) r
 
 abbrev pub copied_by : Option (List ℕ) → Ring → Ring
 copied_by None r = r
-copied_by (Some text) r = killed_in text Append r
+copied_by (Some text) r = killed text Append r
 
 abbrev pub copied_into : Movement → Value → Ring → Ring
-copied_into movement v r = copied_by (option_map (λ span. span_text span v.line) (copied_range movement v.line)) r
+copied_into movement v r =
+    copied_by (option_map (λ span. span_text span v.line) (copied_range movement v.line)) r

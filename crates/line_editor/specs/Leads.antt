@@ -1,4 +1,4 @@
--- What commands want to be seen leads from the sight of the value before to that of the one behind.
+-- What commands want to be seen leads from the sight of the value before to that of the one after.
 use Rattle.std.specs.Prelude.{◌≡◌, ℕ, false, List, [], ◌∷◌, Option, IsUtf8, IsCharBoundary}
 use Rattle.line_keys.specs.Refreshing.{Ask}
 use Rattle.line_keys.specs.Refreshing.Ask.{Line, Message, Prompted, DoingInsert, DoneInserting}
@@ -13,7 +13,7 @@ use Rattle.line_record.specs.Ring.{Ring}
 use Rattle.line_editor.specs.Accepting.{submitted}
 use Rattle.line_editor.specs.Asks.{ask_effect}
 use Rattle.line_editor.specs.Commands.{Means, effect}
-use Rattle.line_editor.specs.Courses.{Course, EndsLine}
+use Rattle.line_editor.specs.Courses.{TurnsLead, EndsLine}
 use Rattle.line_editor.specs.Lines.{line_of}
 use Rattle.line_editor.specs.Sights.{Sight, no_sight, sight_with, sight_of, ended_sight, info_after, Turns}
 use Rattle.line_editor.specs.Values.{Value, Setting, Effect, shown_hint}
@@ -81,4 +81,4 @@ LinesLead =
     (n : ℕ) (s : Setting) (custom : Custom) (indent : ℕ) (input : Input) (r : Ring)
     (coming : Coming)
     → let line = line_of n s custom indent input r coming in
-    Course s.prompt no_sight line.turns × EndsLine line.outcome line.turns
+    TurnsLead s.prompt no_sight line.turns × EndsLine line.outcome line.turns

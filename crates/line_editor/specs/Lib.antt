@@ -1,4 +1,5 @@
 pub mod Accepting
+pub mod Acts
 pub mod Asks
 pub mod Calls
 pub mod Commands

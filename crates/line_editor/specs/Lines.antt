@@ -15,7 +15,7 @@ use Rattle.line_record.specs.Ring.{Ring}
 use Rattle.line_record.specs.declared.kill_ring.Action.TheVariants.{Other}
 use Rattle.line_editor.specs.Accepting.{submitted}
 use Rattle.line_editor.specs.Asks.{shown_in, ask_effect}
-use Rattle.line_editor.specs.Commands.{means_of, effect, ring_after, outcome}
+use Rattle.line_editor.specs.Commands.{means_of, effect, ring_after_command, outcome}
 use Rattle.line_editor.specs.Courses.{Turn, Open, Accept, Last, breaks_after}
 use Rattle.line_editor.specs.Drawing.{refreshed}
 use Rattle.line_editor.specs.Starts.{first_value}
@@ -26,7 +26,8 @@ use Rattle.line_editor.specs.declared.commands.Status.TheVariants.{Proceed, Subm
 
 -- ---- a phrase
 
--- a script followed on the editor's value: its answer, what it made of the value, and what is kept and to come behind it
+-- a script followed on the editor's value: its answer, what it made of the value, and what is kept
+-- and to come after it
 pub record Enacted (X : Type 0) : Type 0 where
   pub answer : Result X ReadlineError
   pub made : Effect
@@ -34,12 +35,21 @@ pub record Enacted (X : Type 0) : Type 0 where
   pub rest : Coming
 
 abbrev pub behind_ask : {X : Type 0} → Effect → Enacted X → Enacted X
-behind_ask e p = record p { made = record { value = p.made.value; redraws = e.redraws ++ p.made.redraws } }
+behind_ask e p = record p {
+  made = record { value = p.made.value; redraws = e.redraws ++ p.made.redraws };
+}
 
 abbrev pub enacted : {X : Type 0} → Setting → Script X → Input → Value → Coming → Enacted X
-enacted s (Ends answer) input v c = record { answer = answer; made = unchanged s v; input = input; rest = c }
+enacted s (Ends answer) input v c = record {
+  answer = answer;
+  made = unchanged s v;
+  input = input;
+  rest = c;
+}
 enacted s (Needs later) input v c = enacted s later input v c
-enacted s (Asks ask later) input v c = behind_ask (ask_effect ask s v) (enacted s (later (shown_in (ask_effect ask s v).value)) input (ask_effect ask s v).value c)
+enacted s (Asks ask later) input v c =
+    behind_ask (ask_effect ask s v)
+    (enacted s (later (shown_in (ask_effect ask s v).value)) input (ask_effect ask s v).value c)
 enacted s (Reads item rest later) input v c = enacted s later input v rest
 enacted s (Becomes kept later) input v c = enacted s later kept v c
 
@@ -48,11 +58,12 @@ abbrev pub begins_group : Cmd → Bool
 begins_group (Replace movement text) = true
 begins_group cmd = false
 
-abbrev pub begun : Cmd → Input → Shown → Part Cmd
-begun cmd input shown c = if begins_group cmd then Asks DoingInsert (λ seen. Ends (Ok cmd)) else Ends (Ok cmd)
+abbrev pub with_group_begun : Cmd → Input → Shown → Part Cmd
+with_group_begun cmd input shown c =
+    if begins_group cmd then Asks DoingInsert (λ seen. Ends (Ok cmd)) else Ends (Ok cmd)
 
 abbrev pub line_phrase : Custom → Input → Shown → Part Cmd
-line_phrase custom input shown = and_then input shown (phrase custom input shown) begun
+line_phrase custom input shown = and_then input shown (phrase custom input shown) with_group_begun
 
 abbrev pub phrase_enacted : Setting → Custom → Input → Value → Coming → Enacted Cmd
 phrase_enacted s custom input v c = enacted s (line_phrase custom input (shown_in v) c) input v c
@@ -74,21 +85,29 @@ abbrev pub commanded : Setting → ℕ → Cmd → Ring → Enacted Cmd → Turn
 commanded s indent cmd r p = record {
   outcome = outcome (means_of p.input indent r) cmd s p.made.value;
   made = then_do (λ s v. p.made) (effect (means_of p.input indent r) cmd) s p.made.value;
-  ring = ring_after cmd p.made.value r;
+  ring = ring_after_command cmd p.made.value r;
   input = p.input;
   rest = p.rest;
 }
 
 abbrev pub turned_by : Setting → ℕ → Ring → Result Cmd ReadlineError → Enacted Cmd → Turned
 turned_by s indent r (Ok cmd) p = commanded s indent cmd (reset_by cmd r) p
-turned_by s indent r (Err e) p = record { outcome = Err e; made = p.made; ring = r; input = p.input; rest = p.rest }
+turned_by s indent r (Err e) p = record {
+  outcome = Err e;
+  made = p.made;
+  ring = r;
+  input = p.input;
+  rest = p.rest;
+}
 
 unfoldable pub turn_of : Setting → Custom → ℕ → Input → Ring → Value → Coming → Turned
-turn_of s custom indent input r v c = turned_by s indent r (phrase_enacted s custom input v c).answer (phrase_enacted s custom input v c)
+turn_of s custom indent input r v c =
+    turned_by s indent r (phrase_enacted s custom input v c).answer
+    (phrase_enacted s custom input v c)
 
 -- ---- a line
 
--- its turns, its outcome, the value behind it, and what the next line begins with
+-- its turns, its outcome, the value after it, and what the next line begins with
 pub record Told : Type 0 where
   pub turns : List Turn
   pub outcome : Result (List ℕ) ReadlineError
@@ -113,18 +132,33 @@ submits s info t =
     }
 
 abbrev pub ends : ReadlineError → Turned → Told
-ends e t = record { turns = Last t.made.redraws (breaks_after e) ∷ []; outcome = Err e; value = t.made.value; ring = t.ring; rest = t.rest }
+ends e t = record {
+  turns = Last t.made.redraws (breaks_after e) ∷ [];
+  outcome = Err e;
+  value = t.made.value;
+  ring = t.ring;
+  rest = t.rest;
+}
 
-abbrev pub after_turn : (Input → Ring → Option (List ℕ) → Value → Coming → Told) → Setting → Option (List ℕ) → Turned → Result Status ReadlineError → Told
+abbrev pub after_turn : (Input → Ring → Option (List ℕ) → Value → Coming → Told) → Setting
+    → Option (List ℕ) → Turned → Result Status ReadlineError → Told
 after_turn next s info t (Ok Proceed) =
     let stands = info_after t.made.redraws info in
-    opened_by (Open t.made.redraws (sight_of s t.made.value stands)) (next t.input t.ring stands t.made.value t.rest)
+    opened_by (Open t.made.redraws (sight_of s t.made.value stands))
+    (next t.input t.ring stands t.made.value t.rest)
 after_turn next s info t (Ok Submit) = submits s info t
 after_turn next s info t (Err e) = ends e t
 
 -- more fuel than a reader has keys and pastes is enough
-unfoldable pub line_from : ℕ → Setting → Custom → ℕ → Input → Ring → Option (List ℕ) → Value → Coming → Told
-line_from zero s custom indent input r info v c = record { turns = []; outcome = Err Memory; value = v; ring = r; rest = c }
+unfoldable pub line_from : ℕ → Setting → Custom → ℕ → Input → Ring → Option (List ℕ) → Value
+    → Coming → Told
+line_from zero s custom indent input r info v c = record {
+  turns = [];
+  outcome = Err Memory;
+  value = v;
+  ring = r;
+  rest = c;
+}
 line_from (suc n) s custom indent input r info v c =
     let t = turn_of s custom indent input r v c in
     after_turn (line_from n s custom indent) s info t t.outcome

@@ -17,56 +17,63 @@ use Rattle.line_help.specs.History.{begins_with_space}
 use Rattle.line_keys.specs.declared.command.CmdKind.{CmdKind}
 use Rattle.line_keys.specs.declared.command.CmdKind.TheVariants.{MoveCursor}
 use Rattle.line_editor.specs.Drawing.{cursor_moved}
-use Rattle.line_editor.specs.Values.{Edit, unchanged, then_do, at_line}
+use Rattle.line_editor.specs.Values.{Transition, unchanged, then_do, at_line}
 
 -- where it moves, the display's cursor follows
-abbrev pub stepped : CmdKind → Bool → Line → Edit
-stepped kind moves line s v = if moves then cursor_moved kind s (at_line line v) else unchanged s v
+abbrev pub cursor_moved_if : CmdKind → Bool → Line → Transition
+cursor_moved_if kind moves line s v =
+    if moves then cursor_moved kind s (at_line line v) else unchanged s v
 
-abbrev pub to_found : Option ℕ → Edit
-to_found found s v = stepped MoveCursor (is_some found) (moved_to found v.line) s v
+abbrev pub to_found : Option ℕ → Transition
+to_found found s v = cursor_moved_if MoveCursor (is_some found) (moved_to found v.line) s v
 
-abbrev pub to_place : CmdKind → ℕ → Edit
-to_place kind place s v = stepped kind (not (place == v.line.place)) (record v.line { place = place }) s v
+abbrev pub to_place : CmdKind → ℕ → Transition
+to_place kind place s v =
+    cursor_moved_if kind (not (place == v.line.place)) (record v.line { place = place }) s v
 
-abbrev pub move_backward : ℕ → Edit
+abbrev pub move_backward : ℕ → Transition
 move_backward n s v = to_found (place_backward n v.line) s v
 
-abbrev pub move_forward : ℕ → Edit
+abbrev pub move_forward : ℕ → Transition
 move_forward n s v = to_found (place_forward n v.line) s v
 
-abbrev pub move_to_prev_word : Word → ℕ → Edit
+abbrev pub move_to_prev_word : Word → ℕ → Transition
 move_to_prev_word word n s v = to_found (prev_word word n v.line) s v
 
-abbrev pub move_to_next_word : At → Word → ℕ → Edit
+abbrev pub move_to_next_word : At → Word → ℕ → Transition
 move_to_next_word at word n s v = to_found (next_word at word n v.line) s v
 
-abbrev pub move_to : CharSearch → ℕ → Edit
+abbrev pub move_to : CharSearch → ℕ → Transition
 move_to search n s v = to_found (search_place search n v.line) s v
 
-abbrev pub move_line_up : ℕ → Edit
+abbrev pub move_line_up : ℕ → Transition
 move_line_up n s v = to_found (line_up s.mode s.column n v.line) s v
 
-abbrev pub move_line_down : ℕ → Edit
+abbrev pub move_line_down : ℕ → Transition
 move_line_down n s v = to_found (line_down s.mode s.column n v.line) s v
 
-abbrev pub move_home : Edit
+abbrev pub move_home : Transition
 move_home s v = to_place MoveCursor (row_start v.line.text v.line.place) s v
 
-abbrev pub move_end : Edit
+abbrev pub move_end : Transition
 move_end s v = to_place MoveCursor (row_end v.line.text v.line.place) s v
 
-abbrev pub move_buffer_start : Edit
-move_buffer_start s v = stepped MoveCursor (not (v.line.place == 0)) (record v.line { place = 0 }) s v
+abbrev pub move_buffer_start : Transition
+move_buffer_start s v =
+    cursor_moved_if MoveCursor (not (v.line.place == 0)) (record v.line { place = 0 }) s v
 
-abbrev pub move_buffer_end : CmdKind → Edit
-move_buffer_end kind s v = stepped kind (not (v.line.place == length v.line.text)) (record v.line { place = length v.line.text }) s v
+abbrev pub move_buffer_end : CmdKind → Transition
+move_buffer_end kind s v =
+    cursor_moved_if kind (not (v.line.place == length v.line.text))
+    (record v.line { place = length v.line.text }) s v
 
 -- from the row's start on to the next word, where the text begins with whitespace
-abbrev pub move_to_first_print : Edit
-move_to_first_print s v = if begins_with_space v.line.text then then_do move_home (move_to_next_word Start Big 1) s v else move_home s v
+abbrev pub move_to_first_print : Transition
+move_to_first_print s v =
+    if begins_with_space v.line.text then then_do move_home (move_to_next_word Start Big 1) s v
+    else move_home s v
 
-abbrev pub move_by : Movement → Edit
+abbrev pub move_by : Movement → Transition
 move_by WholeLine = unchanged
 move_by BeginningOfLine = move_home
 move_by EndOfLine = move_end

@@ -1,5 +1,6 @@
--- What is read and drawn of a line from some state on: all that the definition says, or a beginning of it.
-use Rattle.std.specs.Prelude.{◌≡◌, ◌⊎◌, ⊤, ℕ, ◌<◌, ◌≤◌, Bool, List, Option, None, Result, Ok, Err, flat_map, IsTrue, IfErr, OnOk}
+-- What is read and drawn of a line from some state on: all that the definition says, or a beginning
+-- of it.
+use Rattle.std.specs.Prelude.{◌≡◌, ◌⊎◌, ⊤, ℕ, ◌<◌, ◌≤◌, Bool, List, ◌∷◌, Option, None, Result, Ok, Err, flat_map, IsTrue, IfErr, OnOk}
 use Rattle.line_config.specs.declared.errors.ReadlineError.{ReadlineError}
 use Rattle.line_help.specs.declared.completion as completions
 use Rattle.line_help.specs.declared.hint as hints
@@ -8,16 +9,17 @@ use Rattle.line_help.specs.declared.validate as verdicts
 use Rattle.line_help.specs.declared.history as histories
 use Rattle.line_keys.specs.Answers.{Custom}
 use Rattle.line_keys.specs.Coming.{Coming}
-use Rattle.line_keys.specs.Feeds.{Feed}
+use Rattle.line_keys.specs.Feeds.{KeyFeed}
 use Rattle.line_keys.specs.Phrases.{Input}
 use Rattle.line_record.specs.Ring.{Ring}
+use Rattle.line_editor.specs.Acts.{Sees, acts_from}
 use Rattle.line_editor.specs.Courses.{redraws_in}
 use Rattle.line_editor.specs.Drawing.{refreshed}
 use Rattle.line_editor.specs.Lines.{Told, line_from, drawn_first}
 use Rattle.line_editor.specs.Sights.{info_after}
 use Rattle.line_editor.specs.States.{value_of, setting_of, Does}
-use Rattle.line_editor.specs.Turning.{Cut, Cause}
-use Rattle.line_editor.specs.Values.{Value, Setting, Edit}
+use Rattle.line_editor.specs.Turning.{Doing, HeardBy, Cut, Cause}
+use Rattle.line_editor.specs.Values.{Value, Setting, Transition}
 use Rattle.line_editor.specs.declared.renderer as renderers
 use Rattle.line_editor.specs.declared.state.State.{State}
 
@@ -35,34 +37,60 @@ drawn_and_turned custom indent input ring c n none s v =
     let e = refreshed s v in
     drawn_first s e (turns_left custom indent input ring c n (info_after e.redraws None) s e.value)
 
+abbrev pub turns_doing : Custom → ℕ → Input → Ring → Coming → ℕ → Doing
+turns_doing custom indent input r c n s v = acts_from n s custom indent input r v c
+
+abbrev pub line_doing : Custom → ℕ → Input → Ring → Coming → ℕ → Doing
+line_doing custom indent input r c n s v =
+    let e = refreshed s v in
+    Sees e.redraws ∷ turns_doing custom indent input r c n s e.value
+
 -- all of it as one edit
-abbrev pub edit_of : Telling → Edit
-edit_of line s v = record { value = (line s v).value; redraws = flat_map redraws_in (line s v).turns }
+abbrev pub edit_of : Telling → Transition
+edit_of line s v = record {
+  value = (line s v).value;
+  redraws = flat_map redraws_in (line s v).turns;
+}
 
 -- the text that an accepted line has, or why there is none
 abbrev pub text_or : {A : Type 0} → Result A ReadlineError → List ℕ → Result (List ℕ) ReadlineError
 text_or (Ok x) text = Ok text
 text_or (Err e) text = Err e
 
-module _ {Out H Hi K T : Type 0} {renderer : renderers.Renderer.Ghosts Out} {completer : completions.Completer.Ghosts H K} {candidate : completions.Candidate.Ghosts K}
-    {hinter : hints.Hinter.Ghosts H T} {hint : hints.Hint.Ghosts T} {highlighter : highlights.Highlighter.Ghosts H} {validator : verdicts.Validator.Ghosts H} {history : histories.History.Ghosts Hi} where
+module _ {Out H Hi K T : Type 0} {renderer : renderers.Renderer.Ghosts Out}
+    {completer : completions.Completer.Ghosts H K} {candidate : completions.Candidate.Ghosts K}
+    {hinter : hints.Hinter.Ghosts H T} {hint : hints.Hint.Ghosts T}
+    {highlighter : highlights.Highlighter.Ghosts H} {validator : verdicts.Validator.Ghosts H}
+    {history : histories.History.Ghosts Hi} where
   -- it was read whole, and ends as it says
-  pub record Read {A : Type 0} (line : Telling) (s t : State Out H Hi K T renderer completer candidate hinter hint highlighter validator history)
+  pub record Read {A : Type 0} (line : Telling)
+      (s t : State Out H Hi K T renderer completer candidate hinter hint highlighter validator
+      history)
       (ring : Ring) (rest : Coming) (result : Result A ReadlineError) : Type 0 where
     pub does : Does {A = Unit {0}} (edit_of line) s t (Ok (tt {0}))
     pub outcome_is : text_or result t.line.text ≡ (line (setting_of s) (value_of s)).outcome
     pub ring_is : ring ≡ (line (setting_of s) (value_of s)).ring
     pub rest_is : rest ≡ (line (setting_of s) (value_of s)).rest
 
-  -- or a fault cut it
-  abbrev pub Reading : {A : Type 0} → Bool → Telling → State Out H Hi K T renderer completer candidate hinter hint highlighter validator history
-      → State Out H Hi K T renderer completer candidate hinter hint highlighter validator history → Ring → Coming → Result A ReadlineError → Type 0
-  Reading steady line s t ring rest result = Read line s t ring rest result ⊎ Cut steady (edit_of line) s t result
+  -- of what was heard it was read whole; or a fault cut it
+  abbrev pub Reading : {A : Type 0} → Bool → (Coming → Telling) → Doing
+      → State Out H Hi K T renderer completer candidate hinter hint highlighter validator history
+      → State Out H Hi K T renderer completer candidate hinter hint highlighter validator history
+      → Coming → Coming → Ring → Ring → Result A ReadlineError → Type 0
+  Reading steady line acts s t c c' r r' result =
+      ((heard : Coming) × HeardBy steady c result heard × Read (line heard) s t r' c' result)
+      ⊎ Cut acts s t c c' r r' result
 
   -- THE relation of a line from a state on. More fuel than the reader has keys and pastes is enough
-  pub record ReadsLine {I A : Type 0} (custom : Custom) (line : ℕ → I → Telling) (s : State Out H Hi K T renderer completer candidate hinter hint highlighter validator history) (feed : Feed)
-      (t : State Out H Hi K T renderer completer candidate hinter hint highlighter validator history) (ring : Ring) (feed' : Feed) (result : Result A ReadlineError) : Type 0 where
-    pub goes : IsTrue feed.told → (n : ℕ) → feed.bound < n → (i : I) → Reading feed.steady (line n i) s t ring feed'.coming result
+  pub record ReadsLine {I A : Type 0} (custom : Custom) (line : Coming → ℕ → I → Telling)
+      (acts : ℕ → Doing)
+      (s : State Out H Hi K T renderer completer candidate hinter hint highlighter validator
+      history) (ring : Ring) (feed : KeyFeed)
+      (t : State Out H Hi K T renderer completer candidate hinter hint highlighter validator
+      history) (ring' : Ring) (feed' : KeyFeed) (result : Result A ReadlineError) : Type 0 where
+    pub goes : IsTrue feed.told → (n : ℕ) → feed.bound < n → (i : I)
+        → Reading feed.steady (λ heard. line heard n i)
+        (acts n) s t feed.coming feed'.coming ring ring' result
     pub told : IsTrue feed.told → IsTrue feed'.told
     pub steady : feed'.steady ≡ feed.steady
     pub keeps : feed'.bound ≤ feed.bound

@@ -1,5 +1,7 @@
--- What an effect wants to be seen, and the calls that this gives on a display, with the layout that is kept.
+-- What an effect wants to be seen, and the calls that this gives on a display, with the layout that
+-- is kept.
 use Rattle.std.specs.Prelude.{ℕ, ◌+◌, ◌-◌, ◌==◌, ◌&&◌, not, nat_lt, nat_le, Bool, true, false, if◌then◌else◌, List, [], ◌∷◌, ◌++◌, take, Option, Some, None, is_some, encode_utf8}
+use Rattle.line_buffer.specs.CellOrder.{same_cell}
 use Rattle.line_buffer.specs.Cells.{origin}
 use Rattle.line_buffer.specs.declared.layout.GraphemeClusterMode.{GraphemeClusterMode}
 use Rattle.line_buffer.specs.declared.layout.Layout.{Layout}
@@ -10,12 +12,13 @@ use Rattle.line_editor.specs.Calls.Call.{Draw, Move, Write, Beep, ClearScreen, C
 -- it knows of no columns
 pub data Redraw : Type 0 where
   -- drawn whole; `given`: the prompt is the session's own
-  Drawn : (prompt : List ℕ) (given : Bool) (text : List ℕ) (place : ℕ) (info : Option (List ℕ)) → Redraw
+  Drawn : (prompt : List ℕ) (given : Bool) (text : List ℕ) (place : ℕ) (info : Option (List ℕ))
+      → Redraw
   -- the cursor moved to a place of the shown text
   Moved : (text : List ℕ) (place : ℕ) → Redraw
-  -- a printable character typed at the end of a plain line, with no information before or behind it
+  -- a printable character typed at the end of a plain line, with no information before or after it
   Typed : (prompt : List ℕ) (c : ℕ) (text : List ℕ) (place : ℕ) → Redraw
-  -- so many printable characters taken from the end of a plain line, with no information behind it
+  -- so many printable characters taken from the end of a plain line, with no information after it
   Taken : (prompt : List ℕ) (count : ℕ) (text : List ℕ) (place : ℕ) → Redraw
   -- drawn anew, without hint and message, only where another prompt than the session's own stands
   Bared : (prompt : List ℕ) (text : List ℕ) (place : ℕ) → Redraw
@@ -24,18 +27,25 @@ pub data Redraw : Type 0 where
   Beeped : Redraw
   Cleared : Redraw
 
--- calls in order, and the layout behind them
+-- calls in order, and the layout after them
 pub record Asked : Type 0 where
   pub calls : List Call
   pub layout : Layout
 
-abbrev pub text_of : Option (List ℕ) → List ℕ
-text_of None = []
-text_of (Some text) = text
+abbrev pub info_text : Option (List ℕ) → List ℕ
+info_text None = []
+info_text (Some text) = text
 
 -- before anything is drawn
 abbrev pub fresh : GraphemeClusterMode → Layout
-fresh mode = record { grapheme_cluster_mode = mode; prompt_size = origin; default_prompt = false; cursor = origin; end = origin; has_info = false }
+fresh mode = record {
+  grapheme_cluster_mode = mode;
+  prompt_size = origin;
+  default_prompt = false;
+  cursor = origin;
+  end = origin;
+  has_info = false;
+}
 
 -- the end is measured on the whole line
 abbrev pub layout_of : Ruler → Position → Bool → List ℕ → ℕ → Option (List ℕ) → Layout
@@ -44,23 +54,26 @@ layout_of r start given text place info = record {
   prompt_size = start;
   default_prompt = given;
   cursor = r.measure (take place text) start;
-  end = r.measure (text_of info) (r.measure text start);
+  end = r.measure (info_text info) (r.measure text start);
   has_info = is_some info;
 }
 
 abbrev pub full : Ruler → Layout → List ℕ → Bool → List ℕ → ℕ → Option (List ℕ) → Asked
 full r l prompt given text place info =
     let new = layout_of r (r.measure prompt origin) given text place info in
-    record { calls = Draw (Some l.cursor.row) prompt text (text_of info) new.end new.cursor ∷ []; layout = new }
-
-abbrev pub same_cell : Position → Position → Bool
-same_cell a b = (a.col == b.col) && (a.row == b.row)
+    record {
+      calls = Draw (Some l.cursor.row) prompt text (info_text info) new.end new.cursor ∷ [];
+      layout = new;
+    }
 
 abbrev pub nothing_asked : Layout → Asked
 nothing_asked l = record { calls = []; layout = l }
 
 abbrev pub moved_by_call : Layout → Position → Asked
-moved_by_call l cursor = record { calls = Move l.cursor cursor ∷ []; layout = record l { cursor = cursor } }
+moved_by_call l cursor = record {
+  calls = Move l.cursor cursor ∷ [];
+  layout = record l { cursor = cursor };
+}
 
 abbrev pub moved : Layout → Position → Asked
 moved l cursor = if same_cell l.cursor cursor then nothing_asked l else moved_by_call l cursor
@@ -73,7 +86,10 @@ column_back n p = record { col = p.col - n; row = p.row }
 
 -- the character's byte alone
 abbrev pub typed_short : Layout → ℕ → Asked
-typed_short l c = record { calls = Write (encode_utf8 c) ∷ []; layout = record l { cursor = column_on l.cursor; end = column_on l.cursor } }
+typed_short l c = record {
+  calls = Write (encode_utf8 c) ∷ [];
+  layout = record l { cursor = column_on l.cursor; end = column_on l.cursor };
+}
 
 -- the rest of the row erased
 abbrev pub taken_short : Layout → ℕ → Asked
@@ -91,9 +107,12 @@ may_take l count = not l.has_info && ((l.cursor.row == l.end.row) && nat_le coun
 abbrev pub one : Ruler → Layout → Redraw → Asked
 one r l (Drawn prompt given text place info) = full r l prompt given text place info
 one r l (Moved text place) = moved l (r.measure (take place text) l.prompt_size)
-one r l (Typed prompt c text place) = if may_type r l then typed_short l c else full r l prompt true text place None
-one r l (Taken prompt count text place) = if may_take l count then taken_short l count else full r l prompt true text place None
-one r l (Bared prompt text place) = if l.default_prompt then nothing_asked l else full r l prompt true text place None
+one r l (Typed prompt c text place) =
+    if may_type r l then typed_short l c else full r l prompt true text place None
+one r l (Taken prompt count text place) =
+    if may_take l count then taken_short l count else full r l prompt true text place None
+one r l (Bared prompt text place) =
+    if l.default_prompt then nothing_asked l else full r l prompt true text place None
 one r l ToEnd = moved l l.end
 one r l Beeped = record { calls = Beep ∷ []; layout = l }
 one r l Cleared = record { calls = ClearScreen ∷ []; layout = fresh l.grapheme_cluster_mode }

@@ -5,7 +5,7 @@ use Rattle.line_help.specs.Search.{Hit, entry_at, searched}
 use Rattle.line_help.specs.declared.search.SearchDirection.{SearchDirection}
 use Rattle.line_help.specs.declared.search.SearchDirection.TheVariants.{Forward, Reverse}
 use Rattle.line_editor.specs.Drawing.{refreshed, beeped}
-use Rattle.line_editor.specs.Values.{Value, Setting, Edit, unchanged, rewritten}
+use Rattle.line_editor.specs.Values.{Value, Setting, Transition, unchanged, rewritten}
 
 -- the line kept for coming back to it
 abbrev pub saved_now : Value → Value
@@ -21,50 +21,56 @@ abbrev pub recalled : List ℕ → ℕ → Value → Value
 recalled entry place v = rewritten (update_in_group entry place) v
 
 -- where the history's end is left the line is saved
-abbrev pub leaving : Setting → Value → Value
-leaving s v = if v.history == length s.entries then saved_now v else v
+abbrev pub saved_on_leaving : Setting → Value → Value
+saved_on_leaving s v = if v.history == length s.entries then saved_now v else v
 
 -- an entry in place of the line, the cursor at its end
-abbrev pub recall : ℕ → Option Hit → Edit
+abbrev pub recall : ℕ → Option Hit → Transition
 recall place None s v = unchanged s v
 recall place (Some hit) s v = refreshed s (recalled hit.entry (length hit.entry) (at_place place v))
 
-abbrev pub come_back : Edit
+abbrev pub come_back : Transition
 come_back s v = refreshed s (restored (at_place (length s.entries) v))
 
-abbrev pub previous_entry : Edit
+abbrev pub previous_entry : Transition
 previous_entry s v = if v.history == 0 then unchanged s v
-    else recall (v.history - 1) (entry_at (v.history - 1) s.entries) s (leaving s v)
+    else recall (v.history - 1) (entry_at (v.history - 1) s.entries) s (saved_on_leaving s v)
 
-abbrev pub next_entry : Edit
+abbrev pub next_entry : Transition
 next_entry s v = if v.history == length s.entries then unchanged s v
     else if v.history + 1 == length s.entries then come_back s v
     else recall (v.history + 1) (entry_at (v.history + 1) s.entries) s v
 
-abbrev pub first_entry : Edit
-first_entry s v = if v.history == 0 then unchanged s v else recall 0 (entry_at 0 s.entries) s (leaving s v)
+abbrev pub first_entry : Transition
+first_entry s v =
+    if v.history == 0 then unchanged s v
+    else recall 0 (entry_at 0 s.entries) s (saved_on_leaving s v)
 
-abbrev pub last_line : Edit
+abbrev pub last_line : Transition
 last_line s v = if v.history == length s.entries then unchanged s v else come_back s v
 
-abbrev pub history_step : Bool → Edit
+abbrev pub history_step : Bool → Transition
 history_step true = previous_entry
 history_step false = next_entry
 
-abbrev pub history_end : Bool → Edit
+abbrev pub history_end : Bool → Transition
 history_end true = first_entry
 history_end false = last_line
 
 -- ---- entries that begin with the text before the cursor
 
-abbrev pub found : Option Hit → Edit
-found None s v = beeped s v
-found (Some hit) s v = refreshed s (recalled hit.entry hit.pos (at_place hit.idx v))
+abbrev pub hit_shown : Option Hit → Transition
+hit_shown None s v = beeped s v
+hit_shown (Some hit) s v = refreshed s (recalled hit.entry hit.pos (at_place hit.idx v))
 
 -- the place moves also where nothing is found
-abbrev pub search_from : SearchDirection → ℕ → Edit
-search_from dir place s v = found (searched true (take v.line.place v.line.text) place dir s.entries) s (at_place place v)
+abbrev pub search_from : SearchDirection → ℕ → Transition
+search_from dir place s v =
+    hit_shown (searched true (take v.line.place v.line.text) place dir s.entries) s
+    (at_place place v)
 
-abbrev pub history_search : SearchDirection → Edit
-history_search Reverse s v = if v.history == 0 then beeped s v else search_from Reverse (v.history - 1) s v
-history_search Forward s v = if v.history == length s.entries then beeped s v else search_from Forward (v.history + 1) s v
+abbrev pub history_search : SearchDirection → Transition
+history_search Reverse s v =
+    if v.history == 0 then beeped s v else search_from Reverse (v.history - 1) s v
+history_search Forward s v =
+    if v.history == length s.entries then beeped s v else search_from Forward (v.history + 1) s v

@@ -8,17 +8,17 @@ use Rattle.line_editor.specs.Commands.{Means, effect}
 use Rattle.line_editor.specs.Values.{Value, Setting}
 
 -- what changes a line's value: a command, or what the key tables ask
-pub data Step : Type 0 where
-  Done : (means : Means) (cmd : Cmd) → Step
-  Asked : (ask : Ask) → Step
+pub data ValueStep : Type 0 where
+  Done : (means : Means) (cmd : Cmd) → ValueStep
+  Asked : (ask : Ask) → ValueStep
 
-abbrev pub after_step : Setting → Step → Value → Value
-after_step s (Done means cmd) v = (effect means cmd s v).value
-after_step s (Asked ask) v = (ask_effect ask s v).value
+abbrev pub value_after : Setting → ValueStep → Value → Value
+value_after s (Done means cmd) v = (effect means cmd s v).value
+value_after s (Asked ask) v = (ask_effect ask s v).value
 
-abbrev pub after_steps : Setting → List Step → Value → Value
-after_steps s [] v = v
-after_steps s (step ∷ steps) v = after_steps s steps (after_step s step v)
+abbrev pub value_after_all : Setting → List ValueStep → Value → Value
+value_after_all s [] v = v
+value_after_all s (step ∷ steps) v = value_after_all s steps (value_after s step v)
 
 -- the commands that leave the history's end with the line saved: by one entry, or to the first
 abbrev pub leaving_by : Bool → Cmd
@@ -31,7 +31,7 @@ is_search HistorySearchBackward = true
 is_search HistorySearchForward = true
 is_search cmd = false
 
-abbrev pub searches : Step → Bool
+abbrev pub searches : ValueStep → Bool
 searches (Done means cmd) = is_search cmd
 searches (Asked ask) = false
 
@@ -41,19 +41,19 @@ pub record Away (s : Setting) (v : Value) : Type 0 where
   pub grows : v.line.growth ≡ true
 
 -- each step is begun away from it
-abbrev pub StaysAway : Setting → List Step → Value → Type 0
+abbrev pub StaysAway : Setting → List ValueStep → Value → Type 0
 StaysAway s [] v = ⊤
 StaysAway s (step ∷ steps) v =
-    Away s v × (searches step ≡ false) × StaysAway s steps (after_step s step v)
+    Away s v × (searches step ≡ false) × StaysAway s steps (value_after s step v)
 
--- where the end is left, and after steps of which none is a search the place is there again, line and
--- cursor are as they were
+-- where the end is left, and after steps of which none is a search the place is there again, line
+-- and cursor are as they were
 abbrev pub ComesBack : Type 0
 ComesBack =
-    (s : Setting) (m : Means) (one : Bool) (steps : List Step) (v : Value)
+    (s : Setting) (m : Means) (one : Bool) (steps : List ValueStep) (v : Value)
     → v.history ≡ length s.entries → v.line.place ≤ length v.line.text
     → let left = (effect m (leaving_by one) s v).value in
     StaysAway s steps left
-    → let back = after_steps s steps left in
+    → let back = value_after_all s steps left in
     back.history ≡ length s.entries
     → (back.line.text ≡ v.line.text) × (back.line.place ≡ v.line.place)

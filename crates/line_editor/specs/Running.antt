@@ -1,19 +1,20 @@
 -- A whole line: what is handed in for it, what is given back, and what was read and drawn.
-use Rattle.std.specs.Prelude.{◌≡◌, ◌⊎◌, ℕ, ◌<◌, ◌≤◌, Bool, List, Option, None, option_map, Result, Err, string_bytes, flat_map, if◌then◌else◌, IsTrue, IsFalse, IsSomeAnd, IfErr, OnOk}
+use Rattle.std.specs.Prelude.{◌≡◌, ◌⊎◌, ℕ, ◌<◌, ◌≤◌, Bool, List, Option, None, option_map, Result, Err, string_bytes, flat_map, if◌then◌else◌, IsTrue, IsSomeAnd, IfErr, OnOk}
 use Rattle.std.specs.List.{FoldsTo}
 use Rattle.line_buffer.specs.Cells.{origin}
 use Rattle.line_config.specs.declared.config.Config.{Config}
 use Rattle.line_config.specs.declared.errors.ReadlineError.{ReadlineError}
-use Rattle.line_config.specs.declared.errors.ReadlineError.TheVariants.{Reader}
 use Rattle.line_help.specs.Hints.{Hinted, Answers}
 use Rattle.line_help.specs.declared.validate.ValidationResult.{ValidationResult}
 use Rattle.line_keys.specs.Answers.{Custom}
 use Rattle.line_keys.specs.Coming.{Coming, made_of}
-use Rattle.line_keys.specs.Feeds.{Feed}
+use Rattle.line_keys.specs.Early.{Heard}
+use Rattle.line_keys.specs.Feeds.{KeyFeed}
 use Rattle.line_keys.specs.InputStates.{new_input}
 use Rattle.line_keys.specs.declared.command.CmdKind.{CmdKind}
 use Rattle.line_record.specs.Ring.{Ring}
-use Rattle.line_editor.specs.Calls.{Call, Canvas, Ruler, Begun}
+use Rattle.line_editor.specs.Acts.{Act, acts_of, Stage, stage, CutIn}
+use Rattle.line_editor.specs.Calls.{Call, Canvas, Ruler}
 use Rattle.line_editor.specs.Courses.{Turn, redraws_in}
 use Rattle.line_editor.specs.Lines.{Told, line_of}
 use Rattle.line_editor.specs.Redraws.{asked, fresh}
@@ -55,6 +56,11 @@ abbrev pub line_meant : ℕ → Setting → Custom → Config → Ring → Comin
 line_meant n s custom config ring c =
     line_of n s custom config.indent_size (new_input config.edit_mode) ring c
 
+-- and what is done for it
+abbrev pub acts_meant : ℕ → Setting → Custom → Config → Ring → Coming → List Act
+acts_meant n s custom config ring c =
+    acts_of n s custom config.indent_size (new_input config.edit_mode) ring c
+
 -- the calls of its turns, on a display where nothing is drawn
 abbrev pub line_calls : Ruler → List Turn → List Call
 line_calls r turns = (asked r (fresh r.mode) (flat_map redraws_in turns)).calls
@@ -67,15 +73,13 @@ pub record WholeLine {R : Type 0} (canvas : Canvas R) (line : Told) (old new : R
   pub rest_is : rest ≡ line.rest
   pub calls : FoldsTo canvas.made old (line_calls (canvas.ruler old) line.turns) new
 
--- a fault came that no input gives: the calls made are the line's first ones, and perhaps a refused
--- one after them
-pub record CutLine {R : Type 0} (canvas : Canvas R) (line : Told) (steady : Bool) (hook : Type 0)
-    (old new : R) (outcome : Result (List ℕ) ReadlineError) : Type 0 where
+-- a fault came that no input gives: the first of these acts were done, and it cut them
+pub record CutLine {R : Type 0} (canvas : Canvas R) (acts : List Act) (hook : Type 0)
+    (old new : Stage R) (outcome : Result (List ℕ) ReadlineError) : Type 0 where
   pub fault : ReadlineError
   pub outcome_is : outcome ≡ Err fault
-  -- a source that isn't steady may fail at any time
-  pub cause : reason_of (canvas.failed new) hook fault ⊎ ((fault ≡ Reader) × IsFalse steady)
-  pub begun : Begun canvas (line_calls (canvas.ruler old) line.turns) old new
+  pub cause : reason_of (canvas.failed new.out) hook fault
+  pub done : let r = canvas.ruler old.out in CutIn canvas r fault acts (fresh r.mode) old new
 
 -- a helper, if there is one, by its answers
 abbrev pub helping_by : {H : Type 0} → (H → Answers (Option Hinted)) → (H → Answers Bool)
@@ -93,15 +97,19 @@ abbrev pub outcome_of : {R H K T : Type 0} → Ran R H K T → Result (List ℕ)
 outcome_of ran = made_of string_bytes ran.outcome
 
 -- THE relation of `run`. More fuel than the reader has keys and pastes is enough
-pub record Runs {R H K T : Type 0} (canvas : Canvas R) (helps : Option H → Helping) (custom : Custom)
+pub record Runs {R H K T : Type 0} (canvas : Canvas R) (helps : Option H → Helping)
+    (custom : Custom)
     (prompt : List ℕ) (helper : Option H) (entries : List (List ℕ)) (config : Config) (out : R)
-    (ring : Ring) (feed : Feed) (ran : Ran R H K T) (ring' : Ring) (feed' : Feed) : Type 0 where
+    (ring : Ring) (feed : KeyFeed) (ran : Ran R H K T) (ring' : Ring)
+    (feed' : KeyFeed) : Type 0 where
   pub goes : IsTrue feed.told → (n : ℕ) → feed.bound < n →
       let setting = setting_by (canvas.ruler out) prompt (helps helper) entries in
-      let line = line_meant n setting custom config ring feed.coming in
       let hook = HelperFails (helps helper) entries in
-      WholeLine canvas line out ran.out ring' feed'.coming (outcome_of ran)
-      ⊎ CutLine canvas line feed.steady hook out ran.out (outcome_of ran)
+      (heard : Coming) × Heard feed.steady feed.coming heard
+      × (WholeLine canvas (line_meant n setting custom config ring heard) out ran.out ring'
+      feed'.coming (outcome_of ran)
+      ⊎ CutLine canvas (acts_meant n setting custom config ring heard) hook
+      (stage out heard ring) (stage ran.out feed'.coming ring') (outcome_of ran))
   pub told : IsTrue feed.told → IsTrue feed'.told
   pub steady : feed'.steady ≡ feed.steady
   pub keeps : feed'.bound ≤ feed.bound

@@ -7,8 +7,9 @@ use Rattle.line_editor.specs.Redraws.{Redraw}
 use Rattle.line_editor.specs.Redraws.Redraw.{Drawn, Moved, Typed, Taken, Bared, ToEnd, Beeped, Cleared}
 use Rattle.line_editor.specs.Values.{Value, Setting}
 
--- prompt, line, place and information as they were last asked for; `given`: the prompt is the session's own; `ended`: the
--- cursor was sent to the drawing's end. An empty text counts as information
+-- prompt, line, place and information as they were last asked for; `given`: the prompt is the
+-- session's own; `ended`: the cursor was sent to the drawing's end. An empty text counts as
+-- information
 pub record Sight : Type 0 where
   pub prompt : List ℕ
   pub line : List ℕ
@@ -18,7 +19,14 @@ pub record Sight : Type 0 where
   pub ended : Bool
 
 abbrev pub sight_with : Bool → List ℕ → List ℕ → ℕ → Option (List ℕ) → Sight
-sight_with given prompt text place info = record { prompt = prompt; line = text; place = place; info = info; given = given; ended = false }
+sight_with given prompt text place info = record {
+  prompt = prompt;
+  line = text;
+  place = place;
+  info = info;
+  given = given;
+  ended = false;
+}
 
 abbrev pub sight_as : List ℕ → List ℕ → ℕ → Option (List ℕ) → Sight
 sight_as = sight_with true
@@ -32,11 +40,19 @@ sight x (Moved text place) = sight_with x.given x.prompt x.line place x.info
 sight x (Typed prompt c text place) = sight_as prompt text place None
 sight x (Taken prompt count text place) = sight_as prompt text place None
 sight x (Bared prompt text place) = x
-sight x ToEnd = record { prompt = x.prompt; line = x.line; place = x.place; info = x.info; given = x.given; ended = true }
+sight x ToEnd = record {
+  prompt = x.prompt;
+  line = x.line;
+  place = x.place;
+  info = x.info;
+  given = x.given;
+  ended = true;
+}
 sight x Beeped = x
 sight x Cleared = no_sight
 
-pub record TypedFits (x : Sight) (prompt : List ℕ) (c : ℕ) (text : List ℕ) (place : ℕ) : Type 0 where
+pub record TypedFits (x : Sight) (prompt : List ℕ) (c : ℕ) (text : List ℕ)
+    (place : ℕ) : Type 0 where
   pub printable : is_printable c ≡ true
   pub simple : is_plain x.line ≡ true
   pub end : x.place ≡ length x.line
@@ -44,7 +60,8 @@ pub record TypedFits (x : Sight) (prompt : List ℕ) (c : ℕ) (text : List ℕ)
   pub text_is : text ≡ x.line ++ c ∷ []
   pub behind : place ≡ x.place + 1
 
-pub record TakenFits (x : Sight) (prompt : List ℕ) (count : ℕ) (text : List ℕ) (place : ℕ) : Type 0 where
+pub record TakenFits (x : Sight) (prompt : List ℕ) (count : ℕ) (text : List ℕ)
+    (place : ℕ) : Type 0 where
   pub killed : List ℕ
   pub whole : x.line ≡ text ++ killed
   pub count_is : count ≡ length killed
@@ -57,8 +74,10 @@ pub record TakenFits (x : Sight) (prompt : List ℕ) (count : ℕ) (text : List 
 abbrev pub Fits : List ℕ → Sight → Redraw → Type 0
 Fits own x (Drawn prompt given text place info) = given ≡ true → prompt ≡ own
 Fits own x (Moved text place) = text ≡ x.line
-Fits own x (Typed prompt c text place) = (x.given ≡ true) × (prompt ≡ own) × (x.ended ≡ false) × TypedFits x prompt c text place
-Fits own x (Taken prompt count text place) = (x.given ≡ true) × (prompt ≡ own) × TakenFits x prompt count text place
+Fits own x (Typed prompt c text place) =
+    (x.given ≡ true) × (prompt ≡ own) × (x.ended ≡ false) × TypedFits x prompt c text place
+Fits own x (Taken prompt count text place) =
+    (x.given ≡ true) × (prompt ≡ own) × TakenFits x prompt count text place
 Fits own x (Bared prompt text place) = x.given ≡ true
 Fits own x ToEnd = ⊤
 Fits own x Beeped = ⊤

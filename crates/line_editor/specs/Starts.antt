@@ -26,10 +26,15 @@ empty_at history = record {
 abbrev pub first_value : Setting → Value
 first_value s = empty_at (length s.entries)
 
-module _ {Out H Hi K T : Type 0} {renderer : renderers.Renderer.Ghosts Out} {completer : completions.Completer.Ghosts H K} {candidate : completions.Candidate.Ghosts K}
-    {hinter : hints.Hinter.Ghosts H T} {hint : hints.Hint.Ghosts T} {highlighter : highlights.Highlighter.Ghosts H} {validator : verdicts.Validator.Ghosts H} {history : histories.History.Ghosts Hi} where
+module _ {Out H Hi K T : Type 0} {renderer : renderers.Renderer.Ghosts Out}
+    {completer : completions.Completer.Ghosts H K} {candidate : completions.Candidate.Ghosts K}
+    {hinter : hints.Hinter.Ghosts H T} {hint : hints.Hint.Ghosts T}
+    {highlighter : highlights.Highlighter.Ghosts H} {validator : verdicts.Validator.Ghosts H}
+    {history : histories.History.Ghosts Hi} where
   -- nothing is drawn, and nothing typed
-  pub record Starts (out : Out) (prompt : List ℕ) (helper : Option H) (entries : Hi) (place : ℕ) (s : State Out H Hi K T renderer completer candidate hinter hint highlighter validator history) : Type 0 where
+  pub record Starts (out : Out) (prompt : List ℕ) (helper : Option H) (entries : Hi) (place : ℕ)
+      (s : State Out H Hi K T renderer completer candidate hinter hint highlighter validator
+      history) : Type 0 where
     pub value : value_of s ≡ empty_at place
     pub layout : s.layout ≡ fresh (renderer.canvas.ruler out).mode
     pub out_is : s.out ≡ out

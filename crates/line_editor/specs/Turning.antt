@@ -1,5 +1,6 @@
--- What a turn makes of a state, of the ring and of what comes: all that the definition says, or a beginning of it.
-use Rattle.std.specs.Prelude.{◌≡◌, ◌⊎◌, ⊤, ℕ, ◌<◌, ◌≤◌, Bool, Result, Ok, Err, IsTrue, IsFalse, IfErr, OnOk}
+-- What a turn makes of a state, of the ring and of what comes: all that the definition says, or a
+-- beginning of it.
+use Rattle.std.specs.Prelude.{◌≡◌, ◌⊎◌, ⊤, ℕ, ◌<◌, ◌≤◌, Bool, List, Result, Ok, Err, IsTrue, IsFalse, IfErr, OnOk}
 use Rattle.line_config.specs.declared.errors.ReadlineError.{ReadlineError}
 use Rattle.line_config.specs.declared.errors.ReadlineError.TheVariants.{Eof, Interrupted, NotUtf8, PasteOutOfPlace, Reader, Display, Lines, HistoryText, Helper, Handler, Memory}
 use Rattle.line_help.specs.declared.completion as completions
@@ -9,14 +10,14 @@ use Rattle.line_help.specs.declared.validate as verdicts
 use Rattle.line_help.specs.declared.history as histories
 use Rattle.line_keys.specs.Answers.{Custom, HandlerFails}
 use Rattle.line_keys.specs.Coming.{Coming}
-use Rattle.line_keys.specs.Feeds.{Feed}
+use Rattle.line_keys.specs.Early.{Early}
+use Rattle.line_keys.specs.Feeds.{KeyFeed}
 use Rattle.line_keys.specs.Phrases.{Input}
 use Rattle.line_record.specs.Ring.{Ring}
-use Rattle.line_editor.specs.Calls.{Begun}
+use Rattle.line_editor.specs.Acts.{Act, turn_acts, stage, CutIn}
 use Rattle.line_editor.specs.Lines.{Turned, turn_of}
-use Rattle.line_editor.specs.Redraws.{asked}
 use Rattle.line_editor.specs.States.{value_of, setting_of, Stays, Reason, HookFails, Does}
-use Rattle.line_editor.specs.Values.{Value, Setting, Edit}
+use Rattle.line_editor.specs.Values.{Value, Setting}
 use Rattle.line_editor.specs.declared.commands.Status.{Status}
 use Rattle.line_editor.specs.declared.renderer as renderers
 use Rattle.line_editor.specs.declared.state.State.{State}
@@ -25,8 +26,21 @@ use Rattle.line_editor.specs.declared.state.State.{State}
 abbrev pub turning : Custom → ℕ → Input → Ring → Coming → Setting → Value → Turned
 turning custom indent input r c s v = turn_of s custom indent input r v c
 
+-- what is done, by what it begins with
+abbrev pub Doing : Type 0
+Doing = Setting → Value → List Act
+
+abbrev pub turn_doing : Custom → ℕ → Input → Ring → Coming → Doing
+turn_doing custom indent input r c s v = turn_acts s custom indent input r v c
+
+-- what was heard of what comes, by how a call ends: all of it; only where its source failed, which
+-- isn't steady, was it a beginning
+abbrev pub HeardBy : {A : Type 0} → Bool → Coming → Result A ReadlineError → Coming → Type 0
+HeardBy steady coming result heard =
+    (heard ≡ coming) ⊎ (IsFalse steady × Early heard coming × (result ≡ Err Reader))
+
 -- why a call that reads and edits is refused, whatever is told; commands end a line too
-abbrev pub cause_of : Custom → Bool → Type 0 → Feed → ReadlineError → Type 0
+abbrev pub cause_of : Custom → Bool → Type 0 → KeyFeed → ReadlineError → Type 0
 cause_of custom failed hook feed Eof = ⊤
 cause_of custom failed hook feed Interrupted = ⊤
 cause_of custom failed hook feed NotUtf8 = feed.reason NotUtf8
@@ -39,24 +53,34 @@ cause_of custom failed hook feed Helper = hook
 cause_of custom failed hook feed Handler = HandlerFails custom
 cause_of custom failed hook feed Memory = ⊤
 
-module _ {Out H Hi K T : Type 0} {renderer : renderers.Renderer.Ghosts Out} {completer : completions.Completer.Ghosts H K} {candidate : completions.Candidate.Ghosts K}
-    {hinter : hints.Hinter.Ghosts H T} {hint : hints.Hint.Ghosts T} {highlighter : highlights.Highlighter.Ghosts H} {validator : verdicts.Validator.Ghosts H} {history : histories.History.Ghosts Hi} where
-  -- a fault came, which no input gives: the calls made are the first of the edit's, and a refused one perhaps behind them
-  pub record Cut {A : Type 0} (steady : Bool) (edit : Edit) (s t : State Out H Hi K T renderer completer candidate hinter hint highlighter validator history)
-      (result : Result A ReadlineError) : Type 0 where
+module _ {Out H Hi K T : Type 0} {renderer : renderers.Renderer.Ghosts Out}
+    {completer : completions.Completer.Ghosts H K} {candidate : completions.Candidate.Ghosts K}
+    {hinter : hints.Hinter.Ghosts H T} {hint : hints.Hint.Ghosts T}
+    {highlighter : highlights.Highlighter.Ghosts H} {validator : verdicts.Validator.Ghosts H}
+    {history : histories.History.Ghosts Hi} where
+  -- a fault came, which no input gives: the first of these acts were done, and it cut them
+  pub record Cut {A : Type 0} (acts : Doing)
+      (s t : State Out H Hi K T renderer completer candidate hinter hint highlighter validator
+      history)
+      (c c' : Coming) (r r' : Ring) (result : Result A ReadlineError) : Type 0 where
     pub fault : ReadlineError
     pub result_is : result ≡ Err fault
-    -- a source that isn't steady may fail at any time
-    pub cause : Reason t fault ⊎ ((fault ≡ Reader) × IsFalse steady)
+    pub cause : Reason t fault
     pub stays : Stays s t
-    pub begun : Begun renderer.canvas (asked (renderer.canvas.ruler s.out) s.layout (edit (setting_of s) (value_of s)).redraws).calls s.out t.out
+    pub done : CutIn renderer.canvas (renderer.canvas.ruler s.out) fault
+        (acts (setting_of s) (value_of s)) s.layout (stage s.out c r) (stage t.out c' r')
 
-  abbrev pub Cause : Custom → State Out H Hi K T renderer completer candidate hinter hint highlighter validator history → Feed → ReadlineError → Type 0
+  abbrev pub Cause : Custom
+      → State Out H Hi K T renderer completer candidate hinter hint highlighter validator history
+      → KeyFeed → ReadlineError → Type 0
   Cause custom t feed e = cause_of custom (renderer.canvas.failed t.out) (HookFails t) feed e
 
   -- the turn was made whole, and ends as it says
-  pub record Whole (turn : Setting → Value → Turned) (s t : State Out H Hi K T renderer completer candidate hinter hint highlighter validator history)
-      (ring : Ring) (input : Input) (rest : Coming) (result : Result Status ReadlineError) : Type 0 where
+  pub record Whole (turn : Setting → Value → Turned)
+      (s t : State Out H Hi K T renderer completer candidate hinter hint highlighter validator
+      history)
+      (ring : Ring) (input : Input) (rest : Coming)
+      (result : Result Status ReadlineError) : Type 0 where
     pub does : Does {A = Unit {0}} (λ a v. (turn a v).made) s t (Ok (tt {0}))
     pub outcome_is : result ≡ (turn (setting_of s) (value_of s)).outcome
     pub ring_is : ring ≡ (turn (setting_of s) (value_of s)).ring
@@ -64,10 +88,18 @@ module _ {Out H Hi K T : Type 0} {renderer : renderers.Renderer.Ghosts Out} {com
     pub rest_is : rest ≡ (turn (setting_of s) (value_of s)).rest
 
   -- THE relation of a turn
-  pub record Takes (custom : Custom) (indent : ℕ) (s : State Out H Hi K T renderer completer candidate hinter hint highlighter validator history) (input : Input) (ring : Ring) (feed : Feed)
-      (t : State Out H Hi K T renderer completer candidate hinter hint highlighter validator history) (input' : Input) (ring' : Ring) (feed' : Feed) (result : Result Status ReadlineError) : Type 0 where
-    pub goes : IsTrue feed.told → Whole (turning custom indent input ring feed.coming) s t ring' input' feed'.coming result
-        ⊎ Cut feed.steady (λ a v. (turning custom indent input ring feed.coming a v).made) s t result
+  pub record Takes (custom : Custom) (indent : ℕ)
+      (s : State Out H Hi K T renderer completer candidate hinter hint highlighter validator
+      history) (input : Input) (ring : Ring) (feed : KeyFeed)
+      (t : State Out H Hi K T renderer completer candidate hinter hint highlighter validator
+      history) (input' : Input) (ring' : Ring) (feed' : KeyFeed)
+      (result : Result Status ReadlineError) : Type 0 where
+    pub goes : IsTrue feed.told →
+        ((heard : Coming) × HeardBy feed.steady feed.coming result heard
+        × Whole (turning custom indent input ring heard) s t ring' input' feed'.coming result)
+        ⊎ Cut
+        (turn_doing custom indent input ring
+        feed.coming) s t feed.coming feed'.coming ring ring' result
     pub told : IsTrue feed.told → IsTrue feed'.told
     pub steady : feed'.steady ≡ feed.steady
     pub keeps : feed'.bound ≤ feed.bound

@@ -3,7 +3,7 @@ use Rattle.std.specs.Prelude.{◌≡◌, ⊤, ℕ, ◌≤◌, List, [], ◌∷�
 use Rattle.line_keys.specs.declared.command.Cmd.TheVariants.{Undo}
 use Rattle.line_editor.specs.Commands.{Means, effect}
 use Rattle.line_editor.specs.Leads.{Reaches, Sound}
-use Rattle.line_editor.specs.Returns.{Step, after_step, after_steps}
+use Rattle.line_editor.specs.Returns.{ValueStep, value_after, value_after_all}
 use Rattle.line_editor.specs.Values.{Value, Setting}
 
 -- an undo by as many items as the record has, or more, gives the text that the record reaches
@@ -14,16 +14,16 @@ UndoReaches =
     → (effect m (Undo n) s v).value.line.text ≡ first
 
 -- each step is begun on a text of whole characters, the cursor between two of them
-abbrev pub BegunSound : Setting → List Step → Value → Type 0
+abbrev pub BegunSound : Setting → List ValueStep → Value → Type 0
 BegunSound s [] v = ⊤
-BegunSound s (step ∷ steps) v = Sound v × BegunSound s steps (after_step s step v)
+BegunSound s (step ∷ steps) v = Sound v × BegunSound s steps (value_after s step v)
 
 -- whatever is done from where nothing is held, an undo by as many items as are held then, or more,
 -- gives the text that stood there: of a new line none
 abbrev pub UndoesAll : Type 0
 UndoesAll =
-    (s : Setting) (steps : List Step) (v : Value) (m : Means) (n : ℕ)
+    (s : Setting) (steps : List ValueStep) (v : Value) (m : Means) (n : ℕ)
     → v.held ≡ [] → BegunSound s steps v
-    → let done = after_steps s steps v in
+    → let done = value_after_all s steps v in
     length done.held ≤ n
     → (effect m (Undo n) s done).value.line.text ≡ v.line.text

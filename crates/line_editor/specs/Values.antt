@@ -26,7 +26,8 @@ pub record Value : Type 0 where
 
 pub record Setting : Type 0 where
   pub prompt : List ℕ
-  -- the column at which the prompt ends, and how clusters are counted: what motions up and down see of the display
+  -- the column at which the prompt ends, and how clusters are counted: what motions up and down see
+  -- of the display
   pub column : ℕ
   pub mode : GraphemeClusterMode
   -- the helper's answers; of highlighted characters only where the display has colours
@@ -40,22 +41,25 @@ pub record Effect : Type 0 where
   pub value : Value
   pub redraws : List Redraw
 
-abbrev pub Edit : Type 0
-Edit = Setting → Value → Effect
+abbrev pub Transition : Type 0
+Transition = Setting → Value → Effect
 
 -- ---- one edit, then another
 
-abbrev pub unchanged : Edit
+abbrev pub unchanged : Transition
 unchanged s v = record { value = v; redraws = [] }
 
-abbrev pub quietly : (Value → Value) → Edit
+abbrev pub quietly : (Value → Value) → Transition
 quietly change s v = record { value = change v; redraws = [] }
 
-abbrev pub then_do : Edit → Edit → Edit
+abbrev pub then_do : Transition → Transition → Transition
 then_do first second s v =
-    record { value = (second s (first s v).value).value; redraws = (first s v).redraws ++ (second s (first s v).value).redraws }
+    record {
+      value = (second s (first s v).value).value;
+      redraws = (first s v).redraws ++ (second s (first s v).value).redraws;
+    }
 
-abbrev pub redrawn : Redraw → Edit
+abbrev pub redrawn : Redraw → Transition
 redrawn x s v = record { value = v; redraws = x ∷ [] }
 
 -- ---- the line with its record
@@ -76,7 +80,8 @@ abbrev pub some_hint : Option Hinted → Option Hinted
 some_hint None = None
 some_hint (Some h) = if length h.display == 0 then None else Some h
 
-abbrev pub hint_by : Option (Answers (Option Hinted)) → List ℕ → ℕ → List (List ℕ) → ℕ → Option Hinted
+abbrev pub hint_by : Option (Answers (Option Hinted)) → List ℕ → ℕ → List (List ℕ) → ℕ
+    → Option Hinted
 hint_by None text place entries history = None
 hint_by (Some hints) text place entries history = some_hint (hints text place entries history)
 

@@ -5,11 +5,11 @@ use Rattle.line_buffer.specs.Insertions.{yank as yanked_in, can_take_before}
 use Rattle.line_buffer.specs.Line.{Line, moved_to}
 use Rattle.line_buffer.specs.declared.types.Anchor.{Anchor}
 use Rattle.line_buffer.specs.declared.types.Anchor.TheVariants.{After, Before}
-use Rattle.line_edits.specs.Edits.{yanked, pop_in_group}
+use Rattle.line_edits.specs.Edits.{text_yanked, pop_in_group}
 use Rattle.line_editor.specs.Drawing.{refreshed}
-use Rattle.line_editor.specs.Values.{Value, Edit, unchanged, rewritten, at_line}
+use Rattle.line_editor.specs.Values.{Value, Transition, unchanged, rewritten, at_line}
 
--- behind the cluster at the cursor
+-- after the cluster at the cursor
 abbrev pub anchored : Anchor → Line → Line
 anchored After l = moved_to (place_forward 1 l) l
 anchored Before l = l
@@ -25,24 +25,27 @@ behind_yank false l = l
 
 abbrev pub yanked_by : Bool → List ℕ → ℕ → Value → Value
 yanked_by vi text n v =
-    let w = rewritten (yanked text n) v in
+    let w = rewritten (text_yanked text n) v in
     if is_some (yanked_in text n v.line).answer then at_line (behind_yank vi w.line) w else w
 
-abbrev pub yank : Bool → List ℕ → Anchor → ℕ → Edit
-yank vi text anchor n s v =
+abbrev pub yank_text : Bool → List ℕ → Anchor → ℕ → Transition
+yank_text vi text anchor n s v =
     let before = at_line (anchored anchor v.line) v in
-    if is_some (yanked_in text n before.line).answer || steps anchor v.line then refreshed s (yanked_by vi text n before) else unchanged s (yanked_by vi text n before)
+    if is_some (yanked_in text n before.line).answer || steps anchor v.line
+    then refreshed s (yanked_by vi text n before) else unchanged s (yanked_by vi text n before)
 
 -- where so many bytes stand before the cursor, from between two characters on
-abbrev pub yank_pop : ℕ → List ℕ → Edit
-yank_pop size text s v = if can_take_before size v.line then refreshed s (rewritten (pop_in_group size text) v) else unchanged s v
+abbrev pub pop_text : ℕ → List ℕ → Transition
+pop_text size text s v =
+    if can_take_before size v.line then refreshed s (rewritten (pop_in_group size text) v)
+    else unchanged s v
 
 -- ---- what the ring lends
 
-abbrev pub yank_lent : Bool → Anchor → ℕ → Option (List ℕ) → Edit
+abbrev pub yank_lent : Bool → Anchor → ℕ → Option (List ℕ) → Transition
 yank_lent vi anchor n None = unchanged
-yank_lent vi anchor n (Some text) = yank vi text anchor n
+yank_lent vi anchor n (Some text) = yank_text vi text anchor n
 
-abbrev pub pop_lent : Option (ℕ × List ℕ) → Edit
+abbrev pub pop_lent : Option (ℕ × List ℕ) → Transition
 pop_lent None = unchanged
-pop_lent (Some lent) = yank_pop lent.0 lent.1
+pop_lent (Some lent) = pop_text lent.0 lent.1

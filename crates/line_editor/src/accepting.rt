@@ -143,7 +143,7 @@ impl<'p, 'h, Out: Renderer, H: Helper + Drop, Hi: History> State<'p, 'h, Out, H,
         Ok(())
     }
 
-    /// The end of an accepted line: the cursor behind the text, then the display's behind the
+    /// The end of an accepted line: the cursor after the text, then the display's after the
     /// drawing.
     pub(crate) fn submit(&mut self) -> Result<(), ReadlineError>
         ensures does { Does submitted self.old self.new result }

@@ -1,5 +1,5 @@
 //! What a command makes of a line.
-ghost use Rattle.std.specs.Prelude.{◌≡◌, IfOk, OnOk};
+ghost use Rattle.std.specs.Prelude.{◌≡◌, IfOk, IfErr, OnOk};
 ghost use Rattle.line_keys.specs.InputStates.{input_of};
 ghost use Rattle.line_editor.specs.Commands.{means_of};
 ghost use Rattle.line_editor.specs.Executing.{Executes};
@@ -23,7 +23,7 @@ pub enum Status {
 impl<'p, 'h, Out: Renderer, H: Helper + Drop, Hi: History> State<'p, 'h, Out, H, Hi> {
     ghost use Rattle.line_buffer.specs.Columns.{line_up, line_down};
     ghost use Rattle.line_editor.specs.States.{value_of, setting_of, Does};
-    ghost use Rattle.line_editor.specs.Commands.{line_up_or_previous, line_down_or_next, effect, ring_after, outcome, end_of_file};
+    ghost use Rattle.line_editor.specs.Commands.{line_up_or_previous, line_down_or_next, effect, ring_after_command, LeavesRing, outcome, end_of_file};
 
     /// Moves up by rows; in the first row, one history entry back.
     fn line_up_or_previous(&mut self, n: RepeatCount) -> Result<(), ReadlineError>
@@ -72,7 +72,10 @@ impl<'p, 'h, Out: Renderer, H: Helper + Drop, Hi: History> State<'p, 'h, Out, H,
         ensures outcome { IfOk result
             (λ o. o ≡ outcome (means_of (input_of input_state.now) indent ring.old) cmd.now
             (setting_of self.old) (value_of self.old)) }
-        ensures ring { OnOk result (ring.new ≡ ring_after cmd.now (value_of self.old) ring.old) }
+        ensures ring { OnOk result
+            (ring.new ≡ ring_after_command cmd.now (value_of self.old) ring.old) }
+        ensures refused_ring { IfErr result
+            (λ e. LeavesRing cmd.now (value_of self.old) ring.old ring.new e) }
     {
         match cmd {
             Cmd::SelfInsert(n, c) => self.edit_insert(*c, *n)?,
@@ -141,7 +144,7 @@ impl<'p, 'h, Out: Renderer, H: Helper + Drop, Hi: History> State<'p, 'h, Out, H,
 }
 
 /// Does what a command says. `Eof` and `Interrupted` are ends that commands have; any other refusal
-/// is a fault, behind which the state's text and record still fit each other.
+/// is a fault, after which the state's text and record still fit each other.
 pub fn execute<'p, 'h, Out: Renderer, H: Helper + Drop, Hi: History, D: Decides>(
     cmd: Cmd,
     s: &mut State<'p, 'h, Out, H, Hi>,

@@ -81,7 +81,7 @@ impl<'p, 'h, Out: Renderer, H: Helper + Drop, Hi: History> State<'p, 'h, Out, H,
         self.highlight_char = marked;
     }
 
-    /// Draws the line behind a prompt, with the hint that is kept.
+    /// Draws the line after a prompt, with the hint that is kept.
     pub(crate) fn draw(&mut self, prompt: &str, given: bool) -> Result<(), ReadlineError>
         ensures does { Does (drawn_behind prompt.now given) self.old self.new result }
     {
@@ -153,7 +153,7 @@ impl<'p, 'h, Out: Renderer, H: Helper + Drop, Hi: History> State<'p, 'h, Out, H,
         self.draw(prompt, true)
     }
 
-    /// Draws the line with a new hint behind another prompt.
+    /// Draws the line with a new hint after another prompt.
     pub(crate) fn refresh_behind(&mut self, prompt: &str) -> Result<(), ReadlineError>
         ensures does { Does (refreshed_behind prompt.now) self.old self.new result }
     {
@@ -247,7 +247,7 @@ impl<'p, 'h, Out: Renderer, H: Helper + Drop, Hi: History> State<'p, 'h, Out, H,
         Ok(())
     }
 
-    /// Shows a character that was typed at the end: its byte alone, where nothing stands behind it
+    /// Shows a character that was typed at the end: its byte alone, where nothing stands after it
     /// and it doesn't fill its row.
     pub(crate) fn show_short_typed(&mut self, ch: char) -> Result<(), ReadlineError>
         ensures does { Does (λ s v. redrawn (Typed s.prompt ch v.line.text v.line.place) s v)
@@ -266,7 +266,7 @@ impl<'p, 'h, Out: Renderer, H: Helper + Drop, Hi: History> State<'p, 'h, Out, H,
     }
 
     /// Shows that so many characters were taken from the end: the rest of the row is erased, where
-    /// they stood in it and nothing stands behind them.
+    /// they stood in it and nothing stands after them.
     pub(crate) fn show_short_taken(&mut self, count: usize) -> Result<(), ReadlineError>
         ensures does { Does (λ s v. redrawn (Taken s.prompt count v.line.text v.line.place) s v)
             self.old self.new result }

@@ -22,7 +22,7 @@ impl<'p, 'h, Out: Renderer, H: Helper + Drop, Hi: History> State<'p, 'h, Out, H,
     }
 
     /// Whether what was typed is all that is to be drawn: a printable character at the end of a
-    /// plain line, with neither hint nor highlighted character, before and behind it.
+    /// plain line, with neither hint nor highlighted character, before and after it.
     fn stands_alone(
         &self,
         ch: char,

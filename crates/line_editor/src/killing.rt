@@ -1,5 +1,5 @@
 //! What is killed, and what is copied into the ring.
-ghost use Rattle.std.specs.Prelude.{◌≡◌, ◌==◌, ◌&&◌, nat_le, length, OnOk, IfErr};
+ghost use Rattle.std.specs.Prelude.{◌≡◌, ◌⊎◌, ◌==◌, ◌&&◌, nat_le, length, OnOk, IfErr};
 ghost use Rattle.line_config.specs.declared.errors.ReadlineError.{ReadlineError};
 
 use crate::renderer::Renderer;
@@ -19,7 +19,7 @@ impl<'p, 'h, Out: Renderer, H: Helper + Drop, Hi: History> State<'p, 'h, Out, H,
     ghost use Rattle.line_editor.specs.Killing.{kill, insert_text_if, replace, killed_into, copied_into};
 
     /// Whether what was taken is all that is to be erased: printable characters from the end of a
-    /// plain line, with neither hint nor highlighted character, before and behind it.
+    /// plain line, with neither hint nor highlighted character, before and after it.
     fn stood_at_end(&self, printable: usize, was_bare: bool) -> bool
         ensures { result ≡ (is_plain self.now.line.text &&
             (nat_le printable (length self.now.line.text) &&
@@ -41,6 +41,9 @@ impl<'p, 'h, Out: Renderer, H: Helper + Drop, Hi: History> State<'p, 'h, Out, H,
         ensures does { Does (kill movement.now) self.old self.new result }
         ensures ring { OnOk result
             (ring.new ≡ killed_into movement.now (value_of self.old) ring.old) }
+        ensures refused_ring { IfErr result
+            (λ e. (ring.new ≡ killed_into movement.now (value_of self.old) ring.old)
+            ⊎ (e ≡ ReadlineError.Memory)) }
     {
         let was_bare = self.is_bare();
         let before = self.line.len();
@@ -86,6 +89,9 @@ impl<'p, 'h, Out: Renderer, H: Helper + Drop, Hi: History> State<'p, 'h, Out, H,
         ensures does { Does (replace movement.now text.now) self.old self.new result }
         ensures ring { OnOk result
             (ring.new ≡ killed_into movement.now (value_of self.old) ring.old) }
+        ensures refused_ring { IfErr result
+            (λ e. (ring.new ≡ killed_into movement.now (value_of self.old) ring.old)
+            ⊎ (e ≡ ReadlineError.Memory)) }
     {
         self.edit_kill(movement, ring)?;
         self.insert_some(text)?;

@@ -5,7 +5,7 @@ ghost use Rattle.line_editor.specs.Returns.{ComesBack};
 ghost use Rattle.line_editor.specs.UndoAll.{UndoReaches, UndoesAll};
 
 /// What a command wants to be seen leads from a display that shows the value before to one that
-/// shows the value behind, so that nothing of an older drawing is left standing.
+/// shows the value after, so that nothing of an older drawing is left standing.
 pub fn commands_lead()
     ensures { CommandsLead }
 {}

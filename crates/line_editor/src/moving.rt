@@ -117,7 +117,7 @@ impl<'p, 'h, Out: Renderer, H: Helper + Drop, Hi: History> State<'p, 'h, Out, H,
         Ok(())
     }
 
-    /// The layout behind the session's own prompt, of which motions by rows see the prompt's end.
+    /// The layout after the session's own prompt, of which motions by rows see the prompt's end.
     fn prompt_layout(&self) -> Layout
         ensures mode { result.grapheme_cluster_mode ≡ (setting_of self.now).mode }
         ensures column { result.prompt_size.col ≡ (setting_of self.now).column }

@@ -1,7 +1,7 @@
 //! A line: its first drawing, then turns until one ends it.
 ghost use Rattle.std.specs.Prelude.{◌≡◌};
 ghost use Rattle.line_keys.specs.InputStates.{input_of, custom_in};
-ghost use Rattle.line_editor.specs.Reading.{ReadsLine, turns_left, drawn_and_turned};
+ghost use Rattle.line_editor.specs.Reading.{ReadsLine, turns_left, turns_doing, drawn_and_turned, line_doing};
 
 use crate::commands::Status;
 use crate::renderer::Renderer;
@@ -24,8 +24,10 @@ impl<'p, 'h, Out: Renderer, H: Helper + Drop, Hi: History> State<'p, 'h, Out, H,
             let input = input_of input_state.old in
             let indent = config.now.indent_size in
             let feed = R.feed rdr.old in
-            ReadsLine custom (turns_left custom indent input kill_ring.old feed.coming)
-            self.old feed self.new kill_ring.new (R.feed rdr.new) result }
+            let ring = kill_ring.old in
+            ReadsLine custom (turns_left custom indent input ring)
+            (turns_doing custom indent input ring feed.coming)
+            self.old ring feed self.new kill_ring.new (R.feed rdr.new) result }
     {
         'turns: loop {
             match self.turn(input_state, rdr, kill_ring, config)? {
@@ -47,8 +49,10 @@ impl<'p, 'h, Out: Renderer, H: Helper + Drop, Hi: History> State<'p, 'h, Out, H,
             let input = input_of input_state.old in
             let indent = config.now.indent_size in
             let feed = R.feed rdr.old in
-            ReadsLine custom (drawn_and_turned custom indent input kill_ring.old feed.coming)
-            self.old feed self.new kill_ring.new (R.feed rdr.new) result }
+            let ring = kill_ring.old in
+            ReadsLine custom (drawn_and_turned custom indent input ring)
+            (line_doing custom indent input ring feed.coming)
+            self.old ring feed self.new kill_ring.new (R.feed rdr.new) result }
     {
         self.refresh()?;
         self.turns(input_state, rdr, kill_ring, config)

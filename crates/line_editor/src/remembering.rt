@@ -194,7 +194,7 @@ impl<'p, 'h, Out: Renderer, H: Helper + Drop, Hi: History> State<'p, 'h, Out, H,
         self.refresh()
     }
 
-    /// The nearest entry before or behind the present one that begins with the text before the
+    /// The nearest entry before or after the present one that begins with the text before the
     /// cursor. The place in the history moves by one also where there is none.
     pub fn edit_history_search(&mut self, dir: SearchDirection) -> Result<(), ReadlineError>
         ensures does { Does (history_search dir) self.old self.new result }

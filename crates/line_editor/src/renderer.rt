@@ -3,7 +3,7 @@ ghost use Rattle.std.specs.Prelude.{◌≡◌, OnErr, IfErr, IsTrue, option_copi
 ghost use Rattle.line_config.specs.declared.errors.ReadlineError.TheVariants.{Display};
 ghost use Rattle.line_editor.specs.Calls.{Canvas, Makes, Idles, old_row};
 ghost use Rattle.line_editor.specs.Calls.Call.{Draw, Move, Write, Beep, ClearScreen, ClearRows, ClearToEol, ToLeftmost};
-ghost use Rattle.line_editor.specs.Redraws.{layout_of, text_of};
+ghost use Rattle.line_editor.specs.Redraws.{layout_of, info_text};
 
 use line_buffer::{GraphemeClusterMode, Layout, LineBuffer, Position, Unit};
 use line_config::ReadlineError;
@@ -12,7 +12,7 @@ use line_help::Highlighter;
 /// How much is drawn anew.
 #[derive(Clone, Copy, Debug, PartialEq, Eq)]
 pub enum RefreshKind {
-    /// What is behind the cursor, where nothing stands.
+    /// What is after the cursor, where nothing stands.
     Min,
     /// All that was drawn before is erased first.
     All,
@@ -30,7 +30,7 @@ pub trait Renderer: Drop {
     fn move_cursor(&mut self, old: Position, new: Position) -> Result<(), ReadlineError>
         ensures { Makes canvas (Move old new) self.old self.new result };
 
-    /// Draws prompt, line, and hint or message behind it. Without an old layout nothing is erased:
+    /// Draws prompt, line, and hint or message after it. Without an old layout nothing is erased:
     /// the cursor is on the prompt's first cell, and the cells from there on are blank.
     ///
     /// A highlighter is handed in where the display has colours.
@@ -44,7 +44,7 @@ pub trait Renderer: Drop {
         highlighter: Option<&H>,
     ) -> Result<(), ReadlineError>
         ensures { Makes canvas (Draw (old_row old_layout) prompt.now line.now.text
-            (text_of (option_copied hint.entry)) new_layout.now.end new_layout.now.cursor)
+            (info_text (option_copied hint.entry)) new_layout.now.end new_layout.now.cursor)
             self.old self.new result };
 
     /// Writes a text at the cursor.
@@ -101,8 +101,8 @@ pub trait Renderer: Drop {
     fn calculate_position(&self, text: &str, orig: Position) -> Position
         ensures { result ≡ (canvas.ruler self.now).measure text.now orig };
 
-    /// The layout of a line behind a prompt that ends at `prompt_size`, with a hint or message
-    /// behind it. The end is that of the whole drawing.
+    /// The layout of a line after a prompt that ends at `prompt_size`, with a hint or message
+    /// after it. The end is that of the whole drawing.
     fn compute_layout(
         &self,
         prompt_size: Position,

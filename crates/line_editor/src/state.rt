@@ -26,7 +26,7 @@ pub struct State<'p, 'h, Out: Renderer, H: Helper + Drop, Hi: History> {
     pub helper: Option<H>,
     /// The history, and the place in it.
     pub ctx: Context<'h, Hi>,
-    /// The hint behind the line.
+    /// The hint after the line.
     pub hint: Option<H::Hint>,
     /// Whether a character was highlighted when the helper was asked last.
     pub highlight_char: bool,

@@ -13,11 +13,11 @@ use line_record::KillRing;
 #[tactic(auto, using(crate::proofs::BegunLemmas::begun_none, crate::proofs::BegunLemmas::begun_refused))]
 impl<'p, 'h, Out: Renderer, H: Helper + Drop, Hi: History> State<'p, 'h, Out, H, Hi> {
     ghost use Rattle.line_editor.specs.States.{Does};
-    ghost use Rattle.line_editor.specs.Yanking.{yank, yank_pop, yank_lent, pop_lent};
+    ghost use Rattle.line_editor.specs.Yanking.{yank_text, pop_text, yank_lent, pop_lent};
     ghost use Rattle.line_keys.specs.Modes.{is_vi_command};
     ghost use Rattle.line_record.specs.Ring.{yanked, turned, exchanged};
 
-    /// Puts a text in so many times, at the cursor or behind the cluster at it.
+    /// Puts a text in so many times, at the cursor or after the cluster at it.
     pub fn edit_yank<D: Decides>(
         &mut self,
         input_state: &InputState<'_, D>,
@@ -25,7 +25,8 @@ impl<'p, 'h, Out: Renderer, H: Helper + Drop, Hi: History> State<'p, 'h, Out, H,
         anchor: Anchor,
         n: RepeatCount,
     ) -> Result<(), ReadlineError>
-        ensures does { Does (yank (is_vi_command input_state.now.mode input_state.now.input_mode)
+        ensures does { Does
+            (yank_text (is_vi_command input_state.now.mode input_state.now.input_mode)
             text.now anchor n) self.old self.new result }
     {
         let stepped = match anchor {
@@ -52,7 +53,7 @@ impl<'p, 'h, Out: Renderer, H: Helper + Drop, Hi: History> State<'p, 'h, Out, H,
     /// Puts a text in place of the one that was yanked, where so many bytes stand before the
     /// cursor.
     pub fn edit_yank_pop(&mut self, yank_size: usize, text: &str) -> Result<(), ReadlineError>
-        ensures does { Does (yank_pop yank_size text.now) self.old self.new result }
+        ensures does { Does (pop_text yank_size text.now) self.old self.new result }
     {
         if !self.line.can_take_before(yank_size) {
             return Ok(());

@@ -13,29 +13,30 @@ use Rattle.line_buffer.specs.declared.types.Movement.{Movement}
 use Rattle.line_buffer.specs.declared.types.Movement.TheVariants.{ForwardChar}
 use Rattle.line_buffer.specs.declared.types.WordAction.{WordAction}
 use Rattle.line_record.specs.Held.{line_back}
-use Rattle.line_edits.specs.Written.{Written, edited, grouped}
+use Rattle.line_edits.specs.Written.{Written, edited, in_group}
 
 -- ---- texts put in
 
 abbrev pub put_by : (Line → Insertion) → Written → Written
 put_by put w = edited (put w.line).events (put w.line).line w
 
-abbrev pub typed : ℕ → ℕ → Written → Written
-typed c n = put_by (insertion c n)
+abbrev pub char_typed : ℕ → ℕ → Written → Written
+char_typed c n = put_by (insertion c n)
 
-abbrev pub yanked : List ℕ → ℕ → Written → Written
-yanked text n = put_by (yanked_in text n)
+abbrev pub text_yanked : List ℕ → ℕ → Written → Written
+text_yanked text n = put_by (yanked_in text n)
 
 -- a text put at the cursor, which stays before it
 abbrev pub put_behind : List ℕ → Written → Written
-put_behind text w = edited (told_insertion w.line.place text ∷ []) (put_in w.line.place text w.line) w
+put_behind text w =
+    edited (told_insertion w.line.place text ∷ []) (put_in w.line.place text w.line) w
 
 -- the whole text exchanged
 abbrev pub updated : List ℕ → ℕ → Written → Written
 updated text place w = edited (update_events text w.line) (update_line text place w.line) w
 
 abbrev pub update_in_group : List ℕ → ℕ → Written → Written
-update_in_group text place = grouped (updated text place)
+update_in_group text place = in_group (updated text place)
 
 -- ---- a yanked text exchanged
 
@@ -43,18 +44,20 @@ abbrev pub popped : ℕ → List ℕ → Written → Written
 popped size text = put_by (popped_in size text)
 
 abbrev pub pop_in_group : ℕ → List ℕ → Written → Written
-pop_in_group size text = grouped (popped size text)
+pop_in_group size text = in_group (popped size text)
 
 -- ---- what is taken out
 
-abbrev pub killed : Movement → Written → Written
-killed movement w = edited (kill_events movement w.line) (kill_line movement w.line) w
+abbrev pub range_killed : Movement → Written → Written
+range_killed movement w = edited (kill_events movement w.line) (kill_line movement w.line) w
 
 -- ---- clusters exchanged for characters
 
 -- n clusters after the cursor taken out
 abbrev pub deleted : ℕ → Written → Written
-deleted n w = edited (deletion_events (range_of (ForwardChar n) w.line) w.line) (deletion_line (range_of (ForwardChar n) w.line) w.line) w
+deleted n w =
+    edited (deletion_events (range_of (ForwardChar n) w.line) w.line)
+    (deletion_line (range_of (ForwardChar n) w.line) w.line) w
 
 -- how many of n clusters stand after the cursor
 abbrev pub clusters_after : ℕ → Line → ℕ
@@ -65,10 +68,10 @@ stepped_back w = record { line = moved_to (place_backward 1 w.line) w.line; held
 
 -- n clusters exchanged for a character each, the cursor on the last one
 abbrev pub exchanged_for : ℕ → ℕ → ℕ → Written → Written
-exchanged_for c n count w = stepped_back (typed c count (deleted n w))
+exchanged_for c n count w = stepped_back (char_typed c count (deleted n w))
 
 abbrev pub chars_replaced : ℕ → ℕ → Written → Written
-chars_replaced c n w = grouped (exchanged_for c n (clusters_after n w.line)) w
+chars_replaced c n w = in_group (exchanged_for c n (clusters_after n w.line)) w
 
 -- nothing is done where none stands there
 abbrev pub replaced_if_any : ℕ → ℕ → Written → Written
@@ -76,7 +79,9 @@ replaced_if_any c n w = if is_some (place_forward n w.line) then chars_replaced 
 
 -- a character put in place of what stands up to a place
 abbrev pub put_over : ℕ → ℕ → Written → Written
-put_over c end w = edited (replacement w.line.place end (encode_utf8 c) w.line.text ∷ []) (replaced w.line.place end (encode_utf8 c) w.line) w
+put_over c end w =
+    edited (replacement w.line.place end (encode_utf8 c) w.line.text ∷ [])
+    (replaced w.line.place end (encode_utf8 c) w.line) w
 
 -- the cluster at the cursor written over, if there is one
 abbrev pub written_over : ℕ → Option ℕ → Written → Written
@@ -92,22 +97,24 @@ abbrev pub chars_transposed : Written → Written
 chars_transposed w = edited (transpose_chars_events w.line) (transpose_chars_line w.line) w
 
 abbrev pub transpose_chars_in_group : Written → Written
-transpose_chars_in_group = grouped chars_transposed
+transpose_chars_in_group = in_group chars_transposed
 
 abbrev pub words_transposed : ℕ → Written → Written
 words_transposed n w = edited (transpose_words_events n w.line) (transpose_words_line n w.line) w
 
 abbrev pub transpose_words_in_group : ℕ → Written → Written
-transpose_words_in_group n = grouped (words_transposed n)
+transpose_words_in_group n = in_group (words_transposed n)
 
 abbrev pub word_edited : WordAction → Written → Written
 word_edited action w = edited (edit_word_events action w.line) (edit_word_line action w.line) w
 
 abbrev pub edit_word_in_group : WordAction → Written → Written
-edit_word_in_group action = grouped (word_edited action)
+edit_word_in_group action = in_group (word_edited action)
 
 abbrev pub indented : Movement → ℕ → Bool → Written → Written
-indented movement amount dedent w = edited (indent_events movement amount dedent w.line) (indent_line movement amount dedent w.line) w
+indented movement amount dedent w =
+    edited (indent_events movement amount dedent w.line)
+    (indent_line movement amount dedent w.line) w
 
 -- ---- what is taken back
 

@@ -19,18 +19,20 @@ abbrev pub edited : List Event → Line → Written → Written
 edited events line w = record { line = line; held = recorded_all events w.line.text w.held }
 
 -- a mark set, and all marks closed
-abbrev pub opened : Written → Written
-opened w = record { line = w.line; held = Opened w.line.text ∷ w.held }
+abbrev pub group_opened : Written → Written
+group_opened w = record { line = w.line; held = Opened w.line.text ∷ w.held }
 
-abbrev pub closed : Written → Written
-closed w = record { line = w.line; held = ended w.held }
+abbrev pub group_closed : Written → Written
+group_closed w = record { line = w.line; held = ended w.held }
 
 -- an edit that is undone as one
-abbrev pub grouped : (Written → Written) → Written → Written
-grouped edit w = closed (edit (opened w))
+abbrev pub in_group : (Written → Written) → Written → Written
+in_group edit w = group_closed (edit (group_opened w))
 
--- a call that is answered has made the edit; the record stands on the line's text also where it was refused
-pub record Writes {A E : Type 0} (edit : Written → Written) (before after : Line) (old new : Items) (result : Result A E) : Type 0 where
+-- a call that is answered has made the edit; the record stands on the line's text also where it was
+-- refused
+pub record Writes {A E : Type 0} (edit : Written → Written) (before after : Line) (old new : Items)
+    (result : Result A E) : Type 0 where
   pub line : OnOk result (after ≡ (edit (written before old)).line)
   pub held : OnOk result (held_on new after.text ≡ (edit (written before old)).held)
   pub stand : ItemsStand new after.text

@@ -42,13 +42,8 @@ fn delete_told(
     ensures writes { Writes (deleted n) line.old line.new changes.old changes.new result }
 {
     let _text = line.as_str();
-    match line.delete(alloc, n, changes) {
-        Ok(taken) => {
-            drop(taken);
-            Ok(())
-        }
-        Err(refusal) => Err(refusal),
-    }
+    line.delete(alloc, n, changes)?;
+    Ok(())
 }
 
 fn exchange(
@@ -126,10 +121,8 @@ fn put_over(
     let _text = line.as_str();
     let at = line.pos();
     let mut bytes = [0; 4];
-    match line.replace(alloc, at..end, ch.encode_utf8(&mut bytes), changes) {
-        Ok(()) => Ok(()),
-        Err(refusal) => Err(refusal),
-    }
+    line.replace(alloc, at..end, ch.encode_utf8(&mut bytes), changes)?;
+    Ok(())
 }
 
 /// Writes a character over the cluster at the cursor. Answers whether one stands there; else

@@ -2,7 +2,7 @@
 ghost use Rattle.std.specs.Prelude.{◌≡◌, ◌≤◌, ◌-◌, true, IfOk, OnOk, OnErr, IsCharBoundary};
 ghost use Rattle.line_buffer.specs.Insertions.{insert as insertion, yank as yanked_in};
 ghost use Rattle.line_record.specs.Items.{ItemsStand};
-ghost use Rattle.line_edits.specs.Edits.{typed, yanked, popped, put_behind, pop_in_group};
+ghost use Rattle.line_edits.specs.Edits.{char_typed, text_yanked, popped, put_behind, pop_in_group};
 ghost use Rattle.line_edits.specs.Plain.{is_plain};
 ghost use Rattle.line_edits.specs.Written.{Writes};
 
@@ -20,14 +20,11 @@ pub(crate) fn insert_told(
 ) -> Result<Option<bool>, OutOfMemory>
     requires { ItemsStand changes.old line.old.text }
     ensures answer { IfOk result (λ a. a ≡ (insertion ch n line.old).answer) }
-    ensures writes { Writes (typed ch n) line.old line.new changes.old changes.new result }
+    ensures writes { Writes (char_typed ch n) line.old line.new changes.old changes.new result }
     ensures kept { OnErr result (line.new ≡ line.old) }
 {
     let _text = line.as_str();
-    match line.insert(alloc, ch, n, changes) {
-        Ok(at_end) => Ok(at_end),
-        Err(refusal) => Err(refusal),
-    }
+    Ok(line.insert(alloc, ch, n, changes)?)
 }
 
 /// Inserts a character so many times. `None`: there is no room for it; else whether that is at the
@@ -44,7 +41,7 @@ pub fn insert_char(
     requires stand { ItemsStand changes.old line.old.text }
     requires plain { plain.old ≡ is_plain line.old.text }
     ensures answer { IfOk result (λ a. a ≡ (insertion ch n line.old).answer) }
-    ensures writes { Writes (typed ch n) line.old line.new changes.old changes.new result }
+    ensures writes { Writes (char_typed ch n) line.old line.new changes.old changes.new result }
     ensures plain { plain.new ≡ is_plain line.new.text }
 {
     let at_end = insert_told(alloc, line, changes, ch, n)?;
@@ -67,10 +64,8 @@ fn text_told(
 {
     let _text = line.as_str();
     let at = line.pos();
-    match line.insert_str(alloc, at, text, changes) {
-        Ok(_) => Ok(()),
-        Err(refusal) => Err(refusal),
-    }
+    line.insert_str(alloc, at, text, changes)?;
+    Ok(())
 }
 
 /// Puts a text at the cursor, which stays before it.
@@ -99,14 +94,12 @@ fn yank_told(
 ) -> Result<Option<bool>, OutOfMemory>
     requires { ItemsStand changes.old line.old.text }
     ensures answer { IfOk result (λ a. a ≡ (yanked_in text.now n line.old).answer) }
-    ensures writes { Writes (yanked text.now n) line.old line.new changes.old changes.new result }
+    ensures writes { Writes (text_yanked text.now n) line.old line.new changes.old changes.new
+        result }
     ensures kept { OnErr result (line.new ≡ line.old) }
 {
     let _text = line.as_str();
-    match line.yank(alloc, text, n, changes) {
-        Ok(at_end) => Ok(at_end),
-        Err(refusal) => Err(refusal),
-    }
+    Ok(line.yank(alloc, text, n, changes)?)
 }
 
 /// Puts a text that isn't empty in so many times. `None`: it is empty, or there is no room for it.
@@ -120,7 +113,8 @@ pub fn yank(
 ) -> Result<Option<bool>, OutOfMemory>
     requires stand { ItemsStand changes.old line.old.text }
     ensures answer { IfOk result (λ a. a ≡ (yanked_in text.now n line.old).answer) }
-    ensures writes { Writes (yanked text.now n) line.old line.new changes.old changes.new result }
+    ensures writes { Writes (text_yanked text.now n) line.old line.new changes.old changes.new
+        result }
     ensures plain { plain.new ≡ is_plain line.new.text }
 {
     let done = yank_told(alloc, line, changes, text, n);
@@ -142,10 +136,8 @@ fn pop_told(
         line.old line.new changes.old changes.new result }
 {
     let _text = line.as_str();
-    match line.yank_pop(alloc, yank_size, text, changes) {
-        Ok(_) => Ok(()),
-        Err(refusal) => Err(refusal),
-    }
+    line.yank_pop(alloc, yank_size, text, changes)?;
+    Ok(())
 }
 
 fn pop_told_in_group(

@@ -4,7 +4,7 @@ ghost use Rattle.line_buffer.specs.Range.{range_of, kill_events};
 ghost use Rattle.line_record.specs.Items.{ItemsStand};
 ghost use Rattle.line_record.specs.Names.{SameNames};
 ghost use Rattle.line_record.specs.Ring.{ring_all};
-ghost use Rattle.line_edits.specs.Edits.{killed};
+ghost use Rattle.line_edits.specs.Edits.{range_killed};
 ghost use Rattle.line_edits.specs.Plain.{is_plain};
 ghost use Rattle.line_edits.specs.Written.{Writes};
 
@@ -22,7 +22,7 @@ fn kill_told(
 ) -> Result<bool, OutOfMemory>
     requires { ItemsStand both.old.second.now line.old.text }
     ensures answer { IfOk result (λ b. b ≡ is_some (range_of movement.now line.old)) }
-    ensures writes { Writes (killed movement.now)
+    ensures writes { Writes (range_killed movement.now)
         line.old line.new both.old.second.now both.new.second.now result }
     ensures ring { OnOk result
         (both.new.first.now ≡ ring_all (kill_events movement.now line.old) both.old.first.now) }
@@ -30,10 +30,7 @@ fn kill_told(
     ensures shrinks { length line.new.text ≤ length line.old.text }
 {
     let _text = line.as_str();
-    match line.kill(alloc, movement, both) {
-        Ok(killed) => Ok(killed),
-        Err(refusal) => Err(refusal),
-    }
+    Ok(line.kill(alloc, movement, both)?)
 }
 
 /// Kills what a movement names: the ring is told first, the record last. Answers whether it names
@@ -48,7 +45,8 @@ pub fn kill(
 ) -> Result<bool, OutOfMemory>
     requires stand { ItemsStand changes.old line.old.text }
     ensures answer { IfOk result (λ b. b ≡ is_some (range_of movement.now line.old)) }
-    ensures writes { Writes (killed movement.now) line.old line.new changes.old changes.new result }
+    ensures writes { Writes (range_killed movement.now) line.old line.new changes.old changes.new
+        result }
     ensures ring { OnOk result (ring.new ≡ ring_all (kill_events movement.now line.old) ring.old) }
     ensures plain { plain.new ≡ is_plain line.new.text }
     ensures shrinks { length line.new.text ≤ length line.old.text }

@@ -22,10 +22,7 @@ fn chars_told(
     ensures writes { Writes chars_transposed line.old line.new changes.old changes.new result }
 {
     let _text = line.as_str();
-    match line.transpose_chars(alloc, changes) {
-        Ok(done) => Ok(done),
-        Err(refusal) => Err(refusal),
-    }
+    Ok(line.transpose_chars(alloc, changes)?)
 }
 
 fn chars_in_group(
@@ -74,10 +71,7 @@ fn words_told(
     ensures writes { Writes (words_transposed n) line.old line.new changes.old changes.new result }
 {
     let _text = line.as_str();
-    match line.transpose_words(alloc, n, changes) {
-        Ok(done) => Ok(done),
-        Err(refusal) => Err(refusal),
-    }
+    Ok(line.transpose_words(alloc, n, changes)?)
 }
 
 fn words_in_group(
@@ -129,10 +123,7 @@ fn word_told(
     ensures writes { Writes (word_edited action) line.old line.new changes.old changes.new result }
 {
     let _text = line.as_str();
-    match line.edit_word(alloc, action, changes) {
-        Ok(done) => Ok(done),
-        Err(refusal) => Err(refusal),
-    }
+    Ok(line.edit_word(alloc, action, changes)?)
 }
 
 fn word_in_group(
@@ -186,10 +177,8 @@ fn rows_told(
         line.old line.new changes.old changes.new result }
 {
     let _text = line.as_str();
-    match line.indent(alloc, movement, amount, dedent, changes) {
-        Ok(_) => Ok(()),
-        Err(refusal) => Err(refusal),
-    }
+    line.indent(alloc, movement, amount, dedent, changes)?;
+    Ok(())
 }
 
 /// Moves the rows that a movement covers in or out by up to `amount` columns.

@@ -24,10 +24,8 @@ fn put(
         line.old line.new changes.old changes.new result }
 {
     let _text = line.as_str();
-    match line.update(alloc, text, pos, changes) {
-        Ok(()) => Ok(()),
-        Err(refusal) => Err(refusal),
-    }
+    line.update(alloc, text, pos, changes)?;
+    Ok(())
 }
 
 fn put_in_group(

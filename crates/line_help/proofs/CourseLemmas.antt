@@ -5,11 +5,11 @@ use Rattle.std.proofs.Math.Nat.{min-eq_left, min-eq_right}
 use Rattle.std.proofs.lemmas.Bool.Decides.{Decides-eqb}
 use Rattle.std.proofs.lemmas.Grind.{flat_map-append}
 use Rattle.std.proofs.lemmas.List.{append-nil, append_assoc, length-append}
-use Rattle.line_help.specs.Course.{Written, Step, Adds, Saves, Appends, Loads, after_step, after_steps, just_saved, CanStep, CanMake}
+use Rattle.line_help.specs.Course.{WrittenHistory, Step, Adds, Saves, Appends, Loads, after_step, after_steps, just_saved, CanStep, CanMake}
 use Rattle.line_help.specs.History.{Settings, Filed, added, all_saved, filed_with, ignored, newest, nothing_filed}
 use Rattle.line_help.specs.HistoryText.{header, row_of, rows_text, saved_text}
 use Rattle.line_help.specs.Laws.{TextKeepsUp}
-use Rattle.line_help.specs.Loaded.{CanComeBack, loaded, made_of}
+use Rattle.line_help.specs.Loaded.{CanComeBack, loaded, history_made_of}
 use Rattle.line_help.proofs.InTurnLemmas.{InTurn, added_all, added_in_parts, added_when, all_in_turn, all_small, filed_kept, gives_itself, overwritten, stays_in_turn, stays_small}
 use Rattle.line_help.proofs.NewestLemmas.{all_new, length-newest, newest_twice, newest_with, none_new}
 use Rattle.line_help.proofs.ReloadLemmas.{can_both, saved_back}
@@ -18,7 +18,7 @@ abbrev filed_of : Settings → List (List ℕ) → ℕ → Filed
 filed_of s entries unsaved = record { kept = record { entries = entries; settings = s }; unsaved = unsaved }
 
 -- the entries that were written, and after them those that are new, give the history
-record Stands (s : Settings) (now : Written) : Type 0 where
+record Stands (s : Settings) (now : WrittenHistory) : Type 0 where
   entries : List (List ℕ)
   unsaved : ℕ
   rows : List (List ℕ)
@@ -55,7 +55,7 @@ module _ (s : Settings) (entries rows : List (List ℕ)) (unsaved : ℕ) (line :
       ∙ added_in_parts s [] rows (added s entries line)
       ∙ overwritten s (added_all s [] rows) (added s entries line) (all_small s [] rows (omega arith)) (stays_in_turn s entries line turn) (omega arith)
 
-after_adding : (s : Settings) (now : Written) (line : List ℕ) → Stands s now → Stands s (after_step s (Adds line) now)
+after_adding : (s : Settings) (now : WrittenHistory) (line : List ℕ) → Stands s now → Stands s (after_step s (Adds line) now)
 after_adding s now line r = by_case (ignored s r.entries line) refl where
   is_ignored : ignored s r.entries line ≡ true → filed_with (filed_of s r.entries r.unsaved) line ≡ filed_of s r.entries r.unsaved
   is_ignored e = rw e refl
@@ -101,7 +101,7 @@ after_adding s now line r = by_case (ignored s r.entries line) refl where
 none_behind : (s : Settings) (rows entries : List (List ℕ)) → added_all s [] (rows ++ newest 0 entries) ≡ added_all s [] rows
 none_behind s rows entries = ap (λ xs. added_all s [] (rows ++ xs)) (none_new entries) ∙ ap (λ xs. added_all s [] xs) (append-nil rows)
 
-after_writing : (s : Settings) (now : Written) (text : List ℕ) (rows : List (List ℕ)) (r : Stands s now) → text ≡ saved_text rows → CanComeBack rows → added_all s [] rows ≡ r.entries
+after_writing : (s : Settings) (now : WrittenHistory) (text : List ℕ) (rows : List (List ℕ)) (r : Stands s now) → text ≡ saved_text rows → CanComeBack rows → added_all s [] rows ≡ r.entries
     → Stands s (record { text = text; history = all_saved now.history })
 after_writing s now text rows r of back gives = record {
   entries = r.entries;
@@ -116,10 +116,10 @@ after_writing s now text rows r of back gives = record {
   gives = none_behind s rows r.entries ∙ gives;
 }
 
-all_written : (s : Settings) (now : Written) (r : Stands s now) → r.unsaved ≡ 0 → added_all s [] r.rows ≡ r.entries
+all_written : (s : Settings) (now : WrittenHistory) (r : Stands s now) → r.unsaved ≡ 0 → added_all s [] r.rows ≡ r.entries
 all_written s now r e = sym (none_behind s r.rows r.entries) ∙ ap (λ n. added_all s [] (r.rows ++ newest n r.entries)) (sym e) ∙ r.gives
 
-after_saving : (s : Settings) (now : Written) → CanStep Saves now → Stands s now → Stands s (after_step s Saves now)
+after_saving : (s : Settings) (now : WrittenHistory) → CanStep Saves now → Stands s now → Stands s (after_step s Saves now)
 after_saving s now can r = by_case (now.history.unsaved == 0) refl where
   by_case : (b : Bool) → (now.history.unsaved == 0) ≡ b → Stands s (after_step s Saves now)
   by_case true e = rw e (after_writing s now now.text r.rows r r.text r.back (all_written s now r (sym (ap (λ h. h.unsaved) r.is) ∙ (Decides-eqb now.history.unsaved 0).0 e)))
@@ -134,7 +134,7 @@ back_of_rest (suc k) (x ∷ xs) can = back_of_rest k xs can.2
 rows_behind : (text : List ℕ) (rows more : List (List ℕ)) → text ≡ saved_text rows → text ++ rows_text more ≡ saved_text (rows ++ more)
 rows_behind text rows more is = ap (λ t. t ++ rows_text more) is ∙ ap (λ t. header ++ (10 ∷ t)) (sym (flat_map-append row_of rows more))
 
-after_appending : (s : Settings) (now : Written) → CanStep Appends now → Stands s now → Stands s (after_step s Appends now)
+after_appending : (s : Settings) (now : WrittenHistory) → CanStep Appends now → Stands s now → Stands s (after_step s Appends now)
 after_appending s now can r = by_case (now.history.unsaved == 0) refl where
   new : List (List ℕ)
   new = newest now.history.unsaved now.history.kept.entries
@@ -151,13 +151,13 @@ after_appending s now can r = by_case (now.history.unsaved == 0) refl where
       (can_both r.rows new r.back (back_of_rest (length now.history.kept.entries - now.history.unsaved) now.history.kept.entries can))
       (ap (λ xs. added_all s [] (r.rows ++ xs)) same ∙ r.gives))
 
-made_is : (s : Settings) (rows : List (List ℕ)) → made_of s rows ≡ filed_of s (added_all s [] rows) 0
+made_is : (s : Settings) (rows : List (List ℕ)) → history_made_of s rows ≡ filed_of s (added_all s [] rows) 0
 made_is s rows = let kept = filed_kept (nothing_filed s) rows in rw kept refl
 
 loaded_is : (s : Settings) (text : List ℕ) (rows : List (List ℕ)) → text ≡ saved_text rows → CanComeBack rows → loaded s text ≡ filed_of s (added_all s [] rows) 0
 loaded_is s text rows is back = ap (λ t. loaded s t) is ∙ saved_back s rows back ∙ made_is s rows
 
-after_loading : (s : Settings) (now : Written) → Stands s now → Stands s (after_step s Loads now)
+after_loading : (s : Settings) (now : WrittenHistory) → Stands s now → Stands s (after_step s Loads now)
 after_loading s now r = record {
   entries = added_all s [] r.rows;
   unsaved = 0;
@@ -171,17 +171,17 @@ after_loading s now r = record {
   gives = none_behind s r.rows (added_all s [] r.rows);
 }
 
-after_one : (s : Settings) (now : Written) (step : Step) → CanStep step now → Stands s now → Stands s (after_step s step now)
+after_one : (s : Settings) (now : WrittenHistory) (step : Step) → CanStep step now → Stands s now → Stands s (after_step s step now)
 after_one s now (Adds line) can r = after_adding s now line r
 after_one s now Saves can r = after_saving s now can r
 after_one s now Appends can r = after_appending s now can r
 after_one s now Loads can r = after_loading s now r
 
-after_all : (s : Settings) (steps : List Step) (now : Written) → CanMake s steps now → Stands s now → Stands s (after_steps s steps now)
+after_all : (s : Settings) (steps : List Step) (now : WrittenHistory) → CanMake s steps now → Stands s now → Stands s (after_steps s steps now)
 after_all s [] now can r = r
 after_all s (step ∷ steps) now can r = after_all s steps (after_step s step now) can.1 (after_one s now step can.0 r)
 
-comes_back : (s : Settings) (now : Written) → Stands s now → now.history.unsaved ≡ 0 → loaded s now.text ≡ now.history
+comes_back : (s : Settings) (now : WrittenHistory) → Stands s now → now.history.unsaved ≡ 0 → loaded s now.text ≡ now.history
 comes_back s now r e =
     let none : r.unsaved ≡ 0 = sym (ap (λ h. h.unsaved) r.is) ∙ e in
     loaded_is s now.text r.rows r.text r.back
@@ -192,7 +192,7 @@ comes_back s now r e =
 stands_first : (s : Settings) (lines : List (List ℕ)) → CanComeBack (just_saved s lines).history.kept.entries → Stands s (just_saved s lines)
 stands_first s lines can =
     let entries = added_all s [] lines in
-    let e : (made_of s lines).kept.entries ≡ entries = ap (λ h. h.kept.entries) (made_is s lines) in
+    let e : (history_made_of s lines).kept.entries ≡ entries = ap (λ h. h.kept.entries) (made_is s lines) in
     let turn = all_in_turn s [] lines tt in
     let fits = all_small s [] lines (omega arith) in
     record {

@@ -1,6 +1,7 @@
 -- Loading: one row after the other.
 use Rattle.std.proofs.Common.{◌≡◌, ℕ, ◌<◌, Bool, true, false, List, [], ◌∷◌, ◌++◌, length, refl, sym, ◌∙◌, ap, arith, append_assoc}
-use Rattle.std.specs.Prelude.{Result, if◌then◌else◌, ◌&&◌, not, IsUtf8, Ok, Err, OnErr, bytes_eq}
+use Rattle.std.specs.Prelude.{Result, if◌then◌else◌, ◌&&◌, not, IsUtf8, Ok, Err, OnErr, IsOk, bytes_eq}
+use Rattle.std.specs.Result.{is_ok, MatchResult}
 use Rattle.std.specs.Str.{is_utf8, chars}
 use Rattle.std.proofs.lemmas.Str.{IsUtf8-from_is_utf8, is_utf8-from_IsUtf8, IsUtf8-nil}
 use Rattle.std.proofs.lemmas.Slice.Eq.{bytes_eq-Decides}
@@ -10,13 +11,24 @@ use Rattle.line_config.specs.declared.device.Last.TheVariants.{End, Failed}
 use Rattle.line_config.specs.declared.errors.ReadlineError.{ReadlineError}
 use Rattle.line_config.specs.declared.errors.ReadlineError.TheVariants.{HistoryText}
 use Rattle.line_help.specs.History.{Filed, all_saved, filed_with, filed_with_all, takes_all, ignored}
-use Rattle.line_help.specs.HistoryText.{AddsSome, after_first, entries_of, entry_of, texts_behind, good_rows, has_bad_row, header, load_answer, load_leaves, left_at, outcome, answer_at, texts_of}
+use Rattle.line_help.specs.HistoryText.{AddsSome, after_first, entries_of, entry_of, texts_behind, good_rows, has_bad_row, header, load_answer, load_leaves, left_at, rows_answer, answer_at, texts_of}
 
 pub not_utf8 : (bytes : List ℕ) → ¬ (IsUtf8 bytes) → is_utf8 bytes ≡ false
 not_utf8 bytes never = by_answer (is_utf8 bytes) refl where
   by_answer : (b : Bool) → is_utf8 bytes ≡ b → is_utf8 bytes ≡ false
   by_answer true e = absurd (never (IsUtf8-from_is_utf8 bytes e))
   by_answer false e = e
+
+-- bytes that were read as a text are one; bytes that were refused as a text are none
+pub read_utf8 : {X E : Type 0} (P : X → Type 0) (Q : E → Type 0) (bytes : List ℕ) (read : Result X E) → MatchResult read P Q → IsOk read
+    → ((x : X) → P x → IsUtf8 bytes) → is_utf8 bytes ≡ true
+read_utf8 P Q bytes (Ok x) p e makes = is_utf8-from_IsUtf8 bytes (makes x p)
+read_utf8 P Q bytes (Err y) p e makes = absurd (let k : false ≡ true = e in cc)
+
+pub unread_utf8 : {X E : Type 0} (P : X → Type 0) (Q : E → Type 0) (bytes : List ℕ) (read : Result X E) → MatchResult read P Q → is_ok read ≡ false
+    → ((y : E) → Q y → ¬ (IsUtf8 bytes)) → is_utf8 bytes ≡ false
+unread_utf8 P Q bytes (Err y) p e makes = not_utf8 bytes (makes y p)
+unread_utf8 P Q bytes (Ok x) p e makes = absurd (let k : true ≡ false = e in cc)
 
 pub empty_is_utf8 : (row : List ℕ) → length row ≡ 0 → is_utf8 row ≡ true
 empty_is_utf8 [] e = is_utf8-from_IsUtf8 [] IsUtf8-nil
@@ -66,15 +78,15 @@ pub left_more : (h : Filed) (escapes : Bool) (row : List ℕ) (rows : List (List
     → filed_with_all h (entries_of escapes (good_rows (row ∷ rows))) ≡ filed_with_all (filed_with_all h (entries_of escapes (row ∷ []))) (entries_of escapes (good_rows rows))
 left_more h escapes row rows e = ap (λ rs. filed_with_all h (entries_of escapes rs)) (good_more row rows e) ∙ left_step h escapes row (good_rows rows)
 
-outcome_more : (last : Last) (row : List ℕ) (rows : List (List ℕ)) (whole : Bool) → is_utf8 row ≡ true → outcome last (row ∷ rows) whole ≡ outcome last rows whole
+outcome_more : (last : Last) (row : List ℕ) (rows : List (List ℕ)) (whole : Bool) → is_utf8 row ≡ true → rows_answer last (row ∷ rows) whole ≡ rows_answer last rows whole
 outcome_more last row rows whole e = rw e refl
 
 pub answer_more : (last : Last) (whole : Bool) (h : Filed) (escapes : Bool) (row : List ℕ) (rows : List (List ℕ)) → is_utf8 row ≡ true
-    → outcome last (row ∷ rows) (whole && takes_all h (entries_of escapes (good_rows (row ∷ rows))))
-    ≡ outcome last rows ((whole && takes_all h (entries_of escapes (row ∷ []))) && takes_all (filed_with_all h (entries_of escapes (row ∷ []))) (entries_of escapes (good_rows rows)))
+    → rows_answer last (row ∷ rows) (whole && takes_all h (entries_of escapes (good_rows (row ∷ rows))))
+    ≡ rows_answer last rows ((whole && takes_all h (entries_of escapes (row ∷ []))) && takes_all (filed_with_all h (entries_of escapes (row ∷ []))) (entries_of escapes (good_rows rows)))
 answer_more last whole h escapes row rows e =
     outcome_more last row rows (whole && takes_all h (entries_of escapes (good_rows (row ∷ rows)))) e
-    ∙ ap (λ b. outcome last rows b)
+    ∙ ap (λ b. rows_answer last rows b)
     (ap (λ rs. whole && takes_all h (entries_of escapes rs)) (good_more row rows e)
     ∙ ap (λ b. whole && b) (takes_step h escapes row (good_rows rows))
     ∙ and_assoc whole (takes_all h (entries_of escapes (row ∷ []))) (takes_all (filed_with_all h (entries_of escapes (row ∷ []))) (entries_of escapes (good_rows rows))))
@@ -83,10 +95,10 @@ pub left_bad : (h : Filed) (escapes : Bool) (row : List ℕ) (rows : List (List 
     → filed_with_all h (entries_of escapes (good_rows (row ∷ rows))) ≡ h
 left_bad h escapes row rows e = ap (λ rs. filed_with_all h (entries_of escapes rs)) (good_none row rows e)
 
-pub answer_bad : (last : Last) (row : List ℕ) (rows : List (List ℕ)) (whole : Bool) → is_utf8 row ≡ false → outcome last (row ∷ rows) whole ≡ Err HistoryText
+pub answer_bad : (last : Last) (row : List ℕ) (rows : List (List ℕ)) (whole : Bool) → is_utf8 row ≡ false → rows_answer last (row ∷ rows) whole ≡ Err HistoryText
 answer_bad last row rows whole e = rw e refl
 
-pub answer_end : (whole : Bool) → outcome End [] (whole && true) ≡ Ok whole
+pub answer_end : (whole : Bool) → rows_answer End [] (whole && true) ≡ Ok whole
 answer_end whole = ap (λ b. Ok b) (and_true whole)
 
 pub header_is_utf8 : is_utf8 header ≡ true
@@ -111,10 +123,10 @@ takes_behind h row rows true = refl
 takes_behind h row rows false = refl
 
 pub loaded_answer : (last : Last) (h : Filed) (row : List ℕ) (rows : List (List ℕ)) → is_utf8 row ≡ true
-    → load_answer last (row ∷ rows) h ≡ outcome last rows (bytes_eq row header && takes_all (after_first h row) (entries_of (bytes_eq row header) (good_rows rows)))
+    → load_answer last (row ∷ rows) h ≡ rows_answer last rows (bytes_eq row header && takes_all (after_first h row) (entries_of (bytes_eq row header) (good_rows rows)))
 loaded_answer last h row rows e =
     outcome_more last row rows (bytes_eq row header && takes_all h (texts_of (good_rows (row ∷ rows)))) e
-    ∙ ap (λ b. outcome last rows b)
+    ∙ ap (λ b. rows_answer last rows b)
     (ap (λ rs. bytes_eq row header && takes_all h (texts_of rs)) (good_more row rows e) ∙ takes_behind h row (good_rows rows) (bytes_eq row header))
 
 pub loaded_leaves : (last : Last) (h : Filed) (row : List ℕ) (rows : List (List ℕ)) → is_utf8 row ≡ true
@@ -131,7 +143,7 @@ both last true escapes whole b e = cc
 both End false escapes whole b e = let f : whole ≡ b = cc in rw f refl
 both Failed false escapes whole b e = cc
 
-pub rest_whole : (last : Last) (rows : List (List ℕ)) (escapes whole : Bool) (b : Bool) → outcome last rows whole ≡ Ok b → outcome last rows (escapes && whole) ≡ Ok (escapes && b)
+pub rest_whole : (last : Last) (rows : List (List ℕ)) (escapes whole : Bool) (b : Bool) → rows_answer last rows whole ≡ Ok b → rows_answer last rows (escapes && whole) ≡ Ok (escapes && b)
 rest_whole last rows escapes whole b e = both last (has_bad_row rows) escapes whole b e
 
 neither_ok : (last : Last) (bad escapes whole : Bool) (r : ReadlineError) → (if bad then Err HistoryText else answer_at last whole) ≡ Err r
@@ -140,7 +152,7 @@ neither_ok last true escapes whole r e = e
 neither_ok End false escapes whole r e = cc
 neither_ok Failed false escapes whole r e = e
 
-pub rest_refused : (last : Last) (rows : List (List ℕ)) (escapes whole : Bool) (r : ReadlineError) → outcome last rows whole ≡ Err r → outcome last rows (escapes && whole) ≡ Err r
+pub rest_refused : (last : Last) (rows : List (List ℕ)) (escapes whole : Bool) (r : ReadlineError) → rows_answer last rows whole ≡ Err r → rows_answer last rows (escapes && whole) ≡ Err r
 rest_refused last rows escapes whole r e = neither_ok last (has_bad_row rows) escapes whole r e
 
 left_ok : (last : Last) (bad whole : Bool) (b : Bool) (f : Filed) → (if bad then Err HistoryText else answer_at last whole) ≡ Ok b → (if bad then f else left_at last f) ≡ all_saved f
@@ -153,10 +165,10 @@ left_refused last true whole r f e = refl
 left_refused End false whole r f e = cc
 left_refused Failed false whole r f e = refl
 
-pub leaves_saved : (last : Last) (rows : List (List ℕ)) (whole b : Bool) (f : Filed) → outcome last rows whole ≡ Ok b → (if has_bad_row rows then f else left_at last f) ≡ all_saved f
+pub leaves_saved : (last : Last) (rows : List (List ℕ)) (whole b : Bool) (f : Filed) → rows_answer last rows whole ≡ Ok b → (if has_bad_row rows then f else left_at last f) ≡ all_saved f
 leaves_saved last rows whole b f e = left_ok last (has_bad_row rows) whole b f e
 
-pub leaves_kept : (last : Last) (rows : List (List ℕ)) (whole : Bool) (r : ReadlineError) (f : Filed) → outcome last rows whole ≡ Err r → (if has_bad_row rows then f else left_at last f) ≡ f
+pub leaves_kept : (last : Last) (rows : List (List ℕ)) (whole : Bool) (r : ReadlineError) (f : Filed) → rows_answer last rows whole ≡ Err r → (if has_bad_row rows then f else left_at last f) ≡ f
 leaves_kept last rows whole r f e = left_refused last (has_bad_row rows) whole r f e
 
 -- the first of the texts were added, and the rest is still to come

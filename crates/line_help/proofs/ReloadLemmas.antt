@@ -12,7 +12,7 @@ use Rattle.line_config.specs.declared.device.Last.TheVariants.{End}
 use Rattle.line_help.specs.History.{Settings, Filed, begins_with_space, newest_is, filed_with, filed_with_all, nothing_filed, all_saved, newest}
 use Rattle.line_help.specs.HistoryText.{escaped_entry, escaped_byte, unescaped_row, entry_of, entries_of, row_of, rows_text, text_rows, saved_text, header, without_return, good_rows, has_bad_row, load_leaves, text_to_append}
 use Rattle.line_help.specs.Laws.{Reload, ReloadAppended}
-use Rattle.line_help.specs.Loaded.{ends_in_return, CanComeBack, loaded, made_of}
+use Rattle.line_help.specs.Loaded.{ends_in_return, CanComeBack, loaded, history_made_of}
 use Rattle.line_help.proofs.EscapeLemmas.{plain_byte, no_byte}
 use Rattle.line_help.proofs.LoadLemmas.{loaded_leaves, header_is_utf8}
 use Rattle.line_help.proofs.RowLemmas.{cut_row, has_newline}
@@ -167,7 +167,7 @@ added_back h ((b ∷ bs) ∷ entries) =
     ∙ ap (λ o. unwrap_or o (escaped_entry (b ∷ bs)) ∷ entries_of true (map escaped_entry entries)) (read_back (b ∷ bs)))
     ∙ added_back (filed_with h (b ∷ bs)) entries
 
-pub saved_back : (settings : Settings) (entries : List (List ℕ)) → CanComeBack entries → loaded settings (saved_text entries) ≡ made_of settings entries
+pub saved_back : (settings : Settings) (entries : List (List ℕ)) → CanComeBack entries → loaded settings (saved_text entries) ≡ history_made_of settings entries
 saved_back settings entries can =
     let rows : text_rows End (saved_text entries) ≡ header ∷ map escaped_entry entries = cut_row End header (rows_text entries) refl ∙ ap (λ rs. header ∷ rs) (rows_back entries can) in
     ap (λ rs. load_leaves End rs (nothing_filed settings)) rows

@@ -13,8 +13,8 @@ abbrev pub is_style_parameter : ℕ → Bool
 is_style_parameter byte = nat_le 48 byte && nat_le byte 59
 
 -- the control sequence that says how what follows it is drawn (SGR): ESC [, parameters, m
-abbrev pub drawn_by : List ℕ → List ℕ
-drawn_by parameters = 27 ∷ (91 ∷ (parameters ++ (109 ∷ [])))
+abbrev pub style_sequence : List ℕ → List ℕ
+style_sequence parameters = 27 ∷ (91 ∷ (parameters ++ (109 ∷ [])))
 
 -- the part of the display that a text is shown in: the line, with the cursor's place in it; the
 -- prompt, and whether it is the line's own; the hint; a candidate, and the way of completing
@@ -29,7 +29,7 @@ pub data Styled : List ℕ → List ℕ → Type 0 where
   nothing : Styled [] []
   byte : (b : ℕ) (text shown : List ℕ) → Styled text shown → Styled (b ∷ text) (b ∷ shown)
   style : (parameters text shown : List ℕ) → list_all is_style_parameter parameters ≡ true
-      → Styled text shown → Styled text (drawn_by parameters ++ shown)
+      → Styled text shown → Styled text (style_sequence parameters ++ shown)
 
 -- what a call answers of a text that is to be shown as another one, or to fail: that one, which is
 -- the text with styles put in; Failed where it is to fail, and besides want of memory
@@ -41,10 +41,10 @@ pub record Highlights {A : Type 0} (bytes : A
 
 -- bold and blue, and as before
 abbrev pub bold_blue : List ℕ
-bold_blue = drawn_by (codes "1;34")
+bold_blue = style_sequence (codes "1;34")
 
 abbrev pub plain_again : List ℕ
-plain_again = drawn_by (codes "0")
+plain_again = style_sequence (codes "0")
 
 -- the line with the byte at a place in bold and blue
 abbrev pub with_bold_byte : List ℕ → Option (ℕ × ℕ) → List ℕ

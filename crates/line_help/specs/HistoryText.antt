@@ -113,13 +113,13 @@ abbrev pub answer_at : Last → Bool → Result Bool ReadlineError
 answer_at End whole = Ok whole
 answer_at Failed whole = Err Reader
 
-abbrev pub outcome : Last → List (List ℕ) → Bool → Result Bool ReadlineError
-outcome last rows whole = if has_bad_row rows then Err HistoryText else answer_at last whole
+abbrev pub rows_answer : Last → List (List ℕ) → Bool → Result Bool ReadlineError
+rows_answer last rows whole = if has_bad_row rows then Err HistoryText else answer_at last whole
 
 -- the answer of a load: whether the header stood and no row was ignored
 abbrev pub load_answer : Last → List (List ℕ) → Filed → Result Bool ReadlineError
 load_answer last rows filed =
-    outcome last rows (has_header rows && takes_all filed (texts_of (good_rows rows)))
+    rows_answer last rows (has_header rows && takes_all filed (texts_of (good_rows rows)))
 
 -- the history after it: with all rows before a refusal, and with nothing new where there is none
 abbrev pub left_at : Last → Filed → Filed

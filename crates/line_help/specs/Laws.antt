@@ -4,7 +4,7 @@ use Rattle.line_help.specs.Brackets.{all_kinds, is_opening, is_closing, partner,
 use Rattle.line_help.specs.Course.{Step, after_steps, just_saved, CanMake}
 use Rattle.line_help.specs.History.{Settings, Filed, newest}
 use Rattle.line_help.specs.HistoryText.{text_to_save, text_to_append}
-use Rattle.line_help.specs.Loaded.{CanComeBack, loaded, made_of}
+use Rattle.line_help.specs.Loaded.{CanComeBack, loaded, history_made_of}
 use Rattle.line_help.specs.Matching.{match_place, MatchesBehind, MatchesBefore}
 use Rattle.line_help.specs.Validation.{bracket_verdict, unpaired, not_closed}
 use Rattle.line_help.specs.declared.validate.ValidationResult.TheVariants.{Incomplete, Invalid, Valid}
@@ -14,7 +14,7 @@ use Rattle.line_help.specs.declared.validate.ValidationResult.TheVariants.{Incom
 abbrev pub Reload : Type 0
 Reload =
     (settings : Settings) (filed : Filed) → text_to_save filed ≢ [] → CanComeBack filed.kept.entries
-    → loaded settings (text_to_save filed) ≡ made_of settings filed.kept.entries
+    → loaded settings (text_to_save filed) ≡ history_made_of settings filed.kept.entries
 
 -- so does a saved text with appended rows after it: it gives what adding the saved entries and then
 -- the new ones gives
@@ -24,7 +24,7 @@ ReloadAppended =
     → text_to_append later ≢ []
     → CanComeBack saved.kept.entries → CanComeBack (newest later.unsaved later.kept.entries)
     → loaded settings (text_to_save saved ++ text_to_append later)
-    ≡ made_of settings (saved.kept.entries ++ newest later.unsaved later.kept.entries)
+    ≡ history_made_of settings (saved.kept.entries ++ newest later.unsaved later.kept.entries)
 
 -- under unchanged settings, whatever is added, saved, appended and loaded after a first save: where
 -- nothing is new, the text, loaded into a new history, gives the history

@@ -21,5 +21,5 @@ abbrev pub loaded : Settings → List ℕ → Filed
 loaded settings text = load_leaves End (text_rows End text) (nothing_filed settings)
 
 -- a new history, after these lines were added, and with nothing to save
-abbrev pub made_of : Settings → List (List ℕ) → Filed
-made_of settings lines = all_saved (filed_with_all (nothing_filed settings) lines)
+abbrev pub history_made_of : Settings → List (List ℕ) → Filed
+history_made_of settings lines = all_saved (filed_with_all (nothing_filed settings) lines)

@@ -14,10 +14,7 @@ pub(crate) fn put<S: Sink>(sink: &mut S, bytes: &[u8]) -> Result<(), ReadlineErr
     ensures error { IfErr result (λ e. e ≡ HistoryText) }
     ensures failure { S.has_failed sink.new ≡ is_err result }
 {
-    match sink.write(bytes) {
-        Ok(()) => Ok(()),
-        Err(_) => Err(ReadlineError::HistoryText),
-    }
+    sink.write(bytes).map_err(|_| ReadlineError::HistoryText)
 }
 
 /// Writes an entry as a row, which a newline closes.

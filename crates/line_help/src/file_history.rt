@@ -88,10 +88,7 @@ impl FileHistory {
         for index in first..self.memory.len() {
             write_row(sink, self.memory[index].as_str())?;
         }
-        match sink.flush() {
-            Ok(()) => Ok(()),
-            Err(_) => Err(ReadlineError::HistoryText),
-        }
+        sink.flush().map_err(|_| ReadlineError::HistoryText)
     }
 
     /// Writes the whole text of the history, where an entry is new. Then none is new. Where the
@@ -270,7 +267,7 @@ impl FileHistory {
     ghost use Rattle.std.specs.Str.{is_utf8};
     ghost use Rattle.line_config.specs.declared.errors.ReadlineError.TheVariants.{HistoryText, Memory, Reader};
     ghost use Rattle.line_help.specs.History.{filed_with_all, takes_all};
-    ghost use Rattle.line_help.specs.HistoryText.{AddsSome, after_first, entries_of, follows, header, good_rows, load_answer, load_leaves, outcome, text_rows, says_reader, texts_of};
+    ghost use Rattle.line_help.specs.HistoryText.{AddsSome, after_first, entries_of, follows, header, good_rows, load_answer, load_leaves, rows_answer, text_rows, says_reader, texts_of};
 
     // Adds the entry of a row, and answers whether it isn't ignored. An empty row has none.
     fn add_row(&mut self, alloc: Global, row: &[u8], escapes: bool) -> Result<bool, ReadlineError>
@@ -286,14 +283,10 @@ impl FileHistory {
         if row.is_empty() {
             return Ok(true);
         }
-        match str::from_utf8(row) {
-            Ok(text) => {
-                let entry = entry_of(alloc, text, escapes)?;
-                let added = self.add_owned(alloc, entry)?;
-                Ok(added)
-            }
-            Err(_) => Err(ReadlineError::HistoryText),
-        }
+        let text = str::from_utf8(row).map_err(|_| ReadlineError::HistoryText)?;
+        let entry = entry_of(alloc, text, escapes)?;
+        let added = self.add_owned(alloc, entry)?;
+        Ok(added)
     }
 
     // Takes the first row: the header, or a row without escapes. Answers whether it is the header.
@@ -323,7 +316,7 @@ impl FileHistory {
         ensures answer { IsTrue (S.feed source.old).told
             → IsTrue (follows (S.feed source.old).steady result)
             → let rows = text_rows (S.feed source.old).last (S.feed source.old).coming in
-            result ≡ outcome (S.feed source.old).last rows
+            result ≡ rows_answer (S.feed source.old).last rows
             (takes_all self.old (entries_of escapes (good_rows rows))) }
         ensures left { IsTrue (S.feed source.old).told
             → IsTrue (follows (S.feed source.old).steady result)

@@ -35,10 +35,7 @@ fn next_byte<S: Source>(source: &mut S) -> Result<Option<u8>, ReadlineError>
         (λ _. (S.feed source.new).bound < (S.feed source.old).bound)) }
     ensures keeps { (S.feed source.new).bound ≤ (S.feed source.old).bound }
 {
-    match source.next_byte() {
-        Ok(byte) => Ok(byte),
-        Err(_) => Err(ReadlineError::Reader),
-    }
+    source.next_byte().map_err(|_| ReadlineError::Reader)
 }
 
 /// Reads the next row, which a newline or the end of the text ends, and answers whether there is

@@ -1,56 +1,106 @@
--- Tables one behind the other.
-use Rattle.std.proofs.Common.{◌≡◌, ℕ, Bool, true, false, List, [], ◌∷◌, ◌++◌, refl, sym, ap, ◌∙◌, if◌then◌else◌, ◌&&◌, ◌==◌}
+-- Tables one after the other.
+use Rattle.std.proofs.Common.{◌≡◌, ℕ, Bool, true, false, List, [], ◌∷◌, ◌++◌, refl, sym, ap, ◌∙◌, if◌then◌else◌}
 use Rattle.std.specs.Prelude.{Option, Some, None, option_map}
 use Rattle.std.specs.Option.{option_or}
+use Rattle.line_config.specs.declared.settings.EditMode.{EditMode}
+use Rattle.line_keys.specs.declared.key.KeyCode.{KeyCode}
 use Rattle.line_keys.specs.declared.key.KeyEvent.{KeyEvent}
 use Rattle.line_keys.specs.declared.command.Cmd.{Cmd}
+use Rattle.line_keys.specs.declared.keymap.common.Deed.{Deed as CommonKey}
+use Rattle.line_keys.specs.declared.keymap.emacs.Deed.{Deed as EmacsKey}
 use Rattle.line_keys.specs.declared.keymap.vi.motion.Motion.{Motion as MotionKey}
 use Rattle.line_keys.specs.declared.keymap.vi.table.Deed.{Deed as DeedKey}
-use Rattle.line_keys.specs.KeyRows.{KeyRow, given}
-use Rattle.line_keys.specs.Meant.{meant, motion_meant}
-use Rattle.line_keys.specs.Tables.{is_code}
-use Rattle.line_keys.specs.ViMotions.{Motion, motion_rows, change_rows}
-use Rattle.line_keys.specs.ViTables.{Deed, Gives, vi_move_rows, vi_edit_rows, vi_turn_rows, vi_reading_rows, deed_of}
+use Rattle.line_keys.specs.Common.{common_command_rows, common_reading_rows, common_deed}
+use Rattle.line_keys.specs.Emacs.{typed_rows, emacs_command_rows, emacs_reading_rows, emacs_deed}
+use Rattle.line_keys.specs.Meant.{meant, common_meant, emacs_meant, motion_meant}
+use Rattle.line_keys.specs.Refreshing.{Shown}
+use Rattle.line_keys.specs.Tables.{Gives, Row, has_key, first_row, look}
+use Rattle.line_keys.specs.ViMotions.{motion_rows, change_rows}
+use Rattle.line_keys.specs.ViTables.{vi_move_rows, vi_edit_rows, vi_turn_rows, vi_reading_rows, deed_of}
 
 or_by : {X : Type 0} (b : Bool) (x : X) (o p : Option X) → (if b then Some x else option_or o p) ≡ option_or (if b then Some x else o) p
 or_by true x o p = refl
 or_by false x o p = refl
 
-given-append : {X : Type 0} (n : ℕ) (k : KeyEvent) (xs ys : List (KeyRow X)) → given n k (xs ++ ys) ≡ option_or (given n k xs) (given n k ys)
-given-append n k [] ys = refl
-given-append n k (x ∷ xs) ys =
-    ap (λ o. if is_code x.code k.0 && (k.1.0 == x.modifiers) then Some (x.gives n) else o) (given-append n k xs ys)
-    ∙ or_by (is_code x.code k.0 && (k.1.0 == x.modifiers)) (x.gives n) (given n k xs) (given n k ys)
+first-append : {X : Type 0} (n : ℕ) (p : Bool) (code : KeyCode) (bits : ℕ) (xs ys : List (Row X))
+    → first_row n p code bits (xs ++ ys) ≡ option_or (first_row n p code bits xs) (first_row n p code bits ys)
+first-append n p code bits [] ys = refl
+first-append n p code bits (x ∷ xs) ys =
+    ap (λ o. if has_key code bits x then Some (x.gives code n p) else o) (first-append n p code bits xs ys)
+    ∙ or_by (has_key code bits x) (x.gives code n p) (first_row n p code bits xs) (first_row n p code bits ys)
+
+module _ {X : Type 0} (n : ℕ) (p : Bool) (k : KeyEvent) (xs ys : List (Row X)) where
+  in_first : (x : X) → Some x ≡ look n p k xs → Some x ≡ look n p k (xs ++ ys)
+  in_first x is = sym (first-append n p k.0 k.1.0 xs ys ∙ ap (λ o. option_or o (look n p k ys)) (sym is))
+
+  in_rest : (o : Option X) → None ≡ look n p k xs → o ≡ look n p k ys → o ≡ look n p k (xs ++ ys)
+  in_rest o none is = is ∙ sym (first-append n p k.0 k.1.0 xs ys ∙ ap (λ q. option_or q (look n p k ys)) (sym none))
+
+-- ---- both modes
+
+module _ (mode : EditMode) (shown : Shown) (n : ℕ) (p : Bool) (k : KeyEvent) where
+  pub common_first : (cmd : Cmd) → Some (Gives cmd) ≡ look n p k (common_command_rows mode shown) → Some (Gives cmd) ≡ common_deed mode shown n p k
+  unfolding common_deed
+  common_first cmd is = in_first n p k (common_command_rows mode shown) common_reading_rows (Gives cmd) is
+
+  pub common_second : (o : Option CommonKey) → None ≡ look n p k (common_command_rows mode shown) → option_map common_meant o ≡ look n p k common_reading_rows
+      → option_map common_meant o ≡ common_deed mode shown n p k
+  unfolding common_deed
+  common_second o none is = in_rest n p k (common_command_rows mode shown) common_reading_rows (option_map common_meant o) none is
+
+-- ---- Emacs
+
+module _ (shown : Shown) (n : ℕ) (p : Bool) (k : KeyEvent) where
+  pub emacs_first : (cmd : Cmd) → Some (Gives cmd) ≡ look n p k typed_rows → Some (Gives cmd) ≡ emacs_deed shown n p k
+  unfolding emacs_deed
+  emacs_first cmd is = in_first n p k typed_rows (emacs_command_rows shown ++ emacs_reading_rows) (Gives cmd) is
+
+  pub emacs_second : (cmd : Cmd) → None ≡ look n p k typed_rows → Some (Gives cmd) ≡ look n p k (emacs_command_rows shown) → Some (Gives cmd) ≡ emacs_deed shown n p k
+  unfolding emacs_deed
+  emacs_second cmd none is =
+      in_rest n p k typed_rows (emacs_command_rows shown ++ emacs_reading_rows) (Some (Gives cmd)) none
+      (in_first n p k (emacs_command_rows shown) emacs_reading_rows (Gives cmd) is)
+
+  pub emacs_third : (o : Option EmacsKey) → None ≡ look n p k typed_rows → None ≡ look n p k (emacs_command_rows shown)
+      → option_map emacs_meant o ≡ look n p k emacs_reading_rows → option_map emacs_meant o ≡ emacs_deed shown n p k
+  unfolding emacs_deed
+  emacs_third o none nor is =
+      in_rest n p k typed_rows (emacs_command_rows shown ++ emacs_reading_rows) (option_map emacs_meant o) none
+      (in_rest n p k (emacs_command_rows shown) emacs_reading_rows (option_map emacs_meant o) nor is)
+
+-- ---- Vi
 
 module _ (n : ℕ) (k : KeyEvent) where
-  four : deed_of n k ≡ option_or (given n k vi_move_rows) (option_or (given n k vi_edit_rows) (option_or (given n k vi_turn_rows) (given n k vi_reading_rows)))
+  pub first_table : (cmd : Cmd) → Some (Gives cmd) ≡ look n true k vi_move_rows → Some (Gives cmd) ≡ deed_of n k
   unfolding deed_of
-  four = given-append n k vi_move_rows (vi_edit_rows ++ (vi_turn_rows ++ vi_reading_rows))
-      ∙ ap (option_or (given n k vi_move_rows)) (given-append n k vi_edit_rows (vi_turn_rows ++ vi_reading_rows)
-      ∙ ap (option_or (given n k vi_edit_rows)) (given-append n k vi_turn_rows vi_reading_rows))
+  first_table cmd is = in_first n true k vi_move_rows (vi_edit_rows ++ (vi_turn_rows ++ vi_reading_rows)) (Gives cmd) is
 
-  pub first_table : (cmd : Cmd) → Some (Gives cmd) ≡ given n k vi_move_rows → Some (Gives cmd) ≡ deed_of n k
-  first_table cmd is = sym (four ∙ ap (λ o. option_or o (option_or (given n k vi_edit_rows) (option_or (given n k vi_turn_rows) (given n k vi_reading_rows)))) (sym is))
+  pub second_table : (cmd : Cmd) → None ≡ look n true k vi_move_rows → Some (Gives cmd) ≡ look n true k vi_edit_rows → Some (Gives cmd) ≡ deed_of n k
+  unfolding deed_of
+  second_table cmd none is =
+      in_rest n true k vi_move_rows (vi_edit_rows ++ (vi_turn_rows ++ vi_reading_rows)) (Some (Gives cmd)) none
+      (in_first n true k vi_edit_rows (vi_turn_rows ++ vi_reading_rows) (Gives cmd) is)
 
-  pub second_table : (cmd : Cmd) → None ≡ given n k vi_move_rows → Some (Gives cmd) ≡ given n k vi_edit_rows → Some (Gives cmd) ≡ deed_of n k
-  second_table cmd none is = sym (four
-      ∙ ap (λ o. option_or o (option_or (given n k vi_edit_rows) (option_or (given n k vi_turn_rows) (given n k vi_reading_rows)))) (sym none)
-      ∙ ap (λ o. option_or o (option_or (given n k vi_turn_rows) (given n k vi_reading_rows))) (sym is))
+  pub third_table : (deed : DeedKey) → None ≡ look n true k vi_move_rows → None ≡ look n true k vi_edit_rows → Some (meant deed) ≡ look n true k vi_turn_rows
+      → Some (meant deed) ≡ deed_of n k
+  unfolding deed_of
+  third_table deed none nor is =
+      in_rest n true k vi_move_rows (vi_edit_rows ++ (vi_turn_rows ++ vi_reading_rows)) (Some (meant deed)) none
+      (in_rest n true k vi_edit_rows (vi_turn_rows ++ vi_reading_rows) (Some (meant deed)) nor
+      (in_first n true k vi_turn_rows vi_reading_rows (meant deed) is))
 
-  behind_two : None ≡ given n k vi_move_rows → None ≡ given n k vi_edit_rows → deed_of n k ≡ option_or (given n k vi_turn_rows) (given n k vi_reading_rows)
-  behind_two none nor = four
-      ∙ ap (λ o. option_or o (option_or (given n k vi_edit_rows) (option_or (given n k vi_turn_rows) (given n k vi_reading_rows)))) (sym none)
-      ∙ ap (λ o. option_or o (option_or (given n k vi_turn_rows) (given n k vi_reading_rows))) (sym nor)
+  pub fourth_table : (o : Option DeedKey) → None ≡ look n true k vi_move_rows → None ≡ look n true k vi_edit_rows → None ≡ look n true k vi_turn_rows
+      → option_map meant o ≡ look n true k vi_reading_rows → option_map meant o ≡ deed_of n k
+  unfolding deed_of
+  fourth_table o none nor neither is =
+      in_rest n true k vi_move_rows (vi_edit_rows ++ (vi_turn_rows ++ vi_reading_rows)) (option_map meant o) none
+      (in_rest n true k vi_edit_rows (vi_turn_rows ++ vi_reading_rows) (option_map meant o) nor
+      (in_rest n true k vi_turn_rows vi_reading_rows (option_map meant o) neither is))
 
-  pub third_table : (deed : DeedKey) → None ≡ given n k vi_move_rows → None ≡ given n k vi_edit_rows → Some (meant deed) ≡ given n k vi_turn_rows → Some (meant deed) ≡ deed_of n k
-  third_table deed none nor is = sym (behind_two none nor ∙ ap (λ o. option_or o (given n k vi_reading_rows)) (sym is))
+  pub change_first : (motion : MotionKey) → Some (motion_meant motion) ≡ look n true k change_rows
+      → Some (motion_meant motion) ≡ option_or (look n true k change_rows) (look n true k motion_rows)
+  change_first motion is = ap (λ o. option_or o (look n true k motion_rows)) is
 
-  pub fourth_table : (o : Option DeedKey) → None ≡ given n k vi_move_rows → None ≡ given n k vi_edit_rows → None ≡ given n k vi_turn_rows
-      → option_map meant o ≡ given n k vi_reading_rows → option_map meant o ≡ deed_of n k
-  fourth_table o none nor neither is = is ∙ sym (behind_two none nor ∙ ap (λ p. option_or p (given n k vi_reading_rows)) (sym neither))
-
-  pub change_first : (motion : MotionKey) → Some (motion_meant motion) ≡ given n k change_rows → Some (motion_meant motion) ≡ option_or (given n k change_rows) (given n k motion_rows)
-  change_first motion is = ap (λ o. option_or o (given n k motion_rows)) is
-
-  pub motion_then : (o : Option MotionKey) → None ≡ given n k change_rows → option_map motion_meant o ≡ given n k motion_rows → option_map motion_meant o ≡ option_or (given n k change_rows) (given n k motion_rows)
-  motion_then o none is = is ∙ ap (λ p. option_or p (given n k motion_rows)) none
+  pub motion_then : (o : Option MotionKey) → None ≡ look n true k change_rows → option_map motion_meant o ≡ look n true k motion_rows
+      → option_map motion_meant o ≡ option_or (look n true k change_rows) (look n true k motion_rows)
+  motion_then o none is = is ∙ ap (λ p. option_or p (look n true k motion_rows)) none

@@ -1,21 +1,21 @@
--- Calls that make the steps of their definitions: one step in front, one part behind another, and where a fault cuts them.
-use Rattle.std.proofs.Common.{◌≡◌, ℕ, ◌≤◌, ◌⊎◌, inl, inr, Bool, true, false, refl, sym, ap, subst, ◌∙◌, true≢false, IsTrue, le_refl, le_trans}
-use Rattle.std.specs.Prelude.{⊤, Result, Ok, Err, IfOk, IfErr}
+-- Calls that make the steps of their definitions: one step in front, one part after another, and where a fault cuts them.
+use Rattle.std.proofs.Common.{◌≡◌, ◌⊎◌, inl, inr, Bool, true, false, refl, sym, ap, subst, ◌∙◌, true≢false, IsTrue, le_refl, le_trans}
+use Rattle.std.specs.Prelude.{Result, Ok, Err, IfOk, IfErr}
 use Rattle.line_config.specs.declared.errors.ReadlineError.{ReadlineError}
 use Rattle.line_config.specs.declared.errors.ReadlineError.TheVariants.{Eof, Interrupted, NotUtf8, PasteOutOfPlace, Reader, Display as DisplayFault, Lines, HistoryText, Helper, Handler, Memory}
 use Rattle.line_keys.specs.Answers.{Custom}
-use Rattle.line_keys.specs.Coming.{Coming, behind, left, left_by}
+use Rattle.line_keys.specs.Coming.{Coming, behind, left}
 use Rattle.line_keys.specs.Faults.{IsReaderRefusal}
-use Rattle.line_keys.specs.Feeds.{Feed, Item, IsReadFault, ReadAs, ReadsBy}
-use Rattle.line_keys.specs.Refreshing.{Shown, Ask, Display, Draws, IsDrawFault}
-use Rattle.line_keys.specs.Phrases.{Input, Script, Ends, Needs, Asks, Reads, Becomes, Part, with_read, read_by, asking, answered, granted, deciding, decided_by, after, after_by}
-use Rattle.line_keys.specs.Follows.{Stays, Goes, Follows, Because, Undrawn, BecauseBound, Decides, silent}
+use Rattle.line_keys.specs.Feeds.{KeyFeed, InputItem, ReadAs, ReadsBy}
+use Rattle.line_keys.specs.Refreshing.{Shown, Ask, KnownDisplay, Draws, IsDrawFault}
+use Rattle.line_keys.specs.Phrases.{Input, Script, Ends, Needs, Asks, Reads, Becomes, Part, with_read, read_by, asking, answered, deciding, after}
+use Rattle.line_keys.specs.Follows.{Goes, Follows, Because, Undrawn, BecauseBound, Decides, silent}
 
-abbrev is_ok : {A : Type 0} → Result A ReadlineError → Bool
+abbrev pub is_ok : {A : Type 0} → Result A ReadlineError → Bool
 is_ok (Ok x) = true
 is_ok (Err e) = false
 
-abbrev value_or : {A : Type 0} → A → Result A ReadlineError → A
+abbrev pub value_or : {A : Type 0} → A → Result A ReadlineError → A
 value_or a (Ok x) = x
 value_or a (Err e) = a
 
@@ -23,21 +23,21 @@ abbrev refusal_in : {A : Type 0} → Result A ReadlineError → ReadlineError
 refusal_in (Ok x) = Memory
 refusal_in (Err e) = e
 
-abbrev err_in : (X : Type 0) → ReadlineError → Result X ReadlineError
+abbrev pub err_in : (X : Type 0) → ReadlineError → Result X ReadlineError
 err_in X e = Err e
 
-abbrev ok_in : {X : Type 0} → X → Result X ReadlineError
+abbrev pub ok_in : {X : Type 0} → X → Result X ReadlineError
 ok_in x = Ok x
 
-err_same : {X Y : Type 0} (e f : ReadlineError) → err_in X e ≡ err_in X f → err_in Y e ≡ err_in Y f
+pub err_same : {X Y : Type 0} (e f : ReadlineError) → err_in X e ≡ err_in X f → err_in Y e ≡ err_in Y f
 err_same e f is = ap Err (ap refusal_in is)
 
-ok_not_err : {X : Type 0} {Z : Type 0} (x : X) (e : ReadlineError) → ok_in x ≡ Err e → Z
+pub ok_not_err : {X : Type 0} {Z : Type 0} (x : X) (e : ReadlineError) → ok_in x ≡ Err e → Z
 ok_not_err x e is = absurd (true≢false (ap is_ok is))
 
 -- ---- the reason by who refused
 
-module _ {S : Type 0} (d : Display S) (custom : Custom) (w : S) (f : Feed) where
+module _ {S : Type 0} (d : KnownDisplay S) (custom : Custom) (w : S) (f : KeyFeed) where
   pub reader_because : (e : ReadlineError) → IsReaderRefusal e → f.reason e → Because d custom w f e
   reader_because Eof is why = why
   reader_because NotUtf8 is why = why
@@ -80,7 +80,7 @@ module _ {S : Type 0} (d : Display S) (custom : Custom) (w : S) (f : Feed) where
   binding_because HistoryText why = elim why [ ]
   binding_because Helper why = elim why [ ]
 
-silent_because : {S : Type 0} (d : Display S) (custom : Custom) (w : S) (f : Feed) (e : ReadlineError) → Because silent custom tt f e → Because d custom w f e
+silent_because : {S : Type 0} (d : KnownDisplay S) (custom : Custom) (w : S) (f : KeyFeed) (e : ReadlineError) → Because silent custom tt f e → Because d custom w f e
 silent_because d custom w f Eof why = why
 silent_because d custom w f NotUtf8 why = why
 silent_because d custom w f PasteOutOfPlace why = why
@@ -93,9 +93,9 @@ silent_because d custom w f Interrupted why = elim why [ ]
 silent_because d custom w f Lines why = elim why [ ]
 silent_because d custom w f HistoryText why = elim why [ ]
 
--- ---- one part behind another
+-- ---- one part after another
 
-module _ {S : Type 0} (d : Display S) (steady : Bool) where
+module _ {S : Type 0} (d : KnownDisplay S) (steady : Bool) where
   goes_ok : {X Y : Type 0} (next : X → Input → Shown → Part Y) (s : Script X) (x : X) (r : Result Y ReadlineError) (w w1 w2 : S) (i i1 i2 : Input) (c c1 c2 : Coming)
       → Goes d steady s w i c (Ok x) w1 i1 c1 → Goes d steady (next x i1 (d.shown w1) c1) w1 i1 c1 r w2 i2 c2 → Goes d steady (after next i (d.shown w) c s) w i c r w2 i2 c2
   goes_ok {X} next (Ends (Ok y)) x r w w1 w2 i i1 i2 c c1 c2 is later = rw (ap (value_or x) is.0, is.1, is.2, is.3) at later
@@ -120,8 +120,8 @@ module _ {S : Type 0} (d : Display S) (steady : Bool) where
   goes_err next (Reads item rest more) e w w1 i i1 c c1 (inr (f, is, cut)) = inr (f, is, (err_same e f cut.0, cut.1, cut.2, cut.3))
   goes_err next (Becomes kept more) e w w1 i i1 c c1 goes = goes_err next more e w w1 kept i1 c c1 goes
 
-module _ {S X Y : Type 0} (d : Display S) (custom : Custom) where
-  pub then_stops : (s : Script X) (next : X → Input → Shown → Part Y) (w w' : S) (i i' : Input) (f f' : Feed) (e : ReadlineError) → Follows d custom s w i w' i' f f' (Err e)
+module _ {S X Y : Type 0} (d : KnownDisplay S) (custom : Custom) where
+  pub then_stops : (s : Script X) (next : X → Input → Shown → Part Y) (w w' : S) (i i' : Input) (f f' : KeyFeed) (e : ReadlineError) → Follows d custom s w i w' i' f f' (Err e)
       → Follows d custom (after next i (d.shown w) f.coming s) w i w' i' f f' (Err e)
   then_stops s next w w' i i' f f' e follows = record {
     goes = λ told. goes_err d f.steady next s e w w' i i' f.coming f'.coming (follows.goes told);
@@ -132,7 +132,7 @@ module _ {S X Y : Type 0} (d : Display S) (custom : Custom) where
     reason = follows.reason;
   }
 
-  pub then_follows : (s : Script X) (next : X → Input → Shown → Part Y) (x : X) (w w1 w2 : S) (i i1 i2 : Input) (f f1 f2 : Feed) (r : Result Y ReadlineError) → Follows d custom s w i w1 i1 f f1 (Ok x)
+  pub then_follows : (s : Script X) (next : X → Input → Shown → Part Y) (x : X) (w w1 w2 : S) (i i1 i2 : Input) (f f1 f2 : KeyFeed) (r : Result Y ReadlineError) → Follows d custom s w i w1 i1 f f1 (Ok x)
       → Follows d custom (next x i1 (d.shown w1) f1.coming) w1 i1 w2 i2 f1 f2 r → Follows d custom (after next i (d.shown w) f.coming s) w i w2 i2 f f2 r
   then_follows s next x w w1 w2 i i1 i2 f f1 f2 r first second = record {
     goes = λ told. goes_ok d f.steady next s x r w w1 w2 i i1 i2 f.coming f1.coming f2.coming (first.goes told)
@@ -146,9 +146,9 @@ module _ {S X Y : Type 0} (d : Display S) (custom : Custom) where
 
 -- ---- steps
 
-module _ {S X : Type 0} (d : Display S) (custom : Custom) where
+module _ {S X : Type 0} (d : KnownDisplay S) (custom : Custom) where
   -- want of memory, where it is taken
-  pub memory_follows : (s : Script X) (w : S) (i : Input) (f : Feed) (e : ReadlineError) → e ≡ Memory → Follows d custom (Needs s) w i w i f f (Err e)
+  pub memory_follows : (s : Script X) (w : S) (i : Input) (f : KeyFeed) (e : ReadlineError) → e ≡ Memory → Follows d custom (Needs s) w i w i f f (Err e)
   memory_follows s w i f e is = record {
     goes = λ told. inr (ap Err is, refl, refl, refl);
     told = λ told. told;
@@ -158,7 +158,7 @@ module _ {S X : Type 0} (d : Display S) (custom : Custom) where
     reason = memory_because d custom w f e is;
   }
 
-  pub needs_follow : (s : Script X) (w w' : S) (i i' : Input) (f f' : Feed) (r : Result X ReadlineError) → Follows d custom s w i w' i' f f' r → Follows d custom (Needs s) w i w' i' f f' r
+  pub needs_follow : (s : Script X) (w w' : S) (i i' : Input) (f f' : KeyFeed) (r : Result X ReadlineError) → Follows d custom s w i w' i' f f' r → Follows d custom (Needs s) w i w' i' f f' r
   needs_follow s w w' i i' f f' r follows = record {
     goes = λ told. inl (follows.goes told);
     told = follows.told;
@@ -168,7 +168,7 @@ module _ {S X : Type 0} (d : Display S) (custom : Custom) where
     reason = follows.reason;
   }
 
-  pub ends_follow : (s : Script X) (w : S) (i : Input) (f : Feed) (x : X) → s ≡ Ends (Ok x) → Follows d custom s w i w i f f (Ok x)
+  pub ends_follow : (s : Script X) (w : S) (i : Input) (f : KeyFeed) (x : X) → s ≡ Ends (Ok x) → Follows d custom s w i w i f f (Ok x)
   ends_follow s w i f x is = record {
     goes = λ told. subst (λ (t : Script X). Goes d f.steady t w i f.coming (Ok x) w i f.coming) (sym is) (refl, refl, refl, refl);
     told = λ told. told;
@@ -179,16 +179,16 @@ module _ {S X : Type 0} (d : Display S) (custom : Custom) where
   }
 
   -- an answer that takes memory
-  pub granted_follows : (s : Script X) (w : S) (i : Input) (f : Feed) (x : X) (r : Result X ReadlineError) → IfOk r (λ y. y ≡ x) → IfErr r (λ e. e ≡ Memory)
+  pub granted_follows : (s : Script X) (w : S) (i : Input) (f : KeyFeed) (x : X) (r : Result X ReadlineError) → IfOk r (λ y. y ≡ x) → IfErr r (λ e. e ≡ Memory)
       → s ≡ Needs (Ends (Ok x)) → Follows d custom s w i w i f f r
   granted_follows s w i f x (Ok y) ok err is = subst (λ (t : Script X). Follows d custom t w i w i f f (Ok y)) (sym is) (needs_follow (Ends (Ok x)) w w i i f f (Ok y) (ends_follow (Ends (Ok x)) w i f y (ap (λ (z : X). Ends (Ok z)) (sym ok))))
   granted_follows s w i f x (Err e) ok err is = subst (λ (t : Script X). Follows d custom t w i w i f f (Err e)) (sym is) (memory_follows (Ends (Ok x)) w i f e err)
 
-  pub as_follows : (s t : Script X) (w w' : S) (i i' : Input) (f f' : Feed) (r : Result X ReadlineError) → Follows d custom t w i w' i' f f' r → s ≡ t → Follows d custom s w i w' i' f f' r
+  pub as_follows : (s t : Script X) (w w' : S) (i i' : Input) (f f' : KeyFeed) (r : Result X ReadlineError) → Follows d custom t w i w' i' f f' r → s ≡ t → Follows d custom s w i w' i' f f' r
   as_follows s t w w' i i' f f' r follows is = subst (λ (u : Script X). Follows d custom u w i w' i' f f' r) (sym is) follows
 
   -- what is kept changes, but never between Emacs and Vi
-  pub becomes_follows : (s : Script X) (w w' : S) (i j i' : Input) (f f' : Feed) (r : Result X ReadlineError) → j.mode ≡ i.mode → Follows d custom s w j w' i' f f' r
+  pub becomes_follows : (s : Script X) (w w' : S) (i j i' : Input) (f f' : KeyFeed) (r : Result X ReadlineError) → j.mode ≡ i.mode → Follows d custom s w j w' i' f f' r
       → Follows d custom (Becomes j s) w i w' i' f f' r
   becomes_follows s w w' i j i' f f' r same follows = record {
     goes = follows.goes;
@@ -200,7 +200,7 @@ module _ {S X : Type 0} (d : Display S) (custom : Custom) where
   }
 
 -- a part that no display is asked of
-silent_goes : {S X : Type 0} (d : Display S) (steady : Bool) (s : Script X) (w : S) (i i' : Input) (c c' : Coming) (r : Result X ReadlineError)
+silent_goes : {S X : Type 0} (d : KnownDisplay S) (steady : Bool) (s : Script X) (w : S) (i i' : Input) (c c' : Coming) (r : Result X ReadlineError)
     → Goes silent steady s tt i c r tt i' c' → Goes d steady s w i c r w i' c'
 silent_goes d steady (Ends answer) w i i' c c' r is = (is.0, refl, is.2, is.3)
 silent_goes d steady (Needs more) w i i' c c' r (inl goes) = inl (silent_goes d steady more w i i' c c' r goes)
@@ -211,11 +211,11 @@ silent_goes d steady (Reads item rest more) w i i' c c' r (inl goes) = inl (sile
 silent_goes d steady (Reads item rest more) w i i' c c' r (inr (e, is, cut)) = inr (e, is, (cut.0, refl, cut.2, cut.3))
 silent_goes d steady (Becomes kept more) w i i' c c' r goes = silent_goes d steady more w kept i' c c' r goes
 
-silent_reason : {S X : Type 0} (d : Display S) (custom : Custom) (w : S) (f : Feed) (r : Result X ReadlineError) → IfErr r (λ e. Because silent custom tt f e) → IfErr r (λ e. Because d custom w f e)
+silent_reason : {S X : Type 0} (d : KnownDisplay S) (custom : Custom) (w : S) (f : KeyFeed) (r : Result X ReadlineError) → IfErr r (λ e. Because silent custom tt f e) → IfErr r (λ e. Because d custom w f e)
 silent_reason d custom w f (Ok x) why = tt
 silent_reason d custom w f (Err e) why = silent_because d custom w f e why
 
-pub silent_follows : {S X : Type 0} (d : Display S) (custom : Custom) (s : Script X) (w : S) (i i' : Input) (f f' : Feed) (r : Result X ReadlineError) → Follows silent custom s tt i tt i' f f' r
+pub silent_follows : {S X : Type 0} (d : KnownDisplay S) (custom : Custom) (s : Script X) (w : S) (i i' : Input) (f f' : KeyFeed) (r : Result X ReadlineError) → Follows silent custom s tt i tt i' f f' r
     → Follows d custom s w i w i' f f' r
 silent_follows d custom s w i i' f f' r quiet = record {
   goes = λ told. silent_goes d f.steady s w i i' f.coming f'.coming r (quiet.goes told);
@@ -228,7 +228,7 @@ silent_follows d custom s w i i' f f' r quiet = record {
 
 -- ---- reads
 
-module _ {S X Y : Type 0} (d : Display S) (item : Item) (at : Coming → Result X ReadlineError) (next : X → Part Y) where
+module _ {S X Y : Type 0} (d : KnownDisplay S) (item : InputItem) (at : Coming → Result X ReadlineError) (next : X → Part Y) where
   reads_stop : (steady : Bool) (given : Result X ReadlineError) (rest : Coming) (w : S) (i : Input) (c c' : Coming) (e : ReadlineError)
       → ReadAs item steady given rest (Err e) c' → Goes d steady (read_by item next given rest) w i c (Err e) w i c'
   reads_stop steady (Ok x) rest w i c c' e (inl is) = ok_not_err x e (sym is.0)
@@ -243,7 +243,7 @@ module _ {S X Y : Type 0} (d : Display S) (item : Item) (at : Coming → Result 
   reads_on steady (Err g) rest w w' i i' c c1 c2 x r (inl is) later = ok_not_err x g is.0
   reads_on steady (Err g) rest w w' i i' c c1 c2 x r (inr (f, fault, is, left)) later = ok_not_err x f is
 
-  pub read_stops : (custom : Custom) (w : S) (i : Input) (f f' : Feed) (e : ReadlineError) → ReadsBy item at f f' (Err e) → Follows d custom (with_read item at next f.coming) w i w i f f' (Err e)
+  pub read_stops : (custom : Custom) (w : S) (i : Input) (f f' : KeyFeed) (e : ReadlineError) → ReadsBy item at f f' (Err e) → Follows d custom (with_read item at next f.coming) w i w i f f' (Err e)
   read_stops custom w i f f' e reads = record {
     goes = λ told. reads_stop f.steady (at f.coming) (behind f.coming) w i f.coming f'.coming e (reads.taken told);
     told = reads.told;
@@ -253,7 +253,7 @@ module _ {S X Y : Type 0} (d : Display S) (item : Item) (at : Coming → Result 
     reason = reader_because d custom w f' e reads.refused reads.reason;
   }
 
-  pub read_follows : (custom : Custom) (x : X) (w w' : S) (i i' : Input) (f f1 f2 : Feed) (r : Result Y ReadlineError) → ReadsBy item at f f1 (Ok x)
+  pub read_follows : (custom : Custom) (x : X) (w w' : S) (i i' : Input) (f f1 f2 : KeyFeed) (r : Result Y ReadlineError) → ReadsBy item at f f1 (Ok x)
       → Follows d custom (next x f1.coming) w i w' i' f1 f2 r → Follows d custom (with_read item at next f.coming) w i w' i' f f2 r
   read_follows custom x w w' i i' f f1 f2 r first second = record {
     goes = λ told. reads_on f.steady (at f.coming) (behind f.coming) w w' i i' f.coming f1.coming f2.coming x r (first.taken told)
@@ -266,15 +266,15 @@ module _ {S X Y : Type 0} (d : Display S) (item : Item) (at : Coming → Result 
   }
 
 -- a read that is the whole part
-pub whole_read : {S X : Type 0} (d : Display S) (item : Item) (at : Coming → Result X ReadlineError) (custom : Custom) (w : S) (i : Input) (f f' : Feed) (r : Result X ReadlineError)
+pub whole_read : {S X : Type 0} (d : KnownDisplay S) (item : InputItem) (at : Coming → Result X ReadlineError) (custom : Custom) (w : S) (i : Input) (f f' : KeyFeed) (r : Result X ReadlineError)
     → ReadsBy item at f f' r → Follows d custom (with_read item at answered f.coming) w i w i f f' r
 whole_read d item at custom w i f f' (Ok x) reads = read_follows d item at answered custom x w w i i f f' f' (Ok x) reads (ends_follow d custom (answered x f'.coming) w i f' x refl)
 whole_read d item at custom w i f f' (Err e) reads = read_stops d item at answered custom w i f f' e reads
 
 -- ---- asks
 
-module _ {S A Y : Type 0} (d : Display S) (custom : Custom) (ask : Ask) (next : Shown → Part Y) where
-  pub ask_stops : (w w' : S) (i : Input) (f : Feed) (e : ReadlineError) → Draws {A = A} d ask w w' (Err e) → Follows d custom (asking ask next f.coming) w i w' i f f (Err e)
+module _ {S A Y : Type 0} (d : KnownDisplay S) (custom : Custom) (ask : Ask) (next : Shown → Part Y) where
+  pub ask_stops : (w w' : S) (i : Input) (f : KeyFeed) (e : ReadlineError) → Draws {A = A} d ask w w' (Err e) → Follows d custom (asking ask next f.coming) w i w' i f f (Err e)
   ask_stops w w' i f e draws = record {
     goes = λ told. inr (e, draws.err.0, draws.err.1, refl, refl, refl);
     told = λ told. told;
@@ -284,7 +284,7 @@ module _ {S A Y : Type 0} (d : Display S) (custom : Custom) (ask : Ask) (next : 
     reason = display_because d custom w' f e draws.err.0 (w, ask, draws.err.1);
   }
 
-  pub ask_follows : (u : A) (w w1 w2 : S) (i i2 : Input) (f f2 : Feed) (r : Result Y ReadlineError) → Draws d ask w w1 (Ok u) → Follows d custom (next (d.shown w1) f.coming) w1 i w2 i2 f f2 r
+  pub ask_follows : (u : A) (w w1 w2 : S) (i i2 : Input) (f f2 : KeyFeed) (r : Result Y ReadlineError) → Draws d ask w w1 (Ok u) → Follows d custom (next (d.shown w1) f.coming) w1 i w2 i2 f f2 r
       → Follows d custom (asking ask next f.coming) w i w2 i2 f f2 r
   ask_follows u w w1 w2 i i2 f f2 r first second = record {
     goes = λ told. inl (w1, first.ok, second.goes told);
@@ -297,15 +297,15 @@ module _ {S A Y : Type 0} (d : Display S) (custom : Custom) (ask : Ask) (next : 
 
 -- ---- what a binding answers
 
-module _ {S X Y : Type 0} (d : Display S) (custom : Custom) (next : X → Part Y) where
-  decision_stops : (answer : Result X ReadlineError) (w : S) (i : Input) (f : Feed) (e : ReadlineError) → (err_in X e ≡ answer) ⊎ (err_in X e ≡ Err Memory) → IsTrue f.told
+module _ {S X Y : Type 0} (d : KnownDisplay S) (custom : Custom) (next : X → Part Y) where
+  decision_stops : (answer : Result X ReadlineError) (w : S) (i : Input) (f : KeyFeed) (e : ReadlineError) → (err_in X e ≡ answer) ⊎ (err_in X e ≡ Err Memory) → IsTrue f.told
       → Goes d f.steady (deciding next answer f.coming) w i f.coming (Err e) w i f.coming
   decision_stops (Ok x) w i f e (inl is) told = ok_not_err x e (sym is)
   decision_stops (Ok x) w i f e (inr is) told = inr (err_same e Memory is, refl, refl, refl)
   decision_stops (Err g) w i f e (inl is) told = inl (err_same e g is, refl, refl, refl)
   decision_stops (Err g) w i f e (inr is) told = inr (err_same e Memory is, refl, refl, refl)
 
-  pub decides_stop : (answer : Result X ReadlineError) (w : S) (i : Input) (f : Feed) (e : ReadlineError) → Decides custom answer (Err e)
+  pub decides_stop : (answer : Result X ReadlineError) (w : S) (i : Input) (f : KeyFeed) (e : ReadlineError) → Decides custom answer (Err e)
       → Follows d custom (deciding next answer f.coming) w i w i f f (Err e)
   decides_stop answer w i f e decides = record {
     goes = decision_stops answer w i f e decides.is;
@@ -316,7 +316,7 @@ module _ {S X Y : Type 0} (d : Display S) (custom : Custom) (next : X → Part Y
     reason = binding_because d custom w f e decides.reason;
   }
 
-  decision_follows : (answer : Result X ReadlineError) (x : X) (w w' : S) (i i' : Input) (f f' : Feed) (r : Result Y ReadlineError) → (ok_in x ≡ answer) ⊎ (ok_in x ≡ Err Memory)
+  decision_follows : (answer : Result X ReadlineError) (x : X) (w w' : S) (i i' : Input) (f f' : KeyFeed) (r : Result Y ReadlineError) → (ok_in x ≡ answer) ⊎ (ok_in x ≡ Err Memory)
       → Follows d custom (next x f.coming) w i w' i' f f' r → Follows d custom (deciding next answer f.coming) w i w' i' f f' r
   decision_follows (Ok y) x w w' i i' f f' r (inl is) later =
       needs_follow d custom (next y f.coming) w w' i i' f f' r (subst (λ (z : X). Follows d custom (next z f.coming) w i w' i' f f' r) (ap (value_or x) is) later)
@@ -324,6 +324,6 @@ module _ {S X Y : Type 0} (d : Display S) (custom : Custom) (next : X → Part Y
   decision_follows (Err g) x w w' i i' f f' r (inl is) later = ok_not_err x g is
   decision_follows (Err g) x w w' i i' f f' r (inr is) later = ok_not_err x Memory is
 
-  pub decides_follow : (answer : Result X ReadlineError) (x : X) (w w' : S) (i i' : Input) (f f' : Feed) (r : Result Y ReadlineError) → Decides custom answer (Ok x)
+  pub decides_follow : (answer : Result X ReadlineError) (x : X) (w w' : S) (i i' : Input) (f f' : KeyFeed) (r : Result Y ReadlineError) → Decides custom answer (Ok x)
       → Follows d custom (next x f.coming) w i w' i' f f' r → Follows d custom (deciding next answer f.coming) w i w' i' f f' r
   decides_follow answer x w w' i i' f f' r decides later = decision_follows answer x w w' i i' f f' r decides.is later

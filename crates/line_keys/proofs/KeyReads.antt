@@ -1,12 +1,12 @@
 -- Reads with something made of the key that they give.
-use Rattle.std.proofs.Common.{◌≡◌, ◌⊎◌, inl, inr, Bool, true, false, refl, sym, ap, ◌∙◌, true≢false, IsTrue}
+use Rattle.std.proofs.Common.{◌≡◌, inl, inr, Bool, true, false, refl, sym, ap, ◌∙◌}
 use Rattle.std.specs.Prelude.{Result, Ok, Err}
 use Rattle.line_config.specs.declared.errors.ReadlineError.{ReadlineError}
 use Rattle.line_keys.specs.declared.key.KeyEvent.{KeyEvent}
 use Rattle.line_keys.specs.declared.tty.Event.{Event}
 use Rattle.line_keys.specs.declared.tty.Event.TheVariants.{KeyPress}
-use Rattle.line_keys.specs.Coming.{Coming, key_at, from_key_at, press_at, made_of, left, left_by, behind}
-use Rattle.line_keys.specs.Feeds.{Feed, Item, Key, ReadAs, ReadsBy}
+use Rattle.line_keys.specs.Coming.{Coming, key_at, from_key_at, press_at, made_of, left, behind}
+use Rattle.line_keys.specs.Feeds.{KeyFeed, InputItem, Key, ReadAs, ReadsBy}
 
 abbrev is_ok : {A : Type 0} → Result A ReadlineError → Bool
 is_ok (Ok x) = true
@@ -24,7 +24,7 @@ left_made : {X Y : Type 0} (g : X → Y) (r : Result X ReadlineError) (rest : Co
 left_made g (Ok x) rest = refl
 left_made g (Err e) rest = refl
 
-made_as : {X Y : Type 0} (g : X → Y) (item : Item) (steady : Bool) (given result : Result X ReadlineError) (rest c : Coming)
+made_as : {X Y : Type 0} (g : X → Y) (item : InputItem) (steady : Bool) (given result : Result X ReadlineError) (rest c : Coming)
     → ReadAs item steady given rest result c → ReadAs item steady (made_of g given) rest (made_of g result) c
 made_as g item steady given result rest c (inl is) = inl (ap (made_of g) is.0, is.1 ∙ sym (left_made g given rest))
 made_as g item steady given result rest c (inr (e, fault, is, left)) = inr (e, fault, ap (made_of g) is, left)
@@ -34,7 +34,7 @@ press_as : (steady : Bool) (given : Result KeyEvent ReadlineError) (result : Res
 press_as steady given result rest c (inl is) = inl (ap of_press is.0 ∙ press_of given, is.1 ∙ left_made KeyPress given rest)
 press_as steady given result rest c (inr (e, fault, is, left)) = inr (e, fault, ap of_press is, left)
 
-module _ {X : Type 0} (g : KeyEvent → X) (f f' : Feed) where
+module _ {X : Type 0} (g : KeyEvent → X) (f f' : KeyFeed) where
   pub made_of_read : (k : KeyEvent) → ReadsBy Key key_at f f' (Ok k) → ReadsBy Key (from_key_at g) f f' (Ok (g k))
   made_of_read k reads = record {
     taken = λ told. made_as g Key f.steady (key_at f.coming) (Ok k) (behind f.coming) f'.coming (reads.taken told);
@@ -57,7 +57,7 @@ module _ {X : Type 0} (g : KeyEvent → X) (f f' : Feed) where
     reason = reads.reason;
   }
 
-module _ (f f' : Feed) where
+module _ (f f' : KeyFeed) where
   pub key_of_press : (k : KeyEvent) → ReadsBy Key press_at f f' (Ok (KeyPress k)) → ReadsBy Key key_at f f' (Ok k)
   key_of_press k reads = record {
     taken = λ told. press_as f.steady (key_at f.coming) (Ok (KeyPress k)) (behind f.coming) f'.coming (reads.taken told);

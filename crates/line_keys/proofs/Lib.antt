@@ -3,6 +3,9 @@ pub mod Beginnings
 pub mod Deeds
 pub mod Equality
 pub mod Following
+pub mod HeardLemmas
+pub mod Hearing
+pub mod HearingTables
 pub mod KeyReads
 pub mod Normal
 mod PhraseRows

@@ -1,6 +1,6 @@
 -- The place of an event's entry: what stands there, and what an edit there makes of the map.
 use Rattle.std.proofs.Common.{◌≡◌, ℕ, zero, suc, ◌<◌, ◌≤◌, Bool, true, false, cond, List, [], ◌∷◌, ◌++◌, Option, Some, None, length, get_or, set, refl, sym, ◌∙◌, ap, subst, arith, ltb, length-set, true≢false}
-use Rattle.std.specs.Prelude.{⊤, IsSome, position, remove, find as first_passing, IsFalse, option_map}
+use Rattle.std.specs.Prelude.{IsSome, position, remove, find as first_passing, IsFalse, option_map}
 use Rattle.std.specs.List.{position_or_len, slice_get}
 use Rattle.std.specs.Option.{option_or}
 use Rattle.std.specs.Cmp.{decided}
@@ -11,7 +11,6 @@ use Rattle.std.proofs.lemmas.Option.{slice_get-get_or, slice_get_past}
 use Rattle.std.proofs.lemmas.Bool.Decides.{nat_tests}
 use Rattle.line_keys.specs.declared.events.Event.{Event}
 use Rattle.line_keys.specs.SameEvents.{same_event, same_event-decides}
-use Rattle.line_keys.specs.Events.{normal_event}
 use Rattle.line_keys.specs.Bound.{find, has_event, put_at, less_at, AreDistinct, IsNormal, AreNormal, IsMap}
 
 -- ---- lists and tests of any kind
@@ -113,7 +112,7 @@ module _ {H : Type 0} (e : Event) (entries : List (Event × H)) where
       → (o : Event) → find o (set entries i b) ≡ put_at e b.1 (λ x. find x entries) o
   bound_at_place i d b at kept o = set_by o i d b (same_event e o) refl at kept
 
-  -- a new entry behind the others
+  -- a new entry after the others
   pushed_by : (o : Event) (b : Event × H) (same : Bool) → same_event e o ≡ same → position (has_event e) entries ≡ None → b.0 ≡ e
       → find o (entries ++ b ∷ []) ≡ cond same (Some b.1) (find o entries)
   pushed_by o b true is at new =

@@ -1,18 +1,17 @@
 -- A change that is remembered, as a part of a phrase.
-use Rattle.std.proofs.Common.{◌≡◌, Bool, true, false, IsTrue, refl, sym, ap, subst, ◌∙◌, true≢false, if◌then◌else◌}
-use Rattle.std.specs.Prelude.{Result, Ok, Err, IfOk, IfErr}
+use Rattle.std.proofs.Common.{◌≡◌, Bool, true, false, refl, sym, ap, subst, true≢false}
+use Rattle.std.specs.Prelude.{Result, Ok, Err}
 use Rattle.line_config.specs.declared.errors.ReadlineError.{ReadlineError}
-use Rattle.line_config.specs.declared.errors.ReadlineError.TheVariants.{Memory}
 use Rattle.line_keys.specs.declared.command.Cmd.{Cmd}
 use Rattle.line_keys.specs.Answers.{Custom}
-use Rattle.line_keys.specs.Feeds.{Feed}
+use Rattle.line_keys.specs.Feeds.{KeyFeed}
 use Rattle.line_keys.specs.Follows.{Follows}
-use Rattle.line_keys.specs.Phrases.{Input, Script, Ends, Needs, Becomes}
-use Rattle.line_keys.specs.Refreshing.{Display}
+use Rattle.line_keys.specs.Phrases.{Input, Ends, Becomes}
+use Rattle.line_keys.specs.Refreshing.{KnownDisplay}
 use Rattle.line_keys.specs.Vi.{Remembers, entered, remembering, with_last}
 use Rattle.line_keys.proofs.Following.{ends_follow, needs_follow, becomes_follows, memory_follows}
 
-module _ {S : Type 0} (d : Display S) (custom : Custom) (w : S) (i : Input) (f : Feed) where
+module _ {S : Type 0} (d : KnownDisplay S) (custom : Custom) (w : S) (i : Input) (f : KeyFeed) where
   at_end : (cmd c : Cmd) (j k : Input) → c ≡ cmd → k ≡ j → Follows d custom (Ends (Ok cmd)) w j w k f f (Ok c)
   at_end cmd c j k same kept = subst (λ (x : Input). Follows d custom (Ends (Ok cmd)) w j w x f f (Ok c)) (sym kept)
       (ends_follow d custom (Ends (Ok cmd)) w j f c (ap (λ (x : Cmd). Ends (Ok x)) (sym same)))

@@ -1,6 +1,6 @@
 -- The lemmas that each shape of a body goes by.
 use Rattle.line_keys.proofs.Anew.{anew_follows}
-use Rattle.line_keys.proofs.Deeds.{change_first, first_table, fourth_table, motion_then, second_table, third_table}
+use Rattle.line_keys.proofs.Deeds.{change_first, common_first, common_second, emacs_first, emacs_second, emacs_third, first_table, fourth_table, motion_then, second_table, third_table}
 use Rattle.line_keys.proofs.Equality.{events_both_ways, events_hash_alike, keys_both_ways, keys_hash_alike}
 use Rattle.line_keys.proofs.Following.{as_follows, ask_follows, ask_stops, becomes_follows, decides_follow, decides_stop, ends_follow, memory_follows, needs_follow, read_follows, read_stops, silent_follows, then_follows, then_stops, whole_read}
 use Rattle.line_keys.proofs.Remembering.{remember_follows}
@@ -8,11 +8,15 @@ use Rattle.line_keys.proofs.Turns.{count_ends, count_goes_on, count_stops, count
 
 pub ruleset answer = (as_follows, ends_follow)
 
-pub ruleset count_turns = (memory_follows, count_unasked, count_stops, count_goes_on, count_ends, count_undrawn)
+pub ruleset common_tables = (common_first, common_second)
+
+pub ruleset counts = (memory_follows, count_unasked, count_stops, count_goes_on, count_ends, count_undrawn)
 
 pub ruleset decision = (decides_stop, decides_follow, anew_follows, ends_follow, as_follows)
 
 pub ruleset deed = (ask_stops, ask_follows, becomes_follows, then_stops, then_follows, silent_follows, whole_read, ends_follow, as_follows, anew_follows)
+
+pub ruleset emacs_tables = (emacs_first, emacs_second, emacs_third)
 
 pub ruleset event_equality = (events_both_ways, events_hash_alike)
 
@@ -22,17 +26,17 @@ pub ruleset leaving = (ask_stops, ask_follows, becomes_follows, ends_follow, as_
 
 pub ruleset motion = (read_stops, read_follows, then_stops, then_follows, silent_follows, ends_follow)
 
-pub ruleset motion_tables = (change_first, motion_then)
+pub ruleset motions = (change_first, motion_then)
 
 pub ruleset one_key = (read_stops, read_follows)
 
-pub ruleset one_read = (whole_read, as_follows)
+pub ruleset one_read = (whole_read, ends_follow, as_follows)
 
 pub ruleset operation = (becomes_follows, then_stops, then_follows, ends_follow)
 
 pub ruleset part_answered = (then_stops, then_follows, ends_follow)
 
-pub ruleset part_behind = (then_stops, then_follows, as_follows)
+pub ruleset part_then = (then_stops, then_follows, as_follows)
 
 pub ruleset part_remembered = (then_stops, then_follows, remember_follows)
 
@@ -42,6 +46,6 @@ pub ruleset read_answered = (read_stops, read_follows, ends_follow, as_follows)
 
 pub ruleset search = (read_stops, read_follows, becomes_follows, ends_follow)
 
-pub ruleset sequence_turns = (memory_follows, needs_follow, sequence_over, sequence_stops, sequence_no_memory, sequence_refused, sequence_bound, sequence_on)
+pub ruleset turns = (memory_follows, needs_follow, sequence_over, sequence_stops, sequence_no_memory, sequence_refused, sequence_bound, sequence_on)
 
 pub ruleset tables = (first_table, second_table, third_table, fourth_table)

@@ -1,32 +1,28 @@
 -- One turn of a loop that reads: of a count, and of a sequence of keys.
-use Rattle.std.proofs.Common.{◌≡◌, Bool, true, false, List, [], ◌∷◌, ◌++◌, refl, sym, ap, ◌∙◌}
-use Rattle.std.specs.Prelude.{Option, Some, None, Result, Ok, Err, slice_get}
+use Rattle.std.proofs.Common.{◌≡◌, true, false, List, [], ◌∷◌, ◌++◌, refl, sym, ap, ◌∙◌}
+use Rattle.std.specs.Prelude.{ℤ, Option, Some, None, Result, Ok, Err, slice_get}
 use Rattle.line_config.specs.declared.errors.ReadlineError.{ReadlineError}
 use Rattle.line_config.specs.declared.errors.ReadlineError.TheVariants.{Memory}
 use Rattle.line_keys.specs.declared.command.Cmd.{Cmd}
 use Rattle.line_keys.specs.declared.key.KeyEvent.{KeyEvent}
-use Rattle.line_keys.specs.declared.keymap.count.Count.{Count}
-use Rattle.line_keys.specs.declared.keymap.count.Counted.{Counted}
-use Rattle.line_keys.specs.declared.keymap.custom.Followed.{Followed}
-use Rattle.line_keys.specs.declared.keymap.custom.Followed.TheVariants.{Bound, Unbound}
 use Rattle.line_keys.specs.Answers.{Custom}
 use Rattle.line_keys.specs.Coming.{Coming, Pressed, Pasted, CutOff, Ends as NoMore, Refused, key_at}
-use Rattle.line_keys.specs.Counts.{counting, counting_read, counting_by, prompt_for}
-use Rattle.line_keys.specs.Custom.{Situation, following, bound_by, in_vain, sequence_answer}
-use Rattle.line_keys.specs.Feeds.{Feed, Key, ReadsBy}
+use Rattle.line_keys.specs.Counts.{Counted, counting, counting_read, counting_by, prompt_for}
+use Rattle.line_keys.specs.Custom.{Situation, Followed, Bound, Unbound, following, bound_by, in_vain, sequence_answer}
+use Rattle.line_keys.specs.Feeds.{KeyFeed, Key, ReadsBy}
 use Rattle.line_keys.specs.Follows.{Decides, Follows}
-use Rattle.line_keys.specs.Refreshing.{Ask, Line, Prompted, Display, Draws}
+use Rattle.line_keys.specs.Refreshing.{Line, Prompted, KnownDisplay, Draws}
 use Rattle.line_keys.specs.Phrases.{Input, Script, Needs, Part, Ends, answered, asking, decided_by, deciding, with_key}
 use Rattle.line_keys.proofs.Following.{as_follows, ask_follows, ask_stops, read_follows, read_stops, ends_follow, memory_follows, needs_follow, decides_stop, decides_follow}
 
-module _ (on : Count → KeyEvent → Option Count) (c : Count) where
-  abbrev counted : KeyEvent → Part Counted
+module _ (on : ℤ → KeyEvent → Option ℤ) (c : ℤ) where
+  abbrev pub counted : KeyEvent → Part Counted
   counted k rest = counting_by (λ more. counting on more rest) c k (on c k)
 
   abbrev at_end : KeyEvent → Part Counted
-  at_end k = answered (record { count = c; key = k })
+  at_end k = answered (Some c, k)
 
-  counting_reads : (coming : Coming) → counting_read on c coming ≡ with_key counted coming
+  pub counting_reads : (coming : Coming) → counting_read on c coming ≡ with_key counted coming
   unfolding counting
   counting_reads (Pressed k rest) = refl
   counting_reads (Pasted text rest) = refl
@@ -34,37 +30,37 @@ module _ (on : Count → KeyEvent → Option Count) (c : Count) where
   counting_reads (NoMore last) = refl
   counting_reads (Refused why) = refl
 
-  module _ {S : Type 0} (d : Display S) (custom : Custom) (i : Input) where
-    -- behind the memory that the prompt takes
-    asked_on : (w w2 : S) (f f2 : Feed) (r : Result Counted ReadlineError) → Follows d custom (asking (Prompted (prompt_for c)) (λ shown. counting_read on c) f.coming) w i w2 i f f2 r
+  module _ {S : Type 0} (d : KnownDisplay S) (custom : Custom) (i : Input) where
+    -- after the memory that the prompt takes
+    asked_on : (w w2 : S) (f f2 : KeyFeed) (r : Result Counted ReadlineError) → Follows d custom (asking (Prompted (prompt_for c)) (λ shown. counting_read on c) f.coming) w i w2 i f f2 r
         → Follows d custom (counting on c f.coming) w i w2 i f f2 r
     unfolding counting
     asked_on w w2 f f2 r later = needs_follow d custom (asking (Prompted (prompt_for c)) (λ shown. counting_read on c) f.coming) w w2 i i f f2 r later
 
-    pub count_unasked : {A : Type 0} (w w1 : S) (f : Feed) (e : ReadlineError) → Draws {A = A} d (Prompted (prompt_for c)) w w1 (Err e)
+    pub count_unasked : {A : Type 0} (w w1 : S) (f : KeyFeed) (e : ReadlineError) → Draws {A = A} d (Prompted (prompt_for c)) w w1 (Err e)
         → Follows d custom (counting on c f.coming) w i w1 i f f (Err e)
     count_unasked w w1 f e refused = asked_on w w1 f f (Err e) (ask_stops d custom (Prompted (prompt_for c)) (λ shown. counting_read on c) w w1 i f e refused)
 
-    module _ {A : Type 0} (u : A) (w w1 : S) (f f1 : Feed) (asked : Draws d (Prompted (prompt_for c)) w w1 (Ok u)) where
+    module _ {A : Type 0} (u : A) (w w1 : S) (f f1 : KeyFeed) (asked : Draws d (Prompted (prompt_for c)) w w1 (Ok u)) where
       pub count_stops : (e : ReadlineError) → ReadsBy Key key_at f f1 (Err e) → Follows d custom (counting on c f.coming) w i w1 i f f1 (Err e)
       count_stops e read = asked_on w w1 f f1 (Err e) (ask_follows d custom (Prompted (prompt_for c)) (λ shown. counting_read on c) u w w1 w1 i i f f1 (Err e) asked
           (as_follows d custom (counting_read on c f.coming) (with_key counted f.coming) w1 w1 i i f f1 (Err e) (read_stops d Key key_at counted custom w1 i f f1 e read) (counting_reads f.coming)))
 
-      turn : (w2 : S) (f2 : Feed) (k : KeyEvent) (r : Result Counted ReadlineError) → ReadsBy Key key_at f f1 (Ok k) → Follows d custom (counted k f1.coming) w1 i w2 i f1 f2 r
+      turn : (w2 : S) (f2 : KeyFeed) (k : KeyEvent) (r : Result Counted ReadlineError) → ReadsBy Key key_at f f1 (Ok k) → Follows d custom (counted k f1.coming) w1 i w2 i f1 f2 r
           → Follows d custom (counting on c f.coming) w i w2 i f f2 r
       turn w2 f2 k r read later = asked_on w w2 f f2 r (ask_follows d custom (Prompted (prompt_for c)) (λ shown. counting_read on c) u w w1 w2 i i f f2 r asked
           (as_follows d custom (counting_read on c f.coming) (with_key counted f.coming) w1 w2 i i f f2 r (read_follows d Key key_at counted custom k w1 w2 i i f f1 f2 r read later) (counting_reads f.coming)))
 
-      pub count_goes_on : (w2 : S) (f2 : Feed) (k : KeyEvent) (more : Count) (r : Result Counted ReadlineError) → ReadsBy Key key_at f f1 (Ok k) → Some more ≡ on c k
+      pub count_goes_on : (w2 : S) (f2 : KeyFeed) (k : KeyEvent) (more : ℤ) (r : Result Counted ReadlineError) → ReadsBy Key key_at f f1 (Ok k) → Some more ≡ on c k
           → Follows d custom (counting on more f1.coming) w1 i w2 i f1 f2 r → Follows d custom (counting on c f.coming) w i w2 i f f2 r
       count_goes_on w2 f2 k more r read is later = turn w2 f2 k r read
           (as_follows d custom (counted k f1.coming) (counting on more f1.coming) w1 w2 i i f1 f2 r later (ap (counting_by (λ m. counting on m f1.coming) c k) (sym is)))
 
       pub count_ends : {B : Type 0} (v : B) (w2 : S) (k : KeyEvent) → ReadsBy Key key_at f f1 (Ok k) → None ≡ on c k → Draws d Line w1 w2 (Ok v)
-          → Follows d custom (counting on c f.coming) w i w2 i f f1 (Ok (record { count = c; key = k }))
-      count_ends v w2 k read is drawn = turn w2 f1 k (Ok (record { count = c; key = k })) read
-          (as_follows d custom (counted k f1.coming) _ w1 w2 i i f1 f1 (Ok (record { count = c; key = k }))
-          (ask_follows d custom Line (λ shown. at_end k) v w1 w2 w2 i i f1 f1 (Ok (record { count = c; key = k })) drawn (ends_follow d custom (at_end k f1.coming) w2 i f1 (record { count = c; key = k }) refl))
+          → Follows d custom (counting on c f.coming) w i w2 i f f1 (Ok (Some c, k))
+      count_ends v w2 k read is drawn = turn w2 f1 k (Ok (Some c, k)) read
+          (as_follows d custom (counted k f1.coming) _ w1 w2 i i f1 f1 (Ok (Some c, k))
+          (ask_follows d custom Line (λ shown. at_end k) v w1 w2 w2 i i f1 f1 (Ok (Some c, k)) drawn (ends_follow d custom (at_end k f1.coming) w2 i f1 (Some c, k) refl))
           (ap (counting_by (λ m. counting on m f1.coming) c k) (sym is)))
 
       pub count_undrawn : {B : Type 0} (w2 : S) (k : KeyEvent) (e : ReadlineError) → ReadsBy Key key_at f f1 (Ok k) → None ≡ on c k → Draws {A = B} d Line w1 w2 (Err e)
@@ -74,20 +70,20 @@ module _ (on : Count → KeyEvent → Option Count) (c : Count) where
           (ap (counting_by (λ m. counting on m f1.coming) c k) (sym is)))
 
 module _ (s : Situation) (keys : List KeyEvent) where
-  abbrev read_next : KeyEvent → Part Followed
+  abbrev pub read_next : KeyEvent → Part Followed
   read_next k rest = deciding (bound_by (following s (keys ++ k ∷ []) rest)) (sequence_answer s (keys ++ k ∷ [])) rest
 
   abbrev on_next : KeyEvent → Option Cmd → Part Followed
   on_next k o rest = bound_by (following s (keys ++ k ∷ []) rest) o rest
 
-  following_reads : (coming : Coming) → s.custom.begins keys ≡ true → following s keys coming ≡ with_key read_next coming
+  pub following_reads : (coming : Coming) → s.custom.begins keys ≡ true → following s keys coming ≡ with_key read_next coming
   following_reads (Pressed k rest) begun = rw begun refl
   following_reads (Pasted text rest) begun = rw begun refl
   following_reads (CutOff last) begun = rw begun refl
   following_reads (NoMore last) begun = rw begun refl
   following_reads (Refused why) begun = rw begun refl
 
-  following_over : (coming : Coming) → s.custom.begins keys ≡ false → following s keys coming ≡ in_vain keys coming
+  pub following_over : (coming : Coming) → s.custom.begins keys ≡ false → following s keys coming ≡ in_vain keys coming
   following_over (Pressed k rest) over = rw over refl
   following_over (Pasted text rest) over = rw over refl
   following_over (CutOff last) over = rw over refl
@@ -99,19 +95,19 @@ module _ (s : Situation) (keys : List KeyEvent) where
   read_is k (Ok o) rest = refl
   read_is k (Err e) rest = refl
 
-  module _ {S : Type 0} (d : Display S) (w : S) (i : Input) (f : Feed) where
+  module _ {S : Type 0} (d : KnownDisplay S) (w : S) (i : Input) (f : KeyFeed) where
     pub sequence_over : (second : Option KeyEvent) → s.custom.begins keys ≡ false → second ≡ slice_get keys 1 → Follows d s.custom (following s keys f.coming) w i w i f f (Ok (Unbound second))
     sequence_over second over is = ends_follow d s.custom (following s keys f.coming) w i f (Unbound second) (following_over f.coming over ∙ ap (λ (o : Option KeyEvent). Ends (Ok (Unbound o))) (sym is))
 
-    module _ (f1 : Feed) (begun : s.custom.begins keys ≡ true) where
+    module _ (f1 : KeyFeed) (begun : s.custom.begins keys ≡ true) where
       pub sequence_stops : (e : ReadlineError) → ReadsBy Key key_at f f1 (Err e) → Follows d s.custom (following s keys f.coming) w i w i f f1 (Err e)
       sequence_stops e read = as_follows d s.custom (following s keys f.coming) (with_key read_next f.coming) w w i i f f1 (Err e) (read_stops d Key key_at read_next s.custom w i f f1 e read) (following_reads f.coming begun)
 
       module _ (k : KeyEvent) (read : ReadsBy Key key_at f f1 (Ok k)) where
-        on_read : (f2 : Feed) (r : Result Followed ReadlineError) → Follows d s.custom (read_next k f1.coming) w i w i f1 f2 r → Follows d s.custom (following s keys f.coming) w i w i f f2 r
+        on_read : (f2 : KeyFeed) (r : Result Followed ReadlineError) → Follows d s.custom (read_next k f1.coming) w i w i f1 f2 r → Follows d s.custom (following s keys f.coming) w i w i f f2 r
         on_read f2 r later = as_follows d s.custom (following s keys f.coming) (with_key read_next f.coming) w w i i f f2 r (read_follows d Key key_at read_next s.custom k w w i i f f1 f2 r read later) (following_reads f.coming begun)
 
-        decided : (f2 : Feed) (r : Result Followed ReadlineError) → Follows d s.custom (deciding (on_next k) (sequence_answer s (keys ++ k ∷ [])) f1.coming) w i w i f1 f2 r
+        decided : (f2 : KeyFeed) (r : Result Followed ReadlineError) → Follows d s.custom (deciding (on_next k) (sequence_answer s (keys ++ k ∷ [])) f1.coming) w i w i f1 f2 r
             → Follows d s.custom (following s keys f.coming) w i w i f f2 r
         decided f2 r later = on_read f2 r (as_follows d s.custom (read_next k f1.coming) (deciding (on_next k) (sequence_answer s (keys ++ k ∷ [])) f1.coming) w w i i f1 f2 r later
             (ap (λ (t : Script Followed). Needs t) (read_is k (sequence_answer s (keys ++ k ∷ [])) f1.coming)))
@@ -126,6 +122,6 @@ module _ (s : Situation) (keys : List KeyEvent) where
         sequence_bound cmd decides = decided f1 (Ok (Bound cmd)) (decides_follow d s.custom (on_next k) (sequence_answer s (keys ++ k ∷ [])) (Some cmd) w w i i f1 f1 (Ok (Bound cmd)) decides
             (ends_follow d s.custom (on_next k (Some cmd) f1.coming) w i f1 (Bound cmd) refl))
 
-        pub sequence_on : (f2 : Feed) (r : Result Followed ReadlineError) → Decides s.custom (sequence_answer s (keys ++ k ∷ [])) (Ok None)
+        pub sequence_on : (f2 : KeyFeed) (r : Result Followed ReadlineError) → Decides s.custom (sequence_answer s (keys ++ k ∷ [])) (Ok None)
             → Follows d s.custom (following s (keys ++ k ∷ []) f1.coming) w i w i f1 f2 r → Follows d s.custom (following s keys f.coming) w i w i f f2 r
         sequence_on f2 r decides later = decided f2 r (decides_follow d s.custom (on_next k) (sequence_answer s (keys ++ k ∷ [])) None w w i i f1 f2 r decides later)

@@ -13,8 +13,12 @@ pub record Standing : Type 0 where
   -- it can be made anew
   pub repeats : Bool
 
-abbrev pub row : Bool → Bool → Bool → Standing
-row resets change repeats = record { resets_ring = resets; is_change = change; repeats = repeats }
+abbrev pub marked : Bool → Bool → Bool → Standing
+marked resets change repeats = record {
+  resets_ring = resets;
+  is_change = change;
+  repeats = repeats;
+}
 
 -- a kill by characters is no part of a run of kills
 abbrev pub is_by_char : Movement → Bool
@@ -24,46 +28,46 @@ is_by_char m = false
 
 --                                       resets the ring, is a change, repeats
 abbrev pub standing : Cmd → Standing
-standing Abort = row true false false
-standing AcceptLine = row true false false
-standing BeginningOfHistory = row true false false
-standing CapitalizeWord = row true false false
-standing ClearScreen = row false false false
-standing Complete = row true false false
-standing CompleteBackward = row true false false
-standing CompleteHint = row true false false
-standing (Dedent m) = row true true true
-standing DowncaseWord = row true false false
-standing EndOfFile = row true false false
-standing EndOfHistory = row true false false
-standing ForwardSearchHistory = row true false false
-standing HistorySearchBackward = row true false false
-standing HistorySearchForward = row true false false
-standing (Indent m) = row true true true
-standing (Insert n t) = row true true true
-standing Interrupt = row true false false
-standing (Kill m) = row (is_by_char m) true true
-standing (Move m) = row true false true
-standing NextHistory = row true false false
-standing Noop = row false false false
-standing Repaint = row true false false
-standing (Overwrite c) = row true false false
-standing PreviousHistory = row true false false
-standing QuotedInsert = row true false false
-standing (ReplaceChar n c) = row true true true
-standing (Replace m t) = row false true true
-standing ReverseSearchHistory = row true false false
-standing (SelfInsert n c) = row true true true
-standing Suspend = row false false false
-standing TransposeChars = row true false false
-standing (TransposeWords n) = row true false false
-standing (Undo n) = row true false false
-standing Unknown = row true false false
-standing UpcaseWord = row true false false
-standing (ViYankTo m) = row true true true
-standing (Yank n a) = row false true true
-standing YankPop = row false false false
-standing (LineUpOrPreviousHistory n) = row true false false
-standing (LineDownOrNextHistory n) = row true false false
-standing Newline = row true false false
-standing (AcceptOrInsertLine mid) = row true false false
+standing Abort = marked true false false
+standing AcceptLine = marked true false false
+standing BeginningOfHistory = marked true false false
+standing CapitalizeWord = marked true false false
+standing ClearScreen = marked false false false
+standing Complete = marked true false false
+standing CompleteBackward = marked true false false
+standing CompleteHint = marked true false false
+standing (Dedent m) = marked true true true
+standing DowncaseWord = marked true false false
+standing EndOfFile = marked true false false
+standing EndOfHistory = marked true false false
+standing ForwardSearchHistory = marked true false false
+standing HistorySearchBackward = marked true false false
+standing HistorySearchForward = marked true false false
+standing (Indent m) = marked true true true
+standing (Insert n t) = marked true true true
+standing Interrupt = marked true false false
+standing (Kill m) = marked (is_by_char m) true true
+standing (Move m) = marked true false true
+standing NextHistory = marked true false false
+standing Noop = marked false false false
+standing Repaint = marked true false false
+standing (Overwrite c) = marked true false false
+standing PreviousHistory = marked true false false
+standing QuotedInsert = marked true false false
+standing (ReplaceChar n c) = marked true true true
+standing (Replace m t) = marked false true true
+standing ReverseSearchHistory = marked true false false
+standing (SelfInsert n c) = marked true true true
+standing Suspend = marked false false false
+standing TransposeChars = marked true false false
+standing (TransposeWords n) = marked true false false
+standing (Undo n) = marked true false false
+standing Unknown = marked true false false
+standing UpcaseWord = marked true false false
+standing (ViYankTo m) = marked true true true
+standing (Yank n a) = marked false true true
+standing YankPop = marked false false false
+standing (LineUpOrPreviousHistory n) = marked true false false
+standing (LineDownOrNextHistory n) = marked true false false
+standing Newline = marked true false false
+standing (AcceptOrInsertLine mid) = marked true false false

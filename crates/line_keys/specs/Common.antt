@@ -1,5 +1,6 @@
--- The keys that both modes know.
-use Rattle.std.specs.Prelude.{◌==◌, Bool, true, not, ◌&&◌, List, [], ◌∷◌, length, Option, Some, None, codes, if◌then◌else◌}
+-- The keys that both modes know, and what comes before the tables.
+use Rattle.std.specs.Prelude.{ℕ, ◌==◌, Bool, true, not, ◌&&◌, List, [], ◌∷◌, ◌++◌, length, codes}
+use Rattle.std.specs.Prelude.{Option, Some, None, if◌then◌else◌}
 use Rattle.line_buffer.specs.declared.types.Movement.TheVariants.{BeginningOfLine, EndOfLine, BackwardChar, ForwardChar, BackwardWord, ForwardWord}
 use Rattle.line_buffer.specs.declared.types.Word.TheVariants.{Big}
 use Rattle.line_buffer.specs.declared.types.At.TheVariants.{AfterEnd}
@@ -7,51 +8,81 @@ use Rattle.line_buffer.specs.declared.types.Anchor.TheVariants.{Before}
 use Rattle.line_config.specs.declared.settings.EditMode.{EditMode}
 use Rattle.line_keys.specs.declared.command.Cmd.{Cmd}
 use Rattle.line_keys.specs.declared.command.Cmd.TheVariants.{AcceptOrInsertLine, EndOfFile, ForwardSearchHistory, Insert, LineDownOrNextHistory, LineUpOrPreviousHistory, Move, Noop, QuotedInsert, ReverseSearchHistory, TransposeChars, Undo, Unknown, Yank}
+use Rattle.line_keys.specs.declared.key.KeyCode.{KeyCode}
 use Rattle.line_keys.specs.declared.key.KeyCode.TheVariants.{BracketedPasteStart, Char, Delete, Down, End, Enter, Home, Left, Right, UnknownEscSeq, Up}
 use Rattle.line_keys.specs.declared.key.KeyEvent.{KeyEvent}
-use Rattle.line_keys.specs.declared.keymap.custom.Followed.{Followed}
-use Rattle.line_keys.specs.declared.keymap.custom.Followed.TheVariants.{Bound, Unbound}
-use Rattle.line_keys.specs.Custom.{Situation, followed}
-use Rattle.line_keys.specs.Keys.{key_with, none}
+use Rattle.line_keys.specs.Custom.{Situation, Followed, Bound, Unbound, custom_answer, followed}
+use Rattle.line_keys.specs.Keys.{none, ctrl}
 use Rattle.line_keys.specs.Modes.{is_emacs}
-use Rattle.line_keys.specs.Phrases.{Part, answered, and_then, with_paste}
+use Rattle.line_keys.specs.Phrases.{Part, answered, and_then, deciding, with_paste}
+use Rattle.line_keys.specs.Redone.{anew_or}
 use Rattle.line_keys.specs.Refreshing.{Shown}
-use Rattle.line_keys.specs.SameKeys.{same_key}
 use Rattle.line_keys.specs.Signals.{signal_of}
-use Rattle.line_keys.specs.Tables.{Row, always, times, signed, moves, kills, ctrl, named, only, look}
+use Rattle.line_keys.specs.Tables.{Deed, Gives, Does, Row, always, by_count, by_sign, moves, kills}
+use Rattle.line_keys.specs.Tables.{named, char, only, look, done}
 
 abbrev pub has_text : Shown → Bool
 has_text shown = not (length shown.line == 0)
 
-abbrev pub common_rows : EditMode → List Row
-common_rows mode =
-    named Home (always (Move BeginningOfLine))
-    ∷ named End (always (Move EndOfLine))
-    ∷ named Left (moves BackwardChar ForwardChar)
-    ∷ named Right (moves ForwardChar BackwardChar)
-    ∷ only (λ shown. is_emacs mode && has_text shown) (ctrl (codes "D") (kills ForwardChar BackwardChar))
-    ∷ only has_text (ctrl (codes "D") (always EndOfFile))
-    ∷ ctrl (codes "D") (always Unknown)
-    ∷ named Delete (kills ForwardChar BackwardChar)
-    ∷ ctrl (codes "J") (always (AcceptOrInsertLine true))
-    ∷ ctrl (codes "M") (always (AcceptOrInsertLine true))
-    ∷ named Enter (always (AcceptOrInsertLine true))
-    ∷ named Down (always (LineDownOrNextHistory 1))
-    ∷ named Up (always (LineUpOrPreviousHistory 1))
-    ∷ ctrl (codes "R") (always ReverseSearchHistory)
-    ∷ ctrl (codes "S") (always ForwardSearchHistory)
-    ∷ ctrl (codes "Q") (always QuotedInsert)
-    ∷ ctrl (codes "V") (always QuotedInsert)
-    ∷ ctrl (codes "T") (always TransposeChars)
-    ∷ ctrl (codes "_") (times Undo)
-    ∷ ctrl (codes "U") (kills (λ n. BeginningOfLine) (λ n. EndOfLine))
-    ∷ ctrl (codes "W") (kills (λ n. BackwardWord n Big) (λ n. ForwardWord n AfterEnd Big))
-    ∷ ctrl (codes "Y") (signed (λ n. Yank n Before) (λ n. Unknown))
-    ∷ named UnknownEscSeq (always Noop)
+-- a hint stands after the line, and the cursor right before it
+abbrev pub at_hint : Shown → Bool
+at_hint shown = shown.hinted && (shown.place == length shown.line)
+
+-- the character of a key without modifiers
+abbrev pub char_code : KeyCode → ℕ → Option ℕ
+char_code (Char c) bits = if bits == none.0 then Some c else None
+char_code code bits = None
+
+abbrev pub plain_char : KeyEvent → Option ℕ
+plain_char k = char_code k.0 k.1.0
+
+-- ---- the table
+
+pub data CommonDeed : Type 0 where
+  -- inserts the pasted text, which is read
+  Pastes : CommonDeed
+
+abbrev pub common_command_rows : EditMode → Shown → List (Row (Deed CommonDeed))
+common_command_rows mode shown =
+    named Home none (always (Gives (Move BeginningOfLine)))
+    ∷ named End none (always (Gives (Move EndOfLine)))
+    ∷ named Left none (moves BackwardChar ForwardChar)
+    ∷ named Right none (moves ForwardChar BackwardChar)
+    ∷ named Up none (always (Gives (LineUpOrPreviousHistory 1)))
+    ∷ named Down none (always (Gives (LineDownOrNextHistory 1)))
+    ∷ named Delete none (kills ForwardChar BackwardChar)
+    ∷ only (has_text shown && is_emacs mode)
+    (char (codes "D") ctrl (kills ForwardChar BackwardChar))
+    ∷ only (has_text shown) (char (codes "D") ctrl (always (Gives EndOfFile)))
+    ∷ char (codes "U") ctrl (kills (λ n. BeginningOfLine) (λ n. EndOfLine))
+    ∷ char (codes "W") ctrl (kills (λ n. BackwardWord n Big) (λ n. ForwardWord n AfterEnd Big))
+    ∷ char (codes "Y") ctrl (by_sign (λ n. Gives (Yank n Before)) (λ n. Gives Unknown))
+    ∷ char (codes "T") ctrl (always (Gives TransposeChars))
+    ∷ char (codes "_") ctrl (by_count (λ n. Gives (Undo n)))
+    ∷ named Enter none (always (Gives (AcceptOrInsertLine true)))
+    ∷ char (codes "J") ctrl (always (Gives (AcceptOrInsertLine true)))
+    ∷ char (codes "M") ctrl (always (Gives (AcceptOrInsertLine true)))
+    ∷ char (codes "R") ctrl (always (Gives ReverseSearchHistory))
+    ∷ char (codes "S") ctrl (always (Gives ForwardSearchHistory))
+    ∷ char (codes "Q") ctrl (always (Gives QuotedInsert))
+    ∷ char (codes "V") ctrl (always (Gives QuotedInsert))
+    ∷ named UnknownEscSeq none (always (Gives Noop))
     ∷ []
 
-abbrev pub looked_up : Situation → KeyEvent → List Row → Option Cmd
-looked_up s k rows = look s.shown s.n s.positive k rows
+abbrev pub common_reading_rows : List (Row (Deed CommonDeed))
+common_reading_rows = named BracketedPasteStart none (always (Does Pastes)) ∷ []
+
+abbrev pub common_rows : EditMode → Shown → List (Row (Deed CommonDeed))
+common_rows mode shown = common_command_rows mode shown ++ common_reading_rows
+
+-- what a key does in both modes, if a row has it
+unfoldable pub common_deed : EditMode → Shown → ℕ → Bool → KeyEvent → Option (Deed CommonDeed)
+common_deed mode shown n positive k = look n positive k (common_rows mode shown)
+
+abbrev pub common_done : CommonDeed → Part Cmd
+common_done Pastes = with_paste (λ text. answered (Insert 1 text))
+
+-- ---- a key that no row has
 
 -- the command that a custom sequence is bound to, or none
 abbrev pub bound_command : Followed → Cmd
@@ -61,21 +92,31 @@ bound_command (Unbound second) = Unknown
 abbrev pub sequence : Situation → KeyEvent → Part Cmd
 sequence s k = and_then s.input s.shown (followed s k) (λ f input shown. answered (bound_command f))
 
--- what no row has: the beginning of a paste, whose text is read, and custom sequences
-abbrev pub beyond_rows : Situation → KeyEvent → Part Cmd
-beyond_rows s k = if same_key k (key_with BracketedPasteStart none) then with_paste (λ text. answered (Insert 1 text)) else sequence s k
-
-abbrev pub row_or : Part Cmd → Option Cmd → Part Cmd
-row_or other (Some cmd) = answered cmd
-row_or other None = other
-
 abbrev pub common : Situation → KeyEvent → Part Cmd
-common s k = row_or (beyond_rows s k) (looked_up s k (common_rows s.input.mode))
+common s k =
+    done common_done (sequence s k) (common_deed s.input.mode s.shown s.n s.positive k)
 
--- the command of a key that the terminal has a meaning for; the end of input is one in an empty line alone
+-- ---- before the tables
+
+-- the command of a key that the terminal has a meaning for; the end of input is one in an empty
+-- line alone
 abbrev pub if_empty : Shown → Option Cmd → Option Cmd
 if_empty shown (Some EndOfFile) = if has_text shown then None else Some EndOfFile
 if_empty shown cmd = cmd
 
 abbrev pub terminal_command : Shown → KeyEvent → Option Cmd
 terminal_command shown k = if_empty shown (signal_of k)
+
+abbrev pub command_or : Part Cmd → Option Cmd → Part Cmd
+command_or other (Some cmd) = answered cmd
+command_or other None = other
+
+-- a bound command is made with this count, if there is one
+abbrev pub bound_or : Option ℕ → Situation → Part Cmd → Option Cmd → Part Cmd
+bound_or new s other (Some cmd) = anew_or cmd new s.shown cmd
+bound_or new s other None = other
+
+-- a custom binding comes first, then the terminal's, then the table
+abbrev pub decided : Option ℕ → Situation → KeyEvent → Part Cmd → Part Cmd
+decided new s k table =
+    deciding (bound_or new s (command_or table (terminal_command s.shown k))) (custom_answer s k)

@@ -1,15 +1,14 @@
 -- What custom bindings make of keys: of one, and of the sequence that it begins.
-use Rattle.std.specs.Prelude.{ℕ, Bool, List, [], ◌∷◌, ◌++◌, Option, Some, None, Result, Ok, Err, slice_get, if◌then◌else◌}
+use Rattle.std.specs.Prelude.{ℕ, Bool, List, [], ◌∷◌, ◌++◌, slice_get, if◌then◌else◌}
+use Rattle.std.specs.Prelude.{Option, Some, None, Result, Ok}
 use Rattle.line_config.specs.declared.errors.ReadlineError.{ReadlineError}
 use Rattle.line_config.specs.declared.errors.ReadlineError.TheVariants.{PasteOutOfPlace}
 use Rattle.line_keys.specs.declared.command.Cmd.{Cmd}
 use Rattle.line_keys.specs.declared.events.Event.{Event}
 use Rattle.line_keys.specs.declared.events.Event.TheVariants.{Any, KeySeq}
 use Rattle.line_keys.specs.declared.key.KeyEvent.{KeyEvent}
-use Rattle.line_keys.specs.declared.keymap.custom.Followed.{Followed}
-use Rattle.line_keys.specs.declared.keymap.custom.Followed.TheVariants.{Bound, Unbound}
 use Rattle.line_keys.specs.Answers.{Custom, answer_by}
-use Rattle.line_keys.specs.Coming.{Coming, Pressed, Pasted, CutOff, Ends as NoMore, Refused, refusal_of}
+use Rattle.line_keys.specs.Coming.{Pressed, Pasted, CutOff, Ends as NoMore, Refused, refusal_of}
 use Rattle.line_keys.specs.Events.{single}
 use Rattle.line_keys.specs.Feeds.{Key}
 use Rattle.line_keys.specs.Handling.{Meaning, Showing}
@@ -17,7 +16,7 @@ use Rattle.line_keys.specs.Phrases.{Input, Script, Ends, Needs, Reads, Part, ans
 use Rattle.line_keys.specs.Refreshing.{Shown}
 use Rattle.line_keys.specs.Showing.{seen_of}
 
--- all by which a key behind its count is decided
+-- all by which a key after its count is decided
 pub record Situation : Type 0 where
   pub custom : Custom
   pub input : Input
@@ -27,10 +26,21 @@ pub record Situation : Type 0 where
   pub positive : Bool
 
 abbrev pub situation : Custom → Input → Shown → ℕ → Bool → Situation
-situation custom input shown n positive = record { custom = custom; input = input; shown = shown; n = n; positive = positive }
+situation custom input shown n positive = record {
+  custom = custom;
+  input = input;
+  shown = shown;
+  n = n;
+  positive = positive;
+}
 
 abbrev pub shown_for : Situation → Event → Showing
-shown_for s e = record { event = e; count = s.n; positive = s.positive; seen = seen_of s.input.mode s.input.input_mode s.shown }
+shown_for s e = record {
+  event = e;
+  count = s.n;
+  positive = s.positive;
+  seen = seen_of s.input.mode s.input.input_mode s.shown;
+}
 
 -- the binding of one key, else that of any
 abbrev pub or_any : Custom → Option Meaning → Option Meaning
@@ -38,13 +48,21 @@ or_any custom (Some meaning) = Some meaning
 or_any custom None = custom.answers Any
 
 abbrev pub custom_answer : Situation → KeyEvent → Result (Option Cmd) ReadlineError
-custom_answer s k = answer_by (or_any s.custom (s.custom.answers (single k))) (shown_for s (single k))
+custom_answer s k =
+    answer_by (or_any s.custom (s.custom.answers (single k))) (shown_for s (single k))
 
 -- what a sequence of keys is bound to answers
 abbrev pub sequence_answer : Situation → List KeyEvent → Result (Option Cmd) ReadlineError
 sequence_answer s keys = answer_by (s.custom.answers (KeySeq keys)) (shown_for s (KeySeq keys))
 
 -- ---- sequences: while the keys so far begin a bound one, or are it, one more is read
+
+-- what came of a sequence of keys
+pub data Followed : Type 0 where
+  -- it is bound to this command
+  Bound : (command : Cmd) → Followed
+  -- it isn't, and its second key, if it was read, was this
+  Unbound : (second : Option KeyEvent) → Followed
 
 -- a command ends the sequence, and where there is none the sequence goes on
 abbrev pub bound_by : Script Followed → Option Cmd → Part Followed
@@ -58,12 +76,18 @@ in_vain keys = answered (Unbound (slice_get keys 1))
 abbrev pub following : Situation → List KeyEvent → Part Followed
 following s keys (Pressed k rest) =
     if s.custom.begins keys
-    then Reads Key rest (deciding (bound_by (following s (keys ++ k ∷ []) rest)) (sequence_answer s (keys ++ k ∷ [])) rest)
+    then Reads Key rest
+    (deciding (bound_by (following s (keys ++ k ∷ []) rest)) (sequence_answer s (keys ++ k ∷ []))
+    rest)
     else in_vain keys (Pressed k rest)
-following s keys (Pasted text rest) = if s.custom.begins keys then refused PasteOutOfPlace else in_vain keys (Pasted text rest)
-following s keys (CutOff last) = if s.custom.begins keys then refused PasteOutOfPlace else in_vain keys (CutOff last)
-following s keys (NoMore last) = if s.custom.begins keys then refused (refusal_of last) else in_vain keys (NoMore last)
-following s keys (Refused why) = if s.custom.begins keys then refused why else in_vain keys (Refused why)
+following s keys (Pasted text rest) =
+    if s.custom.begins keys then refused PasteOutOfPlace else in_vain keys (Pasted text rest)
+following s keys (CutOff last) =
+    if s.custom.begins keys then refused PasteOutOfPlace else in_vain keys (CutOff last)
+following s keys (NoMore last) =
+    if s.custom.begins keys then refused (refusal_of last) else in_vain keys (NoMore last)
+following s keys (Refused why) =
+    if s.custom.begins keys then refused why else in_vain keys (Refused why)
 
 -- the sequence that begins with this key, which is kept in memory
 unfoldable pub followed : Situation → KeyEvent → Part Followed

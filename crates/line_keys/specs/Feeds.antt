@@ -1,11 +1,11 @@
 -- What is known of a reader of keys, and what each read makes of it.
-use Rattle.std.specs.Prelude.{◌≡◌, ℕ, ◌<◌, ◌≤◌, ◌⊎◌, ⊤, Bool, Result, Ok, Err, IsTrue, IsFalse, IfErr, OnOk}
+use Rattle.std.specs.Prelude.{◌≡◌, ℕ, ◌<◌, ◌≤◌, ◌⊎◌, ⊤, Bool, Result, Err, IsTrue, IsFalse, IfErr, OnOk}
 use Rattle.line_config.specs.declared.errors.ReadlineError.{ReadlineError}
 use Rattle.line_config.specs.declared.errors.ReadlineError.TheVariants.{Eof, Interrupted, NotUtf8, PasteOutOfPlace, Reader, Display, Lines, HistoryText, Helper, Handler, Memory}
 use Rattle.line_keys.specs.Coming.{Coming, behind, left, left_by}
 use Rattle.line_keys.specs.Faults.{IsReaderRefusal}
 
-pub record Feed : Type 1 where
+pub record KeyFeed : Type 1 where
   -- contracts know what is still to come
   pub told : Bool
   -- it fails only where that says so
@@ -17,13 +17,13 @@ pub record Feed : Type 1 where
   pub reason : ReadlineError → Type 0
 
 -- what is asked for
-pub data Item : Type 0 where
-  Key : Item
-  Paste : Item
+pub data InputItem : Type 0 where
+  Key : InputItem
+  Paste : InputItem
 
--- what a read may be refused for that no input gives: the failure of a source that isn't steady, and want of memory for a
--- pasted text
-abbrev pub IsReadFault : Item → Bool → ReadlineError → Type 0
+-- what a read may be refused for that no input gives: the failure of a source that isn't steady,
+-- and want of memory for a pasted text
+abbrev pub IsReadFault : InputItem → Bool → ReadlineError → Type 0
 IsReadFault item steady Reader = IsFalse steady
 IsReadFault Key steady Memory = ⊥
 IsReadFault Paste steady Memory = ⊤
@@ -38,15 +38,18 @@ IsReadFault item steady Helper = ⊥
 IsReadFault item steady Handler = ⊥
 
 -- a read is answered as the input says, or cut by a fault, which is for good
-abbrev pub ReadAs : {X : Type 0} → Item → Bool → Result X ReadlineError → Coming → Result X ReadlineError → Coming → Type 0
+abbrev pub ReadAs : {X : Type 0} → InputItem → Bool → Result X ReadlineError → Coming
+    → Result X ReadlineError → Coming → Type 0
 ReadAs item steady given rest result c' =
     ((result ≡ given) × (c' ≡ left given rest))
     ⊎ ((e : ReadlineError) × IsReadFault item steady e × (result ≡ Err e) × (c' ≡ left_by e))
 
 -- what a read of a reader makes of what comes: this answer, of what stands there
-pub record ReadsBy {X : Type 0} (item : Item) (at : Coming → Result X ReadlineError) (feed feed' : Feed)
+pub record ReadsBy {X : Type 0} (item : InputItem) (at : Coming → Result X ReadlineError)
+    (feed feed' : KeyFeed)
     (result : Result X ReadlineError) : Type 0 where
-  pub taken : IsTrue feed.told → ReadAs item feed.steady (at feed.coming) (behind feed.coming) result feed'.coming
+  pub taken : IsTrue feed.told
+      → ReadAs item feed.steady (at feed.coming) (behind feed.coming) result feed'.coming
   pub told : IsTrue feed.told → IsTrue feed'.told
   pub steady : feed'.steady ≡ feed.steady
   pub keeps : feed'.bound ≤ feed.bound
@@ -55,7 +58,8 @@ pub record ReadsBy {X : Type 0} (item : Item) (at : Coming → Result X Readline
   pub reason : IfErr result (λ e. feed'.reason e)
 
 -- a read whose answer isn't known
-pub record SomeRead {X : Type 0} (feed feed' : Feed) (result : Result X ReadlineError) : Type 0 where
+pub record SomeRead {X : Type 0} (feed feed' : KeyFeed)
+    (result : Result X ReadlineError) : Type 0 where
   pub told : IsTrue feed.told → IsTrue feed'.told
   pub steady : feed'.steady ≡ feed.steady
   pub keeps : feed'.bound ≤ feed.bound

@@ -1,40 +1,48 @@
--- A call makes the steps of its definition, in order, to the answer or to the step at which a fault cuts it.
-use Rattle.std.specs.Prelude.{◌≡◌, ℕ, ◌≤◌, ◌⊎◌, ⊤, Bool, false, [], None, Result, Ok, Err, IsTrue, IfErr}
-use Rattle.line_config.specs.declared.settings.EditMode.{EditMode}
+-- A call makes the steps of its definition, in order, to the answer or to the step at which a fault
+-- cuts it.
+use Rattle.std.specs.Prelude.{◌≡◌, ◌≤◌, ◌⊎◌, ⊤, Bool, false, [], None, Result, Err, IsTrue, IfErr}
 use Rattle.line_config.specs.declared.errors.ReadlineError.{ReadlineError}
 use Rattle.line_config.specs.declared.errors.ReadlineError.TheVariants.{Eof, Interrupted, NotUtf8, PasteOutOfPlace, Reader, Display as DisplayFault, Lines, HistoryText, Helper, Handler, Memory}
 use Rattle.line_keys.specs.Answers.{Custom, HandlerFails}
 use Rattle.line_keys.specs.Coming.{Coming, left_by}
-use Rattle.line_keys.specs.Feeds.{Feed, IsReadFault}
+use Rattle.line_keys.specs.Feeds.{KeyFeed, IsReadFault}
 use Rattle.line_keys.specs.Phrases.{Input, Script, Ends, Needs, Asks, Reads, Becomes}
-use Rattle.line_keys.specs.Refreshing.{Shown, Ask, Display, IsDrawFault}
+use Rattle.line_keys.specs.Refreshing.{Ask, KnownDisplay, IsDrawFault}
 
 -- no more is done: the answer is this
-abbrev pub Stays : {S X : Type 0} → Result X ReadlineError → S → Input → Coming → Result X ReadlineError → S → Input → Coming → Type 0
-Stays answer wrt input c result wrt' input' c' = (result ≡ answer) × (wrt' ≡ wrt) × (input' ≡ input) × (c' ≡ c)
+abbrev pub Stays : {S X : Type 0} → Result X ReadlineError → S → Input → Coming
+    → Result X ReadlineError → S → Input → Coming → Type 0
+Stays answer wrt input c result wrt' input' c' =
+    (result ≡ answer) × (wrt' ≡ wrt) × (input' ≡ input) × (c' ≡ c)
 
--- memory cuts only where it is taken; a read where its source fails, or a pasted text finds no memory; an ask where the display
--- refuses it
-abbrev pub Goes : {S X : Type 0} → Display S → Bool → Script X → S → Input → Coming → Result X ReadlineError → S → Input → Coming → Type 0
-Goes d steady (Ends answer) wrt input c result wrt' input' c' = Stays answer wrt input c result wrt' input' c'
+-- memory cuts only where it is taken; a read where its source fails, or a pasted text finds no
+-- memory; an ask where the display refuses it
+abbrev pub Goes : {S X : Type 0} → KnownDisplay S → Bool → Script X → S → Input → Coming
+    → Result X ReadlineError → S → Input → Coming → Type 0
+Goes d steady (Ends answer) wrt input c result wrt' input' c' =
+    Stays answer wrt input c result wrt' input' c'
 Goes d steady (Needs later) wrt input c result wrt' input' c' =
     Goes d steady later wrt input c result wrt' input' c'
     ⊎ Stays (Err Memory) wrt input c result wrt' input' c'
 Goes {S} d steady (Asks ask later) wrt input c result wrt' input' c' =
-    ((asked : S) × d.asked wrt ask asked × Goes d steady (later (d.shown asked)) asked input c result wrt' input' c')
-    ⊎ ((e : ReadlineError) × IsDrawFault e × d.refused wrt ask e wrt' × (result ≡ Err e) × (input' ≡ input) × (c' ≡ c))
+    ((asked : S) × d.asked wrt ask asked
+    × Goes d steady (later (d.shown asked)) asked input c result wrt' input' c')
+    ⊎ ((e : ReadlineError) × IsDrawFault e × d.refused wrt ask e wrt' × (result ≡ Err e)
+    × (input' ≡ input) × (c' ≡ c))
 Goes d steady (Reads item rest later) wrt input c result wrt' input' c' =
     Goes d steady later wrt input rest result wrt' input' c'
-    ⊎ ((e : ReadlineError) × IsReadFault item steady e × Stays (Err e) wrt input (left_by e) result wrt' input' c')
-Goes d steady (Becomes kept later) wrt input c result wrt' input' c' = Goes d steady later wrt kept c result wrt' input' c'
+    ⊎ ((e : ReadlineError) × IsReadFault item steady e
+    × Stays (Err e) wrt input (left_by e) result wrt' input' c')
+Goes d steady (Becomes kept later) wrt input c result wrt' input' c' =
+    Goes d steady later wrt kept c result wrt' input' c'
 
 -- the display refused some ask so
-abbrev pub Undrawn : {S : Type 0} → Display S → S → ReadlineError → Type 0
+abbrev pub Undrawn : {S : Type 0} → KnownDisplay S → S → ReadlineError → Type 0
 Undrawn {S} d wrt e = (before : S) × (ask : Ask) × d.refused before ask e wrt
 
--- why a call is refused, whatever is told: what has happened to the reader, an ask that the display refused, a bound handler
--- that fails; want of memory is anyone's
-abbrev pub Because : {S : Type 0} → Display S → Custom → S → Feed → ReadlineError → Type 0
+-- why a call is refused, whatever is told: what has happened to the reader, an ask that the display
+-- refused, a bound handler that fails; want of memory is anyone's
+abbrev pub Because : {S : Type 0} → KnownDisplay S → Custom → S → KeyFeed → ReadlineError → Type 0
 Because d custom wrt feed Eof = feed.reason Eof
 Because d custom wrt feed Interrupted = ⊥
 Because d custom wrt feed NotUtf8 = feed.reason NotUtf8
@@ -48,9 +56,11 @@ Because d custom wrt feed Handler = HandlerFails custom
 Because d custom wrt feed Memory = ⊤
 
 -- THE relation of a call that reads, asks and keeps
-pub record Follows {S X : Type 0} (d : Display S) (custom : Custom) (script : Script X) (wrt : S) (input : Input) (wrt' : S) (input' : Input)
-    (feed feed' : Feed) (result : Result X ReadlineError) : Type 0 where
-  pub goes : IsTrue feed.told → Goes d feed.steady script wrt input feed.coming result wrt' input' feed'.coming
+pub record Follows {S X : Type 0} (d : KnownDisplay S) (custom : Custom) (script : Script X)
+    (wrt : S) (input : Input) (wrt' : S) (input' : Input)
+    (feed feed' : KeyFeed) (result : Result X ReadlineError) : Type 0 where
+  pub goes : IsTrue feed.told
+      → Goes d feed.steady script wrt input feed.coming result wrt' input' feed'.coming
   pub told : IsTrue feed.told → IsTrue feed'.told
   pub steady : feed'.steady ≡ feed.steady
   pub keeps : feed'.bound ≤ feed.bound
@@ -59,9 +69,10 @@ pub record Follows {S X : Type 0} (d : Display S) (custom : Custom) (script : Sc
   pub reason : IfErr result (λ e. Because d custom wrt' feed' e)
 
 -- no display is asked
-abbrev pub silent : Display ⊤
+abbrev pub silent : KnownDisplay ⊤
 silent = record {
-  shown = λ s. record { line = []; place = 0; hinted = false; completion = None; last_insert = None };
+  shown =
+      λ s. record { line = []; place = 0; hinted = false; completion = None; last_insert = None };
   asked = λ s a t. ⊥;
   refused = λ s a e t. ⊥;
 }
@@ -81,6 +92,7 @@ BecauseBound custom Handler = HandlerFails custom
 BecauseBound custom Memory = ⊤
 
 -- a call that neither reads nor asks gives this answer, or had no memory
-pub record Decides {X : Type 0} (custom : Custom) (answer result : Result X ReadlineError) : Type 0 where
+pub record Decides {X : Type 0} (custom : Custom)
+    (answer result : Result X ReadlineError) : Type 0 where
   pub is : (result ≡ answer) ⊎ (result ≡ Err Memory)
   pub reason : IfErr result (λ e. BecauseBound custom e)

@@ -11,7 +11,12 @@ use Rattle.line_keys.specs.Phrases.{Input}
 use Rattle.line_keys.specs.Refreshing.{Shown}
 
 abbrev pub input_of : {D : Type 0} → InputState D → Input
-input_of s = record { mode = s.mode; input_mode = s.input_mode; last = s.last_cmd; search = s.last_char_search }
+input_of s = record {
+  mode = s.mode;
+  input_mode = s.input_mode;
+  last = s.last_cmd;
+  search = s.last_char_search;
+}
 
 -- its bindings; a handler's meaning is handed in, since it comes with its box
 abbrev pub custom_in : {D : Type 0} → InputState D → (D → Meaning) → Custom

@@ -21,6 +21,9 @@ ctrl = modifiers_of 8
 abbrev pub alt : Modifiers
 alt = modifiers_of 4
 
+abbrev pub ctrl_alt : Modifiers
+ctrl_alt = modifiers_of 12
+
 abbrev pub has_ctrl : Modifiers → Bool
 has_ctrl m = bit_and m.0 8 == 8
 

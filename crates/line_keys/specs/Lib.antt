@@ -5,6 +5,7 @@ pub mod Commands
 pub mod Common
 pub mod Counts
 pub mod Custom
+pub mod Early
 pub mod Emacs
 pub mod Events
 pub mod Faults
@@ -12,7 +13,6 @@ pub mod Feeds
 pub mod Follows
 pub mod Handling
 pub mod InputStates
-pub mod KeyRows
 pub mod Keys
 pub mod Meant
 pub mod Modes

@@ -8,10 +8,10 @@ use Rattle.line_keys.specs.Phrases.{Input, Phrase, with_key}
 use Rattle.line_keys.specs.Refreshing.{Shown}
 use Rattle.line_keys.specs.Vi.{vi_phrase}
 
--- the phrase that begins with the key k
-abbrev pub begun : EditMode → Custom → Input → Shown → KeyEvent → Phrase
-begun Emacs = emacs_phrase
-begun Vi = vi_phrase
+-- the phrase whose first key is k
+abbrev pub phrase_from : EditMode → Custom → Input → Shown → KeyEvent → Phrase
+phrase_from Emacs = emacs_phrase
+phrase_from Vi = vi_phrase
 
 abbrev pub phrase : Custom → Input → Shown → Phrase
-phrase custom input shown = with_key (begun input.mode custom input shown)
+phrase custom input shown = with_key (phrase_from input.mode custom input shown)

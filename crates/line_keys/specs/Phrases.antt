@@ -1,4 +1,5 @@
--- Phrases: what one command takes of the input, asks of the display and keeps, step by step, and its answer.
+-- Phrases: what one command takes of the input, asks of the display and keeps, step by step, and
+-- its answer.
 use Rattle.std.specs.Prelude.{ℕ, List, Option, Result, Ok, Err}
 use Rattle.line_buffer.specs.declared.types.CharSearch.{CharSearch}
 use Rattle.line_config.specs.declared.settings.EditMode.{EditMode}
@@ -7,7 +8,7 @@ use Rattle.line_keys.specs.declared.command.Cmd.{Cmd}
 use Rattle.line_keys.specs.declared.command.InputMode.{InputMode}
 use Rattle.line_keys.specs.declared.key.KeyEvent.{KeyEvent}
 use Rattle.line_keys.specs.Coming.{Coming, behind, key_at, from_key_at, paste_at, left_by}
-use Rattle.line_keys.specs.Feeds.{Item, Key, Paste}
+use Rattle.line_keys.specs.Feeds.{InputItem, Key, Paste}
 use Rattle.line_keys.specs.Refreshing.{Shown, Ask}
 
 -- what is kept from one command to the next
@@ -19,7 +20,7 @@ pub record Input : Type 0 where
   -- Vi's last search for a character, if there was one
   pub search : Option CharSearch
 
--- ---- steps, in order, and the answer behind them
+-- ---- steps, in order, and the answer after them
 
 pub data Script (X : Type 0) : Type 0 where
   Ends : (answer : Result X ReadlineError) → Script X
@@ -27,8 +28,8 @@ pub data Script (X : Type 0) : Type 0 where
   Needs : (later : Script X) → Script X
   -- asked of the display; what follows may depend on what is shown then
   Asks : (ask : Ask) → (later : Shown → Script X) → Script X
-  -- a key or a paste is taken, or refused, and this is to come behind it
-  Reads : (item : Item) → (rest : Coming) → (later : Script X) → Script X
+  -- a key or a paste is taken, or refused, and this is to come after it
+  Reads : (item : InputItem) → (rest : Coming) → (later : Script X) → Script X
   -- this is kept from now on
   Becomes : (input : Input) → (later : Script X) → Script X
 
@@ -49,11 +50,13 @@ answered x c = Ends (Ok x)
 abbrev pub granted : {X : Type 0} → X → Part X
 granted x c = Needs (Ends (Ok x))
 
-abbrev pub read_by : {X Y : Type 0} → Item → (X → Part Y) → Result X ReadlineError → Coming → Script Y
+abbrev pub read_by : {X Y : Type 0} → InputItem → (X → Part Y) → Result X ReadlineError → Coming
+    → Script Y
 read_by item next (Ok x) rest = Reads item rest (next x rest)
 read_by item next (Err e) rest = Reads item (left_by e) (Ends (Err e))
 
-abbrev pub with_read : {X Y : Type 0} → Item → (Coming → Result X ReadlineError) → (X → Part Y) → Part Y
+abbrev pub with_read : {X Y : Type 0} → InputItem → (Coming → Result X ReadlineError) → (X → Part Y)
+    → Part Y
 with_read item at next c = read_by item next (at c) (behind c)
 
 -- reading a key is refused
@@ -86,17 +89,21 @@ decided_by next (Err e) = at_once (Err e)
 abbrev pub deciding : {X Y : Type 0} → (X → Part Y) → Result X ReadlineError → Part Y
 deciding next r c = Needs (decided_by next r c)
 
-abbrev pub after_by : {X Y : Type 0} → (X → Input → Shown → Part Y) → Input → Shown → Coming → Result X ReadlineError → Script Y
+abbrev pub after_by : {X Y : Type 0} → (X → Input → Shown → Part Y) → Input → Shown → Coming
+    → Result X ReadlineError → Script Y
 after_by next input shown c (Ok x) = next x input shown c
 after_by next input shown c (Err e) = Ends (Err e)
 
-abbrev pub after : {X Y : Type 0} → (X → Input → Shown → Part Y) → Input → Shown → Coming → Script X → Script Y
+abbrev pub after : {X Y : Type 0} → (X → Input → Shown → Part Y) → Input → Shown → Coming → Script X
+    → Script Y
 after next input shown c (Ends r) = after_by next input shown c r
 after next input shown c (Needs later) = Needs (after next input shown c later)
 after next input shown c (Asks ask later) = Asks ask (λ seen. after next input seen c (later seen))
-after next input shown c (Reads item rest later) = Reads item rest (after next input shown rest later)
+after next input shown c (Reads item rest later) =
+    Reads item rest (after next input shown rest later)
 after next input shown c (Becomes kept later) = Becomes kept (after next kept shown c later)
 
 -- a part, then what its answer leads to, to which all is shown and kept as the steps left it
-abbrev pub and_then : {X Y : Type 0} → Input → Shown → Part X → (X → Input → Shown → Part Y) → Part Y
+abbrev pub and_then : {X Y : Type 0} → Input → Shown → Part X → (X → Input → Shown → Part Y)
+    → Part Y
 and_then input shown p next c = after next input shown c (p c)

@@ -1,4 +1,5 @@
--- Commands made anew: row by row, with a new count, if there is one, and the text that was inserted last.
+-- Commands made anew: row by row, with a new count, if there is one, and the text that was inserted
+-- last.
 use Rattle.std.specs.Prelude.{◌≡◌, ℕ, ◌==◌, List, [], length, min, Option, Some, None, Result, IsTrue, IfOk, IfErr, unwrap_or, if◌then◌else◌}
 use Rattle.line_config.specs.declared.errors.ReadlineError.{ReadlineError}
 use Rattle.line_config.specs.declared.errors.ReadlineError.TheVariants.{Memory}
@@ -16,9 +17,11 @@ abbrev pub typed_anew : ℕ → ℕ → Option (List ℕ) → Cmd
 typed_anew n c (Some text) = Insert n text
 typed_anew n c None = SelfInsert n c
 
--- what a text covers that was typed over a range: where that is no character yet, as many as the text has bytes
+-- what a text covers that was typed over a range: where that is no character yet, as many as the
+-- text has bytes
 abbrev pub covered : Option ℕ → Option (List ℕ) → Movement → Movement
-covered new last (ForwardChar n) = ForwardChar (if n == 0 then min (length (unwrap_or last [])) 65535 else unwrap_or new n)
+covered new last (ForwardChar n) =
+    ForwardChar (if n == 0 then min (length (unwrap_or last [])) 65535 else unwrap_or new n)
 covered new last m = recounted new m
 
 abbrev pub redone : Option ℕ → Option (List ℕ) → Cmd → Cmd
@@ -37,9 +40,13 @@ redone new last c = c
 
 -- a command made anew, for which memory is taken; where it can't be, the other one
 abbrev pub anew_or : Cmd → Option ℕ → Shown → Cmd → Part Cmd
-anew_or other new shown cmd = if (standing cmd).repeats then granted (redone new shown.last_insert cmd) else answered other
+anew_or other new shown cmd =
+    if (standing cmd).repeats then granted (redone new shown.last_insert cmd) else answered other
 
--- a call that makes a command anew, or gives the other one where it can't be made anew: memory is wanted only where it is taken
-pub record Anew (other cmd : Cmd) (new : Option ℕ) (shown : Shown) (result : Result Cmd ReadlineError) : Type 0 where
-  pub ok : IfOk result (λ c. c ≡ (if (standing cmd).repeats then redone new shown.last_insert cmd else other))
+-- a call that makes a command anew, or gives the other one where it can't be made anew: memory is
+-- wanted only where it is taken
+pub record Anew (other cmd : Cmd) (new : Option ℕ) (shown : Shown)
+    (result : Result Cmd ReadlineError) : Type 0 where
+  pub ok : IfOk result
+      (λ c. c ≡ (if (standing cmd).repeats then redone new shown.last_insert cmd else other))
   pub err : IfErr result (λ e. (e ≡ Memory) × IsTrue (standing cmd).repeats)

@@ -20,4 +20,5 @@ same_event-equal (KeySeq xs) (KeySeq ys) h = ap KeySeq ((same_keys-decides xs ys
 same_event-equal a b h = absurd (true≢false (sym h))
 
 pub same_event-decides : (a b : Event) → Decides (same_event a b) (a ≡ b)
-same_event-decides a b = (same_event-equal a b, λ e. subst (λ c. same_event a c ≡ true) e (same_event-itself a))
+same_event-decides a b =
+    (same_event-equal a b, λ e. subst (λ c. same_event a c ≡ true) e (same_event-itself a))

@@ -49,12 +49,18 @@ same_code-equal Up Up h = refl
 same_code-equal a b h = absurd (true≢false (sym h))
 
 pub same_code-decides : (a b : KeyCode) → Decides (same_code a b) (a ≡ b)
-same_code-decides a b = (same_code-equal a b, λ e. subst (λ c. same_code a c ≡ true) e (same_code-itself a))
+same_code-decides a b =
+    (same_code-equal a b, λ e. subst (λ c. same_code a c ≡ true) e (same_code-itself a))
 
 pub same_key-decides : (a b : KeyEvent) → Decides (same_key a b) (a ≡ b)
 same_key-decides a b =
-    let both = Decides-and (same_code a.0 b.0) (eqb a.1.0 b.1.0) (same_code-decides a.0 b.0) (unsigned_Decides a.1.0 b.1.0)
-    in (λ h. let p = both.0 h in λ i. record { 0 = p.0 i; 1 = record { 0 = p.1 i } }, λ e. both.1 (ap (λ (k : KeyEvent). k.0) e, ap (λ (k : KeyEvent). k.1.0) e))
+    let both =
+    Decides-and (same_code a.0 b.0) (eqb a.1.0 b.1.0)
+    (same_code-decides a.0 b.0) (unsigned_Decides a.1.0 b.1.0)
+    in (
+      λ h. let p = both.0 h in λ i. record { 0 = p.0 i; 1 = record { 0 = p.1 i } },
+      λ e. both.1 (ap (λ (k : KeyEvent). k.0) e, ap (λ (k : KeyEvent). k.1.0) e),
+    )
 
 pub same_keys-decides : (xs ys : List KeyEvent) → Decides (same_keys xs ys) (xs ≡ ys)
 same_keys-decides = pointwise_decides same_key-decides

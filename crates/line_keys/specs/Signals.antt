@@ -1,23 +1,20 @@
 -- The keys that a terminal would send as a signal or as the end of input.
-use Rattle.std.specs.Prelude.{ℕ, Option, Some, None, ◌==◌, if◌then◌else◌}
-use Rattle.line_keys.specs.declared.key.KeyCode.{KeyCode}
+use Rattle.std.specs.Prelude.{List, [], ◌∷◌, Option, true, codes}
 use Rattle.line_keys.specs.declared.key.KeyCode.TheVariants.{Char}
 use Rattle.line_keys.specs.declared.key.KeyEvent.{KeyEvent}
 use Rattle.line_keys.specs.declared.command.Cmd.{Cmd}
 use Rattle.line_keys.specs.declared.command.Cmd.TheVariants.{Interrupt, EndOfFile, Suspend}
+use Rattle.line_keys.specs.Keys.{ctrl}
+use Rattle.line_keys.specs.Tables.{Row, always, named, char, look}
 
--- with Ctrl: C and backslash, D, Z
-abbrev pub signal_letter : ℕ → Option Cmd
-signal_letter c =
-    if c == 67 then Some Interrupt
-    else if c == 92 then Some Interrupt
-    else if c == 68 then Some EndOfFile
-    else if c == 90 then Some Suspend
-    else None
-
-abbrev pub signal_code : KeyCode → ℕ → Option Cmd
-signal_code (Char c) mods = if mods == 8 then signal_letter c else None
-signal_code code mods = None
+-- 5C is the backslash
+abbrev pub signal_rows : List (Row Cmd)
+signal_rows =
+    char (codes "C") ctrl (always Interrupt)
+    ∷ named (Char 0x5C) ctrl (always Interrupt)
+    ∷ char (codes "Z") ctrl (always Suspend)
+    ∷ char (codes "D") ctrl (always EndOfFile)
+    ∷ []
 
 abbrev pub signal_of : KeyEvent → Option Cmd
-signal_of k = signal_code k.0 k.1.0
+signal_of k = look 1 true k signal_rows

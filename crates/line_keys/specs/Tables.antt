@@ -1,18 +1,69 @@
--- Tables from keys to commands: rows, and how a key is looked up.
-use Rattle.std.specs.Prelude.{ℕ, ◌==◌, Bool, true, false, ◌&&◌, List, [], ◌∷◌, Option, Some, None, if◌then◌else◌}
+-- Tables from keys to what they do: rows, and how a key is looked up.
+use Rattle.std.specs.Prelude.{ℕ, ◌==◌, Bool, true, false, ◌&&◌, List, [], ◌∷◌, if◌then◌else◌}
+use Rattle.std.specs.Prelude.{Option, Some, None}
 use Rattle.line_buffer.specs.declared.types.Movement.{Movement}
 use Rattle.line_keys.specs.declared.command.Cmd.{Cmd}
 use Rattle.line_keys.specs.declared.command.Cmd.TheVariants.{Move, Kill}
+use Rattle.line_keys.specs.declared.flags.Modifiers.{Modifiers}
 use Rattle.line_keys.specs.declared.key.KeyCode.{KeyCode}
-use Rattle.line_keys.specs.declared.key.KeyCode.TheVariants.{BackTab, Backspace, Char, Delete, Down, End, Enter, Esc, Home, Left, Right, Tab, UnknownEscSeq, Up}
+use Rattle.line_keys.specs.declared.key.KeyCode.TheVariants.{BackTab, Backspace, BracketedPasteStart, Char, Delete, Down, End, Enter, Esc, Home, Left, Right, Tab, UnknownEscSeq, Up}
 use Rattle.line_keys.specs.declared.key.KeyEvent.{KeyEvent}
-use Rattle.line_keys.specs.Refreshing.{Shown}
+use Rattle.line_keys.specs.Phrases.{Part, answered}
+
+-- ---- what a key does
+
+-- it gives a command, or something that is the table's own
+pub data Deed (Own : Type 0) : Type 0 where
+  Gives : (command : Cmd) → Deed Own
+  Does : (own : Own) → Deed Own
+
+-- what a row says; a key that no row has does the other
+abbrev pub done : {Own : Type 0} → (Own → Part Cmd) → Part Cmd → Option (Deed Own) → Part Cmd
+done own other (Some (Gives command)) = answered command
+done own other (Some (Does deed)) = own deed
+done own other None = other
+
+-- ---- what a row gives: by the count, which is its amount and whether it isn't negative
+
+abbrev pub Giving : Type 0 → Type 0
+Giving X = ℕ → Bool → X
+
+-- no count matters
+abbrev pub always : {X : Type 0} → X → Giving X
+always x n positive = x
+
+-- the amount matters
+abbrev pub by_count : {X : Type 0} → (ℕ → X) → Giving X
+by_count gives n positive = gives n
+
+-- the sign too: what a count gives that isn't negative, then what a negative one does
+abbrev pub by_sign : {X : Type 0} → (ℕ → X) → (ℕ → X) → Giving X
+by_sign plus minus n positive = if positive then plus n else minus n
+
+-- a motion by sign
+abbrev pub moves : {Own : Type 0} → (ℕ → Movement) → (ℕ → Movement) → Giving (Deed Own)
+moves plus minus n positive = Gives (Move (if positive then plus n else minus n))
+
+-- a kill by sign
+abbrev pub kills : {Own : Type 0} → (ℕ → Movement) → (ℕ → Movement) → Giving (Deed Own)
+kills plus minus n positive = Gives (Kill (if positive then plus n else minus n))
+
+-- ---- rows
+
+pub record Row (X : Type 0) : Type 0 where
+  -- the keys that it is for: their codes, and their modifiers
+  pub fits : KeyCode → Bool
+  pub modifiers : Modifiers
+  -- whether it stands
+  pub stands : Bool
+  pub gives : KeyCode → Giving X
 
 -- a row's code is the key's: of the codes that stand in tables
 abbrev pub is_code : KeyCode → KeyCode → Bool
 is_code (Char c) (Char d) = c == d
 is_code BackTab BackTab = true
 is_code Backspace Backspace = true
+is_code BracketedPasteStart BracketedPasteStart = true
 is_code Delete Delete = true
 is_code Down Down = true
 is_code End End = true
@@ -26,83 +77,55 @@ is_code UnknownEscSeq UnknownEscSeq = true
 is_code Up Up = true
 is_code a b = false
 
-pub record Row : Type 0 where
-  pub code : KeyCode
-  pub modifiers : ℕ
-  -- whether the row stands, by what is shown
-  pub stands : Shown → Bool
-  -- the command by the count: its amount, and whether it isn't negative
-  pub command : ℕ → Bool → Cmd
+abbrev pub is_char : KeyCode → Bool
+is_char (Char c) = true
+is_char code = false
 
--- ---- what a row gives by the count
+abbrev pub char_of : KeyCode → ℕ
+char_of (Char c) = c
+char_of code = 0
 
-abbrev pub Giving : Type 0
-Giving = ℕ → Bool → Cmd
-
--- no count matters
-abbrev pub always : Cmd → Giving
-always command n positive = command
-
--- the amount matters
-abbrev pub times : (ℕ → Cmd) → Giving
-times command n positive = command n
-
--- the sign too: the command of a count that isn't negative, then that of a negative one
-abbrev pub signed : (ℕ → Cmd) → (ℕ → Cmd) → Giving
-signed plus minus n positive = if positive then plus n else minus n
-
--- a motion by sign
-abbrev pub moves : (ℕ → Movement) → (ℕ → Movement) → Giving
-moves plus minus n positive = Move (if positive then plus n else minus n)
-
--- a kill by sign
-abbrev pub kills : (ℕ → Movement) → (ℕ → Movement) → Giving
-kills plus minus n positive = Kill (if positive then plus n else minus n)
-
--- ---- rows by their key
-
-abbrev pub row : KeyCode → ℕ → Giving → Row
-row code modifiers command = record { code = code; modifiers = modifiers; stands = λ shown. true; command = command }
+-- a key with a name
+abbrev pub named : {X : Type 0} → KeyCode → Modifiers → Giving X → Row X
+named code modifiers gives = record {
+  fits = is_code code;
+  modifiers = modifiers;
+  stands = true;
+  gives = λ other. gives;
+}
 
 abbrev pub first_of : List ℕ → ℕ
 first_of [] = 0
 first_of (c ∷ cs) = c
 
--- a character alone, with Ctrl, with Alt, with both
-abbrev pub plain : List ℕ → Giving → Row
-plain text = row (Char (first_of text)) 0
+-- a character's key
+abbrev pub char : {X : Type 0} → List ℕ → Modifiers → Giving X → Row X
+char text modifiers gives = named (Char (first_of text)) modifiers gives
 
-abbrev pub ctrl : List ℕ → Giving → Row
-ctrl text = row (Char (first_of text)) 8
-
-abbrev pub alt : List ℕ → Giving → Row
-alt text = row (Char (first_of text)) 4
-
-abbrev pub ctrl_alt : List ℕ → Giving → Row
-ctrl_alt text = row (Char (first_of text)) 12
-
--- a key with a name alone, with Ctrl, with Alt
-abbrev pub named : KeyCode → Giving → Row
-named code = row code 0
-
-abbrev pub named_ctrl : KeyCode → Giving → Row
-named_ctrl code = row code 8
-
-abbrev pub named_alt : KeyCode → Giving → Row
-named_alt code = row code 4
+-- the key of each character, which what it gives depends on
+abbrev pub each_char : {X : Type 0} → Modifiers → (ℕ → Giving X) → Row X
+each_char modifiers gives = record {
+  fits = is_char;
+  modifiers = modifiers;
+  stands = true;
+  gives = λ code. gives (char_of code);
+}
 
 -- a row that stands only on a condition
-abbrev pub only : (Shown → Bool) → Row → Row
+abbrev pub only : {X : Type 0} → Bool → Row X → Row X
 only stands r = record r { stands = stands }
 
-abbrev pub fits : Shown → KeyCode → ℕ → Row → Bool
-fits shown code modifiers r = (modifiers == r.modifiers) && (is_code r.code code && r.stands shown)
+-- ---- look-up
 
--- the command of the first row that fits
-abbrev pub first_row : Shown → ℕ → Bool → KeyCode → ℕ → List Row → Option Cmd
-first_row shown n positive code modifiers [] = None
-first_row shown n positive code modifiers (r ∷ rows) =
-    if fits shown code modifiers r then Some (r.command n positive) else first_row shown n positive code modifiers rows
+abbrev pub has_key : {X : Type 0} → KeyCode → ℕ → Row X → Bool
+has_key code bits r = (bits == r.modifiers.0) && (r.fits code && r.stands)
 
-abbrev pub look : Shown → ℕ → Bool → KeyEvent → List Row → Option Cmd
-look shown n positive k rows = first_row shown n positive k.0 k.1.0 rows
+-- what the first row gives that has the key
+abbrev pub first_row : {X : Type 0} → ℕ → Bool → KeyCode → ℕ → List (Row X) → Option X
+first_row n positive code bits [] = None
+first_row n positive code bits (r ∷ rows) =
+    if has_key code bits r then Some (r.gives code n positive)
+    else first_row n positive code bits rows
+
+abbrev pub look : {X : Type 0} → ℕ → Bool → KeyEvent → List (Row X) → Option X
+look n positive k rows = first_row n positive k.0 k.1.0 rows

@@ -1,5 +1,5 @@
--- The motion behind an operator of Vi.
-use Rattle.std.specs.Prelude.{ℕ, Bool, List, [], ◌∷◌, ◌++◌, Option, Some, None, codes, if◌then◌else◌}
+-- The motion after an operator of Vi.
+use Rattle.std.specs.Prelude.{ℕ, Bool, true, List, [], ◌∷◌, Option, Some, None, codes, if◌then◌else◌}
 use Rattle.line_buffer.specs.declared.types.CharSearch.{CharSearch}
 use Rattle.line_buffer.specs.declared.types.CharSearch.TheVariants.{Forward, ForwardBefore, Backward, BackwardAfter}
 use Rattle.line_buffer.specs.declared.types.Movement.{Movement}
@@ -9,13 +9,13 @@ use Rattle.line_buffer.specs.declared.types.At.TheVariants.{Start, AfterEnd}
 use Rattle.line_keys.specs.declared.key.KeyCode.TheVariants.{Backspace, Char}
 use Rattle.line_keys.specs.declared.key.KeyEvent.{KeyEvent}
 use Rattle.std.specs.Option.{option_or}
-use Rattle.line_keys.specs.declared.keymap.count.Counted.{Counted}
-use Rattle.line_keys.specs.Keys.{key_with, none}
+use Rattle.line_keys.specs.Keys.{key_with, none, ctrl}
 use Rattle.line_keys.specs.Phrases.{Input, Part, answered, with_key, and_then}
-use Rattle.line_keys.specs.KeyRows.{KeyRow, plain, ctrl, named, given}
+use Rattle.line_keys.specs.Tables.{Row, always, by_count, named, char, look}
 use Rattle.line_keys.specs.Refreshing.{Shown}
 use Rattle.line_keys.specs.SameKeys.{same_key}
-use Rattle.line_keys.specs.ViCounts.{second_count}
+use Rattle.line_keys.specs.Counts.{Counted, counted_key}
+use Rattle.line_keys.specs.ViCounts.{multiplied}
 use Rattle.line_keys.specs.ViSearches.{opposite_of, searching, sought}
 
 pub data Motion : Type 0 where
@@ -26,43 +26,45 @@ pub data Motion : Type 0 where
   SeeksAgain : Motion
   SeeksBack : Motion
 
-abbrev pub motion_rows : List (KeyRow Motion)
+abbrev pub motion_rows : List (Row Motion)
 motion_rows =
-    plain (codes "$") (λ n. Goes EndOfLine)
-    ∷ plain (codes "0") (λ n. Goes BeginningOfLine)
-    ∷ plain (codes "^") (λ n. Goes ViFirstPrint)
-    ∷ plain (codes "b") (λ n. Goes (BackwardWord n Vi))
-    ∷ plain (codes "B") (λ n. Goes (BackwardWord n Big))
-    ∷ plain (codes "e") (λ n. Goes (ForwardWord n AfterEnd Vi))
-    ∷ plain (codes "E") (λ n. Goes (ForwardWord n AfterEnd Big))
-    ∷ plain (codes "f") (λ n. Seeks Forward)
-    ∷ plain (codes "t") (λ n. Seeks ForwardBefore)
-    ∷ plain (codes "F") (λ n. Seeks Backward)
-    ∷ plain (codes "T") (λ n. Seeks BackwardAfter)
-    ∷ plain (codes ";") (λ n. SeeksAgain)
-    ∷ plain (codes ",") (λ n. SeeksBack)
-    ∷ plain (codes "h") (λ n. Goes (BackwardChar n))
-    ∷ ctrl (codes "H") (λ n. Goes (BackwardChar n))
-    ∷ named Backspace (λ n. Goes (BackwardChar n))
-    ∷ plain (codes "l") (λ n. Goes (ForwardChar n))
-    ∷ plain (codes " ") (λ n. Goes (ForwardChar n))
-    ∷ plain (codes "j") (λ n. Goes (LineDown n))
-    ∷ plain (codes "+") (λ n. Goes (LineDown n))
-    ∷ plain (codes "k") (λ n. Goes (LineUp n))
-    ∷ plain (codes "-") (λ n. Goes (LineUp n))
-    ∷ plain (codes "w") (λ n. Goes (ForwardWord n Start Vi))
-    ∷ plain (codes "W") (λ n. Goes (ForwardWord n Start Big))
+    char (codes "0") none (always (Goes BeginningOfLine))
+    ∷ char (codes "$") none (always (Goes EndOfLine))
+    ∷ char (codes "^") none (always (Goes ViFirstPrint))
+    ∷ char (codes "h") none (by_count (λ n. Goes (BackwardChar n)))
+    ∷ char (codes "H") ctrl (by_count (λ n. Goes (BackwardChar n)))
+    ∷ named Backspace none (by_count (λ n. Goes (BackwardChar n)))
+    ∷ char (codes "l") none (by_count (λ n. Goes (ForwardChar n)))
+    ∷ char (codes " ") none (by_count (λ n. Goes (ForwardChar n)))
+    ∷ char (codes "w") none (by_count (λ n. Goes (ForwardWord n Start Vi)))
+    ∷ char (codes "W") none (by_count (λ n. Goes (ForwardWord n Start Big)))
+    ∷ char (codes "b") none (by_count (λ n. Goes (BackwardWord n Vi)))
+    ∷ char (codes "B") none (by_count (λ n. Goes (BackwardWord n Big)))
+    ∷ char (codes "e") none (by_count (λ n. Goes (ForwardWord n AfterEnd Vi)))
+    ∷ char (codes "E") none (by_count (λ n. Goes (ForwardWord n AfterEnd Big)))
+    ∷ char (codes "f") none (always (Seeks Forward))
+    ∷ char (codes "F") none (always (Seeks Backward))
+    ∷ char (codes "t") none (always (Seeks ForwardBefore))
+    ∷ char (codes "T") none (always (Seeks BackwardAfter))
+    ∷ char (codes ";") none (always SeeksAgain)
+    ∷ char (codes ",") none (always SeeksBack)
+    ∷ char (codes "j") none (by_count (λ n. Goes (LineDown n)))
+    ∷ char (codes "+") none (by_count (λ n. Goes (LineDown n)))
+    ∷ char (codes "k") none (by_count (λ n. Goes (LineUp n)))
+    ∷ char (codes "-") none (by_count (λ n. Goes (LineUp n)))
     ∷ []
 
--- a change takes no blanks behind a word
-abbrev pub change_rows : List (KeyRow Motion)
+-- a change takes no blanks after a word
+abbrev pub change_rows : List (Row Motion)
 change_rows =
-    plain (codes "w") (λ n. Goes (ForwardWord n AfterEnd Vi))
-    ∷ plain (codes "W") (λ n. Goes (ForwardWord n AfterEnd Big))
+    char (codes "w") none (by_count (λ n. Goes (ForwardWord n AfterEnd Vi)))
+    ∷ char (codes "W") none (by_count (λ n. Goes (ForwardWord n AfterEnd Big)))
     ∷ []
 
 unfoldable pub motion_of : Bool → ℕ → KeyEvent → Option Motion
-motion_of changing n k = if changing then option_or (given n k change_rows) (given n k motion_rows) else given n k motion_rows
+motion_of changing n k =
+    if changing then option_or (look n true k change_rows) (look n true k motion_rows)
+    else look n true k motion_rows
 
 -- a key that is no motion gives none, and so does a search where none is kept
 abbrev pub motion_done : ℕ → Input → Option Motion → Part (Option Movement)
@@ -76,16 +78,19 @@ motion_done n input None = answered None
 abbrev pub change : KeyEvent
 change = key_with (Char 0x63) none
 
-abbrev pub counted_motion : KeyEvent → Counted → Input → Shown → Part (Option Movement)
-counted_motion operator f input shown =
-    motion_done f.count.amount input (motion_of (same_key operator change) f.count.amount f.key)
+abbrev pub motion_by : KeyEvent → ℕ → Input → KeyEvent → Part (Option Movement)
+motion_by operator n input k = motion_done n input (motion_of (same_key operator change) n k)
+
+-- a second count is multiplied with the operator's
+abbrev pub counted_motion : KeyEvent → ℕ → Counted → Input → Shown → Part (Option Movement)
+counted_motion operator n f input shown = motion_by operator (multiplied n f.0) input f.1
 
 -- the operator's key again is the row
-abbrev pub motion_behind : KeyEvent → ℕ → Input → Shown → KeyEvent → Part (Option Movement)
-motion_behind operator n input shown k =
+abbrev pub motion_after : KeyEvent → ℕ → Input → Shown → KeyEvent → Part (Option Movement)
+motion_after operator n input shown k =
     if same_key k operator then answered (Some WholeLine)
-    else and_then input shown (second_count input shown n k) (counted_motion operator)
+    else and_then input shown (counted_key input.mode k) (counted_motion operator n)
 
--- the motion behind an operator's key, where the operator has this count
+-- the motion after an operator's key, where the operator has this count
 abbrev pub vi_motion : KeyEvent → ℕ → Input → Shown → Part (Option Movement)
-vi_motion operator n input shown = with_key (motion_behind operator n input shown)
+vi_motion operator n input shown = with_key (motion_after operator n input shown)

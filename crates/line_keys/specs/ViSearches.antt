@@ -1,10 +1,10 @@
 -- Vi's searches for a character.
-use Rattle.std.specs.Prelude.{ℕ, List, Option, Some, None, option_map}
+use Rattle.std.specs.Prelude.{ℕ, Option, Some, None, option_map}
 use Rattle.line_buffer.specs.declared.types.CharSearch.{CharSearch}
 use Rattle.line_buffer.specs.declared.types.CharSearch.TheVariants.{Forward, ForwardBefore, Backward, BackwardAfter}
 use Rattle.line_buffer.specs.declared.types.Movement.{Movement}
 use Rattle.line_buffer.specs.declared.types.Movement.TheVariants.{ViCharSearch}
-use Rattle.line_keys.specs.Emacs.{plain_char}
+use Rattle.line_keys.specs.Common.{plain_char}
 use Rattle.line_keys.specs.Phrases.{Input, Part, answered, becoming, with_key}
 
 abbrev pub opposite : CharSearch → CharSearch
@@ -23,7 +23,9 @@ searching n s = option_map (λ x. ViCharSearch n x) s
 
 -- a search that names its character is remembered
 abbrev pub found : (ℕ → CharSearch) → ℕ → Input → Option ℕ → Part (Option Movement)
-found search n input (Some c) = becoming (record input { search = Some (search c) }) (answered (Some (ViCharSearch n (search c))))
+found search n input (Some c) =
+    becoming (record input { search = Some (search c) })
+    (answered (Some (ViCharSearch n (search c))))
 found search n input None = answered None
 
 -- the movement to a character, which is that of the next key

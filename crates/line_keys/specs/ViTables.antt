@@ -8,125 +8,147 @@ use Rattle.line_buffer.specs.declared.types.Word.TheVariants.{Big, Vi}
 use Rattle.line_buffer.specs.declared.types.At.TheVariants.{Start, BeforeEnd}
 use Rattle.line_buffer.specs.declared.types.Anchor.TheVariants.{After, Before}
 use Rattle.line_keys.specs.declared.command.Cmd.{Cmd}
-use Rattle.line_keys.specs.declared.command.Cmd.TheVariants.{Abort, ClearScreen, Complete, CompleteBackward, CompleteHint, Dedent, ForwardSearchHistory, Indent, Kill, LineDownOrNextHistory, LineUpOrPreviousHistory, Move, NextHistory, Noop, PreviousHistory, Replace, ReverseSearchHistory, Undo, ViYankTo, Yank}
+use Rattle.line_keys.specs.declared.command.Cmd.TheVariants.{Abort, ClearScreen, Complete, CompleteBackward, CompleteHint, Dedent, ForwardSearchHistory, Indent, Kill, LineDownOrNextHistory, LineUpOrPreviousHistory, Move, NextHistory, Noop, PreviousHistory, Replace, ReplaceChar, ReverseSearchHistory, Undo, ViYankTo, Yank}
 use Rattle.line_keys.specs.declared.command.InputMode.{InputMode}
 use Rattle.line_keys.specs.declared.command.InputMode.TheVariants.{Insert, Replace as Overwriting}
 use Rattle.line_keys.specs.declared.key.KeyCode.TheVariants.{BackTab, Backspace, End, Esc, Right, Tab}
-use Rattle.line_keys.specs.Emacs.{at_hint}
-use Rattle.line_keys.specs.Tables.{Row, always, ctrl as ctrl_row, named as named_row, only}
 use Rattle.line_keys.specs.declared.key.KeyEvent.{KeyEvent}
-use Rattle.line_keys.specs.KeyRows.{KeyRow, plain, ctrl, named, given}
+use Rattle.line_keys.specs.Common.{at_hint}
+use Rattle.line_keys.specs.Keys.{none, ctrl, alt}
+use Rattle.line_keys.specs.Refreshing.{Shown}
+use Rattle.line_keys.specs.Tables.{Deed, Gives, Does, Row, always, by_count}
+use Rattle.line_keys.specs.Tables.{named, char, each_char, only, look}
 
 -- ---- insert mode
 
-abbrev pub vi_insert_rows : List Row
-vi_insert_rows =
-    ctrl_row (codes "H") (always (Kill (BackwardChar 1)))
-    ∷ named_row Backspace (always (Kill (BackwardChar 1)))
-    ∷ named_row BackTab (always CompleteBackward)
-    ∷ ctrl_row (codes "I") (always Complete)
-    ∷ named_row Tab (always Complete)
-    ∷ only at_hint (named_row Right (always CompleteHint))
+pub data InsertDeed : Type 0 where
+  -- types a character, in replace mode over the one at the cursor
+  Types : (char : ℕ) → InsertDeed
+  -- turns to command mode, which the display is told, and gives a command
+  Leaves : (command : Cmd) → InsertDeed
+  -- turns to command mode likewise, and this character's key is read there
+  Commands : (char : ℕ) → InsertDeed
+
+abbrev pub vi_insert_rows : Shown → List (Row (Deed InsertDeed))
+vi_insert_rows shown =
+    each_char none (λ c. always (Does (Types c)))
+    ∷ char (codes "H") ctrl (always (Gives (Kill (BackwardChar 1))))
+    ∷ named Backspace none (always (Gives (Kill (BackwardChar 1))))
+    ∷ named Tab none (always (Gives Complete))
+    ∷ char (codes "I") ctrl (always (Gives Complete))
+    ∷ named BackTab none (always (Gives CompleteBackward))
+    ∷ only (at_hint shown) (named Right none (always (Gives CompleteHint)))
+    ∷ named Esc none (always (Does (Leaves (Move (BackwardChar 1)))))
+    ∷ each_char alt (λ c. always (Does (Commands c)))
     ∷ []
+
+-- what a key of insert and replace mode does, if a row has it
+unfoldable pub insert_deed : Shown → KeyEvent → Option (Deed InsertDeed)
+insert_deed shown k = look 1 true k (vi_insert_rows shown)
 
 -- ---- command mode
 
--- what a key does
-pub data Deed : Type 0 where
-  Gives : (command : Cmd) → Deed
+pub data CommandDeed : Type 0 where
   -- turns to insert mode, which the display is told, and gives a command
-  Inserts : (command : Cmd) → Deed
+  Inserts : (command : Cmd) → CommandDeed
   -- turns to a mode and gives a command, which itself begins what is undone as one
-  Turns : (mode : InputMode) → (command : Cmd) → Deed
-  -- makes this of the motion behind it; a change turns to insert mode before its motion is read
-  Operates : (changes : Bool) → (operator : Movement → Cmd) → Deed
+  Turns : (mode : InputMode) → (command : Cmd) → CommandDeed
+  -- makes this of the motion after it; a change turns to insert mode before its motion is read
+  Operates : (changes : Bool) → (operator : Movement → Cmd) → CommandDeed
   -- moves to the character that is typed next
-  Searches : (search : ℕ → CharSearch) → Deed
+  Searches : (search : ℕ → CharSearch) → CommandDeed
   -- moves by the search that is kept, or the other way
-  SearchesAgain : Deed
-  SearchesBack : Deed
+  SearchesAgain : CommandDeed
+  SearchesBack : CommandDeed
   -- makes the last change once more
-  Repeats : Deed
+  Repeats : CommandDeed
   -- puts the character that is typed next in the place of those under the cursor
-  Replaces : Deed
+  Replaces : CommandDeed
 
 -- motions, and rows of history where no row of the line is left
-abbrev pub vi_move_rows : List (KeyRow Deed)
+abbrev pub vi_move_rows : List (Row (Deed CommandDeed))
 vi_move_rows =
-    plain (codes "$") (λ n. Gives (Move EndOfLine))
-    ∷ named End (λ n. Gives (Move EndOfLine))
-    ∷ plain (codes "0") (λ n. Gives (Move BeginningOfLine))
-    ∷ plain (codes "^") (λ n. Gives (Move ViFirstPrint))
-    ∷ plain (codes "b") (λ n. Gives (Move (BackwardWord n Vi)))
-    ∷ plain (codes "B") (λ n. Gives (Move (BackwardWord n Big)))
-    ∷ plain (codes "e") (λ n. Gives (Move (ForwardWord n BeforeEnd Vi)))
-    ∷ plain (codes "E") (λ n. Gives (Move (ForwardWord n BeforeEnd Big)))
-    ∷ plain (codes "w") (λ n. Gives (Move (ForwardWord n Start Vi)))
-    ∷ plain (codes "W") (λ n. Gives (Move (ForwardWord n Start Big)))
-    ∷ plain (codes "h") (λ n. Gives (Move (BackwardChar n)))
-    ∷ ctrl (codes "H") (λ n. Gives (Move (BackwardChar n)))
-    ∷ named Backspace (λ n. Gives (Move (BackwardChar n)))
-    ∷ plain (codes "l") (λ n. Gives (Move (ForwardChar n)))
-    ∷ plain (codes " ") (λ n. Gives (Move (ForwardChar n)))
-    ∷ plain (codes "+") (λ n. Gives (LineDownOrNextHistory n))
-    ∷ plain (codes "j") (λ n. Gives (LineDownOrNextHistory n))
-    ∷ plain (codes "-") (λ n. Gives (LineUpOrPreviousHistory n))
-    ∷ plain (codes "k") (λ n. Gives (LineUpOrPreviousHistory n))
+    char (codes "h") none (by_count (λ n. Gives (Move (BackwardChar n))))
+    ∷ char (codes "H") ctrl (by_count (λ n. Gives (Move (BackwardChar n))))
+    ∷ named Backspace none (by_count (λ n. Gives (Move (BackwardChar n))))
+    ∷ char (codes "l") none (by_count (λ n. Gives (Move (ForwardChar n))))
+    ∷ char (codes " ") none (by_count (λ n. Gives (Move (ForwardChar n))))
+    ∷ char (codes "w") none (by_count (λ n. Gives (Move (ForwardWord n Start Vi))))
+    ∷ char (codes "W") none (by_count (λ n. Gives (Move (ForwardWord n Start Big))))
+    ∷ char (codes "b") none (by_count (λ n. Gives (Move (BackwardWord n Vi))))
+    ∷ char (codes "B") none (by_count (λ n. Gives (Move (BackwardWord n Big))))
+    ∷ char (codes "e") none (by_count (λ n. Gives (Move (ForwardWord n BeforeEnd Vi))))
+    ∷ char (codes "E") none (by_count (λ n. Gives (Move (ForwardWord n BeforeEnd Big))))
+    ∷ char (codes "0") none (always (Gives (Move BeginningOfLine)))
+    ∷ char (codes "$") none (always (Gives (Move EndOfLine)))
+    ∷ named End none (always (Gives (Move EndOfLine)))
+    ∷ char (codes "^") none (always (Gives (Move ViFirstPrint)))
+    ∷ char (codes "j") none (by_count (λ n. Gives (LineDownOrNextHistory n)))
+    ∷ char (codes "+") none (by_count (λ n. Gives (LineDownOrNextHistory n)))
+    ∷ char (codes "k") none (by_count (λ n. Gives (LineUpOrPreviousHistory n)))
+    ∷ char (codes "-") none (by_count (λ n. Gives (LineUpOrPreviousHistory n)))
     ∷ []
 
 -- edits that wait for no motion, and the rest
-abbrev pub vi_edit_rows : List (KeyRow Deed)
+abbrev pub vi_edit_rows : List (Row (Deed CommandDeed))
 vi_edit_rows =
-    plain (codes "D") (λ n. Gives (Kill EndOfLine))
-    ∷ ctrl (codes "K") (λ n. Gives (Kill EndOfLine))
-    ∷ plain (codes "p") (λ n. Gives (Yank n After))
-    ∷ plain (codes "P") (λ n. Gives (Yank n Before))
-    ∷ plain (codes "u") (λ n. Gives (Undo n))
-    ∷ plain (codes "x") (λ n. Gives (Kill (ForwardChar n)))
-    ∷ plain (codes "X") (λ n. Gives (Kill (BackwardChar n)))
-    ∷ ctrl (codes "G") (λ n. Gives Abort)
-    ∷ ctrl (codes "L") (λ n. Gives ClearScreen)
-    ∷ named Esc (λ n. Gives Noop)
-    ∷ ctrl (codes "N") (λ n. Gives NextHistory)
-    ∷ ctrl (codes "P") (λ n. Gives PreviousHistory)
+    char (codes "x") none (by_count (λ n. Gives (Kill (ForwardChar n))))
+    ∷ char (codes "X") none (by_count (λ n. Gives (Kill (BackwardChar n))))
+    ∷ char (codes "D") none (always (Gives (Kill EndOfLine)))
+    ∷ char (codes "K") ctrl (always (Gives (Kill EndOfLine)))
+    ∷ char (codes "p") none (by_count (λ n. Gives (Yank n After)))
+    ∷ char (codes "P") none (by_count (λ n. Gives (Yank n Before)))
+    ∷ char (codes "u") none (by_count (λ n. Gives (Undo n)))
+    ∷ char (codes "N") ctrl (always (Gives NextHistory))
+    ∷ char (codes "P") ctrl (always (Gives PreviousHistory))
+    ∷ char (codes "L") ctrl (always (Gives ClearScreen))
+    ∷ char (codes "G") ctrl (always (Gives Abort))
+    ∷ named Esc none (always (Gives Noop))
     ∷ []
 
 -- keys that leave command mode
-abbrev pub vi_turn_rows : List (KeyRow Deed)
+abbrev pub vi_turn_rows : List (Row (Deed CommandDeed))
 vi_turn_rows =
-    plain (codes "a") (λ n. Inserts (Move (ForwardChar n)))
-    ∷ plain (codes "A") (λ n. Inserts (Move EndOfLine))
-    ∷ plain (codes "i") (λ n. Inserts Noop)
-    ∷ plain (codes "I") (λ n. Inserts (Move BeginningOfLine))
-    ∷ plain (codes "C") (λ n. Turns Insert (Replace EndOfLine None))
-    ∷ plain (codes "s") (λ n. Turns Insert (Replace (ForwardChar n) None))
-    ∷ plain (codes "S") (λ n. Turns Insert (Replace WholeLine None))
-    ∷ plain (codes "R") (λ n. Turns Overwriting (Replace (ForwardChar 0) None))
-    ∷ ctrl (codes "R") (λ n. Turns Insert ReverseSearchHistory)
-    ∷ ctrl (codes "S") (λ n. Turns Insert ForwardSearchHistory)
+    char (codes "i") none (always (Does (Inserts Noop)))
+    ∷ char (codes "I") none (always (Does (Inserts (Move BeginningOfLine))))
+    ∷ char (codes "a") none (by_count (λ n. Does (Inserts (Move (ForwardChar n)))))
+    ∷ char (codes "A") none (always (Does (Inserts (Move EndOfLine))))
+    ∷ char (codes "C") none (always (Does (Turns Insert (Replace EndOfLine None))))
+    ∷ char (codes "S") none (always (Does (Turns Insert (Replace WholeLine None))))
+    ∷ char (codes "s") none (by_count (λ n. Does (Turns Insert (Replace (ForwardChar n) None))))
+    ∷ char (codes "R") none (always (Does (Turns Overwriting (Replace (ForwardChar 0) None))))
+    ∷ char (codes "R") ctrl (always (Does (Turns Insert ReverseSearchHistory)))
+    ∷ char (codes "S") ctrl (always (Does (Turns Insert ForwardSearchHistory)))
     ∷ []
 
 -- keys that read on, or go by what is kept
-abbrev pub vi_reading_rows : List (KeyRow Deed)
+abbrev pub vi_reading_rows : List (Row (Deed CommandDeed))
 vi_reading_rows =
-    plain (codes "c") (λ n. Operates true (λ m. Replace m None))
-    ∷ plain (codes "d") (λ n. Operates false Kill)
-    ∷ plain (codes "y") (λ n. Operates false ViYankTo)
-    ∷ plain (codes "<") (λ n. Operates false Dedent)
-    ∷ plain (codes ">") (λ n. Operates false Indent)
-    ∷ plain (codes "f") (λ n. Searches Forward)
-    ∷ plain (codes "t") (λ n. Searches ForwardBefore)
-    ∷ plain (codes "F") (λ n. Searches Backward)
-    ∷ plain (codes "T") (λ n. Searches BackwardAfter)
-    ∷ plain (codes ";") (λ n. SearchesAgain)
-    ∷ plain (codes ",") (λ n. SearchesBack)
-    ∷ plain (codes ".") (λ n. Repeats)
-    ∷ plain (codes "r") (λ n. Replaces)
+    char (codes "f") none (always (Does (Searches Forward)))
+    ∷ char (codes "F") none (always (Does (Searches Backward)))
+    ∷ char (codes "t") none (always (Does (Searches ForwardBefore)))
+    ∷ char (codes "T") none (always (Does (Searches BackwardAfter)))
+    ∷ char (codes ";") none (always (Does SearchesAgain))
+    ∷ char (codes ",") none (always (Does SearchesBack))
+    ∷ char (codes "r") none (always (Does Replaces))
+    ∷ char (codes ".") none (always (Does Repeats))
+    ∷ char (codes "d") none (always (Does (Operates false Kill)))
+    ∷ char (codes "y") none (always (Does (Operates false ViYankTo)))
+    ∷ char (codes "<") none (always (Does (Operates false Dedent)))
+    ∷ char (codes ">") none (always (Does (Operates false Indent)))
+    ∷ char (codes "c") none (always (Does (Operates true (λ m. Replace m None))))
     ∷ []
 
-abbrev pub vi_command_rows : List (KeyRow Deed)
+abbrev pub vi_command_rows : List (Row (Deed CommandDeed))
 vi_command_rows = vi_move_rows ++ (vi_edit_rows ++ (vi_turn_rows ++ vi_reading_rows))
 
 -- what a key of command mode does, if a row has it
-unfoldable pub deed_of : ℕ → KeyEvent → Option Deed
-deed_of n k = given n k vi_command_rows
+unfoldable pub deed_of : ℕ → KeyEvent → Option (Deed CommandDeed)
+deed_of n k = look n true k vi_command_rows
+
+-- the key after `r`
+abbrev pub replacing_rows : List (Row Cmd)
+replacing_rows =
+    each_char none (λ c. by_count (λ n. ReplaceChar n c))
+    ∷ named Esc none (always Noop)
+    ∷ []

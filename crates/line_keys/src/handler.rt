@@ -52,7 +52,7 @@ impl<'r> EventContext<'r> {
         self.input_mode
     }
 
-    /// Whether a hint stands behind the line.
+    /// Whether a hint stands after the line.
     pub fn has_hint(&self) -> bool
         ensures { result ≡ self.now.has_hint }
     {

@@ -37,7 +37,7 @@ impl<'b, D: Decides> InputState<'b, D> {
     ghost use Rattle.line_keys.specs.declared.command.Cmd.TheVariants.{Noop};
     ghost use Rattle.line_keys.specs.declared.command.InputMode.TheVariants.{Command, Insert};
     ghost use Rattle.line_keys.specs.InputStates.{input_of, custom_in, new_input};
-    ghost use Rattle.line_keys.specs.Phrase.{phrase, begun};
+    ghost use Rattle.line_keys.specs.Phrase.{phrase, phrase_from};
     ghost use Rattle.line_keys.specs.Modes.{is_emacs, is_vi_command};
 
     /// A state in the mode of the configuration, which remembers nothing.
@@ -110,7 +110,7 @@ impl<'b, D: Decides> InputState<'b, D> {
             let input = input_of self.old in
             let coming = (R.feed rdr.old).coming in
             let shown = W.display.shown wrt.old in
-            Follows W.display custom (begun input.mode custom input shown key coming)
+            Follows W.display custom (phrase_from input.mode custom input shown key coming)
             wrt.old input wrt.new (input_of self.new) (R.feed rdr.old) (R.feed rdr.new) result }
         ensures bindings { self.new.custom_bindings ≡ self.old.custom_bindings }
     {

@@ -2,7 +2,7 @@
 
 ghost use Rattle.std.specs.Prelude.{◌≡◌, Option};
 ghost use Rattle.line_keys.specs.Coming.{key_at, press_at, paste_at};
-ghost use Rattle.line_keys.specs.Feeds.{Feed, Key, Paste, ReadsBy, SomeRead};
+ghost use Rattle.line_keys.specs.Feeds.{KeyFeed, Key, Paste, ReadsBy, SomeRead};
 ghost use Rattle.line_keys.specs.Signals.{signal_of};
 
 use crate::command::Cmd;
@@ -29,7 +29,7 @@ pub trait RawReader {
     /// What `unbuffer` gives back.
     type Buffer;
 
-    ghost feed: { Self → Feed };
+    ghost feed: { Self → KeyFeed };
 
     ghost kept: { Self → Option Self.Buffer };
 

@@ -8,8 +8,8 @@ use Rattle.line_record.specs.Edit.{Edit}
 use Rattle.line_record.specs.Held.{Held, Undone, text_of, stepped, stepped_on, stepped_if, recorded_in, change_of, joined_to, ended, closes, has_mark, grouped, text_back, ahead_back, held_ahead}
 use Rattle.line_record.specs.Held.Held.{Opened, Stepped}
 use Rattle.line_record.specs.Items.{ahead_after}
-use Rattle.line_record.specs.Course.{Call, Course, begun_with, after_call, after_calls, text_ahead, IsAmong}
-use Rattle.line_record.specs.Course.Call.{Told, Begun, Ended, TakenBack, MadeAnew}
+use Rattle.line_record.specs.Course.{RecordCall, Course, begun_with, after_call, after_calls, text_ahead, IsAmong}
+use Rattle.line_record.specs.Course.RecordCall.{Told, Begun, Ended, TakenBack, MadeAnew}
 use Rattle.line_record.specs.Laws.{UndoLeavesAnEarlierText}
 
 HeldSeen : List Held → List (List ℕ) → Type 0
@@ -111,7 +111,7 @@ unfolding AheadSeen
 rest_seen [] seen a = tt
 rest_seen (u ∷ ahead) seen a = a.2
 
-call_seen : (call : Call) (c : Course) → Seen c → Seen (after_call call c)
+call_seen : (call : RecordCall) (c : Course) → Seen c → Seen (after_call call c)
 unfolding HeldSeen AheadSeen
 call_seen (Told e) c s = record {
   text = inl refl;
@@ -135,7 +135,7 @@ call_seen MadeAnew c s =
       ahead = ahead_more (drop 1 c.ahead) c.seen t (rest_seen c.ahead c.seen s.ahead);
     }
 
-calls_seen : (calls : List Call) (c : Course) → Seen c → Seen (after_calls calls c)
+calls_seen : (calls : List RecordCall) (c : Course) → Seen c → Seen (after_calls calls c)
 unfolding after_calls
 calls_seen [] c s = s
 calls_seen (call ∷ calls) c s = calls_seen calls (after_call call c) (call_seen call c s)

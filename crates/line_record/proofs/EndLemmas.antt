@@ -157,7 +157,7 @@ item_from_closed : (c : Edit) (cs : List Edit) → item_from true (c ∷ cs) ≡
 item_from_closed c [] = refl
 item_from_closed c (d ∷ cs) = refl
 
--- the group behind what was there
+-- the group after what was there
 pub group_pushed : (cs : List Edit) (older : List Item) → is_some (slice_get cs 0) ≡ true → item_from true cs ∷ older ≡ group_of cs older
 group_pushed [] older h = cc
 group_pushed (c ∷ cs) older h = ap (λ x. x ∷ older) (item_from_closed c cs)

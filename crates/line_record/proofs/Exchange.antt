@@ -1,4 +1,4 @@
--- One text at a place exchanged for another: it can be exchanged back, and one exchange right behind another is one.
+-- One text at a place exchanged for another: it can be exchanged back, and one exchange right after another is one.
 use Rattle.std.proofs.Common.{◌≡◌, ℕ, ◌+◌, ◌-◌, List, [], ◌++◌, length, take, drop, refl, sym, ap, subst, ◌∙◌, append_assoc, arith, length-append}
 use Rattle.std.specs.Prelude.{IsUtf8, IsCharBoundary}
 use Rattle.std.proofs.Math.Seq.{take-append_seam, drop-append_seam, drop-append-add}
@@ -65,7 +65,7 @@ exchanged at from to text s u =
       utf8 = subst IsUtf8 (sym now) (IsUtf8-append p.front (to ++ p.rest) p.front_utf8 (IsUtf8-append to p.rest s.utf8 p.rest_utf8));
     }
 
--- an exchange of `other` for `more` right behind `now`, which stands where `was` stood: both are one exchange
+-- an exchange of `other` for `more` right after `now`, which stands where `was` stood: both are one exchange
 pub record Joined (at : ℕ) (was now longer_was longer_now before after : List ℕ) (place : ℕ) : Type 0 where
   pub stand : StandsAt place longer_now longer_was after
   pub back : exchanged_at place longer_now longer_was after ≡ exchanged_at at now was before

@@ -10,8 +10,8 @@ use Rattle.line_buffer.specs.Replayed.{replayed}
 use Rattle.line_record.specs.Edit.{Edit}
 use Rattle.line_record.specs.Held.{Held, change_of, joined_to, step_of, stepped, stepped_on, stepped_if, recorded_in, has_mark, closes, ended, text_back}
 use Rattle.line_record.specs.Held.Held.{Opened, Stepped}
-use Rattle.line_record.specs.Course.{Call, Course, after_call, after_calls}
-use Rattle.line_record.specs.Course.Call.{Told, Begun, Ended, TakenBack, MadeAnew}
+use Rattle.line_record.specs.Course.{RecordCall, Course, after_call, after_calls}
+use Rattle.line_record.specs.Course.RecordCall.{Told, Begun, Ended, TakenBack, MadeAnew}
 use Rattle.line_record.specs.Laws.{stays_open, AllStayOpen, UndoTakesTheGroupBack}
 use Rattle.line_record.proofs.RecordLaws.{no_mark}
 
@@ -77,7 +77,7 @@ told_inside : (e : Event) (o : Option Edit) (begun_on text : List ℕ) (newer ol
 told_inside e (Some c) begun_on text newer older is h = stepped_inside e c begun_on text (replayed e text) newer older h
 told_inside e None begun_on text newer older is h = record { newer = newer; are = refl; begun = ap (text_begun newer) (unchanged e text is) ∙ h }
 
-call_inside : (call : Call) (c : Course) (begun_on : List ℕ) (older : List Held) → stays_open call ≡ true → Inside begun_on older c.held c.text
+call_inside : (call : RecordCall) (c : Course) (begun_on : List ℕ) (older : List Held) → stays_open call ≡ true → Inside begun_on older c.held c.text
     → Inside begun_on older (after_call call c).held (after_call call c).text
 unfolding text_begun
 call_inside (Told e) c begun_on older s i =
@@ -87,7 +87,7 @@ call_inside Ended c begun_on older s i = cc
 call_inside (TakenBack n) c begun_on older s i = cc
 call_inside MadeAnew c begun_on older s i = cc
 
-calls_inside : (calls : List Call) (c : Course) (begun_on : List ℕ) (older : List Held) → AllStayOpen calls → Inside begun_on older c.held c.text
+calls_inside : (calls : List RecordCall) (c : Course) (begun_on : List ℕ) (older : List Held) → AllStayOpen calls → Inside begun_on older c.held c.text
     → Inside begun_on older (after_calls calls c).held (after_calls calls c).text
 unfolding after_calls
 calls_inside [] c begun_on older s i = i

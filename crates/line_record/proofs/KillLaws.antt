@@ -151,7 +151,7 @@ killed_more r text more mode k =
     } in
     subst (λ q. Killed (record q { killing = false }) (joined_text mode more text)) (sym e) made
 
--- the next slot is one of those there, or the one behind them
+-- the next slot is one of those there, or the one after them
 next_inside : (count size place : ℕ) (last : Action) → IsRing count size place last → slot_after count size place ≤ count
 next_inside count size place last r = by_tests (count == 0) (place + 1 == size) refl
   where

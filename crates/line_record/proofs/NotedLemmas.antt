@@ -17,7 +17,7 @@ use Rattle.line_record.specs.declared.report.Report.{Report}
 use Rattle.line_record.specs.declared.report.Report.TheVariants as told
 use Rattle.line_record.proofs.Exchange.{exchanged, Joined, joined_right, joined_left}
 
--- the text before it was changed stands behind the change
+-- the text before it was changed stands after the change
 pub record Follows (c : Edit) (before after : List ℕ) : Type 0 where
   pub stand : StandsIn c after
   pub back : taken_back c after ≡ before

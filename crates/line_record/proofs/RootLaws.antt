@@ -8,8 +8,8 @@ use Rattle.line_record.specs.Edit.{Edit}
 use Rattle.line_record.specs.Held.{Held, Undone, text_of, change_of, joined_to, stepped, stepped_on, stepped_if, has_mark, closes, grouped, ended, text_back, ahead_back, held_ahead}
 use Rattle.line_record.specs.Held.Held.{Opened, Stepped}
 use Rattle.line_record.specs.Items.{ahead_after}
-use Rattle.line_record.specs.Course.{Call, Course, begun_with, after_call, after_calls, text_ahead}
-use Rattle.line_record.specs.Course.Call.{Told, Begun, Ended, TakenBack, MadeAnew}
+use Rattle.line_record.specs.Course.{RecordCall, Course, begun_with, after_call, after_calls, text_ahead}
+use Rattle.line_record.specs.Course.RecordCall.{Told, Begun, Ended, TakenBack, MadeAnew}
 use Rattle.line_record.specs.Laws.{UndoOfAllGivesTheFirstText}
 use Rattle.line_record.proofs.GroupLaws.{unchanged}
 
@@ -122,7 +122,7 @@ back_rooted (suc n) first [] ahead text r = r
 back_rooted (suc n) first (h ∷ held) ahead text r =
     back_rooted n first held (record { held = h; text = text } ∷ ahead) (text_of h) (record { begun = r.begun; marks = r.marks.1; fits = (refl, r.marks.0, r.fits) })
 
-call_rooted : (call : Call) (first : List ℕ) (c : Course) → Rooted first c.held c.ahead c.text
+call_rooted : (call : RecordCall) (first : List ℕ) (c : Course) → Rooted first c.held c.ahead c.text
     → Rooted first (after_call call c).held (after_call call c).ahead (after_call call c).text
 unfolding MarkSits MarksSit AheadFits
 call_rooted (Told e) first c r =
@@ -144,7 +144,7 @@ call_rooted MadeAnew first c r = anew c.ahead r.fits
       fits = k.2;
     }
 
-calls_rooted : (calls : List Call) (first : List ℕ) (c : Course) → Rooted first c.held c.ahead c.text
+calls_rooted : (calls : List RecordCall) (first : List ℕ) (c : Course) → Rooted first c.held c.ahead c.text
     → Rooted first (after_calls calls c).held (after_calls calls c).ahead (after_calls calls c).text
 unfolding after_calls
 calls_rooted [] first c r = r

@@ -6,12 +6,12 @@ use Rattle.line_record.specs.Held.{Held, Undone, recorded_in, ended, text_back, 
 use Rattle.line_record.specs.Held.Held.{Opened}
 use Rattle.line_record.specs.Items.{ahead_after}
 
-pub data Call : Type 0 where
-  Told : (event : Event) → Call
-  Begun : Call
-  Ended : Call
-  TakenBack : (count : ℕ) → Call
-  MadeAnew : Call
+pub data RecordCall : Type 0 where
+  Told : (event : Event) → RecordCall
+  Begun : RecordCall
+  Ended : RecordCall
+  TakenBack : (count : ℕ) → RecordCall
+  MadeAnew : RecordCall
 
 pub record Course : Type 0 where
   pub text : List ℕ
@@ -27,7 +27,7 @@ abbrev pub text_ahead : List Undone → List ℕ → List ℕ
 text_ahead [] text = text
 text_ahead (u ∷ ahead) text = u.text
 
-abbrev pub after_call : Call → Course → Course
+abbrev pub after_call : RecordCall → Course → Course
 after_call (Told e) c =
     record {
       text = replayed e c.text;
@@ -53,7 +53,7 @@ after_call MadeAnew c =
       seen = text_ahead c.ahead c.text ∷ c.seen;
     }
 
-unfoldable pub after_calls : List Call → Course → Course
+unfoldable pub after_calls : List RecordCall → Course → Course
 after_calls [] c = c
 after_calls (call ∷ calls) c = after_calls calls (after_call call c)
 

@@ -34,11 +34,11 @@ taken_back c text = exchanged_at (place_of c) (added_of c) (removed_of c) text
 abbrev pub made_anew : Edit → List ℕ → List ℕ
 made_anew c text = exchanged_at (place_of c) (removed_of c) (added_of c) text
 
--- the cursor behind the text that was put back, or at the place of an insertion
+-- the cursor after the text that was put back, or at the place of an insertion
 abbrev pub undo_place : Edit → ℕ
 undo_place c = place_of c + length (removed_of c)
 
--- the cursor behind the text that was put in anew, or at the place of a deletion
+-- the cursor after the text that was put in anew, or at the place of a deletion
 abbrev pub redo_place : Edit → ℕ
 redo_place c = place_of c + length (added_of c)
 

@@ -9,8 +9,8 @@ use Rattle.line_buffer.specs.Words.{is_alphanumeric_cluster}
 use Rattle.line_record.specs.Edit.{Edit, undo_place, redo_place}
 use Rattle.line_record.specs.Edit.Edit.{Inserted, Deleted, Replaced}
 
--- an open mark keeps the text that it was set at; a step keeps the text before it, the place that undoing it gives, its
--- newest change, and whether a change may join that one
+-- an open mark keeps the text that it was set at; a step keeps the text before it, the place that
+-- undoing it gives, its newest change, and whether a change may join that one
 pub data Held : Type 0 where
   Opened : (text : List ℕ) → Held
   Stepped : (text : List ℕ) (place : ℕ) (newest : Edit) (joinable : Bool) → Held
@@ -33,7 +33,7 @@ change_of (InsertStr at text) = if length text == 0 then None else Some (Inserte
 change_of (Replace at before after) =
     if (length before == 0) && (length after == 0) then None else Some (Replaced at before after)
 
--- an alphanumeric character typed right behind an insertion
+-- an alphanumeric character typed right after an insertion
 abbrev pub joined_char : ℕ → ℕ → Edit → Option Edit
 joined_char at c (Inserted place text) =
     if is_alphanumeric c && (at == place + length text)
@@ -41,7 +41,7 @@ joined_char at c (Inserted place text) =
 joined_char at c (Deleted place text) = None
 joined_char at c (Replaced place before after) = None
 
--- an alphanumeric cluster deleted right behind a deletion, or right before it
+-- an alphanumeric cluster deleted right after a deletion, or right before it
 abbrev pub joined_deletion : ℕ → List ℕ → Edit → Option Edit
 joined_deletion at text (Deleted place deleted) =
     if not (is_one_alphanumeric text) then None
@@ -51,7 +51,7 @@ joined_deletion at text (Deleted place deleted) =
 joined_deletion at text (Inserted place inserted) = None
 joined_deletion at text (Replaced place before after) = None
 
--- a replacement right behind another
+-- a replacement right after another
 abbrev pub joined_replacement : ℕ → List ℕ → List ℕ → Edit → Option Edit
 joined_replacement at before after (Replaced place was is) =
     if at == place + length is then Some (Replaced place (was ++ before) (is ++ after)) else None
@@ -110,7 +110,8 @@ grouped c [] = []
 grouped c (Opened text ∷ held) = Opened text ∷ held
 grouped c (Stepped text place newest joinable ∷ held) = Stepped text place c false ∷ held
 
--- the marks are closed: they go, and the steps newer than the oldest of them become one, which nothing joins
+-- the marks are closed: they go, and the steps newer than the oldest of them become one, which
+-- nothing joins
 abbrev pub ended : List Held → List Held
 ended [] = []
 ended (Opened text ∷ held) = ended held
@@ -161,7 +162,7 @@ ahead_back (suc n) [] text ahead = ahead
 ahead_back (suc n) (h ∷ held) text ahead =
     ahead_back n held (text_of h) (record { held = h; text = text } ∷ ahead)
 
--- making an item anew: a step's cursor goes behind its newest change, a mark leaves it
+-- making an item anew: a step's cursor goes after its newest change, a mark leaves it
 abbrev pub remade_line : Undone → Line → Line
 remade_line u l =
     elim u.held [

@@ -1,4 +1,5 @@
--- The record's value: the changes done and undone, each side nearest first, and the texts that they hold on a line's text.
+-- The record's value: the changes done and undone, each side nearest first, and the texts that they
+-- hold on a line's text.
 use Rattle.std.specs.Prelude.{◌≡◌, ℕ, ◌||◌, Bool, true, false, List, [], ◌∷◌, ◌++◌, zero, suc, take, drop, length, ◌-◌, Option, Some, None, IsUtf8}
 use Rattle.line_buffer.specs.Event.{Event}
 use Rattle.line_buffer.specs.Event.Event.{StartKilling, StopKilling, Delete, InsertChar, InsertStr, Replace}
@@ -8,7 +9,8 @@ use Rattle.line_record.specs.Edit.{Edit, undo_place, redo_place, taken_back, mad
 use Rattle.line_record.specs.Held.{Held, Undone, step_of, change_of, joined_to, recorded_in, ended, closes}
 use Rattle.line_record.specs.Held.Held.{Opened, Stepped}
 
--- an open mark, a change that others may join, or a closed group with its oldest change and the newer ones in order
+-- an open mark, a change that others may join, or a closed group with its oldest change and the
+-- newer ones in order
 pub data Item : Type 0 where
   Open : Item
   Lone : (change : Edit) → Item
@@ -105,7 +107,7 @@ abbrev pub gathered : List Item → List Edit
 gathered [] = []
 gathered (x ∷ items) = changes_of x ++ gathered items
 
--- changes as a closed group behind older items
+-- changes as a closed group after older items
 abbrev pub group_of : List Edit → List Item → List Item
 group_of [] older = older
 group_of (c ∷ cs) older = Group c cs ∷ older
@@ -165,7 +167,7 @@ many_change zero items = false
 many_change (suc n) [] = false
 many_change (suc n) (x ∷ items) = is_step_item x || many_change n items
 
--- a change noted behind the items done
+-- a change noted after the items done
 abbrev pub noted_on : Option Edit → Edit → Edit → List Item → List Item
 noted_on (Some joined) c d items = Lone joined ∷ items
 noted_on None c d items = Lone c ∷ (Lone d ∷ items)
@@ -201,7 +203,8 @@ ahead_after (InsertChar at c) ahead = []
 ahead_after (InsertStr at text) ahead = []
 ahead_after (Replace at before after) ahead = []
 
--- what an event makes of the record: wherever its changes stand, they stand after it, and the record of texts follows
+-- what an event makes of the record: wherever its changes stand, they stand after it, and the
+-- record of texts follows
 pub record Recorded (e : Event) (before after : List ℕ) (s t : Items) : Type 0 where
   pub stand : ItemsStand t after
   pub held : held_on t after ≡ recorded_in e before (held_on s before)

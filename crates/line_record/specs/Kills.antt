@@ -1,4 +1,5 @@
--- The kills that a ring was told of: runs of kills in a list, the newest first, which knows of no slots.
+-- The kills that a ring was told of: runs of kills in a list, the newest first, which knows of no
+-- slots.
 use Rattle.std.specs.Prelude.{ℕ, suc, Bool, true, false, List, [], ◌∷◌, ◌++◌, take, drop, reverse, if◌then◌else◌}
 use Rattle.line_buffer.specs.Event.{Event}
 use Rattle.line_buffer.specs.Event.Event.{StartKilling, StopKilling, Delete, InsertChar, InsertStr, Replace}

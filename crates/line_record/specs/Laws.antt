@@ -9,22 +9,23 @@ use Rattle.line_record.specs.declared.kill_ring.Action.TheVariants.{Kill}
 use Rattle.line_record.specs.Held.{Held, Undone, text_back, ended, closes, has_mark, line_back, line_ahead, ahead_back, held_ahead}
 use Rattle.line_record.specs.Held.Held.{Opened}
 use Rattle.line_record.specs.Items.{Item, Items, ItemsStand, held_on, after_item}
-use Rattle.line_record.specs.Course.{Call, Course, begun_with, after_call, after_calls, IsAmong}
-use Rattle.line_record.specs.Course.Call.{Told, Begun, Ended, TakenBack, MadeAnew}
+use Rattle.line_record.specs.Course.{RecordCall, Course, begun_with, after_call, after_calls, IsAmong}
+use Rattle.line_record.specs.Course.RecordCall.{Told, Begun, Ended, TakenBack, MadeAnew}
 use Rattle.line_record.specs.Kills.{RingCall, no_kills, all_kills_after, ring_after_all, newest_first}
 use Rattle.line_record.specs.Ring.{Ring, IsRing, new_ring, ring_all}
 
 -- whatever was done to a line with a new record, an undo leaves a text that the line had before
 abbrev pub UndoLeavesAnEarlierText : Type 0
 UndoLeavesAnEarlierText =
-    (calls : List Call) (text : List ℕ) (n : ℕ) →
+    (calls : List RecordCall) (text : List ℕ) (n : ℕ) →
     let c = after_calls calls (begun_with text) in
     IsAmong (text_back n c.held c.text) c.seen
 
--- undoing everything gives the text that the line had when its record was new; so a record of no items stands on that text
+-- undoing everything gives the text that the line had when its record was new; so a record of no
+-- items stands on that text
 abbrev pub UndoOfAllGivesTheFirstText : Type 0
 UndoOfAllGivesTheFirstText =
-    (calls : List Call) (text : List ℕ) →
+    (calls : List RecordCall) (text : List ℕ) →
     let c = after_calls calls (begun_with text) in
     text_back (length c.held) c.held c.text ≡ text
 
@@ -46,22 +47,22 @@ EmptyGroupLeavesNothing =
     × (closes (Opened text ∷ held) ≡ false)
 
 -- calls that leave a group open: events, and marks set inside it
-abbrev pub stays_open : Call → Bool
+abbrev pub stays_open : RecordCall → Bool
 stays_open (Told e) = true
 stays_open Begun = true
 stays_open Ended = false
 stays_open (TakenBack n) = false
 stays_open MadeAnew = false
 
-abbrev pub AllStayOpen : List Call → Type 0
+abbrev pub AllStayOpen : List RecordCall → Type 0
 AllStayOpen [] = Unit {0}
 AllStayOpen (call ∷ calls) = (stays_open call ≡ true) × AllStayOpen calls
 
--- a group that no other is around, in which something was recorded, is undone as one: text and record are those that its
--- begin found
+-- a group that no other is around, in which something was recorded, is undone as one: text and
+-- record are those that its begin found
 abbrev pub UndoTakesTheGroupBack : Type 0
 UndoTakesTheGroupBack =
-    (c : Course) (calls : List Call) → has_mark c.held ≡ false → AllStayOpen calls →
+    (c : Course) (calls : List RecordCall) → has_mark c.held ≡ false → AllStayOpen calls →
     let inside = after_calls calls (after_call Begun c) in
     let undone = after_call (TakenBack 1) (after_call Ended inside) in
     closes inside.held ≡ true → (undone.text ≡ c.text) × (undone.held ≡ c.held)
@@ -115,7 +116,8 @@ KillsComeBack =
     (ring_killed movements l r).place ≡ Some text)
     × ((yank text 1 (line_killed movements l)).line.text ≡ l.text)
 
--- a new ring that is never turned holds the last runs of kills, as many as it has slots, and lends the newest
+-- a new ring that is never turned holds the last runs of kills, as many as it has slots, and lends
+-- the newest
 abbrev pub RingHoldsTheLastRuns : Type 0
 RingHoldsTheLastRuns =
     (size : ℕ) (calls : List RingCall) → 0 < size →

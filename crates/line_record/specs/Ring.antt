@@ -1,4 +1,5 @@
--- A kill ring: slots that hold killed texts, the place of the one that would be yanked, and the last action.
+-- A kill ring: slots that hold killed texts, the place of the one that would be yanked, and the
+-- last action.
 use Rattle.std.specs.Prelude.{◌≡◌, ℕ, ◌+◌, ◌-◌, ◌==◌, ◌<◌, ◌≤◌, Bool, true, false, List, [], ◌∷◌, ◌++◌, length, if◌then◌else◌, nat_lt, Option, Some, None, slice_set, slice_index_or}
 use Rattle.std.specs.List.{fold}
 use Rattle.line_buffer.specs.Event.{Event}
@@ -36,7 +37,7 @@ joined_text Prepend text slot = text ++ slot
 abbrev pub slot_after : ℕ → ℕ → ℕ → ℕ
 slot_after count size place = if count == 0 then 0 else if place + 1 == size then 0 else place + 1
 
--- a text put in a slot, or behind the last one
+-- a text put in a slot, or after the last one
 abbrev pub put_text : ℕ → List ℕ → List (List ℕ) → List (List ℕ)
 put_text place text slots =
     if nat_lt place (length slots) then slice_set slots place text else slots ++ text ∷ []
@@ -55,7 +56,8 @@ killed_after Kill text mode r =
 killed_after Other text mode r = killed_anew text r
 killed_after (Yank count) text mode r = killed_anew text r
 
--- a kill after a kill joins the text of its slot, any other takes the next slot; a ring of no slots keeps nothing
+-- a kill after a kill joins the text of its slot, any other takes the next slot; a ring of no slots
+-- keeps nothing
 abbrev pub killed : List ℕ → Mode → Ring → Ring
 killed text mode r =
     if r.size == 0 then record r { last = Kill } else killed_after r.last text mode r

@@ -18,7 +18,8 @@ abbrev pub AreSteps : List Edit → List Step → Type 0
 AreSteps edits steps =
     Adjoin (λ s. s.first) (λ s. s.last) (λ edits s. ⊤) edits 0 steps (length edits)
 
--- items that were joined to, nearest first, stand in place of the old ones; where none was joined to, the old ones stay
+-- items that were joined to, nearest first, stand in place of the old ones; where none was joined
+-- to, the old ones stay
 abbrev pub JoinedIn : Option (List Item) → List Item → List Item → Type 0
 JoinedIn None old new = new ≡ old
 JoinedIn (Some items) old new = reverse new ≡ items

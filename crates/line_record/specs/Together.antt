@@ -1,4 +1,5 @@
--- Two listeners that are told in turn: what an event makes of both, and what a refusal leaves of them.
+-- Two listeners that are told in turn: what an event makes of both, and what a refusal leaves of
+-- them.
 use Rattle.std.specs.Prelude.{◌≡◌, ◌⊎◌, ℕ, List, IsUtf8}
 use Rattle.line_buffer.specs.Event.{Event}
 use Rattle.line_buffer.specs.Replay.{StopsAmong}
@@ -22,8 +23,8 @@ module _ {A B : Type 0} where
       × ((first_refuses s.first.now e t.first.now × (t.second.now ≡ s.second.now))
       ⊎ (first s.first.now e t.first.now × second_refuses s.second.now e t.second.now))
 
--- a call of several events that was refused, seen from a record that is told last: it holds the changes that the line
--- made, and no other
+-- a call of several events that was refused, seen from a record that is told last: it holds the
+-- changes that the line made, and no other
 pub record HoldsWhatWasMade {S : Type 0} {takes refuses : S → Event → S
     → Type 0} {closing events : List Event} {s t : S} {before after : List ℕ}
     (part : S → Items) (call : StopsAmong takes refuses closing events s t before after) : Type 0

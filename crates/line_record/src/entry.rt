@@ -79,15 +79,7 @@ impl Entry {
         }) }
         ensures kept { OnErr result (line.new ≡ line.old) }
     {
-        // Its contract says that the length fits.
-        let _longest = line.len();
-        let added = self.added(log);
-        line.replace(
-            alloc,
-            self.at..self.at + added.len(),
-            self.removed(log),
-            &mut NoListener,
-        )
+        exchange(alloc, self.at, self.added(log), self.removed(log), line)
     }
 
     /// Puts in again what was there after the change, the cursor after it.
@@ -100,15 +92,7 @@ impl Entry {
         }) }
         ensures kept { OnErr result (line.new ≡ line.old) }
     {
-        // Its contract says that the length fits.
-        let _longest = line.len();
-        let removed = self.removed(log);
-        line.replace(
-            alloc,
-            self.at..self.at + removed.len(),
-            self.added(log),
-            &mut NoListener,
-        )
+        exchange(alloc, self.at, self.removed(log), self.added(log), line)
     }
 
     /// Whether what is told joins this change, which was the last before it: the place of the two
@@ -145,8 +129,8 @@ impl Entry {
     }
 }
 
-ghost use Rattle.std.specs.Prelude.{◌≡◌, ◌+◌, ◌==◌, ℕ, All, take, drop, OnOk, OnErr};
-ghost use Rattle.line_record.specs.Edit.{AllStandIn, AllFitIn};
+ghost use Rattle.std.specs.Prelude.{◌≡◌, ◌+◌, ◌==◌, ℕ, All, length, take, drop, OnOk, OnErr};
+ghost use Rattle.line_record.specs.Edit.{StandsAt, exchanged_at, AllStandIn, AllFitIn};
 ghost use Rattle.line_record.specs.Items.{lines_back, lines_ahead};
 ghost use Rattle.line_record.specs.Logged.{edits_in, Spelt};
 
@@ -155,6 +139,26 @@ fn follows(place: usize, before: usize, length: usize) -> bool
     ensures { result ≡ (place == before + length) }
 {
     before <= place && place - before == length
+}
+
+/// Exchanges one text at a place for another, the cursor after it.
+fn exchange(
+    alloc: Global,
+    at: usize,
+    from: &str,
+    to: &str,
+    line: &mut LineBuffer,
+) -> Result<(), OutOfMemory>
+    requires { StandsAt at from.now to.now line.old.text }
+    ensures line { OnOk result (line.new ≡ record line.old {
+      text = exchanged_at at from.now to.now line.old.text;
+      place = at + length to.now;
+    }) }
+    ensures kept { OnErr result (line.new ≡ line.old) }
+{
+    // Its contract says that the length fits.
+    let _longest = line.len();
+    line.replace(alloc, at..at + from.len(), to, &mut NoListener)
 }
 
 /// Takes changes back, the newest first. After a refusal some of them are taken back, the newest

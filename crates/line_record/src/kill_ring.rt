@@ -166,7 +166,7 @@ fn join(slot: &mut String, text: &str, mode: Mode) -> Result<(), OutOfMemory>
     Ok(())
 }
 
-/// Puts a text in a slot, or in a new one behind the last.
+/// Puts a text in a slot, or in a new one after the last.
 fn put_slot(
     alloc: Global,
     slots: &mut Vec<String>,

@@ -10,7 +10,7 @@ impl Changeset {
     ghost use Rattle.line_record.specs.Items.{no_items, undo_one, redo_one, lines_back_one, lines_ahead_one, part_back, part_ahead, nearest_is_change, ItemsStand, DoneStand, UndoneFit, held_on, ahead_on};
 
     /// Takes the last `n` items back: steps, and open marks. 0 acts as 1. Answers whether a step
-    /// was among them. The cursor goes to the place of the oldest of their changes, behind what was
+    /// was among them. The cursor goes to the place of the oldest of their changes, after what was
     /// put back there. After a refusal a part of the changes is taken back, and nothing is recorded
     /// any more.
     pub fn undo(
@@ -72,7 +72,7 @@ impl Changeset {
     }
 
     /// Makes the item anew that was undone last, if there is one; true where it is a step. The
-    /// cursor goes behind what its newest change puts in. After a refusal a part of the changes is
+    /// cursor goes after what its newest change puts in. After a refusal a part of the changes is
     /// made, and nothing is recorded any more.
     pub fn redo(&mut self, alloc: Global, line: &mut LineBuffer) -> Result<bool, OutOfMemory>
         requires { ItemsStand self.old line.old.text }

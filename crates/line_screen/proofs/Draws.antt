@@ -7,7 +7,7 @@ use Rattle.std.proofs.lemmas.List.Folds.{list_all-append}
 use Rattle.line_buffer.specs.declared.layout.Position.{Position}
 use Rattle.line_screen.specs.Display.{Placed, Display, DisplayReading, put_cells, put_down, put_run, is_printable, is_text, on_run, read, step, at_cursor, right, ends_before, touches}
 use Rattle.line_screen.specs.Display.DisplayReading.{Text}
-use Rattle.line_screen.specs.Drawing.{DrawnItem, next_row, fit, after_one, after, placed_at, lay_one, lay, no_style, row_break, break_if, fitted_col, left_col, fenced, sent_one, col_after_one, sent, col_after}
+use Rattle.line_screen.specs.Drawing.{DrawnItem, next_row, fit, after_one, place_after, placed_at, lay_one, lay, no_style, row_break, break_if, fitted_col, left_col, fenced, sent_one, col_after_one, sent, col_after}
 use Rattle.line_screen.specs.Drawing.DrawnItem.{NewRow, Letter, Cluster}
 use Rattle.line_screen.specs.Showing.{Stands}
 use Rattle.line_screen.proofs.Standing.{stands_text, read-append, read_text, step_letter, read_plain, read_break}
@@ -73,7 +73,7 @@ after_col columns (Cluster bytes width) at =
     leave_col ((fit columns width at).col + width == columns) (right width (fit columns width at))
     ∙ ap (λ c. left_col columns (c + width)) (fit_col (nat_le (at.col + width) columns) at)
 
-pub after_cols : (columns : ℕ) (items : List DrawnItem) (at : Position) → (after columns items at).col ≡ col_after columns items at.col
+pub after_cols : (columns : ℕ) (items : List DrawnItem) (at : Position) → (place_after columns items at).col ≡ col_after columns items at.col
 after_cols columns [] at = refl
 after_cols columns (item ∷ items) at = after_cols columns items (after_one columns item at) ∙ ap (col_after columns items) (after_col columns item at)
 
@@ -97,7 +97,7 @@ clear_next d c = record { all = list_all_since (ends_before d.cursor) (ends_befo
 
 -- the display after items
 abbrev pub drawn : ℕ → List DrawnItem → Display → Display
-drawn columns items d = record { placed = d.placed ++ lay columns items d.cursor; cursor = after columns items d.cursor }
+drawn columns items d = record { placed = d.placed ++ lay columns items d.cursor; cursor = place_after columns items d.cursor }
 
 abbrev pub drawn_one : ℕ → DrawnItem → Display → Display
 drawn_one columns item d = record { placed = d.placed ++ lay_one columns item d.cursor; cursor = after_one columns item d.cursor }
@@ -182,7 +182,7 @@ draws columns wide (item ∷ items) r d ready h =
     let d1 = drawn_one columns item d in
     let rest = draws columns wide items (read columns wide r s) d1 (one columns wide item r d ready h.0) h.1 in
     let cells : drawn columns items d1 ≡ drawn columns (item ∷ items) d =
-    ap (λ xs. let e : Display = record { placed = xs; cursor = after columns items d1.cursor } in e) (append_assoc d.placed (lay_one columns item d.cursor) (lay columns items d1.cursor)) in
+    ap (λ xs. let e : Display = record { placed = xs; cursor = place_after columns items d1.cursor } in e) (append_assoc d.placed (lay_one columns item d.cursor) (lay columns items d1.cursor)) in
     let bytes_are : read columns wide (read columns wide r s) (sent columns items d1.cursor.col) ≡ read columns wide r (sent columns (item ∷ items) d.cursor.col) =
     ap (λ c. read columns wide (read columns wide r s) (sent columns items c)) (after_col columns item d.cursor)
     ∙ sym (read-append columns wide r s (sent columns items (col_after_one columns item d.cursor.col))) in

@@ -6,7 +6,7 @@ use Rattle.std.proofs.lemmas.Bool.Decides.{nat_tests}
 use Rattle.std.proofs.lemmas.List.Folds.{list_all-append}
 use Rattle.line_buffer.specs.declared.layout.Position.{Position}
 use Rattle.line_screen.specs.Display.{Placed, right, ends_before}
-use Rattle.line_screen.specs.Drawing.{DrawnItem, next_row, fit, leave, after_one, after, placed_at, lay_one, lay}
+use Rattle.line_screen.specs.Drawing.{DrawnItem, next_row, fit, leave, after_one, place_after, placed_at, lay_one, lay}
 use Rattle.line_screen.specs.Drawing.DrawnItem.{NewRow, Letter, Cluster}
 use Rattle.line_screen.proofs.Draws.{list_all_since, ends_right, ends_itself, ends_next}
 
@@ -25,7 +25,7 @@ ends_one columns (Cluster bytes width) at p h =
     ends_if ((fit columns width at).col + width == columns) (right width (fit columns width at)) p
     (ends_right (fit columns width at) width p (ends_unless (nat_le (at.col + width) columns) at p h))
 
-ends_after : (columns : ℕ) (items : List DrawnItem) (at : Position) (p : Placed) → ends_before at p ≡ true → ends_before (after columns items at) p ≡ true
+ends_after : (columns : ℕ) (items : List DrawnItem) (at : Position) (p : Placed) → ends_before at p ≡ true → ends_before (place_after columns items at) p ≡ true
 ends_after columns [] at p h = h
 ends_after columns (item ∷ items) at p h = ends_after columns items (after_one columns item at) p (ends_one columns item at p h)
 
@@ -36,11 +36,11 @@ one_ends columns (Cluster bytes width) at =
     let there = fit columns width at in
     and_from (ends_before (leave columns (right width there)) (placed_at bytes width there)) true (ends_if (there.col + width == columns) (right width there) (placed_at bytes width there) (ends_itself there width bytes)) refl
 
-pub lay_ends : (columns : ℕ) (items : List DrawnItem) (at : Position) → list_all (ends_before (after columns items at)) (lay columns items at) ≡ true
+pub lay_ends : (columns : ℕ) (items : List DrawnItem) (at : Position) → list_all (ends_before (place_after columns items at)) (lay columns items at) ≡ true
 lay_ends columns [] at = refl
 lay_ends columns (item ∷ items) at =
     let next = after_one columns item at in
-    let last = after columns items next in
+    let last = place_after columns items next in
     list_all-append (ends_before last) (lay_one columns item at) (lay columns items next)
     ∙ and_from (list_all (ends_before last) (lay_one columns item at)) (list_all (ends_before last) (lay columns items next))
     (list_all_since (ends_before next) (ends_before last) (ends_after columns items next) (lay_one columns item at) (one_ends columns item at))
@@ -48,18 +48,18 @@ lay_ends columns (item ∷ items) at =
 
 -- ---- letters in one row
 
-bound_if : (columns c : ℕ) (cs : List ℕ) (at : Position) → ((from : Position) → (after columns (map Letter cs) from).col ≤ from.col + length cs)
-    → (b : Bool) → (after columns (map Letter cs) (if b then next_row (right 1 at) else right 1 at)).col ≤ at.col + length (c ∷ cs)
+bound_if : (columns c : ℕ) (cs : List ℕ) (at : Position) → ((from : Position) → (place_after columns (map Letter cs) from).col ≤ from.col + length cs)
+    → (b : Bool) → (place_after columns (map Letter cs) (if b then next_row (right 1 at) else right 1 at)).col ≤ at.col + length (c ∷ cs)
 bound_if columns c cs at ih true = let h = ih (next_row (right 1 at)) in omega arith
 bound_if columns c cs at ih false = let h = ih (right 1 at) in omega arith
 
-col_bound : (columns : ℕ) (cs : List ℕ) (at : Position) → (after columns (map Letter cs) at).col ≤ at.col + length cs
+col_bound : (columns : ℕ) (cs : List ℕ) (at : Position) → (place_after columns (map Letter cs) at).col ≤ at.col + length cs
 col_bound columns [] at = omega arith
 col_bound columns (c ∷ cs) at = bound_if columns c cs at (col_bound columns cs) (at.col + 1 == columns)
 
 wraps_if : (columns c : ℕ) (cs : List ℕ) (at : Position) → at.col < columns → columns ≤ at.col + length (c ∷ cs)
-    → (at.col + 1 < columns → columns ≤ at.col + 1 + length cs → (after columns (map Letter cs) (right 1 at)).col < length cs)
-    → (b : Bool) → (at.col + 1 == columns) ≡ b → (after columns (map Letter cs) (if b then next_row (right 1 at) else right 1 at)).col < length (c ∷ cs)
+    → (at.col + 1 < columns → columns ≤ at.col + 1 + length cs → (place_after columns (map Letter cs) (right 1 at)).col < length cs)
+    → (b : Bool) → (at.col + 1 == columns) ≡ b → (place_after columns (map Letter cs) (if b then next_row (right 1 at) else right 1 at)).col < length (c ∷ cs)
 wraps_if columns c cs at low past ih true e = let h = col_bound columns cs (next_row (right 1 at)) in omega arith
 wraps_if columns c cs at low past ih false e =
     let differ = eqb-false (at.col + 1) columns e in
@@ -68,7 +68,7 @@ wraps_if columns c cs at low past ih false e =
     omega arith
 
 -- letters that fill their row end in a column below their number
-wraps : (columns : ℕ) (cs : List ℕ) (at : Position) → at.col < columns → columns ≤ at.col + length cs → (after columns (map Letter cs) at).col < length cs
+wraps : (columns : ℕ) (cs : List ℕ) (at : Position) → at.col < columns → columns ≤ at.col + length cs → (place_after columns (map Letter cs) at).col < length cs
 wraps columns [] at low past = absurd (omega arith)
 wraps columns (c ∷ cs) at low past = wraps_if columns c cs at low past (λ more far. wraps columns cs (right 1 at) more far) (at.col + 1 == columns) refl
 
@@ -93,7 +93,7 @@ row_behind columns (c ∷ cs) at room =
     and_from (is_behind at (placed_at (c ∷ []) 1 at)) _ (behind_itself at c)
     (behind_if columns c cs at room (row_behind columns cs (right 1 at) (omega arith)) (at.col + 1 == columns) refl)
 
-pub letters_behind : (columns : ℕ) (cs : List ℕ) (at : Position) → at.col < columns → length cs ≤ (after columns (map Letter cs) at).col → list_all (is_behind at) (lay columns (map Letter cs) at) ≡ true
+pub letters_behind : (columns : ℕ) (cs : List ℕ) (at : Position) → at.col < columns → length cs ≤ (place_after columns (map Letter cs) at).col → list_all (is_behind at) (lay columns (map Letter cs) at) ≡ true
 letters_behind columns cs at low room =
     elim (cases_lt (at.col + length cs) columns) [
       | inl fits ↦ row_behind columns cs at fits
@@ -106,17 +106,17 @@ next_col col n = omega arith
 same_place : (at : Position) → at ≡ right 0 at
 same_place at = ap (λ n. let p : Position = record { col = n; row = at.row } in p) (omega arith)
 
-room_if : (columns c : ℕ) (cs : List ℕ) (at : Position) → at.col + length (c ∷ cs) < columns → (after columns (map Letter cs) (right 1 at) ≡ right (length cs) (right 1 at))
-    → (b : Bool) → (at.col + 1 == columns) ≡ b → after columns (map Letter cs) (if b then next_row (right 1 at) else right 1 at) ≡ right (length (c ∷ cs)) at
+room_if : (columns c : ℕ) (cs : List ℕ) (at : Position) → at.col + length (c ∷ cs) < columns → (place_after columns (map Letter cs) (right 1 at) ≡ right (length cs) (right 1 at))
+    → (b : Bool) → (at.col + 1 == columns) ≡ b → place_after columns (map Letter cs) (if b then next_row (right 1 at) else right 1 at) ≡ right (length (c ∷ cs)) at
 room_if columns c cs at room ih true e = let full = eqb-true (at.col + 1) columns e in absurd (omega arith)
 room_if columns c cs at room ih false e = ih ∙ ap (λ n. let p : Position = record { col = n; row = at.row } in p) (next_col at.col (length cs))
 
-row_after : (columns : ℕ) (cs : List ℕ) (at : Position) → at.col + length cs < columns → after columns (map Letter cs) at ≡ right (length cs) at
+row_after : (columns : ℕ) (cs : List ℕ) (at : Position) → at.col + length cs < columns → place_after columns (map Letter cs) at ≡ right (length cs) at
 row_after columns [] at room = same_place at
 row_after columns (c ∷ cs) at room = room_if columns c cs at room (row_after columns cs (right 1 at) (omega arith)) (at.col + 1 == columns) refl
 
 -- letters that end in no lower a column than their number stand in one row
-pub letters_in_row : (columns : ℕ) (cs : List ℕ) (at : Position) → at.col < columns → length cs ≤ (after columns (map Letter cs) at).col → after columns (map Letter cs) at ≡ right (length cs) at
+pub letters_in_row : (columns : ℕ) (cs : List ℕ) (at : Position) → at.col < columns → length cs ≤ (place_after columns (map Letter cs) at).col → place_after columns (map Letter cs) at ≡ right (length cs) at
 letters_in_row columns cs at low room =
     elim (cases_lt (at.col + length cs) columns) [
       | inl fits ↦ row_after columns cs at fits

@@ -20,7 +20,7 @@ use Rattle.line_buffer.specs.Width.{width_of}
 use Rattle.line_buffer.specs.declared.layout.GraphemeClusterMode.{GraphemeClusterMode}
 use Rattle.line_buffer.specs.declared.layout.Position.{Position}
 use Rattle.line_screen.specs.Display.{Display, put_cells, put_letters, put_cluster, then_put, is_printable, is_text, right}
-use Rattle.line_screen.specs.Drawing.{DrawnItem, drawn_cluster, is_letter, drawn_item, row_items, join_rows, split_rows, text_items, next_row, fit, after_one, after}
+use Rattle.line_screen.specs.Drawing.{DrawnItem, drawn_cluster, is_letter, drawn_item, row_items, join_rows, split_rows, text_items, next_row, fit, after_one, place_after}
 use Rattle.line_screen.specs.Drawing.DrawnItem.{NewRow, Letter, Cluster}
 use Rattle.std.specs.Str.{IsUtf8, is_utf8}
 use Rattle.std.proofs.lemmas.Str.{is_utf8-from_IsUtf8}
@@ -169,7 +169,7 @@ one_inside columns wide (Letter c) at h low = leave_if columns (right 1 at) (ome
 one_inside columns wide (Cluster bytes width) at h low =
     leave_if columns (right width (fit columns width at)) (fit_if columns width at low h.narrow (nat_le (at.col + width) columns) refl) (omega arith) ((fit columns width at).col + width == columns) refl
 
-pub after_inside : (columns : ℕ) (wide : List ℕ → Option ℕ) (items : List DrawnItem) (at : Position) → AllFit columns wide items → at.col < columns → (after columns items at).col < columns
+pub after_inside : (columns : ℕ) (wide : List ℕ → Option ℕ) (items : List DrawnItem) (at : Position) → AllFit columns wide items → at.col < columns → (place_after columns items at).col < columns
 after_inside columns wide [] at h low = low
 after_inside columns wide (item ∷ items) at h low = after_inside columns wide items (after_one columns item at) h.1 (one_inside columns wide item at h.0 low)
 

@@ -1,16 +1,14 @@
 -- What whole characters, keys and pasted texts read as stays, whatever follows them.
 use Rattle.std.proofs.Common.{◌≡◌, ℕ, ◌+◌, Bool, true, false, IsTrue, ◌&&◌, ◌||◌, nat_lt, ◌==◌, if◌then◌else◌, List, [], ◌∷◌, ◌++◌, take, Option, Some, None, refl, sym, ap, ◌∙◌, true≢false}
-use Rattle.std.specs.Prelude.{slice_index}
+use Rattle.std.specs.Prelude.{slice_index, codes}
 use Rattle.line_config.specs.declared.device.Last.{Last}
 use Rattle.line_config.specs.declared.device.Last.TheVariants.{End}
 use Rattle.line_config.specs.declared.settings.EditMode.{EditMode}
 use Rattle.line_config.specs.declared.settings.EditMode.TheVariants.{Emacs, Vi}
 use Rattle.line_keys.specs.Keys.{key_of, none, alt}
-use Rattle.line_screen.specs.declared.reading.utf8.Awaited.{Awaited}
-use Rattle.line_screen.specs.declared.reading.sequence.Parameters.{Parameters}
-use Rattle.line_screen.specs.declared.reading.sequence.Parameters.TheVariants.{Empty, One}
-use Rattle.line_screen.specs.Input.{Chars, Next, Over, Stop, AtEnd, AtBad, AtFailure, Torn, Inside, chars_of, in_char, char_then, is_scalar, lead_in, lead_rows, value_with, after_byte}
-use Rattle.line_screen.specs.KeyGrammar.{Readings, Key, Paste, readings, in_escape, in_third, in_linux, in_bracket, in_control, in_unknown, in_paste, esc, keeps_byte, marker, put, with_parameter, is_parameter, is_intermediate, ended_key, announces, unknown, plain, code_in, third_rows, linux_rows, inside}
+use Rattle.line_screen.specs.Input.{Chars, Next, Over, Stop, AtEnd, AtBad, AtFailure, Torn, Inside, Continuation, chars_of, in_char, char_then, is_scalar, lead_in, lead_rows, value_with, after_byte}
+use Rattle.line_screen.specs.KeyGrammar.{Readings, Key, Paste, readings, in_escape, in_sequence, in_paste, esc, keeps_byte, marker, put, announces, inside}
+use Rattle.line_screen.specs.Sequences.{awaits_more, sequence_key}
 use Rattle.line_screen.specs.Following.{are_whole_chars, ends_in_esc, are_whole, readings_then, is_end, WholeKeysStay}
 
 -- ---- characters
@@ -36,7 +34,7 @@ mutual
       (λ w. ap (Next byte (bytes ++ more)) (chars_follow bytes more last w))
       (char_follows (lead_in lead_rows byte) bytes more last) whole
 
-  char_follows : (awaited : Option Awaited) (bytes more : List ℕ) (last : Last) → IsTrue (are_whole_chars (in_char awaited bytes End))
+  char_follows : (awaited : Option Continuation) (bytes more : List ℕ) (last : Last) → IsTrue (are_whole_chars (in_char awaited bytes End))
       → in_char awaited (bytes ++ more) last ≡ chars_then (in_char awaited bytes End) more (chars_of more last)
   char_follows None bytes more last whole = absurd (cc)
   char_follows (Some awaited) [] more last whole = absurd (cc)
@@ -75,7 +73,7 @@ mutual
       spelled_by (nat_lt byte 0x80) (byte ∷ bytes) (Next byte bytes (chars_of bytes last)) (in_char (lead_in lead_rows byte) bytes last)
       (tt, spelled bytes last) (spelled_inside (lead_in lead_rows byte) byte bytes bytes last)
 
-  spelled_inside : (awaited : Option Awaited) (b : ℕ) (bs bytes : List ℕ) (last : Last) → Spelled (b ∷ bs) (in_char awaited bytes last)
+  spelled_inside : (awaited : Option Continuation) (b : ℕ) (bs bytes : List ℕ) (last : Last) → Spelled (b ∷ bs) (in_char awaited bytes last)
   spelled_inside None b bs bytes last = tt
   spelled_inside (Some awaited) b bs [] last = tt
   spelled_inside (Some awaited) b bs (byte ∷ bytes) last =
@@ -95,7 +93,7 @@ keys_by : (b : Bool) (x y x' y' : Readings) (more : List ℕ) (following : Readi
 keys_by true x y x' y' more following p q whole = p whole
 keys_by false x y x' y' more following p q whole = q whole
 
--- ESC with a byte behind it: what follows that byte tells nothing
+-- ESC with a byte after it: what follows that byte tells nothing
 escape_by : (mode : EditMode) (b : ℕ) (bs more : List ℕ) (x y z w x' y' z' w' following : Readings)
     → (IsTrue (are_whole x) → x' ≡ readings_then x more following) → (IsTrue (are_whole y) → y' ≡ readings_then y more following)
     → (IsTrue (are_whole z) → z' ≡ readings_then z more following) → (IsTrue (are_whole w) → w' ≡ readings_then w more following)
@@ -148,65 +146,27 @@ mutual
   escape_follows mode c here (Over stop left) more following sp free is again whole = absurd (true≢false (sym is ∙ free))
   escape_follows mode c [] (Next d behind rest) more following sp free is again whole = absurd sp.0
   escape_follows mode c (b ∷ bs) (Next d behind rest) more following sp free is again whole =
-      escape_by mode b bs more (in_bracket mode rest) (in_third mode rest) (Key esc (b ∷ bs) (readings mode (Next d behind rest))) (Key (key_of d alt) behind (readings mode rest))
-      (in_bracket mode (chars_then rest more following)) (in_third mode (chars_then rest more following)) (Key esc (b ∷ bs ++ more) (readings mode (chars_then (Next d behind rest) more following)))
+      escape_by mode b bs more (in_sequence mode (codes "[") rest) (in_sequence mode (codes "O") rest) (Key esc (b ∷ bs) (readings mode (Next d behind rest))) (Key (key_of d alt) behind (readings mode rest))
+      (in_sequence mode (codes "[") (chars_then rest more following)) (in_sequence mode (codes "O") (chars_then rest more following)) (Key esc (b ∷ bs ++ more) (readings mode (chars_then (Next d behind rest) more following)))
       (Key (key_of d alt) (behind ++ more) (readings mode (chars_then rest more following))) (readings mode following)
-      (λ w. bracket_follows mode d behind rest more following sp.1 free w)
-      (λ w. third_follows mode d behind rest more following sp.1 free w)
+      (λ w. sequence_follows mode (codes "[") d behind rest more following sp.1 free w)
+      (λ w. sequence_follows mode (codes "O") d behind rest more following sp.1 free w)
       (λ w. ap (Key esc (b ∷ bs ++ more)) (again w))
       (λ w. ap (Key (key_of d alt) (behind ++ more)) (keys_follow mode d behind rest more following sp.1 free w)) whole
 
-  third_follows : (mode : EditMode) (first : ℕ) (here : List ℕ) (chars : Chars) (more : List ℕ) (following : Chars)
-      → Spelled here chars → ends_in_esc first chars ≡ false → IsTrue (are_whole (in_third mode chars))
-      → in_third mode (chars_then chars more following) ≡ readings_then (in_third mode chars) more (readings mode following)
-  third_follows mode first here (Over stop left) more following sp free whole = absurd (never_inside stop whole)
-  third_follows mode first here (Next c behind rest) more following sp free whole =
-      ap (Key (plain (code_in third_rows c)) (behind ++ more)) (keys_follow mode c behind rest more following sp.1 free whole)
-
-  linux_follows : (mode : EditMode) (first : ℕ) (here : List ℕ) (chars : Chars) (more : List ℕ) (following : Chars)
-      → Spelled here chars → ends_in_esc first chars ≡ false → IsTrue (are_whole (in_linux mode chars))
-      → in_linux mode (chars_then chars more following) ≡ readings_then (in_linux mode chars) more (readings mode following)
-  linux_follows mode first here (Over stop left) more following sp free whole = absurd (never_inside stop whole)
-  linux_follows mode first here (Next c behind rest) more following sp free whole =
-      ap (Key (plain (code_in linux_rows c)) (behind ++ more)) (keys_follow mode c behind rest more following sp.1 free whole)
-
-  unknown_follows : (mode : EditMode) (first : ℕ) (here : List ℕ) (chars : Chars) (more : List ℕ) (following : Chars)
-      → Spelled here chars → ends_in_esc first chars ≡ false → IsTrue (are_whole (in_unknown mode chars))
-      → in_unknown mode (chars_then chars more following) ≡ readings_then (in_unknown mode chars) more (readings mode following)
-  unknown_follows mode first here (Over stop left) more following sp free whole = absurd (never_inside stop whole)
-  unknown_follows mode first here (Next c behind rest) more following sp free whole =
-      keys_by (is_intermediate c) (in_unknown mode rest) (Key unknown behind (readings mode rest)) (in_unknown mode (chars_then rest more following)) (Key unknown (behind ++ more) (readings mode (chars_then rest more following)))
-      more (readings mode following)
-      (λ w. unknown_follows mode c behind rest more following sp.1 free w)
-      (λ w. ap (Key unknown (behind ++ more)) (keys_follow mode c behind rest more following sp.1 free w)) whole
-
-  bracket_follows : (mode : EditMode) (first : ℕ) (here : List ℕ) (chars : Chars) (more : List ℕ) (following : Chars)
-      → Spelled here chars → ends_in_esc first chars ≡ false → IsTrue (are_whole (in_bracket mode chars))
-      → in_bracket mode (chars_then chars more following) ≡ readings_then (in_bracket mode chars) more (readings mode following)
-  bracket_follows mode first here (Over stop left) more following sp free whole = absurd (never_inside stop whole)
-  bracket_follows mode first here (Next c behind rest) more following sp free whole =
-      keys_by (c == 0x5B) (in_linux mode rest) (if is_parameter c then (in_control mode (One c) rest) else if is_intermediate c then (in_unknown mode rest) else (Key (ended_key Empty c) behind (readings mode rest)))
-      (in_linux mode (chars_then rest more following)) (if is_parameter c then (in_control mode (One c) (chars_then rest more following)) else if is_intermediate c then (in_unknown mode (chars_then rest more following)) else (Key (ended_key Empty c) (behind ++ more) (readings mode (chars_then rest more following)))) more (readings mode following)
-      (λ w. linux_follows mode c behind rest more following sp.1 free w)
-      (keys_by (is_parameter c) (in_control mode (One c) rest) (if is_intermediate c then (in_unknown mode rest) else (Key (ended_key Empty c) behind (readings mode rest))) (in_control mode (One c) (chars_then rest more following)) (if is_intermediate c then (in_unknown mode (chars_then rest more following)) else (Key (ended_key Empty c) (behind ++ more) (readings mode (chars_then rest more following)))) more (readings mode following)
-      (λ w. control_follows mode (One c) c behind rest more following sp.1 free w)
-      (keys_by (is_intermediate c) (in_unknown mode rest) (Key (ended_key Empty c) behind (readings mode rest)) (in_unknown mode (chars_then rest more following)) (Key (ended_key Empty c) (behind ++ more) (readings mode (chars_then rest more following))) more (readings mode following)
-      (λ w. unknown_follows mode c behind rest more following sp.1 free w)
-      (λ w. ap (Key (ended_key Empty c) (behind ++ more)) (keys_follow mode c behind rest more following sp.1 free w)))) whole
-
-  control_follows : (mode : EditMode) (written : Parameters) (first : ℕ) (here : List ℕ) (chars : Chars) (more : List ℕ) (following : Chars)
-      → Spelled here chars → ends_in_esc first chars ≡ false → IsTrue (are_whole (in_control mode written chars))
-      → in_control mode written (chars_then chars more following) ≡ readings_then (in_control mode written chars) more (readings mode following)
-  control_follows mode written first here (Over stop left) more following sp free whole = absurd (never_inside stop whole)
-  control_follows mode written first here (Next c behind rest) more following sp free whole =
-      keys_by (is_parameter c) (in_control mode (with_parameter written c) rest) (if is_intermediate c then (in_unknown mode rest) else (Key (ended_key written c) behind (if announces (ended_key written c) then in_paste mode [] false 0 rest else readings mode rest))) (in_control mode (with_parameter written c) (chars_then rest more following)) (if is_intermediate c then (in_unknown mode (chars_then rest more following)) else (Key (ended_key written c) (behind ++ more) (if announces (ended_key written c) then in_paste mode [] false 0 (chars_then rest more following) else readings mode (chars_then rest more following)))) more (readings mode following)
-      (λ w. control_follows mode (with_parameter written c) c behind rest more following sp.1 free w)
-      (keys_by (is_intermediate c) (in_unknown mode rest) (Key (ended_key written c) behind (if announces (ended_key written c) then in_paste mode [] false 0 rest else readings mode rest)) (in_unknown mode (chars_then rest more following)) (Key (ended_key written c) (behind ++ more) (if announces (ended_key written c) then in_paste mode [] false 0 (chars_then rest more following) else readings mode (chars_then rest more following))) more (readings mode following)
-      (λ w. unknown_follows mode c behind rest more following sp.1 free w)
-      (λ w. ap (Key (ended_key written c) (behind ++ more)) (keys_by (announces (ended_key written c)) (in_paste mode [] false 0 rest) (readings mode rest)
+  sequence_follows : (mode : EditMode) (text : List ℕ) (first : ℕ) (here : List ℕ) (chars : Chars) (more : List ℕ) (following : Chars)
+      → Spelled here chars → ends_in_esc first chars ≡ false → IsTrue (are_whole (in_sequence mode text chars))
+      → in_sequence mode text (chars_then chars more following) ≡ readings_then (in_sequence mode text chars) more (readings mode following)
+  sequence_follows mode text first here (Over stop left) more following sp free whole = absurd (never_inside stop whole)
+  sequence_follows mode text first here (Next c behind rest) more following sp free whole =
+      let k = sequence_key (text ++ c ∷ []) in
+      keys_by (awaits_more (text ++ c ∷ [])) (in_sequence mode (text ++ c ∷ []) rest) (Key k behind (if announces k then in_paste mode [] false 0 rest else readings mode rest))
+      (in_sequence mode (text ++ c ∷ []) (chars_then rest more following)) (Key k (behind ++ more) (if announces k then in_paste mode [] false 0 (chars_then rest more following) else readings mode (chars_then rest more following))) more (readings mode following)
+      (λ w. sequence_follows mode (text ++ c ∷ []) c behind rest more following sp.1 free w)
+      (λ w. ap (Key k (behind ++ more)) (keys_by (announces k) (in_paste mode [] false 0 rest) (readings mode rest)
       (in_paste mode [] false 0 (chars_then rest more following)) (readings mode (chars_then rest more following)) more (readings mode following)
       (λ w. paste_follows mode [] false 0 c behind rest more following sp.1 free w)
-      (λ w. keys_follow mode c behind rest more following sp.1 free w) w))) whole
+      (λ w. keys_follow mode c behind rest more following sp.1 free w) w)) whole
 
   paste_follows : (mode : EditMode) (text : List ℕ) (after_return : Bool) (matched : ℕ) (first : ℕ) (here : List ℕ) (chars : Chars) (more : List ℕ) (following : Chars)
       → Spelled here chars → ends_in_esc first chars ≡ false → IsTrue (are_whole (in_paste mode text after_return matched chars))

@@ -9,7 +9,7 @@ use Rattle.line_buffer.specs.Cells.{origin}
 use Rattle.line_buffer.specs.declared.layout.Position.{Position}
 use Rattle.line_screen.specs.Display.{Placed, Display, DisplayReading, read, at_cursor, starts_before, ends_before, is_cut, erased_below}
 use Rattle.line_screen.specs.Display.DisplayReading.{Text, Lost}
-use Rattle.line_screen.specs.Drawing.{DrawnItem, text_items, after, lay, no_style, sent, col_after, control_sequence, erase_to_end, cleared, move_bytes, shown_text, drawing, full_drawing}
+use Rattle.line_screen.specs.Drawing.{DrawnItem, text_items, place_after, lay, no_style, sent, col_after, control_sequence, erase_to_end, clearing_bytes, move_bytes, shown_text, drawing, full_drawing}
 use Rattle.line_screen.specs.Chain.{Inside}
 use Rattle.line_screen.specs.Showing.{Stands, Picture, cells_of, finish_of, cursor_of, down, down_placed, above, from_top, Shows}
 use Rattle.line_screen.proofs.Standing.{stands_text, read-append, step_control, read_plain}
@@ -72,11 +72,11 @@ module _ (columns : ℕ) (wide : List ℕ → Option ℕ) where
       ∙ ap (λ xs. Text (record { placed = xs; cursor = front.cursor }) []) (filter_agree (starts_before front.cursor) (above top) (starts_above top) d.placed)
 
   pub cleared_ready : (r : DisplayReading) (d : Display) (top old : ℕ) → Stands columns r d → d.cursor.row ≡ top + old → d.cursor.col < columns → old < 2 ^ 64
-      → Ready columns (read columns wide r (cleared old)) (wiped top d)
+      → Ready columns (read columns wide r (clearing_bytes old)) (wiped top d)
   cleared_ready r d top old s row inside few =
       let up = moves_up columns wide r d old (top + 0) s inside few (omega arith) in
       let d1 = at_cursor (place d.cursor.col (top + 0)) d in
-      let is_read : read columns wide r (cleared old) ≡ Text (wiped top d) [] =
+      let is_read : read columns wide r (clearing_bytes old) ≡ Text (wiped top d) [] =
       read-append columns wide r (control_sequence old 0x41) (0x0D ∷ erase_to_end)
       ∙ wipes (read columns wide r (control_sequence old 0x41)) d1 top up refl (omega arith) in
       record {
@@ -108,20 +108,20 @@ module _ (columns : ℕ) (wide : List ℕ → Option ℕ) where
   three a b c x y = no_style ++ sent columns a 0 ++ no_style ++ sent columns b x ++ no_style ++ sent columns c y ++ no_style
 
   three_cells : (a b c : List DrawnItem) (at : Position) (xs : List Placed)
-      → ((xs ++ lay columns a at) ++ lay columns b (after columns a at)) ++ lay columns c (after columns b (after columns a at)) ≡ xs ++ lay columns (a ++ (b ++ c)) at
+      → ((xs ++ lay columns a at) ++ lay columns b (place_after columns a at)) ++ lay columns c (place_after columns b (place_after columns a at)) ≡ xs ++ lay columns (a ++ (b ++ c)) at
   three_cells a b c at xs =
-      append_assoc (xs ++ lay columns a at) (lay columns b (after columns a at)) (lay columns c (after columns b (after columns a at)))
-      ∙ append_assoc xs (lay columns a at) (lay columns b (after columns a at) ++ lay columns c (after columns b (after columns a at)))
-      ∙ ap (λ ys. xs ++ (lay columns a at ++ ys)) (sym (lay-append columns b c (after columns a at)))
+      append_assoc (xs ++ lay columns a at) (lay columns b (place_after columns a at)) (lay columns c (place_after columns b (place_after columns a at)))
+      ∙ append_assoc xs (lay columns a at) (lay columns b (place_after columns a at) ++ lay columns c (place_after columns b (place_after columns a at)))
+      ∙ ap (λ ys. xs ++ (lay columns a at ++ ys)) (sym (lay-append columns b c (place_after columns a at)))
       ∙ ap (λ ys. xs ++ ys) (sym (lay-append columns a (b ++ c) at))
 
-  three_after : (a b c : List DrawnItem) (at : Position) → after columns c (after columns b (after columns a at)) ≡ after columns (a ++ (b ++ c)) at
-  three_after a b c at = sym (after-append columns b c (after columns a at)) ∙ sym (after-append columns a (b ++ c) at)
+  three_after : (a b c : List DrawnItem) (at : Position) → place_after columns c (place_after columns b (place_after columns a at)) ≡ place_after columns (a ++ (b ++ c)) at
+  three_after a b c at = sym (after-append columns b c (place_after columns a at)) ∙ sym (after-append columns a (b ++ c) at)
 
   three_ready : (r : DisplayReading) (a b c : List DrawnItem) (top : ℕ) (xs : List Placed) → AllFit columns wide a → AllFit columns wide b → AllFit columns wide c
       → Ready columns r (record { placed = xs; cursor = down top origin })
       → Ready columns (read columns wide r (three a b c (col_after columns a 0) (col_after columns b (col_after columns a 0))))
-      (record { placed = xs ++ map (down_placed top) (lay columns (a ++ (b ++ c)) origin); cursor = down top (after columns (a ++ (b ++ c)) origin) })
+      (record { placed = xs ++ map (down_placed top) (lay columns (a ++ (b ++ c)) origin); cursor = down top (place_after columns (a ++ (b ++ c)) origin) })
   three_ready r a b c top xs fa fb fc h =
       let at = down top origin in
       let d : Display = record { placed = xs; cursor = at } in
@@ -135,13 +135,13 @@ module _ (columns : ℕ) (wide : List ℕ → Option ℕ) where
       (plain_ready (read columns wide r (no_style ++ sent columns a 0 ++ no_style ++ sent columns b x ++ no_style ++ sent columns c y)) dc
       (fenced_draws r (no_style ++ sent columns a 0 ++ no_style ++ sent columns b x) c db (fenced_draws r (no_style ++ sent columns a 0) b da (fenced_draws r [] a d h fa) fb) fc)) in
       let x_is : x ≡ col_after columns a 0 = after_cols columns a at in
-      let y_is : y ≡ col_after columns b (col_after columns a 0) = after_cols columns b (after columns a at) ∙ ap (col_after columns b) x_is in
+      let y_is : y ≡ col_after columns b (col_after columns a 0) = after_cols columns b (place_after columns a at) ∙ ap (col_after columns b) x_is in
       let bytes_are : three a b c x y ≡ three a b c (col_after columns a 0) (col_after columns b (col_after columns a 0)) =
       ap (λ n. three a b c n y) x_is ∙ ap (three a b c (col_after columns a 0)) y_is in
       let cells : dc.placed ≡ xs ++ map (down_placed top) (lay columns (a ++ (b ++ c)) origin) =
       three_cells a b c at xs ∙ ap (λ ys. xs ++ ys) (lay_down columns top (a ++ (b ++ c)) origin) in
-      let place_is : dc.cursor ≡ down top (after columns (a ++ (b ++ c)) origin) = three_after a b c at ∙ after_down columns top (a ++ (b ++ c)) origin in
-      let whole : Display = record { placed = xs ++ map (down_placed top) (lay columns (a ++ (b ++ c)) origin); cursor = down top (after columns (a ++ (b ++ c)) origin) } in
+      let place_is : dc.cursor ≡ down top (place_after columns (a ++ (b ++ c)) origin) = three_after a b c at ∙ after_down columns top (a ++ (b ++ c)) origin in
+      let whole : Display = record { placed = xs ++ map (down_placed top) (lay columns (a ++ (b ++ c)) origin); cursor = down top (place_after columns (a ++ (b ++ c)) origin) } in
       let display_is : dc ≡ whole =
       ap (λ ys. let e : Display = record { placed = ys; cursor = dc.cursor } in e) cells
       ∙ ap (λ q. let e : Display = record { placed = xs ++ map (down_placed top) (lay columns (a ++ (b ++ c)) origin); cursor = q } in e) place_is in
@@ -162,8 +162,8 @@ module _ (columns : ℕ) (wide : List ℕ → Option ℕ) where
       → Stands columns (read columns wide r (full_drawing columns wide old v.prompt v.line v.info (finish_of columns wide v) (cursor_of columns wide v))) (redrawn columns wide v top d)
   full_stands v able few r d top old s row inside low =
       let texts = drawing columns wide v.prompt v.line v.info (finish_of columns wide v) (cursor_of columns wide v) in
-      let done = drawing_stands v able few (read columns wide r (cleared old)) top (filter (above top) d.placed) (cleared_ready r d top old s row inside low) in
-      subst (λ x. Stands columns x (redrawn columns wide v top d)) (sym (read-append columns wide r (cleared old) texts)) done
+      let done = drawing_stands v able few (read columns wide r (clearing_bytes old)) top (filter (above top) d.placed) (cleared_ready r d top old s row inside low) in
+      subst (λ x. Stands columns x (redrawn columns wide v top d)) (sym (read-append columns wide r (clearing_bytes old) texts)) done
 
 -- ---- what it shows
 

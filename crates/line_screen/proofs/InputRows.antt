@@ -9,7 +9,8 @@ use Rattle.line_config.specs.declared.errors.ReadlineError.TheVariants.{PasteOut
 use Rattle.line_keys.specs.Coming.{Coming, Pressed, Pasted, CutOff, Ends, End, Bad, key_at}
 use Rattle.line_screen.specs.Input.{Next, Over, AtEnd, AtBad, AtFailure, Torn, Inside, chars_of}
 use Rattle.line_screen.specs.Pasting.{with_newlines}
-use Rattle.line_screen.specs.KeyGrammar.{Readings, Key, Stops, readings, coming_of, unknown, esc}
+use Rattle.line_screen.specs.KeyGrammar.{Readings, Key, Stops, readings, coming_of, esc}
+use Rattle.line_screen.specs.Sequences.{unknown}
 
 abbrev emacs : List ℕ → Readings
 emacs bytes = readings Emacs (chars_of bytes SourceEnd)
@@ -102,7 +103,7 @@ vi_esc_and_no_first_byte : vi (0x61 ∷ 0x1B ∷ 0xFF ∷ [])
     ≡ Key (key_with (Char 0x61) none) (0x1B ∷ 0xFF ∷ []) (Key esc (0xFF ∷ []) (Stops AtBad []))
 vi_esc_and_no_first_byte = refl
 
--- a source that fails right behind ESC, and one that fails inside a character behind it
+-- a source that fails right after ESC, and one that fails inside a character after it
 esc_and_a_failure : readings Vi (chars_of (0x1B ∷ []) SourceFailed) ≡ Stops AtFailure []
 esc_and_a_failure = refl
 

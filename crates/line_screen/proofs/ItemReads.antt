@@ -7,13 +7,13 @@ use Rattle.line_config.specs.Refusals.{MetBy}
 use Rattle.line_keys.specs.declared.key.KeyEvent.{KeyEvent}
 use Rattle.line_keys.specs.Coming.{Coming, Pressed, Pasted, Refused, key_at, paste_at, left_by, behind, left}
 use Rattle.line_keys.specs.Faults.{IsReaderRefusal}
-use Rattle.line_keys.specs.Feeds.{Item, Key, Paste, ReadAs, ReadsBy}
+use Rattle.line_keys.specs.Feeds.{InputItem, Key, Paste, ReadAs, ReadsBy}
 use Rattle.line_screen.specs.KeyCalls.{AnswersKey, AnswersText, IsMemoryKept}
 use Rattle.line_screen.specs.Reader.{items_of}
 use Rattle.line_screen.specs.declared.reading.reader.KeyReader.{KeyReader}
 
 -- a refusal that the input gives
-as_given : {X : Type 0} (item : Item) (steady : Bool) (at : Coming → Result X ReadlineError) (c c' : Coming) (e : ReadlineError)
+as_given : {X : Type 0} (item : InputItem) (steady : Bool) (at : Coming → Result X ReadlineError) (c c' : Coming) (e : ReadlineError)
     → c' ≡ left_by e → Err e ≡ at c → ReadAs item steady (at c) (behind c) (Err e) c'
 as_given item steady at c c' e err met = inl (met, err ∙ ap (λ r. left r (behind c)) met)
 

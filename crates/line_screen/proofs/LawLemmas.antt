@@ -11,9 +11,9 @@ use Rattle.line_editor.specs.Calls.Call.{Draw, Move, Write, Beep, ClearScreen, C
 use Rattle.line_screen.specs.Calls.{Screen, bytes_of}
 use Rattle.line_screen.specs.Cells.{Cell, cell_at}
 use Rattle.line_screen.specs.Cells.Cell.{Head, Tail}
-use Rattle.line_screen.specs.Chain.{View, Good, Leads, empty_at}
+use Rattle.line_screen.specs.Chain.{View, Good, LeadsView, empty_view}
 use Rattle.line_screen.specs.Display.{Display, Placed, blank, read, start, settled, meaning, at_cursor}
-use Rattle.line_screen.specs.Drawing.{full_drawing, text_items, after, next_row, row_break}
+use Rattle.line_screen.specs.Drawing.{full_drawing, text_items, place_after, next_row, row_break}
 use Rattle.line_screen.specs.Laws.{widths, FullDrawingShows, StartIsEmpty, CallsLead, ChainsLead, PlaceIsFree, LineEndsAnywhere, EndedLineStays, MeasuresGoOn, ShownIsMeant, CellsAreShown}
 use Rattle.line_screen.specs.Measure.{saturated, measure_of}
 use Rattle.line_screen.specs.Showing.{Picture, Stands, cells_of, finish_of, cursor_of, down_placed, above, from_top}
@@ -47,7 +47,7 @@ calls_lead s low high bytes over a b call g h =
     (led.next, led.good, led.stays)
 
 -- a line's top is never above the one before, but where the screen is cleared
-top_grows : (s : Screen) (a b : View) (call : Call) → Leads s.columns (widths s) a call b → call ≢ ClearScreen → a.top ≤ b.top
+top_grows : (s : Screen) (a b : View) (call : Call) → LeadsView s.columns (widths s) a call b → call ≢ ClearScreen → a.top ≤ b.top
 top_grows s a b (Draw old prompt line info finish cursor) h none = let same : b.top ≡ a.top = h.1.top_is in omega arith
 top_grows s a b (Move old new) h none = let same : b.top ≡ a.top = ap (λ (w : View). w.top) h.view in omega arith
 top_grows s a b (Write text) (inl h) none = let same : b.top ≡ a.top = ap (λ (w : View). w.top) h.view in omega arith
@@ -85,14 +85,14 @@ placed_of : (x y : Display) → Some x ≡ Some y → x.placed ≡ y.placed
 placed_of x y e = ap (λ (d : Display). d.placed) (ap (λ o. unwrap_or o x) e)
 
 -- all that stands above the next top is all that stands
-all_above : (s : Screen) (bytes : List ℕ) (over : List Placed) (top : ℕ) (g : Good s.columns (widths s) bytes over (empty_at top)) → g.display.placed ≡ over
+all_above : (s : Screen) (bytes : List ℕ) (over : List Placed) (top : ℕ) (g : Good s.columns (widths s) bytes over (empty_view top)) → g.display.placed ≡ over
 all_above s bytes over top g = sym (filter_all (above top) g.display.placed (all_by_parts (from_top top) (above top) g.display.placed (ap (list_all (above top)) g.cells) (above_if_none top))) ∙ g.over_is
 
 pub ended_line_stays : EndedLineStays
 ended_line_stays s low high bytes over a b text g h =
     let done = calls_lead s low high bytes over a b (Write text) g (inr h) in
     let there = a.top + (finish_of s.columns (widths s) a.shown).row + 1 in
-    let good : Good s.columns (widths s) (bytes ++ row_break) done.0 (empty_at there) =
+    let good : Good s.columns (widths s) (bytes ++ row_break) done.0 (empty_view there) =
     subst (λ w. Good s.columns (widths s) (bytes ++ row_break) done.0 w) h.view (subst (λ x. Good s.columns (widths s) (bytes ++ x) done.0 b) h.text_is done.1) in
     let now = stands_settled s.columns (widths s) (read s.columns (widths s) start (bytes ++ row_break)) good.display good.stands in
     let same : good.display.placed ≡ g.display.placed = placed_of good.display (at_cursor (next_row g.display.cursor) g.display) (sym now ∙ broken s bytes over a (omega arith) g) in
@@ -106,22 +106,22 @@ ended_line_stays s low high bytes over a b text g h =
 
 module _ (s : Screen) (some : 1 ≤ s.columns) where
   -- from a place in a row that may have been counted to 65,535 alone
-  measured_from : (text : List ℕ) (from : Position) → from.col < s.columns → measure_of s.mode s.columns text (saturated from) ≡ saturated (after s.columns (text_items (widths s) text) from)
+  measured_from : (text : List ℕ) (from : Position) → from.col < s.columns → measure_of s.mode s.columns text (saturated from) ≡ saturated (place_after s.columns (text_items (widths s) text) from)
   measured_from text from inside =
       let items = text_items (widths s) text in
-      ap (λ b. saturated (after s.columns items (if b then saturated from else next_row (saturated from)))) (lt-ltb from.col s.columns inside) ∙ after_saturated s.columns items from
+      ap (λ b. saturated (place_after s.columns items (if b then saturated from else next_row (saturated from)))) (lt-ltb from.col s.columns inside) ∙ after_saturated s.columns items from
 
-  inside_after : (text : List ℕ) (from : Position) → from.col < s.columns → (after s.columns (text_items (widths s) text) from).col < s.columns
+  inside_after : (text : List ℕ) (from : Position) → from.col < s.columns → (place_after s.columns (text_items (widths s) text) from).col < s.columns
   inside_after text from inside = after_inside s.columns (widths s) (text_items (widths s) text) from (items_fit s.mode s.columns some text) inside
 
   -- prompt, then a text
   measured_on : (prompt text : List ℕ)
-      → measure_of s.mode s.columns text (measure_of s.mode s.columns prompt origin) ≡ saturated (after s.columns (text_items (widths s) prompt ++ text_items (widths s) text) origin)
+      → measure_of s.mode s.columns text (measure_of s.mode s.columns prompt origin) ≡ saturated (place_after s.columns (text_items (widths s) prompt ++ text_items (widths s) text) origin)
   measured_on prompt text =
       let a = text_items (widths s) prompt in
       let b = text_items (widths s) text in
       ap (measure_of s.mode s.columns text) (measured_from prompt origin some)
-      ∙ measured_from text (after s.columns a origin) (inside_after prompt origin some)
+      ∙ measured_from text (place_after s.columns a origin) (inside_after prompt origin some)
       ∙ ap saturated (sym (after-append s.columns a b origin))
 
   finish_measured : (v : Picture) → (finish_of s.columns (widths s) v).row ≤ 65535
@@ -131,10 +131,10 @@ module _ (s : Screen) (some : 1 ≤ s.columns) where
       let a = text_items (widths s) v.prompt in
       let b = text_items (widths s) v.line in
       let c = text_items (widths s) v.info in
-      let there = after columns a origin in
-      let here = after columns b there in
-      let both : after columns (a ++ b) origin ≡ here = after-append columns a b origin in
-      let all : after columns c here ≡ after columns (a ++ (b ++ c)) origin = sym (after-append columns b c there) ∙ sym (after-append columns a (b ++ c) origin) in
+      let there = place_after columns a origin in
+      let here = place_after columns b there in
+      let both : place_after columns (a ++ b) origin ≡ here = after-append columns a b origin in
+      let all : place_after columns c here ≡ place_after columns (a ++ (b ++ c)) origin = sym (after-append columns b c there) ∙ sym (after-append columns a (b ++ c) origin) in
       ap (measure_of s.mode columns v.info) (measured_on v.prompt v.line ∙ ap saturated both)
       ∙ measured_from v.info here (inside_after v.line there (inside_after v.prompt origin some))
       ∙ ap saturated all

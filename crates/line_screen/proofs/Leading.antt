@@ -14,10 +14,10 @@ use Rattle.line_config.specs.declared.settings.BellStyle.TheVariants as Bells
 use Rattle.line_editor.specs.Calls.{Call}
 use Rattle.line_editor.specs.Calls.Call.{Draw, Move, Write, Beep, ClearScreen, ClearRows, ClearToEol, ToLeftmost}
 use Rattle.line_screen.specs.Calls.{Screen, bytes_of, bell_bytes, drawing_bytes}
-use Rattle.line_screen.specs.Chain.{View, Good, Inside, empty_at, Replaces, Redraws, is_simple, typed, Types, EndsLine, cut_line, Leads, at_place}
+use Rattle.line_screen.specs.Chain.{View, Good, Inside, empty_view, Replaces, Redraws, is_simple, with_letter, Types, ClosesLine, cut_line, LeadsView, with_place}
 use Rattle.line_screen.specs.Display.{Placed, Display, read, start, put_down, is_printable, right, ends_before, starts_before, is_cut, stays_in_row, at_cursor, erased_below, erased_right}
 use Rattle.line_screen.specs.Display.DisplayReading.{Text, Lost}
-use Rattle.line_screen.specs.Drawing.{text_items, next_row, leave, after, placed_at, lay, row_break, erase_to_end, erase_to_row_end, go_home, cleared, move_bytes, drawing, full_drawing}
+use Rattle.line_screen.specs.Drawing.{text_items, next_row, leave, place_after, placed_at, lay, row_break, erase_to_end, erase_to_row_end, go_home, clearing_bytes, move_bytes, drawing, full_drawing}
 use Rattle.line_screen.specs.Drawing.DrawnItem.{Letter}
 use Rattle.line_screen.specs.Measure.{cluster_width}
 use Rattle.line_screen.specs.Showing.{Stands, Picture, nothing, shown_items, cells_of, finish_of, cursor_of, down, down_placed, above, from_top}
@@ -170,21 +170,21 @@ module _ (mode : GraphemeClusterMode) (columns : ℕ) (some : 1 ≤ columns) (fe
   -- ---- what empties
 
   empty_good : (bytes : List ℕ) (over : List Placed) (top : ℕ) (d : Display) → Stands columns (read columns (cluster_width mode columns) start bytes) d → filter (from_top top) d.placed ≡ [] → d.cursor ≡ down top origin → filter (above top) d.placed ≡ over
-      → Good columns (cluster_width mode columns) bytes over (empty_at top)
+      → Good columns (cluster_width mode columns) bytes over (empty_view top)
   empty_good bytes over top d s none first kept = record { display = d; stands = s; inside = record { row = lit; col = omega arith }; cells = none; cursor = first; over_is = kept }
     where
       lit : 0 < 2 ^ 64
       lit = omega arith
 
-  rows_good : (bytes : List ℕ) (over : List Placed) (a : View) → Good columns (cluster_width mode columns) bytes over a → Good columns (cluster_width mode columns) (bytes ++ cleared a.place.row) over (empty_at a.top)
+  rows_good : (bytes : List ℕ) (over : List Placed) (a : View) → Good columns (cluster_width mode columns) bytes over a → Good columns (cluster_width mode columns) (bytes ++ clearing_bytes a.place.row) over (empty_view a.top)
   rows_good bytes over a g =
       let wide = cluster_width mode columns in
       let low = g.inside.row in
       let ready = cleared_ready columns wide (read columns wide start bytes) g.display a.top a.place.row g.stands (ap (λ p. p.row) g.cursor) (cursor_inside bytes over a g) low in
-      empty_good (bytes ++ cleared a.place.row) over a.top (wiped a.top g.display) (subst (λ x. Stands columns x (wiped a.top g.display)) (sym (read-append columns wide start bytes (cleared a.place.row))) ready.stands)
+      empty_good (bytes ++ clearing_bytes a.place.row) over a.top (wiped a.top g.display) (subst (λ x. Stands columns x (wiped a.top g.display)) (sym (read-append columns wide start bytes (clearing_bytes a.place.row))) ready.stands)
       (filter_none (from_top a.top) (filter (above a.top) g.display.placed) (list_all_filter (above a.top) (λ p. not (from_top a.top p)) (not_from_above a.top) g.display.placed)) refl (above_twice a.top a.top (omega arith) g.display.placed ∙ g.over_is)
 
-  screen_good : (bytes : List ℕ) (over : List Placed) (a : View) → Good columns (cluster_width mode columns) bytes over a → Good columns (cluster_width mode columns) (bytes ++ (go_home ++ erase_to_end)) [] (empty_at 0)
+  screen_good : (bytes : List ℕ) (over : List Placed) (a : View) → Good columns (cluster_width mode columns) bytes over a → Good columns (cluster_width mode columns) (bytes ++ (go_home ++ erase_to_end)) [] (empty_view 0)
   screen_good bytes over a g =
       let wide = cluster_width mode columns in
       let home : Display = at_cursor origin g.display in
@@ -210,7 +210,7 @@ module _ (mode : GraphemeClusterMode) (columns : ℕ) (some : 1 ≤ columns) (fe
       ap (λ q. list_all (ends_before q) g.display.placed) cursor_is ∙ all_by_parts (from_top a.top) (ends_before (down a.top finish)) g.display.placed shown (above_ends a.top finish)
 
   line_good : (bytes : List ℕ) (over : List Placed) (a : View) → Good columns (cluster_width mode columns) bytes over a → a.place ≡ finish_of columns (cluster_width mode columns) a.shown
-      → (next : List Placed) × Good columns (cluster_width mode columns) (bytes ++ row_break) next (empty_at (a.top + (finish_of columns (cluster_width mode columns) a.shown).row + 1)) × (filter (above a.top) next ≡ over)
+      → (next : List Placed) × Good columns (cluster_width mode columns) (bytes ++ row_break) next (empty_view (a.top + (finish_of columns (cluster_width mode columns) a.shown).row + 1)) × (filter (above a.top) next ≡ over)
   line_good bytes over a g e =
       let wide = cluster_width mode columns in
       let finish = finish_of columns wide a.shown in
@@ -237,26 +237,26 @@ module _ (mode : GraphemeClusterMode) (columns : ℕ) (some : 1 ≤ columns) (fe
       ∙ ap (λ is. text_items wide v.prompt ++ is) (append-nil (text_items wide v.line))
 
   -- the cursor after the line
-  pub line_cursor : (v : Picture) → v.place ≡ length v.line → cursor_of columns (cluster_width mode columns) v ≡ after columns (text_items (cluster_width mode columns) v.prompt ++ text_items (cluster_width mode columns) v.line) origin
+  pub line_cursor : (v : Picture) → v.place ≡ length v.line → cursor_of columns (cluster_width mode columns) v ≡ place_after columns (text_items (cluster_width mode columns) v.prompt ++ text_items (cluster_width mode columns) v.line) origin
   line_cursor v e =
       let wide = cluster_width mode columns in
       let whole : take v.place v.line ≡ v.line = take_all v.place v.line (omega arith) in
-      ap (λ line. after columns (text_items wide v.prompt ++ text_items wide line) origin) whole
+      ap (λ line. place_after columns (text_items wide v.prompt ++ text_items wide line) origin) whole
 
   pub not_left : (at : Position) → at.col + 1 < columns → leave columns (right 1 at) ≡ right 1 at
   not_left at room = ap (λ b. if b then next_row (right 1 at) else right 1 at) (ne_eqb (at.col + 1) columns (λ e. omega arith))
 
   types_good : (bytes : List ℕ) (over : List Placed) (a : View) (c : ℕ) → Good columns (cluster_width mode columns) bytes over a → is_printable c ≡ true → a.shown.info ≡ [] → a.shown.place ≡ length a.shown.line
       → list_all is_simple a.shown.line ≡ true → a.place ≡ cursor_of columns (cluster_width mode columns) a.shown → a.place.col + 1 < columns
-      → Good columns (cluster_width mode columns) (bytes ++ c ∷ []) over (record { shown = typed a.shown c; top = a.top; place = cursor_of columns (cluster_width mode columns) (typed a.shown c) })
+      → Good columns (cluster_width mode columns) (bytes ++ c ∷ []) over (record { shown = with_letter a.shown c; top = a.top; place = cursor_of columns (cluster_width mode columns) (with_letter a.shown c) })
   types_good bytes over a c g letter none end simple place_is room =
       let wide = cluster_width mode columns in
       let v = a.shown in
       let d = g.display in
       let base = text_items wide v.prompt ++ text_items wide v.line in
-      let there = after columns base origin in
+      let there = place_after columns base origin in
       let here : a.place ≡ there = place_is ∙ line_cursor v end in
-      let finish_is : a.place ≡ finish_of columns wide v = here ∙ ap (λ is. after columns is origin) (sym (line_items v none)) in
+      let finish_is : a.place ≡ finish_of columns wide v = here ∙ ap (λ is. place_after columns is origin) (sym (line_items v none)) in
       let clear : Clear d = record { all = clear_at_end bytes over a g finish_is } in
       let cursor_is : d.cursor ≡ down a.top there = g.cursor ∙ ap (down a.top) here in
       let col_is : d.cursor.col ≡ a.place.col = ap (λ p. p.col) g.cursor in
@@ -265,19 +265,19 @@ module _ (mode : GraphemeClusterMode) (columns : ℕ) (some : 1 ≤ columns) (fe
       -- the new items
       let more : text_items wide (v.line ++ c ∷ []) ≡ text_items wide v.line ++ Letter c ∷ [] = items_letters wide v.line (c ∷ []) simple (and_from (is_printable c) true letter refl) in
       let joined : text_items wide v.prompt ++ text_items wide (v.line ++ c ∷ []) ≡ base ++ Letter c ∷ [] = ap (λ is. text_items wide v.prompt ++ is) more ∙ sym (append_assoc (text_items wide v.prompt) (text_items wide v.line) (Letter c ∷ [])) in
-      let new_items : shown_items wide (typed v c) ≡ base ++ Letter c ∷ [] = line_items (typed v c) refl ∙ joined in
+      let new_items : shown_items wide (with_letter v c) ≡ base ++ Letter c ∷ [] = line_items (with_letter v c) refl ∙ joined in
       let new_length : v.place + 1 ≡ length (v.line ++ c ∷ []) = let count = length-append v.line (c ∷ []) in omega arith in
       let room_there : there.col + 1 < columns = subst (λ p. p.col + 1 < columns) here room in
-      let new_cursor : cursor_of columns wide (typed v c) ≡ right 1 there =
-      line_cursor (typed v c) new_length ∙ ap (λ is. after columns is origin) joined ∙ after-append columns base (Letter c ∷ []) origin ∙ not_left there room_there in
+      let new_cursor : cursor_of columns wide (with_letter v c) ≡ right 1 there =
+      line_cursor (with_letter v c) new_length ∙ ap (λ is. place_after columns is origin) joined ∙ after-append columns base (Letter c ∷ []) origin ∙ not_left there room_there in
       let placed = placed_at (c ∷ []) 1 d.cursor in
       let new_placed : placed ≡ down_placed a.top (placed_at (c ∷ []) 1 there) = ap (placed_at (c ∷ []) 1) cursor_is in
       let kept : filter (from_top a.top) (placed ∷ []) ≡ map (down_placed a.top) (placed_at (c ∷ []) 1 there ∷ []) =
       ap (λ p. filter (from_top a.top) (p ∷ [])) new_placed
       ∙ filter_all (from_top a.top) (down_placed a.top (placed_at (c ∷ []) 1 there) ∷ []) (and_from (nat_le a.top (a.top + there.row)) true (low_top a.top there.row) refl) in
-      let laid : cells_of columns wide (typed v c) ≡ cells_of columns wide v ++ placed_at (c ∷ []) 1 there ∷ [] =
+      let laid : cells_of columns wide (with_letter v c) ≡ cells_of columns wide v ++ placed_at (c ∷ []) 1 there ∷ [] =
       ap (λ is. lay columns is origin) new_items ∙ lay-append columns base (Letter c ∷ []) origin ∙ ap (λ is. lay columns is origin ++ placed_at (c ∷ []) 1 there ∷ []) (sym (line_items v none)) in
-      let cells : filter (from_top a.top) (d.placed ++ placed ∷ []) ≡ map (down_placed a.top) (cells_of columns wide (typed v c)) =
+      let cells : filter (from_top a.top) (d.placed ++ placed ∷ []) ≡ map (down_placed a.top) (cells_of columns wide (with_letter v c)) =
       filter-append (from_top a.top) d.placed (placed ∷ [])
       ∙ ap (λ xs. xs ++ filter (from_top a.top) (placed ∷ [])) g.cells
       ∙ ap (λ xs. map (down_placed a.top) (cells_of columns wide v) ++ xs) kept
@@ -307,7 +307,7 @@ module _ (mode : GraphemeClusterMode) (columns : ℕ) (some : 1 ≤ columns) (fe
       let d = g.display in
       let top = a.top in
       let base = text_items wide v.prompt ++ text_items wide line in
-      let there = after columns base origin in
+      let there = place_after columns base origin in
       let here : a.place ≡ there = place_is ∙ line_cursor (cut_line v line) refl in
       let cursor_is : d.cursor ≡ down top there = g.cursor ∙ ap (down top) here in
       -- what stood: the base, and the letters after it
@@ -318,7 +318,7 @@ module _ (mode : GraphemeClusterMode) (columns : ℕ) (some : 1 ≤ columns) (fe
       let first = lay columns base origin in
       let rest = lay columns (map Letter killed) there in
       let old_cells : cells_of columns wide v ≡ first ++ rest = ap (λ is. lay columns is origin) old_items ∙ lay-append columns base (map Letter killed) origin in
-      let finish_is : finish_of columns wide v ≡ after columns (map Letter killed) there = ap (λ is. after columns is origin) old_items ∙ after-append columns base (map Letter killed) origin in
+      let finish_is : finish_of columns wide v ≡ place_after columns (map Letter killed) there = ap (λ is. place_after columns is origin) old_items ∙ after-append columns base (map Letter killed) origin in
       let col_there : there.col < columns = subst (λ p. p.col < columns) here g.inside.col in
       let ends : list_all (ends_before there) first ≡ true = lay_ends columns base origin in
       let behind : list_all (is_behind there) rest ≡ true = letters_behind columns killed there col_there (subst (λ p. length killed ≤ p.col) finish_is room) in
@@ -399,7 +399,7 @@ pub record Led (s : Screen) (bytes : List ℕ) (over : List Placed) (a : View) (
 
 -- no cell tells the place in the line
 pub retold : (columns : ℕ) (wide : List ℕ → Option ℕ) (bytes : List ℕ) (over : List Placed) (a : View) (at : ℕ) → Good columns wide bytes over a
-    → Good columns wide bytes over (record { shown = at_place a.shown at; top = a.top; place = a.place })
+    → Good columns wide bytes over (record { shown = with_place a.shown at; top = a.top; place = a.place })
 retold columns wide bytes over a at g = record { display = g.display; stands = g.stands; inside = g.inside; cells = g.cells; cursor = g.cursor; over_is = g.over_is }
 
 pub over_again : (columns : ℕ) (wide : List ℕ → Option ℕ) (bytes : List ℕ) (over : List Placed) (a : View) → Good columns wide bytes over a → filter (above a.top) over ≡ over
@@ -409,7 +409,7 @@ same_over : (s : Screen) (bytes : List ℕ) (over : List Placed) (a : View) (cal
 same_over s bytes over a call b g h = record { next = over; good = h; stays = λ _. over_again s.columns (cluster_width s.mode s.columns) bytes over a g }
 
 write_led : (s : Screen) → 1 ≤ s.columns → s.columns < 2 ^ 64 → (bytes : List ℕ) (over : List Placed) (a b : View) (text : List ℕ) → Good s.columns (cluster_width s.mode s.columns) bytes over a
-    → Types s.columns (cluster_width s.mode s.columns) a text b ⊎ EndsLine s.columns (cluster_width s.mode s.columns) a text b → Led s bytes over a (Write text) b
+    → Types s.columns (cluster_width s.mode s.columns) a text b ⊎ ClosesLine s.columns (cluster_width s.mode s.columns) a text b → Led s bytes over a (Write text) b
 write_led s some few bytes over a b text g (inl t) =
     same_over s bytes over a (Write text) b g
     (subst (λ x. Good s.columns (cluster_width s.mode s.columns) (bytes ++ x) over b) (sym t.text_is)
@@ -424,7 +424,7 @@ write_led s some few bytes over a b text g (inr t) =
     }
 
 pub leads : (s : Screen) → 1 ≤ s.columns → s.columns < 2 ^ 64 → (bytes : List ℕ) (over : List Placed) (a b : View) (call : Call) → Good s.columns (cluster_width s.mode s.columns) bytes over a
-    → Leads s.columns (cluster_width s.mode s.columns) a call b → Led s bytes over a call b
+    → LeadsView s.columns (cluster_width s.mode s.columns) a call b → Led s bytes over a call b
 leads s some few bytes over a b (Draw old prompt line info finish cursor) g h =
     same_over s bytes over a (Draw old prompt line info finish cursor) b g (draw_good s.mode s.columns some few bytes over a b old prompt line info finish cursor g h.0 h.1)
 leads s some few bytes over a b (Move old new) g h =
@@ -443,8 +443,8 @@ leads s some few bytes over a b ClearScreen g h =
     }
 leads s some few bytes over a b (ClearRows row) g h =
     same_over s bytes over a (ClearRows row) b g
-    (subst (λ n. Good s.columns (cluster_width s.mode s.columns) (bytes ++ cleared n) over b) (sym h.0)
-    (subst (Good s.columns (cluster_width s.mode s.columns) (bytes ++ cleared a.place.row) over) (sym h.1) (rows_good s.mode s.columns some few bytes over a g)))
+    (subst (λ n. Good s.columns (cluster_width s.mode s.columns) (bytes ++ clearing_bytes n) over b) (sym h.0)
+    (subst (Good s.columns (cluster_width s.mode s.columns) (bytes ++ clearing_bytes a.place.row) over) (sym h.1) (rows_good s.mode s.columns some few bytes over a g)))
 leads s some few bytes over a b ClearToEol g h =
     same_over s bytes over a ClearToEol b g
     (subst (Good s.columns (cluster_width s.mode s.columns) (bytes ++ erase_to_row_end) over) (sym h.view)

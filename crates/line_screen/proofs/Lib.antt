@@ -1,4 +1,5 @@
 pub mod CallLemmas
+pub mod ControlLemmas
 pub mod Cuts
 pub mod Draws
 pub mod EncodedChars
@@ -25,6 +26,8 @@ mod Rows
 pub mod RowsLeft
 pub mod Runs
 pub mod Saturating
+pub mod SequenceLemmas
+pub mod SequenceSteps
 pub mod Shift
 pub mod ShortLemmas
 pub mod Standing

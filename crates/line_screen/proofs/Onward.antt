@@ -13,11 +13,10 @@ use Rattle.line_screen.specs.declared.reading.lookahead.Lookahead.{Lookahead}
 use Rattle.line_screen.specs.declared.reading.reader.KeyReader.{KeyReader}
 use Rattle.line_screen.specs.Characters.{ReadsFirst}
 use Rattle.line_screen.specs.Input.{Chars, Next, chars_of, char_at, behind_char}
-use Rattle.line_screen.specs.KeyGrammar.{Readings, left_after}
+use Rattle.line_screen.specs.KeyGrammar.{Readings, left_after, read_from}
 use Rattle.line_screen.specs.KeyReading.{ReadsPart}
-use Rattle.line_screen.specs.Reader.{feed_in, left_in}
-use Rattle.line_screen.specs.Reading.{Cut, IsCut, IsKeyRefusal, ReadsChar, PeeksByte}
-use Rattle.line_screen.specs.Unread.{ahead}
+use Rattle.line_screen.specs.Reader.{feed_in, left_in, reads}
+use Rattle.line_screen.specs.Reading.{Cut, IsCut, IsKeyRefusal, ReadsChar, PeeksByte, unread}
 use Rattle.line_screen.proofs.EncodedChars.{char_read}
 use Rattle.line_screen.proofs.ReadChars.{chars_are_encoded}
 use Rattle.line_screen.proofs.Runs.{if_ok}
@@ -95,10 +94,10 @@ on_here feed d a none =
     }
 
 module _ {S : Type 0} (feed : S → Feed) (d : List ℕ → Last → Readings) where
-  char_is : (c : ℕ) (m n : Lookahead S) → ReadsChar feed chars_of m n (Ok c) → IsTrue (ahead feed m).told
-      → chars_of (ahead feed m).coming (ahead feed m).last ≡ Next c (ahead feed n).coming (chars_of (ahead feed n).coming (ahead feed m).last)
+  char_is : (c : ℕ) (m n : Lookahead S) → ReadsChar feed chars_of m n (Ok c) → IsTrue (unread feed m).told
+      → chars_of (unread feed m).coming (unread feed m).last ≡ Next c (unread feed n).coming (chars_of (unread feed n).coming (unread feed m).last)
   char_is c m n char t =
-      char.ok t ∙ ap (λ last. Next c (ahead feed n).coming (chars_of (ahead feed n).coming last)) char.last
+      char.ok t ∙ ap (λ last. Next c (unread feed n).coming (chars_of (unread feed n).coming last)) char.last
 
   -- by one more character
   pub on_char : (f : Chars → Readings) (g : List ℕ → Last → Readings) (c : ℕ) (a m b : KeyReader S)
@@ -129,20 +128,20 @@ module _ {S : Type 0} (feed : S → Feed) (d : List ℕ → Last → Readings) w
       → On feed d g a b
   on_peek g byte a b n r none peek is bytes mode past owed goes =
       let kept : n.kept ≡ Some byte = rw is at peek.kept in
-      let fine : (feed_in feed a).failed ≡ false → (ahead feed n).failed ≡ false = rw is at peek.failure in
+      let fine : (feed_in feed a).failed ≡ false → (unread feed n).failed ≡ false = rw is at peek.failure in
       (record {
         leads = λ t. record {
           read = byte ∷ [];
-          split = sym (peek.read t) ∙ ap (λ k. option_to_list k ++ (feed n.source).coming) kept ∙ ap (λ l. byte ∷ (ahead feed l).coming) (sym bytes);
+          split = sym (peek.read t) ∙ ap (λ k. option_to_list k ++ (feed n.source).coming) kept ∙ ap (λ l. byte ∷ (unread feed l).coming) (sym bytes);
           same = goes;
         };
-        told = λ t. subst (λ l. IsTrue (ahead feed l).told) (sym bytes) (peek.told t);
-        steady = ap (λ l. (ahead feed l).steady) bytes ∙ peek.steady;
-        last = ap (λ l. (ahead feed l).last) bytes ∙ peek.last;
-        works = λ h. ap (λ l. (ahead feed l).failed) bytes ∙ fine h;
+        told = λ t. subst (λ l. IsTrue (unread feed l).told) (sym bytes) (peek.told t);
+        steady = ap (λ l. (unread feed l).steady) bytes ∙ peek.steady;
+        last = ap (λ l. (unread feed l).last) bytes ∙ peek.last;
+        works = λ h. ap (λ l. (unread feed l).failed) bytes ∙ fine h;
         keeps =
             let low = peek.keeps in
-            let all : (feed_in feed b).bound ≡ (feed n.source).bound + 0 = ap (λ l. (ahead feed l).bound) bytes in
+            let all : (feed_in feed b).bound ≡ (feed n.source).bound + 0 = ap (λ l. (unread feed l).bound) bytes in
             omega arith;
         mode = mode;
         past = past;
@@ -191,6 +190,39 @@ module _ {S : Type 0} (feed : S → Feed) (d : List ℕ → Last → Readings) w
           last = reads.last ∙ on.last;
           keeps = let one = on.keeps in let two = reads.keeps in omega arith;
           cut = λ t is. leads_cut answer_of d d' (left_in feed a) (left_in feed m) (left_in feed b) (on.leads t) (reads.cut (on.told t) is);
+        }
+
+    -- a character ends the item
+    pub on_ends : (f : Chars → Readings) (c : ℕ) (x : X) (a m b : KeyReader S)
+        → ((bytes : List ℕ) (rest : Readings) → answer_of (item x bytes rest) ≡ Ok x) → ((bytes : List ℕ) (rest : Readings) → left_after (item x bytes rest) ≡ bytes)
+        → On feed d (λ bytes last. f (chars_of bytes last)) a m → ReadsChar feed chars_of m.bytes b.bytes (Ok c)
+        → b.mode ≡ m.mode → b.refused ≡ m.refused
+        → ((bytes : List ℕ) (last : Last) → f (Next c bytes (chars_of bytes last)) ≡ item x bytes (read_from m.mode b.owed (chars_of bytes last)))
+        → ReadsPart feed item answer_of kinds d a b (Ok x)
+    on_ends f c x a m b answers leaves on char mode past goes =
+        let here : IsTrue (feed_in feed a).told → d (left_in feed a) (feed_in feed a).last ≡ item x (left_in feed b) (reads feed b) =
+        λ t. leads_is d (λ bytes last. f (chars_of bytes last)) (left_in feed a) (left_in feed m) (feed_in feed a).last (on.leads t)
+        ∙ ap (λ last. f (chars_of (left_in feed m) last)) (sym on.last)
+        ∙ ap f (char_is c m.bytes b.bytes char (on.told t)) ∙ goes (left_in feed b) (feed_in feed m).last
+        ∙ ap (λ w. item x (left_in feed b) (read_from w b.owed (chars_of (left_in feed b) (feed_in feed m).last))) (sym mode)
+        ∙ ap (λ last. item x (left_in feed b) (read_from b.mode b.owed (chars_of (left_in feed b) last))) (sym char.last) in
+        record {
+          ok = here;
+          answer = λ t h. sym (ap answer_of (here t) ∙ answers (left_in feed b) (reads feed b));
+          left = λ t h. ap left_after (here t) ∙ leaves (left_in feed b) (reads feed b);
+          spent = λ t h. absurd (cc);
+          ends = λ t h. absurd (cc);
+          owed = tt;
+          mode = mode ∙ on.mode;
+          past = past ∙ on.past;
+          refused = tt;
+          reason = λ h. absurd (cc);
+          failure = λ fine. char.failure (on.works fine);
+          told = λ t. char.told (on.told t);
+          steady = char.steady ∙ on.steady;
+          last = char.last ∙ on.last;
+          keeps = let one = on.keeps in let two = char.keeps in omega arith;
+          cut = λ t h. absurd (cc);
         }
 
     same_refusal : (e e' : ReadlineError) → refusal X e ≡ refusal X e' → e ≡ e'

@@ -183,7 +183,7 @@ mark_ends mode text after (suc (suc (suc (suc (suc (suc m)))))) more last low = 
 
 -- ---- newlines
 
--- the text behind a CR that was put, or behind none
+-- the text after a CR that was put, or after none
 abbrev newlines_after : Bool → List ℕ → List ℕ
 newlines_after after [] = []
 newlines_after after (b ∷ bytes) = if after && (b == 0x0A) then with_newlines bytes else with_newlines (b ∷ bytes)
@@ -241,7 +241,7 @@ put_is : (text : List ℕ) (after : Bool) (c : ℕ) (cs : List ℕ) → (c == 0x
     → put_all (put text after c) (c == 0x0D) cs ≡ put_all (text ++ encode c) false cs
 put_is text after c cs no_cr no_lf = rw (no_cr, no_lf) refl
 
--- LF right behind CR is skipped
+-- LF right after CR is skipped
 skipped : (text : List ℕ) (after : Bool) (c : ℕ) (cs : List ℕ) → (after && (c == 0x0A)) ≡ true → put_all text false cs ≡ text ++ newlines_after false (encode_utf8_all cs)
     → put_all (put text after c) (c == 0x0D) cs ≡ text ++ newlines_after after (encode c ++ encode_utf8_all cs)
 skipped text false c cs both rest = absurd (cc)

@@ -6,8 +6,7 @@ use Rattle.std.specs.Char.{IsScalar}
 use lib.Utf8.{encode}
 use Rattle.line_config.specs.declared.device.Last.{Last}
 use Rattle.line_config.specs.declared.device.Last.TheVariants.{End, Failed}
-use Rattle.line_screen.specs.declared.reading.utf8.Awaited.{Awaited}
-use Rattle.line_screen.specs.Input.{Next, Over, AtBad, chars_of, in_char, lead_in, lead_rows, value_with, after_byte}
+use Rattle.line_screen.specs.Input.{Next, Over, AtBad, Continuation, chars_of, in_char, lead_in, lead_rows, value_with, after_byte}
 use Rattle.line_screen.specs.Characters.{BeginChar, AreCutChar, StopFitting, ReadsFirst, CharsAreEncoded}
 use Rattle.line_screen.proofs.FirstBytes.{awaits, leads_none, leads_none_high, leads_two, leads_E0, leads_E1, leads_ED, leads_EE, leads_F0, leads_F1, leads_F4, first_byte, further_byte, last_byte, other_byte}
 use Rattle.line_screen.proofs.EncodedChars.{char_read, encode_one, encode_two, encode_three, encode_four}
@@ -15,18 +14,18 @@ use Rattle.line_screen.proofs.EncodedChars.{char_read, encode_one, encode_two, e
 -- ---- what a character's first bytes await
 
 -- whatever n and one more bytes stand where they may, they and the bytes before them are a character's
-abbrev Completes : ℕ → List ℕ → Awaited → Type 0
+abbrev Completes : ℕ → List ℕ → Continuation → Type 0
 Completes zero front a = (b : ℕ) → a.least ≤ b → b ≤ a.greatest → IsScalar (value_with a.value b) × (encode (value_with a.value b) ≡ front ++ b ∷ [])
 Completes (suc n) front a = (b : ℕ) → a.least ≤ b → b ≤ a.greatest → Completes n (front ++ b ∷ []) (after_byte a b)
 
-record Partly (n : ℕ) (front : List ℕ) (a : Awaited) : Type 0 where
+record Partly (n : ℕ) (front : List ℕ) (a : Continuation) : Type 0 where
   count : a.more ≡ n
   some : a.least ≤ a.greatest
   some_bytes : front ≢ []
   completes : Completes n front a
   reads : (bytes : List ℕ) (last : Last) → chars_of (front ++ bytes) last ≡ in_char (Some a) bytes last
 
-further : (n : ℕ) (front : List ℕ) (a : Awaited) (b : ℕ) → Partly (suc n) front a → a.least ≤ b → b ≤ a.greatest → Partly n (front ++ b ∷ []) (after_byte a b)
+further : (n : ℕ) (front : List ℕ) (a : Continuation) (b : ℕ) → Partly (suc n) front a → a.least ≤ b → b ≤ a.greatest → Partly n (front ++ b ∷ []) (after_byte a b)
 further n front a b p low high = record {
   count = let is = p.count in omega (arith, is);
   some = omega arith;
@@ -41,7 +40,7 @@ further n front a b p low high = record {
     no_more (x ∷ xs) b is = absurd (cc)
 
 -- ---- such bytes are the first ones of some character's
-begin : (n : ℕ) (front : List ℕ) (a : Awaited) → Partly n front a → (c : ℕ) × (more : List ℕ) × IsScalar c × (encode c ≡ front ++ more) × (more ≢ [])
+begin : (n : ℕ) (front : List ℕ) (a : Continuation) → Partly n front a → (c : ℕ) × (more : List ℕ) × IsScalar c × (encode c ≡ front ++ more) × (more ≢ [])
 begin zero front a p =
     let done = p.completes a.least (omega arith) p.some in
     (value_with a.value a.least, a.least ∷ [], done.0, done.1, λ is. absurd (cc))
@@ -57,16 +56,16 @@ unfit front b reads begins =
     sym (char_read begins.0 [] End begins.2) ∙ ap (λ bytes. chars_of bytes End) (append-nil (encode begins.0) ∙ same) ∙ reads begins.1 End in
     absurd (cc)
 
-cut : (n : ℕ) (front : List ℕ) (a : Awaited) → Partly n front a → AreCutChar (front ++ [])
+cut : (n : ℕ) (front : List ℕ) (a : Continuation) → Partly n front a → AreCutChar (front ++ [])
 cut n front a p =
     let begun = begin n front a p in
     subst AreCutChar (sym (append-nil front)) (begun.0, begun.1, begun.2, begun.3, p.some_bytes, begun.4)
 
-cut_off : (n : ℕ) (front : List ℕ) (a : Awaited) → Partly n front a → (last : Last) → ReadsFirst last (front ++ []) (in_char (Some a) [] last)
+cut_off : (n : ℕ) (front : List ℕ) (a : Continuation) → Partly n front a → (last : Last) → ReadsFirst last (front ++ []) (in_char (Some a) [] last)
 cut_off n front a p End = inl (cut n front a p, refl, refl)
 cut_off n front a p Failed = (cut n front a p, refl, refl)
 
-stopped : (n : ℕ) (front : List ℕ) (a : Awaited) → Partly n front a → (b : ℕ) (bytes : List ℕ) → (nat_lt b a.least || nat_lt a.greatest b) ≡ true → StopFitting (front ++ b ∷ bytes) bytes
+stopped : (n : ℕ) (front : List ℕ) (a : Continuation) → Partly n front a → (b : ℕ) (bytes : List ℕ) → (nat_lt b a.least || nat_lt a.greatest b) ≡ true → StopFitting (front ++ b ∷ bytes) bytes
 stopped n front a p b bytes out =
     let begun = begin n front a p in
     (front, b, refl, (begun.0, begun.1, begun.2, begun.3), unfit front b (λ more last. p.reads (b ∷ more) last ∙ other_byte a b more last out))
@@ -75,7 +74,7 @@ by_test : (b : Bool) → (b ≡ true) ⊎ (b ≡ false)
 by_test true = inl refl
 by_test false = inr refl
 
-inside : (n : ℕ) (front : List ℕ) (a : Awaited) → Partly n front a → (bytes : List ℕ) (last : Last) → ReadsFirst last (front ++ bytes) (in_char (Some a) bytes last)
+inside : (n : ℕ) (front : List ℕ) (a : Continuation) → Partly n front a → (bytes : List ℕ) (last : Last) → ReadsFirst last (front ++ bytes) (in_char (Some a) bytes last)
 inside n front a p [] last = cut_off n front a p last
 inside zero front a p (b ∷ bytes) last = elim (by_test (nat_lt b a.least || nat_lt a.greatest b)) [
   | inl out ↦ subst (ReadsFirst last (front ++ b ∷ bytes)) (sym (other_byte a b bytes last out)) (inr (stopped zero front a p b bytes out))
@@ -145,7 +144,7 @@ four_complete b l g low high seconds second_low long greatest_is d least greates
     quadruple : (x y z w u v s t : ℕ) → x ≡ y → z ≡ w → u ≡ v → s ≡ t → let l : List ℕ = x ∷ z ∷ u ∷ s ∷ [] in l ≡ y ∷ w ∷ v ∷ t ∷ []
     quadruple x y z w u v s t e f g h = cc
 
-row : (n : ℕ) (b : ℕ) (a : Awaited) → 0x80 ≤ b → lead_in lead_rows b ≡ Some a → a.more ≡ n → a.least ≤ a.greatest → Completes n (b ∷ []) a → Partly n (b ∷ []) a
+row : (n : ℕ) (b : ℕ) (a : Continuation) → 0x80 ≤ b → lead_in lead_rows b ≡ Some a → a.more ≡ n → a.least ≤ a.greatest → Completes n (b ∷ []) a → Partly n (b ∷ []) a
 row n b a high leads count some completes = record {
   count = count;
   some = some;
@@ -159,7 +158,7 @@ begins_none b high leads bytes last =
     subst (ReadsFirst last (b ∷ bytes)) (sym (first_byte b bytes last None high leads))
     (inr ([], b, refl, (0, 0 ∷ [], refl, encode_one 0 (omega arith)), unfit [] b (λ more last. first_byte b more last None high leads)))
 
-begins : (n : ℕ) (b : ℕ) (a : Awaited) → 0x80 ≤ b → lead_in lead_rows b ≡ Some a → a.more ≡ n → a.least ≤ a.greatest → Completes n (b ∷ []) a
+begins : (n : ℕ) (b : ℕ) (a : Continuation) → 0x80 ≤ b → lead_in lead_rows b ≡ Some a → a.more ≡ n → a.least ≤ a.greatest → Completes n (b ∷ []) a
     → (bytes : List ℕ) (last : Last) → ReadsFirst last (b ∷ bytes) (chars_of (b ∷ bytes) last)
 begins n b a high leads count some completes bytes last =
     subst (ReadsFirst last (b ∷ bytes)) (sym (first_byte b bytes last (Some a) high leads))

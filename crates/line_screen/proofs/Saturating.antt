@@ -3,7 +3,7 @@ use Rattle.std.proofs.Common.{◌≡◌, ℕ, ◌+◌, ◌<◌, ◌≤◌, ◌==
 use Rattle.std.proofs.lemmas.Bool.{ne_eqb, eqb-true, eqb-false}
 use Rattle.line_buffer.specs.declared.layout.Position.{Position}
 use Rattle.line_screen.specs.Display.{right}
-use Rattle.line_screen.specs.Drawing.{DrawnItem, next_row, fit, leave, after_one, after}
+use Rattle.line_screen.specs.Drawing.{DrawnItem, next_row, fit, leave, after_one, place_after}
 use Rattle.line_screen.specs.Drawing.DrawnItem.{NewRow, Letter, Cluster}
 use Rattle.line_screen.specs.Measure.{saturated, Comes}
 use Rattle.line_screen.proofs.Moves.{place}
@@ -45,14 +45,14 @@ alike_one columns (Letter c) p q h = alike_leave columns (right 1 p) (right 1 q)
 alike_one columns (Cluster bytes width) p q h =
     alike_leave columns (right width (fit columns width p)) (right width (fit columns width q)) (alike_right width (fit columns width p) (fit columns width q) (alike_fit columns width p q h))
 
-alike_after : (columns : ℕ) (items : List DrawnItem) (p q : Position) → Alike p q → Alike (after columns items p) (after columns items q)
+alike_after : (columns : ℕ) (items : List DrawnItem) (p q : Position) → Alike p q → Alike (place_after columns items p) (place_after columns items q)
 alike_after columns [] p q h = h
 alike_after columns (item ∷ items) p q h = alike_after columns items (after_one columns item p) (after_one columns item q) (alike_one columns item p q h)
 
 same_place : (p q : Position) → Alike p q → saturated p ≡ saturated q
 same_place p q h = ap (λ c. place c (min p.row 65535)) h.col ∙ ap (place q.col) h.row
 
-pub after_saturated : (columns : ℕ) (items : List DrawnItem) (p : Position) → saturated (after columns items (saturated p)) ≡ saturated (after columns items p)
+pub after_saturated : (columns : ℕ) (items : List DrawnItem) (p : Position) → saturated (place_after columns items (saturated p)) ≡ saturated (place_after columns items p)
 after_saturated columns items p = same_place _ _ (alike_after columns items (saturated p) p (alike_saturated p))
 
 pub saturated_twice : (p : Position) → saturated (saturated p) ≡ saturated p
@@ -64,8 +64,8 @@ saturated_small p h = let e : min p.row 65535 ≡ p.row = omega arith in ap (pla
 -- ---- a run of letters
 
 last_if : (columns c : ℕ) (cs : List ℕ) (at : Position) → at.col < columns → at.col + length (c ∷ cs) ≤ columns
-    → (at.col + 1 < columns → after columns (map Letter cs) (right 1 at) ≡ leave columns (right (length cs) (right 1 at)))
-    → (b : Bool) → (at.col + 1 == columns) ≡ b → after columns (map Letter cs) (if b then next_row (right 1 at) else right 1 at) ≡ leave columns (right (length (c ∷ cs)) at)
+    → (at.col + 1 < columns → place_after columns (map Letter cs) (right 1 at) ≡ leave columns (right (length cs) (right 1 at)))
+    → (b : Bool) → (at.col + 1 == columns) ≡ b → place_after columns (map Letter cs) (if b then next_row (right 1 at) else right 1 at) ≡ leave columns (right (length (c ∷ cs)) at)
 last_if columns c [] at low room more true e = sym (ap (λ b. if b then next_row (right 1 at) else right 1 at) e)
 last_if columns c (d ∷ cs) at low room more true e = let last = eqb-true (at.col + 1) columns e in absurd (omega arith)
 last_if columns c cs at low room more false e =
@@ -73,7 +73,7 @@ last_if columns c cs at low room more false e =
     let count : at.col + 1 + length cs ≡ at.col + length (c ∷ cs) = omega arith in
     more (grind arith) ∙ ap (λ n. leave columns (place n at.row)) count
 
-pub after_run : (columns : ℕ) (letters : List ℕ) (at : Position) → at.col < columns → at.col + length letters ≤ columns → after columns (map Letter letters) at ≡ leave columns (right (length letters) at)
+pub after_run : (columns : ℕ) (letters : List ℕ) (at : Position) → at.col < columns → at.col + length letters ≤ columns → place_after columns (map Letter letters) at ≡ leave columns (right (length letters) at)
 after_run columns [] at low room =
     let e : (at.col + 0 == columns) ≡ false = ne_eqb (at.col + 0) columns (λ same. omega arith) in
     let none : at.col ≡ at.col + 0 = omega arith in
@@ -87,7 +87,7 @@ none_left (c ∷ cs) h = absurd (omega arith)
 -- ---- a loop over items: where it is, and what is left
 
 pub record Reached (columns : ℕ) (from : Position) (all left : List DrawnItem) (at : Position) : Type 0 where
-  pub same : saturated (after columns left at) ≡ saturated (after columns all from)
+  pub same : saturated (place_after columns left at) ≡ saturated (place_after columns all from)
   pub inside : at.col < columns
   pub low : at.row ≤ 65535
 
@@ -95,16 +95,16 @@ pub reached_start : (columns : ℕ) (all : List DrawnItem) (from : Position) →
 reached_start columns all from h low = record { same = refl; inside = h; low = low }
 
 pub reached_steps : (columns : ℕ) (from : Position) (all items left before : List DrawnItem) (at next : Position) → Reached columns from all before at → before ≡ items ++ left
-    → next ≡ saturated (after columns items at) → next.col < columns → Reached columns from all left next
+    → next ≡ saturated (place_after columns items at) → next.col < columns → Reached columns from all left next
 reached_steps columns from all items left before at next h split is inside =
     record {
-      same = ap (λ p. saturated (after columns left p)) is
-          ∙ after_saturated columns left (after columns items at)
-          ∙ ap saturated (sym (after-append columns items left at) ∙ ap (λ xs. after columns xs at) (sym split))
+      same = ap (λ p. saturated (place_after columns left p)) is
+          ∙ after_saturated columns left (place_after columns items at)
+          ∙ ap saturated (sym (after-append columns items left at) ∙ ap (λ xs. place_after columns xs at) (sym split))
           ∙ h.same;
       inside = inside;
-      low = let row_is : next.row ≡ min (after columns items at).row 65535 = ap (λ p. p.row) is in omega arith;
+      low = let row_is : next.row ≡ min (place_after columns items at).row 65535 = ap (λ p. p.row) is in omega arith;
     }
 
-pub reached_end : (columns : ℕ) (from : Position) (all left : List DrawnItem) (at : Position) → Reached columns from all left at → left ≡ [] → Comes columns (after columns all from) at
-reached_end columns from all left at h none = record { place = sym (saturated_small at h.low) ∙ ap (λ xs. saturated (after columns xs at)) (sym none) ∙ h.same; inside = h.inside }
+pub reached_end : (columns : ℕ) (from : Position) (all left : List DrawnItem) (at : Position) → Reached columns from all left at → left ≡ [] → Comes columns (place_after columns all from) at
+reached_end columns from all left at h none = record { place = sym (saturated_small at h.low) ∙ ap (λ xs. saturated (place_after columns xs at)) (sym none) ∙ h.same; inside = h.inside }

@@ -3,7 +3,7 @@ use Rattle.std.proofs.Common.{◌≡◌, ℕ, ◌+◌, ◌==◌, nat_le, Bool, t
 use Rattle.std.proofs.lemmas.List.{map-append}
 use Rattle.line_buffer.specs.declared.layout.Position.{Position}
 use Rattle.line_screen.specs.Display.{right}
-use Rattle.line_screen.specs.Drawing.{DrawnItem, next_row, fit, leave, after_one, after, placed_at, lay_one, lay}
+use Rattle.line_screen.specs.Drawing.{DrawnItem, next_row, fit, leave, after_one, place_after, placed_at, lay_one, lay}
 use Rattle.line_screen.specs.Drawing.DrawnItem.{NewRow, Letter, Cluster}
 use Rattle.line_screen.specs.Showing.{down, down_placed}
 use Rattle.line_screen.proofs.Moves.{place}
@@ -29,9 +29,9 @@ down_after_one columns top (Letter c) at = down_leave columns top (right 1 at)
 down_after_one columns top (Cluster bytes width) at =
     ap (λ q. leave columns (right width q)) (down_fit columns width top at) ∙ down_leave columns top (right width (fit columns width at))
 
-pub after_down : (columns top : ℕ) (items : List DrawnItem) (at : Position) → after columns items (down top at) ≡ down top (after columns items at)
+pub after_down : (columns top : ℕ) (items : List DrawnItem) (at : Position) → place_after columns items (down top at) ≡ down top (place_after columns items at)
 after_down columns top [] at = refl
-after_down columns top (item ∷ items) at = ap (after columns items) (down_after_one columns top item at) ∙ after_down columns top items (after_one columns item at)
+after_down columns top (item ∷ items) at = ap (place_after columns items) (down_after_one columns top item at) ∙ after_down columns top items (after_one columns item at)
 
 down_lay_one : (columns top : ℕ) (item : DrawnItem) (at : Position) → lay_one columns item (down top at) ≡ map (down_placed top) (lay_one columns item at)
 down_lay_one columns top NewRow at = refl
@@ -46,12 +46,12 @@ lay_down columns top (item ∷ items) at =
     ∙ ap (λ xs. map (down_placed top) (lay_one columns item at) ++ xs) (lay_down columns top items (after_one columns item at))
     ∙ sym (map-append (down_placed top) (lay_one columns item at) (lay columns items (after_one columns item at)))
 
-pub after-append : (columns : ℕ) (xs ys : List DrawnItem) (at : Position) → after columns (xs ++ ys) at ≡ after columns ys (after columns xs at)
+pub after-append : (columns : ℕ) (xs ys : List DrawnItem) (at : Position) → place_after columns (xs ++ ys) at ≡ place_after columns ys (place_after columns xs at)
 after-append columns [] ys at = refl
 after-append columns (x ∷ xs) ys at = after-append columns xs ys (after_one columns x at)
 
-pub lay-append : (columns : ℕ) (xs ys : List DrawnItem) (at : Position) → lay columns (xs ++ ys) at ≡ lay columns xs at ++ lay columns ys (after columns xs at)
+pub lay-append : (columns : ℕ) (xs ys : List DrawnItem) (at : Position) → lay columns (xs ++ ys) at ≡ lay columns xs at ++ lay columns ys (place_after columns xs at)
 lay-append columns [] ys at = refl
 lay-append columns (x ∷ xs) ys at =
     ap (λ zs. lay_one columns x at ++ zs) (lay-append columns xs ys (after_one columns x at))
-    ∙ sym (append_assoc (lay_one columns x at) (lay columns xs (after_one columns x at)) (lay columns ys (after columns xs (after_one columns x at))))
+    ∙ sym (append_assoc (lay_one columns x at) (lay columns xs (after_one columns x at)) (lay columns ys (place_after columns xs (after_one columns x at))))

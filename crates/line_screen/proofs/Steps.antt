@@ -1,42 +1,16 @@
 -- What a character leads to, by the part of a key in which it stands.
-use Rattle.std.proofs.Common.{◌≡◌, ℕ, ◌+◌, ◌≤◌, ◌==◌, ◌&&◌, Bool, false, List, ◌++◌, take, refl, arith}
+use Rattle.std.proofs.Common.{◌≡◌, ℕ, ◌+◌, ◌==◌, ◌&&◌, Bool, false, List, ◌++◌, take, refl, arith}
 use Rattle.std.specs.Prelude.{slice_index}
 use Rattle.std.proofs.lemmas.Bool.Decides.{nat_tests}
 use Rattle.line_config.specs.declared.device.Last.{Last}
 use Rattle.line_config.specs.declared.settings.EditMode.{EditMode}
-use Rattle.line_screen.specs.declared.reading.sequence.Parameters.{Parameters}
-use Rattle.line_screen.specs.declared.reading.sequence.Parameters.TheVariants.{One}
 use Rattle.line_screen.specs.Input.{Next, chars_of}
-use Rattle.line_screen.specs.KeyGrammar.{readings, in_bracket, in_control, in_unknown, in_paste, marker, put, with_parameter}
-use Rattle.line_screen.specs.KeyReading.{escape_from, linux_from, control_from, unknown_from}
+use Rattle.line_screen.specs.KeyGrammar.{readings, in_paste, marker, put}
+use Rattle.line_screen.specs.KeyReading.{escape_from}
 
 pub key_escape : (mode : EditMode) (c : ℕ) → c ≡ 0x1B → (bytes : List ℕ) (last : Last)
     → readings mode (Next c bytes (chars_of bytes last)) ≡ escape_from mode bytes last
 key_escape mode c is bytes last = rw is refl
-
-pub bracket_linux : (mode : EditMode) (c : ℕ) → c ≡ 0x5B → (bytes : List ℕ) (last : Last)
-    → in_bracket mode (Next c bytes (chars_of bytes last)) ≡ linux_from mode bytes last
-bracket_linux mode c is bytes last = rw is refl
-
-pub bracket_control : (mode : EditMode) (c : ℕ) → 0x30 ≤ c → c ≤ 0x3F → (bytes : List ℕ) (last : Last)
-    → in_bracket mode (Next c bytes (chars_of bytes last)) ≡ control_from mode (One c) bytes last
-bracket_control mode c low high bytes last = grind (arith, nat_tests)
-
-pub bracket_unknown : (mode : EditMode) (c : ℕ) → 0x20 ≤ c → c ≤ 0x2F → (bytes : List ℕ) (last : Last)
-    → in_bracket mode (Next c bytes (chars_of bytes last)) ≡ unknown_from mode bytes last
-bracket_unknown mode c low high bytes last = grind (arith, nat_tests)
-
-pub control_control : (mode : EditMode) (written : Parameters) (c : ℕ) → 0x30 ≤ c → c ≤ 0x3F → (bytes : List ℕ) (last : Last)
-    → in_control mode written (Next c bytes (chars_of bytes last)) ≡ control_from mode (with_parameter written c) bytes last
-control_control mode written c low high bytes last = grind (arith, nat_tests)
-
-pub control_unknown : (mode : EditMode) (written : Parameters) (c : ℕ) → 0x20 ≤ c → c ≤ 0x2F → (bytes : List ℕ) (last : Last)
-    → in_control mode written (Next c bytes (chars_of bytes last)) ≡ unknown_from mode bytes last
-control_unknown mode written c low high bytes last = grind (arith, nat_tests)
-
-pub unknown_unknown : (mode : EditMode) (c : ℕ) → 0x20 ≤ c → c ≤ 0x2F → (bytes : List ℕ) (last : Last)
-    → in_unknown mode (Next c bytes (chars_of bytes last)) ≡ unknown_from mode bytes last
-unknown_unknown mode c low high bytes last = grind (arith, nat_tests)
 
 -- in a pasted text
 pub paste_mark : (mode : EditMode) (text : List ℕ) (after_return : Bool) (matched c : ℕ) → c ≡ slice_index marker matched → (matched ≡ 5 → ⊥)

@@ -10,7 +10,7 @@ use Rattle.line_config.specs.declared.settings.BellStyle.{BellStyle}
 use Rattle.line_config.specs.declared.settings.BellStyle.TheVariants.{Audible}
 use Rattle.line_editor.specs.Calls.{Call, Canvas, Ruler}
 use Rattle.line_editor.specs.Calls.Call.{Draw, Move, Write, Beep, ClearScreen, ClearRows, ClearToEol, ToLeftmost}
-use Rattle.line_screen.specs.Drawing.{drawing, full_drawing, cleared, move_bytes, erase_to_end, erase_to_row_end, go_home}
+use Rattle.line_screen.specs.Drawing.{drawing, full_drawing, clearing_bytes, move_bytes, erase_to_end, erase_to_row_end, go_home}
 use Rattle.line_screen.specs.Measure.{cluster_width, measure_of}
 use Rattle.line_screen.specs.declared.renderer.ScreenRenderer.{ScreenRenderer}
 
@@ -55,7 +55,7 @@ bytes_of s (Move old new) = move_bytes old new
 bytes_of s (Write text) = text
 bytes_of s Beep = bell_bytes s.bell
 bytes_of s ClearScreen = go_home ++ erase_to_end
-bytes_of s (ClearRows row) = cleared row
+bytes_of s (ClearRows row) = clearing_bytes row
 bytes_of s ClearToEol = erase_to_row_end
 bytes_of s ToLeftmost = []
 

@@ -34,8 +34,8 @@ pub record Good (columns : ℕ) (wide : List ℕ → Option ℕ) (bytes : List �
   pub over_is : filter (above w.top) display.placed ≡ over
 
 -- nothing, with the cursor in the first cell of a row
-abbrev pub empty_at : ℕ → View
-empty_at top = record { shown = nothing; top = top; place = origin }
+abbrev pub empty_view : ℕ → View
+empty_view top = record { shown = nothing; top = top; place = origin }
 
 -- ---- what a call asks for, and the view after it
 
@@ -59,22 +59,27 @@ Replaces (Some row) a = row ≡ a.place.row
 Replaces None a = (a.shown ≡ nothing) × (a.place ≡ origin)
 
 -- the same, with the cursor at another place in the line
-abbrev pub at_place : Picture → ℕ → Picture
-at_place v place = record { prompt = v.prompt; line = v.line; place = place; info = v.info }
+abbrev pub with_place : Picture → ℕ → Picture
+with_place v place = record { prompt = v.prompt; line = v.line; place = place; info = v.info }
 
 -- the cursor goes to a cell, and may stand for another place in the line there
 pub record Moves (columns : ℕ) (a : View) (old new : Position) (b : View) : Type 0 where
   pub old_is : old ≡ a.place
   pub inside : Inside columns new
   pub at : ℕ
-  pub view : b ≡ record { shown = at_place a.shown at; top = a.top; place = new }
+  pub view : b ≡ record { shown = with_place a.shown at; top = a.top; place = new }
 
 -- printable ASCII and newlines
 abbrev pub is_simple : ℕ → Bool
 is_simple c = (c == 0x0A) || is_printable c
 
-abbrev pub typed : Picture → ℕ → Picture
-typed v c = record { prompt = v.prompt; line = v.line ++ c ∷ []; place = v.place + 1; info = [] }
+abbrev pub with_letter : Picture → ℕ → Picture
+with_letter v c = record {
+  prompt = v.prompt;
+  line = v.line ++ c ∷ [];
+  place = v.place + 1;
+  info = [];
+}
 
 -- a printable character of ASCII at the end of a simple line, not into the last column, with
 -- nothing after the line
@@ -89,17 +94,17 @@ pub record Types (columns : ℕ) (wide : List ℕ → Option ℕ) (a : View) (te
   pub place_is : a.place ≡ cursor_of columns wide a.shown
   pub room : a.place.col + 1 < columns
   pub view : b ≡ record {
-    shown = typed a.shown c;
+    shown = with_letter a.shown c;
     top = a.top;
-    place = cursor_of columns wide (typed a.shown c);
+    place = cursor_of columns wide (with_letter a.shown c);
   }
 
 -- CR LF at the whole drawing's end
-pub record EndsLine (columns : ℕ) (wide : List ℕ → Option ℕ) (a : View) (text : List ℕ)
+pub record ClosesLine (columns : ℕ) (wide : List ℕ → Option ℕ) (a : View) (text : List ℕ)
     (b : View) : Type 0 where
   pub text_is : text ≡ row_break
   pub place_is : a.place ≡ finish_of columns wide a.shown
-  pub view : b ≡ empty_at (a.top + (finish_of columns wide a.shown).row + 1)
+  pub view : b ≡ empty_view (a.top + (finish_of columns wide a.shown).row + 1)
 
 abbrev pub cut_line : Picture → List ℕ → Picture
 cut_line v line = record { prompt = v.prompt; line = line; place = length line; info = [] }
@@ -117,13 +122,14 @@ pub record ErasesKilled (columns : ℕ) (wide : List ℕ → Option ℕ) (a b : 
   pub place_is : a.place ≡ cursor_of columns wide (cut_line a.shown line)
   pub view : b ≡ record { shown = cut_line a.shown line; top = a.top; place = a.place }
 
-abbrev pub Leads : ℕ → (List ℕ → Option ℕ) → View → Call → View → Type 0
-Leads columns wide a (Draw old prompt line info finish cursor) b = Replaces old a
+abbrev pub LeadsView : ℕ → (List ℕ → Option ℕ) → View → Call → View → Type 0
+LeadsView columns wide a (Draw old prompt line info finish cursor) b = Replaces old a
     × Redraws columns wide a prompt line info finish cursor b
-Leads columns wide a (Move old new) b = Moves columns a old new b
-Leads columns wide a (Write text) b = Types columns wide a text b ⊎ EndsLine columns wide a text b
-Leads columns wide a Beep b = b ≡ a
-Leads columns wide a ClearScreen b = b ≡ empty_at 0
-Leads columns wide a (ClearRows row) b = (row ≡ a.place.row) × (b ≡ empty_at a.top)
-Leads columns wide a ClearToEol b = ErasesKilled columns wide a b
-Leads columns wide a ToLeftmost b = b ≡ a
+LeadsView columns wide a (Move old new) b = Moves columns a old new b
+LeadsView columns wide a (Write text) b =
+    Types columns wide a text b ⊎ ClosesLine columns wide a text b
+LeadsView columns wide a Beep b = b ≡ a
+LeadsView columns wide a ClearScreen b = b ≡ empty_view 0
+LeadsView columns wide a (ClearRows row) b = (row ≡ a.place.row) × (b ≡ empty_view a.top)
+LeadsView columns wide a ClearToEol b = ErasesKilled columns wide a b
+LeadsView columns wide a ToLeftmost b = b ≡ a

@@ -7,7 +7,7 @@ use Rattle.line_config.specs.declared.device.Last.{Last}
 use Rattle.line_config.specs.declared.device.Last.TheVariants.{End, Failed}
 use Rattle.line_screen.specs.Input.{Chars, Next, Over, Stop, AtEnd, AtBad, AtFailure, Torn, Inside, chars_of}
 
--- these characters, each with the bytes behind it, and then what follows them
+-- these characters, each with the bytes after it, and then what follows them
 abbrev pub chars_before : List ℕ → List ℕ → Chars → Chars
 chars_before [] more following = following
 chars_before (c ∷ cs) more following = Next c (encode_utf8_all cs ++ more)

@@ -66,9 +66,9 @@ after_one columns (Letter c) at = leave columns (right 1 at)
 after_one columns (Cluster bytes width) at = leave columns (right width (fit columns width at))
 
 -- where the drawing of these ends
-abbrev pub after : ℕ → List DrawnItem → Position → Position
-after columns [] at = at
-after columns (item ∷ items) at = after columns items (after_one columns item at)
+abbrev pub place_after : ℕ → List DrawnItem → Position → Position
+place_after columns [] at = at
+place_after columns (item ∷ items) at = place_after columns items (after_one columns item at)
 
 abbrev pub placed_at : List ℕ → ℕ → Position → Placed
 placed_at bytes width at = record { row = at.row; col = at.col; width = width; bytes = bytes }
@@ -164,8 +164,8 @@ abbrev pub move_bytes : Position → Position → List ℕ
 move_bytes old new = row_move old.row new.row ++ col_move old.col new.col
 
 -- from the cursor's row of the old drawing to its first row, and all from there on erased
-abbrev pub cleared : ℕ → List ℕ
-cleared old_row = control_sequence old_row 0x41 ++ (0x0D ∷ erase_to_end)
+abbrev pub clearing_bytes : ℕ → List ℕ
+clearing_bytes old_row = control_sequence old_row 0x41 ++ (0x0D ∷ erase_to_end)
 
 -- prompt, line, and the hint or message after it, from the first cell of a row on, each from where
 -- the one before ends
@@ -189,4 +189,4 @@ drawing columns wide prompt line info finish cursor =
 abbrev pub full_drawing : ℕ → (List ℕ → Option ℕ) → ℕ → List ℕ → List ℕ → List ℕ → Position
     → Position → List ℕ
 full_drawing columns wide old_row prompt line info finish cursor =
-    cleared old_row ++ drawing columns wide prompt line info finish cursor
+    clearing_bytes old_row ++ drawing columns wide prompt line info finish cursor

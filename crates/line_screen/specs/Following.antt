@@ -1,4 +1,4 @@
--- What is read of bytes, with more bytes behind them.
+-- What is read of bytes, with more bytes after them.
 use Rattle.std.specs.Prelude.{◌≡◌, ℕ, Bool, true, false, IsTrue, ◌==◌, List, ◌++◌}
 use Rattle.line_config.specs.declared.device.Last.{Last}
 use Rattle.line_config.specs.declared.device.Last.TheVariants.{End}

@@ -1,12 +1,11 @@
--- The characters of the bytes (UTF-8, RFC 3629), and what stands behind the last of them.
+-- The characters of the bytes (UTF-8, RFC 3629), and what stands after the last of them.
 use Rattle.std.specs.Prelude.{ℕ, ◌+◌, ◌-◌, ◌*◌, Bool, true, false, ◌&&◌, ◌||◌, nat_lt, nat_le, ◌==◌, if◌then◌else◌, List, [], ◌∷◌, Option, Some, None, Result, Ok, Err}
 use Rattle.line_config.specs.declared.device.Last.{Last}
 use Rattle.line_config.specs.declared.device.Last.TheVariants.{End, Failed}
 use Rattle.line_config.specs.declared.errors.ReadlineError.{ReadlineError}
 use Rattle.line_config.specs.declared.errors.ReadlineError.TheVariants.{Eof, Interrupted, NotUtf8, PasteOutOfPlace, Reader, Display, Lines, HistoryText, Helper, Handler, Memory}
-use Rattle.line_screen.specs.declared.reading.utf8.Awaited.{Awaited}
 
--- what stands behind the last character: the end, bytes that are no character, a source that
+-- what stands after the last character: the end, bytes that are no character, a source that
 -- failed, one that failed inside a character, and the end inside a key
 pub data Stop : Type 0 where
   AtEnd : Stop
@@ -15,7 +14,7 @@ pub data Stop : Type 0 where
   Torn : Stop
   Inside : Stop
 
--- the characters, each with the bytes behind it, and what ends them with the bytes that are left
+-- the characters, each with the bytes after it, and what ends them with the bytes that are left
 -- then
 pub data Chars : Type 0 where
   Next : (c : ℕ) → (behind : List ℕ) → (rest : Chars) → Chars
@@ -43,8 +42,16 @@ lead_rows =
     ∷ record { first = 0xF4; last = 0xF4; base = 0xF0; least = 0x80; greatest = 0x8F; more = 2 }
     ∷ []
 
+-- what continues a character after some of its bytes: the bits of its number so far, the range of
+-- the next byte, and how many bytes of 80 to BF follow that one
+pub record Continuation : Type 0 where
+  pub value : ℕ
+  pub least : ℕ
+  pub greatest : ℕ
+  pub more : ℕ
+
 -- what may follow a first byte; none where it begins no character
-abbrev pub lead_in : List LeadRow → ℕ → Option Awaited
+abbrev pub lead_in : List LeadRow → ℕ → Option Continuation
 lead_in [] byte = None
 lead_in (row ∷ rows) byte =
     if nat_le row.first byte && nat_le byte row.last
@@ -60,7 +67,7 @@ lead_in (row ∷ rows) byte =
 abbrev pub value_with : ℕ → ℕ → ℕ
 value_with value byte = value * 64 + (byte - 0x80)
 
-abbrev pub after_byte : Awaited → ℕ → Awaited
+abbrev pub after_byte : Continuation → ℕ → Continuation
 after_byte awaited byte =
     record {
       value = value_with awaited.value byte;
@@ -92,7 +99,7 @@ abbrev mutual
       else in_char (lead_in lead_rows byte) bytes last
 
   -- inside a character
-  pub in_char : Option Awaited → List ℕ → Last → Chars
+  pub in_char : Option Continuation → List ℕ → Last → Chars
   in_char None bytes last = Over AtBad bytes
   in_char (Some awaited) [] last = Over (torn_at last) []
   in_char (Some awaited) (byte ∷ bytes) last =

@@ -1,5 +1,5 @@
 -- What the calls of a reader of keys make of it, whether they are answered or refused.
-use Rattle.std.specs.Prelude.{◌≡◌, ℕ, ◌<◌, ◌≤◌, Bool, not, IsTrue, List, Result, IfOk, IfErr, OnOk}
+use Rattle.std.specs.Prelude.{◌≡◌, ℕ, ◌<◌, ◌≤◌, Bool, not, ◌⊎◌, IsTrue, List, Result, IfOk, IfErr, IsErr, OnOk}
 use Rattle.line_config.specs.declared.errors.ReadlineError.{ReadlineError}
 use Rattle.line_config.specs.declared.errors.ReadlineError.TheVariants.{Reader, Memory}
 use Rattle.line_config.specs.Feed.{Feed}
@@ -9,7 +9,8 @@ use Rattle.line_keys.specs.Coming.{Coming, Pressed, Pasted, Refused, key_at, pas
 use Rattle.line_keys.specs.Faults.{IsReaderRefusal}
 use Rattle.line_screen.specs.Input.{Next, behind_char, chars_of}
 use Rattle.line_screen.specs.KeyGrammar.{left_after, read_from, readings, coming_of}
-use Rattle.line_screen.specs.Reader.{feed_in, left_in, chars_in, reads, coming_in, coming_by, left_by_call, char_answer}
+use Rattle.line_screen.specs.KeyReading.{KeepsFor}
+use Rattle.line_screen.specs.Reader.{kept_of, feed_in, left_in, chars_in, reads, coming_in, coming_by, left_by_call, char_answer}
 use Rattle.line_screen.specs.Reading.{IsCut}
 use Rattle.line_screen.specs.declared.reading.reader.KeyReader.{KeyReader}
 
@@ -72,3 +73,10 @@ pub record AnswersChar {S : Type 0} (feed : S → Feed) (old new : KeyReader S)
 abbrev pub IsMemoryKept : {S X : Type 0} → (S → Feed) → KeyReader S → Result X ReadlineError
     → Type 0
 IsMemoryKept feed old result = IfErr result (λ e. e ≡ Memory → coming_in feed old ≡ Refused Memory)
+
+-- a byte is kept only after such an item; a call that is refused for what was before keeps what was
+-- kept
+abbrev pub KeepsAfter : {S X : Type 0} → (X → Type 0) → KeyReader S → KeyReader S
+    → Result X ReadlineError → Type 0
+KeepsAfter May old new result =
+    KeepsFor May new result ⊎ (IsErr result × (kept_of new ≡ kept_of old))

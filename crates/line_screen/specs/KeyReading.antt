@@ -1,6 +1,6 @@
 -- What a call that reads a part of a key or a pasted text makes of the reader, whether it is
 -- answered or refused.
-use Rattle.std.specs.Prelude.{◌≡◌, ℕ, ◌≤◌, false, IsTrue, List, [], Result, Err, IfOk, IfErr, OnErr}
+use Rattle.std.specs.Prelude.{◌≡◌, ℕ, ◌≤◌, false, IsTrue, List, [], ◌⊎◌, None, Result, Ok, Err, IfOk, IfErr, OnErr}
 use Rattle.line_config.specs.declared.device.Last.{Last}
 use Rattle.line_config.specs.declared.device.Last.TheVariants.{End}
 use Rattle.line_config.specs.declared.errors.ReadlineError.{ReadlineError}
@@ -11,14 +11,13 @@ use Rattle.line_config.specs.Refusals.{MetBy}
 use Rattle.line_keys.specs.declared.key.KeyEvent.{KeyEvent}
 use Rattle.line_keys.specs.Faults.{IsReaderRefusal}
 use Rattle.line_screen.specs.Input.{chars_of, is_failure}
-use Rattle.line_screen.specs.KeyGrammar.{Readings, Key, Paste, readings, in_escape, in_third, in_bracket, in_linux, in_control, in_unknown, in_paste, key_answer, text_answer, left_after}
-use Rattle.line_screen.specs.Reader.{feed_in, left_in, reads}
+use Rattle.line_screen.specs.KeyGrammar.{Readings, Key, Paste, esc, readings, in_escape, in_sequence, in_paste, key_answer, text_answer, left_after}
+use Rattle.line_screen.specs.Reader.{kept_of, feed_in, left_in, reads}
 use Rattle.line_screen.specs.Reading.{IsKeyRefusal, IsCut}
 use Rattle.line_screen.specs.declared.reading.reader.KeyReader.{KeyReader}
-use Rattle.line_screen.specs.declared.reading.sequence.Parameters.{Parameters}
 
--- what bytes read as from a place on: at a key, behind ESC, behind ESC O, behind ESC [, behind ESC
--- [ [, behind ESC [ and parameters, behind an intermediate character, in a pasted text
+-- what bytes read as from a place on: at a key, after ESC, in a control sequence after this much of
+-- its text, in a pasted text
 abbrev pub key_from : EditMode → List ℕ → Last → Readings
 key_from mode bytes last = readings mode (chars_of bytes last)
 
@@ -26,23 +25,19 @@ abbrev pub escape_from : EditMode → List ℕ → Last → Readings
 escape_from mode bytes last = in_escape mode bytes (chars_of bytes last)
     (readings mode (chars_of bytes last))
 
-abbrev pub third_from : EditMode → List ℕ → Last → Readings
-third_from mode bytes last = in_third mode (chars_of bytes last)
-
-abbrev pub bracket_from : EditMode → List ℕ → Last → Readings
-bracket_from mode bytes last = in_bracket mode (chars_of bytes last)
-
-abbrev pub linux_from : EditMode → List ℕ → Last → Readings
-linux_from mode bytes last = in_linux mode (chars_of bytes last)
-
-abbrev pub control_from : EditMode → Parameters → List ℕ → Last → Readings
-control_from mode written bytes last = in_control mode written (chars_of bytes last)
-
-abbrev pub unknown_from : EditMode → List ℕ → Last → Readings
-unknown_from mode bytes last = in_unknown mode (chars_of bytes last)
+abbrev pub sequence_from : EditMode → List ℕ → List ℕ → Last → Readings
+sequence_from mode text bytes last = in_sequence mode text (chars_of bytes last)
 
 abbrev pub text_from : EditMode → List ℕ → Last → Readings
 text_from mode bytes last = in_paste mode [] false 0 (chars_of bytes last)
+
+-- after a call no byte is kept, unless it answers an item for which one may be
+abbrev pub KeepsFor : {S X : Type 0} → (X → Type 0) → KeyReader S → Result X ReadlineError → Type 0
+KeepsFor May new (Ok x) = (kept_of new ≡ None) ⊎ May x
+KeepsFor May new (Err e) = kept_of new ≡ None
+
+abbrev pub IsEsc : KeyEvent → Type 0
+IsEsc k = k ≡ esc
 
 -- an item is read by a definition of readings, where the source's failure comes or is foretold: the
 -- item, the bytes left and what they read as are the definition's, or the refusal and the bytes
@@ -77,6 +72,12 @@ abbrev pub ReadsKey : {S : Type 0} → (S → Feed) → (List ℕ → Last → R
     → Result KeyEvent ReadlineError → Type 0
 ReadsKey feed definition old new result = ReadsPart feed Key key_answer IsKeyRefusal definition old
     new result
+
+-- the key of a control sequence is read after this much of its text, and no byte is kept after it
+pub record ReadsSequence {S : Type 0} (feed : S → Feed) (text : List ℕ) (old new : KeyReader S)
+    (result : Result KeyEvent ReadlineError) : Type 0 where
+  pub reads : ReadsKey feed (sequence_from old.mode text) old new result
+  pub kept : kept_of new ≡ None
 
 abbrev pub ReadsText : {S : Type 0} → (S → Feed) → (List ℕ → Last → Readings) → KeyReader S
     → KeyReader S

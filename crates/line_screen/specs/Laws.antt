@@ -6,7 +6,7 @@ use Rattle.line_editor.specs.Calls.Call.{ClearScreen}
 use Rattle.line_screen.specs.Calls.{Screen, bytes_of}
 use Rattle.line_screen.specs.Cells.{cell_at}
 use Rattle.line_buffer.specs.Cells.{origin}
-use Rattle.line_screen.specs.Chain.{View, Good, Leads, EndsLine, at_place, empty_at}
+use Rattle.line_screen.specs.Chain.{View, Good, LeadsView, ClosesLine, with_place, empty_view}
 use Rattle.line_screen.specs.Display.{Display, Placed, read, start, meaning, at_cursor}
 use Rattle.line_screen.specs.Drawing.{full_drawing, next_row, row_break}
 use Rattle.line_screen.specs.Measure.{cluster_width, measure_of}
@@ -34,7 +34,7 @@ FullDrawingShows =
 -- before the first call nothing is shown
 abbrev pub StartIsEmpty : Type 0
 StartIsEmpty = (s : Screen) → 2 ≤ s.columns → s.columns ≤ 1000
-    → Good s.columns (widths s) [] [] (empty_at 0)
+    → Good s.columns (widths s) [] [] (empty_view 0)
 
 -- a call leads from what is shown before it to what is shown after it; what stands in the rows
 -- above stays, unless the screen is cleared
@@ -42,7 +42,7 @@ abbrev pub CallsLead : Type 0
 CallsLead =
     (s : Screen) → 2 ≤ s.columns → s.columns ≤ 1000
     → (bytes : List ℕ) (over : List Placed) (a b : View) (call : Call)
-    → Good s.columns (widths s) bytes over a → Leads s.columns (widths s) a call b
+    → Good s.columns (widths s) bytes over a → LeadsView s.columns (widths s) a call b
     → (next : List Placed) × Good s.columns (widths s) (bytes ++ bytes_of s call) next b
     × (call ≢ ClearScreen → filter (above a.top) next ≡ over)
 
@@ -56,7 +56,7 @@ abbrev pub ChainsLead : Type 0
 ChainsLead =
     (s : Screen) → 2 ≤ s.columns → s.columns ≤ 1000
     → (calls : List Call) (bytes : List ℕ) (over : List Placed) (a b : View)
-    → Good s.columns (widths s) bytes over a → FoldsTo (Leads s.columns (widths s)) a calls b
+    → Good s.columns (widths s) bytes over a → FoldsTo (LeadsView s.columns (widths s)) a calls b
     → (next : List Placed) × Good s.columns (widths s) (bytes ++ flat_map (bytes_of s) calls) next b
     × (NeverClears calls → filter (above a.top) next ≡ over)
 
@@ -66,7 +66,7 @@ PlaceIsFree =
     (s : Screen) (bytes : List ℕ) (over : List Placed) (a : View) (place : ℕ)
     → Good s.columns (widths s) bytes over a
     → Good s.columns (widths s) bytes over
-    (record { shown = at_place a.shown place; top = a.top; place = a.place })
+    (record { shown = with_place a.shown place; top = a.top; place = a.place })
 
 -- CR LF has a meaning wherever the cursor stands: it goes to the first cell of the next row, and
 -- every cell stays
@@ -83,7 +83,7 @@ abbrev pub EndedLineStays : Type 0
 EndedLineStays =
     (s : Screen) → 2 ≤ s.columns → s.columns ≤ 1000
     → (bytes : List ℕ) (over : List Placed) (a b : View) (text : List ℕ)
-    → Good s.columns (widths s) bytes over a → EndsLine s.columns (widths s) a text b
+    → Good s.columns (widths s) bytes over a → ClosesLine s.columns (widths s) a text b
     → (d : Display) × (meaning s.columns (widths s) bytes ≡ Some d)
     × Good s.columns (widths s) (bytes ++ text) d.placed b
 

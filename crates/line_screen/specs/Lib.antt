@@ -16,6 +16,8 @@ pub mod Pasting
 pub mod Reader
 pub mod Reading
 pub mod Sending
+pub mod Sequences
 pub mod Short
 pub mod Showing
 pub mod Unread
+pub mod WholeSequences

@@ -8,7 +8,7 @@ use Rattle.line_buffer.specs.declared.layout.GraphemeClusterMode.{GraphemeCluste
 use Rattle.line_buffer.specs.declared.layout.Position.{Position}
 use Rattle.line_buffer.specs.Width.{width_of}
 use Rattle.line_screen.specs.Display.{is_text}
-use Rattle.line_screen.specs.Drawing.{text_items, after, next_row}
+use Rattle.line_screen.specs.Drawing.{text_items, place_after, next_row}
 
 -- taken alone it is one cluster of a text, without control characters; bytes that are no UTF-8 are
 -- none
@@ -42,4 +42,4 @@ pub record Comes (columns : ℕ) (to answer : Position) : Type 0 where
 -- where the drawing of a text from a place on ends
 abbrev pub measure_of : GraphemeClusterMode → ℕ → List ℕ → Position → Position
 measure_of mode columns text from = saturated
-    (after columns (text_items (cluster_width mode columns) text) (in_row columns from))
+    (place_after columns (text_items (cluster_width mode columns) text) (in_row columns from))

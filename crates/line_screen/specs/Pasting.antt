@@ -32,7 +32,7 @@ abbrev pub with_newlines : List ℕ → List ℕ
 with_newlines bytes = map (λ byte. if byte == 0x0D then 0x0A else byte)
     (without_returns_before_newlines bytes)
 
--- The pasted text is what stands before the first end mark, with newlines; behind the mark the keys
+-- The pasted text is what stands before the first end mark, with newlines; after the mark the keys
 -- go on.
 abbrev pub PastedTextIsBeforeItsMark : Type 0
 PastedTextIsBeforeItsMark =

@@ -4,9 +4,9 @@ use Rattle.line_config.specs.declared.errors.ReadlineError.{ReadlineError}
 use Rattle.line_config.specs.declared.errors.ReadlineError.TheVariants.{PasteOutOfPlace, Reader}
 use Rattle.line_config.specs.Feed.{Feed}
 use Rattle.line_keys.specs.Coming.{Coming, Refused}
-use Rattle.line_keys.specs.Feeds.{Feed as Items}
+use Rattle.line_keys.specs.Feeds.{KeyFeed}
 use Rattle.line_screen.specs.Input.{Chars, char_at, chars_of}
-use Rattle.line_screen.specs.Unread.{ahead}
+use Rattle.line_screen.specs.Unread.{with_kept}
 use Rattle.line_screen.specs.KeyGrammar.{Readings, read_from, coming_of}
 use Rattle.line_screen.specs.declared.reading.reader.KeyReader.{KeyReader}
 
@@ -19,7 +19,7 @@ kept_of r = r.bytes.kept
 -- what is known of the bytes that are still to be read: the one that is kept, and those of the
 -- source
 abbrev pub feed_in : {S : Type 0} → (S → Feed) → KeyReader S → Feed
-feed_in feed r = ahead feed r.bytes
+feed_in feed r = with_kept (kept_of r) (feed (source_of r))
 
 abbrev pub left_in : {S : Type 0} → (S → Feed) → KeyReader S → List ℕ
 left_in feed r = (feed_in feed r).coming
@@ -42,7 +42,7 @@ abbrev pub coming_in : {S : Type 0} → (S → Feed) → KeyReader S → Coming
 coming_in feed r = coming_by (feed_in feed r).failed r.refused (reads feed r)
 
 -- what is known of the reader's items
-abbrev pub items_of : {S : Type 0} → (S → Feed) → KeyReader S → Items
+abbrev pub items_of : {S : Type 0} → (S → Feed) → KeyReader S → KeyFeed
 items_of feed r =
     record {
       told = (feed_in feed r).told;

@@ -1,11 +1,11 @@
--- What a call that draws a text does to its sink, and the column behind the text.
+-- What a call that draws a text does to its sink, and the column after the text.
 use Rattle.std.specs.Prelude.{◌≡◌, ℕ, ◌<◌, Bool, List, IsTrue, Result, IfOk, OnOk, OnErr}
 use Rattle.line_config.specs.declared.device.DeviceFailed.{DeviceFailed}
 use Rattle.line_config.specs.Sending.{Takes}
 use Rattle.line_screen.specs.Drawing.{DrawnItem, sent, col_after}
 
 -- a call that is answered has sent these bytes, the sink works as before, and the answer is the
--- column behind them, one of the row; a call that is refused says so because the sink has failed
+-- column after them, one of the row; a call that is refused says so because the sink has failed
 pub record SendsTo {D : Type 0} (bytes : List ℕ) (column columns : ℕ) (told : D → Bool)
     (held : D → List ℕ)
     (failed : D → Bool) (old new : D) (result : Result ℕ DeviceFailed) : Type 0 where

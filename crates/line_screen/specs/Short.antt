@@ -6,12 +6,12 @@ use Rattle.line_buffer.specs.declared.layout.Position.{Position}
 use Rattle.line_buffer.specs.Short.{behind_typed, before_killed}
 use Rattle.line_screen.specs.Calls.{Screen}
 use Rattle.line_editor.specs.Calls.Call.{Move, Write, ClearToEol}
-use Rattle.line_screen.specs.Chain.{View, Inside, Leads, is_simple, typed, cut_line}
+use Rattle.line_screen.specs.Chain.{View, Inside, LeadsView, is_simple, with_letter, cut_line}
 use Rattle.line_screen.specs.Laws.{widths}
 use Rattle.line_screen.specs.Showing.{finish_of, cursor_of}
 
 -- the cursor is at the end of a line of printable ASCII and newlines, with nothing after it
-pub record AtEnd (columns : ℕ) (wide : List ℕ → Option ℕ) (a : View) : Type 0 where
+pub record AtLineEnd (columns : ℕ) (wide : List ℕ → Option ℕ) (a : View) : Type 0 where
   pub info : a.shown.info ≡ []
   pub end : a.shown.place ≡ length a.shown.line
   pub simple : list_all is_simple a.shown.line ≡ true
@@ -22,9 +22,9 @@ pub record AtEnd (columns : ℕ) (wide : List ℕ → Option ℕ) (a : View) : T
 abbrev pub TypingLeads : Type 0
 TypingLeads =
     (s : Screen) → 2 ≤ s.columns → s.columns ≤ 1000 → (a : View) (c : ℕ) (place : Position)
-    → AtEnd s.columns (widths s) a → behind_typed s.columns c a.place ≡ Some place
-    → Leads s.columns (widths s) a (Write (c ∷ []))
-    (record { shown = typed a.shown c; top = a.top; place = place })
+    → AtLineEnd s.columns (widths s) a → behind_typed s.columns c a.place ≡ Some place
+    → LeadsView s.columns (widths s) a (Write (c ∷ []))
+    (record { shown = with_letter a.shown c; top = a.top; place = place })
 
 -- where the short kill may be asked, a move to its place and the erasure of the row's end lead to
 -- the line without what was killed at its end, if the cursor is in the row of that end
@@ -35,5 +35,5 @@ KillingLeads =
     → a.shown.line ≡ line ++ killed → a.shown.info ≡ [] → list_all is_simple line ≡ true
     → Inside s.columns a.place → a.place.row ≡ (finish_of s.columns (widths s) a.shown).row
     → before_killed killed (finish_of s.columns (widths s) a.shown) ≡ Some place
-    → FoldsTo (Leads s.columns (widths s)) a (Move a.place place ∷ ClearToEol
+    → FoldsTo (LeadsView s.columns (widths s)) a (Move a.place place ∷ ClearToEol
     ∷ []) (record { shown = cut_line a.shown line; top = a.top; place = place })

@@ -5,7 +5,7 @@ use Rattle.line_buffer.specs.Cells.{origin}
 use Rattle.line_buffer.specs.declared.layout.Position.{Position}
 use Rattle.line_screen.specs.Display.{Placed, Display, DisplayReading, put_letters, is_printable}
 use Rattle.line_screen.specs.Display.DisplayReading.{Text}
-use Rattle.line_screen.specs.Drawing.{DrawnItem, text_items, after, lay}
+use Rattle.line_screen.specs.Drawing.{DrawnItem, text_items, place_after, lay}
 
 -- what was read means this display, and what follows may be a control character or a letter: the
 -- run of text that is open is printable ASCII
@@ -36,11 +36,11 @@ cells_of columns wide v = lay columns (shown_items wide v) origin
 
 -- where the whole drawing ends
 abbrev pub finish_of : ℕ → (List ℕ → Option ℕ) → Picture → Position
-finish_of columns wide v = after columns (shown_items wide v) origin
+finish_of columns wide v = place_after columns (shown_items wide v) origin
 
 -- where the line's text before the place ends
 abbrev pub cursor_of : ℕ → (List ℕ → Option ℕ) → Picture → Position
-cursor_of columns wide v = after columns
+cursor_of columns wide v = place_after columns
     (text_items wide v.prompt ++ text_items wide (take v.place v.line)) origin
 
 -- moved down by so many rows

@@ -5,6 +5,7 @@ ghost use Rattle.line_screen.specs.Following.{WholeKeysStay};
 ghost use Rattle.line_screen.specs.Short.{TypingLeads, KillingLeads};
 ghost use Rattle.line_screen.specs.Laws.{FullDrawingShows, StartIsEmpty, CallsLead, ChainsLead, PlaceIsFree, LineEndsAnywhere, EndedLineStays, MeasuresGoOn, ShownIsMeant, CellsAreShown};
 ghost use Rattle.line_screen.specs.Pasting.{PastedTextIsBeforeItsMark, PastedTextIsCutOff};
+ghost use Rattle.line_screen.specs.WholeSequences.{ControlIsOneKey};
 
 /// A full drawing shows the value that it was given, whatever stood from its top on, and keeps the
 /// rows above.
@@ -84,6 +85,13 @@ pub fn encoded_characters_are_read()
 /// the bytes are at their end, or cut off inside a character, or one of them fits no character.
 pub fn characters_are_encoded()
     ensures { CharsAreEncoded }
+{}
+
+/// ESC `[` with parameters, intermediates and a final is one key, whatever follows: the one that
+/// the whole sequence names.
+#[tactic(auto, using(crate::proofs::ControlLemmas::control_is_one_key))]
+pub fn control_sequence_is_one_key()
+    ensures { ControlIsOneKey }
 {}
 
 /// Bytes that are whole keys and pasted texts read as these whatever follows them, unless the last

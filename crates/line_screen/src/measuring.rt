@@ -4,7 +4,7 @@ ghost use Rattle.std.specs.Prelude.{◌≡◌, ◌≤◌, ◌<◌, ◌+◌, ◌=
 ghost use Rattle.std.specs.List.{list_all};
 ghost use Rattle.unicode_segmentation.specs.Grapheme.{graphemes};
 ghost use Rattle.line_screen.specs.Display.{right};
-ghost use Rattle.line_screen.specs.Drawing.{drawn_item, row_items, next_items, text_items, next_row, fit, leave, after};
+ghost use Rattle.line_screen.specs.Drawing.{drawn_item, row_items, next_items, text_items, next_row, fit, leave, place_after};
 ghost use Rattle.line_screen.specs.Drawing.DrawnItem.{Letter, NewRow};
 ghost use Rattle.line_screen.specs.Measure.{cluster_width, saturated, measure_of, Comes};
 
@@ -64,7 +64,7 @@ fn step_right(grid: Grid, at: Position, count: Unit) -> Position
 fn after_cluster(grid: Grid, at: Position, cluster: &str) -> Position
     requires inside { at.col < grid.columns }
     ensures { let wide = cluster_width grid.mode grid.columns in
-        Comes grid.columns (after grid.columns (drawn_item wide cluster.now ∷ []) at) result }
+        Comes grid.columns (place_after grid.columns (drawn_item wide cluster.now ∷ []) at) result }
 {
     if is_letter(cluster) {
         return step_right(grid, at, 1);
@@ -79,7 +79,7 @@ fn after_cluster(grid: Grid, at: Position, cluster: &str) -> Position
 
 fn after_letters(grid: Grid, from: Position, letters: &[u8]) -> Position
     requires inside { from.col < grid.columns }
-    ensures { Comes grid.columns (after grid.columns (map Letter letters.now) from) result }
+    ensures { Comes grid.columns (place_after grid.columns (map Letter letters.now) from) result }
 {
     let mut at = from;
     let mut rest = letters;
@@ -95,7 +95,8 @@ fn after_letters(grid: Grid, from: Position, letters: &[u8]) -> Position
 fn after_clusters(grid: Grid, from: Position, row: &str) -> Position
     requires inside { from.col < grid.columns }
     ensures { let item = drawn_item (cluster_width grid.mode grid.columns) in
-        Comes grid.columns (after grid.columns (map item (graphemes true row.now)) from) result }
+        Comes grid.columns
+        (place_after grid.columns (map item (graphemes true row.now)) from) result }
 {
     let mut at = from;
     for cluster in row.graphemes(true) {
@@ -107,7 +108,7 @@ fn after_clusters(grid: Grid, from: Position, row: &str) -> Position
 fn after_row(grid: Grid, from: Position, row: &str) -> Position
     requires inside { from.col < grid.columns }
     ensures { let items = row_items (cluster_width grid.mode grid.columns) row.now in
-        Comes grid.columns (after grid.columns items from) result }
+        Comes grid.columns (place_after grid.columns items from) result }
 {
     if is_printable_text(row) {
         after_letters(grid, from, row.as_bytes())
@@ -119,7 +120,7 @@ fn after_row(grid: Grid, from: Position, row: &str) -> Position
 fn after_next_row(grid: Grid, from: Position, is_first: bool, row: &str) -> Position
     requires inside { from.col < grid.columns }
     ensures { let items = next_items (cluster_width grid.mode grid.columns) is_first row.now in
-        Comes grid.columns (after grid.columns items from) result }
+        Comes grid.columns (place_after grid.columns items from) result }
 {
     if is_first {
         after_row(grid, from, row)
@@ -131,7 +132,7 @@ fn after_next_row(grid: Grid, from: Position, is_first: bool, row: &str) -> Posi
 fn after_text(grid: Grid, from: Position, text: &str) -> Position
     requires inside { from.col < grid.columns }
     ensures { let all = text_items (cluster_width grid.mode grid.columns) text.now in
-        Comes grid.columns (after grid.columns all from) result }
+        Comes grid.columns (place_after grid.columns all from) result }
 {
     let mut at = from;
     let mut is_first = true;

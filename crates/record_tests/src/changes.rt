@@ -1,4 +1,4 @@
-//! A record by itself, told of changes. A row is a call, behind `=` what it answers, and the last insertion as the
+//! A record by itself, told of changes. A row is a call, after `=` what it answers, and the last insertion as the
 //! record has it then, or `none`.
 
 use line_record::Changeset;

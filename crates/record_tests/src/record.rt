@@ -1,4 +1,4 @@
-//! A line with its undo record, and with a kill ring. A row is a call, and behind `=` what it answers and the line then,
+//! A line with its undo record, and with a kill ring. A row is a call, and after `=` what it answers and the line then,
 //! with `|` at the cursor. `line` begins with another line and a record in which nothing stands.
 
 ghost use Rattle.line_record.specs.Items.{ItemsStand};

@@ -212,7 +212,7 @@ fn makes_the_other_calls(rt: HostRuntime) -> Result<(), Fail> {
     Ok(())
 }
 
-// What a call that is refused answers, and the calls behind it.
+// What a call that is refused answers, and the calls after it.
 fn refused(screen: &mut ScreenRenderer<FailsAfter>, line: &LineBuffer) -> bool {
     let shown = Shown {
         prompt: "> ",
@@ -237,7 +237,7 @@ fn answers_each_failed_write(rt: HostRuntime) -> Result<(), Fail> {
     Ok(())
 }
 
-// Calls, and whether they write anything; nothing waits behind them.
+// Calls, and whether they write anything; nothing waits after them.
 const PASSED_ON: &str = "
     refresh_line ab     = written
     refresh_inside ab   = written

@@ -145,7 +145,7 @@ const NO_CHARACTERS: &str = "
     both ‹f0 9f 98›(            = NotUtf8
 ";
 
-// Asked for the text behind each PasteStart.
+// Asked for the text after each PasteStart.
 const TEXTS: &str = "
     both ␛[200~␛[201~␊          = PasteStart text: C-J Eof
     both ␛[200~a␊b␛[201~␊       = PasteStart text:a␊b C-J Eof
@@ -284,7 +284,7 @@ fn rest_of<S: Source>(alloc: Global, source: &mut S) -> Result<String, Fail> {
     Ok(pictured_bytes(alloc, &bytes)?)
 }
 
-// Makes the calls, and tells what is behind them.
+// Makes the calls, and tells what is after them.
 fn called(alloc: Global, bytes: &[u8], mode: EditMode, calls: &str) -> Result<String, Fail> {
     let mut reader = KeyReader::new(SliceSource::new(bytes), mode);
     let mut said = String::new(alloc);

@@ -184,7 +184,7 @@ fn sequences_have_their_keys(rt: HostRuntime) -> Result<(), Fail> {
     Ok(())
 }
 
-// What each byte behind ESC [ comes to: the first and the last byte of a row.
+// What each byte after ESC [ comes to: the first and the last byte of a row.
 const FIRST: &str = "
     00 1f = UnknownEscSeq Eof
     20 3f = Eof
@@ -204,7 +204,7 @@ const FIRST: &str = "
     80 ff = NotUtf8
 ";
 
-// Behind ESC [ 1.
+// After ESC [ 1.
 const PARAMETER: &str = "
     00 1f = UnknownEscSeq Eof
     20 3f = Eof
@@ -214,7 +214,7 @@ const PARAMETER: &str = "
     80 ff = NotUtf8
 ";
 
-// Behind ESC [ with a blank: a parameter can't follow an intermediate character.
+// After ESC [ with a blank: a parameter can't follow an intermediate character.
 const INTERMEDIATE: &str = "
     00 1f = UnknownEscSeq Eof
     20 2f = Eof

@@ -1,21 +1,21 @@
 //! Devices that fail: the ending, and what stands before it.
 
 use crate::fixtures::{Play, display_of, ended, field, played, tried};
-use keyline::{Ending, ReadlineError, SliceSource, VecSink};
+use keyline::{Ending, ReadlineError, SliceSource, Source, VecSink};
+use stand_ins::sources::Faltering;
 use stand_ins::tables::{call_and_answer, meant, meant_bytes, word_and_rest};
 use stand_ins::tray::Tray;
 use std::process::Abort;
 use std::test::Fail;
 
-/// A session over a source that fails after these bytes.
-fn cut_off(
+/// A session over a source that fails.
+fn cut_off<S: Source + Drop>(
     rt: &(impl AllocGlobal + Abort),
-    keys: &[u8],
+    source: S,
     shown: &str,
     lines: &str,
 ) -> Result<(), Fail> {
     let alloc = rt.alloc();
-    let source = SliceSource::failing_after(keys);
     let end = ended(rt, source, VecSink::new(alloc), VecSink::new(alloc))?;
     assert_eq!(rt; end.ending, Ending::Reader, "{shown}");
     let lines = meant(alloc, field(lines))?;
@@ -25,7 +25,8 @@ fn cut_off(
     Ok(())
 }
 
-/// A byte that is read, what is then drawn, and what lines are written by then.
+/// A byte that is read, what is then drawn, and what lines are written by then: over a source that says where it fails,
+/// and over one of more bytes that fails at some call.
 #[test]
 fn source_that_fails_after_each_byte(rt: HostRuntime) -> Result<(), Fail> {
     let rows = "
@@ -48,7 +49,11 @@ fn source_that_fails_after_each_byte(rt: HostRuntime) -> Result<(), Fail> {
         let (drawn, lines) = want.split_once(" | ").unwrap_or((want, ""));
         keys.push_str(meant(rt.alloc(), field(key))?.as_str())?;
         shown.push_str(field(drawn))?;
-        cut_off(&rt, keys.as_bytes(), shown.as_str(), lines)?;
+        let steady = SliceSource::failing_after(keys.as_bytes());
+        cut_off(&rt, steady, shown.as_str(), lines)?;
+        let further = format!(in rt.alloc(); "{keys}\rab\r")?;
+        let faltering = Faltering::failing_at(further.as_bytes(), keys.len());
+        cut_off(&rt, faltering, shown.as_str(), lines)?;
     }
     Ok(())
 }

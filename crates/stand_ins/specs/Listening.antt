@@ -1,8 +1,8 @@
 -- A reader of which nothing is known but how much it has left.
 use Rattle.std.specs.Prelude.{⊤, false}
 use Rattle.line_keys.specs.Coming.{Ends, End}
-use Rattle.line_keys.specs.Feeds.{Feed}
+use Rattle.line_keys.specs.Feeds.{KeyFeed}
 use Rattle.stand_ins.specs.declared.listener.Listener.{Listener}
 
-abbrev pub feed_of : Listener → Feed
-feed_of r = record { told = false; steady = false; coming = Ends End; bound = r.left; reason = λ e. ⊤ }
+abbrev pub listener_feed : Listener → KeyFeed
+listener_feed r = record { told = false; steady = false; coming = Ends End; bound = r.left; reason = λ e. ⊤ }

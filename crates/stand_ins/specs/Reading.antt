@@ -3,8 +3,8 @@ use Rattle.std.specs.Prelude.{⊤, ◌≡◌, [], ◌∷◌, ◌++◌, false, tr
 use Rattle.line_config.specs.declared.errors.ReadlineError.{ReadlineError}
 use Rattle.line_config.specs.declared.errors.ReadlineError.TheVariants.{Eof, Interrupted, NotUtf8, PasteOutOfPlace, Reader, Display, Lines, HistoryText, Helper, Handler, Memory}
 use Rattle.line_keys.specs.Coming.{Coming}
-use Rattle.line_keys.specs.Feeds.{Feed}
-use Rattle.line_keys.specs.Refreshing.{Shown, Ask, Display as Displays}
+use Rattle.line_keys.specs.Feeds.{KeyFeed}
+use Rattle.line_keys.specs.Refreshing.{Shown, Ask, KnownDisplay as Displays}
 use Rattle.line_keys.specs.Refreshing as ask
 use Rattle.stand_ins.specs.Typing.{coming_after, coming_unless}
 use Rattle.stand_ins.specs.declared.readers.KeyList.{KeyList}
@@ -12,14 +12,14 @@ use Rattle.stand_ins.specs.declared.refreshers.Request.{Request}
 use Rattle.stand_ins.specs.declared.refreshers.Request.TheVariants.{Line, Message, Prompt, DoingInsert, DoneInserting}
 use Rattle.stand_ins.specs.declared.refreshers.PlainLine.{PlainLine}
 
-abbrev pub coming_of : KeyList → Coming
-coming_of r = coming_unless r.refused (coming_after r.typed.now r.cut r.after)
+abbrev pub key_list_coming : KeyList → Coming
+key_list_coming r = coming_unless r.refused (coming_after r.typed.now r.cut r.after)
 
-abbrev pub feed_of : KeyList → Feed
-feed_of r = record {
+abbrev pub key_list_feed : KeyList → KeyFeed
+key_list_feed r = record {
   told = true;
   steady = true;
-  coming = coming_of r;
+  coming = key_list_coming r;
   bound = length r.typed.now;
   reason = λ e. e ≡ Reader → r.refused ≡ Some Reader;
 }
@@ -59,8 +59,8 @@ HasReason l HistoryText = ⊥
 HasReason l Helper = ⊥
 HasReason l Handler = ⊥
 
-abbrev pub display_of : Displays PlainLine
-display_of = record {
+abbrev pub plain_line_display : Displays PlainLine
+plain_line_display = record {
   shown = shown_of;
   asked = λ before a after. MakesRequest before a after × (shown_of after ≡ shown_after (shown_of before) a);
   refused = λ before a e after. HasReason after e;

@@ -31,15 +31,15 @@ refusal_after End = Eof
 refusal_after Bad = NotUtf8
 refusal_after Failed = Reader
 
-abbrev pub kept_refusal : ReadlineError → Option ReadlineError → Option ReadlineError
-kept_refusal Eof before = before
-kept_refusal why before = Some why
+abbrev pub key_list_refusal : ReadlineError → Option ReadlineError → Option ReadlineError
+key_list_refusal Eof before = before
+key_list_refusal why before = Some why
 
 -- a kept refusal is one of a reader, and not the end of the input
-abbrev pub lasts : Option ReadlineError → Bool
-lasts None = true
-lasts (Some NotUtf8) = true
-lasts (Some PasteOutOfPlace) = true
-lasts (Some Reader) = true
-lasts (Some Memory) = true
-lasts (Some why) = false
+abbrev pub is_key_list_refusal : Option ReadlineError → Bool
+is_key_list_refusal None = true
+is_key_list_refusal (Some NotUtf8) = true
+is_key_list_refusal (Some PasteOutOfPlace) = true
+is_key_list_refusal (Some Reader) = true
+is_key_list_refusal (Some Memory) = true
+is_key_list_refusal (Some why) = false

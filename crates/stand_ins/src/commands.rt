@@ -155,7 +155,7 @@ fn counted_command(alloc: Global, name: &str, n: RepeatCount, rest: &str) -> Opt
     Some(cmd)
 }
 
-/// The command with these words. The text of a `Replace` stands behind `with`; `AcceptAtEndOrInsertLine` is the command
+/// The command with these words. The text of a `Replace` stands after `with`; `AcceptAtEndOrInsertLine` is the command
 /// that doesn't accept in the middle.
 pub fn command_named(alloc: Global, words: &str) -> Option<Cmd> {
     let (name, rest) = word_and_rest(words);

@@ -10,5 +10,6 @@ pub mod listener;
 pub mod reader_calls;
 pub mod readers;
 pub mod refreshers;
+pub mod sources;
 pub mod tables;
 pub mod tray;

@@ -35,11 +35,11 @@ impl Listener {
 
 impl RawReader for Listener {
     ghost use Rattle.std.specs.Prelude.{None};
-    ghost use Rattle.stand_ins.specs.Listening.{feed_of};
+    ghost use Rattle.stand_ins.specs.Listening.{listener_feed};
 
     type Buffer = u8;
 
-    ghost feed = { feed_of };
+    ghost feed = { listener_feed };
 
     ghost kept = { λ _. None };
 

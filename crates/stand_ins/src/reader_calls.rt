@@ -7,7 +7,7 @@ use line_keys::RawReader;
 use line_keys::tty::Event as Report;
 use std::alloc::Global;
 
-/// Makes a call, and tells what it answers: `key`, `wait`, `char` or `paste`. With `+` behind it, a single Esc doesn't wait
+/// Makes a call, and tells what it answers: `key`, `wait`, `char` or `paste`. With `+` after it, a single Esc doesn't wait
 /// for what may follow.
 pub fn tell_call<R: RawReader>(
     alloc: Global,

@@ -1,7 +1,7 @@
 //! A reader over a list of keys and pasted texts.
 
 ghost use Rattle.std.specs.Prelude.{◌≡◌, IsTrue};
-ghost use Rattle.stand_ins.specs.Typing.{refusal_after, kept_refusal, lasts};
+ghost use Rattle.stand_ins.specs.Typing.{refusal_after, key_list_refusal, is_key_list_refusal};
 
 use line_config::ReadlineError;
 use line_keys::{Cmd, KeyCode, KeyEvent, Modifiers, RawReader, Text};
@@ -14,7 +14,7 @@ pub enum Typed {
     Paste(Text),
 }
 
-/// What comes behind all that a test types.
+/// What comes after all that a test types.
 #[derive(Clone, Copy)]
 pub enum After {
     /// The end of the input.
@@ -41,20 +41,20 @@ impl After {
 #[derive(Drop)]
 pub struct KeyList<'t> {
     typed: &'t [Typed],
-    /// A pasted text is owed behind the list, and is cut off.
+    /// A pasted text is owed after the list, and is cut off.
     cut: bool,
     after: After,
     refused: Option<ReadlineError>,
-    ghost lasting: { IsTrue (lasts refused) },
+    ghost lasting: { IsTrue (is_key_list_refusal refused) },
 }
 
 impl<'t> KeyList<'t> {
     ghost use Rattle.line_keys.specs.Faults.{IsReaderRefusal};
-    ghost use Rattle.stand_ins.specs.Reading.{coming_of};
+    ghost use Rattle.stand_ins.specs.Reading.{key_list_coming};
     ghost use Rattle.stand_ins.specs.Typing.{coming_after};
 
     pub fn new(typed: &'t [Typed], cut: bool, after: After) -> Self
-        ensures { coming_of result ≡ coming_after typed.now cut after }
+        ensures { key_list_coming result ≡ coming_after typed.now cut after }
     {
         KeyList {
             typed,
@@ -78,7 +78,7 @@ impl<'t> KeyList<'t> {
         ensures typed { self.new.typed ≡ self.old.typed }
         ensures cut { self.new.cut ≡ self.old.cut }
         ensures after { self.new.after ≡ self.old.after }
-        ensures refused { self.new.refused ≡ kept_refusal why self.old.refused }
+        ensures refused { self.new.refused ≡ key_list_refusal why self.old.refused }
     {
         match why {
             ReadlineError::Eof => {}
@@ -90,11 +90,11 @@ impl<'t> KeyList<'t> {
 
 impl RawReader for KeyList<'_> {
     ghost use Rattle.std.specs.Prelude.{None};
-    ghost use Rattle.stand_ins.specs.Reading.{feed_of};
+    ghost use Rattle.stand_ins.specs.Reading.{key_list_feed};
 
     type Buffer = u8;
 
-    ghost feed = { feed_of };
+    ghost feed = { key_list_feed };
 
     ghost kept = { λ _. None };
 

@@ -68,9 +68,9 @@ impl PlainLine {
 }
 
 impl Refresher for PlainLine {
-    ghost use Rattle.stand_ins.specs.Reading.{display_of};
+    ghost use Rattle.stand_ins.specs.Reading.{plain_line_display};
 
-    ghost display = { display_of };
+    ghost display = { plain_line_display };
 
     fn refresh_line(&mut self) -> Result<(), ReadlineError> {
         self.keep(Request::Line)

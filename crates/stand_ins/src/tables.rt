@@ -14,7 +14,7 @@ pub fn call_and_answer(row: &str) -> Option<(&str, &str)> {
     Some((call.trim(), answer.trim()))
 }
 
-/// The first word, and what stands behind it.
+/// The first word, and what stands after it.
 pub fn word_and_rest(text: &str) -> (&str, &str) {
     let (word, rest) = text.split_once(' ').unwrap_or((text, ""));
     (word, rest.trim_start_matches(' '))
@@ -81,7 +81,7 @@ pub fn pictured_bytes(alloc: Global, bytes: &[u8]) -> Result<String, AllocError>
     Ok(shown)
 }
 
-/// A line and a place in it, in bytes, which a bar marks: `ab|` is the end of `ab`, and `ab|+5` five bytes behind it.
+/// A line and a place in it, in bytes, which a bar marks: `ab|` is the end of `ab`, and `ab|+5` five bytes after it.
 pub fn line_and_place(alloc: Global, marked: &str) -> Result<(String, usize), AllocError> {
     let (before, behind) = marked.split_once('|').unwrap_or((marked, ""));
     let mut line = meant(alloc, before)?;

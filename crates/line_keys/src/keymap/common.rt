@@ -1,13 +1,15 @@
 //! The keys that both modes know.
 
-ghost use Rattle.std.specs.Prelude.{◌≡◌, if◌then◌else◌};
-ghost use Rattle.line_buffer.specs.declared.types.Movement.TheVariants.{BackwardChar, ForwardChar};
-ghost use Rattle.line_keys.specs.Common.{bound_command, common_rows, terminal_command};
+ghost use Rattle.std.specs.Prelude.{◌≡◌, ℕ, Bool, option_map, if◌then◌else◌};
+ghost use Rattle.line_keys.specs.Common.{bound_command, terminal_command};
+ghost use Rattle.line_keys.specs.Common.{common_command_rows, common_deed, common_reading_rows};
+ghost use Rattle.line_keys.specs.Meant.{common_meant, followed_of};
 ghost use Rattle.line_buffer.specs.declared.types.Anchor.TheVariants.{Before};
+ghost use Rattle.line_buffer.specs.declared.types.Movement.TheVariants.{BackwardChar, ForwardChar};
 ghost use Rattle.line_config.specs.declared.settings.EditMode.{EditMode};
 ghost use Rattle.line_keys.specs.declared.command.Cmd.TheVariants.{Yank, Unknown};
 ghost use Rattle.line_keys.specs.Refreshing.{Shown};
-ghost use Rattle.line_keys.specs.Tables.{look, first_row};
+ghost use Rattle.line_keys.specs.Tables.{Gives, look, first_row};
 
 use crate::command::Cmd;
 use crate::flags::Modifiers;
@@ -21,15 +23,21 @@ use line_buffer::{Anchor, At, Movement, RepeatCount, Word};
 use line_config::{EditMode, ReadlineError};
 use std::alloc::Global;
 
-const PASTE: KeyEvent = KeyEvent(KeyCode::BracketedPasteStart, Modifiers::NONE);
+/// What a key of both modes does.
+#[derive(Drop)]
+pub(crate) enum Deed {
+    Give(Cmd),
+    /// Inserts the pasted text, which is read.
+    Paste,
+}
 
 impl<D: Decides> InputState<'_, D> {
     ghost use Rattle.line_keys.specs.InputStates.{situation_in};
-    ghost use Rattle.line_keys.specs.Common.{common, beyond_rows, sequence};
+    ghost use Rattle.line_keys.specs.Common.{common, sequence};
     ghost use Rattle.line_keys.specs.Follows.{Follows};
 
     /// The command of a key that the mode's own table doesn't have.
-    #[tactic(auto, using(crate::proofs::Following::as_follows))]
+    #[tactic(auto, using(crate::proofs::Steps::read_answered))]
     pub(crate) fn common<R: RawReader, W: Refresher>(
         &self,
         alloc: Global,
@@ -43,32 +51,14 @@ impl<D: Decides> InputState<'_, D> {
             Follows W.display s.custom (common s key (R.feed rdr.old).coming)
             wrt.now s.input wrt.now s.input (R.feed rdr.old) (R.feed rdr.new) result }
     {
-        match common_row(self.mode, wrt, key, n, positive) {
-            Some(cmd) => Ok(cmd),
-            None => self.beyond_rows(alloc, rdr, wrt, key, n, positive),
+        match common_deed(self.mode, wrt, key, n, positive) {
+            Some(Deed::Give(cmd)) => Ok(cmd),
+            Some(Deed::Paste) => {
+                let text = rdr.read_pasted_text(alloc)?;
+                Ok(Cmd::Insert(1, text))
+            }
+            None => self.sequence(alloc, rdr, wrt, key, n, positive),
         }
-    }
-
-    // A pasted text, or the command of a custom sequence.
-    #[tactic(auto, using(crate::proofs::Steps::read_answered))]
-    fn beyond_rows<R: RawReader, W: Refresher>(
-        &self,
-        alloc: Global,
-        rdr: &mut R,
-        wrt: &W,
-        key: KeyEvent,
-        n: RepeatCount,
-        positive: bool,
-    ) -> Result<Cmd, ReadlineError>
-        ensures { let s = situation_in self.now D.decides (W.display.shown wrt.now) n positive in
-            Follows W.display s.custom (beyond_rows s key (R.feed rdr.old).coming)
-            wrt.now s.input wrt.now s.input (R.feed rdr.old) (R.feed rdr.new) result }
-    {
-        if key == PASTE {
-            let text = rdr.read_pasted_text(alloc)?;
-            return Ok(Cmd::Insert(1, text));
-        }
-        self.sequence(alloc, rdr, wrt, key, n, positive)
     }
 
     // The command of a custom sequence.
@@ -93,7 +83,7 @@ impl<D: Decides> InputState<'_, D> {
 
 // The command that a custom sequence is bound to.
 fn bound_command(followed: Followed) -> Cmd
-    ensures { result ≡ bound_command followed }
+    ensures { result ≡ bound_command (followed_of followed) }
 {
     match followed {
         Followed::Bound(cmd) => cmd,
@@ -145,7 +135,36 @@ pub(crate) fn forward_char(n: RepeatCount, positive: bool) -> Movement
     )
 }
 
-// The rows of both modes.
+// What a key does in both modes, if a row has it.
+#[tactic(auto, using(crate::proofs::Steps::common_tables))]
+fn common_deed<W: Refresher>(
+    mode: EditMode,
+    wrt: &W,
+    key: KeyEvent,
+    n: RepeatCount,
+    positive: bool,
+) -> Option<Deed>
+    ensures { let shown = W.display.shown wrt.now in
+        option_map common_meant result ≡ common_deed mode shown n positive key }
+{
+    match common_row(mode, wrt, key, n, positive) {
+        Some(cmd) => Some(Deed::Give(cmd)),
+        None => reading_row(key),
+    }
+}
+
+// The row whose key reads on.
+fn reading_row(key: KeyEvent) -> Option<Deed>
+    ensures { (n : ℕ) (positive : Bool)
+        → option_map common_meant result ≡ look n positive key common_reading_rows }
+{
+    match key {
+        KeyEvent(KeyCode::BracketedPasteStart, Modifiers::NONE) => Some(Deed::Paste),
+        _ => None,
+    }
+}
+
+// The rows of commands.
 fn common_row<W: Refresher>(
     mode: EditMode,
     wrt: &W,
@@ -153,7 +172,8 @@ fn common_row<W: Refresher>(
     n: RepeatCount,
     positive: bool,
 ) -> Option<Cmd>
-    ensures { result ≡ look (W.display.shown wrt.now) n positive key (common_rows mode) }
+    ensures { let rows = common_command_rows mode (W.display.shown wrt.now) in
+        option_map Gives result ≡ look n positive key rows }
 {
     let KeyEvent(code, modifiers) = key;
     match modifiers {
@@ -166,7 +186,7 @@ fn common_row<W: Refresher>(
 // The rows without modifiers.
 fn plain_row(code: KeyCode, n: RepeatCount, positive: bool) -> Option<Cmd>
     ensures { (mode : EditMode) (shown : Shown)
-        → result ≡ first_row shown n positive code 0 (common_rows mode) }
+        → option_map Gives result ≡ first_row n positive code 0 (common_command_rows mode shown) }
 {
     match code {
         KeyCode::Home => Some(Cmd::Move(Movement::BeginningOfLine)),
@@ -192,10 +212,11 @@ fn ctrl_row<W: Refresher>(
     n: RepeatCount,
     positive: bool,
 ) -> Option<Cmd>
-    ensures { result ≡ first_row (W.display.shown wrt.now) n positive code 8 (common_rows mode) }
+    ensures { let rows = common_command_rows mode (W.display.shown wrt.now) in
+        option_map Gives result ≡ first_row n positive code 8 rows }
 {
     match code {
-        KeyCode::Char('D') if wrt.line().is_empty() => Some(Cmd::Unknown),
+        KeyCode::Char('D') if wrt.line().is_empty() => None,
         KeyCode::Char('D') if mode == EditMode::Emacs => Some(Cmd::Kill(forward_char(n, positive))),
         KeyCode::Char('D') => Some(Cmd::EndOfFile),
         KeyCode::Char('J' | 'M') => Some(Cmd::AcceptOrInsertLine {

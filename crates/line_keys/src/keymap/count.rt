@@ -1,8 +1,10 @@
-//! Counts that are typed before a key.
+//! Counts that are typed before a key: signed numbers.
 
 ghost use Rattle.std.specs.Prelude.{◌≡◌, ◌≤◌, ◌-◌, IfOk, IfErr, IfSome, string_bytes};
 ghost use Rattle.line_config.specs.declared.errors.ReadlineError.{ReadlineError};
-ghost use Rattle.line_keys.specs.Counts.{begun_by, count_and, counted_on, digit_of, emacs_counted_on, no_count, prompt_for, times, vi_counted_on};
+ghost use Rattle.line_keys.specs.Counts.{and_digit, begun_by, counted_on, digit_of};
+ghost use Rattle.line_keys.specs.Counts.{emacs_begun_by, emacs_counted_on, how_often, is_plus};
+ghost use Rattle.line_keys.specs.Counts.{prompt_for, vi_begun_by, vi_counted_on};
 
 use crate::flags::Modifiers;
 use crate::handler::Decides;
@@ -14,123 +16,106 @@ use line_buffer::RepeatCount;
 use line_config::{EditMode, ReadlineError};
 use std::alloc::Global;
 
-/// A count as it is typed: its amount, and whether it isn't negative.
-#[derive(Clone, Copy)]
-pub(crate) struct Count {
-    pub amount: RepeatCount,
-    pub positive: bool,
-}
-
-/// A count, and the key behind it.
-#[derive(Clone, Copy)]
-pub(crate) struct Counted {
-    pub count: Count,
-    pub key: KeyEvent,
-}
-
-impl Count {
-    /// No count was typed.
-    pub fn none() -> Self
-        ensures { result ≡ no_count }
-    {
-        Count {
-            amount: 0,
-            positive: true,
-        }
-    }
-
-    /// How often a command is made.
-    pub fn times(self) -> RepeatCount
-        ensures { result ≡ times self }
-    {
-        match self.amount {
-            0 => 1,
-            amount => amount,
-        }
-    }
-
-    /// The count with one more digit. Behind a minus alone, which stands for minus one, the digit
-    /// is the amount.
-    pub fn with(self, digit: RepeatCount) -> Self
-        requires { digit ≤ 9 }
-        ensures { result ≡ count_and self digit }
-    {
-        if !self.positive && self.amount == 1 {
-            return Count {
-                amount: digit,
-                positive: digit == 0,
-            };
-        }
-        // Four digits are enough.
-        if self.amount >= 1000 {
-            return self;
-        }
-        let amount = if self.positive {
-            self.amount * 10 + digit
-        } else {
-            (self.amount * 10).saturating_sub(digit)
-        };
-        Count {
-            amount,
-            positive: self.positive,
-        }
-    }
-
-    pub fn prompt(self, alloc: Global) -> Result<String, ReadlineError>
-        ensures ok { IfOk result (λ s. string_bytes s ≡ prompt_for self) }
-        ensures err { IfErr result (λ e. e ≡ ReadlineError.Memory) }
-    {
-        let amount = self.amount;
-        if self.positive {
-            Ok(format!(in alloc; "(arg: {amount}) ")?)
-        } else {
-            Ok(format!(in alloc; "(arg: -{amount}) ")?)
-        }
-    }
-}
-
-/// The count that a key begins in Emacs mode.
-pub(crate) fn begun_by(key: KeyEvent) -> Option<Count>
-    ensures { result ≡ begun_by key }
+/// How often a command is made.
+pub(crate) fn times(count: Option<i16>) -> RepeatCount
+    ensures { result ≡ how_often count }
 {
-    match key {
-        KeyEvent(KeyCode::Char('-'), Modifiers::ALT) => Some(Count {
-            amount: 1,
-            positive: false,
-        }),
-        KeyEvent(KeyCode::Char(c @ '0'..='9'), Modifiers::ALT) => Some(Count {
-            amount: digit(c),
-            positive: true,
-        }),
-        _ => None,
+    match count {
+        None | Some(0) => 1,
+        Some(count) => count.unsigned_abs(),
     }
+}
+
+/// Whether a count isn't negative.
+pub(crate) fn is_positive(count: Option<i16>) -> bool
+    ensures { result ≡ is_plus count }
+{
+    match count {
+        None => true,
+        Some(count) => count >= 0,
+    }
+}
+
+// The count with one more digit. After a minus alone, which stands for -1, the digit takes the
+// place of the 1.
+fn with_digit(count: i16, digit: RepeatCount) -> i16
+    requires { digit ≤ 9 }
+    ensures { result ≡ and_digit count digit }
+{
+    if count == -1 {
+        return -(digit as i16);
+    }
+    // Four digits are enough.
+    if count.unsigned_abs() >= 1000 {
+        return count;
+    }
+    count * 10 + digit as i16
+}
+
+fn prompt(alloc: Global, count: i16) -> Result<String, ReadlineError>
+    ensures ok { IfOk result (λ s. string_bytes s ≡ prompt_for count) }
+    ensures err { IfErr result (λ e. e ≡ ReadlineError.Memory) }
+{
+    Ok(format!(in alloc; "(arg: {count}) ")?)
 }
 
 // The digit that a character is.
 fn digit(c: char) -> RepeatCount
     requires low { 48 ≤ c }
     requires high { c ≤ 57 }
-    ensures { result ≡ c - 48 }
+    ensures value { result ≡ c - 48 }
+    ensures small { result ≤ 9 }
 {
     c as RepeatCount - 48
 }
 
+// The count that a key begins in Emacs mode: Alt with a digit or with a minus.
+fn emacs_begun_by(key: KeyEvent) -> Option<i16>
+    ensures { result ≡ emacs_begun_by key }
+{
+    match key {
+        KeyEvent(KeyCode::Char('-'), Modifiers::ALT) => Some(-1),
+        KeyEvent(KeyCode::Char(c @ '0'..='9'), Modifiers::ALT) => Some(digit(c) as i16),
+        _ => None,
+    }
+}
+
+// The count that a key begins in Vi's command mode: a digit other than 0.
+fn vi_begun_by(key: KeyEvent) -> Option<i16>
+    ensures { result ≡ vi_begun_by key }
+{
+    match digit_of(key) {
+        None | Some(0) => None,
+        Some(digit) => Some(digit as i16),
+    }
+}
+
+// The count that a key begins.
+fn begun_by(mode: EditMode, key: KeyEvent) -> Option<i16>
+    ensures { result ≡ begun_by mode key }
+{
+    match mode {
+        EditMode::Emacs => emacs_begun_by(key),
+        EditMode::Vi => vi_begun_by(key),
+    }
+}
+
 // The count with one more key of it in Emacs mode, if it is one: a digit, or a minus, which is
 // dropped.
-fn emacs_counted_on(count: Count, key: KeyEvent) -> Option<Count>
+fn emacs_counted_on(count: i16, key: KeyEvent) -> Option<i16>
     ensures { result ≡ emacs_counted_on count key }
 {
     match key {
         KeyEvent(KeyCode::Char('-'), Modifiers::NONE | Modifiers::ALT) => Some(count),
         KeyEvent(KeyCode::Char(c @ '0'..='9'), Modifiers::NONE | Modifiers::ALT) => {
-            Some(count.with(digit(c)))
+            Some(with_digit(count, digit(c)))
         }
         _ => None,
     }
 }
 
 // The digit that a key without modifiers is.
-pub(crate) fn digit_of(key: KeyEvent) -> Option<RepeatCount>
+fn digit_of(key: KeyEvent) -> Option<RepeatCount>
     ensures value { result ≡ digit_of key }
     ensures small { IfSome result (λ d. d ≤ 9) }
 {
@@ -141,17 +126,17 @@ pub(crate) fn digit_of(key: KeyEvent) -> Option<RepeatCount>
 }
 
 // The count with one more key of it in Vi mode, if it is a digit.
-fn vi_counted_on(count: Count, key: KeyEvent) -> Option<Count>
+fn vi_counted_on(count: i16, key: KeyEvent) -> Option<i16>
     ensures { result ≡ vi_counted_on count key }
 {
     match digit_of(key) {
-        Some(digit) => Some(count.with(digit)),
+        Some(digit) => Some(with_digit(count, digit)),
         None => None,
     }
 }
 
 // The count with one more key of it.
-fn counted_on(mode: EditMode, count: Count, key: KeyEvent) -> Option<Count>
+fn counted_on(mode: EditMode, count: i16, key: KeyEvent) -> Option<i16>
     ensures { result ≡ counted_on mode count key }
 {
     match mode {
@@ -162,18 +147,38 @@ fn counted_on(mode: EditMode, count: Count, key: KeyEvent) -> Option<Count>
 
 impl<D: Decides> InputState<'_, D> {
     ghost use Rattle.line_keys.specs.InputStates.{input_of, custom_in};
-    ghost use Rattle.line_keys.specs.Counts.{counting, counted_on};
+    ghost use Rattle.line_keys.specs.Counts.{counted_key, counting, counted_on};
     ghost use Rattle.line_keys.specs.Follows.{Follows};
 
-    /// The rest of a count, and the key behind it.
-    #[tactic(auto, using(crate::proofs::Steps::count_turns), unfolding(crate::specs::Counts::counting))]
-    pub(crate) fn digit_argument<R: RawReader, W: Refresher>(
+    /// The key, or, where it begins a count, that count and the key after it.
+    #[tactic(auto, using(crate::proofs::Steps::answer))]
+    pub(crate) fn counted_key<R: RawReader, W: Refresher>(
         &self,
         alloc: Global,
         rdr: &mut R,
         wrt: &mut W,
-        begun: Count,
-    ) -> Result<Counted, ReadlineError>
+        key: KeyEvent,
+    ) -> Result<(Option<i16>, KeyEvent), ReadlineError>
+        ensures { let input = input_of self.now in
+            let script = counted_key input.mode key (R.feed rdr.old).coming in
+            Follows W.display (custom_in self.now D.decides) script
+            wrt.old input wrt.new input (R.feed rdr.old) (R.feed rdr.new) result }
+    {
+        match begun_by(self.mode, key) {
+            Some(begun) => self.digit_argument(alloc, rdr, wrt, begun),
+            None => Ok((None, key)),
+        }
+    }
+
+    // The rest of a count, and the key after it.
+    #[tactic(auto, using(crate::proofs::Steps::counts), unfolding(crate::specs::Counts::counting))]
+    fn digit_argument<R: RawReader, W: Refresher>(
+        &self,
+        alloc: Global,
+        rdr: &mut R,
+        wrt: &mut W,
+        begun: i16,
+    ) -> Result<(Option<i16>, KeyEvent), ReadlineError>
         ensures { let input = input_of self.now in
             let script = counting (counted_on input.mode) begun (R.feed rdr.old).coming in
             Follows W.display (custom_in self.now D.decides) script
@@ -181,14 +186,14 @@ impl<D: Decides> InputState<'_, D> {
     {
         let mut count = begun;
         loop {
-            let prompt = count.prompt(alloc)?;
+            let prompt = prompt(alloc, count)?;
             wrt.refresh_prompt_and_line(prompt.as_str())?;
             let key = rdr.next_key(self.mode == EditMode::Emacs)?;
             match counted_on(self.mode, count, key) {
                 Some(more) => count = more,
                 None => {
                     wrt.refresh_line()?;
-                    return Ok(Counted { count, key });
+                    return Ok((Some(count), key));
                 }
             }
         }

@@ -24,7 +24,9 @@ pub(crate) enum Followed {
 
 impl<D: Decides> InputState<'_, D> {
     ghost use Rattle.line_keys.specs.InputStates.{situation_in};
+    ghost use Rattle.line_keys.specs.Coming.{made_of};
     ghost use Rattle.line_keys.specs.Custom.{custom_answer, sequence_answer, shown_for, followed};
+    ghost use Rattle.line_keys.specs.Meant.{followed_of};
     ghost use Rattle.line_keys.specs.Answers.{answer_by};
     ghost use Rattle.line_keys.specs.Follows.{Follows, Decides as Decision};
     ghost use Rattle.line_keys.specs.Faults.{HadMemory};
@@ -75,7 +77,7 @@ impl<D: Decides> InputState<'_, D> {
 
     /// The command that a sequence of keys is bound to, which begins with this key: while the keys
     /// so far begin a bound sequence, or are it, one more is read.
-    #[tactic(auto, using(crate::proofs::Steps::sequence_turns), unfolding(crate::specs::Custom::followed))]
+    #[tactic(auto, using(crate::proofs::Steps::turns), unfolding(crate::specs::Custom::followed))]
     pub(crate) fn custom_seq_binding<R: RawReader, W: Refresher>(
         &self,
         alloc: Global,
@@ -86,8 +88,9 @@ impl<D: Decides> InputState<'_, D> {
         positive: bool,
     ) -> Result<Followed, ReadlineError>
         ensures { let s = situation_in self.now D.decides (W.display.shown wrt.now) n positive in
+            let came = made_of followed_of result in
             Follows W.display s.custom (followed s key (R.feed rdr.old).coming)
-            wrt.now s.input wrt.now s.input (R.feed rdr.old) (R.feed rdr.new) result }
+            wrt.now s.input wrt.now s.input (R.feed rdr.old) (R.feed rdr.new) came }
     {
         let mut keys = Vec::new(alloc);
         keys.push(key)?;

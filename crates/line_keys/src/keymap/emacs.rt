@@ -1,13 +1,15 @@
 //! The keys of Emacs mode.
 
-ghost use Rattle.std.specs.Prelude.{◌≡◌, IfOk, IfErr, if◌then◌else◌};
-ghost use Rattle.line_config.specs.declared.errors.ReadlineError.{ReadlineError};
-ghost use Rattle.line_keys.specs.Emacs.{back, ahead, emacs_rows, plain_char, searched, second_command};
+ghost use Rattle.std.specs.Prelude.{◌≡◌, ℕ, option_map, if◌then◌else◌};
 ghost use Rattle.line_keys.specs.Coming.{from_key_at};
+ghost use Rattle.line_keys.specs.Common.{plain_char};
+ghost use Rattle.line_keys.specs.Emacs.{back, ahead, move_to_char, second_command};
+ghost use Rattle.line_keys.specs.Emacs.{emacs_command_rows, emacs_deed, emacs_reading_rows, typed_rows};
 ghost use Rattle.line_keys.specs.Feeds.{Key, ReadsBy};
-ghost use Rattle.line_keys.specs.declared.command.Cmd.TheVariants.{Complete, CompleteBackward};
-ghost use Rattle.line_keys.specs.Tables.{look, first_row};
+ghost use Rattle.line_keys.specs.Meant.{emacs_meant, search_of};
 ghost use Rattle.line_keys.specs.Refreshing.{Shown};
+ghost use Rattle.line_keys.specs.Tables.{Gives, look, first_row};
+ghost use Rattle.line_keys.specs.declared.command.Cmd.TheVariants.{Complete, CompleteBackward};
 
 use crate::command::Cmd;
 use crate::flags::Modifiers;
@@ -15,30 +17,34 @@ use crate::handler::Decides;
 use crate::key::{KeyCode, KeyEvent};
 use crate::keymap::InputState;
 use crate::keymap::common::{backward_char, by_sign, forward_char, term_binding};
-use crate::keymap::count::{Count, Counted, begun_by};
+use crate::keymap::count::{is_positive, times};
 use crate::keymap::custom::Followed;
+use crate::keymap::vi::motion::Search;
 use crate::refresh::Refresher;
 use crate::tty::RawReader;
-use line_buffer::{At, CharSearch, Movement, RepeatCount, Word};
+use line_buffer::{At, Movement, RepeatCount, Word};
 use line_config::ReadlineError;
 use std::alloc::Global;
 
-const CTRL_X: KeyEvent = KeyEvent(KeyCode::Char('X'), Modifiers::CTRL);
-
-const SEARCH: KeyEvent = KeyEvent(KeyCode::Char(']'), Modifiers::CTRL);
-
-const SEARCH_BACK: KeyEvent = KeyEvent(KeyCode::Char(']'), Modifiers::CTRL_ALT);
+/// What a key of Emacs mode does.
+#[derive(Drop)]
+pub(crate) enum Deed {
+    Give(Cmd),
+    /// Moves to the character that is typed next.
+    Seek(Search),
+    /// Reads one more key, which has rows of its own.
+    LeadOn,
+}
 
 impl<D: Decides> InputState<'_, D> {
     ghost use Rattle.line_keys.specs.InputStates.{input_of, custom_in, situation_in};
-    ghost use Rattle.line_keys.specs.Emacs.{emacs_phrase, emacs_decided, emacs_command, emacs_beyond_rows, ctrl_x};
-    ghost use Rattle.line_keys.specs.Counts.{times};
+    ghost use Rattle.line_keys.specs.Emacs.{emacs_phrase, emacs_decided, emacs_command};
+    ghost use Rattle.line_keys.specs.Emacs.{LeadsOn, emacs_done};
+    ghost use Rattle.line_keys.specs.Counts.{how_often, is_plus};
     ghost use Rattle.line_keys.specs.Follows.{Follows};
-    ghost use Rattle.line_keys.specs.declared.keymap.custom.Followed.{Followed};
-    ghost use Rattle.line_keys.specs.Emacs.{behind_ctrl_x};
 
     /// The command that begins with this key.
-    #[tactic(auto, using(crate::proofs::Steps::part_behind))]
+    #[tactic(auto, using(crate::proofs::Steps::part_then))]
     pub(crate) fn emacs<R: RawReader, W: Refresher>(
         &self,
         alloc: Global,
@@ -53,36 +59,28 @@ impl<D: Decides> InputState<'_, D> {
             Follows W.display custom script
             wrt.old input wrt.new input (R.feed rdr.old) (R.feed rdr.new) result }
     {
-        match begun_by(key) {
-            Some(begun) => {
-                let counted = self.digit_argument(alloc, rdr, wrt, begun)?;
-                self.emacs_decided(alloc, rdr, wrt, counted)
-            }
-            None => {
-                let count = Count::none();
-                self.emacs_decided(alloc, rdr, wrt, Counted { count, key })
-            }
-        }
+        let (count, key) = self.counted_key(alloc, rdr, wrt, key)?;
+        self.emacs_decided(alloc, rdr, wrt, count, key)
     }
 
-    // The command of the key behind a count.
+    // The command of the key after a count.
     #[tactic(auto, using(crate::proofs::Steps::decision))]
     fn emacs_decided<R: RawReader, W: Refresher>(
         &self,
         alloc: Global,
         rdr: &mut R,
         wrt: &W,
-        counted: Counted,
+        count: Option<i16>,
+        key: KeyEvent,
     ) -> Result<Cmd, ReadlineError>
-        ensures { let n = times counted.count in
+        ensures { let n = how_often count in
             let shown = W.display.shown wrt.now in
-            let s = situation_in self.now D.decides shown n counted.count.positive in
-            Follows W.display s.custom (emacs_decided s counted.key (R.feed rdr.old).coming)
+            let s = situation_in self.now D.decides shown n (is_plus count) in
+            Follows W.display s.custom (emacs_decided s key (R.feed rdr.old).coming)
             wrt.now s.input wrt.now s.input (R.feed rdr.old) (R.feed rdr.new) result }
     {
-        let Counted { count, key } = counted;
-        let n = count.times();
-        let positive = count.positive;
+        let n = times(count);
+        let positive = is_positive(count);
         match self.custom_binding(alloc, wrt, key, n, positive)? {
             Some(cmd) => cmd.made_anew(alloc, wrt, Some(n)),
             None => match term_binding(rdr, wrt, key) {
@@ -92,8 +90,8 @@ impl<D: Decides> InputState<'_, D> {
         }
     }
 
-    // The command of the table.
-    #[tactic(auto, using(crate::proofs::Following::as_follows))]
+    // What the key's row says, or what is common to both modes.
+    #[tactic(auto, using(crate::proofs::Steps::one_read))]
     fn emacs_command<R: RawReader, W: Refresher>(
         &self,
         alloc: Global,
@@ -107,45 +105,12 @@ impl<D: Decides> InputState<'_, D> {
             Follows W.display s.custom (emacs_command s key (R.feed rdr.old).coming)
             wrt.now s.input wrt.now s.input (R.feed rdr.old) (R.feed rdr.new) result }
     {
-        if let Some(c) = plain_char(key) {
-            let cmd = if positive {
-                Cmd::SelfInsert(n, c)
-            } else {
-                Cmd::Unknown
-            };
-            return Ok(cmd);
+        match emacs_deed(wrt, key, n, positive) {
+            Some(Deed::Give(cmd)) => Ok(cmd),
+            Some(Deed::Seek(search)) => char_search(rdr, n, search),
+            Some(Deed::LeadOn) => self.ctrl_x(alloc, rdr, wrt, key, n, positive),
+            None => self.common(alloc, rdr, wrt, key, n, positive),
         }
-        match emacs_row(wrt, key, n, positive) {
-            Some(cmd) => Ok(cmd),
-            None => self.emacs_beyond_rows(alloc, rdr, wrt, key, n, positive),
-        }
-    }
-
-    // The command of a key that reads on, or of one that no row of Emacs mode has.
-    #[tactic(auto, using(crate::proofs::Steps::one_read))]
-    fn emacs_beyond_rows<R: RawReader, W: Refresher>(
-        &self,
-        alloc: Global,
-        rdr: &mut R,
-        wrt: &W,
-        key: KeyEvent,
-        n: RepeatCount,
-        positive: bool,
-    ) -> Result<Cmd, ReadlineError>
-        ensures { let s = situation_in self.now D.decides (W.display.shown wrt.now) n positive in
-            Follows W.display s.custom (emacs_beyond_rows s key (R.feed rdr.old).coming)
-            wrt.now s.input wrt.now s.input (R.feed rdr.old) (R.feed rdr.new) result }
-    {
-        if key == CTRL_X {
-            return self.ctrl_x(alloc, rdr, wrt, key, n, positive);
-        }
-        if key == SEARCH {
-            return char_search(rdr, n, positive);
-        }
-        if key == SEARCH_BACK {
-            return char_search(rdr, n, !positive);
-        }
-        self.common(alloc, rdr, wrt, key, n, positive)
     }
 
     // The command of a custom sequence, else that of the second key, which is read if it wasn't.
@@ -160,7 +125,7 @@ impl<D: Decides> InputState<'_, D> {
         positive: bool,
     ) -> Result<Cmd, ReadlineError>
         ensures { let s = situation_in self.now D.decides (W.display.shown wrt.now) n positive in
-            Follows W.display s.custom (ctrl_x s key (R.feed rdr.old).coming)
+            Follows W.display s.custom (emacs_done s key LeadsOn (R.feed rdr.old).coming)
             wrt.now s.input wrt.now s.input (R.feed rdr.old) (R.feed rdr.new) result }
     {
         let followed = self.custom_seq_binding(alloc, rdr, wrt, key, n, positive)?;
@@ -172,7 +137,7 @@ impl<D: Decides> InputState<'_, D> {
     }
 }
 
-// The command of the second key behind Ctrl-X, which wasn't read yet.
+// The command of the second key after Ctrl-X, which wasn't read yet.
 #[tactic(auto, using(crate::proofs::KeyReads::made_of_read, crate::proofs::KeyReads::not_made))]
 fn read_second<R: RawReader>(
     rdr: &mut R,
@@ -196,7 +161,7 @@ pub(crate) fn plain_char(key: KeyEvent) -> Option<char>
     }
 }
 
-// The command of the second key behind Ctrl-X.
+// The command of the second key after Ctrl-X.
 fn second_command(key: KeyEvent, n: RepeatCount, positive: bool) -> Cmd
     ensures { result ≡ second_command n positive key }
 {
@@ -210,33 +175,29 @@ fn second_command(key: KeyEvent, n: RepeatCount, positive: bool) -> Cmd
     }
 }
 
-// The move to right before the character that is typed next, or back to it.
+// The move to the character that is typed next.
 #[tactic(auto, using(crate::proofs::KeyReads::made_of_read, crate::proofs::KeyReads::not_made))]
 fn char_search<R: RawReader>(
     rdr: &mut R,
     n: RepeatCount,
-    forward: bool,
+    search: Search,
 ) -> Result<Cmd, ReadlineError>
-    ensures { let given = from_key_at (λ k. searched n forward (plain_char k)) in
+    ensures { let given = from_key_at (λ next. move_to_char n (search_of search) (plain_char next))
+        in
         ReadsBy Key given (R.feed rdr.old) (R.feed rdr.new) result }
 {
     let key = rdr.next_key(false)?;
-    Ok(searched(n, forward, plain_char(key)))
+    Ok(searched(n, search, plain_char(key)))
 }
 
-// The search for a character.
-fn searched(n: RepeatCount, forward: bool, sought: Option<char>) -> Cmd
-    ensures { result ≡ searched n forward sought }
+// The move by a search for a character.
+fn searched(n: RepeatCount, search: Search, sought: Option<char>) -> Cmd
+    ensures { result ≡ move_to_char n (search_of search) sought }
 {
-    let Some(c) = sought else {
-        return Cmd::Unknown;
-    };
-    let search = if forward {
-        CharSearch::ForwardBefore(c)
-    } else {
-        CharSearch::Backward(c)
-    };
-    Cmd::Move(Movement::ViCharSearch(n, search))
+    match sought {
+        Some(c) => Cmd::Move(Movement::ViCharSearch(n, search.to(c))),
+        None => Cmd::Unknown,
+    }
 }
 
 // Back over words; for a negative count, forward.
@@ -261,9 +222,54 @@ fn ahead(n: RepeatCount, positive: bool) -> Movement
     )
 }
 
-// The rows of Emacs mode.
+// What a key does, if a row has it.
+#[tactic(auto, using(crate::proofs::Steps::emacs_tables))]
+fn emacs_deed<W: Refresher>(wrt: &W, key: KeyEvent, n: RepeatCount, positive: bool) -> Option<Deed>
+    ensures { let shown = W.display.shown wrt.now in
+        option_map emacs_meant result ≡ emacs_deed shown n positive key }
+{
+    if let Some(cmd) = typed_row(key, n, positive) {
+        return Some(Deed::Give(cmd));
+    }
+    match emacs_row(wrt, key, n, positive) {
+        Some(cmd) => Some(Deed::Give(cmd)),
+        None => reading_row(key, positive),
+    }
+}
+
+// The row of characters.
+fn typed_row(key: KeyEvent, n: RepeatCount, positive: bool) -> Option<Cmd>
+    ensures { option_map Gives result ≡ look n positive key typed_rows }
+{
+    match key {
+        KeyEvent(KeyCode::Char(c), Modifiers::NONE) if positive => Some(Cmd::SelfInsert(n, c)),
+        KeyEvent(KeyCode::Char(_), Modifiers::NONE) => Some(Cmd::Unknown),
+        _ => None,
+    }
+}
+
+// The rows whose keys read on.
+fn reading_row(key: KeyEvent, positive: bool) -> Option<Deed>
+    ensures { (n : ℕ) → option_map emacs_meant result ≡ look n positive key emacs_reading_rows }
+{
+    use KeyCode as K;
+    use KeyEvent as E;
+    use Modifiers as M;
+
+    match key {
+        E(K::Char(']'), M::CTRL) if positive => Some(Deed::Seek(Search::ForwardBefore)),
+        E(K::Char(']'), M::CTRL) => Some(Deed::Seek(Search::Backward)),
+        E(K::Char(']'), M::CTRL_ALT) if positive => Some(Deed::Seek(Search::Backward)),
+        E(K::Char(']'), M::CTRL_ALT) => Some(Deed::Seek(Search::ForwardBefore)),
+        E(K::Char('X'), M::CTRL) => Some(Deed::LeadOn),
+        _ => None,
+    }
+}
+
+// The rows of commands.
 fn emacs_row<W: Refresher>(wrt: &W, key: KeyEvent, n: RepeatCount, positive: bool) -> Option<Cmd>
-    ensures { result ≡ look (W.display.shown wrt.now) n positive key emacs_rows }
+    ensures { let rows = emacs_command_rows (W.display.shown wrt.now) in
+        option_map Gives result ≡ look n positive key rows }
 {
     let KeyEvent(code, modifiers) = key;
     match modifiers {
@@ -280,7 +286,8 @@ fn emacs_row<W: Refresher>(wrt: &W, key: KeyEvent, n: RepeatCount, positive: boo
 
 // The rows without modifiers. A hint is taken where the cursor stands right before it.
 fn plain_row<W: Refresher>(wrt: &W, code: KeyCode, n: RepeatCount, positive: bool) -> Option<Cmd>
-    ensures { result ≡ first_row (W.display.shown wrt.now) n positive code 0 emacs_rows }
+    ensures { let rows = emacs_command_rows (W.display.shown wrt.now) in
+        option_map Gives result ≡ first_row n positive code 0 rows }
 {
     match code {
         KeyCode::Esc => Some(Cmd::Abort),
@@ -294,7 +301,8 @@ fn plain_row<W: Refresher>(wrt: &W, code: KeyCode, n: RepeatCount, positive: boo
 
 // The rows with Ctrl.
 fn ctrl_row(code: KeyCode, n: RepeatCount, positive: bool) -> Option<Cmd>
-    ensures { (shown : Shown) → result ≡ first_row shown n positive code 8 emacs_rows }
+    ensures { (shown : Shown)
+        → option_map Gives result ≡ first_row n positive code 8 (emacs_command_rows shown) }
 {
     match code {
         KeyCode::Char('A') => Some(Cmd::Move(Movement::BeginningOfLine)),
@@ -319,7 +327,8 @@ fn ctrl_row(code: KeyCode, n: RepeatCount, positive: bool) -> Option<Cmd>
 
 // The rows with Alt.
 fn alt_row(code: KeyCode, n: RepeatCount, positive: bool) -> Option<Cmd>
-    ensures { (shown : Shown) → result ≡ first_row shown n positive code 4 emacs_rows }
+    ensures { (shown : Shown)
+        → option_map Gives result ≡ first_row n positive code 4 (emacs_command_rows shown) }
 {
     match code {
         KeyCode::Backspace => Some(Cmd::Kill(back(n, positive))),

@@ -7,7 +7,7 @@ pub mod table;
 ghost use Rattle.std.specs.Prelude.{◌≡◌, true};
 ghost use Rattle.line_keys.specs.Coming.{from_key_at};
 ghost use Rattle.line_keys.specs.Feeds.{Key, ReadsBy};
-ghost use Rattle.line_keys.specs.Vi.{move_or, replacement, typed_in};
+ghost use Rattle.line_keys.specs.Vi.{move_or, key_replacement, typed_in};
 
 use crate::command::{Cmd, InputMode};
 use crate::flags::Modifiers;
@@ -15,11 +15,10 @@ use crate::handler::Decides;
 use crate::key::{KeyCode, KeyEvent};
 use crate::keymap::InputState;
 use crate::keymap::common::term_binding;
-use crate::keymap::count::{Count, Counted};
-use crate::keymap::emacs::plain_char;
-use crate::keymap::vi::count::{typed_count, vi_begun_by};
+use crate::keymap::count::times;
+use crate::keymap::vi::count::typed_count;
 use crate::keymap::vi::motion::{opposite, searching};
-use crate::keymap::vi::table::{Deed, Operator, alt_char, vi_command_row, vi_insert_row};
+use crate::keymap::vi::table::{Deed, InsertDeed, Operator, vi_command_row, vi_insert_row};
 use crate::refresh::Refresher;
 use crate::tty::RawReader;
 use line_buffer::{Movement, RepeatCount};
@@ -28,12 +27,14 @@ use std::alloc::Global;
 
 impl<D: Decides> InputState<'_, D> {
     ghost use Rattle.line_keys.specs.Commands.{standing};
-    ghost use Rattle.line_keys.specs.Counts.{times};
+    ghost use Rattle.line_keys.specs.Counts.{how_often};
     ghost use Rattle.line_keys.specs.Follows.{Follows};
     ghost use Rattle.line_keys.specs.InputStates.{input_of, custom_in, situation_in};
     ghost use Rattle.line_keys.specs.Meant.{changes, command_of};
     ghost use Rattle.line_keys.specs.Phrases.{and_then, becoming};
-    ghost use Rattle.line_keys.specs.Vi.{Remembers, changed, entered, is_new, operation, typed, vi_command, vi_command_table, vi_counted, vi_insert, vi_insert_table, vi_left, vi_phrase};
+    ghost use Rattle.line_keys.specs.Vi.{Remembers, changed, command_table, entered, insert_table};
+    ghost use Rattle.line_keys.specs.Vi.{is_new, operation, typed, vi_command, vi_counted};
+    ghost use Rattle.line_keys.specs.Vi.{vi_insert, vi_phrase};
     ghost use Rattle.line_keys.specs.ViCounts.{typed_count};
 
     /// The command that begins with this key.
@@ -59,7 +60,7 @@ impl<D: Decides> InputState<'_, D> {
     }
 
     // The command that begins with this key in command mode.
-    #[tactic(auto, using(crate::proofs::Steps::part_behind), unfolding(crate::specs::Vi::vi_command))]
+    #[tactic(auto, using(crate::proofs::Steps::part_then), unfolding(crate::specs::Vi::vi_command))]
     fn vi_command<R: RawReader, W: Refresher>(
         &mut self,
         alloc: Global,
@@ -74,40 +75,32 @@ impl<D: Decides> InputState<'_, D> {
             (R.feed rdr.old) (R.feed rdr.new) result }
         ensures bindings { self.new.custom_bindings ≡ self.old.custom_bindings }
     {
-        match vi_begun_by(key) {
-            Some(begun) => {
-                let counted = self.digit_argument(alloc, rdr, wrt, begun)?;
-                self.vi_counted(alloc, rdr, wrt, counted)
-            }
-            None => {
-                let count = Count::none();
-                self.vi_counted(alloc, rdr, wrt, Counted { count, key })
-            }
-        }
+        let (count, key) = self.counted_key(alloc, rdr, wrt, key)?;
+        self.vi_counted(alloc, rdr, wrt, count, key)
     }
 
-    // The command of the key behind a count.
+    // The command of the key after a count.
     #[tactic(auto, using(crate::proofs::Steps::decision), unfolding(crate::specs::Vi::vi_counted))]
     fn vi_counted<R: RawReader, W: Refresher>(
         &mut self,
         alloc: Global,
         rdr: &mut R,
         wrt: &mut W,
-        counted: Counted,
+        count: Option<i16>,
+        key: KeyEvent,
     ) -> Result<Cmd, ReadlineError>
-        ensures phrase { let script = vi_counted (custom_in self.old D.decides) counted
+        ensures phrase { let script = vi_counted (custom_in self.old D.decides) (count, key)
             (input_of self.old) (W.display.shown wrt.old) (R.feed rdr.old).coming in
             Follows W.display (custom_in self.old D.decides) script
             wrt.old (input_of self.old) wrt.new (input_of self.new)
             (R.feed rdr.old) (R.feed rdr.new) result }
         ensures bindings { self.new.custom_bindings ≡ self.old.custom_bindings }
     {
-        let Counted { count, key } = counted;
-        match self.custom_binding(alloc, wrt, key, count.times(), true)? {
+        match self.custom_binding(alloc, wrt, key, times(count), true)? {
             Some(cmd) => cmd.made_anew(alloc, wrt, typed_count(count)),
             None => match term_binding(rdr, wrt, key) {
                 Some(cmd) => Ok(cmd),
-                None => self.vi_changed(alloc, rdr, wrt, counted),
+                None => self.vi_changed(alloc, rdr, wrt, count, key),
             },
         }
     }
@@ -119,41 +112,42 @@ impl<D: Decides> InputState<'_, D> {
         alloc: Global,
         rdr: &mut R,
         wrt: &mut W,
-        counted: Counted,
+        count: Option<i16>,
+        key: KeyEvent,
     ) -> Result<Cmd, ReadlineError>
-        ensures phrase { let n = times counted.count in
+        ensures phrase { let n = how_often count in
             let s = situation_in self.old D.decides (W.display.shown wrt.old) n true in
-            let table = vi_command_table (typed_count counted.count) s counted.key in
+            let table = command_table (typed_count count) s key in
             let script = and_then s.input s.shown table changed (R.feed rdr.old).coming in
             Follows W.display (custom_in self.old D.decides) script
             wrt.old (input_of self.old) wrt.new (input_of self.new)
             (R.feed rdr.old) (R.feed rdr.new) result }
         ensures bindings { self.new.custom_bindings ≡ self.old.custom_bindings }
     {
-        let cmd = self.vi_done(alloc, rdr, wrt, counted)?;
+        let cmd = self.vi_done(alloc, rdr, wrt, count, key)?;
         self.changed_by(alloc, cmd)
     }
 
     // What the key's row says, or what is common to both modes.
-    #[tactic(auto, using(crate::proofs::Steps::deed), unfolding(crate::specs::Vi::vi_command_table))]
+    #[tactic(auto, using(crate::proofs::Steps::deed), unfolding(crate::specs::Vi::command_table))]
     fn vi_done<R: RawReader, W: Refresher>(
         &mut self,
         alloc: Global,
         rdr: &mut R,
         wrt: &mut W,
-        counted: Counted,
+        count: Option<i16>,
+        key: KeyEvent,
     ) -> Result<Cmd, ReadlineError>
-        ensures phrase { let new = typed_count counted.count in
-            let n = times counted.count in
+        ensures phrase { let new = typed_count count in
+            let n = how_often count in
             let s = situation_in self.old D.decides (W.display.shown wrt.old) n true in
-            let script = vi_command_table new s counted.key (R.feed rdr.old).coming in
+            let script = command_table new s key (R.feed rdr.old).coming in
             Follows W.display (custom_in self.old D.decides) script
             wrt.old (input_of self.old) wrt.new (input_of self.new)
             (R.feed rdr.old) (R.feed rdr.new) result }
         ensures bindings { self.new.custom_bindings ≡ self.old.custom_bindings }
     {
-        let Counted { count, key } = counted;
-        let n = count.times();
+        let n = times(count);
         match vi_command_row(key, n) {
             Some(Deed::Give(cmd)) => Ok(cmd),
             Some(Deed::Insert(cmd)) => {
@@ -265,69 +259,48 @@ impl<D: Decides> InputState<'_, D> {
     ) -> Result<Cmd, ReadlineError>
         ensures phrase { let shown = W.display.shown wrt.old in
             let input = input_of self.old in
-            let table = vi_insert_table (custom_in self.old D.decides) input shown key in
+            let table = insert_table (custom_in self.old D.decides) input shown key in
             let script = and_then input shown table typed (R.feed rdr.old).coming in
             Follows W.display (custom_in self.old D.decides) script
             wrt.old (input_of self.old) wrt.new (input_of self.new)
             (R.feed rdr.old) (R.feed rdr.new) result }
         ensures bindings { self.new.custom_bindings ≡ self.old.custom_bindings }
     {
-        let cmd = self.vi_insert_table(alloc, rdr, wrt, key)?;
+        let cmd = self.vi_inserted(alloc, rdr, wrt, key)?;
         self.typed_by(alloc, cmd)
     }
 
-    // The command of the table: of a character, or of a row.
-    #[tactic(auto, using(crate::proofs::Steps::answer), unfolding(crate::specs::Vi::vi_insert_table))]
-    fn vi_insert_table<R: RawReader, W: Refresher>(
+    // What the key's row says, or what is common to both modes.
+    #[tactic(auto, using(crate::proofs::Steps::leaving), unfolding(crate::specs::Vi::insert_table))]
+    fn vi_inserted<R: RawReader, W: Refresher>(
         &mut self,
         alloc: Global,
         rdr: &mut R,
         wrt: &mut W,
         key: KeyEvent,
     ) -> Result<Cmd, ReadlineError>
-        ensures phrase { let script = vi_insert_table (custom_in self.old D.decides)
+        ensures phrase { let script = insert_table (custom_in self.old D.decides)
             (input_of self.old) (W.display.shown wrt.old) key (R.feed rdr.old).coming in
             Follows W.display (custom_in self.old D.decides) script
             wrt.old (input_of self.old) wrt.new (input_of self.new)
             (R.feed rdr.old) (R.feed rdr.new) result }
         ensures bindings { self.new.custom_bindings ≡ self.old.custom_bindings }
     {
-        if let Some(c) = plain_char(key) {
-            return Ok(typed_in(self.input_mode, c));
-        }
         match vi_insert_row(wrt, key) {
-            Some(cmd) => Ok(cmd),
-            None => self.vi_left(alloc, rdr, wrt, key),
+            Some(InsertDeed::Give(cmd)) => Ok(cmd),
+            Some(InsertDeed::Type(c)) => Ok(typed_in(self.input_mode, c)),
+            Some(InsertDeed::Leave(cmd)) => {
+                self.input_mode = InputMode::Command;
+                wrt.done_inserting()?;
+                Ok(cmd)
+            }
+            Some(InsertDeed::Command(c)) => {
+                self.input_mode = InputMode::Command;
+                wrt.done_inserting()?;
+                self.vi_command(alloc, rdr, wrt, KeyEvent(KeyCode::Char(c), Modifiers::NONE))
+            }
+            None => self.common(alloc, rdr, wrt, key, 1, true),
         }
-    }
-
-    // The command of a key that leaves insert mode, or of one that no row of it has.
-    #[tactic(auto, using(crate::proofs::Steps::leaving), unfolding(crate::specs::Vi::vi_left))]
-    fn vi_left<R: RawReader, W: Refresher>(
-        &mut self,
-        alloc: Global,
-        rdr: &mut R,
-        wrt: &mut W,
-        key: KeyEvent,
-    ) -> Result<Cmd, ReadlineError>
-        ensures phrase { let script = vi_left (custom_in self.old D.decides)
-            (input_of self.old) (W.display.shown wrt.old) key (R.feed rdr.old).coming in
-            Follows W.display (custom_in self.old D.decides) script
-            wrt.old (input_of self.old) wrt.new (input_of self.new)
-            (R.feed rdr.old) (R.feed rdr.new) result }
-        ensures bindings { self.new.custom_bindings ≡ self.old.custom_bindings }
-    {
-        if let Some(c) = alt_char(key) {
-            self.input_mode = InputMode::Command;
-            wrt.done_inserting()?;
-            return self.vi_command(alloc, rdr, wrt, KeyEvent(KeyCode::Char(c), Modifiers::NONE));
-        }
-        if key == KeyEvent::ESC {
-            self.input_mode = InputMode::Command;
-            wrt.done_inserting()?;
-            return Ok(Cmd::Move(Movement::BackwardChar(1)));
-        }
-        self.common(alloc, rdr, wrt, key, 1, true)
     }
 
     // Each change is the last one, but for typed characters that go on with it.
@@ -365,22 +338,20 @@ fn typed_in(mode: InputMode, c: char) -> Cmd
 // The character that is typed next, in place of those under the cursor.
 #[tactic(auto, using(crate::proofs::KeyReads::made_of_read, crate::proofs::KeyReads::not_made))]
 fn replacement<R: RawReader>(rdr: &mut R, n: RepeatCount) -> Result<Cmd, ReadlineError>
-    ensures { let given = from_key_at (replacement n) in
+    ensures { let given = from_key_at (key_replacement n) in
         ReadsBy Key given (R.feed rdr.old) (R.feed rdr.new) result }
 {
     let key = rdr.next_key(false)?;
     Ok(replaced_by(key, n))
 }
 
-// What the key behind the one for replacing gives.
+// What the key after the one for replacing gives.
 fn replaced_by(key: KeyEvent, n: RepeatCount) -> Cmd
-    ensures { result ≡ replacement n key }
+    ensures { result ≡ key_replacement n key }
 {
-    if let Some(c) = plain_char(key) {
-        return Cmd::ReplaceChar(n, c);
+    match key {
+        KeyEvent(KeyCode::Char(c), Modifiers::NONE) => Cmd::ReplaceChar(n, c),
+        KeyEvent::ESC => Cmd::Noop,
+        _ => Cmd::Unknown,
     }
-    if key == KeyEvent::ESC {
-        return Cmd::Noop;
-    }
-    Cmd::Unknown
 }

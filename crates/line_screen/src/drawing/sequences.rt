@@ -1,7 +1,7 @@
 //! Control sequences of ECMA-48.
 
 ghost use Rattle.std.specs.Prelude.{◌≡◌, [], IsTrue, OnOk, OnErr};
-ghost use Rattle.line_screen.specs.Drawing.{control_sequence, row_move, col_move, move_bytes, cleared};
+ghost use Rattle.line_screen.specs.Drawing.{control_sequence, row_move, col_move, move_bytes, clearing_bytes};
 ghost use Rattle.line_config.specs.Sending.{Sends};
 
 use itoa::Buffer;
@@ -63,7 +63,7 @@ pub(crate) fn send_move<D: Sink>(
 /// To the first row of a drawing whose cursor stands in its row `row`, and all from there on
 /// erased.
 pub(crate) fn send_cleared<D: Sink>(sink: &mut D, row: Unit) -> Result<(), DeviceFailed>
-    ensures { Sends D.told D.held D.has_failed (cleared row) sink.old sink.new result }
+    ensures { Sends D.told D.held D.has_failed (clearing_bytes row) sink.old sink.new result }
 {
     send_control(sink, row, b'A')?;
     send(sink, b"\r\x1B[J")
@@ -95,7 +95,7 @@ pub(crate) fn go<D: Sink>(sink: &mut D, old: Position, new: Position) -> Result<
 }
 
 pub(crate) fn clear<D: Sink>(sink: &mut D, row: Unit) -> Result<(), DeviceFailed>
-    ensures { Sends D.told D.held D.has_failed (cleared row) sink.old sink.new result }
+    ensures { Sends D.told D.held D.has_failed (clearing_bytes row) sink.old sink.new result }
 {
     send_cleared(sink, row)?;
     flush(sink)

@@ -30,7 +30,7 @@ fn leave_full<D: Sink>(sink: &mut D, grid: Grid, col: Unit) -> Result<Unit, Devi
     Ok(col)
 }
 
-/// Goes to the next row where so many columns don't fit behind `col`.
+/// Goes to the next row where so many columns don't fit after `col`.
 fn make_room<D: Sink>(
     sink: &mut D,
     grid: Grid,

@@ -1,4 +1,4 @@
-//! Whole drawings: prompt, line, and the hint or message behind it.
+//! Whole drawings: prompt, line, and the hint or message after it.
 
 ghost use Rattle.std.specs.Prelude.{◌≡◌, ◌<◌, ◌++◌, [], IsTrue, OnOk, OnErr, IfOk};
 ghost use Rattle.line_screen.specs.Drawing.{no_style, sent, col_after, text_items, shown_text, drawing};
@@ -13,7 +13,7 @@ use crate::grid::Grid;
 use line_buffer::{Position, Unit};
 use line_config::{DeviceFailed, Sink};
 
-/// What a drawing shows: prompt, line, and the hint or message behind it.
+/// What a drawing shows: prompt, line, and the hint or message after it.
 #[derive(Clone, Copy)]
 pub(crate) struct Texts<'a> {
     pub(crate) prompt: &'a str,
@@ -21,7 +21,7 @@ pub(crate) struct Texts<'a> {
     pub(crate) info: &'a str,
 }
 
-/// One of the texts, from a column on. Answers the column behind it.
+/// One of the texts, from a column on. Answers the column after it.
 fn send_part<D: Sink>(
     sink: &mut D,
     grid: Grid,

@@ -5,7 +5,7 @@ ghost use Rattle.line_config.specs.declared.device.Last.TheVariants.{End};
 ghost use Rattle.line_config.specs.declared.errors.ReadlineError.TheVariants.{Eof, Reader};
 ghost use Rattle.line_config.specs.Refusals.{MetBy};
 ghost use Rattle.line_screen.specs.Input.{chars_of, in_char, char_at, behind_char, is_failure};
-ghost use Rattle.line_screen.specs.Reading.{IsCut, ReadsByte, PeeksByte, ReadsFurther, ReadsChar};
+ghost use Rattle.line_screen.specs.Reading.{IsCut, ReadsByte, PeeksByte, ReadsFurther, ReadsChar, continuation};
 
 use crate::reading::utf8::Awaited;
 use line_config::{DeviceFailed, ReadlineError, Source};
@@ -18,7 +18,7 @@ pub(crate) struct Lookahead<S> {
 }
 
 impl<S: Source> Lookahead<S> {
-    ghost use Rattle.line_screen.specs.Unread.{ahead};
+    ghost use Rattle.line_screen.specs.Reading.{unread};
 
     /// The next byte: the one that is kept, where there is one.
     fn next_byte(&mut self) -> Result<Option<u8>, DeviceFailed>
@@ -45,7 +45,7 @@ impl<S: Source> Lookahead<S> {
 
     /// A further byte of a character.
     fn further_byte(&mut self, awaited: Awaited) -> Result<u8, ReadlineError>
-        ensures { ReadsFurther S.feed awaited self.old self.new result }
+        ensures { ReadsFurther S.feed (continuation awaited) self.old self.new result }
     {
         match self.next_byte() {
             Ok(Some(byte)) if awaited.least <= byte && byte <= awaited.greatest => Ok(byte),
@@ -59,9 +59,10 @@ impl<S: Source> Lookahead<S> {
         requires count { awaited.more ≡ 0 }
         requires small { awaited.value < 1048576 }
         requires high { 0x80 ≤ awaited.least }
-        ensures reads { ReadsChar S.feed (in_char (Some awaited)) self.old self.new result }
-        ensures cut { IsCut char_at (in_char (Some awaited))
-            (ahead S.feed self.old) (ahead S.feed self.new) result }
+        ensures reads { ReadsChar S.feed (in_char (Some (continuation awaited)))
+            self.old self.new result }
+        ensures cut { IsCut char_at (in_char (Some (continuation awaited)))
+            (unread S.feed self.old) (unread S.feed self.new) result }
         ensures whole { result ≡ Err Eof → ⊥ }
     {
         let byte = self.further_byte(awaited)?;
@@ -76,9 +77,10 @@ impl<S: Source> Lookahead<S> {
         requires count { awaited.more ≡ 1 }
         requires small { awaited.value < 8192 }
         requires high { 0x80 ≤ awaited.least }
-        ensures reads { ReadsChar S.feed (in_char (Some awaited)) self.old self.new result }
-        ensures cut { IsCut char_at (in_char (Some awaited))
-            (ahead S.feed self.old) (ahead S.feed self.new) result }
+        ensures reads { ReadsChar S.feed (in_char (Some (continuation awaited)))
+            self.old self.new result }
+        ensures cut { IsCut char_at (in_char (Some (continuation awaited)))
+            (unread S.feed self.old) (unread S.feed self.new) result }
         ensures whole { result ≡ Err Eof → ⊥ }
     {
         let byte = self.further_byte(awaited)?;
@@ -90,23 +92,25 @@ impl<S: Source> Lookahead<S> {
         requires count { awaited.more ≡ 2 }
         requires small { awaited.value < 64 }
         requires high { 0x80 ≤ awaited.least }
-        ensures reads { ReadsChar S.feed (in_char (Some awaited)) self.old self.new result }
-        ensures cut { IsCut char_at (in_char (Some awaited))
-            (ahead S.feed self.old) (ahead S.feed self.new) result }
+        ensures reads { ReadsChar S.feed (in_char (Some (continuation awaited)))
+            self.old self.new result }
+        ensures cut { IsCut char_at (in_char (Some (continuation awaited)))
+            (unread S.feed self.old) (unread S.feed self.new) result }
         ensures whole { result ≡ Err Eof → ⊥ }
     {
         let byte = self.further_byte(awaited)?;
         self.two_more(awaited.after(byte))
     }
 
-    /// The character behind its first byte.
+    /// The rest of a character, after its first byte.
     fn rest_of_char(&mut self, awaited: Awaited) -> Result<char, ReadlineError>
         requires count { awaited.more ≤ 2 }
         requires small { awaited.value < 32 }
         requires high { 0x80 ≤ awaited.least }
-        ensures reads { ReadsChar S.feed (in_char (Some awaited)) self.old self.new result }
-        ensures cut { IsCut char_at (in_char (Some awaited))
-            (ahead S.feed self.old) (ahead S.feed self.new) result }
+        ensures reads { ReadsChar S.feed (in_char (Some (continuation awaited)))
+            self.old self.new result }
+        ensures cut { IsCut char_at (in_char (Some (continuation awaited)))
+            (unread S.feed self.old) (unread S.feed self.new) result }
         ensures whole { result ≡ Err Eof → ⊥ }
     {
         match awaited.more {
@@ -121,16 +125,16 @@ impl<S: Source> Lookahead<S> {
     /// `NotUtf8`.
     pub(crate) fn next_char(&mut self) -> Result<char, ReadlineError>
         ensures reads { ReadsChar S.feed chars_of self.old self.new result }
-        ensures cut { IsCut char_at chars_of (ahead S.feed self.old)
-            (ahead S.feed self.new) result }
-        ensures end { IsTrue (ahead S.feed self.old).told → result ≡ Err Eof
-            → (ahead S.feed self.old).coming ≡ [] }
-        ensures ended { IsTrue (ahead S.feed self.old).told → result ≡ Err Eof
-            → (ahead S.feed self.new).coming ≡ [] }
-        ensures ends { IsTrue (ahead S.feed self.old).told → result ≡ Err Eof
-            → (ahead S.feed self.old).last ≡ End }
+        ensures cut { IsCut char_at chars_of (unread S.feed self.old)
+            (unread S.feed self.new) result }
+        ensures end { IsTrue (unread S.feed self.old).told → result ≡ Err Eof
+            → (unread S.feed self.old).coming ≡ [] }
+        ensures ended { IsTrue (unread S.feed self.old).told → result ≡ Err Eof
+            → (unread S.feed self.new).coming ≡ [] }
+        ensures ends { IsTrue (unread S.feed self.old).told → result ≡ Err Eof
+            → (unread S.feed self.old).last ≡ End }
         ensures falls { OnOk result
-            ((ahead S.feed self.new).bound < (ahead S.feed self.old).bound) }
+            ((unread S.feed self.new).bound < (unread S.feed self.old).bound) }
     {
         let first = match self.next_byte() {
             Ok(Some(byte)) => byte,

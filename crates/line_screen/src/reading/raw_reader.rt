@@ -12,7 +12,8 @@ use line_keys::{Cmd, KeyCode, KeyEvent, Modifiers, RawReader, Text};
 use std::alloc::Global;
 
 impl<S: Source> KeyReader<S> {
-    ghost use Rattle.line_screen.specs.KeyCalls.{AnswersKey, AnswersText, IsMemoryKept};
+    ghost use Rattle.line_screen.specs.KeyCalls.{AnswersKey, AnswersText, KeepsAfter, IsMemoryKept};
+    ghost use Rattle.line_screen.specs.KeyReading.{IsEsc};
 
     /// Keeps a refusal that is for good.
     fn refuse(&mut self, why: ReadlineError) -> ReadlineError
@@ -37,6 +38,7 @@ impl<S: Source> KeyReader<S> {
     #[tactic(auto, using(crate::proofs::ReaderRules::key_call))]
     fn take_key(&mut self) -> Result<KeyEvent, ReadlineError>
         ensures call { AnswersKey S.feed self.old self.new result }
+        ensures kept { KeepsAfter IsEsc self.old self.new result }
         ensures memory { IsMemoryKept S.feed self.old result }
     {
         if self.bytes.source.failed() {
@@ -57,7 +59,8 @@ impl<S: Source> KeyReader<S> {
     /// The pasted text that is owed, unless the source failed or a call was refused for good.
     #[tactic(auto, using(crate::proofs::ReaderRules::text_call))]
     fn take_text(&mut self, alloc: Global) -> Result<Text, ReadlineError>
-        ensures { AnswersText S.feed self.old self.new result }
+        ensures call { AnswersText S.feed self.old self.new result }
+        ensures kept { KeepsAfter (λ _. ⊥) self.old self.new result }
     {
         if self.bytes.source.failed() {
             return Err(ReadlineError::Reader);
@@ -77,7 +80,8 @@ impl<S: Source> KeyReader<S> {
 }
 
 impl<S: Source + Drop> RawReader for KeyReader<S> {
-    ghost use Rattle.line_screen.specs.KeyCalls.{AnswersKey, AnswersText, AnswersChar, IsMemoryKept};
+    ghost use Rattle.line_screen.specs.KeyCalls.{AnswersKey, AnswersText, AnswersChar, KeepsAfter, IsMemoryKept};
+    ghost use Rattle.line_screen.specs.KeyReading.{IsEsc};
     ghost use Rattle.line_screen.specs.Reader.{items_of, kept_of};
 
     type Buffer = u8;
@@ -90,6 +94,7 @@ impl<S: Source + Drop> RawReader for KeyReader<S> {
         ensures reads { ReadsBy Key key_at
             (items_of S.feed self.old) (items_of S.feed self.new) result }
         ensures call { AnswersKey S.feed self.old self.new result }
+        ensures kept { KeepsAfter IsEsc self.old self.new result }
         ensures memory { IsMemoryKept S.feed self.old result }
     {
         self.take_key()
@@ -98,6 +103,7 @@ impl<S: Source + Drop> RawReader for KeyReader<S> {
     #[tactic(auto, using(crate::proofs::ReaderRules::char_call))]
     fn next_char(&mut self) -> Result<char, ReadlineError>
         ensures call { AnswersChar S.feed self.old self.new result }
+        ensures kept { KeepsAfter (λ _. ⊥) self.old self.new result }
         ensures memory { IsMemoryKept S.feed self.old result }
     {
         if self.bytes.source.failed() {
@@ -119,6 +125,7 @@ impl<S: Source + Drop> RawReader for KeyReader<S> {
         ensures reads { ReadsBy Paste paste_at
             (items_of S.feed self.old) (items_of S.feed self.new) result }
         ensures call { AnswersText S.feed self.old self.new result }
+        ensures kept { KeepsAfter (λ _. ⊥) self.old self.new result }
     {
         self.take_text(alloc)
     }

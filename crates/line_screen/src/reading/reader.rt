@@ -5,9 +5,7 @@ ghost use Rattle.line_screen.specs.Lasting.{lasts};
 
 use crate::reading::lookahead::Lookahead;
 use crate::reading::paste::{marker_char, marker_front, put_char};
-use crate::reading::sequence::{
-    Parameters, announces_paste, ended_by, linux_code, plain_key, third_code,
-};
+use crate::reading::sequence::{Parameters, announces_paste, ended_by, plain_key, third_code};
 use line_config::{EditMode, ReadlineError, Source};
 use line_keys::{KeyEvent, Modifiers, Text};
 use std::alloc::Global;
@@ -61,14 +59,14 @@ impl<S> KeyReader<S> {
 }
 
 impl<S: Source> KeyReader<S> {
-    ghost use Rattle.line_screen.specs.KeyReading.{ReadsKey, ReadsText, key_from, escape_from, third_from, bracket_from, linux_from, control_from, unknown_from, text_from};
-    ghost use Rattle.line_screen.specs.Reader.{feed_in};
-    ghost use Rattle.line_screen.specs.declared.reading.sequence.Parameters.TheVariants.{One};
+    ghost use Rattle.std.specs.Prelude.{codes};
+    ghost use Rattle.line_screen.specs.KeyReading.{ReadsKey, ReadsSequence, ReadsText, KeepsFor, IsEsc, key_from, escape_from, text_from};
+    ghost use Rattle.line_screen.specs.Reader.{feed_in, kept_of};
 
     /// The key of ESC `O` and a character.
     fn key_of_third(&mut self) -> Result<KeyEvent, ReadlineError>
         requires { self.old.owed ≡ false }
-        ensures { ReadsKey S.feed (third_from self.old.mode) self.old self.new result }
+        ensures { ReadsSequence S.feed (codes "O") self.old self.new result }
     {
         let c = self.bytes.next_char()?;
         Ok(plain_key(third_code(c)))
@@ -77,40 +75,26 @@ impl<S: Source> KeyReader<S> {
     /// The key of ESC `[[` and a character.
     fn key_of_linux(&mut self) -> Result<KeyEvent, ReadlineError>
         requires { self.old.owed ≡ false }
-        ensures { ReadsKey S.feed (linux_from self.old.mode) self.old self.new result }
+        ensures { ReadsSequence S.feed (codes "[[") self.old self.new result }
     {
         let c = self.bytes.next_char()?;
-        Ok(plain_key(linux_code(c)))
+        Ok(ended_by(&['['], c))
     }
 
     /// The key of ESC `[` and what follows.
     fn key_of_bracket(&mut self) -> Result<KeyEvent, ReadlineError>
         requires { self.old.owed ≡ false }
-        ensures { ReadsKey S.feed (bracket_from self.old.mode) self.old self.new result }
+        ensures { ReadsSequence S.feed (codes "[") self.old self.new result }
     {
-        let c = self.bytes.next_char()?;
-        match c {
-            '[' => self.key_of_linux(),
-            '0'..='?' => self.key_of_control(c),
-            ' '..='/' => self.key_of_unknown(),
-            _ => Ok(ended_by(Parameters::Empty, c)),
-        }
-    }
-
-    /// The key of ESC `[`, a first parameter and what follows.
-    fn key_of_control(&mut self, first: char) -> Result<KeyEvent, ReadlineError>
-        requires { self.old.owed ≡ false }
-        ensures { ReadsKey S.feed (control_from self.old.mode (One first))
-            self.old self.new result }
-    {
-        let mut written = Parameters::One(first);
+        let mut written = Parameters::new();
         loop {
             let c = self.bytes.next_char()?;
             match c {
-                '0'..='?' => written = written.with(c),
+                '[' if written.as_slice().is_empty() => return self.key_of_linux(),
+                '0'..='?' => written.push(c),
                 ' '..='/' => return self.key_of_unknown(),
                 _ => {
-                    let key = ended_by(written, c);
+                    let key = ended_by(written.as_slice(), c);
                     self.owed = announces_paste(key);
                     return Ok(key);
                 }
@@ -118,10 +102,10 @@ impl<S: Source> KeyReader<S> {
         }
     }
 
-    /// The key of a control sequence with an intermediate character: none has a name.
+    /// The key of a control sequence after an intermediate character: none has a name.
     fn key_of_unknown(&mut self) -> Result<KeyEvent, ReadlineError>
         requires { self.old.owed ≡ false }
-        ensures { ReadsKey S.feed (unknown_from self.old.mode) self.old self.new result }
+        ensures { ReadsSequence S.feed (codes "[ ") self.old self.new result }
     {
         loop {
             let c = self.bytes.next_char()?;
@@ -135,7 +119,8 @@ impl<S: Source> KeyReader<S> {
     #[tactic(auto, using(crate::proofs::ReaderRules::escapes))]
     fn key_of_escape(&mut self) -> Result<KeyEvent, ReadlineError>
         requires { self.old.owed ≡ false }
-        ensures { ReadsKey S.feed (escape_from self.old.mode) self.old self.new result }
+        ensures reads { ReadsKey S.feed (escape_from self.old.mode) self.old self.new result }
+        ensures kept { KeepsFor IsEsc self.new result }
     {
         match self.bytes.peek() {
             Ok(Some(b'[')) => {
@@ -162,6 +147,7 @@ impl<S: Source> KeyReader<S> {
     pub(crate) fn key(&mut self) -> Result<KeyEvent, ReadlineError>
         requires { self.old.owed ≡ false }
         ensures reads { ReadsKey S.feed (key_from self.old.mode) self.old self.new result }
+        ensures kept { KeepsFor IsEsc self.new result }
         ensures falls { OnOk result
             ((feed_in S.feed self.new).bound < (feed_in S.feed self.old).bound) }
     {
@@ -176,6 +162,7 @@ impl<S: Source> KeyReader<S> {
     pub(crate) fn pasted_text(&mut self, alloc: Global) -> Result<Text, ReadlineError>
         requires { self.old.owed ≡ false }
         ensures reads { ReadsText S.feed (text_from self.old.mode) self.old self.new result }
+        ensures kept { kept_of self.new ≡ None }
         ensures falls { OnOk result
             ((feed_in S.feed self.new).bound < (feed_in S.feed self.old).bound) }
     {

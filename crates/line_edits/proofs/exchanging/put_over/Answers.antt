@@ -4,12 +4,12 @@ use Rattle.line_record.specs.Items.{held_on}
 use Rattle.line_edits.proofs.WrittenLemmas.{recorded_one}
 use Rattle.line_edits.proofs.exchanging.put_over.Goals as goal
 
-pub returns-in-Ok : goal.returns-in-Ok
-returns-in-Ok c =
-    let told = c.in-Ok.ensures.told.on _ _ c.requires.stand c.as_str-text.ensures.utf8 c.in-Ok.ensures.replays in
+pub returns : goal.returns
+returns c =
+    let told = c.in_ok-replace.ensures.told.on _ _ c.requires.stand c.as_str-text.ensures.utf8 c.in_ok-replace.ensures.replays in
     record {
       writes = record {
-        line = rw c.encode_utf8.ensures.value at (rw c.pos-at.ensures.value at c.in-Ok.ensures.line);
+        line = rw c.encode_utf8.ensures.value at (rw c.pos-at.ensures.value at c.in_ok-replace.ensures.line);
         held = rw c.encode_utf8.ensures.value at (rw c.pos-at.ensures.value at (told.held
             ∙ recorded_one (replacement c.pos-at.result c.args.end c.encode_utf8.result.now c.args.line.now.text) c.args.line.now.text (held_on c.args.changes.now c.args.line.now.text)));
         stand = told.stand;

@@ -1,16 +1,15 @@
 use Rattle.line_record.proofs.RunLemmas.{told_stand, told_held, stopped_stand}
+use Rattle.line_edits.proofs.WrittenLemmas.{refused_writes}
 use Rattle.line_edits.proofs.inserting.pop_told.Goals as goal
 
-pub returns-in-Ok : goal.returns-in-Ok
-returns-in-Ok c = record {
+pub returns : goal.returns
+returns c = record {
   writes = record {
-    line = c.in-Ok.ensures.line;
-    held = told_held c.requires.stand c.as_str-text.ensures.utf8 c.in-Ok.ensures.told;
-    stand = told_stand c.requires.stand c.as_str-text.ensures.utf8 c.in-Ok.ensures.told;
+    line = c.in_ok-yank_pop.ensures.line;
+    held = told_held c.requires.stand c.as_str-text.ensures.utf8 c.in_ok-yank_pop.ensures.told;
+    stand = told_stand c.requires.stand c.as_str-text.ensures.utf8 c.in_ok-yank_pop.ensures.told;
   };
 }
 
-pub returns-in-Err : goal.returns-in-Err
-returns-in-Err c = record {
-  writes = record { line = tt; held = tt; stand = stopped_stand c.requires.stand c.as_str-text.ensures.utf8 c.in-Err.ensures.stopped };
-}
+pub returns-in_err-yank_pop : goal.returns-in_err-yank_pop
+returns-in_err-yank_pop c = record { writes = refused_writes _ c.from_residual.result c.from_residual.ensures.1 (stopped_stand c.requires.stand c.as_str-text.ensures.utf8 c.in_err-yank_pop.ensures.stopped) }

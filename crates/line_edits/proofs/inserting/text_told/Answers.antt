@@ -8,9 +8,9 @@ use Rattle.line_edits.proofs.inserting.text_told.Goals as goal
 pub insert_str-requires-clause-cursor : goal.insert_str-requires-clause-cursor
 insert_str-requires-clause-cursor c = rw c.pos-at.ensures.value (start_replaced _ _ _ _ c.as_str-text.ensures.utf8 c.utf8.text c.pos-at.ensures.boundary c.pos-at.ensures.boundary)
 
-pub returns-in-Ok-clause-writes : goal.returns-in-Ok-clause-writes
-returns-in-Ok-clause-writes c = record {
-  line = rw c.pos-at.ensures.value at c.in-Ok.ensures.line;
-  held = rw c.pos-at.ensures.value at ((c.in-Ok.ensures.told.on _ _ c.requires c.as_str-text.ensures.utf8 c.in-Ok.ensures.replays).held ∙ recorded_one (insertion c.pos-at.result c.args.text.now) c.args.line.now.text (held_on c.args.changes.now c.args.line.now.text));
-  stand = (c.in-Ok.ensures.told.on _ _ c.requires c.as_str-text.ensures.utf8 c.in-Ok.ensures.replays).stand;
+pub returns-clause-writes : goal.returns-clause-writes
+returns-clause-writes c = record {
+  line = rw c.pos-at.ensures.value at c.in_ok-insert_str.ensures.line;
+  held = rw c.pos-at.ensures.value at ((c.in_ok-insert_str.ensures.told.on _ _ c.requires c.as_str-text.ensures.utf8 c.in_ok-insert_str.ensures.replays).held ∙ recorded_one (insertion c.pos-at.result c.args.text.now) c.args.line.now.text (held_on c.args.changes.now c.args.line.now.text));
+  stand = (c.in_ok-insert_str.ensures.told.on _ _ c.requires c.as_str-text.ensures.utf8 c.in_ok-insert_str.ensures.replays).stand;
 }

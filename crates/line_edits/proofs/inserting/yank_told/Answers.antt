@@ -1,12 +1,13 @@
 use Rattle.line_record.proofs.RunLemmas.{told_stand, told_held, stopped_stand}
+use Rattle.line_edits.proofs.WrittenLemmas.{refused_writes}
 use Rattle.line_edits.proofs.inserting.yank_told.Goals as goal
 
-pub returns-in-Ok-clause-writes : goal.returns-in-Ok-clause-writes
-returns-in-Ok-clause-writes c = record {
-  line = c.in-Ok.ensures.line;
-  held = told_held c.requires c.as_str-text.ensures.utf8 c.in-Ok.ensures.told;
-  stand = told_stand c.requires c.as_str-text.ensures.utf8 c.in-Ok.ensures.told;
+pub returns-clause-writes : goal.returns-clause-writes
+returns-clause-writes c = record {
+  line = c.in_ok-yank.ensures.line;
+  held = told_held c.requires c.as_str-text.ensures.utf8 c.in_ok-yank.ensures.told;
+  stand = told_stand c.requires c.as_str-text.ensures.utf8 c.in_ok-yank.ensures.told;
 }
 
-pub returns-in-Err-clause-writes : goal.returns-in-Err-clause-writes
-returns-in-Err-clause-writes c = record { line = tt; held = tt; stand = stopped_stand c.requires c.as_str-text.ensures.utf8 c.in-Err.ensures.stopped }
+pub returns-in_err-yank-clause-writes : goal.returns-in_err-yank-clause-writes
+returns-in_err-yank-clause-writes c = refused_writes _ c.from_residual.result c.from_residual.ensures.1 (stopped_stand c.requires c.as_str-text.ensures.utf8 c.in_err-yank.ensures.stopped)

@@ -1,7 +1,7 @@
-//! Motions behind Vi's operators, and searches for a character.
+//! Motions after Vi's operators, and searches for a character.
 
-ghost use Rattle.std.specs.Prelude.{◌≡◌, option_map};
-ghost use Rattle.line_keys.specs.KeyRows.{given};
+ghost use Rattle.std.specs.Prelude.{◌≡◌, option_map, true};
+ghost use Rattle.line_keys.specs.Tables.{look};
 ghost use Rattle.line_keys.specs.ViMotions.{motion_rows, change_rows, motion_of};
 ghost use Rattle.line_keys.specs.ViSearches.{opposite_of, searching};
 ghost use Rattle.line_keys.specs.Meant.{motion_meant};
@@ -10,8 +10,8 @@ use crate::flags::Modifiers;
 use crate::handler::Decides;
 use crate::key::{KeyCode, KeyEvent};
 use crate::keymap::InputState;
-use crate::keymap::count::Counted;
 use crate::keymap::emacs::plain_char;
+use crate::keymap::vi::count::multiplied;
 use crate::refresh::Refresher;
 use crate::tty::RawReader;
 use line_buffer::{At, CharSearch, Movement, RepeatCount, Word};
@@ -32,7 +32,7 @@ pub(crate) enum Search {
 impl Search {
     ghost use Rattle.line_keys.specs.Meant.{search_of};
 
-    fn to(self, c: char) -> CharSearch
+    pub fn to(self, c: char) -> CharSearch
         ensures { result ≡ search_of self c }
     {
         match self {
@@ -44,7 +44,7 @@ impl Search {
     }
 }
 
-/// What a key is behind an operator.
+/// What a key is after an operator.
 #[derive(Drop)]
 pub(crate) enum Motion {
     Go(Movement),
@@ -77,7 +77,7 @@ pub(crate) fn searching(n: RepeatCount, search: Option<CharSearch>) -> Option<Mo
 
 // The rows of motions.
 fn motion_row(key: KeyEvent, n: RepeatCount) -> Option<Motion>
-    ensures { option_map motion_meant result ≡ given n key motion_rows }
+    ensures { option_map motion_meant result ≡ look n true key motion_rows }
 {
     use KeyCode as K;
     use KeyEvent as E;
@@ -110,9 +110,9 @@ fn motion_row(key: KeyEvent, n: RepeatCount) -> Option<Motion>
     }
 }
 
-// The rows of motions of a change, which takes no blanks behind a word.
+// The rows of motions of a change, which takes no blanks after a word.
 fn change_row(key: KeyEvent, n: RepeatCount) -> Option<Motion>
-    ensures { option_map motion_meant result ≡ given n key change_rows }
+    ensures { option_map motion_meant result ≡ look n true key change_rows }
 {
     match key {
         KeyEvent(KeyCode::Char('w'), Modifiers::NONE) => {
@@ -125,8 +125,8 @@ fn change_row(key: KeyEvent, n: RepeatCount) -> Option<Motion>
     }
 }
 
-// What a key is behind an operator, which may be a change.
-#[tactic(auto, using(crate::proofs::Steps::motion_tables), unfolding(crate::specs::ViMotions::motion_of))]
+// What a key is after an operator, which may be a change.
+#[tactic(auto, using(crate::proofs::Steps::motions), unfolding(crate::specs::ViMotions::motion_of))]
 fn motion_of(changing: bool, key: KeyEvent, n: RepeatCount) -> Option<Motion>
     ensures { option_map motion_meant result ≡ motion_of changing n key }
 {
@@ -143,11 +143,10 @@ impl<D: Decides> InputState<'_, D> {
     ghost use Rattle.line_keys.specs.InputStates.{input_of, custom_in};
     ghost use Rattle.line_keys.specs.Follows.{Follows, silent};
     ghost use Rattle.line_keys.specs.Meant.{search_of};
-    ghost use Rattle.line_keys.specs.ViMotions.{change, motion_done, vi_motion};
+    ghost use Rattle.line_keys.specs.ViMotions.{motion_by, vi_motion};
     ghost use Rattle.line_keys.specs.ViSearches.{sought};
-    ghost use Rattle.line_keys.specs.SameKeys.{same_key};
 
-    /// The motion behind an operator's key; none where another key follows.
+    /// The motion after an operator's key; none where another key follows.
     #[tactic(auto, using(crate::proofs::Steps::motion))]
     pub(crate) fn vi_cmd_motion<R: RawReader, W: Refresher>(
         &mut self,
@@ -168,27 +167,26 @@ impl<D: Decides> InputState<'_, D> {
         if key == operator {
             return Ok(Some(Movement::WholeLine));
         }
-        let counted = self.second_count(alloc, rdr, wrt, key, n)?;
-        self.counted_motion(rdr, operator, counted)
+        let (second, key) = self.counted_key(alloc, rdr, wrt, key)?;
+        self.motion_by(rdr, operator, multiplied(n, second), key)
     }
 
-    // The motion of the key behind a second count.
+    // The motion of the key after a second count.
     #[tactic(auto, using(crate::proofs::Steps::answer))]
-    fn counted_motion<R: RawReader>(
+    fn motion_by<R: RawReader>(
         &mut self,
         rdr: &mut R,
         operator: KeyEvent,
-        counted: Counted,
+        n: RepeatCount,
+        key: KeyEvent,
     ) -> Result<Option<Movement>, ReadlineError>
         ensures motion { let input = input_of self.old in
-            let given = motion_of (same_key operator change) counted.count.amount counted.key in
-            let script = motion_done counted.count.amount input given (R.feed rdr.old).coming in
+            let script = motion_by operator n input key (R.feed rdr.old).coming in
             Follows silent (custom_in self.old D.decides) script
             tt input tt (input_of self.new) (R.feed rdr.old) (R.feed rdr.new) result }
         ensures bindings { self.new.custom_bindings ≡ self.old.custom_bindings }
     {
-        let n = counted.count.amount;
-        match motion_of(operator == CHANGE, counted.key, n) {
+        match motion_of(operator == CHANGE, key, n) {
             Some(Motion::Go(movement)) => Ok(Some(movement)),
             Some(Motion::Seek(search)) => self.vi_char_search(rdr, search, n),
             Some(Motion::Again) => Ok(searching(n, self.last_char_search)),

@@ -1,13 +1,11 @@
 //! The rows of Vi's tables.
 
-ghost use Rattle.std.specs.Prelude.{◌≡◌, option_map};
-ghost use Rattle.line_keys.specs.KeyRows.{given};
-ghost use Rattle.line_keys.specs.Tables.{look};
-ghost use Rattle.line_keys.specs.ViTables.{Gives, vi_move_rows, vi_edit_rows, vi_insert_rows, vi_turn_rows, vi_reading_rows, deed_of};
-ghost use Rattle.line_keys.specs.Vi.{alt_char, operated};
-ghost use Rattle.line_keys.specs.Meant.{meant};
-ghost use Rattle.std.specs.Prelude.{ℕ, None, true};
-ghost use Rattle.line_keys.specs.ViTables.{Turns};
+ghost use Rattle.std.specs.Prelude.{◌≡◌, ℕ, None, option_map, true};
+ghost use Rattle.line_keys.specs.Meant.{insert_meant, meant};
+ghost use Rattle.line_keys.specs.Tables.{Does, Gives, look};
+ghost use Rattle.line_keys.specs.Vi.{operated};
+ghost use Rattle.line_keys.specs.ViTables.{Turns, deed_of, insert_deed, vi_edit_rows, vi_move_rows};
+ghost use Rattle.line_keys.specs.ViTables.{vi_reading_rows, vi_turn_rows};
 ghost use Rattle.line_keys.specs.declared.command.Cmd.TheVariants.{Replace};
 ghost use Rattle.line_keys.specs.declared.command.InputMode.TheVariants.{Insert};
 
@@ -68,39 +66,48 @@ impl Operator {
     }
 }
 
-/// The character of a key with Alt.
-pub(crate) fn alt_char(key: KeyEvent) -> Option<char>
-    ensures { result ≡ alt_char key }
-{
-    match key {
-        KeyEvent(KeyCode::Char(c), Modifiers::ALT) => Some(c),
-        _ => None,
-    }
+/// What a key of insert and replace mode does.
+#[derive(Drop)]
+pub(crate) enum InsertDeed {
+    Give(Cmd),
+    /// Types a character, in replace mode over the one at the cursor.
+    Type(char),
+    /// Turns to command mode, which the display is told.
+    Leave(Cmd),
+    /// Turns to command mode likewise, where this character's key is read.
+    Command(char),
 }
 
-/// The rows of insert mode.
-pub(crate) fn vi_insert_row<W: Refresher>(wrt: &W, key: KeyEvent) -> Option<Cmd>
-    ensures { result ≡ look (W.display.shown wrt.now) 1 true key vi_insert_rows }
+/// The rows of insert and replace mode.
+#[tactic(auto, unfolding(crate::specs::ViTables::insert_deed))]
+pub(crate) fn vi_insert_row<W: Refresher>(wrt: &W, key: KeyEvent) -> Option<InsertDeed>
+    ensures { option_map insert_meant result ≡ insert_deed (W.display.shown wrt.now) key }
 {
+    use InsertDeed as D;
     use KeyCode as K;
     use KeyEvent as E;
     use Modifiers as M;
 
     match key {
-        E(K::Char('H'), M::CTRL) | E::BACKSPACE => Some(Cmd::Kill(Movement::BackwardChar(1))),
-        E(K::BackTab, M::NONE) => Some(Cmd::CompleteBackward),
-        E(K::Char('I'), M::CTRL) | E(K::Tab, M::NONE) => Some(Cmd::Complete),
+        E(K::Char(c), M::NONE) => Some(D::Type(c)),
+        E(K::Char('H'), M::CTRL) | E::BACKSPACE => {
+            Some(D::Give(Cmd::Kill(Movement::BackwardChar(1))))
+        }
+        E(K::Char('I'), M::CTRL) | E(K::Tab, M::NONE) => Some(D::Give(Cmd::Complete)),
+        E(K::BackTab, M::NONE) => Some(D::Give(Cmd::CompleteBackward)),
         // A hint is taken where the cursor stands before it.
         E(K::Right, M::NONE) if wrt.has_hint() && wrt.is_cursor_at_end() => {
-            Some(Cmd::CompleteHint)
+            Some(D::Give(Cmd::CompleteHint))
         }
+        E::ESC => Some(D::Leave(Cmd::Move(Movement::BackwardChar(1)))),
+        E(K::Char(c), M::ALT) => Some(D::Command(c)),
         _ => None,
     }
 }
 
 // The rows of motions.
 fn vi_move_row(key: KeyEvent, n: RepeatCount) -> Option<Cmd>
-    ensures { option_map Gives result ≡ given n key vi_move_rows }
+    ensures { option_map Gives result ≡ look n true key vi_move_rows }
 {
     use KeyCode as K;
     use KeyEvent as E;
@@ -136,7 +143,7 @@ fn vi_move_row(key: KeyEvent, n: RepeatCount) -> Option<Cmd>
 
 // The rows of edits that wait for no motion, and the rest.
 fn vi_edit_row(key: KeyEvent, n: RepeatCount) -> Option<Cmd>
-    ensures { option_map Gives result ≡ given n key vi_edit_rows }
+    ensures { option_map Gives result ≡ look n true key vi_edit_rows }
 {
     use KeyCode as K;
     use KeyEvent as E;
@@ -162,7 +169,7 @@ fn vi_edit_row(key: KeyEvent, n: RepeatCount) -> Option<Cmd>
 
 // The rows whose keys leave command mode.
 fn vi_turn_row(key: KeyEvent, n: RepeatCount) -> Option<Deed>
-    ensures { option_map meant result ≡ given n key vi_turn_rows }
+    ensures { option_map meant result ≡ look n true key vi_turn_rows }
 {
     use KeyCode as K;
     use KeyEvent as E;
@@ -192,14 +199,14 @@ fn vi_turn_row(key: KeyEvent, n: RepeatCount) -> Option<Deed>
 
 // To insert mode, where what is typed takes the range's place.
 fn replacing(range: Movement) -> Deed
-    ensures { meant result ≡ Turns Insert (Replace range None) }
+    ensures { meant result ≡ Does (Turns Insert (Replace range None)) }
 {
     Deed::Turn(InputMode::Insert, Cmd::Replace(range, None))
 }
 
 // The rows whose keys read on, or go by what is kept.
 fn vi_reading_row(key: KeyEvent) -> Option<Deed>
-    ensures { (n : ℕ) → option_map meant result ≡ given n key vi_reading_rows }
+    ensures { (n : ℕ) → option_map meant result ≡ look n true key vi_reading_rows }
 {
     let KeyEvent(KeyCode::Char(c), Modifiers::NONE) = key else {
         return None;

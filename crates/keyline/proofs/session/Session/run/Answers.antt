@@ -14,7 +14,7 @@ returns g c =
     let why = c.read_lines-desk.result.why in
     let columns = columns_in c.args.self.desk.out in
     record {
-      shows = sessions_show _ _ columns.0 columns.1;
+      shows = λ heard. sessions_show _ _ columns.0 columns.1;
       plays = plays k g.T.Sink.told g.T.Sink.held g.T.Sink.has_failed _ c.args.self.desk end why c.save-saved.new.history c.args.self.text c.save-saved.new.text c.save-saved.result
           c.from-ending.result c.into_parts-source.result.0 c.into_sink.result
           (rw (← c.as_str.ensures.value) c.read_lines-desk.ensures) c.save-saved.ensures (c.from-ending.ensures ∙ ap ending_of c.ending_after.ensures)

@@ -1,4 +1,4 @@
--- What is put behind the held bytes follows them.
+-- What is put after the held bytes follows them.
 use Rattle.std.proofs.Common.{◌≤◌, ◌∙◌, ◌≡◌, ◌++◌, ℕ, List, ap, arith, length, take}
 use Rattle.std.proofs.lemmas.Grind.{common_steps}
 use Rattle.line_config.specs.Buffer.{bytes_in}

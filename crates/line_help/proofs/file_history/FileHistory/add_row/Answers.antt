@@ -1,6 +1,6 @@
-use Rattle.std.proofs.Common.{◌≡◌, length, rules}
-use Rattle.std.proofs.lemmas.Str.{is_utf8-from_IsUtf8}
-use Rattle.line_help.proofs.LoadLemmas.{not_utf8, empty_is_utf8}
+use Rattle.std.specs.Result.{is_ok}
+use Rattle.std.proofs.Common.{◌≡◌, ◌∙◌, sym, ap, length, rules}
+use Rattle.line_help.proofs.LoadLemmas.{empty_is_utf8, read_utf8, unread_utf8}
 use Rattle.line_help.proofs.file_history.FileHistory.add_row.Goals as goal
 
 pub returns-then-is_empty-clause-text : goal.returns-then-is_empty-clause-text
@@ -8,8 +8,12 @@ returns-then-is_empty-clause-text c =
     let none : length c.args.row.now ≡ 0 = search rules in
     empty_is_utf8 c.args.row.now none
 
-pub returns-in_ok-added-in-Ok-clause-text : goal.returns-in_ok-added-in-Ok-clause-text
-returns-in_ok-added-in-Ok-clause-text c = is_utf8-from_IsUtf8 c.args.row.now c.in-Ok.ensures.cases.1
+pub returns-clause-text : goal.returns-clause-text
+returns-clause-text c =
+    read_utf8 _ _ c.args.row.now c.from_utf8.result c.from_utf8.ensures.cases (sym c.map_err.ensures.variant ∙ ap is_ok c.in_ok-text.was) (λ text p. p.1)
 
-pub returns-in-Err-clause-bad : goal.returns-in-Err-clause-bad
-returns-in-Err-clause-bad c h = not_utf8 c.args.row.now c.in-Err.ensures.cases.0
+pub returns-in_err-text-clause-bad : goal.returns-in_err-text-clause-bad
+returns-in_err-text-clause-bad c h =
+    unread_utf8 _ _ c.args.row.now c.from_utf8.result c.from_utf8.ensures.cases
+    (sym c.map_err.ensures.variant ∙ ap is_ok c.in_err-text.was)
+    (λ fault p. p.0)

@@ -1,7 +1,7 @@
 use Rattle.std.proofs.Common.{◌≡◌, ◌≤◌, IsTrue}
 use Rattle.std.specs.Prelude.{◌&&◌}
 use Rattle.line_help.specs.History.{filed_with_all, takes_all}
-use Rattle.line_help.specs.HistoryText.{entries_of, good_rows, outcome, text_rows}
+use Rattle.line_help.specs.HistoryText.{entries_of, good_rows, rows_answer, text_rows}
 use Rattle.line_help.proofs.LoadLemmas.{Reached}
 use Rattle.line_help.proofs.file_history.FileHistory.load_rows.Given as goal
 
@@ -18,9 +18,9 @@ invariant-loop-self g l = record {
       → filed_with_all l.self (entries_of l.escapes (good_rows (text_rows (g.S.Source.feed l.fn.source).last (g.S.Source.feed l.source).coming)))
       ≡ filed_with_all l.fn.self (entries_of l.escapes (good_rows (text_rows (g.S.Source.feed l.fn.source).last (g.S.Source.feed l.fn.source).coming)));
   answer : IsTrue (g.S.Source.feed l.fn.source).told
-      → outcome (g.S.Source.feed l.fn.source).last (text_rows (g.S.Source.feed l.fn.source).last (g.S.Source.feed l.source).coming)
+      → rows_answer (g.S.Source.feed l.fn.source).last (text_rows (g.S.Source.feed l.fn.source).last (g.S.Source.feed l.source).coming)
       (l.whole && takes_all l.self (entries_of l.escapes (good_rows (text_rows (g.S.Source.feed l.fn.source).last (g.S.Source.feed l.source).coming))))
-      ≡ outcome (g.S.Source.feed l.fn.source).last (text_rows (g.S.Source.feed l.fn.source).last (g.S.Source.feed l.fn.source).coming)
+      ≡ rows_answer (g.S.Source.feed l.fn.source).last (text_rows (g.S.Source.feed l.fn.source).last (g.S.Source.feed l.fn.source).coming)
       (takes_all l.fn.self (entries_of l.escapes (good_rows (text_rows (g.S.Source.feed l.fn.source).last (g.S.Source.feed l.fn.source).coming))));
 }
 

@@ -1,7 +1,7 @@
 use Rattle.std.proofs.Common.{◌≡◌, arith, ap, sym, refl, Some, None, Ok}
 use Rattle.line_keys.specs.declared.command.Cmd.{Cmd}
 use Rattle.line_keys.specs.declared.keymap.custom.Followed.TheVariants.{Bound, Unbound}
-use Rattle.line_keys.specs.Phrases.{Script, Ends}
+use Rattle.line_keys.specs.Phrases.{Ends}
 use Rattle.line_keys.proofs.Following.{then_follows, ends_follow, whole_read}
 use Rattle.line_keys.proofs.keymap.InputState.ctrl_x.Goals as goal
 

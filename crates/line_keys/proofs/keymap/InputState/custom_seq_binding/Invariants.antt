@@ -1,4 +1,3 @@
-use Rattle.std.proofs.Common.{◌∷◌, []}
 use Rattle.line_keys.specs.Custom.{following, followed}
 use Rattle.line_keys.specs.InputStates.{situation_in}
 use Rattle.line_keys.specs.Follows.{Follows}

@@ -7,4 +7,4 @@ pub returns-clause-motion : goal.returns-clause-motion
 returns-clause-motion g c =
     let other : same_key c.in_ok-key.key c.args.operator ≡ false = grind arith in
     read_follows _ _ _ _ _ _ _ _ _ _ _ _ _ _ c.in_ok-key.ensures
-    (rw other (then_follows _ _ _ _ _ _ _ _ _ _ _ _ _ _ _ c.in_ok-counted.ensures (silent_follows _ _ _ _ _ _ _ _ _ c.counted_motion.ensures.motion)))
+    (rw other (then_follows _ _ _ _ _ _ _ _ _ _ _ _ _ _ _ c.in_ok-second.ensures (silent_follows _ _ _ _ _ _ _ _ _ (rw c.multiplied.ensures at c.motion_by.ensures.motion))))

@@ -25,4 +25,4 @@ returns-then-c-eq27-clause-reads g c =
     on_reads feed (key_from r.mode) Key key_answer IsKeyRefusal (escape_from r.mode) r _ _ _
     (on_char feed (key_from r.mode) (readings r.mode) (escape_from r.mode) c.in_ok-c.c r r _ (on_here feed (key_from r.mode) r c.requires)
     c.in_ok-c.ensures.reads refl refl refl (key_escape r.mode c.in_ok-c.c (omega arith)))
-    c.key_of_escape.ensures
+    c.key_of_escape.ensures.reads

@@ -1,33 +1,33 @@
-use Rattle.std.proofs.Common.{◌≡◌, ◌++◌, ◌∷◌, refl, ap, ◌∙◌}
+use Rattle.std.proofs.Common.{◌≡◌, ◌++◌, ◌∷◌, codes, refl, ap, ◌∙◌}
 use Rattle.std.specs.Option.{option_to_list}
 use Rattle.std.proofs.lemmas.Result.{err_from_is_err_and}
 use Rattle.line_screen.specs.KeyGrammar.{Key, key_answer}
-use Rattle.line_screen.specs.KeyReading.{escape_from, bracket_from, third_from}
+use Rattle.line_screen.specs.KeyReading.{escape_from, sequence_from}
 use Rattle.line_screen.specs.Reading.{IsKeyRefusal}
 use Rattle.line_screen.proofs.Escapes.{emacs_refuses, emacs_leaves, emacs_cuts}
 use Rattle.line_screen.proofs.Onward.{on_look, on_peek, on_reads, on_stops_at}
 use Rattle.line_screen.proofs.reading.reader.KeyReader.key_of_escape.Goals as goal
 
-pub returns-in-Ok-Some-eq91 : goal.returns-in-Ok-Some-eq91
-returns-in-Ok-Some-eq91 g c =
+pub returns-in-Ok-Some-eq91-clause-reads : goal.returns-in-Ok-Some-eq91-clause-reads
+returns-in-Ok-Some-eq91-clause-reads g c =
     let feed = g.S.Source.feed in
     let r = c.args.self.now in
-    on_reads feed (escape_from r.mode) Key key_answer IsKeyRefusal (bracket_from r.mode) r _ _ _
-    (on_peek feed (escape_from r.mode) (bracket_from r.mode) 0x5B r _ c.peek.new.self c.peek.result c.requires c.peek.ensures (cc) refl refl refl refl
+    on_reads feed (escape_from r.mode) Key key_answer IsKeyRefusal (sequence_from r.mode (codes "[")) r _ _ _
+    (on_peek feed (escape_from r.mode) (sequence_from r.mode (codes "[")) 0x5B r _ c.peek.new.self c.peek.result c.requires c.peek.ensures (cc) refl refl refl refl
     (λ bytes last. refl))
-    c.key_of_bracket.ensures
+    c.key_of_bracket.ensures.reads
 
-pub returns-in-Ok-Some-eq79 : goal.returns-in-Ok-Some-eq79
-returns-in-Ok-Some-eq79 g c =
+pub returns-in-Ok-Some-eq79-clause-reads : goal.returns-in-Ok-Some-eq79-clause-reads
+returns-in-Ok-Some-eq79-clause-reads g c =
     let feed = g.S.Source.feed in
     let r = c.args.self.now in
-    on_reads feed (escape_from r.mode) Key key_answer IsKeyRefusal (third_from r.mode) r _ _ _
-    (on_peek feed (escape_from r.mode) (third_from r.mode) 0x4F r _ c.peek.new.self c.peek.result c.requires c.peek.ensures (cc) refl refl refl refl
+    on_reads feed (escape_from r.mode) Key key_answer IsKeyRefusal (sequence_from r.mode (codes "O")) r _ _ _
+    (on_peek feed (escape_from r.mode) (sequence_from r.mode (codes "O")) 0x4F r _ c.peek.new.self c.peek.result c.requires c.peek.ensures (cc) refl refl refl refl
     (λ bytes last. refl))
-    c.key_of_third.ensures
+    c.key_of_third.ensures.reads
 
-pub returns-in_err-c-in-Emacs : goal.returns-in_err-c-in-Emacs
-returns-in_err-c-in-Emacs g c =
+pub returns-in_err-c-in-Emacs-clause-reads : goal.returns-in_err-c-in-Emacs-clause-reads
+returns-in_err-c-in-Emacs-clause-reads g c =
     let p = err_from_is_err_and c.from_residual.result c.from_residual.ensures.1 in
     let feed = g.S.Source.feed in
     let r = c.args.self.now in

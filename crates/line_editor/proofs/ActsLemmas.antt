@@ -1,0 +1,267 @@
+-- Acts of a line: what they come to, done in full, and cut.
+use Rattle.std.proofs.Common.{◌≡◌, ◌⊎◌, IsTrue, List, [], ◌∷◌, ◌++◌, ℕ, zero, suc, Bool, refl, sym, ap, subst, ◌∙◌, inl, inr, append_assoc, append-nil}
+use Rattle.std.specs.Prelude.{Option, None, Result, Ok, Err, flat_map}
+use Rattle.std.specs.List.{FoldsTo}
+use Rattle.line_buffer.specs.declared.layout.Layout.{Layout}
+use Rattle.line_config.specs.declared.errors.ReadlineError.{ReadlineError}
+use Rattle.line_config.specs.declared.errors.ReadlineError.TheVariants.{Memory}
+use Rattle.line_keys.specs.Answers.{Custom}
+use Rattle.line_keys.specs.Coming.{Coming, left_by}
+use Rattle.line_keys.specs.Phrases.{Input, Script, Ends, Needs, Asks, Reads, Becomes}
+use Rattle.line_keys.specs.declared.command.Cmd.{Cmd}
+use Rattle.line_record.specs.Ring.{Ring}
+use Rattle.line_editor.specs.Accepting.{submitted}
+use Rattle.line_editor.specs.Acts.{Act, Sees, Gets, Obeys, Stage, stage, CutIn, script_acts, command_acts, turn_acts, acts_after, acts_from, acts_of}
+use Rattle.line_editor.specs.Asks.{shown_in, ask_effect}
+use Rattle.line_editor.specs.Calls.{Canvas, Ruler, Begun}
+use Rattle.line_editor.specs.Courses.{redraws_in}
+use Rattle.line_editor.specs.Drawing.{refreshed}
+use Rattle.line_editor.specs.Lines.{Enacted, enacted, line_phrase, phrase_enacted, Told, Turned, turned_by, turn_of, after_turn, line_from, line_of}
+use Rattle.line_editor.specs.Redraws.{Redraw, Asked, asked, then_asked, nothing_asked}
+use Rattle.line_editor.specs.Sights.{info_after}
+use Rattle.line_editor.specs.Starts.{first_value}
+use Rattle.line_editor.specs.Values.{Value, Setting, Effect}
+use Rattle.line_editor.specs.declared.commands.Status.{Status}
+use Rattle.line_editor.specs.declared.commands.Status.TheVariants.{Proceed, Submit}
+use Rattle.line_editor.proofs.BegunLemmas.{begun_none, begun_before, begun_behind, folds_apart}
+use Rattle.line_editor.proofs.DoesLemmas.{asked_both}
+
+-- ---- what acts come to
+
+abbrev pub redraws_of : List Act → List Redraw
+redraws_of [] = []
+redraws_of (Sees redraws ∷ more) = redraws ++ redraws_of more
+redraws_of (Gets rest ∷ more) = redraws_of more
+redraws_of (Obeys kills ring redraws ∷ more) = redraws ++ redraws_of more
+
+abbrev pub rest_of : Coming → List Act → Coming
+rest_of c [] = c
+rest_of c (Sees redraws ∷ more) = rest_of c more
+rest_of c (Gets rest ∷ more) = rest_of rest more
+rest_of c (Obeys kills ring redraws ∷ more) = rest_of c more
+
+abbrev pub ring_of : Ring → List Act → Ring
+ring_of r [] = r
+ring_of r (Sees redraws ∷ more) = ring_of r more
+ring_of r (Gets rest ∷ more) = ring_of r more
+ring_of r (Obeys kills ring redraws ∷ more) = ring_of ring more
+
+-- their calls in order, and the layout after them
+abbrev pub asked_of : Ruler → Layout → List Act → Asked
+asked_of r l [] = nothing_asked l
+asked_of r l (Sees redraws ∷ more) = then_asked (asked r l redraws) (asked_of r (asked r l redraws).layout more)
+asked_of r l (Gets rest ∷ more) = asked_of r l more
+asked_of r l (Obeys kills ring redraws ∷ more) = then_asked (asked r l redraws) (asked_of r (asked r l redraws).layout more)
+
+pub asked_same : (r : Ruler) (l : Layout) (acts : List Act) → asked_of r l acts ≡ asked r l (redraws_of acts)
+asked_same r l [] = refl
+asked_same r l (Sees redraws ∷ more) = ap (then_asked (asked r l redraws)) (asked_same r (asked r l redraws).layout more) ∙ sym (asked_both r l redraws (redraws_of more))
+asked_same r l (Gets rest ∷ more) = asked_same r l more
+asked_same r l (Obeys kills ring redraws ∷ more) = ap (then_asked (asked r l redraws)) (asked_same r (asked r l redraws).layout more) ∙ sym (asked_both r l redraws (redraws_of more))
+
+redraws_both : (acts more : List Act) → redraws_of (acts ++ more) ≡ redraws_of acts ++ redraws_of more
+redraws_both [] more = refl
+redraws_both (Sees redraws ∷ acts) more = ap (λ x. redraws ++ x) (redraws_both acts more) ∙ sym (append_assoc redraws (redraws_of acts) (redraws_of more))
+redraws_both (Gets rest ∷ acts) more = redraws_both acts more
+redraws_both (Obeys kills ring redraws ∷ acts) more = ap (λ x. redraws ++ x) (redraws_both acts more) ∙ sym (append_assoc redraws (redraws_of acts) (redraws_of more))
+
+rest_both : (c : Coming) (acts more : List Act) → rest_of c (acts ++ more) ≡ rest_of (rest_of c acts) more
+rest_both c [] more = refl
+rest_both c (Sees redraws ∷ acts) more = rest_both c acts more
+rest_both c (Gets rest ∷ acts) more = rest_both rest acts more
+rest_both c (Obeys kills ring redraws ∷ acts) more = rest_both c acts more
+
+ring_both : (r : Ring) (acts more : List Act) → ring_of r (acts ++ more) ≡ ring_of (ring_of r acts) more
+ring_both r [] more = refl
+ring_both r (Sees redraws ∷ acts) more = ring_both r acts more
+ring_both r (Gets rest ∷ acts) more = ring_both r acts more
+ring_both r (Obeys kills ring redraws ∷ acts) more = ring_both ring acts more
+
+-- ---- a script's
+
+pub script_redraws : {X : Type 0} (s : Setting) (script : Script X) (i : Input) (v : Value) (c : Coming) → redraws_of (script_acts s script v) ≡ (enacted s script i v c).made.redraws
+script_redraws s (Ends answer) i v c = refl
+script_redraws s (Needs later) i v c = script_redraws s later i v c
+script_redraws s (Asks ask later) i v c =
+    let e : Effect = ask_effect ask s v in
+    ap (λ x. e.redraws ++ x) (script_redraws s (later (shown_in e.value)) i e.value c)
+script_redraws s (Reads item rest later) i v c = script_redraws s later i v rest
+script_redraws s (Becomes kept later) i v c = script_redraws s later kept v c
+
+pub script_rest : {X : Type 0} (s : Setting) (script : Script X) (i : Input) (v : Value) (c : Coming) → rest_of c (script_acts s script v) ≡ (enacted s script i v c).rest
+script_rest s (Ends answer) i v c = refl
+script_rest s (Needs later) i v c = script_rest s later i v c
+script_rest s (Asks ask later) i v c =
+    let e : Effect = ask_effect ask s v in
+    script_rest s (later (shown_in e.value)) i e.value c
+script_rest s (Reads item rest later) i v c = script_rest s later i v rest
+script_rest s (Becomes kept later) i v c = script_rest s later kept v c
+
+pub script_ring : {X : Type 0} (s : Setting) (script : Script X) (v : Value) (r : Ring) → ring_of r (script_acts s script v) ≡ r
+script_ring s (Ends answer) v r = refl
+script_ring s (Needs later) v r = script_ring s later v r
+script_ring s (Asks ask later) v r =
+    let e : Effect = ask_effect ask s v in
+    script_ring s (later (shown_in e.value)) e.value r
+script_ring s (Reads item rest later) v r = script_ring s later v r
+script_ring s (Becomes kept later) v r = script_ring s later v r
+
+-- ---- a turn's
+
+module _ (s : Setting) (custom : Custom) (indent : ℕ) (i : Input) (r : Ring) (v : Value) (c : Coming) where
+  abbrev phrased : Enacted Cmd
+  phrased = phrase_enacted s custom i v c
+
+  abbrev spoken : List Act
+  spoken = script_acts s (line_phrase custom i (shown_in v) c) v
+
+  abbrev turned : Result Cmd ReadlineError → Turned
+  turned answer = turned_by s indent r answer phrased
+
+  made_by : (answer : Result Cmd ReadlineError) → redraws_of spoken ++ redraws_of (command_acts s indent r phrased answer) ≡ (turned answer).made.redraws
+  made_by (Ok cmd) = ap (λ x. x ++ redraws_of (command_acts s indent r phrased (Ok cmd))) (script_redraws s (line_phrase custom i (shown_in v) c) i v c)
+      ∙ ap (λ x. phrased.made.redraws ++ x) (append-nil _)
+  made_by (Err e) = append-nil (redraws_of spoken) ∙ script_redraws s (line_phrase custom i (shown_in v) c) i v c
+
+  rest_by : (answer : Result Cmd ReadlineError) → rest_of (rest_of c spoken) (command_acts s indent r phrased answer) ≡ (turned answer).rest
+  rest_by (Ok cmd) = script_rest s (line_phrase custom i (shown_in v) c) i v c
+  rest_by (Err e) = script_rest s (line_phrase custom i (shown_in v) c) i v c
+
+  ring_by : (answer : Result Cmd ReadlineError) → ring_of (ring_of r spoken) (command_acts s indent r phrased answer) ≡ (turned answer).ring
+  ring_by (Ok cmd) = refl
+  ring_by (Err e) = script_ring s (line_phrase custom i (shown_in v) c) v r
+
+  pub turn_redraws : redraws_of (turn_acts s custom indent i r v c) ≡ (turn_of s custom indent i r v c).made.redraws
+  unfolding turn_acts turn_of
+  turn_redraws = redraws_both spoken (command_acts s indent r phrased phrased.answer) ∙ made_by phrased.answer
+
+  pub turn_rest : rest_of c (turn_acts s custom indent i r v c) ≡ (turn_of s custom indent i r v c).rest
+  unfolding turn_acts turn_of
+  turn_rest = rest_both c spoken (command_acts s indent r phrased phrased.answer) ∙ rest_by phrased.answer
+
+  pub turn_ring : ring_of r (turn_acts s custom indent i r v c) ≡ (turn_of s custom indent i r v c).ring
+  unfolding turn_acts turn_of
+  turn_ring = ring_both r spoken (command_acts s indent r phrased phrased.answer) ∙ ring_by phrased.answer
+
+-- ---- a line's
+
+after_redraws : (s : Setting) (info : Option (List ℕ)) (t : Turned) (o : Result Status ReadlineError)
+    (next : Input → Ring → Option (List ℕ) → Value → Coming → Told) (acts : Input → Ring → Value → Coming → List Act)
+    → ((info : Option (List ℕ)) → redraws_of (acts t.input t.ring t.made.value t.rest) ≡ flat_map redraws_in (next t.input t.ring info t.made.value t.rest).turns)
+    → t.made.redraws ++ redraws_of (acts_after acts s t o) ≡ flat_map redraws_in (after_turn next s info t o).turns
+after_redraws s info t (Ok Proceed) next acts same = ap (λ x. t.made.redraws ++ x) (same (info_after t.made.redraws info))
+after_redraws s info t (Ok Submit) next acts same = sym (append_assoc t.made.redraws (submitted s t.made.value).redraws [])
+after_redraws s info t (Err e) next acts same = refl
+
+pub line_redraws : (n : ℕ) (s : Setting) (custom : Custom) (indent : ℕ) (i : Input) (r : Ring) (info : Option (List ℕ)) (v : Value) (c : Coming)
+    → redraws_of (acts_from n s custom indent i r v c) ≡ flat_map redraws_in (line_from n s custom indent i r info v c).turns
+unfolding line_from acts_from
+line_redraws zero s custom indent i r info v c = refl
+line_redraws (suc n) s custom indent i r info v c =
+    let t = turn_of s custom indent i r v c in
+    redraws_both (turn_acts s custom indent i r v c) (acts_after (acts_from n s custom indent) s t t.outcome)
+    ∙ ap (λ x. x ++ redraws_of (acts_after (acts_from n s custom indent) s t t.outcome)) (turn_redraws s custom indent i r v c)
+    ∙ after_redraws s info t t.outcome (line_from n s custom indent) (acts_from n s custom indent)
+    (λ stands. line_redraws n s custom indent t.input t.ring stands t.made.value t.rest)
+
+pub whole_redraws : (n : ℕ) (s : Setting) (custom : Custom) (indent : ℕ) (i : Input) (r : Ring) (c : Coming)
+    → redraws_of (acts_of n s custom indent i r c) ≡ flat_map redraws_in (line_of n s custom indent i r c).turns
+unfolding line_of acts_of
+whole_redraws n s custom indent i r c =
+    let e : Effect = refreshed s (first_value s) in
+    ap (λ x. e.redraws ++ x) (line_redraws n s custom indent i r (info_after e.redraws None) e.value c)
+
+-- ---- cut
+
+module _ {R : Type 0} (canvas : Canvas R) (r : Ruler) (fault : ReadlineError) where
+  cut_here : (acts : List Act) (l : Layout) (old : Stage R) → CutIn canvas r fault acts l old old
+  unfolding CutIn
+  cut_here [] l old = refl
+  cut_here (Sees redraws ∷ more) l old = inl (begun_none canvas (asked r l redraws).calls old.out old.out refl, refl)
+  cut_here (Gets rest ∷ more) l old = inl refl
+  cut_here (Obeys kills ring redraws ∷ more) l old = inl refl
+
+  -- before any act
+  pub cut_none : (acts : List Act) (l : Layout) (old new : Stage R) → new ≡ old → CutIn canvas r fault acts l old new
+  cut_none acts l old new same = subst (λ x. CutIn canvas r fault acts l old x) (sym same) (cut_here acts l old)
+
+  -- in the first act, or after it
+  pub cut_seeing : (redraws : List Redraw) (more : List Act) (l : Layout) (old new : R) (c : Coming) (k : Ring) → Begun canvas (asked r l redraws).calls old new
+      → CutIn canvas r fault (Sees redraws ∷ more) l (stage old c k) (stage new c k)
+  unfolding CutIn
+  cut_seeing redraws more l old new c k h = inl (h, refl)
+
+  pub cut_seen : (redraws : List Redraw) (more : List Act) (l : Layout) (old new : Stage R) (out : R) → FoldsTo canvas.made old.out (asked r l redraws).calls out
+      → CutIn canvas r fault more (asked r l redraws).layout (stage out old.coming old.ring) new → CutIn canvas r fault (Sees redraws ∷ more) l old new
+  unfolding CutIn
+  cut_seen redraws more l old new out made h = inr (out, made, h)
+
+  pub cut_getting : (rest : Coming) (more : List Act) (l : Layout) (old new : Stage R) → fault ≡ Memory → new ≡ stage old.out (left_by Memory) old.ring → CutIn canvas r fault (Gets rest ∷ more) l old new
+  unfolding CutIn
+  cut_getting rest more l old new is h = inr (inl (is, h))
+
+  pub cut_got : (rest : Coming) (more : List Act) (l : Layout) (old new : Stage R) → CutIn canvas r fault more l (stage old.out rest old.ring) new
+      → CutIn canvas r fault (Gets rest ∷ more) l old new
+  unfolding CutIn
+  cut_got rest more l old new h = inr (inr h)
+
+  pub cut_obeying : (kills : Bool) (ring : Ring) (redraws : List Redraw) (more : List Act) (l : Layout) (old new : Stage R) → Begun canvas (asked r l redraws).calls old.out new.out
+      → new.coming ≡ old.coming → (new.ring ≡ ring) ⊎ ((fault ≡ Memory) × IsTrue kills) → CutIn canvas r fault (Obeys kills ring redraws ∷ more) l old new
+  unfolding CutIn
+  cut_obeying kills ring redraws more l old new h k q = inr (inl (h, k, q))
+
+  -- more are to come after them
+  pub cut_before : (acts more : List Act) (l : Layout) (old new : Stage R) → CutIn canvas r fault acts l old new → CutIn canvas r fault (acts ++ more) l old new
+  unfolding CutIn
+  cut_before [] more l old new h = cut_none more l old new h
+  cut_before (Sees redraws ∷ acts) more l old new (inl h) = inl h
+  cut_before (Sees redraws ∷ acts) more l old new (inr (out, made, h)) = inr (out, made, cut_before acts more (asked r l redraws).layout (stage out old.coming old.ring) new h)
+  cut_before (Gets rest ∷ acts) more l old new (inl h) = inl h
+  cut_before (Gets rest ∷ acts) more l old new (inr (inl h)) = inr (inl h)
+  cut_before (Gets rest ∷ acts) more l old new (inr (inr h)) = inr (inr (cut_before acts more l (stage old.out rest old.ring) new h))
+  cut_before (Obeys kills ring redraws ∷ acts) more l old new (inl h) = inl h
+  cut_before (Obeys kills ring redraws ∷ acts) more l old new (inr (inl h)) = inr (inl h)
+  cut_before (Obeys kills ring redraws ∷ acts) more l old new (inr (inr (out, made, h))) =
+      inr (inr (out, made, cut_before acts more (asked r l redraws).layout (stage out old.coming ring) new h))
+
+  -- those before them were done in full
+  pub cut_behind : (acts more : List Act) (l : Layout) (old new : Stage R) (out : R) → FoldsTo canvas.made old.out (asked_of r l acts).calls out
+      → CutIn canvas r fault more (asked_of r l acts).layout (stage out (rest_of old.coming acts) (ring_of old.ring acts)) new → CutIn canvas r fault (acts ++ more) l old new
+  unfolding CutIn
+  cut_behind [] more l old new out made h = subst (λ x. CutIn canvas r fault more l (stage x old.coming old.ring) new) (sym made) h
+  cut_behind (Sees redraws ∷ acts) more l old new out made h =
+      let parts = folds_apart canvas.made (asked r l redraws).calls (asked_of r (asked r l redraws).layout acts).calls old.out out made in
+      inr (parts.0, parts.1, cut_behind acts more (asked r l redraws).layout (stage parts.0 old.coming old.ring) new out parts.2 h)
+  cut_behind (Gets rest ∷ acts) more l old new out made h = inr (inr (cut_behind acts more l (stage old.out rest old.ring) new out made h))
+  cut_behind (Obeys kills ring redraws ∷ acts) more l old new out made h =
+      let parts = folds_apart canvas.made (asked r l redraws).calls (asked_of r (asked r l redraws).layout acts).calls old.out out made in
+      inr (inr (parts.0, parts.1, cut_behind acts more (asked r l redraws).layout (stage parts.0 old.coming ring) new out parts.2 h))
+
+  -- the calls made are the first of all
+  begun_in : (acts : List Act) (l : Layout) (old new : Stage R) → CutIn canvas r fault acts l old new → Begun canvas (asked_of r l acts).calls old.out new.out
+  unfolding CutIn
+  begun_in [] l old new h = begun_none canvas [] old.out new.out (ap (λ x. x.out) h)
+  begun_in (Sees redraws ∷ acts) l old new (inl h) =
+      begun_before canvas (asked r l redraws).calls (asked_of r (asked r l redraws).layout acts).calls old.out new.out h.0
+  begun_in (Sees redraws ∷ acts) l old new (inr (out, made, h)) =
+      begun_behind canvas (asked r l redraws).calls (asked_of r (asked r l redraws).layout acts).calls old.out out new.out made
+      (begun_in acts (asked r l redraws).layout (stage out old.coming old.ring) new h)
+  begun_in (Gets rest ∷ acts) l old new (inl h) = begun_none canvas (asked_of r l acts).calls old.out new.out (ap (λ x. x.out) h)
+  begun_in (Gets rest ∷ acts) l old new (inr (inl h)) = begun_none canvas (asked_of r l acts).calls old.out new.out (ap (λ x. x.out) h.1)
+  begun_in (Gets rest ∷ acts) l old new (inr (inr h)) = begun_in acts l (stage old.out rest old.ring) new h
+  begun_in (Obeys kills ring redraws ∷ acts) l old new (inl h) =
+      begun_none canvas ((asked r l redraws).calls ++ (asked_of r (asked r l redraws).layout acts).calls) old.out new.out (ap (λ x. x.out) h)
+  begun_in (Obeys kills ring redraws ∷ acts) l old new (inr (inl h)) =
+      begun_before canvas (asked r l redraws).calls (asked_of r (asked r l redraws).layout acts).calls old.out new.out h.0
+  begun_in (Obeys kills ring redraws ∷ acts) l old new (inr (inr (out, made, h))) =
+      begun_behind canvas (asked r l redraws).calls (asked_of r (asked r l redraws).layout acts).calls old.out out new.out made
+      (begun_in acts (asked r l redraws).layout (stage out old.coming ring) new h)
+
+  -- of all calls of a line
+  pub begun_of_line : (n : ℕ) (s : Setting) (custom : Custom) (indent : ℕ) (i : Input) (ring : Ring) (c : Coming) (l : Layout) (old new : Stage R)
+      → CutIn canvas r fault (acts_of n s custom indent i ring c) l old new
+      → Begun canvas (asked r l (flat_map redraws_in (line_of n s custom indent i ring c).turns)).calls old.out new.out
+  begun_of_line n s custom indent i ring c l old new h =
+      let acts = acts_of n s custom indent i ring c in
+      subst (λ x. Begun canvas (asked r l x).calls old.out new.out) (whole_redraws n s custom indent i ring c)
+      (subst (λ x. Begun canvas x.calls old.out new.out) (asked_same r l acts) (begun_in acts l old new h))
