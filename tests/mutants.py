@@ -20,169 +20,18 @@ import shutil
 import subprocess
 import sys
 import tempfile
-from concurrent.futures import ThreadPoolExecutor
+from concurrent.futures import FIRST_COMPLETED, ThreadPoolExecutor, wait
 
-from functions import Sources, functions, shape
+from functions import functions
+from wrong_bodies import Crate, below, crates_of, head, joined, write
 
 TOP = os.path.dirname(os.path.dirname(os.path.realpath(__file__)))
-PARTS = ("src", "specs", "proofs")
 # What a check takes at most of memory, in bytes.
-NEED = 2_500_000_000
+NEED = 2_000_000_000
 # Rattle writes out what is to be proved of a function that it refuses, at the cost of half the check again, but not
 # where one of the function's answers does not read. It takes the others as ever, so such a one ends their file.
 UNREAD = "no_lines_wanted"
 UNREAD_ANSWER = f"\nabbrev {UNREAD} : NoLinesWanted\n{UNREAD} = tt\n"
-
-
-# What stands before the word `fn` of a function: attributes, and who may call it.
-ATTRIBUTES = re.compile(r"(?:#\[(?:[^][]|\[[^][]*\])*\]\s*)*(?:pub(?:\([^)]*\))?\s+)?(?:(?:const|unsafe)\s+)*\Z")
-
-
-class Unfit(Exception):
-    """An edit cannot be tried, and why."""
-
-
-class Edit:
-    """A wrong body: its name and, by file, the functions that it changes with their new bodies."""
-
-    def __init__(self, path, sources):
-        self.name = os.path.basename(path).removesuffix(".edit")
-        self.bodies, self.shapely = {}, set()
-        with open(path, encoding="utf-8") as it:
-            texts = changed(it.read(), sources)
-        for file, text in texts.items():
-            for old, new in bodies_changed(sources, file, text):
-                self.bodies[file, sources.path(old)] = (old.body, new)
-                if shape(new) == shape(sources.texts[file][slice(*old.body)]):
-                    self.shapely.add(sources.path(old))
-        if not self.bodies:
-            raise Unfit("it changes nothing")
-
-    def keeps_shape(self, path):
-        """Whether a function's goals have the names that they had, since only values were changed."""
-        return path in self.shapely
-
-    def paths(self):
-        return [path for _, path in self.bodies]
-
-
-def changed(text, sources):
-    """The texts of the files that an edit changes."""
-    file, old, texts = None, None, {}
-    for line in text.split("\n"):
-        if line.startswith("file: "):
-            file = line.removeprefix("file: ").strip()
-        elif line.startswith("old: "):
-            old = line.removeprefix("old: ")
-        elif line.startswith("new:"):
-            if file not in sources.texts or not old:
-                raise Unfit(f"it names no file of src/ ({file}), or no old text before a new one")
-            whole = texts.get(file, sources.texts[file])
-            if whole.count(old) != 1:
-                raise Unfit(f"its text `{old.strip()}` stands in {file} {whole.count(old)} times, and not once")
-            texts[file], old = whole.replace(old, line.removeprefix("new:").removeprefix(" ")), None
-    return texts
-
-
-def bodies_changed(sources, file, text):
-    """The functions of a file whose bodies a new text changes, each with its new body."""
-    before, after = sources.found[file], functions(text, sources.module_of(file))
-    if [(it.name, it.owner) for it in before] != [(it.name, it.owner) for it in after]:
-        raise Unfit(f"it changes which functions {file} has")
-    if frame(sources.texts[file], before) != frame(text, after):
-        raise Unfit(f"it changes more of {file} than the bodies of functions")
-    for old, new in zip(before, after):
-        made = text[slice(*new.body)]
-        if made != sources.texts[file][slice(*old.body)]:
-            yield old, made
-
-
-def frame(text, found):
-    """A file's text less the bodies."""
-    at, kept = 0, []
-    for it in sorted(found, key=lambda it: it.body):
-        kept.append(text[at : it.body[0]])
-        at = it.body[1]
-    return [*kept, text[at:]]
-
-
-class Crate:
-    """A crate of the repository with its wrong bodies."""
-
-    def __init__(self, top, name):
-        self.name, self.folder = name, os.path.join(top, "crates", name)
-        self.checks = []
-        self.edits, self.unfit = [], {}
-        room = os.path.join(self.folder, "mutants")
-        files = sorted(it for it in os.listdir(room) if it.endswith(".edit")) if os.path.isdir(room) else []
-        self.sources = Sources(self.folder, name) if files else None
-        for file in files:
-            try:
-                self.edits.append(Edit(os.path.join(room, file), self.sources))
-            except Unfit as why:
-                self.unfit[file.removesuffix(".edit")] = str(why)
-
-    def weight(self):
-        """What its checks cost, roughly: the lines of its code, and some a wrong body."""
-        return sum(it.count("\n") for it in self.sources.texts.values()) + 40 * len(self.edits)
-
-    def answers(self, path):
-        """Where the files of a function's proof stand."""
-        return os.path.join("proofs", *path.split("::")[1:])
-
-    def brief(self, group):
-        """The functions of a group that may have answers, and so one that does not read."""
-        paths = {path for edit in group for path in edit.paths()}
-        return {it for it in paths if not os.path.isfile(os.path.join(self.folder, self.answers(it), "Proof.antt"))}
-
-    def answered(self, path):
-        """The goals that the function's proof files have answers for; None where it has no such file."""
-        folder = os.path.join(self.folder, self.answers(path))
-        files = [os.path.join(folder, it) for it in os.listdir(folder)] if os.path.isdir(folder) else []
-        files = [it for it in files if it.endswith(".antt") and os.path.isfile(it)]
-        if not files:
-            return None
-        found = set()
-        for file in files:
-            with open(file, encoding="utf-8") as it:
-                found.update(re.findall(r"\bgoal\.([\w-]+)", it.read()))
-        return found
-
-    def groups(self):
-        """The edits in as few groups as their functions allow: no function is changed twice in one."""
-        return joined([], self.edits)
-
-    def texts(self, group):
-        """The files that a group changes, each with all its new bodies."""
-        made = {}
-        for file in {file for edit in group for file, _ in edit.bodies}:
-            text = self.sources.texts[file]
-            new = [it for edit in group for (of, _), it in edit.bodies.items() if of == file]
-            for (begun, end), body in sorted(new, reverse=True):
-                text = text[:begun] + body + text[end:]
-            made[file] = text
-        return made
-
-
-def crates_of(top):
-    """The crates of crates.txt, lowest first, each with what it uses."""
-    uses = {}
-    with open(os.path.join(top, "crates.txt"), encoding="utf-8") as it:
-        for line in it:
-            line = line.split("#")[0].strip()
-            if line:
-                name, _, below = line.partition(":")
-                uses[name.split()[0]] = below.split()
-    return uses
-
-
-def below(uses, name):
-    """The repository's libraries below a crate."""
-    found = []
-    for dep in uses[name]:
-        if dep in uses:
-            found += [it for it in [*below(uses, dep), dep] if it not in found]
-    return found
 
 
 class Checker:
@@ -199,7 +48,8 @@ class Checker:
     def lacking(self, crate):
         return [it for it in below(self.uses, crate.name) if not os.path.isdir(self.rlib(it))]
 
-    def words(self, crate, jobs, kept):
+    def words(self, crate, kept, paths):
+        """The command that checks these functions of a crate, those of others taken by their contracts."""
         root = "src/main.rt" if "src/main.rt" in crate.sources.texts else "src/lib.rt"
         words = [os.path.join(self.kit, "bin", "rattle"), "check", "--crate-name", crate.name, root]
         for dep in ["std", *self.uses[crate.name]]:
@@ -209,41 +59,20 @@ class Checker:
             words += ["-L", f"dependency={folder}"]
         words += ["--antt-project", os.path.join(self.kit, "rattle", "logic", "antt-project.json")]
         words += ["--logic-built", os.path.join(self.kit, "logic_built"), "--links", f"{crate.name}="]
-        return [*words, "--jobs", str(jobs), "--incremental", kept]
+        words += ["--jobs", "1", "--incremental", kept, "--allow-holes"]
+        return words + [word for path in sorted(paths) for word in ("--only", path.partition("::")[2])]
 
-    def check(self, crate, group, brief, whole, jobs):
-        """What rattle says of the crate with a group's bodies in place of its own, of some functions in brief.
-
-        A check that isn't of the whole crate is of the changed functions and those that they call. Each has a copy of
-        what the crate's own check kept, since over what another one kept the bodies changed there are proved again.
-        """
-        with tempfile.TemporaryDirectory(prefix="mutants-") as top:
-            kept, room = os.path.join(top, "kept"), os.path.join(top, "crate")
-            own = os.path.join(crate.folder, "out", "incremental")
-            for folder in (kept, room):
-                os.mkdir(folder)
-            if os.path.isdir(own):
-                subprocess.run(["cp", "-a", f"{own}/.", kept], check=True)
-            for part in PARTS:
-                if os.path.isdir(os.path.join(crate.folder, part)):
-                    shutil.copytree(os.path.join(crate.folder, part), os.path.join(room, part))
-            for file, text in crate.texts(group).items():
-                with open(os.path.join(room, file), "w", encoding="utf-8") as it:
-                    it.write(text)
+    def check(self, crate, group, brief, kept):
+        """What rattle says of the functions that a group changes, of some of them in brief."""
+        with tempfile.TemporaryDirectory(prefix="mutants-") as room:
+            crate.furnish(room, group)
             for path in brief:
-                folder = os.path.join(room, crate.answers(path))
-                os.makedirs(folder, exist_ok=True)
-                with open(os.path.join(folder, "Answers.antt"), "a", encoding="utf-8") as it:
-                    it.write(UNREAD_ANSWER)
-            paths = [] if whole else sorted({path for edit in group for path in edit.paths()})
-            only = [word for path in paths for word in ("--only", path.partition("::")[2])]
-            status, said = self.ran(crate, group, self.words(crate, jobs, kept) + only, room)
-            if status == -9 and jobs > 1:  # killed, most likely for memory
-                status, said = self.ran(crate, group, self.words(crate, 1, kept) + only, room)
-        return said
+                write(os.path.join(room, crate.answers(path), "Answers.antt"), UNREAD_ANSWER, "a")
+            paths = {path for edit in group for path in edit.paths()}
+            return self.ran(crate, group, self.words(crate, kept, paths), room)
 
     def ran(self, crate, group, words, room):
-        """The status of a command and what it says; its processor time is counted for the crate."""
+        """What a command says; its processor time is counted for the crate."""
         with tempfile.TemporaryFile("w+", errors="replace") as said:
             how = {"stdin": subprocess.DEVNULL, "stdout": said, "stderr": subprocess.STDOUT}
             with subprocess.Popen(words, cwd=room, **how) as it:
@@ -251,13 +80,13 @@ class Checker:
                 it.returncode = os.waitstatus_to_exitcode(status)
             crate.checks.append((used.ru_utime + used.ru_stime, [it.name for it in group]))
             said.seek(0)
-            return it.returncode, said.read()
+            return said.read()
 
 
 class Said:
     """What a check says of each function."""
 
-    FUNCTION = re.compile(r"(?m)^fn (\S+): (proved|not proved|no proof|could not tell)(.*)$")
+    FUNCTION = re.compile(r"(?m)^fn (\S+): (proved|not proved|no proof|could not tell|no holes|depends on a hole)(.*)$")
     # A call of what is not proved, or a block handed on, is no fault of the function that makes it.
     CALLS = re.compile(r"\bit (?:calls|passes the block) .*?, which (?:is|are) not proved")
     UNPROVED = re.compile(r"(?s).*?did not prove (.*?)(?:; it calls.*|\Z)")
@@ -265,20 +94,18 @@ class Said:
     WAITS = re.compile(r"(?m)^note: `search` has not tried the goals of `([^`]+)`, which wait for a callee's proof")
     FRONT = re.compile(r"(?m)^(?:\./)?(src/[^\s:]+):(\d+):\d+: error\S* (.*)$")
 
-    def __init__(self, crate, texts, said, brief=()):
+    def __init__(self, crate, group, said, brief=()):
         self.crate, self.text, self.brief = crate, said, brief
         self.lines = {it[1]: (it[2], it[3].strip(": ")) for it in self.FUNCTION.finditer(said)}
         self.waiting = {*self.WAITS.findall(said)}
-        self.places = {file: spans(crate.sources, file, text) for file, text in texts.items()}
+        self.places = {file: spans(crate.sources, file, text) for file, text in crate.texts(group).items()}
         self.open = {}
         for file, line, goal, more in self.OPEN.findall(said):
             self.open.setdefault(self.at(file, int(line)), {})[goal] = "values at which this goal is false" in more
 
     def at(self, file, line):
         """The function that a line of the checked text is of."""
-        if file not in self.places:
-            self.places[file] = spans(self.crate.sources, file, self.crate.sources.texts.get(file, ""))
-        return next((path for path, first, last in self.places[file] if first <= line <= last), None)
+        return next((path for path, first, last in self.places.get(file, ()) if first <= line <= last), None)
 
     def why(self, path):
         """Why a function is refused for its own sake; None where it isn't."""
@@ -343,8 +170,7 @@ def spans(sources, file, text):
     """The functions of a text of a file, each with its first line, where its attributes begin, and its last."""
     line = lambda place: text.count("\n", 0, place) + 1
     found = functions(text, sources.module_of(file))
-    head = lambda it: ATTRIBUTES.search(text, max(0, it.begun - 400), it.begun).start()
-    return [(sources.path(it), line(head(it)), line(it.body[1])) for it in found]
+    return [(sources.path(it), line(head(text, it)[0]), line(it.body[1])) for it in found]
 
 
 def judged(crate, group, said, by_hand):
@@ -371,49 +197,71 @@ def judged(crate, group, said, by_hand):
             yield False, path, f"refused, though nothing is wrong with it: {said.why(path)}"
 
 
-def tried(crate, checker, jobs, by_hand):
-    """Tries a crate's wrong bodies, and yields what judged does of each."""
-    for name, why in crate.unfit.items():
-        yield False, f"{crate.name}/{name}", f"it no longer fits: {why}"
-    lacking = checker.lacking(crate)
-    if lacking:
-        yield False, crate.name, f"no library of {', '.join(lacking)} is built: run rt ci first"
-        return
-    left, full, whole = crate.groups(), set(), True
-    while left:
-        group = left.pop(0)
-        brief = crate.brief([it for it in group if it not in full])
-        said = Said(crate, crate.texts(group), checker.check(crate, group, brief, whole, jobs), brief)
-        save(checker.top, f"{crate.name}-{len(crate.checks)}.log", said.text)
-        if said.lines:
-            whole = False
-            # Where a callee in the same check is refused too, some goals are not tried: such bodies have another.
-            waiting = [it for it in group if len(group) > 1 and {*it.paths()} & said.waiting]
-            # Where nothing is open, it is told in full why: the body is proved, or refused in another way.
-            silent = [it for it in group if it not in waiting and said.silent(it)]
-            full.update(silent)
-            again = [*waiting, *silent]
-            left = joined(left, again) if len(again) < len(group) else left + [[it] for it in again]
-            names = {f"{crate.name}/{it.name}" for it in again}
-            yield from (it for it in judged(crate, group, said, by_hand) if it[1] not in names)
-        else:
+class Trial:
+    """A crate's wrong bodies as they are tried: what is found of them, and the groups that are still to be tried.
+
+    What its first check keeps serves the others, so these begin when that one has ended.
+    """
+
+    def __init__(self, crate, checker, by_hand):
+        self.crate, self.checker, self.by_hand = crate, checker, by_hand
+        self.kept = tempfile.TemporaryDirectory(prefix="mutants-kept-")
+        self.found = [(False, f"{crate.name}/{name}", f"it no longer fits: {why}") for name, why in crate.unfit.items()]
+        self.full, self.running, self.left = set(), 0, crate.groups()
+        lacking = checker.lacking(crate)
+        if lacking:
+            self.left = []
+            why = f"no library of {', '.join(lacking)} is built: run rt ci first"
+            self.found.append((False, crate.name, why))
+
+    def ready(self):
+        """The groups that may be tried now."""
+        if self.running and not self.crate.checks:
+            return []
+        groups = self.left if self.crate.checks else self.left[:1]
+        self.left = self.left[len(groups) :]
+        self.running += len(groups)
+        return groups
+
+    def check(self, group):
+        """Tries a group."""
+        brief = self.crate.brief([it for it in group if it not in self.full])
+        return Said(self.crate, group, self.checker.check(self.crate, group, brief, self.kept.name), brief)
+
+    def take(self, group, said):
+        """Takes what was said of a group: what was found of its edits, and those that need another check."""
+        self.running -= 1
+        save(self.checker.top, f"{self.crate.name}-{len(self.crate.checks)}.log", said.text)
+        if not said.lines:
             culprits = refused_unread(said, group)
             for edit, why in culprits.items():
-                yield False, f"{crate.name}/{edit.name}", f"it did not reach the prover: {why}"
-            rest = [it for it in group if it not in culprits]
-            left[:0] = [rest] * bool(rest)
+                self.found.append((False, f"{self.crate.name}/{edit.name}", f"it did not reach the prover: {why}"))
+            self.left += [[it for it in group if it not in culprits]] * (len(culprits) < len(group))
+            return
+        # Where a callee in the same check is refused too, some goals are not tried: such bodies have another.
+        waiting = [it for it in group if len(group) > 1 and {*it.paths()} & said.waiting]
+        # Where nothing is open, it is told in full why: the body is proved, or refused in another way.
+        silent = [it for it in group if it not in waiting and said.silent(it)]
+        self.full.update(silent)
+        again = [*waiting, *silent]
+        self.left += joined([], again) if len(again) < len(group) else [[it] for it in again]
+        names = {f"{self.crate.name}/{it.name}" for it in again}
+        self.found += [it for it in judged(self.crate, group, said, self.by_hand) if it[1] not in names]
 
 
-def joined(groups, edits):
-    """Groups of edits with more of them, each in the first group that changes no function that it changes."""
-    for edit in edits:
-        for group in groups:
-            if not {path for it in group for path in it.paths()} & {*edit.paths()}:
-                group.append(edit)
-                break
-        else:
-            groups.append([edit])
-    return groups
+def tried(trials, lanes):
+    """Tries the wrong bodies of crates, so many checks side by side, and yields each trial as it ends."""
+    running, left = {}, list(trials)
+    with ThreadPoolExecutor(lanes) as pool:
+        while left or running:
+            for trial in left:
+                running.update({pool.submit(trial.check, group): (trial, group) for group in trial.ready()})
+            for ended in [it for it in left if not it.running]:
+                left.remove(ended)
+                yield ended
+            for check in wait(running, return_when=FIRST_COMPLETED).done:
+                trial, group = running.pop(check)
+                trial.take(group, check.result())
 
 
 def refused_unread(said, group):
@@ -461,23 +309,25 @@ def main(words):
         for name, why in unfit:
             print(f"FAILED {name}: it no longer fits: {why}")
         return finished(len(known) - len(unfit), failed + len(unfit))
-    checker, lanes = Checker(TOP, uses), processors()
-    jobs = max(1, lanes // max(1, len(crates)))
-    with ThreadPoolExecutor(lanes) as pool:
-        crates.sort(key=Crate.weight, reverse=True)
-        runs = [(it, pool.submit(lambda it=it: list(tried(it, checker, jobs, by_hand)))) for it in crates]
-        for crate, run in runs:
-            found = run.result()
-            count = len(crate.edits) + len(crate.unfit)
-            cost = f"checks {len(crate.checks)}, {sum(cost for cost, _ in crate.checks):.0f} s of processor"
-            print(f"-- {crate.name}: wrong bodies {count}, {cost}", flush=True)
-            for at, (cost, names) in enumerate(crate.checks, 1):
-                of = ", ".join(names[:8]) + " .." * (len(names) > 8)
-                print(f"   check {at}: {cost:.0f} s, wrong bodies {len(names)}: {of}", flush=True)
-            for well, name, text in found:
-                print(f"{'refused' if well else 'FAILED'} {name}: {text[:400]}", flush=True)
-                passed, failed = passed + well, failed + (not well)
+    checker = Checker(TOP, uses)
+    trials = [Trial(it, checker, by_hand) for it in sorted(crates, key=Crate.weight, reverse=True)]
+    for trial in tried(trials, processors()):
+        tell(trial)
+        passed += sum(well for well, _, _ in trial.found)
+        failed += sum(not well for well, _, _ in trial.found)
     return finished(passed, failed)
+
+
+def tell(trial):
+    """Prints what a trial cost and found."""
+    crate = trial.crate
+    cost = f"checks {len(crate.checks)}, {sum(cost for cost, _ in crate.checks):.0f} s of processor"
+    print(f"-- {crate.name}: wrong bodies {len(crate.edits) + len(crate.unfit)}, {cost}", flush=True)
+    for at, (cost, names) in enumerate(crate.checks, 1):
+        of = ", ".join(names[:8]) + " .." * (len(names) > 8)
+        print(f"   check {at}: {cost:.0f} s, wrong bodies {len(names)}: {of}", flush=True)
+    for well, name, text in trial.found:
+        print(f"{'refused' if well else 'FAILED'} {name}: {text[:400]}", flush=True)
 
 
 def finished(passed, failed):

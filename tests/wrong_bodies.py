@@ -1,0 +1,226 @@
+"""Wrong bodies: the files of crates/NAME/mutants/, and how those of a crate share checks."""
+import os
+import re
+import shutil
+from collections import Counter
+
+from functions import Sources, blanked, functions, shape
+
+# What stands before the word `fn` of a function: attributes, and who may call it.
+ATTRIBUTES = re.compile(r"(?:#\[(?:[^][]|\[[^][]*\])*\]\s*)*(?:pub(?:\([^)]*\))?\s+)?(?:(?:const|unsafe)\s+)*\Z")
+# The body of a function that is taken at its word: it fits any contract's types, calls nothing, and never returns.
+STAND_IN = "{ loop {} }"
+# The files of a function's proof, and the proof that is taken at its word.
+PROOF_FILES = ("Proof.antt", "Answers.antt", "Invariants.antt")
+HOLE = """use Rattle.{crate}.proofs.{module}.Statement.{{statement}}
+
+pub {name}_spec : {{M : Type 1}} → statement M
+{name}_spec = ?
+"""
+
+
+class Unfit(Exception):
+    """An edit cannot be tried, and why."""
+
+
+class Edit:
+    """A wrong body: its name and, by file, the functions that it changes with their new bodies."""
+
+    def __init__(self, path, sources):
+        self.name = os.path.basename(path).removesuffix(".edit")
+        self.bodies, self.shapely, self.words = {}, set(), set()
+        with open(path, encoding="utf-8") as it:
+            texts = changed(it.read(), sources)
+        for file, text in texts.items():
+            for old, new in bodies_changed(sources, file, text):
+                self.bodies[file, sources.path(old)] = (old.body, new)
+                self.words.update(re.findall(r"\w+", blanked(new)))
+                if shape(new) == shape(sources.texts[file][slice(*old.body)]):
+                    self.shapely.add(sources.path(old))
+        if not self.bodies:
+            raise Unfit("it changes nothing")
+
+    def keeps_shape(self, path):
+        """Whether a function's goals have the names that they had, since only values were changed."""
+        return path in self.shapely
+
+    def paths(self):
+        return [path for _, path in self.bodies]
+
+    def stands_beside(self, other):
+        """Whether the two may share a check: they change different functions, and neither names one of the other's."""
+        if {*self.paths()} & {*other.paths()}:
+            return False
+        return not any(
+            path.rpartition("::")[2] in one.words for one, its in ((self, other), (other, self)) for path in its.paths()
+        )
+
+
+def changed(text, sources):
+    """The texts of the files that an edit changes."""
+    file, old, texts = None, None, {}
+    for line in text.split("\n"):
+        if line.startswith("file: "):
+            file = line.removeprefix("file: ").strip()
+        elif line.startswith("old: "):
+            old = line.removeprefix("old: ")
+        elif line.startswith("new:"):
+            if file not in sources.texts or not old:
+                raise Unfit(f"it names no file of src/ ({file}), or no old text before a new one")
+            whole = texts.get(file, sources.texts[file])
+            if whole.count(old) != 1:
+                raise Unfit(f"its text `{old.strip()}` stands in {file} {whole.count(old)} times, and not once")
+            texts[file], old = whole.replace(old, line.removeprefix("new:").removeprefix(" ")), None
+    return texts
+
+
+def bodies_changed(sources, file, text):
+    """The functions of a file whose bodies a new text changes, each with its new body."""
+    before, after = sources.found[file], functions(text, sources.module_of(file))
+    if [(it.name, it.owner) for it in before] != [(it.name, it.owner) for it in after]:
+        raise Unfit(f"it changes which functions {file} has")
+    if frame(sources.texts[file], before) != frame(text, after):
+        raise Unfit(f"it changes more of {file} than the bodies of functions")
+    for old, new in zip(before, after):
+        made = text[slice(*new.body)]
+        if made != sources.texts[file][slice(*old.body)]:
+            yield old, made
+
+
+def frame(text, found):
+    """A file's text less the bodies."""
+    at, kept = 0, []
+    for it in sorted(found, key=lambda it: it.body):
+        kept.append(text[at : it.body[0]])
+        at = it.body[1]
+    return [*kept, text[at:]]
+
+
+def head(text, function):
+    """Where a function's attributes begin, and what stands from there to the word `fn`."""
+    found = ATTRIBUTES.search(text, max(0, function.begun - 400), function.begun)
+    return found.start(), found[0]
+
+
+def joined(groups, edits):
+    """Groups of edits with more of them, each in the first group whose edits it may share a check with."""
+    for edit in edits:
+        group = next((it for it in groups if all(map(edit.stands_beside, it))), None)
+        if group is None:
+            groups.append([edit])
+        else:
+            group.append(edit)
+    return groups
+
+
+class Crate:
+    """A crate of the repository with its wrong bodies."""
+
+    def __init__(self, top, name):
+        self.name, self.folder = name, os.path.join(top, "crates", name)
+        self.checks = []
+        self.edits, self.unfit = [], {}
+        room = os.path.join(self.folder, "mutants")
+        files = sorted(it for it in os.listdir(room) if it.endswith(".edit")) if os.path.isdir(room) else []
+        self.sources = Sources(self.folder, name) if files else None
+        for file in files:
+            try:
+                self.edits.append(Edit(os.path.join(room, file), self.sources))
+            except Unfit as why:
+                self.unfit[file.removesuffix(".edit")] = str(why)
+
+    def weight(self):
+        """What its checks cost, roughly: the lines of its code, and some a wrong body."""
+        return sum(it.count("\n") for it in self.sources.texts.values()) + 40 * len(self.edits)
+
+    def groups(self):
+        """The edits in few groups of which each is tried in one check: those that leave least choice first."""
+        times = Counter(path for edit in self.edits for path in edit.paths())
+        barred = {it: sum(not it.stands_beside(other) for other in self.edits) for it in self.edits}
+        choice = lambda it: (-max(times[path] for path in it.paths()), -barred[it])
+        return sorted(joined([], sorted(self.edits, key=choice)), key=len, reverse=True)
+
+    def answers(self, path):
+        """Where the files of a function's proof stand."""
+        return os.path.join("proofs", *path.split("::")[1:])
+
+    def brief(self, group):
+        """The functions of a group that may have answers, and so one that does not read."""
+        paths = {path for edit in group for path in edit.paths()}
+        return {it for it in paths if not os.path.isfile(os.path.join(self.folder, self.answers(it), "Proof.antt"))}
+
+    def answered(self, path):
+        """The goals that the function's proof files have answers for; None where it has no such file."""
+        folder = os.path.join(self.folder, self.answers(path))
+        files = [os.path.join(folder, it) for it in os.listdir(folder)] if os.path.isdir(folder) else []
+        files = [it for it in files if it.endswith(".antt") and os.path.isfile(it)]
+        if not files:
+            return None
+        found = set()
+        for file in files:
+            with open(file, encoding="utf-8") as it:
+                found.update(re.findall(r"\bgoal\.([\w-]+)", it.read()))
+        return found
+
+    def texts(self, group):
+        """The crate's files with a group's bodies, and stand-ins for all others."""
+        bodies = {(file, old): new for edit in group for (file, _), (old, new) in edit.bodies.items()}
+        made = {}
+        for file, text in self.sources.texts.items():
+            for it in sorted(self.sources.found[file], key=lambda it: it.body, reverse=True):
+                # (a constant's value may be what a `const fn` answers)
+                own = text[slice(*it.body)] if "const" in head(text, it)[1].split() else STAND_IN
+                text = text[: it.body[0]] + bodies.get((file, it.body), own) + text[it.body[1] :]
+            made[file] = text
+        return made
+
+    def furnish(self, room, group):
+        """Writes the crate with a group's bodies into a folder: what the group doesn't change is taken at its word."""
+        for part in ("specs", "proofs"):
+            if os.path.isdir(os.path.join(self.folder, part)):
+                shutil.copytree(os.path.join(self.folder, part), os.path.join(room, part))
+        for file, text in self.texts(group).items():
+            write(os.path.join(room, file), text)
+        meant = {path for edit in group for path in edit.paths()}
+        for it in (it for found in self.sources.found.values() for it in found):
+            path = self.sources.path(it)
+            if path not in meant:
+                self.take_at_its_word(room, path)
+
+    def take_at_its_word(self, room, path):
+        """Leaves a hole for a function's proof, in a folder that the crate was written into."""
+        folder = os.path.join(room, self.answers(path))
+        for name in PROOF_FILES:
+            if os.path.exists(os.path.join(folder, name)):
+                os.remove(os.path.join(folder, name))
+        words = path.split("::")[1:]
+        hole = HOLE.format(crate=self.name, module=".".join(words), name=words[-1])
+        write(os.path.join(folder, PROOF_FILES[0]), hole)
+
+
+def write(path, text, mode="w"):
+    """Writes a file, and the folders that it stands in."""
+    os.makedirs(os.path.dirname(path), exist_ok=True)
+    with open(path, mode, encoding="utf-8") as it:
+        it.write(text)
+
+
+def crates_of(top):
+    """The crates of crates.txt, lowest first, each with what it uses."""
+    uses = {}
+    with open(os.path.join(top, "crates.txt"), encoding="utf-8") as it:
+        for line in it:
+            line = line.split("#")[0].strip()
+            if line:
+                name, _, below = line.partition(":")
+                uses[name.split()[0]] = below.split()
+    return uses
+
+
+def below(uses, name):
+    """The repository's libraries below a crate."""
+    found = []
+    for dep in uses[name]:
+        if dep in uses:
+            found += [it for it in [*below(uses, dep), dep] if it not in found]
+    return found
