@@ -63,24 +63,23 @@ class Checker:
         return words + [word for path in sorted(paths) for word in ("--only", path.partition("::")[2])]
 
     def check(self, crate, group, brief, kept):
-        """What rattle says of the functions that a group changes, of some of them in brief."""
+        """What a check of the functions that a group changes costs, and what rattle says of them, of some in brief."""
         with tempfile.TemporaryDirectory(prefix="mutants-") as room:
             crate.furnish(room, group)
             for path in brief:
                 write(os.path.join(room, crate.answers(path), "Answers.antt"), UNREAD_ANSWER, "a")
             paths = {path for edit in group for path in edit.paths()}
-            return self.ran(crate, group, self.words(crate, kept, paths), room)
+            return self.ran(self.words(crate, kept, paths), room)
 
-    def ran(self, crate, group, words, room):
-        """What a command says; its processor time is counted for the crate."""
+    def ran(self, words, room):
+        """The processor time of a command, and what it says."""
         with tempfile.TemporaryFile("w+", errors="replace") as said:
             how = {"stdin": subprocess.DEVNULL, "stdout": said, "stderr": subprocess.STDOUT}
             with subprocess.Popen(words, cwd=room, **how) as it:
                 _, status, used = os.wait4(it.pid, 0)
                 it.returncode = os.waitstatus_to_exitcode(status)
-            crate.checks.append((used.ru_utime + used.ru_stime, [it.name for it in group]))
             said.seek(0)
-            return said.read()
+            return used.ru_utime + used.ru_stime, said.read()
 
 
 class Said:
@@ -92,6 +91,7 @@ class Said:
     UNPROVED = re.compile(r"(?s).*?did not prove (.*?)(?:; it calls.*|\Z)")
     OPEN = re.compile(r"(?m)^note: (src/\S+?):(\d+):\d+: it is not proved that .*?\(`([^`]+)`\)(.*)$")
     WAITS = re.compile(r"(?m)^note: `search` has not tried the goals of `([^`]+)`, which wait for a callee's proof")
+    ANTT = re.compile(r"(?m)^(?:\./)?((?:specs|proofs)/[^\s:]+):\d+:\d+: (?:error|`[^`]+` is not admitted: (?!has-holes))")
     FRONT = re.compile(r"(?m)^(?:\./)?(src/[^\s:]+):(\d+):\d+: error\S* (.*)$")
 
     def __init__(self, crate, group, said, brief=()):
@@ -131,6 +131,11 @@ class Said:
         """Whether a stored answer of a function's does not fit its body."""
         folder = re.escape(self.crate.answers(path))
         return bool(re.search(rf"(?m)^(?:\./)?{folder}/.*: error(?!: `{UNREAD}`)", self.text))
+
+    def strays(self, paths):
+        """The files of definitions and lemmas that are refused, but for those of these functions' proofs."""
+        own = tuple(f"{self.crate.answers(path)}/" for path in paths)
+        return sorted({it for it in self.ANTT.findall(self.text) if not it.startswith(own)})
 
     def silent(self, edit):
         """Whether a function of an edit was told of in brief, and nothing of it is open."""
@@ -195,6 +200,8 @@ def judged(crate, group, said, by_hand):
     for path in said.lines:
         if path not in meant and said.why(path):
             yield False, path, f"refused, though nothing is wrong with it: {said.why(path)}"
+    for file in said.strays(path for edit in group for path in edit.paths()):
+        yield False, f"{crate.name}/{file}", "refused, though nothing is wrong with it"
 
 
 class Trial:
@@ -224,13 +231,15 @@ class Trial:
         return groups
 
     def check(self, group):
-        """Tries a group."""
+        """Tries a group: what its check cost, and what was said of it."""
         brief = self.crate.brief([it for it in group if it not in self.full])
-        return Said(self.crate, group, self.checker.check(self.crate, group, brief, self.kept.name), brief)
+        cost, said = self.checker.check(self.crate, group, brief, self.kept.name)
+        return cost, Said(self.crate, group, said, brief)
 
-    def take(self, group, said):
+    def take(self, group, cost, said):
         """Takes what was said of a group: what was found of its edits, and those that need another check."""
         self.running -= 1
+        self.crate.checks.append((cost, [it.name for it in group]))
         save(self.checker.top, f"{self.crate.name}-{len(self.crate.checks)}.log", said.text)
         if not said.lines:
             culprits = refused_unread(said, group)
@@ -261,7 +270,7 @@ def tried(trials, lanes):
                 yield ended
             for check in wait(running, return_when=FIRST_COMPLETED).done:
                 trial, group = running.pop(check)
-                trial.take(group, check.result())
+                trial.take(group, *check.result())
 
 
 def refused_unread(said, group):

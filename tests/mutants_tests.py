@@ -4,6 +4,7 @@ import os
 import tempfile
 
 import mutants
+import wrong_bodies
 from checks import run_all, same
 from functions import Sources, shape
 
@@ -42,6 +43,10 @@ pub fn silent(n: u8) -> u8 {
     n // said of nothing
 }
 
+pub const fn four() -> u8 {
+    4
+}
+
 pub fn trebled(n: u8) -> u16
     ensures { result \u2261 n + n + n }
 {
@@ -52,6 +57,7 @@ EDITS = {
     "added-once": ("u16::from(n) + u16::from(n)", "u16::from(n)"),
     "nothing-said": ("n // said of nothing", "n / 2"),
     "other-for-one": ("self.one", "self.other"),
+    "half-of-it": ("doubled(n) + doubled(n)", "doubled(n)"),
     "same-sum": ("doubled(n) + doubled(n)", "{ let sum = doubled(n) + doubled(n); sum }"),
     "does-not-compile": ("self.one", "self.none"),
     "gone": ("u16::from(n) * 2", "u16::from(n)"),
@@ -80,17 +86,23 @@ class Small:
             it.write(text)
 
     def crate(self):
-        return mutants.Crate(self.folder.name, "small")
+        return wrong_bodies.Crate(self.folder.name, "small")
 
-    def tried(self):
-        checker = mutants.Checker(self.folder.name, mutants.crates_of(self.folder.name))
-        return {name: (well, text) for well, name, text in mutants.tried(self.crate(), checker, 1, {})}
+    def trial(self):
+        checker = mutants.Checker(self.folder.name, wrong_bodies.crates_of(self.folder.name))
+        return mutants.Trial(self.crate(), checker, {})
 
     def judged(self, said, by_hand=()):
         crate = self.crate()
         group = crate.groups()[0]
-        found = mutants.judged(crate, group, mutants.Said(crate, crate.texts(group), said), by_hand)
+        found = mutants.judged(crate, group, mutants.Said(crate, group, said), by_hand)
         return {name: (well, text) for well, name, text in found}
+
+
+def tried(trial):
+    """What is found of a trial's wrong bodies, each with what was said of it."""
+    [ended] = mutants.tried([trial], 2)
+    return {name: (well, text) for well, name, text in ended.found}
 
 
 def expect(found, name, well, words):
@@ -100,14 +112,43 @@ def expect(found, name, well, words):
 
 
 def what_the_prover_says():
-    found = Small("added-once", "nothing-said", "other-for-one", "same-sum", "does-not-compile").tried()
+    small = Small("added-once", "nothing-said", "half-of-it", "other-for-one", "does-not-compile", "same-sum")
+    found = tried(small.trial())
     expect(found, "small/added-once", True, "small::doubled")
+    expect(found, "small/half-of-it", True, "small::fourfold")
     expect(found, "small/other-for-one", True, "small::Pair::first")
     expect(found, "small/nothing-said", False, "small::silent is NOT REFUSED")
     expect(found, "small/same-sum", False, "small::fourfold is NOT REFUSED")
     expect(found, "small/does-not-compile", False, "did not reach the prover")
-    expect(found, "small::trebled", False, "nothing is wrong with it")
     same("what is told of", len(found), 6)
+
+
+class Told:
+    """A checker that says of a check what it was told to say, by the names of the edits."""
+
+    def __init__(self, top, said):
+        self.top, self.said = top, said
+
+    def lacking(self, _crate):
+        return []
+
+    def check(self, _crate, group, _brief, _kept):
+        return 1, self.said[" ".join(it.name for it in group)]
+
+
+def a_body_that_waits_for_its_callee_is_tried_again():
+    small = Small("added-once", "half-of-it")
+    refused = "fn small::doubled: no proof: `search` did not prove `returns`\n"
+    waits = "note: `search` has not tried the goals of `small::fourfold`, which wait for a callee's proof\n"
+    caller = "fn small::fourfold: no proof: it calls `small::doubled`, which is not proved\n"
+    alone = "fn small::fourfold: no proof: `search` did not prove `returns`\n"
+    said = {"added-once half-of-it": refused + waits + caller, "half-of-it": alone}
+    trial = mutants.Trial(small.crate(), Told(small.folder.name, said), {})
+    trial.full, trial.left = {*trial.crate.edits}, [trial.crate.edits]
+    found = tried(trial)
+    expect(found, "small/added-once", True, "small::doubled")
+    expect(found, "small/half-of-it", True, "small::fourfold")
+    same("checks", [names for _, names in trial.crate.checks], [["added-once", "half-of-it"], ["half-of-it"]])
 
 
 def edits_that_no_longer_fit():
@@ -122,10 +163,37 @@ def edits_that_no_longer_fit():
         same(f"whether `{crate.unfit[name]}` says `{words}`", words in crate.unfit[name], True)
 
 
-def no_function_changed_twice_in_a_check():
-    crate = Small("added-once", "nothing-said", "other-for-one", "does-not-compile").crate()
-    same("groups", [[it.name for it in group] for group in crate.groups()],
-         [["added-once", "does-not-compile", "nothing-said"], ["other-for-one"]])
+def named(groups):
+    return [[it.name for it in group] for group in groups]
+
+
+def wrong_bodies_that_share_a_check():
+    small = Small("added-once", "nothing-said", "other-for-one", "does-not-compile")
+    same("a function is changed once", named(small.crate().groups()),
+         [["does-not-compile", "added-once", "nothing-said"], ["other-for-one"]])
+    small = Small("added-once", "half-of-it", "same-sum", "nothing-said")
+    same("no changed body names a changed function", named(small.crate().groups()),
+         [["half-of-it", "nothing-said"], ["same-sum"], ["added-once"]])
+
+
+def what_is_not_changed_is_taken_at_its_word():
+    small = Small("added-once")
+    small.write("crates/small/proofs/fourfold/Answers.antt", "pub returns : goal.returns\n")
+    small.write("crates/small/proofs/fourfold/Words.antt", "-- of its own\n")
+    small.write("crates/small/proofs/doubled/Answers.antt", "pub returns : goal.returns\n")
+    crate, room = small.crate(), os.path.join(small.folder.name, "room")
+    crate.furnish(room, crate.edits)
+    lines = [it.strip() for it in crate.texts(crate.edits)["src/lib.rt"].split("\n")]
+    same("bodies", [it for it in lines if it in ("u16::from(n)", "4", wrong_bodies.STAND_IN)],
+         ["{ loop {} }", "u16::from(n)", "{ loop {} }", "4", "{ loop {} }"])
+    files = {os.path.relpath(os.path.join(at, it), room) for at, _, names in os.walk(room) for it in names}
+    same("files", files, {
+        "src/lib.rt", "proofs/Pair/first/Proof.antt", "proofs/doubled/Answers.antt", "proofs/fourfold/Proof.antt",
+        "proofs/fourfold/Words.antt", "proofs/silent/Proof.antt", "proofs/four/Proof.antt", "proofs/trebled/Proof.antt",
+    })
+    with open(os.path.join(room, "proofs/Pair/first/Proof.antt"), encoding="utf-8") as it:
+        same("a hole", it.read(), "use Rattle.small.proofs.Pair.first.Statement.{statement}\n\n"
+             "pub first_spec : {M : Type 1} \u2192 statement M\nfirst_spec = ?\n")
 
 
 def a_caller_is_not_blamed_for_its_callee():
@@ -135,6 +203,19 @@ def a_caller_is_not_blamed_for_its_callee():
     same("what is told of", [*small.judged(callee + caller)], ["small/added-once"])
     caller = caller.replace("it calls", "`search` did not prove `returns`; it calls")
     expect(small.judged(callee + caller), "small::fourfold", False, "nothing is wrong with it")
+
+
+def a_refused_lemma_is_told_of():
+    small = Small("added-once")
+    for line, told in (
+        ("./proofs/fourfold/Proof.antt:3:5: `fourfold_spec` is not admitted: has-holes\n", False),
+        (f"./proofs/doubled/Answers.antt:2:1: error: `{mutants.UNREAD}`: `NoLinesWanted` is not in scope\n", False),
+        ("./proofs/Sums.antt:2:1: error: `twice` is not in scope\n", True),
+        ("./proofs/Sums.antt:2:1: `sums` is not admitted: has-errors\n", True),
+    ):
+        found = small.judged(line + "fn small::doubled: no proof: `search` did not prove `returns`\n")
+        expect(found, "small/added-once", True, DOUBLED)
+        same("whether the lemma is told of", "small/proofs/Sums.antt" in found, told)
 
 
 def a_function_told_of_in_brief():
@@ -150,19 +231,17 @@ def a_function_told_of_in_brief():
         (f"{answers}{mutants.UNREAD}`: `NoLinesWanted` is not in scope\n{refused}", True),
         (f"{answers}returns`: `c.none` is not in scope\n{refused}", False),
     ):
-        said = mutants.Said(crate, crate.texts(group), text, crate.brief(group))
+        said = mutants.Said(crate, group, text, crate.brief(group))
         same("whether nothing of it is open", said.silent(group[0]), silent)
         same("how often it is refused", len(said.refusals(DOUBLED)), 0 if silent else 1)
     same("whether it is silent where it is told of in full",
-         mutants.Said(crate, crate.texts(group), refused).silent(group[0]), False)
+         mutants.Said(crate, group, refused).silent(group[0]), False)
 
 
-def a_body_joins_the_first_group_that_leaves_its_functions_alone():
-    edits = Small("added-once", "nothing-said", "other-for-one", "same-sum").crate().edits
-    once, nothing, other, whole = edits
-    groups = mutants.joined([[once], [whole]], [once, nothing, other])
-    same("groups", [[it.name for it in group] for group in groups],
-         [["added-once", "nothing-said", "other-for-one"], ["same-sum", "added-once"]])
+def a_body_joins_the_first_group_that_it_may_stand_in():
+    once, half, nothing, other = Small("added-once", "nothing-said", "other-for-one", "half-of-it").crate().edits
+    groups = wrong_bodies.joined([[once], [half]], [once, nothing, other])
+    same("groups", named(groups), [["added-once", "nothing-said", "other-for-one"], ["half-of-it"], ["added-once"]])
 
 
 def attributes_are_lines_of_their_function():
@@ -244,13 +323,16 @@ def a_stored_proof_that_no_longer_fits():
 if __name__ == "__main__":
     run_all([
         edits_that_no_longer_fit,
-        no_function_changed_twice_in_a_check,
+        wrong_bodies_that_share_a_check,
+        what_is_not_changed_is_taken_at_its_word,
         a_caller_is_not_blamed_for_its_callee,
+        a_refused_lemma_is_told_of,
         a_function_told_of_in_brief,
-        a_body_joins_the_first_group_that_leaves_its_functions_alone,
+        a_body_joins_the_first_group_that_it_may_stand_in,
         attributes_are_lines_of_their_function,
         paths_as_rattle_prints_them,
         a_body_keeps_its_shape,
         a_stored_proof_that_no_longer_fits,
+        a_body_that_waits_for_its_callee_is_tried_again,
         what_the_prover_says,
     ])
