@@ -3,14 +3,21 @@
 
 Such a file is written as those of must-fail/ are: a line `file: src/lib.rt` and pairs of lines `old: TEXT` and
 `new: TEXT`, each text once in the file. Wrong bodies in different functions share a check of their crate, over the
-libraries that `rt ci` left in crates/*/out. A wrong body passes where each function that it changes is refused for its
-own sake: a goal of it is open, or rattle says in another way why. It fails where a function is proved all the same,
-where it no longer fits or changes nothing, and where only a stored proof doesn't fit it any more, which says nothing of
-the contract: tests/mutants-by-hand.txt names those of which it is known otherwise that the contract refuses them. A
-function that is refused though nothing is wrong with it fails too.
+libraries that `rt ci` left in crates/*/out. Each other function is taken at its word there, as its contract has it: a
+check proves no right body, since `rt ci` has, and needs nothing that an earlier one kept.
+
+A wrong body passes where each function that it changes is refused for its own sake: a goal of it is open, or rattle
+says in another way why. It fails where a function is proved all the same, where it no longer fits or changes nothing,
+and where only a stored proof doesn't fit it any more, which says nothing of the contract: tests/mutants-by-hand.txt
+names those of which it is known otherwise that the contract refuses them. A function or a file of lemmas that is
+refused though nothing is wrong with it fails too.
 
     tests/mutants.py [CRATE..]          all crates, or these
     tests/mutants.py --fit [CRATE..]    says in a second which wrong bodies no longer fit, and tries none
+    tests/mutants.py --all-goals ..     asks every goal, and writes tests/mutants-unasked.txt anew for these crates
+
+Where a wrong body leaves several goals open, one is enough to refuse it, and each takes seconds. So those of which
+tests/mutants-unasked.txt tells are left as holes. Where no other goal is open, the body is tried again with all of them.
 
 What a check said stands in build/mutants/ after it.
 """
@@ -23,15 +30,13 @@ import tempfile
 from concurrent.futures import FIRST_COMPLETED, ThreadPoolExecutor, wait
 
 from functions import functions
-from wrong_bodies import Crate, below, crates_of, head, joined, write
+from wrong_bodies import UNREAD, Crate, below, crates_of, head, joined, read, write
 
 TOP = os.path.dirname(os.path.dirname(os.path.realpath(__file__)))
 # What a check takes at most of memory, in bytes.
 NEED = 2_000_000_000
-# Rattle writes out what is to be proved of a function that it refuses, at the cost of half the check again, but not
-# where one of the function's answers does not read. It takes the others as ever, so such a one ends their file.
-UNREAD = "no_lines_wanted"
-UNREAD_ANSWER = f"\nabbrev {UNREAD} : NoLinesWanted\n{UNREAD} = tt\n"
+BY_HAND = os.path.join(TOP, "tests", "mutants-by-hand.txt")
+UNASKED = os.path.join(TOP, "tests", "mutants-unasked.txt")
 
 
 class Checker:
@@ -66,8 +71,7 @@ class Checker:
         """What a check of the functions that a group changes costs, and what rattle says of them, of some in brief."""
         with tempfile.TemporaryDirectory(prefix="mutants-") as room:
             crate.furnish(room, group)
-            for path in brief:
-                write(os.path.join(room, crate.answers(path), "Answers.antt"), UNREAD_ANSWER, "a")
+            crate.shorten(room, group, brief)
             paths = {path for edit in group for path in edit.paths()}
             return self.ran(self.words(crate, kept, paths), room)
 
@@ -96,6 +100,7 @@ class Said:
 
     def __init__(self, crate, group, said, brief=()):
         self.crate, self.text, self.brief = crate, said, brief
+        self.unasked = {path: it.unasked for it in group for path in it.paths()}
         self.lines = {it[1]: (it[2], it[3].strip(": ")) for it in self.FUNCTION.finditer(said)}
         self.waiting = {*self.WAITS.findall(said)}
         self.places = {file: spans(crate.sources, file, text) for file, text in crate.texts(group).items()}
@@ -130,7 +135,8 @@ class Said:
     def misfits(self, path):
         """Whether a stored answer of a function's does not fit its body."""
         folder = re.escape(self.crate.answers(path))
-        return bool(re.search(rf"(?m)^(?:\./)?{folder}/.*: error(?!: `{UNREAD}`)", self.text))
+        own = "|".join([UNREAD, *self.unasked.get(path, ())])
+        return bool(re.search(rf"(?m)^(?:\./)?{folder}/.*: error(?!: `(?:{own})`)", self.text))
 
     def strays(self, paths):
         """The files of definitions and lemmas that are refused, but for those of these functions' proofs."""
@@ -154,15 +160,23 @@ class Said:
         Either values are known that make it false; or no stored answer is for its clause; or each stored answer still
         fits, the goals have the names that they had, and none is for this one. The right body needed no answer there.
         """
-        stored = self.crate.answered(path)
-        if stored is None:
-            return True
+        return self.crate.answered(path) is None or bool(self.telling(path, keeps_shape))
+
+    def telling(self, path, keeps_shape):
+        """The open goals of which each shows that the function's contract refuses the body, the cheapest ones first."""
+        stored = self.crate.answered(path) or set()
         clauses = {clause_of(it) for it in stored}
         fits = keeps_shape and not self.misfits(path)
-        return any(
-            false or clause_of(goal) not in clauses or fits and goal not in stored
-            for goal, false in self.goals(path).items()
-        )
+        goals = self.goals(path)
+        found = [it for it in goals if goals[it] or clause_of(it) not in clauses or fits and it not in stored]
+        return sorted(found, key=lambda it: not goals[it])
+
+    def to_spare(self, edit):
+        """The open goals of an edit's function that need not be asked, since another one shows that it is refused."""
+        [path, *more] = edit.paths()
+        telling = [] if more else self.telling(path, edit.keeps_shape(path))
+        stored = self.crate.answered(path) or set()
+        return [it for it in self.open.get(path, {}) if it not in stored and it != telling[0]] if telling else []
 
 
 def clause_of(goal):
@@ -214,7 +228,7 @@ class Trial:
         self.crate, self.checker, self.by_hand = crate, checker, by_hand
         self.kept = tempfile.TemporaryDirectory(prefix="mutants-kept-")
         self.found = [(False, f"{crate.name}/{name}", f"it no longer fits: {why}") for name, why in crate.unfit.items()]
-        self.full, self.running, self.left = set(), 0, crate.groups()
+        self.full, self.running, self.left, self.spared = set(), 0, crate.groups(), {}
         lacking = checker.lacking(crate)
         if lacking:
             self.left = []
@@ -254,6 +268,7 @@ class Trial:
         self.full.update(silent)
         again = [*waiting, *silent]
         self.left += joined([], again) if len(again) < len(group) else [[it] for it in again]
+        self.spared.update({it: said.to_spare(it) for it in group if it not in again})
         names = {f"{self.crate.name}/{it.name}" for it in again}
         self.found += [it for it in judged(self.crate, group, said, self.by_hand) if it[1] not in names]
 
@@ -282,17 +297,23 @@ def refused_unread(said, group):
 
 def save(top, name, text):
     """Keeps what a check said, for whoever looks into a failure."""
-    folder = os.path.join(top, "build", "mutants")
-    os.makedirs(folder, exist_ok=True)
-    with open(os.path.join(folder, name), "w", encoding="utf-8") as it:
-        it.write(text)
+    write(os.path.join(top, "build", "mutants", name), text)
 
 
-def hand_tried():
-    """The wrong bodies that were tried by hand, each with what was found."""
-    with open(os.path.join(TOP, "tests", "mutants-by-hand.txt"), encoding="utf-8") as it:
-        lines = [line.strip() for line in it if line.strip() and not line.startswith("#")]
+def noted(path):
+    """What a file says of wrong bodies, each on a line of its own after its crate and name."""
+    lines = [line.strip() for line in read(path).split("\n") if line.strip() and not line.startswith("#")]
     return dict(line.split(": ", 1) for line in lines)
+
+
+def note_unasked(path, trials):
+    """Writes which goals need not be asked of these crates' wrong bodies, as the trials showed."""
+    names = {it.crate.name for it in trials}
+    told = {name: goals for name, goals in noted(path).items() if name.split("/")[0] not in names}
+    for it in trials:
+        told.update({f"{it.crate.name}/{edit.name}": ", ".join(goals) for edit, goals in it.spared.items() if goals})
+    comment = [line for line in read(path).split("\n") if line.startswith("#")]
+    write(path, "\n".join([*comment, "", *(f"{name}: {told[name]}" for name in sorted(told)), ""]))
 
 
 def processors():
@@ -303,10 +324,12 @@ def processors():
 
 
 def main(words):
-    names = [it for it in words if it != "--fit"]
+    names = [it for it in words if not it.startswith("--")]
     uses = crates_of(TOP)
-    by_hand = hand_tried()
-    crates = [it for it in (Crate(TOP, name) for name in uses if not names or name in names) if it.sources]
+    by_hand = noted(BY_HAND)
+    unasked = {} if "--all-goals" in words else {name: it.split(", ") for name, it in noted(UNASKED).items()}
+    crates = [Crate(TOP, name, unasked) for name in uses if not names or name in names]
+    crates = [it for it in crates if it.sources]
     known = {f"{it.name}/{name}" for it in crates for name in [*it.unfit, *(edit.name for edit in it.edits)]}
     passed = failed = 0
     for name in by_hand:
@@ -320,10 +343,12 @@ def main(words):
         return finished(len(known) - len(unfit), failed + len(unfit))
     checker = Checker(TOP, uses)
     trials = [Trial(it, checker, by_hand) for it in sorted(crates, key=Crate.weight, reverse=True)]
-    for trial in tried(trials, processors()):
+    for trial in tried(list(trials), processors()):
         tell(trial)
         passed += sum(well for well, _, _ in trial.found)
         failed += sum(not well for well, _, _ in trial.found)
+    if "--all-goals" in words:
+        note_unasked(UNASKED, trials)
     return finished(passed, failed)
 
 

@@ -209,7 +209,7 @@ def a_refused_lemma_is_told_of():
     small = Small("added-once")
     for line, told in (
         ("./proofs/fourfold/Proof.antt:3:5: `fourfold_spec` is not admitted: has-holes\n", False),
-        (f"./proofs/doubled/Answers.antt:2:1: error: `{mutants.UNREAD}`: `NoLinesWanted` is not in scope\n", False),
+        (f"./proofs/doubled/Answers.antt:2:1: error: `{wrong_bodies.UNREAD}`: `NoLinesWanted` is not in scope\n", False),
         ("./proofs/Sums.antt:2:1: error: `twice` is not in scope\n", True),
         ("./proofs/Sums.antt:2:1: `sums` is not admitted: has-errors\n", True),
     ):
@@ -228,7 +228,7 @@ def a_function_told_of_in_brief():
         (note + refused, False),
         (refused, True),
         (note.replace(":21:", ":27:") + refused, True),
-        (f"{answers}{mutants.UNREAD}`: `NoLinesWanted` is not in scope\n{refused}", True),
+        (f"{answers}{wrong_bodies.UNREAD}`: `NoLinesWanted` is not in scope\n{refused}", True),
         (f"{answers}returns`: `c.none` is not in scope\n{refused}", False),
     ):
         said = mutants.Said(crate, group, text, crate.brief(group))

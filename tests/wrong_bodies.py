@@ -17,6 +17,10 @@ HOLE = """use Rattle.{crate}.proofs.{module}.Statement.{{statement}}
 pub {name}_spec : {{M : Type 1}} → statement M
 {name}_spec = ?
 """
+# Rattle writes out what is to be proved of a function that it refuses, at the cost of half the check again, but not
+# where one of the function's answers does not read. It takes the others as ever, so such a one ends their file.
+UNREAD = "no_lines_wanted"
+UNREAD_ANSWER = f"\nabbrev {UNREAD} : NoLinesWanted\n{UNREAD} = tt\n"
 
 
 class Unfit(Exception):
@@ -24,13 +28,15 @@ class Unfit(Exception):
 
 
 class Edit:
-    """A wrong body: its name and, by file, the functions that it changes with their new bodies."""
+    """A wrong body: its name and, by file, the functions that it changes with their new bodies.
 
-    def __init__(self, path, sources):
-        self.name = os.path.basename(path).removesuffix(".edit")
+    Of its goals some may go unasked, since another one shows that it is refused.
+    """
+
+    def __init__(self, path, sources, unasked=()):
+        self.name, self.unasked = os.path.basename(path).removesuffix(".edit"), unasked
         self.bodies, self.shapely, self.words = {}, set(), set()
-        with open(path, encoding="utf-8") as it:
-            texts = changed(it.read(), sources)
+        texts = changed(read(path), sources)
         for file, text in texts.items():
             for old, new in bodies_changed(sources, file, text):
                 self.bodies[file, sources.path(old)] = (old.body, new)
@@ -116,7 +122,7 @@ def joined(groups, edits):
 class Crate:
     """A crate of the repository with its wrong bodies."""
 
-    def __init__(self, top, name):
+    def __init__(self, top, name, unasked=None):
         self.name, self.folder = name, os.path.join(top, "crates", name)
         self.checks = []
         self.edits, self.unfit = [], {}
@@ -124,10 +130,12 @@ class Crate:
         files = sorted(it for it in os.listdir(room) if it.endswith(".edit")) if os.path.isdir(room) else []
         self.sources = Sources(self.folder, name) if files else None
         for file in files:
+            edit = file.removesuffix(".edit")
             try:
-                self.edits.append(Edit(os.path.join(room, file), self.sources))
+                goals = (unasked or {}).get(f"{name}/{edit}", ())
+                self.edits.append(Edit(os.path.join(room, file), self.sources, goals))
             except Unfit as why:
-                self.unfit[file.removesuffix(".edit")] = str(why)
+                self.unfit[edit] = str(why)
 
     def weight(self):
         """What its checks cost, roughly: the lines of its code, and some a wrong body."""
@@ -158,8 +166,7 @@ class Crate:
             return None
         found = set()
         for file in files:
-            with open(file, encoding="utf-8") as it:
-                found.update(re.findall(r"\bgoal\.([\w-]+)", it.read()))
+            found.update(re.findall(r"\bgoal\.([\w-]+)", read(file)))
         return found
 
     def texts(self, group):
@@ -187,6 +194,18 @@ class Crate:
             if path not in meant:
                 self.take_at_its_word(room, path)
 
+    def shorten(self, room, group, brief):
+        """Has rattle say little of some functions of a group, and ask no goal that need not be, in a folder with it."""
+        for edit in group:
+            for path in brief.intersection(edit.paths()):
+                file = os.path.join(room, self.answers(path), "Answers.antt")
+                text = read(file) if os.path.exists(file) else ""
+                goals = [it for it in edit.unasked if it not in (self.answered(path) or ())]
+                if goals:
+                    text = f"use Rattle.{self.name}.proofs.{'.'.join(path.split('::')[1:])}.Goals as unasked\n{text}"
+                text += "".join(f"\npub {it} : unasked.{it}\n{it} = ?\n" for it in goals)
+                write(file, text + UNREAD_ANSWER)
+
     def take_at_its_word(self, room, path):
         """Leaves a hole for a function's proof, in a folder that the crate was written into."""
         folder = os.path.join(room, self.answers(path))
@@ -198,10 +217,15 @@ class Crate:
         write(os.path.join(folder, PROOF_FILES[0]), hole)
 
 
-def write(path, text, mode="w"):
+def read(path):
+    with open(path, encoding="utf-8") as it:
+        return it.read()
+
+
+def write(path, text):
     """Writes a file, and the folders that it stands in."""
     os.makedirs(os.path.dirname(path), exist_ok=True)
-    with open(path, mode, encoding="utf-8") as it:
+    with open(path, "w", encoding="utf-8") as it:
         it.write(text)
 
 
