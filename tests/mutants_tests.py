@@ -52,6 +52,13 @@ pub fn trebled(n: u8) -> u16
 {
     doubled(n)
 }
+
+pub fn twice(n: u8) -> (u8, u8)
+    ensures one { result.0 \u2261 n }
+    ensures other { result.1 \u2261 n }
+{
+    (n, n)
+}
 """
 EDITS = {
     "added-once": ("u16::from(n) + u16::from(n)", "u16::from(n)"),
@@ -59,6 +66,8 @@ EDITS = {
     "other-for-one": ("self.one", "self.other"),
     "half-of-it": ("doubled(n) + doubled(n)", "doubled(n)"),
     "same-sum": ("doubled(n) + doubled(n)", "{ let sum = doubled(n) + doubled(n); sum }"),
+    "neither": ("(n, n)", "(0, 0)"),
+    "one-of-two": ("(n, n)", "(n, 0)"),
     "does-not-compile": ("self.one", "self.none"),
     "gone": ("u16::from(n) * 2", "u16::from(n)"),
     "twice-there": ("doubled(n)", "0"),
@@ -85,12 +94,12 @@ class Small:
         with open(path, "w", encoding="utf-8") as it:
             it.write(text)
 
-    def crate(self):
-        return wrong_bodies.Crate(self.folder.name, "small")
+    def crate(self, unasked=None):
+        return wrong_bodies.Crate(self.folder.name, "small", unasked)
 
-    def trial(self):
+    def trial(self, unasked=None):
         checker = mutants.Checker(self.folder.name, wrong_bodies.crates_of(self.folder.name))
-        return mutants.Trial(self.crate(), checker, {})
+        return mutants.Trial(self.crate(unasked), checker, {})
 
     def judged(self, said, by_hand=()):
         crate = self.crate()
@@ -121,6 +130,32 @@ def what_the_prover_says():
     expect(found, "small/same-sum", False, "small::fourfold is NOT REFUSED")
     expect(found, "small/does-not-compile", False, "did not reach the prover")
     same("what is told of", len(found), 6)
+
+
+def goals_that_go_unasked():
+    trial = Small("neither", "one-of-two").trial({
+        "small/neither": ["returns-clause-other", "gone"], "small/one-of-two": ["returns-clause-other"],
+    })
+    found = tried(trial)
+    said = "small::twice: not proved: `search` did not prove `returns-clause-one`"
+    same("what is said of one that has another goal open", found["small/neither"], (True, said))
+    expect(found, "small/one-of-two", True, "returns-clause-other")
+    same("checks", [names for _, names in trial.crate.checks], [["neither"], ["one-of-two"], ["one-of-two"]])
+
+
+def goals_that_need_not_be_asked():
+    trial = Small("neither").trial()
+    note = "note: src/lib.rt:46:1: it is not proved that what the function ensures holds when it returns (`{}`){}\n"
+    false = "; the facts known there allow values at which this goal is false"
+    said = note.format("returns-clause-one", "") + note.format("returns-clause-other", false)
+    said += "fn small::twice: not proved\n"
+    group = trial.crate.edits
+    trial.take(group, 1, mutants.Said(trial.crate, group, said, {"small::twice"}))
+    same("what needs not be asked", trial.spared, {group[0]: ["returns-clause-one"]})
+    file = os.path.join(trial.checker.top, "unasked.txt")
+    wrong_bodies.write(file, "# Told.\n\nother/one: a, b\nsmall/gone: c\n")
+    mutants.note_unasked(file, [trial])
+    same("what is written", wrong_bodies.read(file), "# Told.\n\nother/one: a, b\nsmall/neither: returns-clause-one\n")
 
 
 class Told:
@@ -185,11 +220,12 @@ def what_is_not_changed_is_taken_at_its_word():
     crate.furnish(room, crate.edits)
     lines = [it.strip() for it in crate.texts(crate.edits)["src/lib.rt"].split("\n")]
     same("bodies", [it for it in lines if it in ("u16::from(n)", "4", wrong_bodies.STAND_IN)],
-         ["{ loop {} }", "u16::from(n)", "{ loop {} }", "4", "{ loop {} }"])
+         ["{ loop {} }", "u16::from(n)", "{ loop {} }", "4", "{ loop {} }", "{ loop {} }"])
     files = {os.path.relpath(os.path.join(at, it), room) for at, _, names in os.walk(room) for it in names}
     same("files", files, {
         "src/lib.rt", "proofs/Pair/first/Proof.antt", "proofs/doubled/Answers.antt", "proofs/fourfold/Proof.antt",
         "proofs/fourfold/Words.antt", "proofs/silent/Proof.antt", "proofs/four/Proof.antt", "proofs/trebled/Proof.antt",
+        "proofs/twice/Proof.antt",
     })
     with open(os.path.join(room, "proofs/Pair/first/Proof.antt"), encoding="utf-8") as it:
         same("a hole", it.read(), "use Rattle.small.proofs.Pair.first.Statement.{statement}\n\n"
@@ -334,5 +370,7 @@ if __name__ == "__main__":
         a_body_keeps_its_shape,
         a_stored_proof_that_no_longer_fits,
         a_body_that_waits_for_its_callee_is_tried_again,
+        goals_that_need_not_be_asked,
         what_the_prover_says,
+        goals_that_go_unasked,
     ])
