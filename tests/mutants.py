@@ -17,7 +17,7 @@ refused though nothing is wrong with it fails too.
     tests/mutants.py --all-goals ..     asks every goal, and writes tests/mutants-unasked.txt anew for these crates
 
 Where a wrong body leaves several goals open, one is enough to refuse it, and each takes seconds. So those of which
-tests/mutants-unasked.txt tells are left as holes. Where no other goal is open, the body is tried again with all of them.
+tests/mutants-unasked.txt tells are left as holes; where no other one is open, the body is tried again with them.
 
 What a check said stands in build/mutants/ after it.
 """
@@ -95,7 +95,7 @@ class Said:
     UNPROVED = re.compile(r"(?s).*?did not prove (.*?)(?:; it calls.*|\Z)")
     OPEN = re.compile(r"(?m)^note: (src/\S+?):(\d+):\d+: it is not proved that .*?\(`([^`]+)`\)(.*)$")
     WAITS = re.compile(r"(?m)^note: `search` has not tried the goals of `([^`]+)`, which wait for a callee's proof")
-    ANTT = re.compile(r"(?m)^(?:\./)?((?:specs|proofs)/[^\s:]+):\d+:\d+: (?:error|`[^`]+` is not admitted: (?!has-holes))")
+    ANTT = re.compile(r"(?m)^(?:\./)?((?:specs|proofs)/[^\s:]+):\d+:\d+: (?:error|`\S+` is not admitted: (?!has-h))")
     FRONT = re.compile(r"(?m)^(?:\./)?(src/[^\s:]+):(\d+):\d+: error\S* (.*)$")
 
     def __init__(self, crate, group, said, brief=()):
@@ -144,8 +144,10 @@ class Said:
         return sorted({it for it in self.ANTT.findall(self.text) if not it.startswith(own)})
 
     def silent(self, edit):
-        """Whether a function of an edit was told of in brief, and nothing of it is open."""
-        return any(path in self.brief and not self.refusals(path) for path in edit.paths())
+        """Whether what was said in brief of an edit doesn't show that it is refused, so that it is to be asked again."""
+        brief = [path for path in edit.paths() if path in self.brief]
+        shown = lambda it: self.refusals(it) and (not edit.unasked or self.by_contract(it, edit.keeps_shape(it)))
+        return not all(map(shown, brief))
 
     def goals(self, path):
         """The open goals of a function but those of invariants, and whether values are known at which each is false."""
@@ -174,7 +176,7 @@ class Said:
     def to_spare(self, edit):
         """The open goals of an edit's function that need not be asked, since another one shows that it is refused."""
         [path, *more] = edit.paths()
-        telling = [] if more else self.telling(path, edit.keeps_shape(path))
+        telling = [] if more or path not in self.lines else self.telling(path, edit.keeps_shape(path))
         stored = self.crate.answered(path) or set()
         return [it for it in self.open.get(path, {}) if it not in stored and it != telling[0]] if telling else []
 
@@ -263,7 +265,7 @@ class Trial:
             return
         # Where a callee in the same check is refused too, some goals are not tried: such bodies have another.
         waiting = [it for it in group if len(group) > 1 and {*it.paths()} & said.waiting]
-        # Where nothing is open, it is told in full why: the body is proved, or refused in another way.
+        # Where nothing is open, it is asked in full: the body is proved, or refused in another way.
         silent = [it for it in group if it not in waiting and said.silent(it)]
         self.full.update(silent)
         again = [*waiting, *silent]
@@ -343,7 +345,7 @@ def main(words):
         return finished(len(known) - len(unfit), failed + len(unfit))
     checker = Checker(TOP, uses)
     trials = [Trial(it, checker, by_hand) for it in sorted(crates, key=Crate.weight, reverse=True)]
-    for trial in tried(list(trials), processors()):
+    for trial in tried(trials, processors()):
         tell(trial)
         passed += sum(well for well, _, _ in trial.found)
         failed += sum(not well for well, _, _ in trial.found)

@@ -218,9 +218,10 @@ def what_is_not_changed_is_taken_at_its_word():
     small.write("crates/small/proofs/doubled/Answers.antt", "pub returns : goal.returns\n")
     crate, room = small.crate(), os.path.join(small.folder.name, "room")
     crate.furnish(room, crate.edits)
-    lines = [it.strip() for it in crate.texts(crate.edits)["src/lib.rt"].split("\n")]
-    same("bodies", [it for it in lines if it in ("u16::from(n)", "4", wrong_bodies.STAND_IN)],
-         ["{ loop {} }", "u16::from(n)", "{ loop {} }", "4", "{ loop {} }", "{ loop {} }"])
+    text = crate.texts(crate.edits)["src/lib.rt"]
+    same("bodies", [it.strip() for it in text.split("\n") if it.strip() in ("u16::from(n)", "4", "{ loop {}")],
+         ["{ loop {}", "u16::from(n)", "{ loop {}", "4", "{ loop {}", "{ loop {}"])
+    same("lines", text.count("\n"), SOURCE.count("\n"))
     files = {os.path.relpath(os.path.join(at, it), room) for at, _, names in os.walk(room) for it in names}
     same("files", files, {
         "src/lib.rt", "proofs/Pair/first/Proof.antt", "proofs/doubled/Answers.antt", "proofs/fourfold/Proof.antt",
@@ -245,7 +246,7 @@ def a_refused_lemma_is_told_of():
     small = Small("added-once")
     for line, told in (
         ("./proofs/fourfold/Proof.antt:3:5: `fourfold_spec` is not admitted: has-holes\n", False),
-        (f"./proofs/doubled/Answers.antt:2:1: error: `{wrong_bodies.UNREAD}`: `NoLinesWanted` is not in scope\n", False),
+        (f"./proofs/doubled/Answers.antt:2:1: error: `{wrong_bodies.UNREAD}`: it is not in scope\n", False),
         ("./proofs/Sums.antt:2:1: error: `twice` is not in scope\n", True),
         ("./proofs/Sums.antt:2:1: `sums` is not admitted: has-errors\n", True),
     ):

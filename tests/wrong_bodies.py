@@ -8,8 +8,6 @@ from functions import Sources, blanked, functions, shape
 
 # What stands before the word `fn` of a function: attributes, and who may call it.
 ATTRIBUTES = re.compile(r"(?:#\[(?:[^][]|\[[^][]*\])*\]\s*)*(?:pub(?:\([^)]*\))?\s+)?(?:(?:const|unsafe)\s+)*\Z")
-# The body of a function that is taken at its word: it fits any contract's types, calls nothing, and never returns.
-STAND_IN = "{ loop {} }"
 # The files of a function's proof, and the proof that is taken at its word.
 PROOF_FILES = ("Proof.antt", "Answers.antt", "Invariants.antt")
 HOLE = """use Rattle.{crate}.proofs.{module}.Statement.{{statement}}
@@ -108,6 +106,11 @@ def head(text, function):
     return found.start(), found[0]
 
 
+def stand_in(body):
+    """A body for a function that is taken at its word: it has any type, calls nothing, and has as many lines."""
+    return "{ loop {}" + "\n" * body.count("\n") + " }"
+
+
 def joined(groups, edits):
     """Groups of edits with more of them, each in the first group whose edits it may share a check with."""
     for edit in edits:
@@ -175,8 +178,9 @@ class Crate:
         made = {}
         for file, text in self.sources.texts.items():
             for it in sorted(self.sources.found[file], key=lambda it: it.body, reverse=True):
+                body = text[slice(*it.body)]
                 # (a constant's value may be what a `const fn` answers)
-                own = text[slice(*it.body)] if "const" in head(text, it)[1].split() else STAND_IN
+                own = body if "const" in head(text, it)[1].split() else stand_in(body)
                 text = text[: it.body[0]] + bodies.get((file, it.body), own) + text[it.body[1] :]
             made[file] = text
         return made
