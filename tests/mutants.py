@@ -34,7 +34,7 @@ from wrong_bodies import UNREAD, Crate, below, crates_of, head, joined, read, wr
 
 TOP = os.path.dirname(os.path.dirname(os.path.realpath(__file__)))
 # What a check takes at most of memory, in bytes.
-NEED = 2_000_000_000
+NEED = 2_500_000_000
 BY_HAND = os.path.join(TOP, "tests", "mutants-by-hand.txt")
 UNASKED = os.path.join(TOP, "tests", "mutants-unasked.txt")
 
@@ -144,7 +144,7 @@ class Said:
         return sorted({it for it in self.ANTT.findall(self.text) if not it.startswith(own)})
 
     def silent(self, edit):
-        """Whether what was said in brief of an edit doesn't show that it is refused, so that it is to be asked again."""
+        """Whether what was said in brief of an edit doesn't show that it is refused, so that it is asked again."""
         brief = [path for path in edit.paths() if path in self.brief]
         shown = lambda it: self.refusals(it) and (not edit.unasked or self.by_contract(it, edit.keeps_shape(it)))
         return not all(map(shown, brief))
