@@ -125,7 +125,7 @@ impl<'a> GapBuffer<'a> {
             (row_events margin.now dedent self.old.1
             (rows_of (slice_range self.old.0.text self.old.1 upto))) cl.old cl.new self.old.0.text
             self.new.0.text) }
-        ensures left { OnErr result (LeftAmong (row_events margin.now dedent self.old.1
+        ensures carried { OnErr result (LeftAmong (row_events margin.now dedent self.old.1
             (rows_of (slice_range self.old.0.text self.old.1 upto))) self.old.0 self.new.0) }
         ensures settings { SameSettings self.old.0 self.new.0 }
     {
@@ -179,7 +179,7 @@ impl LineBuffer {
             (row_events margin.now dedent rows.start
             (rows_of (slice_range self.old.text rows.start rows.end))) cl.old cl.new self.old.text
             self.new.text) }
-        ensures left { OnErr result (LeftAmong (row_events margin.now dedent rows.start
+        ensures carried { OnErr result (LeftAmong (row_events margin.now dedent rows.start
             (rows_of (slice_range self.old.text rows.start rows.end))) self.old self.new) }
         ensures settings { SameSettings self.old self.new }
     {
@@ -254,7 +254,7 @@ impl LineBuffer {
         ensures stopped { OnErr result (StopsAmong C.takes C.refuses []
             (indent_events movement.now amount dedent self.old) cl.old cl.new self.old.text
             self.new.text) }
-        ensures left { OnErr result (LeftAmong (indent_events movement.now amount dedent self.old)
+        ensures carried { OnErr result (LeftAmong (indent_events movement.now amount dedent self.old)
             self.old self.new) }
         ensures settings { SameSettings self.old self.new }
     {

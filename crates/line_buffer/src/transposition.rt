@@ -174,7 +174,7 @@ impl LineBuffer {
               second_end = second.end;
             }) self.old.text) cl.old cl.new self.old.text
             self.new.text) }
-        ensures left { OnErr result (LeftAmong
+        ensures carried { OnErr result (LeftAmong
             (swap_events (record {
               first_start = first.start;
               first_end = first.end;
@@ -209,7 +209,7 @@ impl LineBuffer {
         ensures line { OnOk result (self.new ≡ transpose_words_line n self.old) }
         ensures stopped { OnErr result (StopsAmong C.takes C.refuses []
             (transpose_words_events n self.old) cl.old cl.new self.old.text self.new.text) }
-        ensures left { OnErr result (LeftAmong (transpose_words_events n self.old)
+        ensures carried { OnErr result (LeftAmong (transpose_words_events n self.old)
             (after_words 1 (first_word n self.old)) self.new) }
         ensures settings { SameSettings self.old self.new }
     {

@@ -9,8 +9,8 @@ pub returns-in_err-changed-clause-stopped : goal.returns-in_err-changed-clause-s
 returns-in_err-changed-clause-stopped g c =
     row_stops _ _ _ _ _ _ _ _ _ _ _ c.rows.invariant _ c.row_end_before-end.ensures.value _ _ _ c.in_err-changed.ensures.refused (ap (λ v. v.0) c.in_err-changed.ensures.kept)
 
-pub returns-in_err-changed-clause-left : goal.returns-in_err-changed-clause-left
-returns-in_err-changed-clause-left g c =
+pub returns-in_err-changed-clause-carried : goal.returns-in_err-changed-clause-carried
+returns-in_err-changed-clause-carried g c =
     row_left _ g.C.DeleteListener.refuses _ _ _ _ _ _ _ _ _ c.rows.invariant _ c.row_end_before-end.ensures.value _ _ (ap (λ v. v.0) c.in_err-changed.ensures.kept)
 
 pub returns-then-is_last-clause-told : goal.returns-then-is_last-clause-told

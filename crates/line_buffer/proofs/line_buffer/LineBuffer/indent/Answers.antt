@@ -18,12 +18,12 @@ returns-in_err-change_rows-clause-stopped g c =
     c.args.cl.now c.change_rows.new.cl c.args.self.now.text c.change_rows.new.self.text = search rules in
     on_refusal _ stopped
 
-pub returns-in_err-margin-clause-left : goal.returns-in_err-margin-clause-left
-returns-in_err-margin-clause-left g c =
+pub returns-in_err-margin-clause-carried : goal.returns-in_err-margin-clause-carried
+returns-in_err-margin-clause-carried g c =
     let some = indent_events-some c.args.movement.now c.args.amount c.args.dedent c.args.self.now in
     on_refusal _ (left_as_it_was _ some.never some.first _ _ some.events refl)
 
-pub returns-in_err-change_rows-clause-left : goal.returns-in_err-change_rows-clause-left
-returns-in_err-change_rows-clause-left g c =
+pub returns-in_err-change_rows-clause-carried : goal.returns-in_err-change_rows-clause-carried
+returns-in_err-change_rows-clause-carried g c =
     let left : LeftAmong (indent_events c.args.movement.now c.args.amount c.args.dedent c.args.self.now) c.args.self.now c.change_rows.new.self = search rules in
     on_refusal _ left

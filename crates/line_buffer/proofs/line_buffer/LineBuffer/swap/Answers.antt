@@ -47,17 +47,17 @@ returns-in_err-replace-2-clause-stopped g c =
     ∙ ap (λ x. replacement c.args.first.start c.args.first.end (slice_range c.args.self.now.text c.args.second.start c.args.second.end) x)
     (ap (λ l. l.text) c.in_ok-replace.ensures.line ∙ ap (replace_range c.args.self.now.text c.args.second.start c.args.second.end) (c.as_str.ensures.value ∙ c.in_ok-earlier.ensures))) c.in_err-replace-2.ensures.refused) (ap (λ l. l.text) c.in_err-replace-2.ensures.kept)))
 
-pub returns-in_err-earlier-clause-left : goal.returns-in_err-earlier-clause-left
-returns-in_err-earlier-clause-left g c = on_refusal _ (left_as_it_was _ _ _ _ _ refl refl)
+pub returns-in_err-earlier-clause-carried : goal.returns-in_err-earlier-clause-carried
+returns-in_err-earlier-clause-carried g c = on_refusal _ (left_as_it_was _ _ _ _ _ refl refl)
 
-pub returns-in_err-later-clause-left : goal.returns-in_err-later-clause-left
-returns-in_err-later-clause-left g c = on_refusal _ (left_as_it_was _ _ _ _ _ refl refl)
+pub returns-in_err-later-clause-carried : goal.returns-in_err-later-clause-carried
+returns-in_err-later-clause-carried g c = on_refusal _ (left_as_it_was _ _ _ _ _ refl refl)
 
-pub returns-in_err-replace-clause-left : goal.returns-in_err-replace-clause-left
-returns-in_err-replace-clause-left g c = on_refusal _ (left_as_it_was _ _ _ _ _ refl c.in_err-replace.ensures.kept)
+pub returns-in_err-replace-clause-carried : goal.returns-in_err-replace-clause-carried
+returns-in_err-replace-clause-carried g c = on_refusal _ (left_as_it_was _ _ _ _ _ refl c.in_err-replace.ensures.kept)
 
-pub returns-in_err-replace-2-clause-left : goal.returns-in_err-replace-2-clause-left
-returns-in_err-replace-2-clause-left g c =
+pub returns-in_err-replace-2-clause-carried : goal.returns-in_err-replace-2-clause-carried
+returns-in_err-replace-2-clause-carried g c =
     let l = c.args.self.now in
     on_refusal _ (left_after_one _ _ _ _ _ _ refl
     (c.in_err-replace-2.ensures.kept ∙ c.in_ok-replace.ensures.line ∙ ap (λ x. replaced c.args.second.start c.args.second.end x l) (c.as_str.ensures.value ∙ c.in_ok-earlier.ensures)

@@ -11,7 +11,7 @@ returns-in_err-swap-clause-stopped g c =
     c.args.cl.now c.swap.new.cl c.args.self.now.text c.swap.new.self.text = search rules in
     on_refusal _ stopped
 
-pub returns-in_err-swap-clause-left : goal.returns-in_err-swap-clause-left
-returns-in_err-swap-clause-left g c =
+pub returns-in_err-swap-clause-carried : goal.returns-in_err-swap-clause-carried
+returns-in_err-swap-clause-carried g c =
     let left : LeftAmong (transpose_words_events c.args.n c.args.self.now) (after_words 1 (first_word c.args.n c.args.self.now)) c.swap.new.self = search rules in
     on_refusal _ left

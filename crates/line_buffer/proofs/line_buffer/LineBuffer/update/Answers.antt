@@ -30,10 +30,10 @@ returns-in_err-insert_str-clause-stopped g c =
     (stops_at_once _ _ _ _ _ _ _ _ _ refl tt (refused_as g.C.DeleteListener.refuses (ap (insertion 0) c.kept-kept.ensures.value) c.in_err-insert_str.ensures.refused)
     (ap (λ l. l.text) c.in_err-insert_str.ensures.kept)))
 
-pub returns-in_err-delete_all-clause-left : goal.returns-in_err-delete_all-clause-left
-returns-in_err-delete_all-clause-left g c = on_refusal _ (left_as_it_was _ _ _ _ _ refl c.in_err-delete_all.ensures.kept)
+pub returns-in_err-delete_all-clause-carried : goal.returns-in_err-delete_all-clause-carried
+returns-in_err-delete_all-clause-carried g c = on_refusal _ (left_as_it_was _ _ _ _ _ refl c.in_err-delete_all.ensures.kept)
 
-pub returns-in_err-insert_str-clause-left : goal.returns-in_err-insert_str-clause-left
-returns-in_err-insert_str-clause-left g c =
+pub returns-in_err-insert_str-clause-carried : goal.returns-in_err-insert_str-clause-carried
+returns-in_err-insert_str-clause-carried g c =
     on_refusal _ (left_after_one _ _ _ _ _ _ refl
     (c.in_err-insert_str.ensures.kept ∙ c.in_ok-delete_all.ensures.line ∙ sym (carried_deletion_of_all c.args.self.now c.pos-place.ensures.boundary.0)))

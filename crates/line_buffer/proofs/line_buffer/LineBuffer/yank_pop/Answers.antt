@@ -14,11 +14,11 @@ returns-in_err-answer-clause-stopped g c =
     on_refusal _ (stops_later (reports_one _ _ _ _ _ _ c.in_ok-delete_before.ensures.told (rw c.in_ok-delete_before.ensures.line at c.in_ok-delete_before.ensures.replays))
     (rw c.in_ok-delete_before.ensures.line at c.in_err-answer.ensures.stopped))
 
-pub returns-in_err-delete_before-clause-left : goal.returns-in_err-delete_before-clause-left
-returns-in_err-delete_before-clause-left g c = on_refusal _ (left_as_it_was _ _ _ _ _ refl c.in_err-delete_before.ensures.kept)
+pub returns-in_err-delete_before-clause-carried : goal.returns-in_err-delete_before-clause-carried
+returns-in_err-delete_before-clause-carried g c = on_refusal _ (left_as_it_was _ _ _ _ _ refl c.in_err-delete_before.ensures.kept)
 
-pub returns-in_err-answer-clause-left : goal.returns-in_err-answer-clause-left
-returns-in_err-answer-clause-left g c =
+pub returns-in_err-answer-clause-carried : goal.returns-in_err-answer-clause-carried
+returns-in_err-answer-clause-carried g c =
     let l = c.args.self.now in
     let some = some_event (rw c.in_ok-delete_before.ensures.line at c.in_err-answer.ensures.stopped) in
     on_refusal _ (left_after_one _ some.1 _ some.0 _ _ (ap (λ es. deletion (l.place - c.args.yank_size) l.place Forward l.text ∷ es) some.2)
