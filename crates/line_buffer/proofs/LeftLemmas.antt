@@ -1,5 +1,5 @@
 -- What a refused call leaves of a line: what the first of its events made of it.
-use Rattle.std.proofs.Common.{◌≡◌, ℕ, ◌+◌, ◌-◌, ◌≤◌, List, [], ◌∷◌, ◌++◌, length, refl, ap, ◌∙◌, arith}
+use Rattle.std.proofs.Common.{◌≡◌, ℕ, ◌+◌, ◌-◌, ◌≤◌, List, [], ◌∷◌, ◌++◌, length, ap, ◌∙◌, arith}
 use Rattle.std.specs.Prelude.{min, slice_range}
 use Rattle.std.specs.List.{replace_range}
 use Rattle.std.proofs.lemmas.List.{drop_all}
