@@ -254,8 +254,8 @@ impl LineBuffer {
         ensures stopped { OnErr result (StopsAmong C.takes C.refuses []
             (indent_events movement.now amount dedent self.old) cl.old cl.new self.old.text
             self.new.text) }
-        ensures carried { OnErr result (LeftAmong (indent_events movement.now amount dedent self.old)
-            self.old self.new) }
+        ensures carried { OnErr result (LeftAmong (indent_events movement.now amount dedent
+            self.old) self.old self.new) }
         ensures settings { SameSettings self.old self.new }
     {
         let (from, upto) = self.rows_covered(movement);

@@ -125,7 +125,8 @@ impl LineBuffer {
         ensures line { OnOk result (self.new ≡ update_line text.now pos self.old) }
         ensures stopped { OnErr result (StopsAmong C.takes C.refuses []
             (update_events text.now self.old) cl.old cl.new self.old.text self.new.text) }
-        ensures carried { OnErr result (LeftAmong (update_events text.now self.old) self.old self.new) }
+        ensures carried { OnErr result (LeftAmong (update_events text.now self.old) self.old
+            self.new) }
         ensures settings { SameSettings self.old self.new }
     {
         // Its contract says that it stands between characters.
