@@ -11,6 +11,7 @@ pub mod IndentLaws
 pub mod IndentLemmas
 pub mod InsertionLemmas
 pub mod JoinLemmas
+pub mod LeftLemmas
 pub mod LetterCaseLemmas
 mod MotionRows
 pub mod NewlineLemmas

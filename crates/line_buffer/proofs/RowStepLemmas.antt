@@ -10,11 +10,11 @@ use Rattle.line_buffer.specs.Event.{Event}
 use Rattle.line_buffer.specs.Indent.{rows_covered, spaces, indent_events, rows_of, row_event, row_len, row_events}
 use Rattle.line_buffer.specs.Line.{Line}
 use Rattle.line_buffer.specs.Replay.{Replays, Reports, TellsOfChange, StopsAmong}
-use Rattle.line_buffer.specs.Replayed.{carried_line, carried_all}
+use Rattle.line_buffer.specs.Replayed.{carried_line, carried_all, LeftAmong}
 use Rattle.line_buffer.specs.Rows.{is_in_row, row_start, row_end}
 use Rattle.line_buffer.specs.Settings.{SameSettings}
 use Rattle.line_buffer.proofs.IndentLemmas.{rows_last, rows_more}
-use Rattle.line_buffer.proofs.ReplayLemmas.{reports_one, reports_then, reports_nothing, stops_later, stops_at_once}
+use Rattle.line_buffer.proofs.ReplayLemmas.{on_refusal, reports_one, reports_then, reports_nothing, stops_later, stops_at_once}
 use Rattle.line_buffer.proofs.RowLemmas.{prefix_len-stops}
 
 carried_all-append : (es fs : List Event) (l : Line) → carried_all (es ++ fs) l ≡ carried_all fs (carried_all es l)
@@ -131,6 +131,13 @@ module _ {S : Type 0} (takes refuses : S → Event → S → Type 0) (margin : L
         | Err x ↦ subst (λ es. StopsAmong takes refuses [] es s u l.text n.text) (sym w.split)
             (stops_later w.reported (stops_at_once takes refuses _ first.0 (row_event margin dedent at row) t u m.text n.text here (row_event_tells margin dedent at row) h (ap (λ l. l.text) same)))
       ]
+
+  -- and the line is what those before it made
+  pub row_left : {T E : Type 0} (r : Result T E) (n : Line) → n ≡ m → OnErr r (LeftAmong all l n)
+  row_left r n same =
+      let first = row_events-some margin dedent at rows in
+      let here : row_events margin dedent at (rows_of rows) ≡ row_event margin dedent at row ∷ first.0 = first.1 ∙ ap (λ x. row_event margin dedent at x ∷ first.0) row_is in
+      on_refusal r (record { made = w.done; next = row_event margin dedent at row; others = first.0; split = w.split ∙ ap (λ es. w.done ++ es) here; line = same ∙ w.line })
 
   module _ (u : S) (n : Line) (changed : ℕ) (told : takes t (row_event margin dedent at row) u) (replays : Replays (row_event margin dedent at row) m.text n.text)
       (line : n ≡ carried_line (row_event margin dedent at row) m) (answer : changed ≡ at + row_len margin dedent row) where

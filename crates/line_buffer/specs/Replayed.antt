@@ -1,5 +1,5 @@
 -- Events as functions of a text, and of a cursor that keeps its place in the text.
-use Rattle.std.specs.Prelude.{ℕ, ◌+◌, ◌-◌, min, nat_le, if◌then◌else◌, List, [], ◌∷◌, length, encode_utf8}
+use Rattle.std.specs.Prelude.{◌≡◌, ℕ, ◌+◌, ◌-◌, min, nat_le, if◌then◌else◌, List, [], ◌∷◌, ◌++◌, length, encode_utf8}
 use Rattle.std.specs.List.{replace_range}
 use Rattle.line_buffer.specs.Event.{Event}
 use Rattle.line_buffer.specs.Event.Event.{StartKilling, StopKilling, Delete, InsertChar, InsertStr, Replace}
@@ -18,10 +18,11 @@ unfoldable pub replayed_all : List Event → List ℕ → List ℕ
 replayed_all [] text = text
 replayed_all (e ∷ es) text = replayed_all es (replayed e text)
 
--- the cursor stays before the text that follows on it
+-- the cursor stays before the text that follows on it; an exchange leaves it after what came in
 abbrev pub carried : Event → ℕ → ℕ
 carried (Delete at removed direction) place = place - min (length removed) (place - at)
 carried (InsertStr at added) place = if nat_le at place then place + length added else place
+carried (Replace at removed added) place = at + length added
 carried e place = place
 
 abbrev pub carried_line : Event → Line → Line
@@ -30,3 +31,11 @@ carried_line e l = record l { text = replayed e l.text; place = carried e l.plac
 unfoldable pub carried_all : List Event → Line → Line
 carried_all [] l = l
 carried_all (e ∷ es) l = carried_all es (carried_line e l)
+
+-- a line as the first of these events leave it, of which one at least was not made
+pub record LeftAmong (events : List Event) (before after : Line) : Type 0 where
+  pub made : List Event
+  pub next : Event
+  pub others : List Event
+  pub split : events ≡ made ++ next ∷ others
+  pub line : after ≡ carried_all made before

@@ -33,7 +33,7 @@ impl<'a> GapBuffer<'a> {
     ghost use Rattle.line_buffer.specs.Replay.{Replays, Reports, StopsAmong};
     ghost use Rattle.std.specs.List.{prefix_len};
     ghost use Rattle.line_buffer.specs.Rows.{is_in_row};
-    ghost use Rattle.line_buffer.specs.Replayed.{carried_line, carried_all};
+    ghost use Rattle.line_buffer.specs.Replayed.{carried_line, carried_all, LeftAmong};
 
     /// Gives the row between the gap and a place its margin, or takes one away, and answers where
     /// the row ends then.
@@ -125,6 +125,8 @@ impl<'a> GapBuffer<'a> {
             (row_events margin.now dedent self.old.1
             (rows_of (slice_range self.old.0.text self.old.1 upto))) cl.old cl.new self.old.0.text
             self.new.0.text) }
+        ensures carried { OnErr result (LeftAmong (row_events margin.now dedent self.old.1
+            (rows_of (slice_range self.old.0.text self.old.1 upto))) self.old.0 self.new.0) }
         ensures settings { SameSettings self.old.0 self.new.0 }
     {
         // Its contract says that it stands between characters.
@@ -153,7 +155,7 @@ impl LineBuffer {
     ghost use Rattle.line_buffer.specs.Settings.{SameSettings};
     ghost use Rattle.line_buffer.specs.Replay.{Reports, StopsAmong};
     ghost use Rattle.line_buffer.specs.Rows.{row_start, row_end};
-    ghost use Rattle.line_buffer.specs.Replayed.{carried_all};
+    ghost use Rattle.line_buffer.specs.Replayed.{carried_all, LeftAmong};
 
     /// Gives each row between two places its margin, or takes one away, the first row first.
     fn change_rows<C: ChangeListener>(
@@ -177,6 +179,8 @@ impl LineBuffer {
             (row_events margin.now dedent rows.start
             (rows_of (slice_range self.old.text rows.start rows.end))) cl.old cl.new self.old.text
             self.new.text) }
+        ensures carried { OnErr result (LeftAmong (row_events margin.now dedent rows.start
+            (rows_of (slice_range self.old.text rows.start rows.end))) self.old self.new) }
         ensures settings { SameSettings self.old self.new }
     {
         let mut changed = GapBuffer::new(alloc, self)?;
@@ -250,6 +254,8 @@ impl LineBuffer {
         ensures stopped { OnErr result (StopsAmong C.takes C.refuses []
             (indent_events movement.now amount dedent self.old) cl.old cl.new self.old.text
             self.new.text) }
+        ensures carried { OnErr result (LeftAmong (indent_events movement.now amount dedent
+            self.old) self.old self.new) }
         ensures settings { SameSettings self.old self.new }
     {
         let (from, upto) = self.rows_covered(movement);

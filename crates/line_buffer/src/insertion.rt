@@ -30,6 +30,7 @@ impl LineBuffer {
     ghost use Rattle.line_buffer.specs.Insertions.{has_room, kept_text, update_events, update_line, put_at_cursor, insertion_by, insertion_of, can_take_before, without_before, insert, yank, yank_pop};
     ghost use Rattle.line_buffer.specs.Settings.{SameSettings};
     ghost use Rattle.line_buffer.specs.Replay.{Replays, Reports, StopsAmong, deletion, insertion};
+    ghost use Rattle.line_buffer.specs.Replayed.{LeftAmong};
 
     /// So many bytes more may be put in by the calls that look at the limit.
     fn has_room(&self, count: usize) -> bool
@@ -124,8 +125,12 @@ impl LineBuffer {
         ensures line { OnOk result (self.new ≡ update_line text.now pos self.old) }
         ensures stopped { OnErr result (StopsAmong C.takes C.refuses []
             (update_events text.now self.old) cl.old cl.new self.old.text self.new.text) }
+        ensures carried { OnErr result (LeftAmong (update_events text.now self.old) self.old
+            self.new) }
         ensures settings { SameSettings self.old self.new }
     {
+        // Its contract says that it stands between characters.
+        let _place = self.pos();
         let kept = self.kept(text);
         self.delete_all(alloc, cl)?;
         self.insert_str(alloc, 0, kept, cl)?;
@@ -317,8 +322,12 @@ impl LineBuffer {
         ensures stopped { OnErr result (StopsAmong C.takes C.refuses []
             (yank_pop yank_size text.now self.old).events cl.old cl.new
             self.old.text self.new.text) }
+        ensures carried { OnErr result (LeftAmong (yank_pop yank_size text.now self.old).events
+            self.old self.new) }
         ensures settings { SameSettings self.old self.new }
     {
+        // Its contract says that it stands between characters.
+        let _place = self.pos();
         self.delete_before(alloc, yank_size, cl)?;
         let answer = self.yank(alloc, text, 1, cl)?;
         Ok(answer)

@@ -43,7 +43,8 @@ impl LineBuffer {
     ghost use Rattle.std.specs.Prelude.{◌≡◌, ◌≤◌, nat_lt, [], length, IfOk, OnOk, OnErr, IsCharBoundary};
     ghost use Rattle.line_buffer.specs.Settings.{SameSettings};
     ghost use Rattle.line_buffer.specs.Replay.{Reports, StopsAmong};
-    ghost use Rattle.line_buffer.specs.Transpositions.{clusters_around, between_clusters, clusters_at, transposes_chars, transpose_chars_events, transpose_chars_line, after_words, before_words, words_around, swap_events, swap_line, transposes_words, transpose_words_events, transpose_words_line};
+    ghost use Rattle.line_buffer.specs.Replayed.{LeftAmong};
+    ghost use Rattle.line_buffer.specs.Transpositions.{clusters_around, between_clusters, clusters_at, transposes_chars, transpose_chars_events, transpose_chars_line, after_words, before_words, first_word, words_around, swap_events, swap_line, transposes_words, transpose_words_events, transpose_words_line};
 
     /// The clusters before the cursor and those after it are two at least.
     fn has_two_clusters(&self) -> bool
@@ -173,6 +174,13 @@ impl LineBuffer {
               second_end = second.end;
             }) self.old.text) cl.old cl.new self.old.text
             self.new.text) }
+        ensures carried { OnErr result (LeftAmong
+            (swap_events (record {
+              first_start = first.start;
+              first_end = first.end;
+              second_start = second.start;
+              second_end = second.end;
+            }) self.old.text) self.old self.new) }
         ensures settings { SameSettings self.old self.new }
     {
         let earlier = self.copy_part(alloc, first.start, first.end)?;
@@ -201,6 +209,8 @@ impl LineBuffer {
         ensures line { OnOk result (self.new ≡ transpose_words_line n self.old) }
         ensures stopped { OnErr result (StopsAmong C.takes C.refuses []
             (transpose_words_events n self.old) cl.old cl.new self.old.text self.new.text) }
+        ensures carried { OnErr result (LeftAmong (transpose_words_events n self.old)
+            (after_words 1 (first_word n self.old)) self.new) }
         ensures settings { SameSettings self.old self.new }
     {
         let second_end = self.on_by_words(n);

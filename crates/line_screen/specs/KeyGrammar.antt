@@ -1,5 +1,4 @@
--- Keys and pasted texts of the characters: control sequences and their names (ECMA-48, and the
--- terminals' habits).
+-- Keys and pasted texts in order, as the characters of the input give them.
 use Rattle.std.specs.Prelude.{ℕ, ◌+◌, Bool, true, false, ◌&&◌, ◌==◌, codes, if◌then◌else◌, List, [], ◌∷◌, ◌++◌, take, Result, Ok, Err, slice_index}
 use Rattle.std.specs.Char.{encode_utf8}
 use Rattle.line_config.specs.declared.settings.EditMode.{EditMode}

@@ -1,5 +1,5 @@
 use Rattle.std.proofs.Common.{arith, ap}
-use Rattle.line_buffer.proofs.RowStepLemmas.{rows_told_init, row_stops, rows_told_all, rows_told_more}
+use Rattle.line_buffer.proofs.RowStepLemmas.{rows_told_init, row_stops, row_left, rows_told_all, rows_told_more}
 use Rattle.line_buffer.proofs.gap_buffer.GapBuffer.change_rows.Goals as goal
 
 pub rows-init : goal.rows-init
@@ -8,6 +8,10 @@ rows-init g c = rows_told_init _ _ _ _ _ _ _ c.requires.order c.gap-gap.ensures.
 pub returns-in_err-changed-clause-stopped : goal.returns-in_err-changed-clause-stopped
 returns-in_err-changed-clause-stopped g c =
     row_stops _ _ _ _ _ _ _ _ _ _ _ c.rows.invariant _ c.row_end_before-end.ensures.value _ _ _ c.in_err-changed.ensures.refused (ap (λ v. v.0) c.in_err-changed.ensures.kept)
+
+pub returns-in_err-changed-clause-carried : goal.returns-in_err-changed-clause-carried
+returns-in_err-changed-clause-carried g c =
+    row_left _ g.C.DeleteListener.refuses _ _ _ _ _ _ _ _ _ c.rows.invariant _ c.row_end_before-end.ensures.value _ _ (ap (λ v. v.0) c.in_err-changed.ensures.kept)
 
 pub returns-then-is_last-clause-told : goal.returns-then-is_last-clause-told
 returns-then-is_last-clause-told g c =

@@ -2,8 +2,10 @@ use Rattle.std.proofs.lemmas.List.Edits.{length-between}
 use Rattle.std.specs.List.{replace_range}
 use Rattle.std.proofs.Common.{length, sym, ap, subst, ◌∙◌, refl, arith}
 use Rattle.std.specs.Prelude.{IsCharBoundary, slice_range}
+use Rattle.line_buffer.specs.Line.{replaced}
 use Rattle.line_buffer.specs.Replay.{replacement}
 use Rattle.line_buffer.proofs.CutLemmas.{before_replaced}
+use Rattle.line_buffer.proofs.LeftLemmas.{left_as_it_was, left_after_one, carried_replacement}
 use Rattle.line_buffer.proofs.ReplayLemmas.{on_refusal, refused_as, stops_at_once, stops_at_once_on, stops_for_memory_on}
 use Rattle.line_buffer.proofs.TranspositionLemmas.{swap_stops, behind_both}
 use Rattle.line_buffer.proofs.line_buffer.LineBuffer.swap.Goals as goal
@@ -44,3 +46,19 @@ returns-in_err-replace-2-clause-stopped g c =
     (refused_as g.C.DeleteListener.refuses (ap (λ x. replacement c.args.first.start c.args.first.end x c.replace.new.self.text) (c.as_str-2.ensures.value ∙ c.in_ok-later.ensures)
     ∙ ap (λ x. replacement c.args.first.start c.args.first.end (slice_range c.args.self.now.text c.args.second.start c.args.second.end) x)
     (ap (λ l. l.text) c.in_ok-replace.ensures.line ∙ ap (replace_range c.args.self.now.text c.args.second.start c.args.second.end) (c.as_str.ensures.value ∙ c.in_ok-earlier.ensures))) c.in_err-replace-2.ensures.refused) (ap (λ l. l.text) c.in_err-replace-2.ensures.kept)))
+
+pub returns-in_err-earlier-clause-carried : goal.returns-in_err-earlier-clause-carried
+returns-in_err-earlier-clause-carried g c = on_refusal _ (left_as_it_was _ _ _ _ _ refl refl)
+
+pub returns-in_err-later-clause-carried : goal.returns-in_err-later-clause-carried
+returns-in_err-later-clause-carried g c = on_refusal _ (left_as_it_was _ _ _ _ _ refl refl)
+
+pub returns-in_err-replace-clause-carried : goal.returns-in_err-replace-clause-carried
+returns-in_err-replace-clause-carried g c = on_refusal _ (left_as_it_was _ _ _ _ _ refl c.in_err-replace.ensures.kept)
+
+pub returns-in_err-replace-2-clause-carried : goal.returns-in_err-replace-2-clause-carried
+returns-in_err-replace-2-clause-carried g c =
+    let l = c.args.self.now in
+    on_refusal _ (left_after_one _ _ _ _ _ _ refl
+    (c.in_err-replace-2.ensures.kept ∙ c.in_ok-replace.ensures.line ∙ ap (λ x. replaced c.args.second.start c.args.second.end x l) (c.as_str.ensures.value ∙ c.in_ok-earlier.ensures)
+    ∙ sym (carried_replacement l c.args.second.start c.args.second.end (slice_range l.text c.args.first.start c.args.first.end) c.requires.second c.requires.second_end.0)))
