@@ -1,14 +1,14 @@
 -- Two lists of bytes, the second from the text's end: bytes passed from one to the other, and a text exchanged at their seam.
-use Rattle.std.proofs.Common.{◌≡◌, ℕ, zero, suc, ◌+◌, ◌-◌, ◌<◌, ◌≤◌, List, [], ◌∷◌, ◌++◌, length, take, drop, reverse, refl, sym, ap, subst, ◌∙◌, arith, append_assoc, length-append}
+use Rattle.std.proofs.Common.{◌≡◌, ℕ, zero, suc, ◌+◌, ◌-◌, ◌≤◌, List, [], ◌∷◌, ◌++◌, length, take, drop, reverse, refl, sym, ap, subst, ◌∙◌, arith, append_assoc, length-append}
 use Rattle.std.specs.Prelude.{IsUtf8, IsCharBoundary}
-use Rattle.std.proofs.Math.Seq.{take-append_seam, drop-append_seam, drop-append-add}
-use Rattle.std.proofs.lemmas.List.{append-nil, drop_all, take_all, take_at, take-append-drop, take-take, length-drop, length-reverse, reverse-append, reverse-reverse}
+use Rattle.std.proofs.Math.Seq.{take-append_seam, drop-append_seam}
+use Rattle.std.proofs.lemmas.List.{append-nil, drop_all, take_all, take_at, take-append-drop, take-take, length-drop, length-reverse, reverse-append}
 use Rattle.std.proofs.lemmas.Str.{IsUtf8-drop, IsCharBoundary-at_seam}
 use borrow.Rule.Slice.PartMut.{post_of}
 use Rattle.line_buffer.specs.Line.{Line}
 use Rattle.line_record.specs.Edit.{Edit, StandsAt, exchanged_at}
 use Rattle.line_record.specs.Gap.{seamed, detached, taking_over}
-use Rattle.line_record.specs.Items.{Item, changes_of, taken_back_in, made_anew_in, lines_back, lines_ahead, lines_back_one, lines_ahead_one, many_back, part_back, part_ahead}
+use Rattle.line_record.specs.Items.{Item, changes_of, taken_back_in, made_anew_in, lines_back, lines_ahead, lines_ahead_one, many_back, part_back, part_ahead}
 use Rattle.line_record.proofs.Exchange.{exchanged}
 
 -- a list whose second part was turned round, as a vector sees it
@@ -46,20 +46,18 @@ moved_on xs ys to size is more inside =
     )
 
 -- a text before the seam exchanged for another
-pub record Seam (at upto : ℕ) (from to text front after : List ℕ) : Type 0 where
-  pub text_is : seamed front after ≡ exchanged_at at from to text
+pub record Seam (front after : List ℕ) : Type 0 where
   pub utf8 : IsUtf8 (seamed front after)
   pub place : IsCharBoundary (seamed front after) (length front)
 
 pub seam_exchanged : (at upto : ℕ) (from to text front after : List ℕ) → upto ≡ at + length from → front ≡ take at (take upto text) ++ to → reverse after ≡ drop upto text
-    → StandsAt at from to text → IsUtf8 text → Seam at upto from to text front after
+    → StandsAt at from to text → IsUtf8 text → Seam front after
 seam_exchanged at upto from to text front after is before behind s u =
     let first : take at (take upto text) ≡ take at text = take-take at upto text (omega (arith, is)) in
     let whole : seamed front after ≡ exchanged_at at from to text =
     ap (λ l. l ++ reverse after) (before ∙ ap (λ l. l ++ to) first) ∙ ap (λ l. (take at text ++ to) ++ l) (behind ∙ ap (λ k. drop k text) is) in
     let rest : IsUtf8 (reverse after) = subst IsUtf8 (sym (behind ∙ ap (λ k. drop k text) is)) (IsUtf8-drop text (at + length from) u s.end) in
     record {
-      text_is = whole;
       utf8 = subst IsUtf8 (sym whole) (exchanged at from to text s u).utf8;
       place = IsCharBoundary-at_seam (seamed front after) front (reverse after) refl rest;
     }

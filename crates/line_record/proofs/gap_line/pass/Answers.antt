@@ -1,4 +1,4 @@
-use Rattle.std.proofs.Common.{rules, ◌≡◌, ◌-◌, ◌++◌, length, vec_len, drop, reverse, sym, ap, ◌∙◌, arith}
+use Rattle.std.proofs.Common.{rules, ◌≡◌, ◌-◌, ◌++◌, length, vec_len, drop, ap, ◌∙◌}
 use Rattle.line_record.proofs.GapLemmas.{turned, last_part}
 use Rattle.line_record.proofs.gap_line.pass.Goals as goal
 

@@ -1,4 +1,4 @@
-use Rattle.line_record.proofs.UndoLemmas.{RedoneAs, redone_as}
+use Rattle.line_record.proofs.UndoLemmas.{redone_as}
 use Rattle.line_record.proofs.changeset.Changeset.redo.Goals as goal
 
 pub returns-in-Ok-clause-line : goal.returns-in-Ok-clause-line

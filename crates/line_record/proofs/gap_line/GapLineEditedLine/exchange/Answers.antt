@@ -21,7 +21,7 @@ invariant_of-self-2 c =
     let front : c.extend_from_slice.new.self.items ≡ take c.args.at (take c.in-Some.upto text) ++ c.args.to.now = search rules in
     let stands : StandsAt c.args.at c.args.from.now c.args.to.now text = subst (λ (l : Line). StandsAt c.args.at c.args.from.now c.args.to.now l.text) (sym c.self.view_is) c.requires in
     let long : length c.extend_from_slice.new.self.items ≡ c.len-self-inside.result = search rules in
-    let s : Seam c.args.at c.in-Some.upto c.args.from.now c.args.to.now text c.extend_from_slice.new.self.items c.move_gap.new.after.items =
+    let s : Seam c.extend_from_slice.new.self.items c.move_gap.new.after.items =
     seam_exchanged c.args.at c.in-Some.upto c.args.from.now c.args.to.now text c.extend_from_slice.new.self.items c.move_gap.new.after.items
     upto front c.in_ok-move_gap.ensures.after stands c.self.invariant.0 in
     (s.utf8, subst (IsCharBoundary (seamed c.extend_from_slice.new.self.items c.move_gap.new.after.items)) long s.place)

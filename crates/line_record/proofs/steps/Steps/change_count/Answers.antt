@@ -1,7 +1,6 @@
 use Rattle.std.proofs.Common.{rules, ◌≡◌, ◌-◌, ◌<◌, length, sym, ap, ◌∙◌, arith}
 use Rattle.std.specs.Prelude.{slice_range}
 use Rattle.std.proofs.lemmas.List.Edits.{length-between}
-use Rattle.line_record.specs.Items.{changes_of}
 use Rattle.line_record.proofs.StepsLemmas.{step_at}
 use Rattle.line_record.proofs.steps.Steps.change_count.Goals as goal
 
