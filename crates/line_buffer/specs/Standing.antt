@@ -43,3 +43,27 @@ begins_with_emoji (c ∷ d ∷ cs) =
 
 abbrev pub ends_in_joiner : List ℕ → Bool
 ends_in_joiner cs = unwrap_or (last_or None cs) 0 == 0x200D
+
+-- a letter that parts a text: what follows on it says nothing of what stands before it. Latin, Greek,
+-- Cyrillic, Hebrew, Arabic, Devanagari, Thai, Khmer, kana, Chinese and Korean
+abbrev pub is_parting_letter : ℕ → Bool
+is_parting_letter c =
+    is_in_range 0x41 0x5A c
+    || (is_in_range 0x61 0x7A c
+    || (is_in_range 0xC0 0x24F c
+    || (is_in_range 0x391 0x3C9 c
+    || (is_in_range 0x410 0x44F c
+    || (is_in_range 0x5D0 0x5EA c
+    || (is_in_range 0x620 0x64A c
+    || (is_in_range 0x671 0x6D3 c
+    || (is_in_range 0x904 0x939 c
+    || (is_in_range 0xE01 0xE30 c
+    || (is_in_range 0x1780 0x17B3 c
+    || (is_in_range 0x3041 0x3096 c
+    || (is_in_range 0x30A1 0x30FA c
+    || (is_in_range 0x4E00 0x9FFF c
+    || is_in_range 0xAC00 0xD7A3 c)))))))))))))
+
+abbrev pub begins_with_parting_letter : List ℕ → Bool
+begins_with_parting_letter [] = false
+begins_with_parting_letter (c ∷ cs) = is_parting_letter c
