@@ -1,11 +1,11 @@
 -- A letter that parts a text: what follows on it changes no columns of what stands before it.
-use Rattle.std.proofs.Common.{◌≡◌, ℕ, ◌+◌, ◌-◌, ◌==◌, ◌<◌, ◌≤◌, nat_le, ◌⊎◌, ⊎_elim, Bool, true, false, not, cond, ◌&&◌, ◌||◌, List, [], ◌∷◌, ◌++◌, Option, None, Some, refl, sym, ap, ◌∙◌, subst, arith}
+use Rattle.std.proofs.Common.{◌≡◌, ℕ, ◌+◌, ◌-◌, ◌==◌, ◌<◌, ◌≤◌, nat_le, ◌⊎◌, ⊎_elim, Bool, true, false, not, cond, ◌&&◌, ◌||◌, List, [], ◌∷◌, ◌++◌, length, Option, None, Some, refl, sym, ap, ◌∙◌, subst, arith, append_assoc}
 use Rattle.std.specs.Int.{is_in_range}
 use Rattle.std.proofs.Math.ListN.{replicate}
 use Rattle.std.specs.Prelude.{sum_by}
-use Rattle.std.specs.List.{onto_first}
+use Rattle.std.specs.List.{onto_first, list_all}
 use Rattle.std.proofs.lemmas.List.Sums.{sum_by-cons, sum_by-append}
-use Rattle.std.proofs.lemmas.Bool.{and_parts, or_cases, cases_lt}
+use Rattle.std.proofs.lemmas.Bool.{and_from, and_parts, or_cases, cases_lt}
 use Rattle.std.proofs.lemmas.Bool.Decides.{nat_tests}
 use borrow.Author.Tests.{eqb-true}
 use Rattle.ucd_table.specs.Rows.{Range, in_ranges}
@@ -34,7 +34,7 @@ use Rattle.unicode_width.proofs.KindLemmas.{kind_stepped, is_ligature_transparen
 use Rattle.unicode_width.proofs.Rules.{str_width-append_simple}
 use Rattle.line_buffer.specs.declared.layout.GraphemeClusterMode.{GraphemeClusterMode}
 use Rattle.line_buffer.specs.declared.layout.GraphemeClusterMode.TheVariants.{Unicode, WcWidth, NoZwj}
-use Rattle.line_buffer.specs.Standing.{is_parting_letter}
+use Rattle.line_buffer.specs.Standing.{is_parting_letter, is_flag_letter, ends_in_flag}
 use Rattle.line_buffer.specs.Width.{char_columns_of, unjoined, columns_of}
 use Rattle.line_buffer.proofs.SeamLemmas.{read-append, read_letters, letters_simple}
 
@@ -337,23 +337,25 @@ both_first : (c x : ℕ) (cs : List ℕ) (ts us xs ys : List (List ℕ)) → Bot
 both_first c x cs ts us xs ys (open_part p q ps qs d e) = open_part p q ps qs d e
 both_first c x cs ts us xs ys (later first more less e) = later (x ∷ first) more less e
 
-both_sum : (c : ℕ) (cs : List ℕ) (ts us xs ys : List (List ℕ)) → is_parting_letter c ≡ true → Both c cs ts us xs ys → Sums xs ys ts us
-both_sum c cs ts us xs ys h (open_part p q ps qs d e) =
-    omega (
-      arith,
-      sum_by-cons (str_width false) (cs ++ c ∷ p) ps,
-      sum_by-cons (str_width false) (cs ++ c ∷ q) qs,
-      sum_by-cons (str_width false) (c ∷ p) ps,
-      sum_by-cons (str_width false) (c ∷ q) qs,
-      ap (sum_by (str_width false)) d,
-      ap (sum_by (str_width false)) e,
-      parted_width c cs p q h,
-    )
-both_sum c cs ts us xs ys h (later first more less e) = omega (arith, sum_by-cons (str_width false) first more, sum_by-cons (str_width false) first less, e)
+-- what is so of the parts that begin with the letter
+abbrev PartsBalanced : ℕ → List ℕ → List ℕ → Type 0
+PartsBalanced c ds es =
+    (cs p q : List ℕ) (ps qs : List (List ℕ)) → unjoined (c ∷ ds) ≡ (c ∷ p) ∷ ps → unjoined (c ∷ es) ≡ (c ∷ q) ∷ qs → Balanced (str_width false) cs (c ∷ p) (c ∷ q)
 
-module _ (c : ℕ) (ds es : List ℕ) (h : is_parting_letter c ≡ true) where
-  no_joiner : (c == 0x200D) ≡ false
-  no_joiner = grind (arith, nat_tests, h)
+module _ (c : ℕ) (ds es : List ℕ) (no_joiner : (c == 0x200D) ≡ false) (parts : PartsBalanced c ds es) where
+  both_sum : (cs : List ℕ) (xs ys : List (List ℕ)) → Both c cs (unjoined (c ∷ ds)) (unjoined (c ∷ es)) xs ys → Sums xs ys (unjoined (c ∷ ds)) (unjoined (c ∷ es))
+  both_sum cs xs ys (open_part p q ps qs d e) =
+      omega (
+        arith,
+        sum_by-cons (str_width false) (cs ++ c ∷ p) ps,
+        sum_by-cons (str_width false) (cs ++ c ∷ q) qs,
+        sum_by-cons (str_width false) (c ∷ p) ps,
+        sum_by-cons (str_width false) (c ∷ q) qs,
+        ap (sum_by (str_width false)) d,
+        ap (sum_by (str_width false)) e,
+        parts cs p q ps qs d e,
+      )
+  both_sum cs xs ys (later first more less e) = omega (arith, sum_by-cons (str_width false) first more, sum_by-cons (str_width false) first less, e)
 
   first_part : (ts : List (List ℕ)) → (q : List ℕ) × ((qs : List (List ℕ)) × (onto_first c ts ≡ (c ∷ q) ∷ qs))
   first_part [] = ([], ([], refl))
@@ -374,12 +376,159 @@ module _ (c : ℕ) (ds es : List ℕ) (h : is_parting_letter c ≡ true) where
     where
       by : (b : Bool) (xs ys : List (List ℕ)) → Both c cs (unjoined (c ∷ ds)) (unjoined (c ∷ es)) xs ys
           → Both c (x ∷ cs) (unjoined (c ∷ ds)) (unjoined (c ∷ es)) (cond b ([] ∷ xs) (onto_first x xs)) (cond b ([] ∷ ys) (onto_first x ys))
-      by true xs ys k = later [] xs ys (both_sum c cs (unjoined (c ∷ ds)) (unjoined (c ∷ es)) xs ys h k)
+      by true xs ys k = later [] xs ys (both_sum cs xs ys k)
       by false xs ys k = both_first c x cs (unjoined (c ∷ ds)) (unjoined (c ∷ es)) xs ys k
 
--- in each mode
+  -- in each mode
+  pub columns_balanced : (mode : GraphemeClusterMode) (cs : List ℕ) → Balanced (str_width false) cs (c ∷ ds) (c ∷ es) → Balanced (columns_of mode) cs (c ∷ ds) (c ∷ es)
+  columns_balanced Unicode cs whole = whole
+  columns_balanced WcWidth cs whole = omega (arith, sum_by-append char_columns_of cs (c ∷ ds), sum_by-append char_columns_of cs (c ∷ es))
+  columns_balanced NoZwj cs whole = both_sum cs (unjoined (cs ++ c ∷ ds)) (unjoined (cs ++ c ∷ es)) (both_parts cs)
+
 pub columns_parted : (mode : GraphemeClusterMode) (c : ℕ) (cs ds es : List ℕ) → is_parting_letter c ≡ true → Balanced (columns_of mode) cs (c ∷ ds) (c ∷ es)
-columns_parted Unicode c cs ds es h = parted_width c cs ds es h
-columns_parted WcWidth c cs ds es h = omega (arith, sum_by-append char_columns_of cs (c ∷ ds), sum_by-append char_columns_of cs (c ∷ es))
-columns_parted NoZwj c cs ds es h =
-    both_sum c cs (unjoined (c ∷ ds)) (unjoined (c ∷ es)) (unjoined (cs ++ c ∷ ds)) (unjoined (cs ++ c ∷ es)) h (both_parts c ds es h cs)
+columns_parted mode c cs ds es h = columns_balanced c ds es (grind (arith, nat_tests, h)) (λ bs p q ps qs d e. parted_width c bs p q h) mode cs (parted_width c cs ds es h)
+
+-- ---- letters of flags
+
+flag_letters : List Range
+flag_letters = (0x1F1E6, 0x1F1FF) ∷ []
+
+abbrev is_indicator_kind : Kind → Bool
+is_indicator_kind kinds.RegionalIndicator = true
+is_indicator_kind _ = false
+
+flags_hold : ℕ → Bool
+flags_hold c = not (in_ranges flag_letters c) || is_indicator_kind (kind c)
+
+unfoldable flags_stepped : Stepped flags_hold
+unfolding flags_hold flag_letters rises_from
+flags_stepped = zip_stepped (λ inside k. not inside || is_indicator_kind k) (in_ranges flag_letters) kind (of_ranges flag_letters refl) kind_stepped
+
+all_flags_hold : (c : ℕ) → flags_hold c ≡ true
+unfolding unicode_width tables flags_stepped flag_letters rises_from
+all_flags_hold = Stepped-everywhere flags_hold flags_stepped refl
+
+flag_alone : (c : ℕ) → is_flag_letter c ≡ true → alone false c ≡ (1, before after.RegionalIndicator)
+unfolding alone flags_hold in_ranges flag_letters
+flag_alone c h = by (kind c) (implied (in_ranges flag_letters c) (is_indicator_kind (kind c)) (grind (arith, nat_tests, h)) (all_flags_hold c))
+  where
+    by : (k : Kind) → is_indicator_kind k ≡ true → of_kind false c k ≡ (1, before after.RegionalIndicator)
+    by kinds.RegionalIndicator e = refl
+    by _ e = cc
+
+first_flag : (c n : ℕ) → is_flag_letter c ≡ true → step false c (n, plain) ≡ (n + 1, before after.RegionalIndicator)
+unfolding step past_emoji
+first_flag c n h = grind (arith, nat_tests, h, flag_alone c h)
+
+next_flag : (c n : ℕ) → is_flag_letter c ≡ true → step false c (n, before after.RegionalIndicator) ≡ (n + 1, before after.RegionalIndicators)
+unfolding step past_emoji in_context past_selectors joins
+next_flag c n h = grind (arith, nat_tests, h)
+
+later_flag : (c n : ℕ) → is_flag_letter c ≡ true → step false c (n, before after.RegionalIndicators) ≡ (n + 1, before after.RegionalIndicators)
+unfolding step past_emoji in_context past_selectors joins
+later_flag c n h = grind (arith, nat_tests, h)
+
+abbrev after_flags : List ℕ → State
+after_flags [] = plain
+after_flags (c ∷ []) = before after.RegionalIndicator
+after_flags (c ∷ d ∷ cs) = before after.RegionalIndicators
+
+read_flags : (n : ℕ) (cs : List ℕ) → list_all is_flag_letter cs ≡ true → read_before false cs (n, plain) ≡ (n + length cs, after_flags cs)
+read_flags n [] h = let e : n ≡ n + 0 = omega arith in ap (λ m. (m, plain)) e
+read_flags n (c ∷ []) h = first_flag c n (and_parts (is_flag_letter c) true h).0
+read_flags n (c ∷ d ∷ []) h =
+    let parts = and_parts (is_flag_letter c) (is_flag_letter d && true) h in
+    let e : n + 1 + 1 ≡ n + 2 = omega arith in
+    ap (step false c) (read_flags n (d ∷ []) parts.1) ∙ next_flag c (n + 1) parts.0 ∙ ap (λ m. (m, before after.RegionalIndicators)) e
+read_flags n (c ∷ d ∷ f ∷ cs) h =
+    let parts = and_parts (is_flag_letter c) (list_all is_flag_letter (d ∷ f ∷ cs)) h in
+    let e : n + length (d ∷ f ∷ cs) + 1 ≡ n + length (c ∷ d ∷ f ∷ cs) = omega arith in
+    ap (step false c) (read_flags n (d ∷ f ∷ cs) parts.1) ∙ later_flag c (n + length (d ∷ f ∷ cs)) parts.0 ∙ ap (λ m. (m, before after.RegionalIndicators)) e
+
+flags_width : (cs : List ℕ) → list_all is_flag_letter cs ≡ true → str_width false cs ≡ length cs
+unfolding str_width
+flags_width cs h = let e : 0 + length cs ≡ length cs = omega arith in ap (λ r. r.0) (read_flags 0 cs h) ∙ e
+
+flags_unjoined : (cs : List ℕ) → list_all is_flag_letter cs ≡ true → unjoined cs ≡ cs ∷ []
+flags_unjoined [] h = refl
+flags_unjoined (c ∷ cs) h =
+    let parts = and_parts (is_flag_letter c) (list_all is_flag_letter cs) h in
+    let other : (c == 0x200D) ≡ false = no_joiner c parts.0 in
+    ap (λ b. cond b ([] ∷ unjoined cs) (onto_first c (unjoined cs))) other ∙ ap (onto_first c) (flags_unjoined cs parts.1)
+  where
+    no_joiner : (c : ℕ) → is_flag_letter c ≡ true → (c == 0x200D) ≡ false
+    no_joiner c h = grind (arith, nat_tests, h)
+
+-- two of them part a text where only such letters follow
+module _ (a b : ℕ) (ds : List ℕ) (h : list_all is_flag_letter (a ∷ b ∷ ds) ≡ true) (k : list_all is_flag_letter (a ∷ b ∷ []) ≡ true) where
+  flags_balanced : (cs : List ℕ) → Balanced (str_width false) cs (a ∷ b ∷ ds) (a ∷ b ∷ [])
+  unfolding str_width
+  flags_balanced cs =
+      let n = length ds in
+      let first : read_before false (a ∷ b ∷ ds) (0, plain) ≡ (0 + length (a ∷ b ∷ ds), before after.RegionalIndicators) = read_flags 0 (a ∷ b ∷ ds) h in
+      let other : read_before false (a ∷ b ∷ []) (n, plain) ≡ (n + 2, before after.RegionalIndicators) = read_flags n (a ∷ b ∷ []) k in
+      let sum : 0 + length (a ∷ b ∷ ds) ≡ n + 2 = omega arith in
+      let same : read_before false (a ∷ b ∷ ds) (0, plain) ≡ read_before false (a ∷ b ∷ []) (n, plain) = first ∙ ap (λ m. (m, before after.RegionalIndicators)) sum ∙ sym other in
+      let longer : str_width false (cs ++ a ∷ b ∷ ds) ≡ str_width false (cs ++ a ∷ b ∷ []) + n =
+      ap (λ r. r.0) (read-append cs (a ∷ b ∷ ds) (0, plain) ∙ ap (read_before false cs) same ∙ sym (read-append cs (a ∷ b ∷ []) (n, plain)) ∙ ap (read_before false (cs ++ a ∷ b ∷ [])) (sym (read_letters n)) ∙ sym (read-append (cs ++ a ∷ b ∷ []) (replicate n 97) (0, plain)))
+      ∙ str_width-append_simple false (cs ++ a ∷ b ∷ []) (replicate n 97) (letters_simple n) ∙ ap (λ m. str_width false (cs ++ a ∷ b ∷ []) + m) (ap (λ r. r.0) (read_letters n)) in
+      omega (arith, longer, flags_width (a ∷ b ∷ ds) h, flags_width (a ∷ b ∷ []) k)
+
+flags_balanced_parts : (a b : ℕ) (ds : List ℕ) → list_all is_flag_letter (a ∷ b ∷ ds) ≡ true → list_all is_flag_letter (a ∷ b ∷ []) ≡ true → PartsBalanced a (b ∷ ds) (b ∷ [])
+flags_balanced_parts a b ds h k cs p q ps qs d e =
+    let one : p ≡ b ∷ ds = part_is (sym d ∙ flags_unjoined (a ∷ b ∷ ds) h) in
+    let other : q ≡ b ∷ [] = part_is (sym e ∙ flags_unjoined (a ∷ b ∷ []) k) in
+    subst (λ x. Balanced (str_width false) cs (a ∷ x) (a ∷ q)) (sym one) (subst (λ y. Balanced (str_width false) cs (a ∷ b ∷ ds) (a ∷ y)) (sym other) (flags_balanced a b ds h k cs))
+  where
+    part_is : {x y : List ℕ} {zs : List (List ℕ)} → (a ∷ x) ∷ zs ≡ (a ∷ y) ∷ [] → x ≡ y
+    part_is e = cc
+
+-- a text's end of two letters of a flag
+record FlagEnd (cs : List ℕ) : Type 0 where
+  front : List ℕ
+  one : ℕ
+  other : ℕ
+  is : cs ≡ front ++ one ∷ other ∷ []
+  flags : list_all is_flag_letter (one ∷ other ∷ []) ≡ true
+
+flag_end : (cs : List ℕ) → ends_in_flag cs ≡ true → FlagEnd cs
+flag_end [] h = cc
+flag_end (c ∷ []) h = cc
+flag_end (c ∷ d ∷ []) h =
+    let parts = and_parts (is_flag_letter c) (is_flag_letter d) h in
+    record { front = []; one = c; other = d; is = refl; flags = and_from (is_flag_letter c) (is_flag_letter d && true) parts.0 (and_from (is_flag_letter d) true parts.1 refl) }
+flag_end (c ∷ d ∷ f ∷ cs) h =
+    let k = flag_end (d ∷ f ∷ cs) h in
+    record { front = c ∷ k.front; one = k.one; other = k.other; is = ap (λ l. c ∷ l) k.is; flags = k.flags }
+
+unjoined_flags : (cs : List ℕ) → list_all is_flag_letter cs ≡ true → sum_by (str_width false) (unjoined cs) ≡ length cs
+unjoined_flags cs h = ap (sum_by (str_width false)) (flags_unjoined cs h) ∙ omega (arith, sum_by-cons (str_width false) cs [], flags_width cs h)
+
+pub columns_of_flags : (mode : GraphemeClusterMode) (cs ds : List ℕ) → ends_in_flag cs ≡ true → list_all is_flag_letter ds ≡ true → columns_of mode (cs ++ ds) ≡ columns_of mode cs + columns_of mode ds
+columns_of_flags WcWidth cs ds h k = sum_by-append char_columns_of cs ds
+columns_of_flags Unicode cs ds h k =
+    let e = flag_end cs h in
+    let parts = and_parts (is_flag_letter e.one) (is_flag_letter e.other && true) e.flags in
+    let more = and_from (is_flag_letter e.one) (is_flag_letter e.other && list_all is_flag_letter ds) parts.0 (and_from (is_flag_letter e.other) (list_all is_flag_letter ds) (and_parts (is_flag_letter e.other) true parts.1).0 k) in
+    let sum = flags_balanced e.one e.other ds more e.flags e.front in
+    let whole : str_width false (cs ++ ds) ≡ str_width false (e.front ++ e.one ∷ e.other ∷ ds) = ap (str_width false) (ap (λ l. l ++ ds) e.is ∙ append_assoc e.front (e.one ∷ e.other ∷ []) ds) in
+    omega (arith, sum, whole, ap (str_width false) e.is, flags_width (e.one ∷ e.other ∷ ds) more, flags_width (e.one ∷ e.other ∷ []) e.flags, flags_width ds k)
+columns_of_flags NoZwj cs ds h k =
+    let e = flag_end cs h in
+    let parts = and_parts (is_flag_letter e.one) (is_flag_letter e.other && true) e.flags in
+    let more = and_from (is_flag_letter e.one) (is_flag_letter e.other && list_all is_flag_letter ds) parts.0 (and_from (is_flag_letter e.other) (list_all is_flag_letter ds) (and_parts (is_flag_letter e.other) true parts.1).0 k) in
+    let joiner : (e.one == 0x200D) ≡ false = no_joiner_flag e.one parts.0 in
+    let sum = columns_balanced e.one (e.other ∷ ds) (e.other ∷ []) joiner (flags_balanced_parts e.one e.other ds more e.flags) NoZwj e.front (flags_balanced e.one e.other ds more e.flags e.front) in
+    let whole : columns_of NoZwj (cs ++ ds) ≡ columns_of NoZwj (e.front ++ e.one ∷ e.other ∷ ds) = ap (columns_of NoZwj) (ap (λ l. l ++ ds) e.is ∙ append_assoc e.front (e.one ∷ e.other ∷ []) ds) in
+    omega (arith, sum, whole, ap (columns_of NoZwj) e.is, unjoined_flags (e.one ∷ e.other ∷ ds) more, unjoined_flags (e.one ∷ e.other ∷ []) e.flags, unjoined_flags ds k)
+  where
+    no_joiner_flag : (c : ℕ) → is_flag_letter c ≡ true → (c == 0x200D) ≡ false
+    no_joiner_flag c h = grind (arith, nat_tests, h)
+
+-- ---- by the text's last two characters
+
+ends_after : (xs : List ℕ) (c d : ℕ) → ends_in_flag (xs ++ c ∷ d ∷ []) ≡ (is_flag_letter c && is_flag_letter d)
+ends_after [] c d = refl
+ends_after (x ∷ []) c d = refl
+ends_after (x ∷ y ∷ []) c d = refl
+ends_after (x ∷ y ∷ z ∷ xs) c d = ends_after (y ∷ z ∷ xs) c d

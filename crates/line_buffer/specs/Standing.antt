@@ -67,3 +67,15 @@ is_parting_letter c =
 abbrev pub begins_with_parting_letter : List ℕ → Bool
 begins_with_parting_letter [] = false
 begins_with_parting_letter (c ∷ cs) = is_parting_letter c
+
+abbrev pub is_flag_letter : ℕ → Bool
+is_flag_letter = is_in_range 0x1F1E6 0x1F1FF
+
+abbrev pub are_flag_letters : List ℕ → Bool
+are_flag_letters cs = list_all is_flag_letter cs
+
+abbrev pub ends_in_flag : List ℕ → Bool
+ends_in_flag [] = false
+ends_in_flag (c ∷ []) = false
+ends_in_flag (c ∷ d ∷ []) = is_flag_letter c && is_flag_letter d
+ends_in_flag (c ∷ d ∷ f ∷ cs) = ends_in_flag (d ∷ f ∷ cs)
