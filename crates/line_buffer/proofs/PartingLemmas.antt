@@ -2,7 +2,10 @@
 use Rattle.std.proofs.Common.{◌≡◌, ℕ, ◌+◌, ◌-◌, ◌==◌, ◌<◌, ◌≤◌, nat_le, ◌⊎◌, ⊎_elim, Bool, true, false, not, cond, ◌&&◌, ◌||◌, List, [], ◌∷◌, ◌++◌, length, Option, None, Some, refl, sym, ap, ◌∙◌, subst, arith, append_assoc}
 use Rattle.std.specs.Int.{is_in_range}
 use Rattle.std.proofs.Math.ListN.{replicate}
-use Rattle.std.specs.Prelude.{sum_by}
+use Rattle.std.specs.Prelude.{sum_by, IsUtf8, chars, encode_utf8}
+use Rattle.std.specs.Char.{IsScalar}
+use Rattle.std.proofs.lemmas.Str.{IsUtf8-encode, chars-append}
+use Rattle.unicode_segmentation.proofs.TextLemmas.{IsUtf8-before, chars-encode_utf8}
 use Rattle.std.specs.List.{onto_first, list_all}
 use Rattle.std.proofs.lemmas.List.Sums.{sum_by-cons, sum_by-append}
 use Rattle.std.proofs.lemmas.Bool.{and_from, and_parts, or_cases, cases_lt}
@@ -532,3 +535,16 @@ ends_after [] c d = refl
 ends_after (x ∷ []) c d = refl
 ends_after (x ∷ y ∷ []) c d = refl
 ends_after (x ∷ y ∷ z ∷ xs) c d = ends_after (y ∷ z ∷ xs) c d
+
+chars_last : (text front : List ℕ) (last : ℕ) → IsUtf8 text → IsScalar last → text ≡ front ++ encode_utf8 last → IsUtf8 front × (chars text ≡ chars front ++ last ∷ [])
+chars_last text front last u s came =
+    let before = IsUtf8-before text front (encode_utf8 last) u (IsUtf8-encode last s) came in
+    (before, ap chars came ∙ chars-append front (encode_utf8 last) before ∙ ap (λ cs. chars front ++ cs) (chars-encode_utf8 last (IsUtf8-encode last s)))
+
+pub two_flag_letters : (text most front : List ℕ) (last previous : ℕ) → IsUtf8 text → IsScalar last → IsScalar previous → text ≡ most ++ encode_utf8 last → most ≡ front ++ encode_utf8 previous
+    → is_flag_letter previous ≡ true → is_flag_letter last ≡ true → ends_in_flag (chars text) ≡ true
+two_flag_letters text most front last previous u s r came earlier p q =
+    let first = chars_last text most last u s came in
+    let second = chars_last most front previous first.0 r earlier in
+    ap ends_in_flag (first.1 ∙ ap (λ cs. cs ++ last ∷ []) second.1 ∙ append_assoc (chars front) (previous ∷ []) (last ∷ [])) ∙ ends_after (chars front) previous last
+    ∙ and_from (is_flag_letter previous) (is_flag_letter last) p q

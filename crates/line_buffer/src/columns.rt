@@ -5,7 +5,7 @@ ghost use Rattle.std.specs.Char.{IsScalar};
 ghost use Rattle.std.specs.Prelude.{◌≡◌, ◌==◌, ◌+◌, ◌++◌, true, min, take, chars, is_some, IfSome, IsCharBoundary};
 ghost use Rattle.std.specs.List.{list_all};
 ghost use Rattle.line_buffer.specs.Width.{columns_of};
-ghost use Rattle.line_buffer.specs.Standing.{stands_alone, adds_up, is_own_emoji, begins_with_emoji, ends_in_joiner, is_parting_letter, begins_with_parting_letter};
+ghost use Rattle.line_buffer.specs.Standing.{stands_alone, adds_up, is_own_emoji, begins_with_emoji, ends_in_joiner, is_parting_letter, begins_with_parting_letter, is_flag_letter, are_flag_letters, ends_in_flag};
 ghost use Rattle.line_buffer.specs.Line.{moved_to};
 ghost use Rattle.line_buffer.specs.Columns.{place_at_column, first_column, cursor_column, place_in_row, line_up, line_down};
 
@@ -101,6 +101,33 @@ fn ends_in_joiner(text: &str) -> bool
     }
 }
 
+fn is_flag_letter(c: char) -> bool
+    ensures value { result ≡ is_flag_letter c }
+    ensures scalar { IsScalar c }
+{
+    matches!(c, '\u{1F1E6}'..='\u{1F1FF}')
+}
+
+fn are_flag_letters(text: &str) -> bool
+    ensures { result ≡ are_flag_letters (chars text.now) }
+{
+    text.chars().all(|c| is_flag_letter(c))
+}
+
+/// The text ends in two letters of a flag, so that such letters after them add their own columns.
+fn ends_in_flag(text: &str) -> bool
+    ensures { result ≡ true → ends_in_flag (chars text.now) ≡ true }
+{
+    let mut characters = text.chars();
+    let Some(last) = characters.next_back() else {
+        return false;
+    };
+    let Some(previous) = characters.next_back() else {
+        return false;
+    };
+    is_flag_letter(previous) && is_flag_letter(last)
+}
+
 /// The characters where two texts meet tell that their columns add up.
 fn columns_add(mode: GraphemeClusterMode, before: &str, rest: &str) -> bool
     ensures { result ≡ true → columns_of mode (chars before.now ++ chars rest.now)
@@ -109,7 +136,10 @@ fn columns_add(mode: GraphemeClusterMode, before: &str, rest: &str) -> bool
     if adds_up(mode, rest) {
         return true;
     }
-    begins_with_emoji(rest) && !ends_in_joiner(before)
+    if begins_with_emoji(rest) {
+        return !ends_in_joiner(before);
+    }
+    are_flag_letters(rest) && ends_in_flag(before)
 }
 
 /// A letter that parts a text: what follows on it says nothing of what stands before it.
@@ -147,7 +177,12 @@ fn begins_with_parting_letter(text: &str) -> bool
 
 /// The columns of a text up to a place, by those of the whole text, where the cluster before the
 /// place begins with a letter that parts the text: what follows on it changes its own columns alone.
-fn columns_by_letter(mode: GraphemeClusterMode, text: &str, end: usize, whole: usize) -> Option<usize>
+fn columns_by_letter(
+    mode: GraphemeClusterMode,
+    text: &str,
+    end: usize,
+    whole: usize,
+) -> Option<usize>
     requires boundary { IsCharBoundary text.now end }
     requires whole { whole ≡ min (columns_of mode (chars text.now)) usize.MAX }
     ensures { IfSome result (λ n. n ≡ min (columns_of mode (chars (take end text.now))) usize.MAX) }
