@@ -1,6 +1,5 @@
 -- A letter that parts a text: what follows on it changes no columns of what stands before it.
-use Rattle.std.proofs.Common.{◌≡◌, ℕ, ◌+◌, ◌-◌, ◌==◌, ◌<◌, ◌≤◌, nat_le, ◌⊎◌, ⊎_elim, Bool, true, false, not, cond, ◌&&◌, ◌||◌, List, [], ◌∷◌, ◌++◌, length, Option, None, Some, refl, sym, ap, ◌∙◌, subst, arith, append_assoc}
-use Rattle.std.specs.Int.{is_in_range}
+use Rattle.std.proofs.Common.{◌≡◌, ℕ, ◌+◌, ◌-◌, ◌==◌, ◌<◌, ◌≤◌, nat_le, ⊎_elim, Bool, true, false, not, cond, ◌&&◌, ◌||◌, List, [], ◌∷◌, ◌++◌, length, Option, None, Some, refl, sym, ap, ◌∙◌, subst, arith, append_assoc}
 use Rattle.std.proofs.Math.ListN.{replicate}
 use Rattle.std.specs.Prelude.{sum_by, IsUtf8, chars, encode_utf8}
 use Rattle.std.specs.Char.{IsScalar}
@@ -8,7 +7,7 @@ use Rattle.std.proofs.lemmas.Str.{IsUtf8-encode, chars-append}
 use Rattle.unicode_segmentation.proofs.TextLemmas.{IsUtf8-before, chars-encode_utf8}
 use Rattle.std.specs.List.{onto_first, list_all}
 use Rattle.std.proofs.lemmas.List.Sums.{sum_by-cons, sum_by-append}
-use Rattle.std.proofs.lemmas.Bool.{and_from, and_parts, or_cases, cases_lt}
+use Rattle.std.proofs.lemmas.Bool.{and_from, and_parts, cases_lt}
 use Rattle.std.proofs.lemmas.Bool.Decides.{nat_tests}
 use borrow.Author.Tests.{eqb-true}
 use Rattle.ucd_table.specs.Rows.{Range, in_ranges}
@@ -31,7 +30,7 @@ use Rattle.unicode_width.specs.declared.state.State.{State}
 use Rattle.unicode_width.specs.declared.kind.Kind.{Kind}
 use Rattle.unicode_width.specs.declared.kind.Kind.TheVariants as kinds
 use Rattle.unicode_width.specs.Kind.{kind, is_ligature_transparent, is_text_presentation_base}
-use Rattle.unicode_width.specs.Width.{before, plain, of_kind, alone, joins, before_alef, is_lam, skips_marks, is_joined_emoji, if_kept, is_plain, is_line_feed, is_quote, is_emoji, is_indicator, is_tag_letter, is_tag_digit, Reading, first_of, added, joined_or, past_selectors, in_context, past_emoji, step, read_before, str_width}
+use Rattle.unicode_width.specs.Width.{before, plain, of_kind, alone, joins, before_alef, is_lam, skips_marks, is_joined_emoji, if_kept, is_plain, is_line_feed, is_quote, is_emoji, Reading, first_of, added, joined_or, past_selectors, in_context, past_emoji, step, read_before, str_width}
 use Rattle.unicode_width.proofs.Computing.{unicode_width}
 use Rattle.unicode_width.proofs.KindLemmas.{kind_stepped, is_ligature_transparent_stepped}
 use Rattle.unicode_width.proofs.Rules.{str_width-append_simple}
