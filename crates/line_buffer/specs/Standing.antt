@@ -8,7 +8,8 @@ use Rattle.line_buffer.specs.declared.layout.GraphemeClusterMode.{GraphemeCluste
 use Rattle.line_buffer.specs.declared.layout.GraphemeClusterMode.TheVariants.{Unicode, WcWidth, NoZwj}
 
 -- printable ASCII; Latin, Greek and Cyrillic with their marks, to Hebrew; the scripts of India,
--- Thai, Georgian and Ethiopic; punctuation and symbols; Chinese, Japanese and Korean
+-- Thai, Georgian and Ethiopic; punctuation, symbols and box drawings; Chinese, Japanese and Korean,
+-- also at half and full width
 abbrev pub stands_alone : ℕ → Bool
 stands_alone c =
     is_in_range 0x20 0x7E c
@@ -17,9 +18,11 @@ stands_alone c =
     || (is_in_range 0x900 0x177F c
     || (is_in_range 0x1E00 0x200C c
     || (is_in_range 0x2010 0x2319 c
+    || (is_in_range 0x2500 0x25FC c
     || (is_in_range 0x2E80 0xA4FB c
     || (is_in_range 0xA500 0xFB1D c
-    || is_in_range 0x20000 0x3FFFD c)))))))
+    || (is_in_range 0xFF01 0xFFE6 c
+    || is_in_range 0x20000 0x3FFFD c)))))))))
 
 -- at the end of a text such characters add their own columns; by `wcwidth` all characters do
 abbrev pub adds_up : GraphemeClusterMode → List ℕ → Bool
