@@ -5,7 +5,9 @@ use Rattle.std.specs.Prelude.{option_map, unwrap_or, chars, IsUtf8, IsCharBounda
 use Rattle.std.specs.List.{last_or, concat}
 use Rattle.std.proofs.lemmas.List.{map-append}
 use Rattle.std.proofs.lemmas.List.Elements.{filter-append}
-use Rattle.std.proofs.lemmas.Str.{chars-append, IsUtf8-take, IsCharBoundary-from_take}
+use Rattle.std.proofs.lemmas.Str.{chars-append, IsUtf8-take, IsUtf8-between, IsCharBoundary-from_take}
+use Rattle.std.proofs.lemmas.List.Folds.{drop_split}
+use Rattle.unicode_segmentation.proofs.TextLemmas.{take_split}
 use Rattle.std.proofs.lemmas.Bool.Decides.{nat_tests}
 use Rattle.unicode_segmentation.specs.Grapheme.{is_grapheme_break, graphemes}
 use Rattle.unicode_segmentation.specs.Segments.{with_offsets}
@@ -13,7 +15,9 @@ use Rattle.unicode_segmentation.proofs.SegmentsLemmas.{concat-segments, IsPieceO
 use Rattle.line_buffer.specs.declared.layout.GraphemeClusterMode.{GraphemeClusterMode}
 use Rattle.line_buffer.specs.Clusters.{clusters}
 use Rattle.line_buffer.specs.Columns.{place_at_column}
+use Rattle.line_buffer.specs.Standing.{is_parting_letter, begins_with_parting_letter}
 use Rattle.line_buffer.specs.Width.{columns_of, width_of}
+use Rattle.line_buffer.proofs.PartingLemmas.{columns_parted}
 
 -- no number of columns that is shown is beyond what is counted
 pub enough : 65535 ≤ 18446744073709551615
@@ -179,3 +183,54 @@ boundary_in_front row part start end u v e l m at =
 pub counted_in_front : (most : ℕ) (mode : GraphemeClusterMode) (row part : List ℕ) (start end : ℕ) → part ≡ take end row → start ≤ end
     → counted most mode (take start part) ≡ counted most mode (take start row)
 counted_in_front most mode row part start end e l = ap (counted most mode) (ap (take start) e ∙ take-take start end row l)
+
+-- ---- the columns up to a place, by the cluster before it
+
+pub last_piece : (text : List ℕ) (old new : List (ℕ × List ℕ)) (x : ℕ × List ℕ) → IsUtf8 text → old ≡ clusters text → old ≡ new ++ x ∷ [] → IsPieceOf text x
+last_piece text old new x u is came =
+    let all = subst (All (IsPieceOf text)) (sym is ∙ came) (All-IsPieceOf (is_grapheme_break true) text u) in
+    subst (IsPieceOf text) (at_seam new) (all (length new) x (omega (arith, length-append new (x ∷ []))))
+  where
+    at_seam : (xs : List (ℕ × List ℕ)) → get_or (xs ++ x ∷ []) (length xs) x ≡ x
+    at_seam [] = refl
+    at_seam (z ∷ xs) = at_seam xs
+
+pub at_most : (bs : List ℕ) (i : ℕ) → IsCharBoundary bs i → i ≤ length bs
+at_most bs i at = omega (arith, at.0)
+
+-- what begins in a text's front begins in the text
+pub start_in_text : (text part : List ℕ) (start end : ℕ) → IsUtf8 text → IsUtf8 part → part ≡ take end text → end ≤ length text → IsCharBoundary part start → (start ≤ end) × IsCharBoundary text start
+start_in_text text part start end u v e le at =
+    let low : start ≤ end = omega (arith, at_most part start at, ap length e, length-take end text) in
+    (low, IsCharBoundary-from_take text start u (omega (arith, low)) (subst IsUtf8 (ap (take start) e ∙ take-take start end text low) (IsUtf8-take part start v at)))
+
+module _ (mode : GraphemeClusterMode) (most : ℕ) (text : List ℕ) (start end : ℕ) (u : IsUtf8 text) (le : start ≤ end) (at_start : IsCharBoundary text start) (at_end : IsCharBoundary text end) where
+  abbrev front : List ℕ
+  front = take start text
+
+  abbrev cluster : List ℕ
+  cluster = slice_range text start end
+
+  is_cluster : IsUtf8 cluster
+  is_cluster = IsUtf8-between text start end u le at_start at_end
+
+  balanced : (c : ℕ) (es : List ℕ) → chars cluster ≡ c ∷ es → is_parting_letter c ≡ true
+      → columns_of mode (chars text) + columns_of mode (chars cluster) ≡ columns_of mode (chars (take end text)) + columns_of mode (chars (drop start text))
+  balanced c es is h =
+      let rest : chars (drop start text) ≡ c ∷ (es ++ chars (drop end text)) =
+      ap chars (drop_split text start end le) ∙ chars-append cluster (drop end text) is_cluster ∙ ap (λ cs. cs ++ chars (drop end text)) is in
+      let whole : chars text ≡ chars front ++ c ∷ (es ++ chars (drop end text)) =
+      ap chars (sym (take-append-drop start text)) ∙ chars-append front (drop start text) (IsUtf8-take text start u at_start) ∙ ap (λ cs. chars front ++ cs) rest in
+      let upto : chars (take end text) ≡ chars front ++ c ∷ es =
+      ap chars (take_split text start end le) ∙ chars-append front cluster (IsUtf8-take text start u at_start) ∙ ap (λ cs. chars front ++ cs) is in
+      omega (arith, columns_parted mode c (chars front) (es ++ chars (drop end text)) es h, ap (columns_of mode) rest, ap (columns_of mode) whole, ap (columns_of mode) upto, ap (columns_of mode) is)
+
+  pub by_letter : (whole measured own : ℕ) → begins_with_parting_letter (chars cluster) ≡ true → whole ≡ counted most mode text → measured ≡ counted most mode (drop start text) → own ≡ counted most mode cluster
+      → whole < most → measured < most → own ≤ measured → (measured - own ≤ whole) × (whole - (measured - own) ≡ counted most mode (take end text))
+  by_letter whole measured own h is measured_is own_is low measured_low more = by (chars cluster) refl h
+    where
+      by : (cs : List ℕ) → chars cluster ≡ cs → begins_with_parting_letter cs ≡ true → (measured - own ≤ whole) × (whole - (measured - own) ≡ counted most mode (take end text))
+      by [] e k = cc
+      by (c ∷ es) e k =
+          let sum = balanced c es e k in
+          (omega (arith, sum, is, measured_is, own_is, low, measured_low, more), omega (arith, sum, is, measured_is, own_is, low, measured_low, more))

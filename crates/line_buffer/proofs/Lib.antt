@@ -16,6 +16,7 @@ pub mod LetterCaseLemmas
 mod MotionRows
 pub mod NewlineLemmas
 pub mod PartLemmas
+pub mod PartingLemmas
 pub mod PlainLemmas
 pub mod RangeLemmas
 pub mod ReplayLemmas

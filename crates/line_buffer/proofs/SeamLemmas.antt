@@ -13,17 +13,17 @@ use Rattle.line_buffer.specs.declared.layout.GraphemeClusterMode.{GraphemeCluste
 use Rattle.line_buffer.specs.declared.layout.GraphemeClusterMode.TheVariants.{Unicode, WcWidth, NoZwj}
 use Rattle.line_buffer.specs.Width.{char_columns_of, unjoined, columns_of}
 
-read-append : (xs ys : List ℕ) (r : Reading) → read_before false (xs ++ ys) r ≡ read_before false xs (read_before false ys r)
+pub read-append : (xs ys : List ℕ) (r : Reading) → read_before false (xs ++ ys) r ≡ read_before false xs (read_before false ys r)
 read-append [] ys r = refl
 read-append (x ∷ xs) ys r = ap (step false x) (read-append xs ys r)
 
 -- so many columns, read as letters
-read_letters : (n : ℕ) → read_before false (replicate n 97) (0, plain) ≡ (n, plain)
+pub read_letters : (n : ℕ) → read_before false (replicate n 97) (0, plain) ≡ (n, plain)
 unfolding unicode_width
 read_letters zero = refl
 read_letters (suc n) = let e : n + 1 ≡ suc n = omega arith in ap (step false 97) (read_letters n) ∙ ap (λ m. (m, plain)) e
 
-letters_simple : (n : ℕ) → list_all is_simple (replicate n 97) ≡ true
+pub letters_simple : (n : ℕ) → list_all is_simple (replicate n 97) ≡ true
 letters_simple zero = refl
 letters_simple (suc n) = letters_simple n
 

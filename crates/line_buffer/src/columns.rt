@@ -5,7 +5,7 @@ ghost use Rattle.std.specs.Char.{IsScalar};
 ghost use Rattle.std.specs.Prelude.{◌≡◌, ◌==◌, ◌+◌, ◌++◌, true, min, take, chars, is_some, IfSome, IsCharBoundary};
 ghost use Rattle.std.specs.List.{list_all};
 ghost use Rattle.line_buffer.specs.Width.{columns_of};
-ghost use Rattle.line_buffer.specs.Standing.{stands_alone, adds_up, is_own_emoji, begins_with_emoji, ends_in_joiner};
+ghost use Rattle.line_buffer.specs.Standing.{stands_alone, adds_up, is_own_emoji, begins_with_emoji, ends_in_joiner, is_parting_letter, begins_with_parting_letter, is_flag_letter, are_flag_letters, ends_in_flag};
 ghost use Rattle.line_buffer.specs.Line.{moved_to};
 ghost use Rattle.line_buffer.specs.Columns.{place_at_column, first_column, cursor_column, place_in_row, line_up, line_down};
 
@@ -39,8 +39,10 @@ fn stands_alone(c: char) -> bool
             | '\u{900}'..='\u{177F}'
             | '\u{1E00}'..='\u{200C}'
             | '\u{2010}'..='\u{2319}'
+            | '\u{2500}'..='\u{25FC}'
             | '\u{2E80}'..='\u{A4FB}'
             | '\u{A500}'..='\u{FB1D}'
+            | '\u{FF01}'..='\u{FFE6}'
             | '\u{20000}'..='\u{3FFFD}'
     )
 }
@@ -101,6 +103,33 @@ fn ends_in_joiner(text: &str) -> bool
     }
 }
 
+fn is_flag_letter(c: char) -> bool
+    ensures value { result ≡ is_flag_letter c }
+    ensures scalar { IsScalar c }
+{
+    matches!(c, '\u{1F1E6}'..='\u{1F1FF}')
+}
+
+fn are_flag_letters(text: &str) -> bool
+    ensures { result ≡ are_flag_letters (chars text.now) }
+{
+    text.chars().all(|c| is_flag_letter(c))
+}
+
+/// The text ends in two letters of a flag, so that such letters after them add their own columns.
+fn ends_in_flag(text: &str) -> bool
+    ensures { result ≡ true → ends_in_flag (chars text.now) ≡ true }
+{
+    let mut characters = text.chars();
+    let Some(last) = characters.next_back() else {
+        return false;
+    };
+    let Some(previous) = characters.next_back() else {
+        return false;
+    };
+    is_flag_letter(previous) && is_flag_letter(last)
+}
+
 /// The characters where two texts meet tell that their columns add up.
 fn columns_add(mode: GraphemeClusterMode, before: &str, rest: &str) -> bool
     ensures { result ≡ true → columns_of mode (chars before.now ++ chars rest.now)
@@ -109,11 +138,74 @@ fn columns_add(mode: GraphemeClusterMode, before: &str, rest: &str) -> bool
     if adds_up(mode, rest) {
         return true;
     }
-    begins_with_emoji(rest) && !ends_in_joiner(before)
+    if begins_with_emoji(rest) {
+        return !ends_in_joiner(before);
+    }
+    are_flag_letters(rest) && ends_in_flag(before)
+}
+
+/// A letter that parts a text: what follows on it says nothing of what stands before it.
+fn is_parting_letter(c: char) -> bool
+    ensures { result ≡ is_parting_letter c }
+{
+    matches!(
+        c,
+        'A'..='Z'
+            | 'a'..='z'
+            | '\u{C0}'..='\u{24F}'
+            | '\u{391}'..='\u{3C9}'
+            | '\u{410}'..='\u{44F}'
+            | '\u{5D0}'..='\u{5EA}'
+            | '\u{620}'..='\u{64A}'
+            | '\u{671}'..='\u{6D3}'
+            | '\u{904}'..='\u{939}'
+            | '\u{E01}'..='\u{E30}'
+            | '\u{1780}'..='\u{17B3}'
+            | '\u{3041}'..='\u{3096}'
+            | '\u{30A1}'..='\u{30FA}'
+            | '\u{4E00}'..='\u{9FFF}'
+            | '\u{AC00}'..='\u{D7A3}'
+    )
+}
+
+fn begins_with_parting_letter(text: &str) -> bool
+    ensures { result ≡ begins_with_parting_letter (chars text.now) }
+{
+    match text.chars().next() {
+        Some(first) => is_parting_letter(first),
+        None => false,
+    }
+}
+
+/// The columns of a text up to a place, by those of the whole text, where the cluster before the
+/// place begins with a letter that parts the text: what follows on it changes its own columns alone.
+fn columns_by_letter(
+    mode: GraphemeClusterMode,
+    text: &str,
+    end: usize,
+    whole: usize,
+) -> Option<usize>
+    requires boundary { IsCharBoundary text.now end }
+    requires whole { whole ≡ min (columns_of mode (chars text.now)) usize.MAX }
+    ensures { IfSome result (λ n. n ≡ min (columns_of mode (chars (take end text.now))) usize.MAX) }
+{
+    let (start, _) = text[..end].grapheme_indices(true).next_back()?;
+    let (cluster, rest) = (&text[start..end], &text[start..]);
+    let (own, measured) = (mode.columns(cluster), mode.columns(rest));
+    if own <= measured
+        && measured < usize::MAX
+        && whole < usize::MAX
+        && begins_with_parting_letter(cluster)
+    {
+        Some(whole - (measured - own))
+    } else {
+        None
+    }
 }
 
 /// The columns of a text up to a place, where those of the whole text are known. What follows on
-/// the place is measured alone where it may be, and else the text before it.
+/// the place is measured alone where it may be, or with the cluster before it, and else all that
+/// stands before the place.
 fn columns_up_to(mode: GraphemeClusterMode, text: &str, end: usize, whole: usize) -> usize
     requires boundary { IsCharBoundary text.now end }
     requires whole { whole ≡ min (columns_of mode (chars text.now)) usize.MAX }
@@ -121,9 +213,11 @@ fn columns_up_to(mode: GraphemeClusterMode, text: &str, end: usize, whole: usize
 {
     let (before, rest) = (&text[..end], &text[end..]);
     if whole < usize::MAX && columns_add(mode, before, rest) {
-        whole - mode.columns(rest)
-    } else {
-        mode.columns(before)
+        return whole - mode.columns(rest);
+    }
+    match columns_by_letter(mode, text, end, whole) {
+        Some(columns) => columns,
+        None => mode.columns(before),
     }
 }
 
