@@ -3,6 +3,7 @@ pub mod DirectedLemmas
 pub mod DoneLemmas
 pub mod EndLemmas
 pub mod Exchange
+pub mod GapLemmas
 pub mod GroupLaws
 pub mod JoinedLaws
 pub mod KillLaws

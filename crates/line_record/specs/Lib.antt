@@ -1,5 +1,6 @@
 pub mod Course
 pub mod Edit
+pub mod Gap
 pub mod Held
 pub mod Items
 pub mod Kills

@@ -1,8 +1,9 @@
 //! The changes of a record, whose texts stand in one log.
 
+use crate::edited_line::EditedLine;
 use crate::report::Report;
 use crate::words::is_one_alphanumeric;
-use line_buffer::{LineBuffer, NoListener, OutOfMemory, is_alphanumeric};
+use line_buffer::{OutOfMemory, is_alphanumeric};
 use std::alloc::Global;
 
 /// What a change does.
@@ -26,8 +27,9 @@ pub struct Entry {
 
 impl Entry {
     ghost use Rattle.std.specs.Prelude.{◌≡◌, ◌≤◌, ◌-◌, ℕ, List, length, OnOk, OnErr, option_copied, option_map, if◌then◌else◌};
-    ghost use Rattle.line_record.specs.Edit.{removed_of, added_of, StandsIn, FitsIn, taken_back, made_anew, undo_place, redo_place};
+    ghost use Rattle.line_record.specs.Edit.{removed_of, added_of, StandsIn, FitsIn};
     ghost use Rattle.line_record.specs.Held.{joined_to, inserted_by};
+    ghost use Rattle.line_record.specs.Items.{taken_back_in, made_anew_in};
     ghost use Rattle.line_record.specs.Logged.{edit_from, edit_in, Spelt, removed_told, added_told, grown};
     ghost use Rattle.line_record.specs.Stored.{event_of};
 
@@ -70,29 +72,35 @@ impl Entry {
     }
 
     /// Puts back what stood there before, the cursor after it.
-    fn take_back(&self, alloc: Global, log: &str, line: &mut LineBuffer) -> Result<(), OutOfMemory>
+    fn take_back<L: EditedLine>(
+        &self,
+        alloc: Global,
+        log: &str,
+        line: &mut L,
+    ) -> Result<(), OutOfMemory>
         requires spelt { Spelt log.now self.now }
-        requires stands { StandsIn (edit_in log.now self.now) line.old.text }
-        ensures line { OnOk result (line.new ≡ record line.old {
-          text = taken_back (edit_in log.now self.now) line.old.text;
-          place = undo_place (edit_in log.now self.now);
-        }) }
-        ensures kept { OnErr result (line.new ≡ line.old) }
+        requires stands { StandsIn (edit_in log.now self.now) (L.value line.old).text }
+        ensures line { OnOk result (L.value line.new ≡ taken_back_in (edit_in log.now self.now)
+            (L.value line.old)) }
+        ensures kept { OnErr result (L.value line.new ≡ L.value line.old) }
     {
-        exchange(alloc, self.at, self.added(log), self.removed(log), line)
+        line.exchange(alloc, self.at, self.added(log), self.removed(log))
     }
 
     /// Puts in again what was there after the change, the cursor after it.
-    fn make_anew(&self, alloc: Global, log: &str, line: &mut LineBuffer) -> Result<(), OutOfMemory>
+    fn make_anew<L: EditedLine>(
+        &self,
+        alloc: Global,
+        log: &str,
+        line: &mut L,
+    ) -> Result<(), OutOfMemory>
         requires spelt { Spelt log.now self.now }
-        requires fits { FitsIn (edit_in log.now self.now) line.old.text }
-        ensures line { OnOk result (line.new ≡ record line.old {
-          text = made_anew (edit_in log.now self.now) line.old.text;
-          place = redo_place (edit_in log.now self.now);
-        }) }
-        ensures kept { OnErr result (line.new ≡ line.old) }
+        requires fits { FitsIn (edit_in log.now self.now) (L.value line.old).text }
+        ensures line { OnOk result (L.value line.new ≡ made_anew_in (edit_in log.now self.now)
+            (L.value line.old)) }
+        ensures kept { OnErr result (L.value line.new ≡ L.value line.old) }
     {
-        exchange(alloc, self.at, self.removed(log), self.added(log), line)
+        line.exchange(alloc, self.at, self.removed(log), self.added(log))
     }
 
     /// Whether what is told joins this change, which was the last before it: the place of the two
@@ -129,8 +137,8 @@ impl Entry {
     }
 }
 
-ghost use Rattle.std.specs.Prelude.{◌≡◌, ◌+◌, ◌==◌, ℕ, All, length, take, drop, OnOk, OnErr};
-ghost use Rattle.line_record.specs.Edit.{StandsAt, exchanged_at, AllStandIn, AllFitIn};
+ghost use Rattle.std.specs.Prelude.{◌≡◌, ◌+◌, ◌==◌, ℕ, All, take, drop, OnOk, OnErr};
+ghost use Rattle.line_record.specs.Edit.{AllStandIn, AllFitIn};
 ghost use Rattle.line_record.specs.Items.{lines_back, lines_ahead};
 ghost use Rattle.line_record.specs.Logged.{edits_in, Spelt};
 
@@ -141,39 +149,19 @@ fn follows(place: usize, before: usize, length: usize) -> bool
     before <= place && place - before == length
 }
 
-/// Exchanges one text at a place for another, the cursor after it.
-fn exchange(
-    alloc: Global,
-    at: usize,
-    from: &str,
-    to: &str,
-    line: &mut LineBuffer,
-) -> Result<(), OutOfMemory>
-    requires { StandsAt at from.now to.now line.old.text }
-    ensures line { OnOk result (line.new ≡ record line.old {
-      text = exchanged_at at from.now to.now line.old.text;
-      place = at + length to.now;
-    }) }
-    ensures kept { OnErr result (line.new ≡ line.old) }
-{
-    // Its contract says that the length fits.
-    let _longest = line.len();
-    line.replace(alloc, at..at + from.len(), to, &mut NoListener)
-}
-
 /// Takes changes back, the newest first. After a refusal some of them are taken back, the newest
 /// ones.
-pub(crate) fn take_back(
+pub(crate) fn take_back<L: EditedLine>(
     alloc: Global,
     log: &str,
     entries: &[Entry],
-    line: &mut LineBuffer,
+    line: &mut L,
 ) -> Result<(), OutOfMemory>
     requires spelt { All (Spelt log.now) entries.now }
-    requires stand { AllStandIn (edits_in log.now entries.now) line.old.text }
-    ensures line { OnOk result (line.new ≡ lines_back (edits_in log.now entries.now) line.old) }
+    requires stand { AllStandIn (edits_in log.now entries.now) (L.value line.old).text }
+    ensures line { OnOk result (L.value line.new ≡ lines_back (edits_in log.now entries.now) (L.value line.old)) }
     ensures part { OnErr result ((j : ℕ)
-        × (line.new ≡ lines_back (drop j (edits_in log.now entries.now)) line.old)) }
+        × (L.value line.new ≡ lines_back (drop j (edits_in log.now entries.now)) (L.value line.old))) }
 {
     let mut left = entries;
     while let Some((newest, earlier)) = left.split_last() {
@@ -184,17 +172,17 @@ pub(crate) fn take_back(
 }
 
 /// Makes changes anew, the oldest first. After a refusal some of them are made, the oldest ones.
-pub(crate) fn make_anew(
+pub(crate) fn make_anew<L: EditedLine>(
     alloc: Global,
     log: &str,
     entries: &[Entry],
-    line: &mut LineBuffer,
+    line: &mut L,
 ) -> Result<(), OutOfMemory>
     requires spelt { All (Spelt log.now) entries.now }
-    requires fit { AllFitIn (edits_in log.now entries.now) line.old.text }
-    ensures line { OnOk result (line.new ≡ lines_ahead (edits_in log.now entries.now) line.old) }
+    requires fit { AllFitIn (edits_in log.now entries.now) (L.value line.old).text }
+    ensures line { OnOk result (L.value line.new ≡ lines_ahead (edits_in log.now entries.now) (L.value line.old)) }
     ensures part { OnErr result ((j : ℕ)
-        × (line.new ≡ lines_ahead (take j (edits_in log.now entries.now)) line.old)) }
+        × (L.value line.new ≡ lines_ahead (take j (edits_in log.now entries.now)) (L.value line.old))) }
 {
     for change in entries {
         change.make_anew(alloc, log, line)?;

@@ -3,7 +3,9 @@
 #![tactic(auto)]
 
 pub mod changeset;
+mod edited_line;
 mod entry;
+mod gap_line;
 pub mod joined;
 pub mod kill_ring;
 pub mod laws;

@@ -1,8 +1,9 @@
 //! The texts of recorded changes, one after the other.
 
+use crate::edited_line::EditedLine;
 use crate::entry::{Entry, Kind, make_anew, take_back};
 use crate::report::Report;
-use line_buffer::{LineBuffer, OutOfMemory};
+use line_buffer::OutOfMemory;
 use std::alloc::Global;
 use std::marker::Model;
 
@@ -166,40 +167,40 @@ impl Log {
 
     /// Takes changes back, the newest first. After a refusal some of them are taken back, the
     /// newest ones.
-    pub fn take_back(
+    pub fn take_back<L: EditedLine>(
         &self,
         alloc: Global,
         first: usize,
         last: usize,
-        line: &mut LineBuffer,
+        line: &mut L,
     ) -> Result<(), OutOfMemory>
         requires order { first ≤ last }
         requires inside { last ≤ length self.now }
-        requires stand { AllStandIn (slice_range self.now first last) line.old.text }
-        ensures line { OnOk result (line.new
-            ≡ lines_back (slice_range self.now first last) line.old) }
+        requires stand { AllStandIn (slice_range self.now first last) (L.value line.old).text }
+        ensures line { OnOk result (L.value line.new
+            ≡ lines_back (slice_range self.now first last) (L.value line.old)) }
         ensures part { OnErr result ((j : ℕ)
-            × (line.new ≡ lines_back (drop j (slice_range self.now first last)) line.old)) }
+            × (L.value line.new ≡ lines_back (drop j (slice_range self.now first last)) (L.value line.old))) }
     {
         take_back(alloc, &self.text, &self.entries[first..last], line)
     }
 
     /// Makes changes anew, the oldest first. After a refusal some of them are made, the oldest
     /// ones.
-    pub fn make_anew(
+    pub fn make_anew<L: EditedLine>(
         &self,
         alloc: Global,
         first: usize,
         last: usize,
-        line: &mut LineBuffer,
+        line: &mut L,
     ) -> Result<(), OutOfMemory>
         requires order { first ≤ last }
         requires inside { last ≤ length self.now }
-        requires fit { AllFitIn (slice_range self.now first last) line.old.text }
-        ensures line { OnOk result (line.new
-            ≡ lines_ahead (slice_range self.now first last) line.old) }
+        requires fit { AllFitIn (slice_range self.now first last) (L.value line.old).text }
+        ensures line { OnOk result (L.value line.new
+            ≡ lines_ahead (slice_range self.now first last) (L.value line.old)) }
         ensures part { OnErr result ((j : ℕ)
-            × (line.new ≡ lines_ahead (take j (slice_range self.now first last)) line.old)) }
+            × (L.value line.new ≡ lines_ahead (take j (slice_range self.now first last)) (L.value line.old))) }
     {
         make_anew(alloc, &self.text, &self.entries[first..last], line)
     }

@@ -1,8 +1,9 @@
 //! The steps of a record, over one log: open marks, lone changes and closed groups.
 
+use crate::edited_line::EditedLine;
 use crate::log::Log;
 use crate::report::Report;
-use line_buffer::{LineBuffer, OutOfMemory};
+use line_buffer::OutOfMemory;
 use std::alloc::Global;
 use std::marker::Model;
 
@@ -202,6 +203,17 @@ impl Steps {
         step.first == step.last
     }
 
+    /// How many changes the step of an index has; none where there is no such step.
+    pub fn change_count(&self, index: usize) -> usize
+        ensures { result ≡ length (changes_of (slice_index_or self.now index Open)) }
+    {
+        if index >= self.len() {
+            return 0;
+        }
+        let step = self.steps[index];
+        step.last - step.first
+    }
+
     /// The text that the newest change of a step put in, if it put one in.
     pub fn inserted(&self, index: usize) -> Option<&str>
         requires { index < length self.now }
@@ -216,19 +228,19 @@ impl Steps {
 
     /// Takes a step's changes back, the newest first. After a refusal some of them are taken back,
     /// the newest ones.
-    pub fn take_back(
+    pub fn take_back<L: EditedLine>(
         &self,
         alloc: Global,
         index: usize,
-        line: &mut LineBuffer,
+        line: &mut L,
     ) -> Result<(), OutOfMemory>
         requires inside { index < length self.now }
         requires stand { AllStandIn (changes_of (slice_index_or self.now index Open))
-            line.old.text }
-        ensures line { OnOk result (line.new
-            ≡ lines_back (changes_of (slice_index_or self.now index Open)) line.old) }
-        ensures part { OnErr result ((j : ℕ) × (line.new
-            ≡ lines_back (drop j (changes_of (slice_index_or self.now index Open))) line.old)) }
+            (L.value line.old).text }
+        ensures line { OnOk result (L.value line.new
+            ≡ lines_back (changes_of (slice_index_or self.now index Open)) (L.value line.old)) }
+        ensures part { OnErr result ((j : ℕ) × (L.value line.new
+            ≡ lines_back (drop j (changes_of (slice_index_or self.now index Open))) (L.value line.old))) }
     {
         let step = self.steps[index];
         self.log.take_back(alloc, step.first, step.last, line)
@@ -236,18 +248,18 @@ impl Steps {
 
     /// Makes a step's changes anew, the oldest first. After a refusal some of them are made, the
     /// oldest ones.
-    pub fn make_anew(
+    pub fn make_anew<L: EditedLine>(
         &self,
         alloc: Global,
         index: usize,
-        line: &mut LineBuffer,
+        line: &mut L,
     ) -> Result<(), OutOfMemory>
         requires inside { index < length self.now }
-        requires fit { AllFitIn (changes_of (slice_index_or self.now index Open)) line.old.text }
-        ensures line { OnOk result (line.new
-            ≡ lines_ahead (changes_of (slice_index_or self.now index Open)) line.old) }
-        ensures part { OnErr result ((j : ℕ) × (line.new
-            ≡ lines_ahead (take j (changes_of (slice_index_or self.now index Open))) line.old)) }
+        requires fit { AllFitIn (changes_of (slice_index_or self.now index Open)) (L.value line.old).text }
+        ensures line { OnOk result (L.value line.new
+            ≡ lines_ahead (changes_of (slice_index_or self.now index Open)) (L.value line.old)) }
+        ensures part { OnErr result ((j : ℕ) × (L.value line.new
+            ≡ lines_ahead (take j (changes_of (slice_index_or self.now index Open))) (L.value line.old))) }
     {
         let step = self.steps[index];
         self.log.make_anew(alloc, step.first, step.last, line)

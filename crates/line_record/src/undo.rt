@@ -1,13 +1,18 @@
 //! Undoing what was recorded, and making it anew.
 
 use crate::changeset::{Changeset, mark_with, mark_within};
+use crate::edited_line::EditedLine;
+use crate::gap_line::GapLine;
 use line_buffer::{LineBuffer, OutOfMemory, RepeatCount};
 use std::alloc::Global;
+
+/// So many changes are made in the line itself, where each moves the text after it.
+const FEW: usize = 8;
 
 impl Changeset {
     ghost use Rattle.std.specs.Prelude.{◌≡◌, ◌+◌, ◌<◌, ◌++◌, ℕ, true, max, drop, IfOk, OnOk, OnErr, IsUtf8};
     ghost use Rattle.line_record.specs.Held.{line_back, has_step, ahead_back, line_ahead, has_step_ahead, held_ahead};
-    ghost use Rattle.line_record.specs.Items.{no_items, undo_one, redo_one, lines_back_one, lines_ahead_one, part_back, part_ahead, nearest_is_change, ItemsStand, DoneStand, UndoneFit, held_on, ahead_on};
+    ghost use Rattle.line_record.specs.Items.{no_items, undo_one, redo_one, undo_many, many_back, many_change, lines_back_one, lines_ahead_one, part_back, part_ahead, nearest_is_change, ItemsStand, DoneStand, UndoneFit, held_on, ahead_on};
 
     /// Takes the last `n` items back: steps, and open marks. 0 acts as 1. Answers whether a step
     /// was among them. The cursor goes to the place of the oldest of their changes, after what was
@@ -35,8 +40,76 @@ impl Changeset {
     {
         // Its contract says that the text is UTF-8.
         let _text = line.as_str();
+        match self.undo_last(alloc, line, n.max(1)) {
+            Ok(undone) => Ok(undone),
+            Err(refusal) => {
+                self.forget();
+                Err(refusal)
+            }
+        }
+    }
+
+    /// `undo_items` in the line itself, or apart from it where there may be many changes.
+    fn undo_last(
+        &mut self,
+        alloc: Global,
+        line: &mut LineBuffer,
+        n: RepeatCount,
+    ) -> Result<bool, OutOfMemory>
+        requires some { 0 < n }
+        requires stand { DoneStand self.old.done line.old.text }
+        ensures answer { IfOk result (λ b. b ≡ many_change n self.old.done) }
+        ensures items { OnOk result (self.new ≡ undo_many n self.old.done self.old.undone) }
+        ensures line { OnOk result (line.new ≡ many_back n self.old.done line.old) }
+        ensures part { OnErr result ((k : ℕ) × (j : ℕ) × (k < n)
+            × (line.new ≡ part_back k j self.old.done line.old)) }
+    {
+        let last = self.done.saturating_sub(1);
+        let is_long = n > 1 || self.steps.change_count(last) > FEW;
+        if is_long {
+            self.undo_apart(alloc, line, n)
+        } else {
+            self.undo_items(alloc, line, n)
+        }
+    }
+
+    /// `undo_items` by a line with a gap, so that many changes cost no more than the way between
+    /// them.
+    fn undo_apart(
+        &mut self,
+        alloc: Global,
+        line: &mut LineBuffer,
+        n: RepeatCount,
+    ) -> Result<bool, OutOfMemory>
+        requires { DoneStand self.old.done line.old.text }
+        ensures answer { IfOk result (λ b. b ≡ many_change n self.old.done) }
+        ensures items { OnOk result (self.new ≡ undo_many n self.old.done self.old.undone) }
+        ensures line { OnOk result (line.new ≡ many_back n self.old.done line.old) }
+        ensures kept { OnErr result (line.new ≡ line.old) }
+    {
+        let mut apart = GapLine::new(alloc, line)?;
+        let undone = self.undo_items(alloc, &mut apart, n)?;
+        apart.write(alloc, line)?;
+        Ok(undone)
+    }
+
+    /// Takes the last `n` items back, and answers whether a step was among them.
+    fn undo_items<L: EditedLine>(
+        &mut self,
+        alloc: Global,
+        line: &mut L,
+        n: RepeatCount,
+    ) -> Result<bool, OutOfMemory>
+        requires { DoneStand self.old.done (L.value line.old).text }
+        ensures answer { IfOk result (λ b. b ≡ many_change n self.old.done) }
+        ensures items { OnOk result (self.new ≡ undo_many n self.old.done self.old.undone) }
+        ensures line { OnOk result (L.value line.new ≡ many_back n self.old.done
+            (L.value line.old)) }
+        ensures part { OnErr result ((k : ℕ) × (j : ℕ) × (k < n)
+            × (L.value line.new ≡ part_back k j self.old.done (L.value line.old))) }
+    {
         let mut undone = false;
-        for _ in 0..n.max(1) {
+        for _ in 0..n {
             match self.undo_item(alloc, line)? {
                 Some(is_step) => undone |= is_step,
                 None => return Ok(undone),
@@ -46,26 +119,24 @@ impl Changeset {
     }
 
     /// Takes the last item back, if there is one; true where it is a step.
-    fn undo_item(
+    fn undo_item<L: EditedLine>(
         &mut self,
         alloc: Global,
-        line: &mut LineBuffer,
+        line: &mut L,
     ) -> Result<Option<bool>, OutOfMemory>
-        requires { DoneStand self.old.done line.old.text }
+        requires { DoneStand self.old.done (L.value line.old).text }
         ensures answer { IfOk result (λ o. o ≡ nearest_is_change self.old.done) }
         ensures items { OnOk result (self.new ≡ undo_one self.old.done self.old.undone) }
-        ensures line { OnOk result (line.new ≡ lines_back_one self.old.done line.old) }
-        ensures refused { OnErr result (self.new ≡ no_items) }
-        ensures part { OnErr result ((j : ℕ) × (line.new ≡ part_back 0 j self.old.done line.old)) }
+        ensures line { OnOk result (L.value line.new ≡ lines_back_one self.old.done
+            (L.value line.old)) }
+        ensures part { OnErr result ((j : ℕ) × (L.value line.new ≡ part_back 0 j self.old.done
+            (L.value line.old))) }
     {
         let Some(last) = self.done.checked_sub(1) else {
             return Ok(None);
         };
         let is_mark = self.steps.is_mark(last);
-        if let Err(refusal) = self.steps.take_back(alloc, last, line) {
-            self.forget();
-            return Err(refusal);
-        }
+        self.steps.take_back(alloc, last, line)?;
         self.done = last;
         self.mark = mark_within(self.mark, last);
         Ok(Some(!is_mark))
@@ -89,14 +160,17 @@ impl Changeset {
     {
         // Its contract says that the text is UTF-8.
         let _text = line.as_str();
-        match self.redo_item(alloc, line)? {
-            Some(is_step) => Ok(is_step),
-            None => Ok(false),
+        match self.redo_next(alloc, line) {
+            Ok(redone) => Ok(redone.unwrap_or(false)),
+            Err(refusal) => {
+                self.forget();
+                Err(refusal)
+            }
         }
     }
 
-    /// Makes the nearest undone item anew, if there is one; true where it is a step.
-    fn redo_item(
+    /// `redo_item` in the line itself, or apart from it where there are many changes.
+    fn redo_next(
         &mut self,
         alloc: Global,
         line: &mut LineBuffer,
@@ -105,18 +179,54 @@ impl Changeset {
         ensures answer { IfOk result (λ o. o ≡ nearest_is_change self.old.undone) }
         ensures items { OnOk result (self.new ≡ redo_one self.old.done self.old.undone) }
         ensures line { OnOk result (line.new ≡ lines_ahead_one self.old.undone line.old) }
-        ensures refused { OnErr result (self.new ≡ no_items) }
         ensures part { OnErr result ((j : ℕ) × (line.new ≡ part_ahead j self.old.undone line.old)) }
+    {
+        let is_long = self.steps.change_count(self.done) > FEW;
+        if is_long {
+            self.redo_apart(alloc, line)
+        } else {
+            self.redo_item(alloc, line)
+        }
+    }
+
+    /// `redo_item` by a line with a gap.
+    fn redo_apart(
+        &mut self,
+        alloc: Global,
+        line: &mut LineBuffer,
+    ) -> Result<Option<bool>, OutOfMemory>
+        requires { UndoneFit self.old.undone line.old.text }
+        ensures answer { IfOk result (λ o. o ≡ nearest_is_change self.old.undone) }
+        ensures items { OnOk result (self.new ≡ redo_one self.old.done self.old.undone) }
+        ensures line { OnOk result (line.new ≡ lines_ahead_one self.old.undone line.old) }
+        ensures kept { OnErr result (line.new ≡ line.old) }
+    {
+        let mut apart = GapLine::new(alloc, line)?;
+        let redone = self.redo_item(alloc, &mut apart)?;
+        apart.write(alloc, line)?;
+        Ok(redone)
+    }
+
+    /// Makes the nearest undone item anew, if there is one; true where it is a step.
+    fn redo_item<L: EditedLine>(
+        &mut self,
+        alloc: Global,
+        line: &mut L,
+    ) -> Result<Option<bool>, OutOfMemory>
+        requires { UndoneFit self.old.undone (L.value line.old).text }
+        ensures answer { IfOk result (λ o. o ≡ nearest_is_change self.old.undone) }
+        ensures items { OnOk result (self.new ≡ redo_one self.old.done self.old.undone) }
+        ensures line { OnOk result (L.value line.new ≡ lines_ahead_one self.old.undone
+            (L.value line.old)) }
+        ensures part { OnErr result ((j : ℕ) × (L.value line.new ≡ part_ahead j self.old.undone
+            (L.value line.old))) }
     {
         let next = self.done;
         if next == self.steps.len() {
             return Ok(None);
         }
         let is_mark = self.steps.is_mark(next);
-        if let Err(refusal) = self.steps.make_anew(alloc, next, line) {
-            self.forget();
-            return Err(refusal);
-        }
+        self.steps.make_anew(alloc, next, line)?;
         self.done = next + 1;
         self.mark = mark_with(self.mark, is_mark, next);
         Ok(Some(!is_mark))

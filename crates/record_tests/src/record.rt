@@ -305,6 +305,27 @@ fn groups_undone_as_one(rt: HostRuntime) -> Result<(), Fail> {
 }
 
 #[test]
+fn long_groups_made_near_and_far(rt: HostRuntime) -> Result<(), Fail> {
+    plays(
+        &rt,
+        "
+        line |漢 = |漢
+        begin = 0 |漢
+        put é b é d é f é h é j = é b é d é f é h é j|漢
+        to_end = é b é d é f é h é j漢|
+        put ! = é b é d é f é h é j漢!|
+        to_start = |é b é d é f é h é j漢!
+        delete 1 = | b é d é f é h é j漢!
+        end = true | b é d é f é h é j漢!
+        undo 1 = true |漢
+        redo = true | b é d é f é h é j漢!
+        put x = x| b é d é f é h é j漢!
+        undo 2 = true |漢
+        ",
+    )
+}
+
+#[test]
 fn open_marks_undone(rt: HostRuntime) -> Result<(), Fail> {
     plays(
         &rt,

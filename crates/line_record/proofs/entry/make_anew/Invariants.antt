@@ -5,7 +5,7 @@ use Rattle.line_record.specs.Logged.{edits_in}
 use Rattle.line_record.proofs.entry.make_anew.Given as goal
 
 abbrev pub invariant-loop-change : goal.invariant-loop-change
-invariant-loop-change l = record {
-  line : l.line ≡ lines_ahead (take l.change-index (edits_in l.log l.entries)) l.fn.line;
-  fit : AllFitIn (drop l.change-index (edits_in l.log l.entries)) l.line.text;
+invariant-loop-change g l = record {
+  line : g.L.EditedLine.value l.line ≡ lines_ahead (take l.change-index (edits_in l.log l.entries)) (g.L.EditedLine.value l.fn.line);
+  fit : AllFitIn (drop l.change-index (edits_in l.log l.entries)) (g.L.EditedLine.value l.line).text;
 }

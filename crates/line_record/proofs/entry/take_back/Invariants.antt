@@ -5,11 +5,11 @@ use Rattle.line_record.specs.Logged.{edits_in, Spelt}
 use Rattle.line_record.proofs.entry.take_back.Given as goal
 
 abbrev pub invariant-loop-newest : goal.invariant-loop-newest
-invariant-loop-newest l = record {
+invariant-loop-newest g l = record {
   left : l.left ≡ take (length l.left) l.entries;
   spelt : All (Spelt l.log) l.left;
-  line : l.line ≡ lines_back (drop (length l.left) (edits_in l.log l.entries)) l.fn.line;
+  line : g.L.EditedLine.value l.line ≡ lines_back (drop (length l.left) (edits_in l.log l.entries)) (g.L.EditedLine.value l.fn.line);
 }
 
 abbrev pub decreases-loop-newest : goal.decreases-loop-newest
-decreases-loop-newest l = length l.left
+decreases-loop-newest g l = length l.left

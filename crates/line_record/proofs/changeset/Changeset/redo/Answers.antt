@@ -1,16 +1,18 @@
-use Rattle.std.proofs.Common.{sym, ◌∙◌}
 use Rattle.line_record.proofs.UndoLemmas.{redone_as}
 use Rattle.line_record.proofs.changeset.Changeset.redo.Goals as goal
 
-pub returns-in-Some : goal.returns-in-Some
-returns-in-Some c =
-    let r = redone_as c.args.self.now c.redo_item.new.self c.args.line.now c.redo_item.new.line c.in_ok-is_step.ensures.items c.in_ok-is_step.ensures.line c.requires c.as_str-text.ensures.utf8 in
-    record {
-      answer = r.answer c.in-Some.is_step (sym c.in-Some.is ∙ c.in_ok-is_step.ensures.answer);
-      line = r.line;
-      held = r.held;
-      ahead = r.ahead;
-      stand = r.stand;
-      refused = tt;
-      part = tt;
-    }
+pub returns-in-Ok-clause-line : goal.returns-in-Ok-clause-line
+returns-in-Ok-clause-line c =
+    (redone_as c.args.self.now c.redo_next.new.self c.args.line.now c.redo_next.new.line c.in-Ok.ensures.items c.in-Ok.ensures.line c.requires c.as_str-text.ensures.utf8).line
+
+pub returns-in-Ok-clause-held : goal.returns-in-Ok-clause-held
+returns-in-Ok-clause-held c =
+    (redone_as c.args.self.now c.redo_next.new.self c.args.line.now c.redo_next.new.line c.in-Ok.ensures.items c.in-Ok.ensures.line c.requires c.as_str-text.ensures.utf8).held
+
+pub returns-in-Ok-clause-ahead : goal.returns-in-Ok-clause-ahead
+returns-in-Ok-clause-ahead c =
+    (redone_as c.args.self.now c.redo_next.new.self c.args.line.now c.redo_next.new.line c.in-Ok.ensures.items c.in-Ok.ensures.line c.requires c.as_str-text.ensures.utf8).ahead
+
+pub returns-in-Ok-clause-stand : goal.returns-in-Ok-clause-stand
+returns-in-Ok-clause-stand c =
+    (redone_as c.args.self.now c.redo_next.new.self c.args.line.now c.redo_next.new.line c.in-Ok.ensures.items c.in-Ok.ensures.line c.requires c.as_str-text.ensures.utf8).stand

@@ -9,16 +9,16 @@ use Rattle.line_record.proofs.LogLemmas.{range_spelt, range_seen}
 use Rattle.line_record.proofs.log.Log.make_anew.Goals as goal
 
 pub make_anew-requires-clause-spelt : goal.make_anew-requires-clause-spelt
-make_anew-requires-clause-spelt c =
+make_anew-requires-clause-spelt g c =
     subst (λ (t : List ℕ). All (Spelt t) (slice_range c.deref-2.result.now c.args.first c.args.last)) (sym c.deref.ensures)
     (subst (λ (es : List Entry). All (Spelt (string_bytes c.self.inside.text)) (slice_range es c.args.first c.args.last)) (sym c.deref-2.ensures.value)
     (range_spelt (string_bytes c.self.inside.text) c.self.inside.entries.items c.args.first c.args.last c.self.invariant))
 
 pub make_anew-requires-clause-fit : goal.make_anew-requires-clause-fit
-make_anew-requires-clause-fit c = subst (λ (es : List Edit). AllFitIn es c.args.line.now.text) (sym (range_seen _ _ _ _ _ c.args.first c.args.last c.deref.ensures c.deref-2.ensures.value c.self.view_is)) c.requires.fit
+make_anew-requires-clause-fit g c = subst (λ (es : List Edit). AllFitIn es (g.L.EditedLine.value c.args.line.now).text) (sym (range_seen _ _ _ _ _ c.args.first c.args.last c.deref.ensures c.deref-2.ensures.value c.self.view_is)) c.requires.fit
 
 pub returns-clause-line : goal.returns-clause-line
-returns-clause-line c = on_ok_weaker c.make_anew.result (λ is. is ∙ ap (λ (es : List Edit). lines_ahead es c.args.line.now) (range_seen _ _ _ _ _ c.args.first c.args.last c.deref.ensures c.deref-2.ensures.value c.self.view_is)) c.make_anew.ensures.line
+returns-clause-line g c = on_ok_weaker c.make_anew.result (λ is. is ∙ ap (λ (es : List Edit). lines_ahead es (g.L.EditedLine.value c.args.line.now)) (range_seen _ _ _ _ _ c.args.first c.args.last c.deref.ensures c.deref-2.ensures.value c.self.view_is)) c.make_anew.ensures.line
 
 pub returns-clause-part : goal.returns-clause-part
-returns-clause-part c = on_err_weaker c.make_anew.result (λ is. (is.0, is.1 ∙ ap (λ (es : List Edit). lines_ahead (take is.0 es) c.args.line.now) (range_seen _ _ _ _ _ c.args.first c.args.last c.deref.ensures c.deref-2.ensures.value c.self.view_is))) c.make_anew.ensures.part
+returns-clause-part g c = on_err_weaker c.make_anew.result (λ is. (is.0, is.1 ∙ ap (λ (es : List Edit). lines_ahead (take is.0 es) (g.L.EditedLine.value c.args.line.now)) (range_seen _ _ _ _ _ c.args.first c.args.last c.deref.ensures c.deref-2.ensures.value c.self.view_is))) c.make_anew.ensures.part

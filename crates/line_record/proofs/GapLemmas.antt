@@ -1,0 +1,104 @@
+-- Two lists of bytes, the second from the text's end: bytes passed from one to the other, and a text exchanged at their seam.
+use Rattle.std.proofs.Common.{◌≡◌, ℕ, zero, suc, ◌+◌, ◌-◌, ◌≤◌, List, [], ◌∷◌, ◌++◌, length, take, drop, reverse, refl, sym, ap, subst, ◌∙◌, arith, append_assoc, length-append}
+use Rattle.std.specs.Prelude.{IsUtf8, IsCharBoundary}
+use Rattle.std.proofs.Math.Seq.{take-append_seam, drop-append_seam}
+use Rattle.std.proofs.lemmas.List.{append-nil, drop_all, take_all, take_at, take-append-drop, take-take, length-drop, length-reverse, reverse-append}
+use Rattle.std.proofs.lemmas.Str.{IsUtf8-drop, IsCharBoundary-at_seam}
+use borrow.Rule.Slice.PartMut.{post_of}
+use Rattle.line_buffer.specs.Line.{Line}
+use Rattle.line_record.specs.Edit.{Edit, StandsAt, exchanged_at}
+use Rattle.line_record.specs.Gap.{seamed, detached, taking_over}
+use Rattle.line_record.specs.Items.{Item, changes_of, taken_back_in, made_anew_in, lines_back, lines_ahead, lines_ahead_one, many_back, part_back, part_ahead}
+use Rattle.line_record.proofs.Exchange.{exchanged}
+
+-- a list whose second part was turned round, as a vector sees it
+pub turned : (xs ys new d e : List ℕ) (s len : ℕ) → d ≡ e → e ≡ xs ++ ys → s ≡ length xs → new ≡ reverse (take (length d - s) (drop s d)) → len ≡ length e
+    → take len ((take s d ++ (new ++ post_of s (length d - s) d)) ++ drop (length (take s d ++ (new ++ post_of s (length d - s) d))) e) ≡ xs ++ reverse ys
+turned xs ys new d e s len same held place round all =
+    let is : d ≡ xs ++ ys = same ∙ held in
+    let front : take s d ≡ xs = ap (take s) is ∙ ap (λ k. take k (xs ++ ys)) place ∙ take-append_seam xs ys in
+    let back : drop s d ≡ ys = ap (drop s) is ∙ ap (λ k. drop k (xs ++ ys)) place ∙ drop-append_seam xs ys in
+    let long : length ys ≤ length d - s = omega (arith, ap (λ l. length l) back, length-drop s d) in
+    let part : new ≡ reverse ys = round ∙ ap (λ l. reverse (take (length d - s) l)) back ∙ ap reverse (take_all (length d - s) ys long) in
+    let post : post_of s (length d - s) d ≡ [] = drop_all (length d - s) (drop s d) (omega (arith, length-drop s d)) in
+    let whole : take s d ++ (new ++ post_of s (length d - s) d) ≡ xs ++ reverse ys = rw (front, part, post, append-nil) refl in
+    let size : length (xs ++ reverse ys) ≡ len = omega (arith, all, ap (λ l. length l) held, length-append xs (reverse ys), length-append xs ys, length-reverse ys) in
+    ap (λ w. take len (w ++ drop (length w) e)) whole ∙ take_at (xs ++ reverse ys) (drop (length (xs ++ reverse ys)) e) len size
+
+pub last_part : (xs d : List ℕ) (size count : ℕ) → d ≡ xs → size ≡ length xs → take (length d - (size - count)) (drop (size - count) d) ≡ drop (length xs - count) xs
+last_part xs d size count is long =
+    take_all (length d - (size - count)) (drop (size - count) d) (omega (arith, length-drop (size - count) d)) ∙ ap (drop (size - count)) is ∙ ap (λ n. drop (n - count) xs) long
+
+-- the seam after it
+pub moved_on : (xs ys : List ℕ) (to size : ℕ) → size ≡ length xs → size ≤ to → to ≤ length (seamed xs ys)
+    → (xs ++ reverse (drop (length ys - (to - size)) ys) ≡ take to (seamed xs ys)) × (reverse (take (length ys - (to - size)) ys) ≡ drop to (seamed xs ys))
+moved_on xs ys to size is more inside =
+    let n = length ys - (to - size) in
+    let kept = take n ys in
+    let passed = drop n ys in
+    let parts : kept ++ passed ≡ ys = take-append-drop n ys in
+    let turned : reverse ys ≡ reverse passed ++ reverse kept = ap reverse (sym parts) ∙ reverse-append kept passed in
+    let whole : seamed xs ys ≡ (xs ++ reverse passed) ++ reverse kept = ap (λ l. xs ++ l) turned ∙ sym (append_assoc xs (reverse passed) (reverse kept)) in
+    let long : length (xs ++ reverse passed) ≡ to =
+    omega (arith, is, more, inside, length-append xs (reverse passed), length-reverse passed, length-drop n ys, length-append xs (reverse ys), length-reverse ys) in (
+      sym (ap (take to) whole ∙ ap (λ k. take k ((xs ++ reverse passed) ++ reverse kept)) (sym long) ∙ take-append_seam (xs ++ reverse passed) (reverse kept)),
+      sym (ap (drop to) whole ∙ ap (λ k. drop k ((xs ++ reverse passed) ++ reverse kept)) (sym long) ∙ drop-append_seam (xs ++ reverse passed) (reverse kept)),
+    )
+
+-- a text before the seam exchanged for another
+pub record Seam (front after : List ℕ) : Type 0 where
+  pub utf8 : IsUtf8 (seamed front after)
+  pub place : IsCharBoundary (seamed front after) (length front)
+
+pub seam_exchanged : (at upto : ℕ) (from to text front after : List ℕ) → upto ≡ at + length from → front ≡ take at (take upto text) ++ to → reverse after ≡ drop upto text
+    → StandsAt at from to text → IsUtf8 text → Seam front after
+seam_exchanged at upto from to text front after is before behind s u =
+    let first : take at (take upto text) ≡ take at text = take-take at upto text (omega (arith, is)) in
+    let whole : seamed front after ≡ exchanged_at at from to text =
+    ap (λ l. l ++ reverse after) (before ∙ ap (λ l. l ++ to) first) ∙ ap (λ l. (take at text ++ to) ++ l) (behind ∙ ap (λ k. drop k text) is) in
+    let rest : IsUtf8 (reverse after) = subst IsUtf8 (sym (behind ∙ ap (λ k. drop k text) is)) (IsUtf8-drop text (at + length from) u s.end) in
+    record {
+      utf8 = subst IsUtf8 (sym whole) (exchanged at from to text s u).utf8;
+      place = IsCharBoundary-at_seam (seamed front after) front (reverse after) refl rest;
+    }
+
+-- the seam moved alone
+pub seam_moved : (upto : ℕ) (text front after : List ℕ) → front ≡ take upto text → reverse after ≡ drop upto text → seamed front after ≡ text
+seam_moved upto text front after before behind =
+    ap (λ l. l ++ reverse after) before ∙ ap (λ l. take upto text ++ l) behind ∙ take-append-drop upto text
+
+-- a line that takes over what was made of its text and cursor alone
+back_over : (cs : List Edit) (l m : Line) → lines_back cs (taking_over l m) ≡ taking_over l (lines_back cs m)
+back_over [] l m = refl
+back_over (c ∷ cs) l m = ap (taken_back_in c) (back_over cs l m)
+
+ahead_over : (cs : List Edit) (l m : Line) → lines_ahead cs (taking_over l m) ≡ taking_over l (lines_ahead cs m)
+ahead_over [] l m = refl
+ahead_over (c ∷ cs) l m = ahead_over cs l (made_anew_in c m)
+
+many_over : (n : ℕ) (items : List Item) (l m : Line) → many_back n items (taking_over l m) ≡ taking_over l (many_back n items m)
+many_over zero items l m = refl
+many_over (suc n) [] l m = refl
+many_over (suc n) (x ∷ items) l m = ap (many_back n items) (back_over (changes_of x) l m) ∙ many_over n items l (lines_back (changes_of x) m)
+
+pub many_back_apart : (n : ℕ) (items : List Item) (l : Line) → taking_over l (many_back n items (detached l)) ≡ many_back n items l
+many_back_apart n items l = sym (many_over n items l (detached l))
+
+ahead_one_over : (items : List Item) (l m : Line) → lines_ahead_one items (taking_over l m) ≡ taking_over l (lines_ahead_one items m)
+ahead_one_over [] l m = refl
+ahead_one_over (x ∷ items) l m = ahead_over (changes_of x) l m
+
+pub ahead_one_apart : (items : List Item) (l : Line) → taking_over l (lines_ahead_one items (detached l)) ≡ lines_ahead_one items l
+ahead_one_apart items l = sym (ahead_one_over items l (detached l))
+
+-- a line as it was is a part of an undo, of which nothing is done
+back_none : (cs : List Edit) (l : Line) → lines_back (drop (length cs) cs) l ≡ l
+back_none cs l = ap (λ ds. lines_back ds l) (drop_all (length cs) cs (omega arith))
+
+pub no_part_back : (items : List Item) (l : Line) → (j : ℕ) × (l ≡ part_back 0 j items l)
+no_part_back [] l = (0, refl)
+no_part_back (x ∷ items) l = (length (changes_of x), sym (back_none (changes_of x) l))
+
+pub no_part_ahead : (items : List Item) (l : Line) → (j : ℕ) × (l ≡ part_ahead j items l)
+no_part_ahead [] l = (0, refl)
+no_part_ahead (x ∷ items) l = (0, refl)
