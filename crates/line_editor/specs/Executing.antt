@@ -1,5 +1,5 @@
 -- What a command makes of a state and of the ring.
-use Rattle.std.specs.Prelude.{◌≡◌, ◌⊎◌, Result, Ok, Err}
+use Rattle.std.specs.Prelude.{◌≡◌, ◌⊎◌, Bool, true, false, Result, Ok, Err}
 use Rattle.line_config.specs.declared.errors.ReadlineError.{ReadlineError}
 use Rattle.line_help.specs.declared.completion as completions
 use Rattle.line_help.specs.declared.hint as hints
@@ -7,12 +7,24 @@ use Rattle.line_help.specs.declared.highlight as highlights
 use Rattle.line_help.specs.declared.validate as verdicts
 use Rattle.line_help.specs.declared.history as histories
 use Rattle.line_keys.specs.declared.command.Cmd.{Cmd}
+use Rattle.line_keys.specs.declared.command.Cmd.TheVariants.{AcceptLine, AcceptOrInsertLine, EndOfFile, Interrupt, Kill, Replace, ViYankTo}
 use Rattle.line_record.specs.Ring.{Ring}
 use Rattle.line_editor.specs.Commands.{Means, effect, ring_after_command, LeavesRing, outcome}
 use Rattle.line_editor.specs.States.{value_of, setting_of, Does}
 use Rattle.line_editor.specs.declared.commands.Status.{Status}
 use Rattle.line_editor.specs.declared.renderer as renderers
 use Rattle.line_editor.specs.declared.state.State.{State}
+
+-- a command that neither ends a line nor kills
+abbrev pub is_simple : Cmd → Bool
+is_simple EndOfFile = false
+is_simple AcceptLine = false
+is_simple (AcceptOrInsertLine middle) = false
+is_simple Interrupt = false
+is_simple (Kill movement) = false
+is_simple (Replace movement text) = false
+is_simple (ViYankTo movement) = false
+is_simple cmd = true
 
 module _ {Out H Hi K T : Type 0} {renderer : renderers.Renderer.Ghosts Out}
     {completer : completions.Completer.Ghosts H K} {candidate : completions.Candidate.Ghosts K}

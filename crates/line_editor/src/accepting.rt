@@ -65,9 +65,10 @@ impl<'p, 'h, Out: Renderer, H: Helper + Drop, Hi: History> State<'p, 'h, Out, H,
         ensures does { Does (told_if draws text.now kind) self.old self.new result }
     {
         if draws || text.is_some() {
-            self.tell(text_of(text), kind)?;
+            self.tell(text_of(text), kind)
+        } else {
+            Ok(())
         }
-        Ok(())
     }
 
     /// Asks the helper whether the line is whole. Where a message came, or a group was closed or a
@@ -117,9 +118,10 @@ impl<'p, 'h, Out: Renderer, H: Helper + Drop, Hi: History> State<'p, 'h, Out, H,
         ensures does { Does (newline_if accepted found.now) self.old self.new result }
     {
         if !accepted && (found.is_valid() || !found.has_message()) {
-            self.edit_insert('\n', 1)?;
+            self.edit_insert('\n', 1)
+        } else {
+            Ok(())
         }
-        Ok(())
     }
 
     /// Accepts a valid line, and inserts a newline into any other; whether it is accepted.
@@ -139,8 +141,7 @@ impl<'p, 'h, Out: Renderer, H: Helper + Drop, Hi: History> State<'p, 'h, Out, H,
         ensures does { Does newline self.old self.new result }
     {
         self.bare_line()?;
-        self.edit_insert('\n', 1)?;
-        Ok(())
+        self.edit_insert('\n', 1)
     }
 
     /// The end of an accepted line: the cursor after the text, then the display's after the

@@ -1,8 +1,9 @@
 //! What a command makes of a line.
-ghost use Rattle.std.specs.Prelude.{◌≡◌, IfOk, IfErr, OnOk};
+ghost use Rattle.std.specs.Prelude.{◌≡◌, true, Ok, IfOk, IfErr, OnOk};
 ghost use Rattle.line_keys.specs.InputStates.{input_of};
 ghost use Rattle.line_editor.specs.Commands.{means_of};
-ghost use Rattle.line_editor.specs.Executing.{Executes};
+ghost use Rattle.line_editor.specs.Executing.{Executes, is_simple};
+ghost use Rattle.line_editor.specs.declared.commands.Status.TheVariants.{Proceed};
 
 use crate::renderer::Renderer;
 use crate::state::State;
@@ -59,6 +60,68 @@ impl<'p, 'h, Out: Renderer, H: Helper + Drop, Hi: History> State<'p, 'h, Out, H,
         }
     }
 
+    /// Does what a command says that neither ends a line nor kills.
+    fn obey<D: Decides>(
+        &mut self,
+        cmd: &Cmd,
+        input_state: &InputState<'_, D>,
+        ring: &mut KillRing,
+        indent: u8,
+    ) -> Result<(), ReadlineError>
+        requires { is_simple cmd.now ≡ true }
+        ensures does { Does (effect (means_of (input_of input_state.now) indent ring.old) cmd.now)
+            self.old self.new result }
+        ensures outcome { outcome (means_of (input_of input_state.now) indent ring.old) cmd.now
+            (setting_of self.old) (value_of self.old) ≡ Ok Proceed }
+        ensures ring { ring.new ≡ ring_after_command cmd.now (value_of self.old) ring.old }
+    {
+        match cmd {
+            Cmd::SelfInsert(n, c) => self.edit_insert(*c, *n),
+            Cmd::Newline => self.newline(),
+            Cmd::Insert(n, text) => self.edit_yank(input_state, text.as_str(), Anchor::Before, *n),
+            Cmd::Yank(n, anchor) => self.yank_from(ring, input_state, *anchor, *n),
+            Cmd::YankPop => self.pop_from(ring),
+            Cmd::Move(movement) => self.edit_move(movement),
+            Cmd::ReplaceChar(n, c) => self.edit_replace_char(*c, *n),
+            Cmd::Overwrite(c) => self.edit_overwrite_char(*c),
+            Cmd::ClearScreen => self.clear_and_draw(),
+            Cmd::Repaint => self.refresh(),
+            Cmd::PreviousHistory => self.edit_history_next(true),
+            Cmd::NextHistory => self.edit_history_next(false),
+            Cmd::BeginningOfHistory => self.edit_history(true),
+            Cmd::EndOfHistory => self.edit_history(false),
+            Cmd::LineUpOrPreviousHistory(n) => self.line_up_or_previous(*n),
+            Cmd::LineDownOrNextHistory(n) => self.line_down_or_next(*n),
+            Cmd::HistorySearchBackward => self.edit_history_search(SearchDirection::Reverse),
+            Cmd::HistorySearchForward => self.edit_history_search(SearchDirection::Forward),
+            Cmd::TransposeChars => self.edit_transpose_chars(),
+            Cmd::TransposeWords(n) => self.edit_transpose_words(*n),
+            Cmd::CapitalizeWord => self.edit_word(WordAction::Capitalize),
+            Cmd::DowncaseWord => self.edit_word(WordAction::Lowercase),
+            Cmd::UpcaseWord => self.edit_word(WordAction::Uppercase),
+            Cmd::Undo(n) => self.edit_undo(*n),
+            Cmd::Indent(movement) => self.edit_indent(movement, indent, false),
+            Cmd::Dedent(movement) => self.edit_indent(movement, indent, true),
+            Cmd::CompleteHint => self.complete_hint(),
+            Cmd::AcceptLine
+            | Cmd::AcceptOrInsertLine { .. }
+            | Cmd::EndOfFile
+            | Cmd::Interrupt
+            | Cmd::Kill(_)
+            | Cmd::Replace(..)
+            | Cmd::ViYankTo(_)
+            | Cmd::Abort
+            | Cmd::Complete
+            | Cmd::CompleteBackward
+            | Cmd::ForwardSearchHistory
+            | Cmd::Noop
+            | Cmd::QuotedInsert
+            | Cmd::ReverseSearchHistory
+            | Cmd::Suspend
+            | Cmd::Unknown => Ok(()),
+        }
+    }
+
     /// Does what a command says, and answers how it ends.
     pub(crate) fn perform<D: Decides>(
         &mut self,
@@ -78,68 +141,44 @@ impl<'p, 'h, Out: Renderer, H: Helper + Drop, Hi: History> State<'p, 'h, Out, H,
             (λ e. LeavesRing cmd.now (value_of self.old) ring.old ring.new e) }
     {
         match cmd {
-            Cmd::SelfInsert(n, c) => self.edit_insert(*c, *n)?,
-            Cmd::Newline => self.newline()?,
-            Cmd::Insert(n, text) => {
-                self.edit_yank(input_state, text.as_str(), Anchor::Before, *n)?
-            }
-            Cmd::Yank(n, anchor) => self.yank_from(ring, input_state, *anchor, *n)?,
-            Cmd::YankPop => self.pop_from(ring)?,
-            Cmd::Move(movement) => self.edit_move(movement)?,
-            Cmd::Kill(movement) => self.edit_kill(movement, ring)?,
-            Cmd::Replace(movement, text) => self.edit_replace(movement, text, ring)?,
-            Cmd::ReplaceChar(n, c) => self.edit_replace_char(*c, *n)?,
-            Cmd::Overwrite(c) => self.edit_overwrite_char(*c)?,
             Cmd::EndOfFile => {
                 self.bare_line()?;
-                return Ok(self.end_of_file(input_state.is_emacs_mode()));
+                Ok(self.end_of_file(input_state.is_emacs_mode()))
             }
-            Cmd::ClearScreen => self.clear_and_draw()?,
-            Cmd::Repaint => self.refresh()?,
-            Cmd::PreviousHistory => self.edit_history_next(true)?,
-            Cmd::NextHistory => self.edit_history_next(false)?,
-            Cmd::BeginningOfHistory => self.edit_history(true)?,
-            Cmd::EndOfHistory => self.edit_history(false)?,
-            Cmd::LineUpOrPreviousHistory(n) => self.line_up_or_previous(*n)?,
-            Cmd::LineDownOrNextHistory(n) => self.line_down_or_next(*n)?,
-            Cmd::HistorySearchBackward => self.edit_history_search(SearchDirection::Reverse)?,
-            Cmd::HistorySearchForward => self.edit_history_search(SearchDirection::Forward)?,
-            Cmd::TransposeChars => self.edit_transpose_chars()?,
-            Cmd::TransposeWords(n) => self.edit_transpose_words(*n)?,
-            Cmd::CapitalizeWord => self.edit_word(WordAction::Capitalize)?,
-            Cmd::DowncaseWord => self.edit_word(WordAction::Lowercase)?,
-            Cmd::UpcaseWord => self.edit_word(WordAction::Uppercase)?,
-            Cmd::ViYankTo(movement) => self.copy_to_ring(movement, ring)?,
-            Cmd::Undo(n) => self.edit_undo(*n)?,
-            Cmd::Indent(movement) => self.edit_indent(movement, indent, false)?,
-            Cmd::Dedent(movement) => self.edit_indent(movement, indent, true)?,
-            Cmd::CompleteHint => self.complete_hint()?,
             Cmd::AcceptLine => {
                 self.accept()?;
-                return Ok(Ok(Status::Submit));
+                Ok(Ok(Status::Submit))
             }
             Cmd::AcceptOrInsertLine {
                 accept_in_the_middle,
             } => {
                 if self.accept_or_insert(*accept_in_the_middle)? {
-                    return Ok(Ok(Status::Submit));
+                    Ok(Ok(Status::Submit))
+                } else {
+                    Ok(Ok(Status::Proceed))
                 }
             }
             Cmd::Interrupt => {
                 self.move_cursor_to_end()?;
-                return Ok(Err(ReadlineError::Interrupted));
+                Ok(Err(ReadlineError::Interrupted))
             }
-            Cmd::Abort
-            | Cmd::Complete
-            | Cmd::CompleteBackward
-            | Cmd::ForwardSearchHistory
-            | Cmd::Noop
-            | Cmd::QuotedInsert
-            | Cmd::ReverseSearchHistory
-            | Cmd::Suspend
-            | Cmd::Unknown => {}
+            Cmd::Kill(movement) => {
+                self.edit_kill(movement, ring)?;
+                Ok(Ok(Status::Proceed))
+            }
+            Cmd::Replace(movement, text) => {
+                self.edit_replace(movement, text, ring)?;
+                Ok(Ok(Status::Proceed))
+            }
+            Cmd::ViYankTo(movement) => {
+                self.copy_to_ring(movement, ring)?;
+                Ok(Ok(Status::Proceed))
+            }
+            _ => {
+                self.obey(cmd, input_state, ring, indent)?;
+                Ok(Ok(Status::Proceed))
+            }
         }
-        Ok(Ok(Status::Proceed))
     }
 }
 
@@ -155,8 +194,5 @@ pub fn execute<'p, 'h, Out: Renderer, H: Helper + Drop, Hi: History, D: Decides>
     ensures { Executes (means_of (input_of input_state.now) config.now.indent_size kill_ring.old)
         cmd s.old s.new kill_ring.new result }
 {
-    match s.perform(&cmd, input_state, kill_ring, config.indent_size()) {
-        Ok(answer) => answer,
-        Err(refusal) => Err(refusal),
-    }
+    s.perform(&cmd, input_state, kill_ring, config.indent_size())?
 }

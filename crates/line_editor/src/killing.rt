@@ -74,9 +74,10 @@ impl<'p, 'h, Out: Renderer, H: Helper + Drop, Hi: History> State<'p, 'h, Out, H,
         ensures does { Does (insert_text_if text.now) self.old self.new result }
     {
         if let Some(text) = text {
-            self.edit_insert_text(text.as_str())?;
+            self.edit_insert_text(text.as_str())
+        } else {
+            Ok(())
         }
-        Ok(())
     }
 
     /// Kills what a movement names, and puts a text there.

@@ -23,9 +23,10 @@ impl<'p, 'h, Out: Renderer, H: Helper + Drop, Hi: History> State<'p, 'h, Out, H,
         ensures does { Does (move_backward n) self.old self.new result }
     {
         if self.line.move_backward(n) {
-            self.move_cursor(CmdKind::MoveCursor)?;
+            self.move_cursor(CmdKind::MoveCursor)
+        } else {
+            Ok(())
         }
-        Ok(())
     }
 
     /// Moves on by clusters.
@@ -33,9 +34,10 @@ impl<'p, 'h, Out: Renderer, H: Helper + Drop, Hi: History> State<'p, 'h, Out, H,
         ensures does { Does (move_forward n) self.old self.new result }
     {
         if self.line.move_forward(n) {
-            self.move_cursor(CmdKind::MoveCursor)?;
+            self.move_cursor(CmdKind::MoveCursor)
+        } else {
+            Ok(())
         }
-        Ok(())
     }
 
     /// Moves to the row's start.
@@ -43,9 +45,10 @@ impl<'p, 'h, Out: Renderer, H: Helper + Drop, Hi: History> State<'p, 'h, Out, H,
         ensures does { Does move_home self.old self.new result }
     {
         if self.line.move_home() {
-            self.move_cursor(CmdKind::MoveCursor)?;
+            self.move_cursor(CmdKind::MoveCursor)
+        } else {
+            Ok(())
         }
-        Ok(())
     }
 
     /// Moves to the row's end.
@@ -53,9 +56,10 @@ impl<'p, 'h, Out: Renderer, H: Helper + Drop, Hi: History> State<'p, 'h, Out, H,
         ensures does { Does move_end self.old self.new result }
     {
         if self.line.move_end() {
-            self.move_cursor(CmdKind::MoveCursor)?;
+            self.move_cursor(CmdKind::MoveCursor)
+        } else {
+            Ok(())
         }
-        Ok(())
     }
 
     /// Moves to the text's start.
@@ -63,9 +67,10 @@ impl<'p, 'h, Out: Renderer, H: Helper + Drop, Hi: History> State<'p, 'h, Out, H,
         ensures does { Does move_buffer_start self.old self.new result }
     {
         if self.line.move_buffer_start() {
-            self.move_cursor(CmdKind::MoveCursor)?;
+            self.move_cursor(CmdKind::MoveCursor)
+        } else {
+            Ok(())
         }
-        Ok(())
     }
 
     /// Moves to the text's end.
@@ -73,9 +78,10 @@ impl<'p, 'h, Out: Renderer, H: Helper + Drop, Hi: History> State<'p, 'h, Out, H,
         ensures does { Does (move_buffer_end kind) self.old self.new result }
     {
         if self.line.move_buffer_end() {
-            self.move_cursor(kind)?;
+            self.move_cursor(kind)
+        } else {
+            Ok(())
         }
-        Ok(())
     }
 
     /// Moves back to a word's start.
@@ -87,9 +93,10 @@ impl<'p, 'h, Out: Renderer, H: Helper + Drop, Hi: History> State<'p, 'h, Out, H,
         ensures does { Does (move_to_prev_word word n) self.old self.new result }
     {
         if self.line.move_to_prev_word(word, n) {
-            self.move_cursor(CmdKind::MoveCursor)?;
+            self.move_cursor(CmdKind::MoveCursor)
+        } else {
+            Ok(())
         }
-        Ok(())
     }
 
     /// Moves on to a word.
@@ -102,9 +109,10 @@ impl<'p, 'h, Out: Renderer, H: Helper + Drop, Hi: History> State<'p, 'h, Out, H,
         ensures does { Does (move_to_next_word at word n) self.old self.new result }
     {
         if self.line.move_to_next_word(at, word, n) {
-            self.move_cursor(CmdKind::MoveCursor)?;
+            self.move_cursor(CmdKind::MoveCursor)
+        } else {
+            Ok(())
         }
-        Ok(())
     }
 
     /// Moves to a character.
@@ -112,9 +120,10 @@ impl<'p, 'h, Out: Renderer, H: Helper + Drop, Hi: History> State<'p, 'h, Out, H,
         ensures does { Does (move_to search n) self.old self.new result }
     {
         if self.line.move_to(search, n) {
-            self.move_cursor(CmdKind::MoveCursor)?;
+            self.move_cursor(CmdKind::MoveCursor)
+        } else {
+            Ok(())
         }
-        Ok(())
     }
 
     /// The layout after the session's own prompt, of which motions by rows see the prompt's end.
@@ -184,25 +193,26 @@ impl<'p, 'h, Out: Renderer, H: Helper + Drop, Hi: History> State<'p, 'h, Out, H,
         ensures does { Does (move_by movement.now) self.old self.new result }
     {
         match movement {
-            Movement::WholeLine | Movement::WholeBuffer => {}
-            Movement::BeginningOfLine => self.edit_move_home()?,
-            Movement::EndOfLine => self.edit_move_end()?,
-            Movement::BackwardWord(n, word) => self.edit_move_to_prev_word(*word, *n)?,
-            Movement::ForwardWord(n, at, word) => self.edit_move_to_next_word(*at, *word, *n)?,
-            Movement::ViCharSearch(n, search) => self.edit_move_to(*search, *n)?,
-            Movement::ViFirstPrint => self.edit_move_to_first_print()?,
-            Movement::BackwardChar(n) => self.edit_move_backward(*n)?,
-            Movement::ForwardChar(n) => self.edit_move_forward(*n)?,
+            Movement::WholeLine | Movement::WholeBuffer => Ok(()),
+            Movement::BeginningOfLine => self.edit_move_home(),
+            Movement::EndOfLine => self.edit_move_end(),
+            Movement::BackwardWord(n, word) => self.edit_move_to_prev_word(*word, *n),
+            Movement::ForwardWord(n, at, word) => self.edit_move_to_next_word(*at, *word, *n),
+            Movement::ViCharSearch(n, search) => self.edit_move_to(*search, *n),
+            Movement::ViFirstPrint => self.edit_move_to_first_print(),
+            Movement::BackwardChar(n) => self.edit_move_backward(*n),
+            Movement::ForwardChar(n) => self.edit_move_forward(*n),
             Movement::LineUp(n) => {
                 self.edit_move_line_up(*n)?;
+                Ok(())
             }
             Movement::LineDown(n) => {
                 self.edit_move_line_down(*n)?;
+                Ok(())
             }
-            Movement::BeginningOfBuffer => self.edit_move_buffer_start()?,
-            Movement::EndOfBuffer => self.edit_move_buffer_end(CmdKind::MoveCursor)?,
+            Movement::BeginningOfBuffer => self.edit_move_buffer_start(),
+            Movement::EndOfBuffer => self.edit_move_buffer_end(CmdKind::MoveCursor),
         }
-        Ok(())
     }
 }
 

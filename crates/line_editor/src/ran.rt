@@ -49,10 +49,7 @@ impl<'p, 'h, Out: Renderer, H: Helper + Drop, Hi: History> State<'p, 'h, Out, H,
             line,
             ..
         } = self;
-        let outcome = match read {
-            Ok(()) => Ok(line.into_string()),
-            Err(refusal) => Err(refusal),
-        };
+        let outcome = read.map(|()| line.into_string());
         Ran {
             out,
             helper,
