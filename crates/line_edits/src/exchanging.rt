@@ -1,11 +1,11 @@
 //! Clusters exchanged for characters.
-ghost use Rattle.std.specs.Prelude.{◌≡◌, ◌≤◌, true, length, is_some, IfOk, IsCharBoundary};
+ghost use Rattle.std.specs.Prelude.{◌≡◌, ◌≤◌, true, length, is_some, IsCharBoundary};
 ghost use Rattle.unicode_segmentation.specs.Grapheme.{graphemes};
 ghost use Rattle.line_buffer.specs.Clusters.{place_forward};
 ghost use Rattle.line_record.specs.Items.{ItemsStand};
 ghost use Rattle.line_edits.specs.Edits.{deleted, clusters_after, exchanged_for, chars_replaced, replaced_if_any, put_over, overwritten};
 ghost use Rattle.line_edits.specs.Plain.{is_plain};
-ghost use Rattle.line_edits.specs.Written.{Writes};
+ghost use Rattle.line_edits.specs.Written.{Edits, Writes};
 
 use crate::inserting::insert_told;
 use crate::plain::is_plain;
@@ -39,7 +39,7 @@ fn delete_told(
     n: RepeatCount,
 ) -> Result<(), OutOfMemory>
     requires { ItemsStand changes.old line.old.text }
-    ensures writes { Writes (deleted n) line.old line.new changes.old changes.new result }
+    ensures { Writes (deleted n) tt line.old line.new changes.old changes.new result }
 {
     let _text = line.as_str();
     line.delete(alloc, n, changes)?;
@@ -54,7 +54,7 @@ fn exchange(
     n: RepeatCount,
 ) -> Result<(), OutOfMemory>
     requires { ItemsStand changes.old line.old.text }
-    ensures writes { Writes (exchanged_for ch n (clusters_after n line.old))
+    ensures { Writes (exchanged_for ch n (clusters_after n line.old)) tt
         line.old line.new changes.old changes.new result }
 {
     let count = clusters_after(line, n);
@@ -72,7 +72,7 @@ fn exchange_in_group(
     n: RepeatCount,
 ) -> Result<(), OutOfMemory>
     requires { ItemsStand changes.old line.old.text }
-    ensures writes { Writes (chars_replaced ch n) line.old line.new changes.old changes.new result }
+    ensures { Writes (chars_replaced ch n) tt line.old line.new changes.old changes.new result }
 {
     changes.begin(alloc)?;
     exchange(alloc, line, changes, ch, n)?;
@@ -92,10 +92,8 @@ pub fn replace_chars(
 ) -> Result<bool, OutOfMemory>
     requires stand { ItemsStand changes.old line.old.text }
     requires plain { plain.old ≡ is_plain line.old.text }
-    ensures answer { IfOk result (λ b. b ≡ is_some (place_forward n line.old)) }
-    ensures writes { Writes (replaced_if_any ch n)
-        line.old line.new changes.old changes.new result }
-    ensures plain { plain.new ≡ is_plain line.new.text }
+    ensures { Edits (replaced_if_any ch n) (is_some (place_forward n line.old))
+        line.old line.new changes.old changes.new plain.new result }
 {
     if line.next_pos(n).is_none() {
         return Ok(false);
@@ -116,7 +114,7 @@ fn put_over(
     requires order { line.old.place ≤ end }
     requires boundary { IsCharBoundary line.old.text end }
     requires stand { ItemsStand changes.old line.old.text }
-    ensures writes { Writes (put_over ch end) line.old line.new changes.old changes.new result }
+    ensures { Writes (put_over ch end) tt line.old line.new changes.old changes.new result }
 {
     let _text = line.as_str();
     let at = line.pos();
@@ -136,9 +134,8 @@ pub fn overwrite(
 ) -> Result<bool, OutOfMemory>
     requires stand { ItemsStand changes.old line.old.text }
     requires plain { plain.old ≡ is_plain line.old.text }
-    ensures answer { IfOk result (λ b. b ≡ is_some (place_forward 1 line.old)) }
-    ensures writes { Writes (overwritten ch) line.old line.new changes.old changes.new result }
-    ensures plain { plain.new ≡ is_plain line.new.text }
+    ensures { Edits (overwritten ch) (is_some (place_forward 1 line.old))
+        line.old line.new changes.old changes.new plain.new result }
 {
     let Some(end) = line.next_pos(1) else {
         return Ok(false);

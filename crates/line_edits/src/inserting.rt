@@ -1,10 +1,10 @@
 //! Texts put in.
-ghost use Rattle.std.specs.Prelude.{◌≡◌, ◌≤◌, ◌-◌, true, IfOk, OnOk, OnErr, IsCharBoundary};
+ghost use Rattle.std.specs.Prelude.{◌≡◌, ◌≤◌, ◌-◌, true, OnErr, IsCharBoundary};
 ghost use Rattle.line_buffer.specs.Insertions.{insert as insertion, yank as yanked_in};
 ghost use Rattle.line_record.specs.Items.{ItemsStand};
 ghost use Rattle.line_edits.specs.Edits.{char_typed, text_yanked, popped, put_behind, pop_in_group};
 ghost use Rattle.line_edits.specs.Plain.{is_plain};
-ghost use Rattle.line_edits.specs.Written.{Writes};
+ghost use Rattle.line_edits.specs.Written.{Edits, Writes};
 
 use crate::plain::{is_plain, is_printable};
 use line_buffer::{LineBuffer, OutOfMemory, RepeatCount};
@@ -19,8 +19,8 @@ pub(crate) fn insert_told(
     n: RepeatCount,
 ) -> Result<Option<bool>, OutOfMemory>
     requires { ItemsStand changes.old line.old.text }
-    ensures answer { IfOk result (λ a. a ≡ (insertion ch n line.old).answer) }
-    ensures writes { Writes (char_typed ch n) line.old line.new changes.old changes.new result }
+    ensures writes { Writes (char_typed ch n) (insertion ch n line.old).answer
+        line.old line.new changes.old changes.new result }
     ensures kept { OnErr result (line.new ≡ line.old) }
 {
     let _text = line.as_str();
@@ -40,9 +40,8 @@ pub fn insert_char(
 ) -> Result<Option<bool>, OutOfMemory>
     requires stand { ItemsStand changes.old line.old.text }
     requires plain { plain.old ≡ is_plain line.old.text }
-    ensures answer { IfOk result (λ a. a ≡ (insertion ch n line.old).answer) }
-    ensures writes { Writes (char_typed ch n) line.old line.new changes.old changes.new result }
-    ensures plain { plain.new ≡ is_plain line.new.text }
+    ensures { Edits (char_typed ch n) (insertion ch n line.old).answer
+        line.old line.new changes.old changes.new plain.new result }
 {
     let at_end = insert_told(alloc, line, changes, ch, n)?;
     if n == 1 && *plain && is_printable(ch) {
@@ -59,7 +58,8 @@ fn text_told(
     text: &str,
 ) -> Result<(), OutOfMemory>
     requires { ItemsStand changes.old line.old.text }
-    ensures writes { Writes (put_behind text.now) line.old line.new changes.old changes.new result }
+    ensures writes { Writes (put_behind text.now) tt
+        line.old line.new changes.old changes.new result }
     ensures kept { OnErr result (line.new ≡ line.old) }
 {
     let _text = line.as_str();
@@ -76,9 +76,9 @@ pub fn insert_text(
     plain: &mut bool,
     text: &str,
 ) -> Result<(), OutOfMemory>
-    requires stand { ItemsStand changes.old line.old.text }
-    ensures writes { Writes (put_behind text.now) line.old line.new changes.old changes.new result }
-    ensures plain { plain.new ≡ is_plain line.new.text }
+    requires { ItemsStand changes.old line.old.text }
+    ensures { Edits (put_behind text.now) tt
+        line.old line.new changes.old changes.new plain.new result }
 {
     let done = text_told(alloc, line, changes, text);
     *plain = is_plain(line.as_str());
@@ -93,9 +93,8 @@ fn yank_told(
     n: RepeatCount,
 ) -> Result<Option<bool>, OutOfMemory>
     requires { ItemsStand changes.old line.old.text }
-    ensures answer { IfOk result (λ a. a ≡ (yanked_in text.now n line.old).answer) }
-    ensures writes { Writes (text_yanked text.now n) line.old line.new changes.old changes.new
-        result }
+    ensures writes { Writes (text_yanked text.now n) (yanked_in text.now n line.old).answer
+        line.old line.new changes.old changes.new result }
     ensures kept { OnErr result (line.new ≡ line.old) }
 {
     let _text = line.as_str();
@@ -111,11 +110,9 @@ pub fn yank(
     text: &str,
     n: RepeatCount,
 ) -> Result<Option<bool>, OutOfMemory>
-    requires stand { ItemsStand changes.old line.old.text }
-    ensures answer { IfOk result (λ a. a ≡ (yanked_in text.now n line.old).answer) }
-    ensures writes { Writes (text_yanked text.now n) line.old line.new changes.old changes.new
-        result }
-    ensures plain { plain.new ≡ is_plain line.new.text }
+    requires { ItemsStand changes.old line.old.text }
+    ensures { Edits (text_yanked text.now n) (yanked_in text.now n line.old).answer
+        line.old line.new changes.old changes.new plain.new result }
 {
     let done = yank_told(alloc, line, changes, text, n);
     *plain = is_plain(line.as_str());
@@ -132,7 +129,7 @@ fn pop_told(
     requires size { yank_size ≤ line.old.place }
     requires start { IsCharBoundary line.old.text (line.old.place - yank_size) }
     requires stand { ItemsStand changes.old line.old.text }
-    ensures writes { Writes (popped yank_size text.now)
+    ensures { Writes (popped yank_size text.now) tt
         line.old line.new changes.old changes.new result }
 {
     let _text = line.as_str();
@@ -150,7 +147,7 @@ fn pop_told_in_group(
     requires size { yank_size ≤ line.old.place }
     requires start { IsCharBoundary line.old.text (line.old.place - yank_size) }
     requires stand { ItemsStand changes.old line.old.text }
-    ensures writes { Writes (pop_in_group yank_size text.now)
+    ensures { Writes (pop_in_group yank_size text.now) tt
         line.old line.new changes.old changes.new result }
 {
     changes.begin(alloc)?;
@@ -172,9 +169,8 @@ pub fn yank_pop(
     requires size { yank_size ≤ line.old.place }
     requires start { IsCharBoundary line.old.text (line.old.place - yank_size) }
     requires stand { ItemsStand changes.old line.old.text }
-    ensures writes { Writes (pop_in_group yank_size text.now)
-        line.old line.new changes.old changes.new result }
-    ensures plain { plain.new ≡ is_plain line.new.text }
+    ensures { Edits (pop_in_group yank_size text.now) tt
+        line.old line.new changes.old changes.new plain.new result }
 {
     let done = pop_told_in_group(alloc, line, changes, yank_size, text);
     *plain = is_plain(line.as_str());

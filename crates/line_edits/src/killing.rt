@@ -1,12 +1,11 @@
 //! What is killed.
-ghost use Rattle.std.specs.Prelude.{◌≡◌, ◌≤◌, length, is_some, IfOk, OnOk, OnErr};
+ghost use Rattle.std.specs.Prelude.{◌≡◌, ◌≤◌, length, is_some, OnOk};
 ghost use Rattle.line_buffer.specs.Range.{range_of, kill_events};
 ghost use Rattle.line_record.specs.Items.{ItemsStand};
 ghost use Rattle.line_record.specs.Names.{SameNames};
 ghost use Rattle.line_record.specs.Ring.{ring_all};
 ghost use Rattle.line_edits.specs.Edits.{range_killed};
-ghost use Rattle.line_edits.specs.Plain.{is_plain};
-ghost use Rattle.line_edits.specs.Written.{Writes};
+ghost use Rattle.line_edits.specs.Written.{Edits, Writes};
 
 use crate::plain::is_plain;
 use line_buffer::{LineBuffer, Movement, OutOfMemory};
@@ -21,8 +20,7 @@ fn kill_told(
     movement: &Movement,
 ) -> Result<bool, OutOfMemory>
     requires { ItemsStand both.old.second.now line.old.text }
-    ensures answer { IfOk result (λ b. b ≡ is_some (range_of movement.now line.old)) }
-    ensures writes { Writes (range_killed movement.now)
+    ensures writes { Writes (range_killed movement.now) (is_some (range_of movement.now line.old))
         line.old line.new both.old.second.now both.new.second.now result }
     ensures ring { OnOk result
         (both.new.first.now ≡ ring_all (kill_events movement.now line.old) both.old.first.now) }
@@ -43,12 +41,10 @@ pub fn kill(
     ring: &mut KillRing,
     movement: &Movement,
 ) -> Result<bool, OutOfMemory>
-    requires stand { ItemsStand changes.old line.old.text }
-    ensures answer { IfOk result (λ b. b ≡ is_some (range_of movement.now line.old)) }
-    ensures writes { Writes (range_killed movement.now) line.old line.new changes.old changes.new
-        result }
+    requires { ItemsStand changes.old line.old.text }
+    ensures writes { Edits (range_killed movement.now) (is_some (range_of movement.now line.old))
+        line.old line.new changes.old changes.new plain.new result }
     ensures ring { OnOk result (ring.new ≡ ring_all (kill_events movement.now line.old) ring.old) }
-    ensures plain { plain.new ≡ is_plain line.new.text }
     ensures shrinks { length line.new.text ≤ length line.old.text }
 {
     let mut both = Joined {

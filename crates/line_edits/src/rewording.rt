@@ -1,11 +1,10 @@
 //! Clusters and words exchanged, words in other letters, rows moved in and out.
-ghost use Rattle.std.specs.Prelude.{◌≡◌, is_some, IfOk, OnOk};
+ghost use Rattle.std.specs.Prelude.{is_some};
 ghost use Rattle.line_buffer.specs.LetterCase.{word_to_edit};
 ghost use Rattle.line_buffer.specs.Transpositions.{transposes_chars, transposes_words};
 ghost use Rattle.line_record.specs.Items.{ItemsStand};
 ghost use Rattle.line_edits.specs.Edits.{chars_transposed, transpose_chars_in_group, words_transposed, transpose_words_in_group, word_edited, edit_word_in_group, indented};
-ghost use Rattle.line_edits.specs.Plain.{is_plain};
-ghost use Rattle.line_edits.specs.Written.{Writes};
+ghost use Rattle.line_edits.specs.Written.{Edits, Writes};
 
 use crate::plain::is_plain;
 use line_buffer::{LineBuffer, Movement, OutOfMemory, RepeatCount, WordAction};
@@ -18,8 +17,8 @@ fn chars_told(
     changes: &mut Changeset,
 ) -> Result<bool, OutOfMemory>
     requires { ItemsStand changes.old line.old.text }
-    ensures answer { IfOk result (λ b. b ≡ transposes_chars line.old) }
-    ensures writes { Writes chars_transposed line.old line.new changes.old changes.new result }
+    ensures { Writes chars_transposed (transposes_chars line.old)
+        line.old line.new changes.old changes.new result }
 {
     let _text = line.as_str();
     Ok(line.transpose_chars(alloc, changes)?)
@@ -31,8 +30,7 @@ fn chars_in_group(
     changes: &mut Changeset,
 ) -> Result<bool, OutOfMemory>
     requires { ItemsStand changes.old line.old.text }
-    ensures answer { IfOk result (λ b. b ≡ transposes_chars line.old) }
-    ensures writes { Writes transpose_chars_in_group
+    ensures { Writes transpose_chars_in_group (transposes_chars line.old)
         line.old line.new changes.old changes.new result }
 {
     changes.begin(alloc)?;
@@ -48,12 +46,9 @@ pub fn transpose_chars(
     changes: &mut Changeset,
     plain: &mut bool,
 ) -> Result<bool, OutOfMemory>
-    requires stand { ItemsStand changes.old line.old.text }
-    requires plain { plain.old ≡ is_plain line.old.text }
-    ensures answer { IfOk result (λ b. b ≡ transposes_chars line.old) }
-    ensures writes { Writes transpose_chars_in_group
-        line.old line.new changes.old changes.new result }
-    ensures plain { plain.new ≡ is_plain line.new.text }
+    requires { ItemsStand changes.old line.old.text }
+    ensures { Edits transpose_chars_in_group (transposes_chars line.old)
+        line.old line.new changes.old changes.new plain.new result }
 {
     let done = chars_in_group(alloc, line, changes);
     *plain = is_plain(line.as_str());
@@ -67,8 +62,8 @@ fn words_told(
     n: RepeatCount,
 ) -> Result<bool, OutOfMemory>
     requires { ItemsStand changes.old line.old.text }
-    ensures answer { IfOk result (λ b. b ≡ transposes_words n line.old) }
-    ensures writes { Writes (words_transposed n) line.old line.new changes.old changes.new result }
+    ensures { Writes (words_transposed n) (transposes_words n line.old)
+        line.old line.new changes.old changes.new result }
 {
     let _text = line.as_str();
     Ok(line.transpose_words(alloc, n, changes)?)
@@ -81,8 +76,7 @@ fn words_in_group(
     n: RepeatCount,
 ) -> Result<bool, OutOfMemory>
     requires { ItemsStand changes.old line.old.text }
-    ensures answer { IfOk result (λ b. b ≡ transposes_words n line.old) }
-    ensures writes { Writes (transpose_words_in_group n)
+    ensures { Writes (transpose_words_in_group n) (transposes_words n line.old)
         line.old line.new changes.old changes.new result }
 {
     changes.begin(alloc)?;
@@ -100,12 +94,9 @@ pub fn transpose_words(
     plain: &mut bool,
     n: RepeatCount,
 ) -> Result<bool, OutOfMemory>
-    requires stand { ItemsStand changes.old line.old.text }
-    requires plain { plain.old ≡ is_plain line.old.text }
-    ensures answer { IfOk result (λ b. b ≡ transposes_words n line.old) }
-    ensures writes { Writes (transpose_words_in_group n)
-        line.old line.new changes.old changes.new result }
-    ensures plain { plain.new ≡ is_plain line.new.text }
+    requires { ItemsStand changes.old line.old.text }
+    ensures { Edits (transpose_words_in_group n) (transposes_words n line.old)
+        line.old line.new changes.old changes.new plain.new result }
 {
     let done = words_in_group(alloc, line, changes, n);
     *plain = is_plain(line.as_str());
@@ -119,8 +110,8 @@ fn word_told(
     action: WordAction,
 ) -> Result<bool, OutOfMemory>
     requires { ItemsStand changes.old line.old.text }
-    ensures answer { IfOk result (λ b. b ≡ is_some (word_to_edit line.old)) }
-    ensures writes { Writes (word_edited action) line.old line.new changes.old changes.new result }
+    ensures { Writes (word_edited action) (is_some (word_to_edit line.old))
+        line.old line.new changes.old changes.new result }
 {
     let _text = line.as_str();
     Ok(line.edit_word(alloc, action, changes)?)
@@ -133,8 +124,7 @@ fn word_in_group(
     action: WordAction,
 ) -> Result<bool, OutOfMemory>
     requires { ItemsStand changes.old line.old.text }
-    ensures answer { IfOk result (λ b. b ≡ is_some (word_to_edit line.old)) }
-    ensures writes { Writes (edit_word_in_group action)
+    ensures { Writes (edit_word_in_group action) (is_some (word_to_edit line.old))
         line.old line.new changes.old changes.new result }
 {
     changes.begin(alloc)?;
@@ -152,12 +142,9 @@ pub fn edit_word(
     plain: &mut bool,
     action: WordAction,
 ) -> Result<bool, OutOfMemory>
-    requires stand { ItemsStand changes.old line.old.text }
-    requires plain { plain.old ≡ is_plain line.old.text }
-    ensures answer { IfOk result (λ b. b ≡ is_some (word_to_edit line.old)) }
-    ensures writes { Writes (edit_word_in_group action)
-        line.old line.new changes.old changes.new result }
-    ensures plain { plain.new ≡ is_plain line.new.text }
+    requires { ItemsStand changes.old line.old.text }
+    ensures { Edits (edit_word_in_group action) (is_some (word_to_edit line.old))
+        line.old line.new changes.old changes.new plain.new result }
 {
     let done = word_in_group(alloc, line, changes, action);
     *plain = is_plain(line.as_str());
@@ -173,7 +160,7 @@ fn rows_told(
     dedent: bool,
 ) -> Result<(), OutOfMemory>
     requires { ItemsStand changes.old line.old.text }
-    ensures writes { Writes (indented movement.now amount dedent)
+    ensures { Writes (indented movement.now amount dedent) tt
         line.old line.new changes.old changes.new result }
 {
     let _text = line.as_str();
@@ -191,11 +178,9 @@ pub fn indent(
     amount: u8,
     dedent: bool,
 ) -> Result<(), OutOfMemory>
-    requires stand { ItemsStand changes.old line.old.text }
-    requires plain { plain.old ≡ is_plain line.old.text }
-    ensures writes { Writes (indented movement.now amount dedent)
-        line.old line.new changes.old changes.new result }
-    ensures plain { plain.new ≡ is_plain line.new.text }
+    requires { ItemsStand changes.old line.old.text }
+    ensures { Edits (indented movement.now amount dedent) tt
+        line.old line.new changes.old changes.new plain.new result }
 {
     let done = rows_told(alloc, line, changes, movement, amount, dedent);
     *plain = is_plain(line.as_str());

@@ -1,10 +1,9 @@
 //! The whole text exchanged, and what was recorded taken back.
-ghost use Rattle.std.specs.Prelude.{◌≡◌, max, IfOk, OnOk, IsCharBoundary};
+ghost use Rattle.std.specs.Prelude.{max, IsCharBoundary};
 ghost use Rattle.line_record.specs.Held.{has_step};
 ghost use Rattle.line_record.specs.Items.{ItemsStand, held_on};
 ghost use Rattle.line_edits.specs.Edits.{updated, update_in_group, undone};
-ghost use Rattle.line_edits.specs.Plain.{is_plain};
-ghost use Rattle.line_edits.specs.Written.{Writes};
+ghost use Rattle.line_edits.specs.Written.{Edits, Writes};
 
 use crate::plain::is_plain;
 use line_buffer::{LineBuffer, OutOfMemory, RepeatCount};
@@ -20,8 +19,7 @@ fn put(
 ) -> Result<(), OutOfMemory>
     requires boundary { IsCharBoundary text.now pos }
     requires stand { ItemsStand changes.old line.old.text }
-    ensures writes { Writes (updated text.now pos)
-        line.old line.new changes.old changes.new result }
+    ensures { Writes (updated text.now pos) tt line.old line.new changes.old changes.new result }
 {
     let _text = line.as_str();
     line.update(alloc, text, pos, changes)?;
@@ -37,7 +35,7 @@ fn put_in_group(
 ) -> Result<(), OutOfMemory>
     requires boundary { IsCharBoundary text.now pos }
     requires stand { ItemsStand changes.old line.old.text }
-    ensures writes { Writes (update_in_group text.now pos)
+    ensures { Writes (update_in_group text.now pos) tt
         line.old line.new changes.old changes.new result }
 {
     changes.begin(alloc)?;
@@ -57,9 +55,8 @@ pub fn update(
 ) -> Result<(), OutOfMemory>
     requires boundary { IsCharBoundary text.now pos }
     requires stand { ItemsStand changes.old line.old.text }
-    ensures writes { Writes (updated text.now pos)
-        line.old line.new changes.old changes.new result }
-    ensures plain { plain.new ≡ is_plain line.new.text }
+    ensures { Edits (updated text.now pos) tt
+        line.old line.new changes.old changes.new plain.new result }
 {
     let done = put(alloc, line, changes, text, pos);
     *plain = is_plain(line.as_str());
@@ -77,9 +74,8 @@ pub fn update_grouped(
 ) -> Result<(), OutOfMemory>
     requires boundary { IsCharBoundary text.now pos }
     requires stand { ItemsStand changes.old line.old.text }
-    ensures writes { Writes (update_in_group text.now pos)
-        line.old line.new changes.old changes.new result }
-    ensures plain { plain.new ≡ is_plain line.new.text }
+    ensures { Edits (update_in_group text.now pos) tt
+        line.old line.new changes.old changes.new plain.new result }
 {
     let done = put_in_group(alloc, line, changes, text, pos);
     *plain = is_plain(line.as_str());
@@ -95,10 +91,9 @@ pub fn undo(
     plain: &mut bool,
     n: RepeatCount,
 ) -> Result<bool, OutOfMemory>
-    requires stand { ItemsStand changes.old line.old.text }
-    ensures answer { IfOk result (λ b. b ≡ has_step (max n 1) (held_on changes.old line.old.text)) }
-    ensures writes { Writes (undone n) line.old line.new changes.old changes.new result }
-    ensures plain { plain.new ≡ is_plain line.new.text }
+    requires { ItemsStand changes.old line.old.text }
+    ensures { Edits (undone n) (has_step (max n 1) (held_on changes.old line.old.text))
+        line.old line.new changes.old changes.new plain.new result }
 {
     let undone = changes.undo(alloc, line, n);
     *plain = is_plain(line.as_str());

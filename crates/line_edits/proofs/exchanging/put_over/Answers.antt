@@ -1,4 +1,4 @@
-use Rattle.std.proofs.Common.{◌∙◌}
+use Rattle.std.proofs.Common.{refl, ◌∙◌}
 use Rattle.line_buffer.specs.Replay.{replacement}
 use Rattle.line_record.specs.Items.{held_on}
 use Rattle.line_edits.proofs.WrittenLemmas.{recorded_one}
@@ -8,10 +8,9 @@ pub returns : goal.returns
 returns c =
     let told = c.in_ok-replace.ensures.told.on _ _ c.requires.stand c.as_str-text.ensures.utf8 c.in_ok-replace.ensures.replays in
     record {
-      writes = record {
-        line = rw c.encode_utf8.ensures.value at (rw c.pos-at.ensures.value at c.in_ok-replace.ensures.line);
-        held = rw c.encode_utf8.ensures.value at (rw c.pos-at.ensures.value at (told.held
-            ∙ recorded_one (replacement c.pos-at.result c.args.end c.encode_utf8.result.now c.args.line.now.text) c.args.line.now.text (held_on c.args.changes.now c.args.line.now.text)));
-        stand = told.stand;
-      };
+      answers = refl;
+      line = rw c.encode_utf8.ensures.value at (rw c.pos-at.ensures.value at c.in_ok-replace.ensures.line);
+      held = rw c.encode_utf8.ensures.value at (rw c.pos-at.ensures.value at (told.held
+          ∙ recorded_one (replacement c.pos-at.result c.args.end c.encode_utf8.result.now c.args.line.now.text) c.args.line.now.text (held_on c.args.changes.now c.args.line.now.text)));
+      stand = told.stand;
     }

@@ -3,8 +3,11 @@ use Rattle.line_edits.specs.Plain.{is_plain}
 use Rattle.line_edits.proofs.PlainLemmas.{typed_plain}
 use Rattle.line_edits.proofs.inserting.insert_char.Goals as goal
 
-pub returns-then-is_printable-clause-plain : goal.returns-then-is_printable-clause-plain
-returns-then-is_printable-clause-plain c =
+pub returns-then-is_printable : goal.returns-then-is_printable
+returns-then-is_printable c =
     let plain : is_plain c.args.line.now.text ≡ true = sym c.requires.plain ∙ c.if-plain.true in
-    c.if-plain.true ∙ sym (ap (λ l. is_plain l.text) c.in_ok-at_end.ensures.writes.line
-    ∙ typed_plain c.args.ch c.args.n c.args.line.now c.if-n-eq1.true plain (sym c.is_printable.ensures.value ∙ c.if-is_printable.true) (c.is_printable.ensures.ascii c.if-is_printable.true))
+    record {
+      writes = c.in_ok-at_end.ensures.writes;
+      plain_is = c.if-plain.true ∙ sym (ap (λ l. is_plain l.text) c.in_ok-at_end.ensures.writes.line
+          ∙ typed_plain c.args.ch c.args.n c.args.line.now c.if-n-eq1.true plain (sym c.is_printable.ensures.value ∙ c.if-is_printable.true) (c.is_printable.ensures.ascii c.if-is_printable.true));
+    }

@@ -1,13 +1,9 @@
-use Rattle.line_record.proofs.RunLemmas.{told_stand, told_held, stopped_stand}
-use Rattle.line_edits.proofs.WrittenLemmas.{refused_writes}
+use Rattle.std.proofs.Common.{refl}
+use Rattle.line_edits.proofs.WrittenLemmas.{told_writes, stopped_writes}
 use Rattle.line_edits.proofs.inserting.insert_told.Goals as goal
 
 pub returns-clause-writes : goal.returns-clause-writes
-returns-clause-writes c = record {
-  line = c.in_ok-insert.ensures.line;
-  held = told_held c.requires c.as_str-text.ensures.utf8 c.in_ok-insert.ensures.told;
-  stand = told_stand c.requires c.as_str-text.ensures.utf8 c.in_ok-insert.ensures.told;
-}
+returns-clause-writes c = told_writes _ c.as_str-text.ensures.utf8 c.requires c.in_ok-insert.ensures.answer c.in_ok-insert.ensures.line c.in_ok-insert.ensures.told refl
 
 pub returns-in_err-insert-clause-writes : goal.returns-in_err-insert-clause-writes
-returns-in_err-insert-clause-writes c = refused_writes _ c.from_residual.result c.from_residual.ensures.1 (stopped_stand c.requires c.as_str-text.ensures.utf8 c.in_err-insert.ensures.stopped)
+returns-in_err-insert-clause-writes c = stopped_writes _ c.from_residual.result c.from_residual.ensures.1 c.as_str-text.ensures.utf8 c.requires c.in_err-insert.ensures.stopped

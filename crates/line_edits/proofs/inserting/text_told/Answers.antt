@@ -1,4 +1,4 @@
-use Rattle.std.proofs.Common.{◌∙◌}
+use Rattle.std.proofs.Common.{refl, ◌∙◌}
 use Rattle.line_buffer.proofs.CutLemmas.{start_replaced}
 use Rattle.line_buffer.specs.Replay.{insertion}
 use Rattle.line_record.specs.Items.{held_on}
@@ -10,6 +10,7 @@ insert_str-requires-clause-cursor c = rw c.pos-at.ensures.value (start_replaced 
 
 pub returns-clause-writes : goal.returns-clause-writes
 returns-clause-writes c = record {
+  answers = refl;
   line = rw c.pos-at.ensures.value at c.in_ok-insert_str.ensures.line;
   held = rw c.pos-at.ensures.value at ((c.in_ok-insert_str.ensures.told.on _ _ c.requires c.as_str-text.ensures.utf8 c.in_ok-insert_str.ensures.replays).held ∙ recorded_one (insertion c.pos-at.result c.args.text.now) c.args.line.now.text (held_on c.args.changes.now c.args.line.now.text));
   stand = (c.in_ok-insert_str.ensures.told.on _ _ c.requires c.as_str-text.ensures.utf8 c.in_ok-insert_str.ensures.replays).stand;

@@ -6,6 +6,7 @@ use Rattle.line_edits.proofs.killing.kill_told.Goals as goal
 
 pub returns-clause-writes : goal.returns-clause-writes
 returns-clause-writes c = record {
+  answers = c.in_ok-kill.ensures.answer;
   line = c.in_ok-kill.ensures.line;
   held = joined_held (λ s e t. t ≡ ring_step e s) c.requires c.as_str-text.ensures.utf8 c.in_ok-kill.ensures.told;
   stand = joined_stand (λ s e t. t ≡ ring_step e s) c.requires c.as_str-text.ensures.utf8 c.in_ok-kill.ensures.told;

@@ -1,13 +1,9 @@
-use Rattle.line_record.proofs.RunLemmas.{told_stand, told_held, stopped_stand}
-use Rattle.line_edits.proofs.WrittenLemmas.{refused_writes}
+use Rattle.std.proofs.Common.{refl}
+use Rattle.line_edits.proofs.WrittenLemmas.{told_writes, stopped_writes}
 use Rattle.line_edits.proofs.rewording.chars_told.Goals as goal
 
-pub returns-clause-writes : goal.returns-clause-writes
-returns-clause-writes c = record {
-  line = c.in_ok-transpose_chars.ensures.line;
-  held = told_held c.requires c.as_str-text.ensures.utf8 c.in_ok-transpose_chars.ensures.told;
-  stand = told_stand c.requires c.as_str-text.ensures.utf8 c.in_ok-transpose_chars.ensures.told;
-}
+pub returns : goal.returns
+returns c = told_writes _ c.as_str-text.ensures.utf8 c.requires c.in_ok-transpose_chars.ensures.answer c.in_ok-transpose_chars.ensures.line c.in_ok-transpose_chars.ensures.told refl
 
-pub returns-in_err-transpose_chars-clause-writes : goal.returns-in_err-transpose_chars-clause-writes
-returns-in_err-transpose_chars-clause-writes c = refused_writes _ c.from_residual.result c.from_residual.ensures.1 (stopped_stand c.requires c.as_str-text.ensures.utf8 c.in_err-transpose_chars.ensures.stopped)
+pub returns-in_err-transpose_chars : goal.returns-in_err-transpose_chars
+returns-in_err-transpose_chars c = stopped_writes _ c.from_residual.result c.from_residual.ensures.1 c.as_str-text.ensures.utf8 c.requires c.in_err-transpose_chars.ensures.stopped

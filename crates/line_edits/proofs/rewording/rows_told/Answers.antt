@@ -1,15 +1,9 @@
-use Rattle.line_record.proofs.RunLemmas.{told_stand, told_held, stopped_stand}
-use Rattle.line_edits.proofs.WrittenLemmas.{refused_writes}
+use Rattle.std.proofs.Common.{refl}
+use Rattle.line_edits.proofs.WrittenLemmas.{told_writes, stopped_writes}
 use Rattle.line_edits.proofs.rewording.rows_told.Goals as goal
 
 pub returns : goal.returns
-returns c = record {
-  writes = record {
-    line = c.in_ok-indent.ensures.line;
-    held = told_held c.requires c.as_str-text.ensures.utf8 c.in_ok-indent.ensures.told;
-    stand = told_stand c.requires c.as_str-text.ensures.utf8 c.in_ok-indent.ensures.told;
-  };
-}
+returns c = told_writes _ c.as_str-text.ensures.utf8 c.requires refl c.in_ok-indent.ensures.line c.in_ok-indent.ensures.told refl
 
 pub returns-in_err-indent : goal.returns-in_err-indent
-returns-in_err-indent c = record { writes = refused_writes _ c.from_residual.result c.from_residual.ensures.1 (stopped_stand c.requires c.as_str-text.ensures.utf8 c.in_err-indent.ensures.stopped) }
+returns-in_err-indent c = stopped_writes _ c.from_residual.result c.from_residual.ensures.1 c.as_str-text.ensures.utf8 c.requires c.in_err-indent.ensures.stopped

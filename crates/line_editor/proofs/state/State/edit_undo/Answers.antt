@@ -4,9 +4,8 @@ use Rattle.line_editor.proofs.state.State.edit_undo.Goals as goal
 
 pub returns-else-undone : goal.returns-else-undone
 returns-else-undone g c =
-    let done = c.in_ok-undone.ensures in
-    let writes = done.writes in
+    let writes = c.in_ok-undone.ensures.writes in
     record {
-      does = unmade_does c.args.n _ _ _ (sym done.answer ∙ c.if-undone.false) writes.line writes.held refl refl refl
+      does = unmade_does c.args.n _ _ _ (sym writes.answers ∙ c.if-undone.false) writes.line writes.held refl refl refl
           (record { ruler = refl; prompt = refl; history_is = refl; hints_are = refl; hinting_is = refl; verdicts_are = refl; validating_is = refl; marks_are = refl });
     }
