@@ -1,9 +1,9 @@
 -- A session by its lines, its history's saving and its ending.
-use Rattle.std.proofs.Common.{◌≡◌, ℕ, Bool, List, sym, subst}
+use Rattle.std.proofs.Common.{◌≡◌, ℕ, Bool, List, Option, sym, subst}
 use Rattle.line_config.specs.declared.errors.ReadlineError.{ReadlineError}
 use Rattle.line_help.specs.History.{Filed}
 use Rattle.line_screen.specs.Calls.{sink_of}
-use Rattle.line_screen.specs.Reader.{coming_in, source_of}
+use Rattle.line_screen.specs.Reader.{coming_in, kept_of, source_of}
 use Rattle.keyline.specs.Desks.{Known, TakesLines, feed_of, hearing, work_of}
 use Rattle.keyline.specs.Endings.{ending_of}
 use Rattle.keyline.specs.Playing.{SessionReason, Reads, Saves, ending_after}
@@ -13,14 +13,15 @@ use Rattle.keyline.specs.declared.desk.Desk.{Desk}
 use Rattle.keyline.specs.declared.ending.Ending.{Ending}
 
 pub plays : {S H D L T : Type 0} (k : Known S D L) (told : T → Bool) (held : T → List ℕ) (failed : T → Bool) (g : Given) (desk end : Desk S H D L)
-    (why : ReadlineError) (history : Filed) (text text' : T) (saved : Bool) (ending : Ending) (source : S) (display : D)
+    (why : ReadlineError) (history : Filed) (text text' : T) (saved : Bool) (ending : Ending) (source : S) (ahead : Option ℕ) (display : D)
     → TakesLines k g desk end why → Saves told held failed end.history history text text' saved → ending ≡ ending_of (ending_after why saved)
-    → source ≡ source_of end.reader → display ≡ sink_of end.out
-    → Plays {H = H} k told held failed g desk text (record { ending = ending; history = history; source = source; display = display; lines = end.lines; text = text' })
-plays {S} {H} {D} {L} {T} k told held failed g desk end why history text text' saved ending source display lines saves is source_is display_is = record {
+    → source ≡ source_of end.reader → ahead ≡ kept_of end.reader → display ≡ sink_of end.out
+    → Plays {H = H} k told held failed g desk text (record { ending = ending; history = history; source = source; ahead = ahead; display = display; lines = end.lines; text = text' })
+plays {S} {H} {D} {L} {T} k told held failed g desk end why history text text' saved ending source ahead display lines saves is source_is ahead_is display_is = record {
   kept = end.history;
   reader = end.reader;
   source_is = source_is;
+  ahead_is = ahead_is;
   why = why;
   saved = saved;
   goes = λ t n b.
