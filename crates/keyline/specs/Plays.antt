@@ -11,6 +11,7 @@ use Rattle.line_record.specs.Ring.{new_ring}
 use Rattle.line_screen.specs.Calls.{screen_of, sink_of}
 use Rattle.line_screen.specs.Reader.{coming_in, kept_of, source_of}
 use Rattle.line_screen.specs.declared.reading.reader.KeyReader.{KeyReader}
+use Rattle.keyline.specs.Deeds.{session_deeds}
 use Rattle.keyline.specs.Desks.{Known, HeardAt, feed_of, hearing, work_of}
 use Rattle.keyline.specs.Endings.{ending_of}
 use Rattle.keyline.specs.Playing.{SessionReason, Reads, Saves, ending_after}
@@ -82,7 +83,8 @@ pub record Plays {S H D L T : Type 0} (k : Known S D L) (told : T → Bool) (hel
   -- with more fuel than the source has keys and pastes
   pub goes : IsTrue (feed_of k desk).told → (n : ℕ) → (feed_of k desk).bound < n
       → (heard : Coming) × HeardAt k desk heard
-      × Reads k.shows k.shown k.writes k.written_in g (session n g (hearing k desk heard))
+      × Reads k.shows k.shown k.show_failed k.writes k.written_in g
+      (session n g (hearing k desk heard)) (session_deeds n g (hearing k desk heard)) heard
       (work_of k desk)
       (record { display = ended.display; lines = ended.lines; history = kept })
       (coming_in k.feed reader) why
