@@ -1,5 +1,5 @@
 -- A line at a desk: what `run` gives, and then the line's end.
-use Rattle.std.proofs.Common.{◌≡◌, ℕ, suc, ◌<◌, Bool, List, [], ◌∷◌, ◌++◌, inl, inr, ◌⊎◌, refl, sym, ap, ◌∙◌, subst, IsTrue, Option, Result, Ok, Err, IfErr, OnOk, le_refl}
+use Rattle.std.proofs.Common.{◌≡◌, ℕ, suc, ◌<◌, Bool, false, List, ◌++◌, inl, inr, ◌⊎◌, refl, sym, ap, ◌∙◌, subst, IsTrue, Option, Result, Ok, Err, IfErr, OnOk, le_refl}
 use Rattle.std.specs.Prelude.{string_bytes}
 use Rattle.line_config.specs.declared.config.Config.{Config}
 use Rattle.line_config.specs.declared.errors.ReadlineError.{ReadlineError}
@@ -12,6 +12,7 @@ use Rattle.line_keys.specs.Feeds.{KeyFeed}
 use Rattle.line_keys.specs.InputStates.{new_input}
 use Rattle.line_record.specs.Ring.{Ring}
 use Rattle.line_editor.specs.Acts.{stage}
+use Rattle.line_editor.specs.Courses.{breaks_after}
 use Rattle.line_editor.specs.Lines.{Told}
 use Rattle.line_editor.specs.Redraws.{fresh}
 use Rattle.line_editor.specs.Running.{Helping, HelperFails, Runs, WholeLine, CutLine, acts_meant, line_meant, outcome_of, line_calls, setting_by}
@@ -27,11 +28,12 @@ use Rattle.line_screen.specs.declared.reading.reader.KeyReader.{KeyReader}
 use Rattle.line_screen.specs.declared.renderer.ScreenRenderer.{ScreenRenderer}
 use Rattle.line_screen.proofs.CallLemmas.{sent_in_all, begun_stays}
 use Rattle.keyline.specs.Closing.{Closes, CloseReason, work}
+use Rattle.keyline.specs.Deeds.{Deed, act_deeds, acts_in, close_deeds, line_deeds}
 use Rattle.keyline.specs.Desks.{Known, Lined, TakesLine, DeskReason, feed_of, hearing, work_of}
-use Rattle.keyline.specs.Playing.{Work, LineWhole, LineCut, CutsBy, SessionReason, accepted_of}
-use Rattle.keyline.specs.Sessions.{Given, given_by, breaks, line_in, lines_text, remembered, history_after}
+use Rattle.keyline.specs.Playing.{Work, Cut, LineWhole, LineCut, CutsBy, SessionReason}
+use Rattle.keyline.specs.Sessions.{Given, given_by, breaks, line_in, history_after}
 use Rattle.keyline.specs.declared.desk.Desk.{Desk}
-use Rattle.keyline.proofs.CloseLemmas.{remembered_none}
+use Rattle.keyline.proofs.DeedLemmas.{cut_acts, cut_after, cut_more, done_acts}
 use Rattle.keyline.proofs.Told.{Takes-then}
 
 -- ---- faults
@@ -49,6 +51,23 @@ cuts_of failed hook Reader r = absurd r
 cuts_of failed hook Lines r = absurd r
 cuts_of failed hook HistoryText r = absurd r
 cuts_of failed hook Handler r = absurd r
+
+not_lines : (failed : Bool) (hook : Type 0) (e : ReadlineError) → reason_of failed hook e → e ≡ Lines → ⊥
+not_lines failed hook e r is = let P : ReadlineError → Type 0 = λ e. reason_of failed hook e in subst P is r
+
+-- and after it no new row is drawn
+unbroken : (failed : Bool) (hook : Type 0) (e : ReadlineError) → reason_of failed hook e → breaks_after e ≡ false
+unbroken failed hook Display r = refl
+unbroken failed hook Helper r = refl
+unbroken failed hook Memory r = refl
+unbroken failed hook Eof r = absurd r
+unbroken failed hook Interrupted r = absurd r
+unbroken failed hook NotUtf8 r = absurd r
+unbroken failed hook PasteOutOfPlace r = absurd r
+unbroken failed hook Reader r = absurd r
+unbroken failed hook Lines r = absurd r
+unbroken failed hook HistoryText r = absurd r
+unbroken failed hook Handler r = absurd r
 
 -- the reasons of a line are those of a desk
 reason_by : (told : Bool) (g : Given) (source display lines : Bool) (feed : KeyFeed) (hook : Type 0) (e : ReadlineError)
@@ -83,79 +102,11 @@ ok_of_cut : (result : Result (Unit {0}) ReadlineError) (e : ReadlineError) (P : 
 ok_of_cut (Ok u) e P is = absurd (cc)
 ok_of_cut (Err d) e P is = tt
 
-nil_front : (xs ys : List (List ℕ)) → [] ≡ xs ++ ys → xs ≡ []
-nil_front [] ys e = refl
-nil_front (x ∷ xs) ys e = absurd (cc)
-
-nil_front_bytes : (xs ys : List ℕ) → [] ≡ xs ++ ys → xs ≡ []
-nil_front_bytes [] ys e = refl
-nil_front_bytes (x ∷ xs) ys e = absurd (cc)
-
-module _ {D L : Type 0} (shows : D → Bool) (shown : D → List ℕ) (writes : L → Bool) (written_in : L → List ℕ) where
-  -- after a line that is refused nothing is added and written, whatever was to come of it
-  cut_as : (adds : Bool) (e : ReadlineError) (outcome : Result (List ℕ) ReadlineError) (old new : Work D L) (d : D) (result : Result (Unit {0}) ReadlineError)
-      → LineCut shows shown writes written_in adds (Err e) (record old { display = d }) new result
-      → LineCut shows shown writes written_in adds outcome old new result
-  cut_as adds e outcome old new d result c =
-      let none : c.in_hand ≡ [] = nil_front c.in_hand c.others c.first in
-      let untorn : c.torn ≡ [] = nil_front_bytes c.torn c.more (ap lines_text (sym none) ∙ c.part) in
-      record {
-        fault = c.fault;
-        result_is = c.result_is;
-        cut = c.cut;
-        in_hand = [];
-        others = accepted_of outcome;
-        first = refl;
-        torn = [];
-        more = [];
-        part = refl;
-        wrote = let P : List ℕ → Type 0 = Takes writes written_in old.lines new.lines in subst P untorn c.wrote;
-        whole = λ _. refl;
-        history_is = c.history_is ∙ ap (λ lines. remembered adds lines old.history) none;
-      }
-
-  -- the end of a line that a fault had cut off
-  cut_then : (adds : Bool) (e : ReadlineError) (outcome : Result (List ℕ) ReadlineError) (bytes : List ℕ) (old new : Work D L) (d : D) (result : Result (Unit {0}) ReadlineError)
-      → CutsBy e → LineWhole shows shown writes written_in adds bytes (Err e) (record old { display = d }) new result
-      → LineCut shows shown writes written_in adds outcome old new result
-  cut_then adds e outcome bytes old new d result cut c = record {
-    fault = e;
-    result_is = c.result_is;
-    cut = cut;
-    in_hand = [];
-    others = accepted_of outcome;
-    first = refl;
-    torn = [];
-    more = [];
-    part = refl;
-    wrote = c.wrote;
-    whole = λ _. refl;
-    history_is = c.history_is ∙ sym (remembered_none adds old.history);
-  }
-
-  -- a line whose end was cut was cut
-  cut_by : (adds : Bool) (outcome : Result (List ℕ) ReadlineError) (old new : Work D L) (d : D) (result : Result (Unit {0}) ReadlineError)
-      → LineCut shows shown writes written_in adds outcome (record old { display = d }) new result
-      → LineCut shows shown writes written_in adds outcome old new result
-  cut_by adds outcome old new d result c = record {
-    fault = c.fault;
-    result_is = c.result_is;
-    cut = c.cut;
-    in_hand = c.in_hand;
-    others = c.others;
-    first = c.first;
-    torn = c.torn;
-    more = c.more;
-    part = c.part;
-    wrote = c.wrote;
-    whole = c.whole;
-    history_is = c.history_is;
-  }
-
+module _ {D L : Type 0} (shows : D → Bool) (shown : D → List ℕ) (show_failed : D → Bool) (writes : L → Bool) (written_in : L → List ℕ) where
   -- the line's drawings, and then its end
   whole_then : (adds : Bool) (first second : List ℕ) (outcome : Result (List ℕ) ReadlineError) (d d1 d2 : D) (l l2 : L) (h h2 : Filed) (result : Result (Unit {0}) ReadlineError)
-      → Takes shows shown d d1 first → LineWhole shows shown writes written_in adds second outcome (work d1 l h) (work d2 l2 h2) result
-      → LineWhole shows shown writes written_in adds (first ++ second) outcome (work d l h) (work d2 l2 h2) result
+      → Takes shows shown d d1 first → LineWhole shows shown show_failed writes written_in adds second outcome (work d1 l h) (work d2 l2 h2) result
+      → LineWhole shows shown show_failed writes written_in adds (first ++ second) outcome (work d l h) (work d2 l2 h2) result
   whole_then adds first second outcome d d1 d2 l l2 h h2 result drawn c = record {
     result_is = c.result_is;
     history_is = c.history_is;
@@ -215,40 +166,77 @@ module _ {S H D L K T : Type 0} (k : Known S D L) (helps : Option H → Helping)
     abbrev given' : Given
     given' = given_by config custom prompt (screen_of out) (helps ran.helper)
 
-    abbrev Ended : Result (List ℕ) ReadlineError → Type 0
-    Ended outcome = LineWhole k.shows k.shown k.writes k.written_in config.auto_add_history (break_if (breaks outcome)) outcome
-        (work (sink_of ran.out) old.lines old.history) (work (sink_of out) lines history) result
-        ⊎ LineCut k.shows k.shown k.writes k.written_in config.auto_add_history outcome
-        (work (sink_of ran.out) old.lines old.history) (work (sink_of out) lines history) result
+    abbrev at_end : Work D L
+    at_end = work (sink_of ran.out) old.lines old.history
 
-    after_whole : (t : Told) → WentWhole t
-        → Ended t.outcome → Lined k given t old new result
-    after_whole t w (inl c) =
+    abbrev left : Coming
+    left = (items_of k.feed reader).coming
+
+    abbrev EndedWhole : Result (List ℕ) ReadlineError → Type 0
+    EndedWhole outcome = LineWhole k.shows k.shown k.show_failed k.writes k.written_in config.auto_add_history (break_if (breaks outcome)) outcome at_end (work_of k new) result
+
+    abbrev EndedCut : Result (List ℕ) ReadlineError → Type 0
+    EndedCut outcome = LineCut k.shows k.shown k.show_failed k.writes k.written_in config.auto_add_history (close_deeds outcome) left at_end (work_of k new) left result
+
+    abbrev EndedAs : Result (List ℕ) ReadlineError → Type 0
+    EndedAs outcome = EndedWhole outcome ⊎ ((coming : Coming) → LineCut k.shows k.shown k.show_failed k.writes k.written_in config.auto_add_history (close_deeds outcome)
+        coming at_end (work_of k new) coming result)
+
+    abbrev StaysAs : Result (List ℕ) ReadlineError → Type 0
+    StaysAs outcome = IfErr outcome (λ e. breaks_after e ≡ false → (work_of k new ≡ at_end) × (result ≡ Err e))
+
+    abbrev CutAs : List Deed → Coming → Type 0
+    CutAs deeds heard = LineCut k.shows k.shown k.show_failed k.writes k.written_in config.auto_add_history deeds heard (work_of k old) (work_of k new) left result
+
+    after_whole : (n : ℕ) (heard : Coming) → let x = hearing k old heard in WentWhole (line_in n given x) → EndedAs (line_in n given x).outcome
+        → Lined k given (line_in n given x) (line_deeds n given x) heard old new result
+    after_whole n heard w (inl c) =
+        let t = line_in n given (hearing k old heard) in
         let sent = sent_in_all k.shows k.shown k.show_failed (line_calls (ruler_of (screen_of old.out)) t.turns) old.out ran.out w.calls in
         inl (
-          whole_then k.shows k.shown k.writes k.written_in config.auto_add_history _ (break_if (breaks t.outcome)) t.outcome
+          whole_then k.shows k.shown k.show_failed k.writes k.written_in config.auto_add_history _ (break_if (breaks t.outcome)) t.outcome
               (sink_of old.out) (sink_of ran.out) (sink_of out) old.lines lines old.history history result sent.takes c,
-          ap (λ r. record { ring = r; history = history; coming = (items_of k.feed reader).coming }) w.ring_is
-              ∙ (ap (λ h. record { ring = t.ring; history = h; coming = (items_of k.feed reader).coming }) c.history_is
+          ap (λ r. record { ring = r; history = history; coming = left }) w.ring_is
+              ∙ (ap (λ h. record { ring = t.ring; history = h; coming = left }) c.history_is
               ∙ ap (λ c'. record { ring = t.ring; history = history_after config.auto_add_history t.outcome old.history; coming = c' }) w.rest_is),
         )
-    after_whole t w (inr c) =
-        inr (cut_by k.shows k.shown k.writes k.written_in config.auto_add_history t.outcome (work_of k old) (work_of k new) (sink_of ran.out) result c)
+    after_whole n heard w (inr c) =
+        let x = hearing k old heard in
+        let t = line_in n given x in
+        let sent = sent_in_all k.shows k.shown k.show_failed (line_calls (ruler_of (screen_of old.out)) t.turns) old.out ran.out w.calls in
+        let end = c left in
+        inr (record {
+          fault = end.fault;
+          result_is = end.result_is;
+          goes = cut_after k.shows k.shown k.show_failed k.writes k.written_in config.auto_add_history
+              (act_deeds given.screen (fresh given.screen.mode) (acts_in n given x)) (close_deeds t.outcome) heard left (work_of k old) at_end (work_of k new) left end.fault
+              (done_acts k.shows k.shown k.show_failed k.writes k.written_in config.auto_add_history old.lines old.history n given x old.out ran.out left sent.takes w.rest_is) end.goes;
+        })
 
-    after_cut : (t : Told) (n : ℕ) (heard : Coming) → (w : WentCut n heard) → Ended (Err w.fault) → Lined k given t old new result
-    after_cut t n heard w (inl c) =
-        inr (cut_then k.shows k.shown k.writes k.written_in config.auto_add_history w.fault t.outcome _ (work_of k old) (work_of k new) (sink_of ran.out) result
-        (cuts_of _ _ w.fault w.cause) c)
-    after_cut t n heard w (inr c) =
-        inr (cut_as k.shows k.shown k.writes k.written_in config.auto_add_history w.fault t.outcome (work_of k old) (work_of k new) (sink_of ran.out) result c)
+    after_cut : (n : ℕ) (heard : Coming) → (w : WentCut n heard) → StaysAs (Err w.fault) → CutAs (line_deeds n given (hearing k old heard)) heard
+    after_cut n heard w stays =
+        let x = hearing k old heard in
+        let s = screen_of old.out in
+        let same = stays (unbroken _ _ w.fault w.cause) in
+        let acts = acts_in n given x in
+        let W : Work D L → Type 0 = λ after. Cut k.shows k.shown k.show_failed k.writes k.written_in config.auto_add_history (act_deeds s (fresh s.mode) acts) heard (work_of k old) after left w.fault in
+        let so = cut_acts k.shows k.shown k.show_failed k.writes k.written_in config.auto_add_history old.lines old.history s w.fault (cuts_of _ _ w.fault w.cause) (not_lines _ _ w.fault w.cause)
+        acts (fresh s.mode) (stage old.out heard old.ring) (stage ran.out left ring) refl w.done in
+        record {
+          fault = w.fault;
+          result_is = same.1;
+          goes = cut_more k.shows k.shown k.show_failed k.writes k.written_in config.auto_add_history (act_deeds s (fresh s.mode) acts) (close_deeds (line_in n given x).outcome)
+              heard (work_of k old) (work_of k new) left w.fault (subst W (sym same.0) so);
+        }
 
-    lined : (n : ℕ) (heard : Coming) → Went n heard → Ends (outcome_of ran) → Lined k given (line_in n given (hearing k old heard)) old new result
-    lined n heard (inl w) closes = after_whole (line_in n given (hearing k old heard)) w (subst Ended w.outcome_is closes.goes)
-    lined n heard (inr w) closes = after_cut (line_in n given (hearing k old heard)) n heard w (subst Ended w.outcome_is closes.goes)
+    lined : (n : ℕ) (heard : Coming) → Went n heard → Ends (outcome_of ran) → let x = hearing k old heard in
+        Lined k given (line_in n given x) (line_deeds n given x) heard old new result
+    lined n heard (inl w) closes = after_whole n heard w (subst EndedAs w.outcome_is closes.goes)
+    lined n heard (inr w) closes = inr (after_cut n heard w (subst StaysAs w.outcome_is closes.stays))
 
-    lined_falls : RunsAt → Ended (outcome_of ran) → OnOk result ((feed_of k new).bound < (feed_of k old).bound)
+    lined_falls : RunsAt → EndedAs (outcome_of ran) → OnOk result ((feed_of k new).bound < (feed_of k old).bound)
     lined_falls runs (inl c) = ok_given ran.outcome string_bytes result _ runs.falls c.result_is
-    lined_falls runs (inr c) = ok_of_cut result c.fault _ c.result_is
+    lined_falls runs (inr c) = ok_of_cut result (c left).fault _ (c left).result_is
 
     lined_given : RunsAt → screen_of out ≡ screen_of ran.out → IsTrue (feed_of k old).told → given' ≡ given
     lined_given runs screen t =

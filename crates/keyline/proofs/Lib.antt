@@ -1,4 +1,6 @@
 pub mod CloseLemmas
+pub mod DeedLaw
+pub mod DeedLemmas
 pub mod DeskLemmas
 pub mod EditLemmas
 pub mod HeardSteps

@@ -1,9 +1,10 @@
 -- A session by its lines, its history's saving and its ending.
-use Rattle.std.proofs.Common.{◌≡◌, ℕ, Bool, List, sym, subst}
+use Rattle.std.proofs.Common.{◌≡◌, ℕ, Bool, List, Option, sym, subst}
 use Rattle.line_config.specs.declared.errors.ReadlineError.{ReadlineError}
 use Rattle.line_help.specs.History.{Filed}
 use Rattle.line_screen.specs.Calls.{sink_of}
-use Rattle.line_screen.specs.Reader.{coming_in, source_of}
+use Rattle.line_screen.specs.Reader.{coming_in, kept_of, source_of}
+use Rattle.keyline.specs.Deeds.{session_deeds}
 use Rattle.keyline.specs.Desks.{Known, TakesLines, feed_of, hearing, work_of}
 use Rattle.keyline.specs.Endings.{ending_of}
 use Rattle.keyline.specs.Playing.{SessionReason, Reads, Saves, ending_after}
@@ -13,19 +14,20 @@ use Rattle.keyline.specs.declared.desk.Desk.{Desk}
 use Rattle.keyline.specs.declared.ending.Ending.{Ending}
 
 pub plays : {S H D L T : Type 0} (k : Known S D L) (told : T → Bool) (held : T → List ℕ) (failed : T → Bool) (g : Given) (desk end : Desk S H D L)
-    (why : ReadlineError) (history : Filed) (text text' : T) (saved : Bool) (ending : Ending) (source : S) (display : D)
+    (why : ReadlineError) (history : Filed) (text text' : T) (saved : Bool) (ending : Ending) (source : S) (ahead : Option ℕ) (display : D)
     → TakesLines k g desk end why → Saves told held failed end.history history text text' saved → ending ≡ ending_of (ending_after why saved)
-    → source ≡ source_of end.reader → display ≡ sink_of end.out
-    → Plays {H = H} k told held failed g desk text (record { ending = ending; history = history; source = source; display = display; lines = end.lines; text = text' })
-plays {S} {H} {D} {L} {T} k told held failed g desk end why history text text' saved ending source display lines saves is source_is display_is = record {
+    → source ≡ source_of end.reader → ahead ≡ kept_of end.reader → display ≡ sink_of end.out
+    → Plays {H = H} k told held failed g desk text (record { ending = ending; history = history; source = source; ahead = ahead; display = display; lines = end.lines; text = text' })
+plays {S} {H} {D} {L} {T} k told held failed g desk end why history text text' saved ending source ahead display lines saves is source_is ahead_is display_is = record {
   kept = end.history;
   reader = end.reader;
   source_is = source_is;
+  ahead_is = ahead_is;
   why = why;
   saved = saved;
   goes = λ t n b.
       let went = lines.goes t n b in
-      let P : D → Type 0 = λ display. Reads k.shows k.shown k.writes k.written_in g (session n g (hearing k desk went.0)) (work_of k desk)
+      let P : D → Type 0 = λ display. Reads k.shows k.shown k.show_failed k.writes k.written_in g (session n g (hearing k desk went.0)) (session_deeds n g (hearing k desk went.0)) went.0 (work_of k desk)
       (record { display = display; lines = end.lines; history = end.history }) (coming_in k.feed end.reader) why in
       (went.0, went.1, subst P (sym display_is) went.2);
   saves = saves;

@@ -1,5 +1,5 @@
 -- Lines one after the other make a session: a line in front of a session, and the line that ends it.
-use Rattle.std.proofs.Common.{◌≡◌, ℕ, zero, suc, ◌<◌, ◌≤◌, Bool, true, false, List, [], ◌∷◌, ◌++◌, length, inl, inr, refl, sym, ap, ◌∙◌, subst, append-nil, append_assoc, IsTrue, Result, Ok, Err, arith}
+use Rattle.std.proofs.Common.{◌≡◌, ℕ, zero, suc, ◌<◌, Bool, true, false, List, [], ◌∷◌, ◌++◌, inl, inr, refl, sym, ap, ◌∙◌, subst, append-nil, IsTrue, Result, Ok, Err, arith}
 use Rattle.line_config.specs.declared.errors.ReadlineError.{ReadlineError}
 use Rattle.line_config.specs.declared.errors.ReadlineError.TheVariants.{Eof, Interrupted, NotUtf8, PasteOutOfPlace, Reader, Display, Lines, HistoryText, Helper, Handler, Memory}
 use Rattle.line_config.specs.Sending.{Takes}
@@ -9,11 +9,12 @@ use Rattle.line_help.specs.History.{Filed}
 use Rattle.line_keys.specs.Answers.{HandlerFails}
 use Rattle.line_keys.specs.Coming.{Coming}
 use Rattle.line_keys.specs.Early.{Heard}
+use Rattle.keyline.specs.Deeds.{Deed, deeds_after, line_deeds, session_deeds}
 use Rattle.keyline.specs.Desks.{Known, Lined, TakesLine, TakesLines, DeskReason, HeardAt, feed_of, hearing, session_state_of, work_of}
-use Rattle.keyline.specs.Playing.{Work, LineWhole, LineCut, CutsBy, Reads}
+use Rattle.keyline.specs.Playing.{Work, LineWhole, LineCut, Cut, Reads}
 use Rattle.keyline.specs.Sessions.{Given, SessionState, Report, line_in, after_line, line_reported, line_text, lines_text, line_bytes, display_bytes, remembered, session}
 use Rattle.keyline.specs.declared.desk.Desk.{Desk}
-use Rattle.keyline.proofs.CloseLemmas.{remembered_none}
+use Rattle.keyline.proofs.DeedLemmas.{Done, cut_after, cut_more, done_line, remembered_none}
 use Rattle.keyline.proofs.HeardSteps.{heard_before}
 use Rattle.keyline.proofs.Told.{Takes-then}
 
@@ -26,18 +27,18 @@ session_step n g x = refl
 session_by : (n : ℕ) (g : Given) (x : SessionState) (t : Told) → line_in (suc n) g x ≡ t → session (suc n) g x ≡ line_reported t t.outcome (session n g (after_line g t x))
 session_by n g x t is = session_step n g x ∙ ap (λ (t : Told). line_reported t t.outcome (session n g (after_line g t x))) is
 
+pub deeds_step : (n : ℕ) (g : Given) (x : SessionState)
+    → session_deeds (suc n) g x ≡ line_deeds (suc n) g x ++ deeds_after (line_in (suc n) g x).outcome (session_deeds n g (after_line g (line_in (suc n) g x) x))
+unfolding session_deeds
+deeds_step n g x = refl
+
+deeds_by : (n : ℕ) (g : Given) (x : SessionState) (t : Told) → line_in (suc n) g x ≡ t
+    → session_deeds (suc n) g x ≡ line_deeds (suc n) g x ++ deeds_after t.outcome (session_deeds n g (after_line g t x))
+deeds_by n g x t is = deeds_step n g x ∙ ap (λ (t : Told). line_deeds (suc n) g x ++ deeds_after t.outcome (session_deeds n g (after_line g t x))) is
+
 remembered_more : (adds : Bool) (text : List ℕ) (lines : List (List ℕ)) (h : Filed) → remembered adds lines (remembered adds (text ∷ []) h) ≡ remembered adds (text ∷ lines) h
 remembered_more true text lines h = refl
 remembered_more false text lines h = refl
-
-at_most_one : (text : List ℕ) (xs ys : List (List ℕ)) → text ∷ [] ≡ xs ++ ys → length xs ≤ 1
-at_most_one text [] ys e = search arith
-at_most_one text (x ∷ []) ys e = search arith
-at_most_one text (x ∷ (z ∷ xs)) ys e = absurd (cc)
-
-none_at_all : (xs ys : List (List ℕ)) → [] ≡ xs ++ ys → length xs ≤ 1
-none_at_all [] ys e = search arith
-none_at_all (x ∷ xs) ys e = absurd (cc)
 
 fault_by : (r : Result (Unit {0}) ReadlineError) (e d : ReadlineError) → r ≡ Err e → r ≡ Err d → e ≡ d
 fault_by r e d one other = cc
@@ -45,23 +46,21 @@ fault_by r e d one other = cc
 ok_not_err : (u : Unit {0}) (e : ReadlineError) → Ok u ≡ Err e → ⊥
 ok_not_err u e same = absurd (cc)
 
-module _ {D L : Type 0} (shows : D → Bool) (shown : D → List ℕ) (writes : L → Bool) (written_in : L → List ℕ) (g : Given) where
+module _ {D L : Type 0} (shows : D → Bool) (shown : D → List ℕ) (show_failed : D → Bool) (writes : L → Bool) (written_in : L → List ℕ) (g : Given) where
   abbrev adds : Bool
   adds = g.config.auto_add_history
 
   abbrev Whole : Told → Result (List ℕ) ReadlineError → Work D L → Work D L → Result (Unit {0}) ReadlineError → Type 0
-  Whole t o old new result = LineWhole shows shown writes written_in adds (line_bytes g.screen t) o old new result
+  Whole t o old new result = LineWhole shows shown show_failed writes written_in adds (line_bytes g.screen t) o old new result
 
-  abbrev Cut : Result (List ℕ) ReadlineError → Work D L → Work D L → Result (Unit {0}) ReadlineError → Type 0
-  Cut o old new result = LineCut shows shown writes written_in adds o old new result
-
-  abbrev All : Report → Work D L → Work D L → Coming → ReadlineError → Type 0
-  All report old new left why = Reads shows shown writes written_in g report old new left why
+  abbrev All : Report → List Deed → Coming → Work D L → Work D L → Coming → ReadlineError → Type 0
+  All report deeds coming old new left why = Reads shows shown show_failed writes written_in g report deeds coming old new left why
 
   -- an accepted line, and then a session
-  then_reads : (t : Told) (o : Result (List ℕ) ReadlineError) (later : Report) (old mid new : Work D L) (left : Coming) (why : ReadlineError)
-      → Whole t o old mid (Ok (tt {0})) → All later mid new left why → All (line_reported t o later) old new left why
-  then_reads t (Ok text) later old mid new left why w (inl r) = inl (record {
+  then_reads : (t : Told) (o : Result (List ℕ) ReadlineError) (later : Report) (deeds more : List Deed) (c c' : Coming) (old mid new : Work D L) (left : Coming) (why : ReadlineError)
+      → Whole t o old mid (Ok (tt {0})) → Done shows shown writes written_in adds deeds c old mid c' → All later more c' mid new left why
+      → All (line_reported t o later) (deeds ++ deeds_after o more) c old new left why
+  then_reads t (Ok text) later deeds more c c' old mid new left why w d (inl r) = inl (record {
     why_is = r.why_is;
     rest_is = r.rest_is;
     history_is = r.history_is ∙ (ap (λ h. remembered adds later.accepted h) w.history_is ∙ remembered_more adds text later.accepted old.history);
@@ -70,31 +69,15 @@ module _ {D L : Type 0} (shows : D → Bool) (shown : D → List ℕ) (writes : 
         let P : List ℕ → Type 0 = λ line. Takes writes written_in old.lines new.lines (line ++ lines_text later.accepted) in
         subst P (append-nil (line_text text)) (Takes-then writes written_in old.lines mid.lines new.lines (lines_text (text ∷ [])) (lines_text later.accepted) w.wrote r.wrote);
   })
-  then_reads t (Ok text) later old mid new left why w (inr r) = inr (record {
-    cut = r.cut;
-    written = text ∷ r.written;
-    in_hand = r.in_hand;
-    others = r.others;
-    first = ap (λ lines. text ∷ lines) r.first;
-    one = r.one;
-    torn = r.torn;
-    more = r.more;
-    part = r.part;
-    wrote =
-        let P : List ℕ → Type 0 = Takes writes written_in old.lines new.lines in
-        let Q : List ℕ → Type 0 = λ line. P (line ++ (lines_text r.written ++ r.torn)) in
-        subst P (sym (append_assoc (line_text text) (lines_text r.written) r.torn))
-        (subst Q (append-nil (line_text text)) (Takes-then writes written_in old.lines mid.lines new.lines (lines_text (text ∷ [])) (lines_text r.written ++ r.torn) w.wrote r.wrote));
-    whole = r.whole;
-    history_is = r.history_is ∙ (ap (λ h. remembered adds (r.written ++ r.in_hand) h) w.history_is ∙ remembered_more adds text (r.written ++ r.in_hand) old.history);
-  })
-  then_reads t (Err e) later old mid new left why w r = absurd (ok_not_err (tt {0}) e w.result_is)
+  then_reads t (Ok text) later deeds more c c' old mid new left why w d (inr r) =
+      inr (cut_after shows shown show_failed writes written_in adds deeds more c c' old mid new left why d r)
+  then_reads t (Err e) later deeds more c c' old mid new left why w d r = absurd (ok_not_err (tt {0}) e w.result_is)
 
   -- the line that ends the session
-  ends_reads : (t : Told) (o : Result (List ℕ) ReadlineError) (later : Report) (old new : Work D L) (left : Coming) (e : ReadlineError)
-      → Whole t o old new (Err e) → left ≡ t.rest → All (line_reported t o later) old new left e
-  ends_reads t (Ok text) later old new left e w rest = absurd (ok_not_err (tt {0}) e (sym w.result_is))
-  ends_reads t (Err d) later old new left e w rest = inl (record {
+  ends_reads : (t : Told) (o : Result (List ℕ) ReadlineError) (later : Report) (deeds : List Deed) (c : Coming) (old new : Work D L) (left : Coming) (e : ReadlineError)
+      → Whole t o old new (Err e) → left ≡ t.rest → All (line_reported t o later) deeds c old new left e
+  ends_reads t (Ok text) later deeds c old new left e w rest = absurd (ok_not_err (tt {0}) e (sym w.result_is))
+  ends_reads t (Err d) later deeds c old new left e w rest = inl (record {
     why_is = fault_by (Err e) e d refl w.result_is;
     rest_is = rest;
     history_is = w.history_is ∙ sym (remembered_none adds old.history);
@@ -103,40 +86,12 @@ module _ {D L : Type 0} (shows : D → Bool) (shown : D → List ℕ) (writes : 
   })
 
   -- a line that a fault cut off
-  cut_reads : (t : Told) (o : Result (List ℕ) ReadlineError) (later : Report) (old new : Work D L) (left : Coming) (e : ReadlineError)
-      → Cut o old new (Err e) → All (line_reported t o later) old new left e
-  cut_reads t (Ok text) later old new left e c =
-      let same : e ≡ c.fault = fault_by (Err e) e c.fault refl c.result_is in
-      inr (record {
-        cut = let P : ReadlineError → Type 0 = CutsBy in subst P (sym same) c.cut;
-        written = [];
-        in_hand = c.in_hand;
-        others = c.others ++ later.accepted;
-        first = ap (λ lines. lines ++ later.accepted) c.first ∙ append_assoc c.in_hand c.others later.accepted;
-        one = at_most_one text c.in_hand c.others c.first;
-        torn = c.torn;
-        more = c.more;
-        part = c.part;
-        wrote = c.wrote;
-        whole = λ other. c.whole (λ lines. other (same ∙ lines));
-        history_is = c.history_is;
-      })
-  cut_reads t (Err d) later old new left e c =
-      let same : e ≡ c.fault = fault_by (Err e) e c.fault refl c.result_is in
-      inr (record {
-        cut = let P : ReadlineError → Type 0 = CutsBy in subst P (sym same) c.cut;
-        written = [];
-        in_hand = c.in_hand;
-        others = c.others;
-        first = c.first;
-        one = none_at_all c.in_hand c.others c.first;
-        torn = c.torn;
-        more = c.more;
-        part = c.part;
-        wrote = c.wrote;
-        whole = λ other. c.whole (λ lines. other (same ∙ lines));
-        history_is = c.history_is;
-      })
+  cut_reads : (report : Report) (deeds more : List Deed) (c : Coming) (old new : Work D L) (left : Coming) (e : ReadlineError)
+      → LineCut shows shown show_failed writes written_in adds deeds c old new left (Err e) → All report (deeds ++ more) c old new left e
+  cut_reads report deeds more c old new left e r =
+      let same : e ≡ r.fault = fault_by (Err e) e r.fault refl r.result_is in
+      let P : ReadlineError → Type 0 = Cut shows shown show_failed writes written_in adds (deeds ++ more) c old new left in
+      inr (subst P (sym same) (cut_more shows shown show_failed writes written_in adds deeds more c old new left r.fault r.goes))
 
 lower : (a b m : ℕ) → a < b → b < suc m → a < m
 lower a b m less below = search arith
@@ -147,7 +102,8 @@ module _ {S H D L : Type 0} (k : Known S D L) where
   -- a session from this desk on, over what is heard of what is to come there
   abbrev pub Onwards : Given → ℕ → Desk S H D L → Work D L → Coming → ReadlineError → Type 0
   Onwards g n d end left why =
-      (heard : Coming) × HeardAt k d heard × Reads k.shows k.shown k.writes k.written_in g (session n g (hearing k d heard)) (work_of k d) end left why
+      (heard : Coming) × HeardAt k d heard
+      × Reads k.shows k.shown k.show_failed k.writes k.written_in g (session n g (hearing k d heard)) (session_deeds n g (hearing k d heard)) heard (work_of k d) end left why
 
 -- lines were taken: what is read, drawn, kept and written from here on is, with them, what is so from the first desk on
 pub record Onward {S H D L : Type 0} (k : Known S D L) (g g' : Given) (first now : Desk S H D L) : Type 0 where
@@ -170,20 +126,25 @@ module _ {S H D L : Type 0} (k : Known S D L) where
 
   -- what a line makes of what is heard
   abbrev LinedAt : Given → ℕ → Desk S H D L → Desk S H D L → Result (Unit {0}) ReadlineError → Type 0
-  LinedAt g n now next result = (heard : Coming) × HeardAt k now heard × Lined k g (line_in n g (hearing k now heard)) now next result
+  LinedAt g n now next result = (heard : Coming) × HeardAt k now heard
+      × Lined k g (line_in n g (hearing k now heard)) (line_deeds n g (hearing k now heard)) heard now next result
 
   -- a line that was accepted, and a session after it
   line_then : (g : Given) (n : ℕ) (now next : Desk S H D L) (heard later : Coming) (t : Told) → line_in (suc n) g (hearing k now heard) ≡ t
-      → LineWhole k.shows k.shown k.writes k.written_in g.config.auto_add_history (line_bytes g.screen t) t.outcome (work_of k now) (work_of k next) (Ok (tt {0}))
+      → LineWhole k.shows k.shown k.show_failed k.writes k.written_in g.config.auto_add_history (line_bytes g.screen t) t.outcome (work_of k now) (work_of k next) (Ok (tt {0}))
       → hearing k next later ≡ after_line g t (hearing k now heard) → (end : Work D L) (left : Coming) (why : ReadlineError)
-      → Reads k.shows k.shown k.writes k.written_in g (session n g (hearing k next later)) (work_of k next) end left why
-      → Reads k.shows k.shown k.writes k.written_in g (session (suc n) g (hearing k now heard)) (work_of k now) end left why
+      → Reads k.shows k.shown k.show_failed k.writes k.written_in g (session n g (hearing k next later)) (session_deeds n g (hearing k next later)) later (work_of k next) end left why
+      → Reads k.shows k.shown k.show_failed k.writes k.written_in g (session (suc n) g (hearing k now heard)) (session_deeds (suc n) g (hearing k now heard)) heard (work_of k now) end left why
   line_then g n now next heard later t is whole after end left why r =
       let x = hearing k now heard in
-      let X : SessionState → Type 0 = λ x. Reads k.shows k.shown k.writes k.written_in g (session n g x) (work_of k next) end left why in
-      let Q : Report → Type 0 = λ report. Reads k.shows k.shown k.writes k.written_in g report (work_of k now) end left why in
-      subst Q (sym (session_by n g x t is))
-      (then_reads k.shows k.shown k.writes k.written_in g t t.outcome (session n g (after_line g t x)) (work_of k now) (work_of k next) end left why whole (subst X after r))
+      let y = after_line g t x in
+      let X : SessionState → Type 0 = λ x. Reads k.shows k.shown k.show_failed k.writes k.written_in g (session n g x) (session_deeds n g x) x.coming (work_of k next) end left why in
+      let Q : Report → Type 0 = λ report. Reads k.shows k.shown k.show_failed k.writes k.written_in g report (session_deeds (suc n) g x) heard (work_of k now) end left why in
+      let R : List Deed → Type 0 = λ deeds. Reads k.shows k.shown k.show_failed k.writes k.written_in g (line_reported t t.outcome (session n g y)) deeds heard (work_of k now) end left why in
+      subst Q (sym (session_by n g x t is)) (subst R (sym (deeds_by n g x t is))
+      (then_reads k.shows k.shown k.show_failed k.writes k.written_in g t t.outcome (session n g y) (line_deeds (suc n) g x) (session_deeds n g y) heard y.coming
+      (work_of k now) (work_of k next) end left why whole
+      (done_line k.shows k.shown k.show_failed k.writes k.written_in g.config.auto_add_history (suc n) g x t (work_of k now) (work_of k next) (Ok (tt {0})) is whole) (subst X after r)))
 
   line_on : (g : Given) (n : ℕ) (now next : Desk S H D L) → (feed_of k next).steady ≡ (feed_of k now).steady → LinedAt g (suc n) now next (Ok (tt {0}))
       → (end : Work D L) (left : Coming) (why : ReadlineError) → Onwards k g n next end left why → Onwards k g (suc n) now end left why
@@ -204,16 +165,20 @@ module _ {S H D L : Type 0} (k : Known S D L) where
   line_off g n now next e (heard, is, lined) =
       let x = hearing k now heard in
       let t = line_in (suc n) g x in
-      let Q : Report → Type 0 = λ report. Reads k.shows k.shown k.writes k.written_in g report (work_of k now) (work_of k next) (feed_of k next).coming e in
-      (heard, is, subst Q (sym (session_step n g x)) (by_cases x t lined))
+      let later = session n g (after_line g t x) in
+      let Q : Report → Type 0 = λ report. Reads k.shows k.shown k.show_failed k.writes k.written_in g report (session_deeds (suc n) g x) heard (work_of k now) (work_of k next) (feed_of k next).coming e in
+      let R : List Deed → Type 0 = λ deeds. Reads k.shows k.shown k.show_failed k.writes k.written_in g (line_reported t t.outcome later) deeds heard (work_of k now) (work_of k next) (feed_of k next).coming e in
+      (heard, is, subst Q (sym (session_step n g x)) (subst R (sym (deeds_step n g x)) (by_cases x t lined)))
     where
-      by_cases : (x : SessionState) (t : Told) → Lined k g t now next (Err e)
-          → Reads k.shows k.shown k.writes k.written_in g (line_reported t t.outcome (session n g (after_line g t x))) (work_of k now) (work_of k next) (feed_of k next).coming e
+      by_cases : (x : SessionState) (t : Told) → Lined k g t (line_deeds (suc n) g x) heard now next (Err e)
+          → Reads k.shows k.shown k.show_failed k.writes k.written_in g (line_reported t t.outcome (session n g (after_line g t x)))
+          (line_deeds (suc n) g x ++ deeds_after t.outcome (session_deeds n g (after_line g t x))) heard (work_of k now) (work_of k next) (feed_of k next).coming e
       by_cases x t (inl w) =
-          ends_reads k.shows k.shown k.writes k.written_in g t t.outcome (session n g (after_line g t x)) (work_of k now) (work_of k next) (feed_of k next).coming e w.0
-          (ap (λ (x : SessionState). x.coming) w.1)
+          ends_reads k.shows k.shown k.show_failed k.writes k.written_in g t t.outcome (session n g (after_line g t x)) (line_deeds (suc n) g x ++ deeds_after t.outcome (session_deeds n g (after_line g t x)))
+          heard (work_of k now) (work_of k next) (feed_of k next).coming e w.0 (ap (λ (x : SessionState). x.coming) w.1)
       by_cases x t (inr c) =
-          cut_reads k.shows k.shown k.writes k.written_in g t t.outcome (session n g (after_line g t x)) (work_of k now) (work_of k next) (feed_of k next).coming e c
+          cut_reads k.shows k.shown k.show_failed k.writes k.written_in g (line_reported t t.outcome (session n g (after_line g t x))) (line_deeds (suc n) g x)
+          (deeds_after t.outcome (session_deeds n g (after_line g t x))) heard (work_of k now) (work_of k next) (feed_of k next).coming e c
 
   pub onward_line : (g g' g'' : Given) (first now next : Desk S H D L) → Onward k g g' first now
       → TakesLine k g' g'' now next (Ok (tt {0})) → Onward k g g'' first next

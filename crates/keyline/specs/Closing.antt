@@ -1,11 +1,14 @@
 -- What the end of a line makes of a session's devices and history.
-use Rattle.std.specs.Prelude.{◌≡◌, ◌⊎◌, ℕ, Bool, List, Result, Err, IsTrue, IfErr, OnOk, OnErr}
+use Rattle.std.specs.Prelude.{◌≡◌, ◌⊎◌, ℕ, Bool, false, List, Result, Err, IsTrue, IfErr, OnOk, OnErr}
 use Rattle.line_config.specs.declared.errors.ReadlineError.{ReadlineError}
 use Rattle.line_config.specs.declared.errors.ReadlineError.TheVariants.{Display, Lines, Memory}
 use Rattle.line_config.specs.Sending.{Takes}
+use Rattle.line_editor.specs.Courses.{breaks_after}
 use Rattle.line_help.specs.History.{Filed}
+use Rattle.line_keys.specs.Coming.{Coming}
 use Rattle.line_screen.specs.Drawing.{break_if}
 use Rattle.keyline.specs.Calls.{TakesSome}
+use Rattle.keyline.specs.Deeds.{close_deeds}
 use Rattle.keyline.specs.Playing.{Work, LineWhole, LineCut}
 use Rattle.keyline.specs.Sessions.{breaks}
 
@@ -27,14 +30,16 @@ CloseReason outcome was_failed display lines e =
     ⊎ (((e ≡ Display) × IsTrue display) ⊎ (((e ≡ Lines) × IsTrue lines) ⊎ (e ≡ Memory)))
 
 -- an accepted line is drawn to its end, kept and written; after the endings that say so a new row
--- is drawn
+-- is drawn, and after the others nothing is done; whatever comes isn't read
 pub record Closes {D L : Type 0} (shows : D → Bool) (shown : D → List ℕ) (show_failed : D → Bool)
     (writes : L → Bool) (written_in : L → List ℕ) (write_failed : L → Bool) (adds : Bool)
     (outcome : Result (List ℕ) ReadlineError) (old new : Work D L)
     (result : Result (Unit {0}) ReadlineError) : Type 0 where
-  pub goes : LineWhole shows shown writes written_in adds
+  pub goes : LineWhole shows shown show_failed writes written_in adds
       (break_if (breaks outcome)) outcome old new
       result
-      ⊎ LineCut shows shown writes written_in adds outcome old new result
+      ⊎ ((coming : Coming) → LineCut shows shown show_failed writes written_in adds
+      (close_deeds outcome) coming old new coming result)
+  pub stays : IfErr outcome (λ e. breaks_after e ≡ false → (new ≡ old) × (result ≡ Err e))
   pub reason : IfErr result (CloseReason outcome (show_failed old.display)
       (show_failed new.display) (write_failed new.lines))

@@ -8,6 +8,7 @@ use Rattle.line_keys.specs.Feeds.{KeyFeed}
 use Rattle.line_editor.specs.Lines.{Told}
 use Rattle.line_screen.specs.Calls.{sink_of}
 use Rattle.line_screen.specs.Reader.{items_of, source_of}
+use Rattle.keyline.specs.Deeds.{Deed, line_deeds, session_deeds}
 use Rattle.keyline.specs.Playing.{Work, SessionReason, LineWhole, LineCut, Reads}
 use Rattle.keyline.specs.Sessions.{Given, SessionState, line_in, after_line, line_bytes, session}
 use Rattle.keyline.specs.declared.desk.Desk.{Desk}
@@ -57,21 +58,22 @@ module _ {S H D L : Type 0} (k : Known S D L) where
   DeskReason told g d e = SessionReason told g (k.feed (source_of d.reader)).failed
       (k.show_failed (sink_of d.out)) (k.write_failed d.lines) e
 
-  abbrev pub Lined : Given → Told → Desk S H D L → Desk S H D L → Result (Unit {0}) ReadlineError
-      → Type 0
-  Lined g t old new result =
-      (LineWhole k.shows k.shown k.writes k.written_in g.config.auto_add_history
+  abbrev pub Lined : Given → Told → List Deed → Coming → Desk S H D L → Desk S H D L
+      → Result (Unit {0}) ReadlineError → Type 0
+  Lined g t deeds heard old new result =
+      (LineWhole k.shows k.shown k.show_failed k.writes k.written_in g.config.auto_add_history
       (line_bytes g.screen t) t.outcome (work_of old) (work_of new) result
       × (session_state_of new ≡ after_line g t (session_state_of old)))
-      ⊎ LineCut k.shows k.shown k.writes k.written_in g.config.auto_add_history t.outcome
-      (work_of old) (work_of new) result
+      ⊎ LineCut k.shows k.shown k.show_failed k.writes k.written_in g.config.auto_add_history deeds
+      heard (work_of old) (work_of new) (feed_of new).coming result
 
   -- THE relation of a line
   pub record TakesLine (g g' : Given) (old new : Desk S H D L)
       (result : Result (Unit {0}) ReadlineError) : Type 0 where
     pub goes : IsTrue (feed_of old).told → (n : ℕ) → (feed_of old).bound < n
         → (heard : Coming) × HeardAt old heard
-        × Lined g (line_in n g (hearing old heard)) old new result
+        × Lined g (line_in n g (hearing old heard)) (line_deeds n g (hearing old heard)) heard
+        old new result
     pub given : IsTrue (feed_of old).told → g' ≡ g
     pub custom : g'.custom ≡ g.custom
     pub told : IsTrue (feed_of old).told → IsTrue (feed_of new).told
@@ -83,6 +85,7 @@ module _ {S H D L : Type 0} (k : Known S D L) where
   pub record TakesLines (g : Given) (old new : Desk S H D L) (why : ReadlineError) : Type 0 where
     pub goes : IsTrue (feed_of old).told → (n : ℕ) → (feed_of old).bound < n
         → (heard : Coming) × HeardAt old heard
-        × Reads k.shows k.shown k.writes k.written_in g (session n g (hearing old heard))
+        × Reads k.shows k.shown k.show_failed k.writes k.written_in g
+        (session n g (hearing old heard)) (session_deeds n g (hearing old heard)) heard
         (work_of old) (work_of new) (feed_of new).coming why
     pub reason : DeskReason (feed_of old).told g new why

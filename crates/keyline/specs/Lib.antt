@@ -1,5 +1,6 @@
 pub mod Calls
 pub mod Closing
+pub mod Deeds
 pub mod Desks
 pub mod Edits
 pub mod Endings

@@ -1,6 +1,6 @@
 -- What a session makes of its devices and its history: all that the definition says, or a beginning
 -- of it.
-use Rattle.std.specs.Prelude.{◌≡◌, ◌⊎◌, ⊤, ℕ, ◌≤◌, Bool, true, false, List, [], ◌∷◌, ◌++◌, length, Result, Ok, Err, IsTrue}
+use Rattle.std.specs.Prelude.{◌≡◌, ◌⊎◌, ⊤, ℕ, Bool, true, false, List, [], ◌∷◌, ◌++◌, Result, Ok, Err, IsTrue}
 use Rattle.line_config.specs.declared.errors.ReadlineError.{ReadlineError}
 use Rattle.line_config.specs.declared.errors.ReadlineError.TheVariants.{Eof, Interrupted, NotUtf8, PasteOutOfPlace, Reader, Display, Lines, HistoryText, Helper, Handler, Memory}
 use Rattle.line_config.specs.Sending.{Takes}
@@ -8,8 +8,9 @@ use Rattle.line_editor.specs.Running.{HelperFails}
 use Rattle.line_help.specs.History.{Filed, all_saved}
 use Rattle.line_help.specs.HistoryText.{text_to_save}
 use Rattle.line_keys.specs.Answers.{HandlerFails}
-use Rattle.line_keys.specs.Coming.{Coming, made_of}
-use Rattle.keyline.specs.Sessions.{Given, Report, remembered, history_after, lines_text, display_bytes}
+use Rattle.line_keys.specs.Coming.{Coming, made_of, left_by}
+use Rattle.keyline.specs.Deeds.{Deed, Draws, Hears, Keeps, Writes, bytes_drawn, left_after, lines_kept, lines_written}
+use Rattle.keyline.specs.Sessions.{Given, Report, remembered, history_after, line_text, lines_text, display_bytes}
 
 -- the faults that no input gives
 abbrev pub CutsBy : ReadlineError → Type 0
@@ -51,8 +52,51 @@ abbrev pub accepted_of : Result (List ℕ) ReadlineError → List (List ℕ)
 accepted_of (Ok text) = text ∷ []
 accepted_of (Err e) = []
 
-module _ {D L : Type 0} (shows : D → Bool) (shown : D → List ℕ) (writes : L → Bool)
-    (written_in : L → List ℕ) where
+-- ---- where a fault stops deeds
+
+-- the next one is to write a line, and this is a beginning of it
+abbrev pub Tears : List ℕ → List Deed → Type 0
+Tears torn [] = ⊥
+Tears torn (Draws bytes ∷ more) = ⊥
+Tears torn (Hears rest ∷ more) = ⊥
+Tears torn (Keeps line ∷ more) = ⊥
+Tears torn (Writes line ∷ more) = (later : List ℕ) × (line_text line ≡ torn ++ later)
+
+-- the next one is to read
+abbrev pub IsHeard : List Deed → Type 0
+IsHeard [] = ⊥
+IsHeard (Draws bytes ∷ more) = ⊥
+IsHeard (Hears rest ∷ more) = ⊤
+IsHeard (Keeps line ∷ more) = ⊥
+IsHeard (Writes line ∷ more) = ⊥
+
+-- nothing was done of the next one; or the sink of lines failed at its line, and has taken a
+-- beginning of it; or a paste found no memory, and every read is refused from there on
+abbrev pub Stops : ReadlineError → Coming → List Deed → Coming → List ℕ → Type 0
+Stops why coming next left torn =
+    ((why ≡ Lines → ⊥) × (left ≡ coming) × (torn ≡ []))
+    ⊎ (((why ≡ Lines) × (left ≡ coming) × Tears torn next)
+    ⊎ ((why ≡ Memory) × (left ≡ left_by Memory) × (torn ≡ []) × IsHeard next))
+
+module _ {D L : Type 0} (shows : D → Bool) (shown : D → List ℕ) (show_failed : D → Bool)
+    (writes : L → Bool) (written_in : L → List ℕ) where
+  -- of these deeds the first were done, in order, and a fault stopped the next one: the display has
+  -- the bytes drawn, unless it has failed; the source has left what comes after what was heard; the
+  -- sink of lines has the lines written; and the history has those kept
+  pub record Cut (adds : Bool) (deeds : List Deed) (coming : Coming) (old new : Work D L)
+      (left : Coming) (why : ReadlineError) : Type 0 where
+    pub cut : CutsBy why
+    pub done : List Deed
+    pub next : List Deed
+    pub first : deeds ≡ done ++ next
+    pub drawn : Takes shows shown old.display new.display (bytes_drawn done)
+        ⊎ IsTrue (show_failed new.display)
+    pub torn : List ℕ
+    pub stops : Stops why (left_after coming done) next left torn
+    pub wrote : Takes writes written_in old.lines new.lines
+        (lines_text (lines_written done) ++ torn)
+    pub history_is : new.history ≡ remembered adds (lines_kept done) old.history
+
   -- ---- a line, or the end of one
 
   -- drawn by these bytes, kept and written as its outcome says
@@ -63,21 +107,12 @@ module _ {D L : Type 0} (shows : D → Bool) (shown : D → List ℕ) (writes : 
     pub drawn : Takes shows shown old.display new.display bytes
     pub wrote : Takes writes written_in old.lines new.lines (lines_text (accepted_of outcome))
 
-  -- a fault came: the line in hand may have been added to the history, and a part of it written
-  pub record LineCut (adds : Bool) (outcome : Result (List ℕ) ReadlineError)
-      (old new : Work D L) (result : Result (Unit {0}) ReadlineError) : Type 0 where
+  -- a fault cut its deeds
+  pub record LineCut (adds : Bool) (deeds : List Deed) (coming : Coming) (old new : Work D L)
+      (left : Coming) (result : Result (Unit {0}) ReadlineError) : Type 0 where
     pub fault : ReadlineError
     pub result_is : result ≡ Err fault
-    pub cut : CutsBy fault
-    pub in_hand : List (List ℕ)
-    pub others : List (List ℕ)
-    pub first : accepted_of outcome ≡ in_hand ++ others
-    pub torn : List ℕ
-    pub more : List ℕ
-    pub part : lines_text in_hand ≡ torn ++ more
-    pub wrote : Takes writes written_in old.lines new.lines torn
-    pub whole : (fault ≡ Lines → ⊥) → torn ≡ []
-    pub history_is : new.history ≡ remembered adds in_hand old.history
+    pub goes : Cut adds deeds coming old new left fault
 
   -- ---- a session
 
@@ -91,26 +126,12 @@ module _ {D L : Type 0} (shows : D → Bool) (shown : D → List ℕ) (writes : 
     pub drawn : Takes shows shown old.display new.display (display_bytes g.screen report)
     pub wrote : Takes writes written_in old.lines new.lines (lines_text report.accepted)
 
-  -- a fault came: the first lines were written, then perhaps a part of the line in hand, which may
-  -- have been added to the history
-  pub record Cut (g : Given) (report : Report) (old new : Work D L) (why : ReadlineError)
-      : Type 0 where
-    pub cut : CutsBy why
-    pub written : List (List ℕ)
-    pub in_hand : List (List ℕ)
-    pub others : List (List ℕ)
-    pub first : report.accepted ≡ written ++ (in_hand ++ others)
-    pub one : length in_hand ≤ 1
-    pub torn : List ℕ
-    pub more : List ℕ
-    pub part : lines_text in_hand ≡ torn ++ more
-    pub wrote : Takes writes written_in old.lines new.lines (lines_text written ++ torn)
-    pub whole : (why ≡ Lines → ⊥) → torn ≡ []
-    pub history_is : new.history
-        ≡ remembered g.config.auto_add_history (written ++ in_hand) old.history
-
-  abbrev pub Reads : Given → Report → Work D L → Work D L → Coming → ReadlineError → Type 0
-  Reads g report old new left why = Whole g report old new left why ⊎ Cut g report old new why
+  -- whole, or a fault cut its deeds
+  abbrev pub Reads : Given → Report → List Deed → Coming → Work D L → Work D L → Coming
+      → ReadlineError → Type 0
+  Reads g report deeds coming old new left why =
+      Whole g report old new left why
+      ⊎ Cut g.config.auto_add_history deeds coming old new left why
 
 -- ---- the end
 

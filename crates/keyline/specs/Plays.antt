@@ -9,8 +9,9 @@ use Rattle.line_help.specs.HistoryText.{text_rows, load_answer, load_leaves}
 use Rattle.line_keys.specs.Coming.{Coming}
 use Rattle.line_record.specs.Ring.{new_ring}
 use Rattle.line_screen.specs.Calls.{screen_of, sink_of}
-use Rattle.line_screen.specs.Reader.{coming_in, source_of}
+use Rattle.line_screen.specs.Reader.{coming_in, kept_of, source_of}
 use Rattle.line_screen.specs.declared.reading.reader.KeyReader.{KeyReader}
+use Rattle.keyline.specs.Deeds.{session_deeds}
 use Rattle.keyline.specs.Desks.{Known, HeardAt, feed_of, hearing, work_of}
 use Rattle.keyline.specs.Endings.{ending_of}
 use Rattle.keyline.specs.Playing.{SessionReason, Reads, Saves, ending_after}
@@ -73,8 +74,8 @@ pub record Opens {S H D L : Type 0} (feed : S → Feed) (config : Config) (text 
 pub record Plays {S H D L T : Type 0} (k : Known S D L) (told : T → Bool) (held : T → List ℕ)
     (failed : T → Bool) (g : Given) (desk : Desk S H D L) (text : T) (ended : Ended S D L T)
     : Type 0 where
-  -- the history as the lines left it, the reader of the source that is handed back, which may keep
-  -- a byte of it, why there was no further line, and whether the history was saved
+  -- the history as the lines left it, the reader of the source that is handed back, with the byte
+  -- that it keeps, why there was no further line, and whether the history was saved
   pub kept : Filed
   pub reader : KeyReader S
   pub why : ReadlineError
@@ -82,11 +83,13 @@ pub record Plays {S H D L T : Type 0} (k : Known S D L) (told : T → Bool) (hel
   -- with more fuel than the source has keys and pastes
   pub goes : IsTrue (feed_of k desk).told → (n : ℕ) → (feed_of k desk).bound < n
       → (heard : Coming) × HeardAt k desk heard
-      × Reads k.shows k.shown k.writes k.written_in g (session n g (hearing k desk heard))
+      × Reads k.shows k.shown k.show_failed k.writes k.written_in g
+      (session n g (hearing k desk heard)) (session_deeds n g (hearing k desk heard)) heard
       (work_of k desk)
       (record { display = ended.display; lines = ended.lines; history = kept })
       (coming_in k.feed reader) why
   pub source_is : ended.source ≡ source_of reader
+  pub ahead_is : ended.ahead ≡ kept_of reader
   pub saves : Saves told held failed kept ended.history text ended.text saved
   pub ending_is : ended.ending ≡ ending_of (ending_after why saved)
   pub reason : SessionReason (feed_of k desk).told g (k.feed ended.source).failed

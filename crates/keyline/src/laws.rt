@@ -1,5 +1,6 @@
 //! Laws of the definitions: each is the contract of a function that does nothing.
 
+ghost use Rattle.keyline.specs.Deeds.{DeedsTell};
 ghost use Rattle.keyline.specs.OneByte.{LayoutsTell, OneByte};
 ghost use Rattle.keyline.specs.SessionLaws.{ColumnsAreFree, LastAreKept};
 ghost use Rattle.keyline.specs.SessionShows.{SessionsShow};
@@ -29,6 +30,13 @@ pub fn sessions_show()
 /// the prompt ends in the same column on both: they are the same, turn for turn.
 pub fn columns()
     ensures { ColumnsAreFree }
+{}
+
+/// What a session does, deed after deed, comes to its report: the bytes drawn, what is left to come,
+/// the lines kept and the lines written. Any first deeds of it have written the first lines, and
+/// kept those and at most the next one.
+pub fn deeds()
+    ensures { DeedsTell }
 {}
 
 /// A history that began empty holds, under fixed settings, the last of the accepted lines that

@@ -44,6 +44,9 @@ pub struct Ended<S, D, L, T> {
     pub history: FileHistory,
     /// The source of key bytes, after the last byte read.
     pub source: S,
+    /// The byte of it that was read ahead, to see what follows an Esc, and belongs to no key: what
+    /// is left to come begins with it.
+    pub ahead: Option<u8>,
     pub display: D,
     /// The sink of accepted lines.
     pub lines: L,
@@ -184,11 +187,12 @@ where
         } = desk;
         let saved = save(&mut history, &mut text);
         let ending = Ending::from(ending_after(why, saved));
-        let (source, _) = reader.into_parts();
+        let (source, ahead) = reader.into_parts();
         Ended {
             ending,
             history,
             source,
+            ahead,
             display: out.into_sink(),
             lines,
             text,

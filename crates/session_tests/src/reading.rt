@@ -1,7 +1,10 @@
 //! Sessions over readers and writers of std: keys in pieces, and devices that share one log.
 
-use crate::fixtures::{display_of, ended};
-use keyline::{Ending, ReadSource, VecSink, WriteSink};
+use crate::fixtures::{display_of, ended, rest_of};
+use keyline::{
+    Bindings, Cmd, Config, EditMode, Ending, Event, EventHandler, KeyEvent, ReadSource, Session,
+    SliceSource, VecSink, WriteSink,
+};
 use stand_ins::devices::{LoggedReader, LoggedWriter, Pieces, Turns};
 use stand_ins::tables::call_and_answer;
 use std::cell::{Cell, RefCell};
@@ -67,6 +70,33 @@ fn source_keeps_what_was_read(rt: HostRuntime) -> Result<(), Fail> {
     let (reader, unread) = end.source.into_parts();
     assert_eq!(rt; unread.as_slice(), b"bc".as_slice());
     assert_eq!(rt; reader.bytes, b"d".as_slice());
+    Ok(())
+}
+
+/// Esc ends the session as soon as the byte that follows shows that it stands alone.
+#[test]
+fn byte_after_the_last_esc_is_handed_back(rt: HostRuntime) -> Result<(), Fail> {
+    let alloc = rt.alloc();
+    let mut bindings = Bindings::new(alloc)?;
+    let event = Event::from_key(alloc, KeyEvent::ESC)?;
+    let _ = bindings.bind_sequence(event, EventHandler::Simple(Cmd::Interrupt))?;
+    let session = Session::open(
+        alloc,
+        Config::builder().edit_mode(EditMode::Vi).build(),
+        bindings,
+        SliceSource::new(b""),
+        None::<()>,
+        "> ",
+        SliceSource::new(b"a\x1Bbc"),
+        80,
+        VecSink::new(alloc),
+        VecSink::new(alloc),
+        VecSink::new(alloc),
+    )?;
+    let mut end = session.run();
+    assert_eq!(rt; end.ending, Ending::Interrupted);
+    assert_eq!(rt; end.ahead, Some(b'b'));
+    assert_eq!(rt; rest_of(&rt, &mut end.source)?.as_slice(), b"c".as_slice());
     Ok(())
 }
 

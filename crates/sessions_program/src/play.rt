@@ -59,6 +59,7 @@ fn run<S: Source + Drop>(alloc: Global, setting: &Setting<'_>, source: S) -> Res
         ending,
         history: _,
         source: _,
+        ahead: _,
         display,
         lines,
         text,

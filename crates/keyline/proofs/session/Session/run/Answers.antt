@@ -16,7 +16,7 @@ returns g c =
     record {
       shows = λ heard. sessions_show _ _ columns.0 columns.1;
       plays = plays k g.T.Sink.told g.T.Sink.held g.T.Sink.has_failed _ c.args.self.desk end why c.save-saved.new.history c.args.self.text c.save-saved.new.text c.save-saved.result
-          c.from-ending.result c.into_parts-source.result.0 c.into_sink.result
+          c.from-ending.result c.into_parts-source.result.0 c.into_parts-source.result.1 c.into_sink.result
           (rw (← c.as_str.ensures.value) c.read_lines-desk.ensures) c.save-saved.ensures (c.from-ending.ensures ∙ ap ending_of c.ending_after.ensures)
-          c.into_parts-source.ensures.source c.into_sink.ensures;
+          c.into_parts-source.ensures.source c.into_parts-source.ensures.kept c.into_sink.ensures;
     }

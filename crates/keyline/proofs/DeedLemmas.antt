@@ -1,0 +1,461 @@
+-- Deeds one after the other, done and cut.
+use Rattle.std.proofs.Common.{◌≡◌, ◌⊎◌, ℕ, zero, suc, Bool, true, false, List, [], ◌∷◌, ◌++◌, inl, inr, refl, sym, ap, ◌∙◌, subst, append-nil, append_assoc, IsTrue, Option, None, Result, Ok, Err}
+use Rattle.std.specs.List.{FoldsTo, flat_map}
+use Rattle.std.proofs.lemmas.Grind.{flat_map-append}
+use Rattle.line_buffer.specs.declared.layout.Layout.{Layout}
+use Rattle.line_config.specs.declared.errors.ReadlineError.{ReadlineError}
+use Rattle.line_config.specs.declared.errors.ReadlineError.TheVariants.{Lines, Memory}
+use Rattle.line_config.specs.Sending.{Takes}
+use Rattle.line_help.specs.History.{Filed, filed_with, filed_with_all}
+use Rattle.line_keys.specs.Answers.{Custom}
+use Rattle.line_keys.specs.Coming.{Coming, left_by}
+use Rattle.line_keys.specs.Phrases.{Input}
+use Rattle.line_keys.specs.InputStates.{new_input}
+use Rattle.line_record.specs.Ring.{Ring}
+use Rattle.line_editor.specs.Acts.{Act, Sees, Gets, Obeys, Stage, stage, CutIn, acts_after, acts_from, acts_of, turn_acts}
+use Rattle.line_editor.specs.Calls.{Call, Begun}
+use Rattle.line_editor.specs.Drawing.{refreshed}
+use Rattle.line_editor.specs.Lines.{Told, Turned, turn_of, after_turn, line_from, line_of}
+use Rattle.line_editor.specs.Redraws.{Redraw, Asked, asked, fresh}
+use Rattle.line_editor.specs.Sights.{info_after}
+use Rattle.line_editor.specs.Starts.{first_value}
+use Rattle.line_editor.specs.Values.{Value, Setting, Effect}
+use Rattle.line_editor.specs.declared.commands.Status.{Status}
+use Rattle.line_editor.specs.declared.commands.Status.TheVariants.{Proceed, Submit}
+use Rattle.line_editor.proofs.ActsLemmas.{asked_of, asked_same, rest_of, turn_rest, whole_redraws}
+use Rattle.line_screen.specs.Calls.{Screen, bytes_of, canvas_of, ruler_of, screen_of, sink_of}
+use Rattle.line_screen.specs.Drawing.{break_if}
+use Rattle.line_screen.specs.declared.renderer.ScreenRenderer.{ScreenRenderer}
+use Rattle.line_screen.proofs.CallLemmas.{sent_in_all}
+use Rattle.keyline.specs.Closing.{work}
+use Rattle.keyline.specs.Deeds.{Deed, Draws, Hears, Keeps, Writes, bytes_drawn, left_after, lines_kept, lines_written, call_deeds, act_deeds, close_deeds, acts_in, line_deeds}
+use Rattle.keyline.specs.Playing.{Work, LineWhole, Cut, CutsBy, Stops, Tears, IsHeard, accepted_of}
+use Rattle.keyline.specs.Sessions.{Given, SessionState, breaks, calls_of, history_after, line_bytes, line_in, line_text, lines_text, remembered, setting_in}
+use Rattle.keyline.specs.Shows.{drawn_by}
+use Rattle.keyline.proofs.Told.{Takes-none, Takes-then}
+
+-- ---- what deeds come to, some after others
+
+pub drawn_both : (xs ys : List Deed) → bytes_drawn (xs ++ ys) ≡ bytes_drawn xs ++ bytes_drawn ys
+drawn_both [] ys = refl
+drawn_both (Draws bytes ∷ xs) ys = ap (λ zs. bytes ++ zs) (drawn_both xs ys) ∙ sym (append_assoc bytes (bytes_drawn xs) (bytes_drawn ys))
+drawn_both (Hears rest ∷ xs) ys = drawn_both xs ys
+drawn_both (Keeps line ∷ xs) ys = drawn_both xs ys
+drawn_both (Writes line ∷ xs) ys = drawn_both xs ys
+
+pub left_both : (c : Coming) (xs ys : List Deed) → left_after c (xs ++ ys) ≡ left_after (left_after c xs) ys
+left_both c [] ys = refl
+left_both c (Draws bytes ∷ xs) ys = left_both c xs ys
+left_both c (Hears rest ∷ xs) ys = left_both rest xs ys
+left_both c (Keeps line ∷ xs) ys = left_both c xs ys
+left_both c (Writes line ∷ xs) ys = left_both c xs ys
+
+pub kept_both : (xs ys : List Deed) → lines_kept (xs ++ ys) ≡ lines_kept xs ++ lines_kept ys
+kept_both [] ys = refl
+kept_both (Draws bytes ∷ xs) ys = kept_both xs ys
+kept_both (Hears rest ∷ xs) ys = kept_both xs ys
+kept_both (Keeps line ∷ xs) ys = ap (λ lines. line ∷ lines) (kept_both xs ys)
+kept_both (Writes line ∷ xs) ys = kept_both xs ys
+
+pub written_both : (xs ys : List Deed) → lines_written (xs ++ ys) ≡ lines_written xs ++ lines_written ys
+written_both [] ys = refl
+written_both (Draws bytes ∷ xs) ys = written_both xs ys
+written_both (Hears rest ∷ xs) ys = written_both xs ys
+written_both (Keeps line ∷ xs) ys = written_both xs ys
+written_both (Writes line ∷ xs) ys = ap (λ lines. line ∷ lines) (written_both xs ys)
+
+-- ---- calls
+
+module _ (s : Screen) where
+  calls_drawn : (calls : List Call) → bytes_drawn (call_deeds s calls) ≡ flat_map (bytes_of s) calls
+  calls_drawn [] = refl
+  calls_drawn (call ∷ calls) = ap (λ zs. bytes_of s call ++ zs) (calls_drawn calls)
+
+  calls_left : (c : Coming) (calls : List Call) → left_after c (call_deeds s calls) ≡ c
+  calls_left c [] = refl
+  calls_left c (call ∷ calls) = calls_left c calls
+
+  calls_kept : (calls : List Call) → lines_kept (call_deeds s calls) ≡ []
+  calls_kept [] = refl
+  calls_kept (call ∷ calls) = calls_kept calls
+
+  calls_written : (calls : List Call) → lines_written (call_deeds s calls) ≡ []
+  calls_written [] = refl
+  calls_written (call ∷ calls) = calls_written calls
+
+  -- ---- acts
+
+  abbrev asks_of : Layout → List Redraw → List Deed
+  asks_of l redraws = call_deeds s (drawn_by s l redraws).calls
+
+  drawn_then : (l : Layout) (redraws : List Redraw) (deeds : List Deed) (calls : List Call) → bytes_drawn deeds ≡ flat_map (bytes_of s) calls
+      → bytes_drawn (asks_of l redraws ++ deeds) ≡ flat_map (bytes_of s) ((drawn_by s l redraws).calls ++ calls)
+  drawn_then l redraws deeds calls is =
+      let first = (drawn_by s l redraws).calls in
+      drawn_both (asks_of l redraws) deeds ∙ (ap (λ zs. zs ++ bytes_drawn deeds) (calls_drawn first)
+      ∙ (ap (λ zs. flat_map (bytes_of s) first ++ zs) is ∙ sym (flat_map-append (bytes_of s) first calls)))
+
+  acts_drawn : (l : Layout) (acts : List Act) → bytes_drawn (act_deeds s l acts) ≡ flat_map (bytes_of s) (asked_of (ruler_of s) l acts).calls
+  acts_drawn l [] = refl
+  acts_drawn l (Sees redraws ∷ more) = let l' = (drawn_by s l redraws).layout in drawn_then l redraws (act_deeds s l' more) _ (acts_drawn l' more)
+  acts_drawn l (Gets rest ∷ more) = acts_drawn l more
+  acts_drawn l (Obeys kills ring redraws ∷ more) = let l' = (drawn_by s l redraws).layout in drawn_then l redraws (act_deeds s l' more) _ (acts_drawn l' more)
+
+  left_then : (c : Coming) (l : Layout) (redraws : List Redraw) (deeds : List Deed) → left_after c (asks_of l redraws ++ deeds) ≡ left_after c deeds
+  left_then c l redraws deeds = left_both c (asks_of l redraws) deeds ∙ ap (λ d. left_after d deeds) (calls_left c (drawn_by s l redraws).calls)
+
+  acts_left : (c : Coming) (l : Layout) (acts : List Act) → left_after c (act_deeds s l acts) ≡ rest_of c acts
+  acts_left c l [] = refl
+  acts_left c l (Sees redraws ∷ more) = left_then c l redraws _ ∙ acts_left c (drawn_by s l redraws).layout more
+  acts_left c l (Gets rest ∷ more) = acts_left rest l more
+  acts_left c l (Obeys kills ring redraws ∷ more) = left_then c l redraws _ ∙ acts_left c (drawn_by s l redraws).layout more
+
+  kept_then : (l : Layout) (redraws : List Redraw) (deeds : List Deed) → lines_kept deeds ≡ [] → lines_kept (asks_of l redraws ++ deeds) ≡ []
+  kept_then l redraws deeds none = kept_both (asks_of l redraws) deeds ∙ (ap (λ lines. lines ++ lines_kept deeds) (calls_kept (drawn_by s l redraws).calls) ∙ none)
+
+  acts_kept : (l : Layout) (acts : List Act) → lines_kept (act_deeds s l acts) ≡ []
+  acts_kept l [] = refl
+  acts_kept l (Sees redraws ∷ more) = kept_then l redraws _ (acts_kept (drawn_by s l redraws).layout more)
+  acts_kept l (Gets rest ∷ more) = acts_kept l more
+  acts_kept l (Obeys kills ring redraws ∷ more) = kept_then l redraws _ (acts_kept (drawn_by s l redraws).layout more)
+
+  written_then : (l : Layout) (redraws : List Redraw) (deeds : List Deed) → lines_written deeds ≡ [] → lines_written (asks_of l redraws ++ deeds) ≡ []
+  written_then l redraws deeds none = written_both (asks_of l redraws) deeds ∙ (ap (λ lines. lines ++ lines_written deeds) (calls_written (drawn_by s l redraws).calls) ∙ none)
+
+  acts_written : (l : Layout) (acts : List Act) → lines_written (act_deeds s l acts) ≡ []
+  acts_written l [] = refl
+  acts_written l (Sees redraws ∷ more) = written_then l redraws _ (acts_written (drawn_by s l redraws).layout more)
+  acts_written l (Gets rest ∷ more) = acts_written l more
+  acts_written l (Obeys kills ring redraws ∷ more) = written_then l redraws _ (acts_written (drawn_by s l redraws).layout more)
+
+-- ---- what a line's acts leave to come
+
+rest_both : (c : Coming) (acts more : List Act) → rest_of c (acts ++ more) ≡ rest_of (rest_of c acts) more
+rest_both c [] more = refl
+rest_both c (Sees redraws ∷ acts) more = rest_both c acts more
+rest_both c (Gets rest ∷ acts) more = rest_both rest acts more
+rest_both c (Obeys kills ring redraws ∷ acts) more = rest_both c acts more
+
+after_rest : (s : Setting) (info : Option (List ℕ)) (t : Turned) (o : Result Status ReadlineError)
+    (next : Input → Ring → Option (List ℕ) → Value → Coming → Told) (acts : Input → Ring → Value → Coming → List Act)
+    → ((info : Option (List ℕ)) → rest_of t.rest (acts t.input t.ring t.made.value t.rest) ≡ (next t.input t.ring info t.made.value t.rest).rest)
+    → rest_of t.rest (acts_after acts s t o) ≡ (after_turn next s info t o).rest
+after_rest s info t (Ok Proceed) next acts same = same (info_after t.made.redraws info)
+after_rest s info t (Ok Submit) next acts same = refl
+after_rest s info t (Err e) next acts same = refl
+
+line_rest : (n : ℕ) (s : Setting) (custom : Custom) (indent : ℕ) (i : Input) (r : Ring) (info : Option (List ℕ)) (v : Value) (c : Coming)
+    → rest_of c (acts_from n s custom indent i r v c) ≡ (line_from n s custom indent i r info v c).rest
+unfolding line_from acts_from
+line_rest zero s custom indent i r info v c = refl
+line_rest (suc n) s custom indent i r info v c =
+    let t = turn_of s custom indent i r v c in
+    let after = acts_after (acts_from n s custom indent) s t t.outcome in
+    rest_both c (turn_acts s custom indent i r v c) after ∙ (ap (λ d. rest_of d after) (turn_rest s custom indent i r v c)
+    ∙ after_rest s info t t.outcome (line_from n s custom indent) (acts_from n s custom indent) (λ stands. line_rest n s custom indent t.input t.ring stands t.made.value t.rest))
+
+whole_rest : (n : ℕ) (s : Setting) (custom : Custom) (indent : ℕ) (i : Input) (r : Ring) (c : Coming)
+    → rest_of c (acts_of n s custom indent i r c) ≡ (line_of n s custom indent i r c).rest
+unfolding line_of acts_of
+whole_rest n s custom indent i r c =
+    let e : Effect = refreshed s (first_value s) in
+    line_rest n s custom indent i r (info_after e.redraws None) e.value c
+
+-- ---- a line
+
+module _ (n : ℕ) (g : Given) (x : SessionState) where
+  abbrev read : Told
+  read = line_in n g x
+
+  abbrev in_line : List Deed
+  in_line = act_deeds g.screen (fresh g.screen.mode) (acts_in n g x)
+
+  pub line_drawn : bytes_drawn in_line ≡ flat_map (bytes_of g.screen) (calls_of g.screen read)
+  line_drawn =
+      let s = g.screen in
+      let l = fresh s.mode in
+      let bytes : Asked → List ℕ = λ a. flat_map (bytes_of s) a.calls in
+      let of_redraws : List Redraw → List ℕ = λ redraws. bytes (asked (ruler_of s) l redraws) in
+      acts_drawn s l (acts_in n g x) ∙ (ap bytes (asked_same (ruler_of s) l (acts_in n g x))
+      ∙ ap of_redraws (whole_redraws n (setting_in g x.history.kept.entries) g.custom g.config.indent_size (new_input g.config.edit_mode) x.ring x.coming))
+
+  pub line_left : left_after x.coming in_line ≡ read.rest
+  line_left = acts_left g.screen x.coming (fresh g.screen.mode) (acts_in n g x)
+      ∙ whole_rest n (setting_in g x.history.kept.entries) g.custom g.config.indent_size (new_input g.config.edit_mode) x.ring x.coming
+
+close_drawn : (o : Result (List ℕ) ReadlineError) → bytes_drawn (close_deeds o) ≡ break_if (breaks o)
+close_drawn (Ok text) = append-nil _
+close_drawn (Err e) = append-nil _
+
+close_left : (c : Coming) (o : Result (List ℕ) ReadlineError) → left_after c (close_deeds o) ≡ c
+close_left c (Ok text) = refl
+close_left c (Err e) = refl
+
+close_kept : (o : Result (List ℕ) ReadlineError) → lines_kept (close_deeds o) ≡ accepted_of o
+close_kept (Ok text) = refl
+close_kept (Err e) = refl
+
+close_written : (o : Result (List ℕ) ReadlineError) → lines_written (close_deeds o) ≡ accepted_of o
+close_written (Ok text) = refl
+close_written (Err e) = refl
+
+module _ (n : ℕ) (g : Given) (x : SessionState) where
+  abbrev outcome : Result (List ℕ) ReadlineError
+  outcome = (line_in n g x).outcome
+
+  abbrev lined : List Deed
+  lined = act_deeds g.screen (fresh g.screen.mode) (acts_in n g x)
+
+  pub deeds_drawn : bytes_drawn (line_deeds n g x) ≡ line_bytes g.screen (line_in n g x)
+  deeds_drawn = drawn_both lined (close_deeds outcome) ∙ (ap (λ zs. zs ++ bytes_drawn (close_deeds outcome)) (line_drawn n g x)
+      ∙ ap (λ zs. flat_map (bytes_of g.screen) (calls_of g.screen (line_in n g x)) ++ zs) (close_drawn outcome))
+
+  pub deeds_left : left_after x.coming (line_deeds n g x) ≡ (line_in n g x).rest
+  deeds_left = left_both x.coming lined (close_deeds outcome) ∙ (close_left (left_after x.coming lined) outcome ∙ line_left n g x)
+
+  pub deeds_kept : lines_kept (line_deeds n g x) ≡ accepted_of outcome
+  deeds_kept = kept_both lined (close_deeds outcome) ∙ (ap (λ lines. lines ++ lines_kept (close_deeds outcome)) (acts_kept g.screen (fresh g.screen.mode) (acts_in n g x)) ∙ close_kept outcome)
+
+  pub deeds_written : lines_written (line_deeds n g x) ≡ accepted_of outcome
+  deeds_written =
+      written_both lined (close_deeds outcome) ∙ (ap (λ lines. lines ++ lines_written (close_deeds outcome)) (acts_written g.screen (fresh g.screen.mode) (acts_in n g x)) ∙ close_written outcome)
+
+-- ---- the history
+
+filed_both : (h : Filed) (xs ys : List (List ℕ)) → filed_with_all h (xs ++ ys) ≡ filed_with_all (filed_with_all h xs) ys
+filed_both h [] ys = refl
+filed_both h (x ∷ xs) ys = filed_both (filed_with h x) xs ys
+
+pub remembered_both : (adds : Bool) (xs ys : List (List ℕ)) (h : Filed) → remembered adds (xs ++ ys) h ≡ remembered adds ys (remembered adds xs h)
+remembered_both true xs ys h = filed_both h xs ys
+remembered_both false xs ys h = refl
+
+pub remembered_none : (adds : Bool) (h : Filed) → remembered adds [] h ≡ h
+remembered_none true h = refl
+remembered_none false h = refl
+
+-- ---- a fault's stop, with more to come after it
+
+tears_more : (torn : List ℕ) (xs ys : List Deed) → Tears torn xs → Tears torn (xs ++ ys)
+tears_more torn [] ys p = absurd p
+tears_more torn (Draws bytes ∷ xs) ys p = absurd p
+tears_more torn (Hears rest ∷ xs) ys p = absurd p
+tears_more torn (Keeps line ∷ xs) ys p = absurd p
+tears_more torn (Writes line ∷ xs) ys p = p
+
+heard_more : (xs ys : List Deed) → IsHeard xs → IsHeard (xs ++ ys)
+heard_more [] ys p = absurd p
+heard_more (Draws bytes ∷ xs) ys p = absurd p
+heard_more (Hears rest ∷ xs) ys p = p
+heard_more (Keeps line ∷ xs) ys p = absurd p
+heard_more (Writes line ∷ xs) ys p = absurd p
+
+stops_more : (why : ReadlineError) (c : Coming) (xs ys : List Deed) (left : Coming) (torn : List ℕ) → Stops why c xs left torn → Stops why c (xs ++ ys) left torn
+stops_more why c xs ys left torn (inl p) = inl p
+stops_more why c xs ys left torn (inr (inl p)) = inr (inl (p.0, p.1, tears_more torn xs ys p.2))
+stops_more why c xs ys left torn (inr (inr p)) = inr (inr (p.0, p.1, p.2, heard_more xs ys p.3))
+
+-- ---- deeds that were done, and deeds that were cut
+
+-- all of them
+pub record Done {D L : Type 0} (shows : D → Bool) (shown : D → List ℕ) (writes : L → Bool) (written_in : L → List ℕ) (adds : Bool) (deeds : List Deed)
+    (coming : Coming) (old new : Work D L) (left : Coming) : Type 0 where
+  pub drawn : Takes shows shown old.display new.display (bytes_drawn deeds)
+  pub wrote : Takes writes written_in old.lines new.lines (lines_text (lines_written deeds))
+  pub history_is : new.history ≡ remembered adds (lines_kept deeds) old.history
+  pub left_is : left ≡ left_after coming deeds
+
+module _ {D L : Type 0} (shows : D → Bool) (shown : D → List ℕ) (show_failed : D → Bool) (writes : L → Bool) (written_in : L → List ℕ) (adds : Bool) where
+  abbrev AllDone : List Deed → Coming → Work D L → Work D L → Coming → Type 0
+  AllDone deeds coming old new left = Done shows shown writes written_in adds deeds coming old new left
+
+  abbrev CutAt : List Deed → Coming → Work D L → Work D L → Coming → ReadlineError → Type 0
+  CutAt deeds coming old new left why = Cut shows shown show_failed writes written_in adds deeds coming old new left why
+
+  abbrev Shown : Work D L → Work D L → List ℕ → Type 0
+  Shown old new bytes = Takes shows shown old.display new.display bytes ⊎ IsTrue (show_failed new.display)
+
+  shown_then : (old mid new : Work D L) (xs ys : List ℕ) → Takes shows shown old.display mid.display xs → Shown mid new ys → Shown old new (xs ++ ys)
+  shown_then old mid new xs ys first (inl more) = inl (Takes-then shows shown old.display mid.display new.display xs ys first more)
+  shown_then old mid new xs ys first (inr failed) = inr failed
+
+  -- more are to come after those that were cut
+  pub cut_more : (xs ys : List Deed) (c : Coming) (old new : Work D L) (left : Coming) (why : ReadlineError) → CutAt xs c old new left why → CutAt (xs ++ ys) c old new left why
+  cut_more xs ys c old new left why r = record {
+    cut = r.cut;
+    done = r.done;
+    next = r.next ++ ys;
+    first = ap (λ zs. zs ++ ys) r.first ∙ append_assoc r.done r.next ys;
+    drawn = r.drawn;
+    torn = r.torn;
+    stops = stops_more why (left_after c r.done) r.next ys left r.torn r.stops;
+    wrote = r.wrote;
+    history_is = r.history_is;
+  }
+
+  -- others were done before them
+  pub cut_after : (xs ys : List Deed) (c c' : Coming) (old mid new : Work D L) (left : Coming) (why : ReadlineError) → AllDone xs c old mid c' → CutAt ys c' mid new left why
+      → CutAt (xs ++ ys) c old new left why
+  cut_after xs ys c c' old mid new left why d r =
+      let lines = lines_written r.done in
+      let S : Coming → Type 0 = λ here. Stops why here r.next left r.torn in
+      let B : List ℕ → Type 0 = Shown old new in
+      let W : List ℕ → Type 0 = Takes writes written_in old.lines new.lines in
+      record {
+        cut = r.cut;
+        done = xs ++ r.done;
+        next = r.next;
+        first = ap (λ zs. xs ++ zs) r.first ∙ sym (append_assoc xs r.done r.next);
+        drawn = subst B (sym (drawn_both xs r.done)) (shown_then old mid new (bytes_drawn xs) (bytes_drawn r.done) d.drawn r.drawn);
+        torn = r.torn;
+        stops = subst S (ap (λ here. left_after here r.done) d.left_is ∙ sym (left_both c xs r.done)) r.stops;
+        wrote =
+            subst W (sym (append_assoc (lines_text (lines_written xs)) (lines_text lines) r.torn)
+            ∙ ap (λ bytes. bytes ++ r.torn) (sym (flat_map-append line_text (lines_written xs) lines) ∙ ap lines_text (sym (written_both xs r.done))))
+            (Takes-then writes written_in old.lines mid.lines new.lines (lines_text (lines_written xs)) (lines_text lines ++ r.torn) d.wrote r.wrote);
+        history_is =
+            r.history_is ∙ (ap (λ h. remembered adds (lines_kept r.done) h) d.history_is
+            ∙ (sym (remembered_both adds (lines_kept xs) (lines_kept r.done) old.history)
+            ∙ ap (λ lines. remembered adds lines old.history) (sym (kept_both xs r.done))));
+      }
+
+  -- none of them was done, and none was to be torn
+  pub cut_first : (deeds : List Deed) (c : Coming) (old new : Work D L) (why : ReadlineError) → CutsBy why → (why ≡ Lines → ⊥)
+      → Shown old new [] → new.lines ≡ old.lines → new.history ≡ old.history → CutAt deeds c old new c why
+  cut_first deeds c old new why cut other shown' lines history = record {
+    cut = cut;
+    done = [];
+    next = deeds;
+    first = refl;
+    drawn = shown';
+    torn = [];
+    stops = inl (other, refl, refl);
+    wrote = Takes-none writes written_in old.lines new.lines lines;
+    history_is = history ∙ sym (remembered_none adds old.history);
+  }
+
+  -- a line that was drawn, kept and written is its deeds
+  pub done_line : (n : ℕ) (g : Given) (x : SessionState) (t : Told) (old mid : Work D L) (result : Result (Unit {0}) ReadlineError) → line_in n g x ≡ t
+      → LineWhole shows shown show_failed writes written_in adds (line_bytes g.screen t) t.outcome old mid result → AllDone (line_deeds n g x) x.coming old mid t.rest
+  done_line n g x t old mid result is w =
+      let B : List ℕ → Type 0 = Takes shows shown old.display mid.display in
+      let W : List (List ℕ) → Type 0 = λ lines. Takes writes written_in old.lines mid.lines (lines_text lines) in
+      let accepted : accepted_of (line_in n g x).outcome ≡ accepted_of t.outcome = ap (λ (t : Told). accepted_of t.outcome) is in
+      record {
+        drawn = subst B (sym (deeds_drawn n g x ∙ ap (line_bytes g.screen) is)) w.drawn;
+        wrote = subst W (sym (deeds_written n g x ∙ accepted)) w.wrote;
+        history_is = w.history_is ∙ (added t.outcome old.history ∙ ap (λ lines. remembered adds lines old.history) (sym (deeds_kept n g x ∙ accepted)));
+        left_is = ap (λ (t : Told). t.rest) (sym is) ∙ sym (deeds_left n g x);
+      }
+    where
+      added : (o : Result (List ℕ) ReadlineError) (h : Filed) → history_after adds o h ≡ remembered adds (accepted_of o) h
+      added (Ok text) h = refl
+      added (Err e) h = sym (remembered_none adds h)
+
+  -- ---- a line's acts on a screen; lines and history stay
+
+  module _ (lines : L) (history : Filed) where
+    abbrev on : ScreenRenderer D → Work D L
+    on out = work (sink_of out) lines history
+
+    untouched : (deeds : List Deed) (c c' : Coming) (a b : ScreenRenderer D) (bytes : List ℕ) → Takes shows shown (sink_of a) (sink_of b) bytes → bytes ≡ bytes_drawn deeds
+        → lines_kept deeds ≡ [] → lines_written deeds ≡ [] → c' ≡ left_after c deeds → AllDone deeds c (on a) (on b) c'
+    untouched deeds c c' a b bytes took is kept written left =
+        let B : List ℕ → Type 0 = Takes shows shown (sink_of a) (sink_of b) in
+        let W : List (List ℕ) → Type 0 = λ these. Takes writes written_in lines lines (lines_text these) in
+        record {
+          drawn = subst B is took;
+          wrote = subst W (sym written) (Takes-none writes written_in lines lines refl);
+          history_is = sym (ap (λ these. remembered adds these history) kept ∙ remembered_none adds history);
+          left_is = left;
+        }
+
+    -- all acts of a line were done
+    pub done_acts : (n : ℕ) (g : Given) (x : SessionState) (a b : ScreenRenderer D) (left : Coming) → Takes shows shown (sink_of a) (sink_of b) (flat_map (bytes_of g.screen) (calls_of g.screen (line_in n g x)))
+        → left ≡ (line_in n g x).rest → AllDone (act_deeds g.screen (fresh g.screen.mode) (acts_in n g x)) x.coming (on a) (on b) left
+    done_acts n g x a b left took is =
+        let l = fresh g.screen.mode in
+        untouched (act_deeds g.screen l (acts_in n g x)) x.coming left a b _ took (sym (line_drawn n g x)) (acts_kept g.screen l (acts_in n g x)) (acts_written g.screen l (acts_in n g x))
+        (is ∙ sym (line_left n g x))
+
+    module _ (s : Screen) (why : ReadlineError) (cut : CutsBy why) (other : why ≡ Lines → ⊥) where
+      abbrev Made : List Call → ScreenRenderer D → ScreenRenderer D → Type 0
+      Made calls a b = FoldsTo (canvas_of shows shown show_failed).made a calls b
+
+      stay : (deeds : List Deed) (c : Coming) (a b : ScreenRenderer D) → b ≡ a → CutAt deeds c (on a) (on b) c why
+      stay deeds c a b same = cut_first deeds c (on a) (on b) why cut other (inl (Takes-none shows shown (sink_of a) (sink_of b) (ap sink_of same))) refl refl
+
+      done_calls : (calls : List Call) (c : Coming) (a b : ScreenRenderer D) → screen_of a ≡ s → Made calls a b → AllDone (call_deeds s calls) c (on a) (on b) c
+      done_calls calls c a b is made =
+          let P : Screen → Type 0 = λ s. Takes shows shown (sink_of a) (sink_of b) (flat_map (bytes_of s) calls) in
+          untouched (call_deeds s calls) c c a b _ (subst P is (sent_in_all shows shown show_failed calls a b made).takes) (sym (calls_drawn s calls))
+          (calls_kept s calls) (calls_written s calls) (sym (calls_left s c calls))
+
+      screen_kept : (calls : List Call) (a b : ScreenRenderer D) → screen_of a ≡ s → Made calls a b → screen_of b ≡ s
+      screen_kept calls a b is made = (sent_in_all shows shown show_failed calls a b made).screen ∙ is
+
+      cut_calls : (calls : List Call) (c : Coming) (a b : ScreenRenderer D) → screen_of a ≡ s → Begun (canvas_of shows shown show_failed) calls a b
+          → CutAt (call_deeds s calls) c (on a) (on b) c why
+      unfolding Begun
+      cut_calls [] c a b is h = stay [] c a b h
+      cut_calls (call ∷ calls) c a b is (inl h) = stay (call_deeds s (call ∷ calls)) c a b h
+      cut_calls (call ∷ calls) c a b is (inr (inl h)) = cut_first (call_deeds s (call ∷ calls)) c (on a) (on b) why cut other (inr h.fails) refl refl
+      cut_calls (call ∷ calls) c a b is (inr (inr h)) =
+          let P : Screen → Type 0 = λ s. Takes shows shown (sink_of a) (sink_of h.0) (bytes_of s call) in
+          let first = untouched (Draws (bytes_of s call) ∷ []) c c a h.0 _ (subst P is h.1.takes) (sym (append-nil (bytes_of s call))) refl refl refl in
+          cut_after (Draws (bytes_of s call) ∷ []) (call_deeds s calls) c c (on a) (on h.0) (on b) c why first (cut_calls calls c h.0 b (h.1.screen ∙ is) h.2)
+
+      cut_heard : (rest : Coming) (deeds : List Deed) (c left : Coming) (a b : ScreenRenderer D) → CutAt deeds rest (on a) (on b) left why → CutAt (Hears rest ∷ deeds) c (on a) (on b) left why
+      cut_heard rest deeds c left a b r =
+          let first = untouched (Hears rest ∷ []) c rest a a [] (Takes-none shows shown (sink_of a) (sink_of a) refl) refl refl refl refl in
+          cut_after (Hears rest ∷ []) deeds c rest (on a) (on a) (on b) left why first r
+
+      -- a paste that found no memory
+      cut_unheard : (rest : Coming) (deeds : List Deed) (c left : Coming) (a b : ScreenRenderer D) → why ≡ Memory → left ≡ left_by Memory → b ≡ a
+          → CutAt (Hears rest ∷ deeds) c (on a) (on b) left why
+      cut_unheard rest deeds c left a b is lost same = record {
+        cut = cut;
+        done = [];
+        next = Hears rest ∷ deeds;
+        first = refl;
+        drawn = inl (Takes-none shows shown (sink_of a) (sink_of b) (ap sink_of same));
+        torn = [];
+        stops = inr (inr (is, lost, refl, tt));
+        wrote = Takes-none writes written_in lines lines refl;
+        history_is = sym (remembered_none adds history);
+      }
+
+      here : (deeds : List Deed) (c left : Coming) (a b : ScreenRenderer D) → left ≡ c → CutAt deeds c (on a) (on b) c why → CutAt deeds c (on a) (on b) left why
+      here deeds c left a b same r = let P : Coming → Type 0 = λ left. CutAt deeds c (on a) (on b) left why in subst P (sym same) r
+
+      pub cut_acts : (acts : List Act) (l : Layout) (old new : Stage (ScreenRenderer D)) → screen_of old.out ≡ s
+          → CutIn (canvas_of shows shown show_failed) (ruler_of s) why acts l old new
+          → CutAt (act_deeds s l acts) old.coming (on old.out) (on new.out) new.coming why
+      unfolding CutIn
+      cut_acts [] l old new is h = here [] old.coming new.coming old.out new.out (ap (λ x. x.coming) h) (stay [] old.coming old.out new.out (ap (λ x. x.out) h))
+      cut_acts (Sees redraws ∷ more) l old new is (inl h) =
+          let a = drawn_by s l redraws in
+          here (act_deeds s l (Sees redraws ∷ more)) old.coming new.coming old.out new.out (ap (λ x. x.coming) h.1)
+          (cut_more (call_deeds s a.calls) (act_deeds s a.layout more) old.coming (on old.out) (on new.out) old.coming why (cut_calls a.calls old.coming old.out new.out is h.0))
+      cut_acts (Sees redraws ∷ more) l old new is (inr (out, made, h)) =
+          let a = drawn_by s l redraws in
+          cut_after (call_deeds s a.calls) (act_deeds s a.layout more) old.coming old.coming (on old.out) (on out) (on new.out) new.coming why
+          (done_calls a.calls old.coming old.out out is made) (cut_acts more a.layout (stage out old.coming old.ring) new (screen_kept a.calls old.out out is made) h)
+      cut_acts (Gets rest ∷ more) l old new is (inl h) =
+          let deeds = Hears rest ∷ act_deeds s l more in
+          here deeds old.coming new.coming old.out new.out (ap (λ x. x.coming) h) (stay deeds old.coming old.out new.out (ap (λ x. x.out) h))
+      cut_acts (Gets rest ∷ more) l old new is (inr (inl h)) =
+          cut_unheard rest (act_deeds s l more) old.coming new.coming old.out new.out h.0 (ap (λ x. x.coming) h.1) (ap (λ x. x.out) h.1)
+      cut_acts (Gets rest ∷ more) l old new is (inr (inr h)) =
+          cut_heard rest (act_deeds s l more) old.coming new.coming old.out new.out (cut_acts more l (stage old.out rest old.ring) new is h)
+      cut_acts (Obeys kills ring redraws ∷ more) l old new is (inl h) =
+          let deeds = act_deeds s l (Obeys kills ring redraws ∷ more) in
+          here deeds old.coming new.coming old.out new.out (ap (λ x. x.coming) h) (stay deeds old.coming old.out new.out (ap (λ x. x.out) h))
+      cut_acts (Obeys kills ring redraws ∷ more) l old new is (inr (inl h)) =
+          let a = drawn_by s l redraws in
+          here (act_deeds s l (Obeys kills ring redraws ∷ more)) old.coming new.coming old.out new.out h.1
+          (cut_more (call_deeds s a.calls) (act_deeds s a.layout more) old.coming (on old.out) (on new.out) old.coming why (cut_calls a.calls old.coming old.out new.out is h.0))
+      cut_acts (Obeys kills ring redraws ∷ more) l old new is (inr (inr (out, made, h))) =
+          let a = drawn_by s l redraws in
+          cut_after (call_deeds s a.calls) (act_deeds s a.layout more) old.coming old.coming (on old.out) (on out) (on new.out) new.coming why
+          (done_calls a.calls old.coming old.out out is made) (cut_acts more a.layout (stage out old.coming ring) new (screen_kept a.calls old.out out is made) h)

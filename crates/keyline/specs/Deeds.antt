@@ -1,0 +1,120 @@
+-- What a session does, in order: what it sends, reads, keeps and writes.
+use Rattle.std.specs.Prelude.{◌≡◌, ℕ, zero, suc, ◌≤◌, List, [], ◌∷◌, ◌++◌, length, Result, Ok, Err}
+use Rattle.line_buffer.specs.declared.layout.Layout.{Layout}
+use Rattle.line_config.specs.declared.errors.ReadlineError.{ReadlineError}
+use Rattle.line_editor.specs.Acts.{Act, Sees, Gets, Obeys}
+use Rattle.line_editor.specs.Calls.{Call}
+use Rattle.line_editor.specs.Redraws.{fresh}
+use Rattle.line_editor.specs.Running.{acts_meant}
+use Rattle.line_keys.specs.Coming.{Coming}
+use Rattle.line_screen.specs.Calls.{Screen, bytes_of}
+use Rattle.line_screen.specs.Drawing.{break_if}
+use Rattle.keyline.specs.Sessions.{Given, SessionState, line_in, setting_in, after_line, breaks, display_bytes, session}
+use Rattle.keyline.specs.Shows.{drawn_by}
+
+pub data Deed : Type 0 where
+  -- the display is sent the bytes of a call
+  Draws : (bytes : List ℕ) → Deed
+  -- a key or a paste is read, and this is to come after it
+  Hears : (rest : Coming) → Deed
+  -- a line is added to the history, where the settings say so
+  Keeps : (line : List ℕ) → Deed
+  -- a line is written
+  Writes : (line : List ℕ) → Deed
+
+-- ---- what deeds come to
+
+abbrev pub bytes_drawn : List Deed → List ℕ
+bytes_drawn [] = []
+bytes_drawn (Draws bytes ∷ more) = bytes ++ bytes_drawn more
+bytes_drawn (Hears rest ∷ more) = bytes_drawn more
+bytes_drawn (Keeps line ∷ more) = bytes_drawn more
+bytes_drawn (Writes line ∷ more) = bytes_drawn more
+
+-- what is left to come after them
+abbrev pub left_after : Coming → List Deed → Coming
+left_after coming [] = coming
+left_after coming (Draws bytes ∷ more) = left_after coming more
+left_after coming (Hears rest ∷ more) = left_after rest more
+left_after coming (Keeps line ∷ more) = left_after coming more
+left_after coming (Writes line ∷ more) = left_after coming more
+
+abbrev pub lines_kept : List Deed → List (List ℕ)
+lines_kept [] = []
+lines_kept (Draws bytes ∷ more) = lines_kept more
+lines_kept (Hears rest ∷ more) = lines_kept more
+lines_kept (Keeps line ∷ more) = line ∷ lines_kept more
+lines_kept (Writes line ∷ more) = lines_kept more
+
+abbrev pub lines_written : List Deed → List (List ℕ)
+lines_written [] = []
+lines_written (Draws bytes ∷ more) = lines_written more
+lines_written (Hears rest ∷ more) = lines_written more
+lines_written (Keeps line ∷ more) = lines_written more
+lines_written (Writes line ∷ more) = line ∷ lines_written more
+
+-- ---- a line's
+
+abbrev pub call_deeds : Screen → List Call → List Deed
+call_deeds s [] = []
+call_deeds s (call ∷ calls) = Draws (bytes_of s call) ∷ call_deeds s calls
+
+-- its acts, by the calls that they ask where this layout is kept
+abbrev pub act_deeds : Screen → Layout → List Act → List Deed
+act_deeds s l [] = []
+act_deeds s l (Sees redraws ∷ more) =
+    call_deeds s (drawn_by s l redraws).calls ++ act_deeds s (drawn_by s l redraws).layout more
+act_deeds s l (Gets rest ∷ more) = Hears rest ∷ act_deeds s l more
+act_deeds s l (Obeys kills ring redraws ∷ more) =
+    call_deeds s (drawn_by s l redraws).calls ++ act_deeds s (drawn_by s l redraws).layout more
+
+-- its end: an accepted line is kept, and then written
+abbrev pub accept_deeds : Result (List ℕ) ReadlineError → List Deed
+accept_deeds (Ok text) = Keeps text ∷ Writes text ∷ []
+accept_deeds (Err e) = []
+
+abbrev pub close_deeds : Result (List ℕ) ReadlineError → List Deed
+close_deeds outcome = Draws (break_if (breaks outcome)) ∷ accept_deeds outcome
+
+abbrev pub acts_in : ℕ → Given → SessionState → List Act
+acts_in n g x =
+    acts_meant n (setting_in g x.history.kept.entries) g.custom g.config x.ring x.coming
+
+abbrev pub line_deeds : ℕ → Given → SessionState → List Deed
+line_deeds n g x =
+    act_deeds g.screen (fresh g.screen.mode) (acts_in n g x)
+    ++ close_deeds (line_in n g x).outcome
+
+-- ---- a session's, line after line
+
+abbrev pub deeds_after : Result (List ℕ) ReadlineError → List Deed → List Deed
+deeds_after (Ok text) later = later
+deeds_after (Err e) later = []
+
+unfoldable pub session_deeds : ℕ → Given → SessionState → List Deed
+session_deeds zero g x = []
+session_deeds (suc n) g x =
+    let t = line_in (suc n) g x in
+    line_deeds (suc n) g x ++ deeds_after t.outcome (session_deeds n g (after_line g t x))
+
+-- ---- what they have to do with the session's report
+
+-- after the first of them: the lines that are written, and perhaps the next one, are kept, and are
+-- the first of these
+pub record AreFirst (done : List Deed) (lines : List (List ℕ)) : Type 0 where
+  pub in_hand : List (List ℕ)
+  pub others : List (List ℕ)
+  pub one : length in_hand ≤ 1
+  pub kept : lines_kept done ≡ lines_written done ++ in_hand
+  pub first : lines ≡ lines_kept done ++ others
+
+-- a session's deeds come to its report, and any first ones of them to the first of its lines
+abbrev pub DeedsTell : Type 0
+DeedsTell =
+    (n : ℕ) (g : Given) (x : SessionState) → let deeds = session_deeds n g x in
+    let report = session n g x in
+    (bytes_drawn deeds ≡ display_bytes g.screen report)
+    × (left_after x.coming deeds ≡ report.rest)
+    × (lines_kept deeds ≡ report.accepted)
+    × (lines_written deeds ≡ report.accepted)
+    × ((done next : List Deed) → deeds ≡ done ++ next → AreFirst done report.accepted)
