@@ -1,7 +1,7 @@
 //! Edits of a line, with the events that they tell.
 
 use crate::table::{plays, plays_on};
-use line_buffer::{LineBuffer, NoListener};
+use line_buffer::{LineBuffer, NoListener, OutOfMemory};
 use stand_ins::lines::line_of;
 use std::alloc::Global;
 use std::test::Fail;
@@ -54,6 +54,15 @@ fn texts_yanked(rt: HostRuntime) -> Result<(), Fail> {
     )
 }
 
+/// Inserts as many as can be; what the call answers, the length and the place then.
+fn most_inserted(
+    alloc: Global,
+    mut line: LineBuffer,
+) -> Result<(Option<bool>, usize, usize), OutOfMemory> {
+    let most = line.insert(alloc, '-', 65_535, &mut NoListener)?;
+    Ok((most, line.len(), line.pos()))
+}
+
 #[test]
 fn characters_inserted(rt: HostRuntime) -> Result<(), Fail> {
     let rows = "
@@ -61,9 +70,9 @@ fn characters_inserted(rt: HostRuntime) -> Result<(), Fail> {
         insert 2 'é' = Some(false) 'aßéé|b' insert_str 3 'éé'
         insert 0 'x' = Some(false) 'aßéé|b' insert_str 7 ''
         ";
-    let mut line = plays_on(rt.alloc(), line_of(rt.alloc(), "a|b")?, rows)?;
-    let most = line.insert(rt.alloc(), '-', 65_535, &mut NoListener)?;
-    assert_eq!(rt; (most, line.len(), line.pos()), (Some(false), 65_543, 65_542));
+    let line = plays_on(rt.alloc(), line_of(rt.alloc(), "a|b")?, rows)?;
+    let told = most_inserted(rt.alloc(), line)?;
+    assert_eq!(rt; told, (Some(false), 65_543, 65_542));
     Ok(())
 }
 

@@ -7,25 +7,43 @@ use crate::table::{begun, plays, quoted, written};
 use line_buffer::{LineBuffer, Movement, OutOfMemory};
 use stand_ins::lines::line_of;
 use stand_ins::rows::{Player, rows_hold};
-use std::alloc::Global;
+use std::alloc::{AllocError, Global};
 use std::test::Fail;
 
+fn movement_of(call: &str) -> Result<Movement, Fail> {
+    let arguments = Arguments::of(call);
+    arguments.movement(arguments.name)
+}
+
 /// What a movement copies.
-fn copied(alloc: Global, line: &LineBuffer, movement: &Movement) -> Result<String, Fail> {
+fn copied(alloc: Global, line: &LineBuffer, movement: &Movement) -> Result<String, OutOfMemory> {
     let copy = line.copy(alloc, movement)?;
     Ok(quoted(alloc, copy.as_ref())?)
 }
 
-/// Copies and kills by a movement, and answers what is then written: `refused` where the listener refused the kill.
-fn killed(alloc: Global, line: &mut LineBuffer, call: &str, mut log: Log) -> Result<String, Fail> {
-    let arguments = Arguments::of(call);
-    let movement = arguments.movement(arguments.name)?;
-    let mut answer = copied(alloc, line, &movement)?;
-    match line.kill(alloc, &movement, &mut log) {
-        Ok(killed) => answer.push_str(if killed { " true" } else { " false" })?,
-        Err(OutOfMemory) => answer = String::from_str(alloc, "refused")?,
+/// What a kill answers after a copy: `refused` where the listener refused it.
+fn answer_told(
+    alloc: Global,
+    copy: &str,
+    answer: Result<bool, OutOfMemory>,
+) -> Result<String, AllocError> {
+    match answer {
+        Ok(killed) => format!(in alloc; "{copy} {killed}"),
+        Err(OutOfMemory) => String::from_str(alloc, "refused"),
     }
-    Ok(written(alloc, answer.as_str(), line, &log)?)
+}
+
+/// Copies and kills by a movement, and answers what is then written.
+fn killed(
+    alloc: Global,
+    line: &mut LineBuffer,
+    movement: &Movement,
+    mut log: Log,
+) -> Result<String, OutOfMemory> {
+    let copy = copied(alloc, line, movement)?;
+    let answer = line.kill(alloc, movement, &mut log);
+    let answer = answer_told(alloc, copy.as_str(), answer)?;
+    written(alloc, answer.as_str(), line, &log)
 }
 
 /// Plays each row on a line of its own, the one that is shown where the row has none.
@@ -37,14 +55,15 @@ struct Killing {
 
 impl Player for Killing {
     fn play(&mut self, alloc: Global, call: &str) -> Result<String, Fail> {
+        let mut line = line_of(alloc, self.shown)?;
+        let call = begun(alloc, &mut line, call)?;
+        let movement = movement_of(call)?;
         let log = if self.refused {
             Log::refusing(alloc)
         } else {
             Log::new(alloc)
         };
-        let mut line = line_of(alloc, self.shown)?;
-        let call = begun(alloc, &mut line, call)?;
-        killed(alloc, &mut line, call, log)
+        Ok(killed(alloc, &mut line, &movement, log)?)
     }
 }
 

@@ -1,7 +1,9 @@
 //! Motions of a line: by clusters, to the ends of rows, by words and by character searches.
 
 use crate::table::plays;
+use line_buffer::{LineBuffer, OutOfMemory};
 use stand_ins::lines::line_of;
+use std::alloc::{AllocError, Global};
 use std::test::Fail;
 
 #[test]
@@ -235,15 +237,26 @@ fn ends_of_input(rt: HostRuntime) -> Result<(), Fail> {
     )
 }
 
+/// What a copy of a line is: shown, by its text, and as a text.
+fn copy_told(alloc: Global, line: &LineBuffer) -> Result<String, OutOfMemory> {
+    let copy = line.try_clone(alloc)?;
+    let shown = value_told(alloc, &copy)?;
+    let text = copy.into_string();
+    Ok(format!(in alloc; "{shown}, {text}")?)
+}
+
+fn value_told(alloc: Global, line: &LineBuffer) -> Result<String, AllocError> {
+    let (text, len, empty) = (line.as_str(), line.len(), line.is_empty());
+    format!(in alloc; "{line:?}: {text}, {len}, {empty}")
+}
+
 #[test]
 fn lines_as_values(rt: HostRuntime) -> Result<(), Fail> {
-    let copy = line_of(rt.alloc(), "a|b")?.try_clone(rt.alloc())?;
-    let (text, len, empty) = (copy.as_str(), copy.len(), copy.is_empty());
-    let shown = format!(in rt.alloc(); "{copy:?}: {text}, {len}, {empty}")?;
+    let line = line_of(rt.alloc(), "a|b")?;
+    let said = copy_told(rt.alloc(), &line)?;
     assert_eq!(rt;
-        shown.as_str(),
-        "LineBuffer { buf: \"ab\", pos: 1, can_growth: true, limit: 8 }: ab, 2, false"
+        said.as_str(),
+        "LineBuffer { buf: \"ab\", pos: 1, can_growth: true, limit: 8 }: ab, 2, false, ab"
     );
-    assert_eq!(rt; copy.into_string().as_str(), "ab");
     Ok(())
 }

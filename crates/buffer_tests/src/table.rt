@@ -94,11 +94,11 @@ fn answer(
             None => return changed(alloc, line, a, log),
         },
     };
-    told(alloc, answer)
+    Ok(told(alloc, answer)?)
 }
 
-fn told(alloc: Global, answer: bool) -> Result<String, Fail> {
-    Ok(String::from_str(alloc, if answer { "true" } else { "false" })?)
+fn told(alloc: Global, answer: bool) -> Result<String, AllocError> {
+    String::from_str(alloc, if answer { "true" } else { "false" })
 }
 
 /// Makes a motion; `None` where the call is another one.
@@ -145,11 +145,25 @@ fn taken(
 ) -> Result<Option<bool>, OutOfMemory> {
     let n = a.n();
     let taken = match a.name {
-        "backspace" => line.backspace(alloc, n, log),
         "kill_line" => line.kill_line(alloc, log),
         "kill_buffer" => line.kill_buffer(alloc, log),
         "discard_line" => line.discard_line(alloc, log),
         "discard_buffer" => line.discard_buffer(alloc, log),
+        _ => return taken_by_count(alloc, line, a, log),
+    };
+    Ok(Some(taken?))
+}
+
+/// Makes a deletion of so many; `None` where the call is another one.
+fn taken_by_count(
+    alloc: Global,
+    line: &mut LineBuffer,
+    a: &Arguments<'_>,
+    log: &mut Log,
+) -> Result<Option<bool>, OutOfMemory> {
+    let n = a.n();
+    let taken = match a.name {
+        "backspace" => line.backspace(alloc, n, log),
         "delete_prev_word" => line.delete_prev_word(alloc, a.word, n, log),
         "delete_word" => line.delete_word(alloc, a.at, a.word, n, log),
         "delete_to" => line.delete_to(alloc, a.search, n, log),
@@ -166,16 +180,49 @@ fn changed(
     log: &mut Log,
 ) -> Result<String, Fail> {
     let changed = match a.name {
-        "transpose_chars" => line.transpose_chars(alloc, log)?,
-        "transpose_words" => line.transpose_words(alloc, a.n(), log)?,
-        "edit_word" => line.edit_word(alloc, a.action, log)?,
-        "indent" => line.indent(alloc, &a.movement(a.movement)?, a.amount, a.dedent, log)?,
+        "transpose_chars" => line.transpose_chars(alloc, log),
+        "transpose_words" => line.transpose_words(alloc, a.n(), log),
+        "edit_word" => line.edit_word(alloc, a.action, log),
         _ => return asked(alloc, line, a, log),
     };
-    told(alloc, changed)
+    Ok(told(alloc, changed?)?)
 }
 
-/// Asks for the place of a motion, takes text out and answers it, or puts text in.
+/// Moves rows in or out.
+fn indented(
+    alloc: Global,
+    line: &mut LineBuffer,
+    a: &Arguments<'_>,
+    log: &mut Log,
+) -> Result<String, Fail> {
+    let movement = a.movement(a.movement)?;
+    let indented = line.indent(alloc, &movement, a.amount, a.dedent, log)?;
+    Ok(told(alloc, indented)?)
+}
+
+/// Takes text out, and answers it.
+fn deleted(
+    alloc: Global,
+    line: &mut LineBuffer,
+    a: &Arguments<'_>,
+    log: &mut Log,
+) -> Result<String, OutOfMemory> {
+    let text = line.delete(alloc, a.n(), log)?;
+    Ok(quoted(alloc, text.as_ref())?)
+}
+
+/// The place that a motion by clusters leads to.
+fn next_told(alloc: Global, line: &LineBuffer, a: &Arguments<'_>) -> Result<String, AllocError> {
+    let place = line.next_pos(a.n());
+    format!(in alloc; "{place:?}")
+}
+
+/// What a call answers that puts text in.
+fn put_told(alloc: Global, put: Option<bool>) -> Result<String, AllocError> {
+    format!(in alloc; "{put:?}")
+}
+
+/// Makes one of the calls that answer no truth.
 fn asked(
     alloc: Global,
     line: &mut LineBuffer,
@@ -183,16 +230,11 @@ fn asked(
     log: &mut Log,
 ) -> Result<String, Fail> {
     match a.name {
-        "next_pos" => Ok(format!(in alloc; "{:?}", line.next_pos(a.n()))?),
-        "delete" => {
-            let text = line.delete(alloc, a.n(), log)?;
-            Ok(quoted(alloc, text.as_ref())?)
-        }
+        "next_pos" => Ok(next_told(alloc, line, a)?),
+        "delete" => Ok(deleted(alloc, line, a, log)?),
+        "indent" => indented(alloc, line, a, log),
         "update" | "replace" => exchanged(alloc, line, a, log),
-        _ => {
-            let put = put(alloc, line, a, log)?;
-            Ok(format!(in alloc; "{put:?}")?)
-        }
+        _ => Ok(put_told(alloc, put(alloc, line, a, log)?)?),
     }
 }
 

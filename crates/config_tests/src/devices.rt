@@ -133,7 +133,10 @@ fn reads_once_for_what_is_there(rt: HostRuntime) -> Result<(), Fail> {
     });
     let mut said = String::new(rt.alloc());
     tell_four(&mut source, &calls, &mut said)?;
-    assert_eq!(rt; said.as_str(), "Some(97) 1, Some(98) 1, Some(99) 2, None 3, ");
+    assert_eq!(rt;
+        said.as_str(),
+        "Some(97) 1, Some(98) 1, Some(99) 2, None 3, "
+    );
     Ok(())
 }
 
@@ -143,7 +146,10 @@ fn hands_back_what_was_read(rt: HostRuntime) -> Result<(), Fail> {
     let mut source = ReadSource::new(letters("3", &calls));
     assert!(rt; source.next_byte() == Ok(Some(b'a')));
     let (reader, unread) = source.into_parts();
-    assert_eq!(rt; (unread.as_slice(), reader.bytes), (b"bc".as_slice(), b"def".as_slice()));
+    assert_eq!(rt;
+        (unread.as_slice(), reader.bytes),
+        (b"bc".as_slice(), b"def".as_slice())
+    );
     let (_, unread) = ReadSource::new(reader).into_parts();
     assert!(rt; unread.is_empty());
     Ok(())
@@ -231,7 +237,10 @@ fn writes_once_for_each_flush(rt: HostRuntime) -> Result<(), Fail> {
     for _ in 0..3 {
         tell_flush(&mut sink, &calls, &mut said)?;
     }
-    assert_eq!(rt; said.as_str(), "(0, 0) (1, 1); (1, 1) (2, 2); (2, 2) (3, 3); ");
+    assert_eq!(rt;
+        said.as_str(),
+        "(0, 0) (1, 1); (1, 1) (2, 2); (2, 2) (3, 3); "
+    );
     let (writer, unsent) = sink.into_parts();
     assert_eq!(rt; writer.taken.as_slice(), b"abcabcabc".as_slice());
     assert!(rt; unsent.is_empty());
