@@ -352,11 +352,7 @@ fn counted<H: Helper>(
 }
 
 // What it finds of the line.
-fn verdict_told<H: Helper>(
-    alloc: Global,
-    helper: &mut H,
-    line: &str,
-) -> Result<String, HookFault> {
+fn verdict_told<H: Helper>(alloc: Global, helper: &mut H, line: &str) -> Result<String, HookFault> {
     let found = verdict_after_drawing(alloc, helper, line)?;
     Ok(format!(in alloc; "{found:?}")?)
 }

@@ -25,7 +25,11 @@ pub(crate) fn entries<H: History>(alloc: Global, history: &H) -> Result<String, 
 }
 
 /// Adds lines, each of which ends with a bar.
-pub(crate) fn add_lines<H: History>(alloc: Global, history: &mut H, lines: &str) -> Result<(), ReadlineError> {
+pub(crate) fn add_lines<H: History>(
+    alloc: Global,
+    history: &mut H,
+    lines: &str,
+) -> Result<(), ReadlineError> {
     for line in lines.split_terminator('|') {
         history.add(alloc, meant(alloc, line)?.as_str())?;
     }
