@@ -210,21 +210,32 @@ fn changed<H: History>(
     Ok(format!(in alloc; "{answer}{entries}")?)
 }
 
-// Looks an entry up, as `search forward 3 line` does from the place 3 on; or changes the history.
+// Looks an entry up, as `search forward 3 line` does from the place 3 on.
+fn looked_up<H: History>(
+    alloc: Global,
+    history: &H,
+    call: &str,
+    text: &str,
+) -> Result<String, AllocError> {
+    let (dir, place, term) = direction_place_and_term(text);
+    match call {
+        "search" => hit_told(alloc, history.search(term, place, dir)),
+        "starts_with" => hit_told(alloc, history.starts_with(term, place, dir)),
+        _ => hit_told(alloc, history.get(place, dir)),
+    }
+}
+
+// Looks an entry up, or changes the history.
 fn answered<H: History>(
     alloc: Global,
     history: &mut H,
     call: &str,
     text: &str,
 ) -> Result<String, Fail> {
-    let (dir, place, term) = direction_place_and_term(text);
-    let found = match call {
-        "search" => history.search(term, place, dir),
-        "starts_with" => history.starts_with(term, place, dir),
-        "get" => history.get(place, dir),
-        _ => return changed(alloc, history, call, text),
-    };
-    Ok(hit_told(alloc, found)?)
+    match call {
+        "search" | "starts_with" | "get" => Ok(looked_up(alloc, history, call, text)?),
+        _ => changed(alloc, history, call, text),
+    }
 }
 
 // The direction in which is searched, the place from which, and what for.
