@@ -112,24 +112,31 @@ impl<'a> Arguments<'a> {
 
     /// A movement by its name.
     pub(crate) fn movement(&self, name: &str) -> Result<Movement, Fail> {
+        let movement = match name {
+            "WholeLine" => Some(Movement::WholeLine),
+            "BeginningOfLine" => Some(Movement::BeginningOfLine),
+            "EndOfLine" => Some(Movement::EndOfLine),
+            "ViFirstPrint" => Some(Movement::ViFirstPrint),
+            "WholeBuffer" => Some(Movement::WholeBuffer),
+            "BeginningOfBuffer" => Some(Movement::BeginningOfBuffer),
+            "EndOfBuffer" => Some(Movement::EndOfBuffer),
+            _ => self.counted_movement(name),
+        };
+        Ok(movement.ok_or("no movement")?)
+    }
+
+    fn counted_movement(&self, name: &str) -> Option<Movement> {
         let n = self.n();
-        Ok(match name {
-            "WholeLine" => Movement::WholeLine,
-            "BeginningOfLine" => Movement::BeginningOfLine,
-            "EndOfLine" => Movement::EndOfLine,
-            "BackwardWord" => Movement::BackwardWord(n, self.word),
-            "ForwardWord" => Movement::ForwardWord(n, self.at, self.word),
-            "ViCharSearch" => Movement::ViCharSearch(n, self.search),
-            "ViFirstPrint" => Movement::ViFirstPrint,
-            "BackwardChar" => Movement::BackwardChar(n),
-            "ForwardChar" => Movement::ForwardChar(n),
-            "LineUp" => Movement::LineUp(n),
-            "LineDown" => Movement::LineDown(n),
-            "WholeBuffer" => Movement::WholeBuffer,
-            "BeginningOfBuffer" => Movement::BeginningOfBuffer,
-            "EndOfBuffer" => Movement::EndOfBuffer,
-            _ => return Err(Fail::new(format_args!("no movement: {name}"))),
-        })
+        match name {
+            "BackwardWord" => Some(Movement::BackwardWord(n, self.word)),
+            "ForwardWord" => Some(Movement::ForwardWord(n, self.at, self.word)),
+            "ViCharSearch" => Some(Movement::ViCharSearch(n, self.search)),
+            "BackwardChar" => Some(Movement::BackwardChar(n)),
+            "ForwardChar" => Some(Movement::ForwardChar(n)),
+            "LineUp" => Some(Movement::LineUp(n)),
+            "LineDown" => Some(Movement::LineDown(n)),
+            _ => None,
+        }
     }
 }
 

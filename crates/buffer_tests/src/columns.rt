@@ -1,16 +1,19 @@
 //! Widths of texts, and motions up and down by rows. A motion's first number is its count, the second the column where
 //! the prompt ends.
 
-use crate::table::{plays, plays_on};
+use crate::table::{layout, plays};
 use line_buffer::{GraphemeClusterMode, Layout, Position};
 use stand_ins::lines::line_of;
-use stand_ins::tables::{call_and_answer, meant};
+use stand_ins::rows::{Player, rows_hold};
+use stand_ins::tables::meant;
+use std::alloc::Global;
+use std::process::Abort;
 use std::test::Fail;
 
 #[test]
 fn up_by_rows(rt: HostRuntime) -> Result<(), Fail> {
     plays(
-        &rt,
+        rt.alloc(),
         "
         'hello␊abc|'    move_to_line_up 1 0 = true 'hel|lo␊abc'
         'hello␊abc|'    move_to_line_up 1 2 = true 'h|ello␊abc'
@@ -36,7 +39,7 @@ fn up_by_rows(rt: HostRuntime) -> Result<(), Fail> {
 #[test]
 fn down_by_rows(rt: HostRuntime) -> Result<(), Fail> {
     plays(
-        &rt,
+        rt.alloc(),
         "
         'hell|o␊abc'     move_to_line_down 1 0 = true 'hello␊abc|'
         'h|ello␊abc'     move_to_line_down 1 2 = true 'hello␊abc|'
@@ -59,7 +62,7 @@ fn down_by_rows(rt: HostRuntime) -> Result<(), Fail> {
 #[test]
 fn no_row_to_go_to(rt: HostRuntime) -> Result<(), Fail> {
     plays(
-        &rt,
+        rt.alloc(),
         "
         '|'      move_to_line_up 1 2 = false '|'
                  move_to_line_down 1 2 = false '|'
@@ -76,7 +79,7 @@ fn no_row_to_go_to(rt: HostRuntime) -> Result<(), Fail> {
 #[test]
 fn joined_emoji_above(rt: HostRuntime) -> Result<(), Fail> {
     plays(
-        &rt,
+        rt.alloc(),
         "
         '👩\u{200D}🔬z␊ab|cdef' move_to_line_up 1 0 Unicode = true '👩\u{200D}🔬|z␊abcdef'
         '👩\u{200D}🔬z␊abc|def' move_to_line_up 1 0 Unicode = true '👩\u{200D}🔬z|␊abcdef'
@@ -86,6 +89,20 @@ fn joined_emoji_above(rt: HostRuntime) -> Result<(), Fail> {
         '👩\u{200D}🔬z␊abcde|f' move_to_line_up 1 0 NoZwj = true '👩\u{200D}🔬z|␊abcdef'
         ",
     )
+}
+
+/// The columns of each row's text by each mode.
+#[derive(Clone, Copy, Drop)]
+struct Widths;
+
+impl Player for Widths {
+    fn play(&mut self, alloc: Global, text: &str) -> Result<String, Fail> {
+        let text = meant(alloc, text.trim_matches('\''))?;
+        let unicode = Layout::new(GraphemeClusterMode::Unicode).width(text.as_str());
+        let wc_width = Layout::new(GraphemeClusterMode::WcWidth).width(text.as_str());
+        let no_zwj = Layout::new(GraphemeClusterMode::NoZwj).width(text.as_str());
+        Ok(format!(in alloc; "{unicode} {wc_width} {no_zwj}")?)
+    }
 }
 
 /// A text, and its columns by each mode: `Unicode`, `WcWidth` and `NoZwj`.
@@ -104,50 +121,41 @@ fn columns_by_mode(rt: HostRuntime) -> Result<(), Fail> {
         'a␉b' = 3 2 3
         'a␍␊b' = 3 2 3
         ";
-    for row in rows.lines() {
-        let Some((text, want)) = call_and_answer(row) else {
-            continue;
-        };
-        let text = meant(rt.alloc(), text.trim_matches('\''))?;
-        let width = |mode: GraphemeClusterMode| Layout::new(mode).width(text.as_str());
-        let unicode = width(GraphemeClusterMode::Unicode);
-        let wc_width = width(GraphemeClusterMode::WcWidth);
-        let no_zwj = width(GraphemeClusterMode::NoZwj);
-        let shown = format!(in rt.alloc(); "{unicode} {wc_width} {no_zwj}")?;
-        assert_eq!(rt; shown.as_str(), want, "{row}");
+    rows_hold(rt.alloc(), &mut Widths, rows)
+}
+
+fn repeated(alloc: Global, count: usize) -> Result<String, Fail> {
+    let mut text = String::new(alloc);
+    for _ in 0..count {
+        text.push('m')?;
     }
+    Ok(text)
+}
+
+/// Moves up from the end of a row of 70,000 and one of one character, and down again.
+fn long_rows_crossed(rt: &(impl AllocGlobal + Abort), text: &str) -> Result<(), Fail> {
+    let mut line = line_of(rt.alloc(), text)?;
+    let layout = layout(GraphemeClusterMode::Unicode, 2);
+    assert!(rt; line.move_to_line_up(1, &layout) && line.pos() == 0);
+    assert!(rt; line.move_to_line_down(1, &layout) && line.pos() == 70_002);
     Ok(())
 }
 
 #[test]
 fn widths_stop_at_the_most(rt: HostRuntime) -> Result<(), Fail> {
-    let mut text = String::new(rt.alloc());
-    for _ in 0..70_000 {
-        text.push('m')?;
-    }
-    for mode in [
-        GraphemeClusterMode::Unicode,
-        GraphemeClusterMode::WcWidth,
-        GraphemeClusterMode::NoZwj,
-    ] {
-        assert_eq!(rt; mode.width(text.as_str()), 65_535, "{mode:?}");
-    }
+    let mut text = repeated(rt.alloc(), 70_000)?;
+    let unicode = GraphemeClusterMode::Unicode.width(text.as_str());
+    let wc_width = GraphemeClusterMode::WcWidth.width(text.as_str());
+    let no_zwj = GraphemeClusterMode::NoZwj.width(text.as_str());
+    assert_eq!(rt; (unicode, wc_width, no_zwj), (65_535, 65_535, 65_535));
     text.push_str("\n|m")?;
-    let mut layout = Layout::new(GraphemeClusterMode::Unicode);
-    layout.prompt_size = Position { col: 2, row: 0 };
-    let mut line = line_of(rt.alloc(), text.as_str())?;
-    assert!(rt; line.move_to_line_up(1, &layout));
-    assert_eq!(rt; line.pos(), 0);
-    assert!(rt; line.move_to_line_down(1, &layout));
-    assert_eq!(rt; line.pos(), 70_002);
-    Ok(())
+    long_rows_crossed(&rt, text.as_str())
 }
 
 #[test]
 fn cells_in_reading_order(rt: HostRuntime) {
     let early = Position { col: 9, row: 0 };
     let late = Position { col: 0, row: 1 };
-    assert!(rt; early < late);
-    assert!(rt; Position { col: 1, row: 1 } > late);
+    assert!(rt; early < late && Position { col: 1, row: 1 } > late);
     assert_eq!(rt; early.max(late), late);
 }

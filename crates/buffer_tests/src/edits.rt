@@ -1,14 +1,15 @@
 //! Edits of a line, with the events that they tell.
 
 use crate::table::{plays, plays_on};
-use line_buffer::{LineBuffer, NoListener};
+use line_buffer::{LineBuffer, NoListener, OutOfMemory};
 use stand_ins::lines::line_of;
+use std::alloc::Global;
 use std::test::Fail;
 
 #[test]
 fn clusters_transposed(rt: HostRuntime) -> Result<(), Fail> {
     plays(
-        &rt,
+        rt.alloc(),
         "
         'a|ßc'       transpose_chars = true 'ßa|c' replace 0 'aß' 'ßa'
         'aß|c'       transpose_chars = true 'acß|' replace 1 'ßc' 'cß'
@@ -28,7 +29,7 @@ fn clusters_transposed(rt: HostRuntime) -> Result<(), Fail> {
 #[test]
 fn rows_killed_to_their_ends(rt: HostRuntime) -> Result<(), Fail> {
     plays(
-        &rt,
+        rt.alloc(),
         "
         'αß␊γ|δ 12␊ε f4' kill_line = true 'αß␊γ|␊ε f4' delete 7 'δ 12' Forward
                          kill_line = true 'αß␊γ|ε f4' delete 7 '␊' Forward
@@ -41,7 +42,7 @@ fn rows_killed_to_their_ends(rt: HostRuntime) -> Result<(), Fail> {
 #[test]
 fn texts_yanked(rt: HostRuntime) -> Result<(), Fail> {
     plays(
-        &rt,
+        rt.alloc(),
         "
         'α|ε' yank 1 'ßγδ' = Some(false) 'αßγδ|ε' insert_str 2 'ßγδ'
               yank_pop 6 'x' = Some(false) 'αx|ε' delete 2 'ßγδ' Forward; insert_str 2 'x'
@@ -53,25 +54,36 @@ fn texts_yanked(rt: HostRuntime) -> Result<(), Fail> {
     )
 }
 
+/// Inserts as many as can be; what the call answers, the length and the place then.
+fn most_inserted(
+    alloc: Global,
+    mut line: LineBuffer,
+) -> Result<(Option<bool>, usize, usize), OutOfMemory> {
+    let most = line.insert(alloc, '-', 65_535, &mut NoListener)?;
+    Ok((most, line.len(), line.pos()))
+}
+
 #[test]
 fn characters_inserted(rt: HostRuntime) -> Result<(), Fail> {
-    let mut line = line_of(rt.alloc(), "a|b")?;
     let rows = "
         insert 1 'ß' = Some(false) 'aß|b' insert_char 1 'ß'
         insert 2 'é' = Some(false) 'aßéé|b' insert_str 3 'éé'
         insert 0 'x' = Some(false) 'aßéé|b' insert_str 7 ''
         ";
-    plays_on(&rt, &mut line, rows)?;
-    let most = line.insert(rt.alloc(), '-', 65_535, &mut NoListener)?;
-    assert_eq!(rt; most, Some(false));
-    assert_eq!(rt; (line.len(), line.pos()), (65_543, 65_542));
+    let line = plays_on(rt.alloc(), line_of(rt.alloc(), "a|b")?, rows)?;
+    let told = most_inserted(rt.alloc(), line)?;
+    assert_eq!(rt; told, (Some(false), 65_543, 65_542));
     Ok(())
+}
+
+/// Plays rows on a line of four bytes without leave to grow; the line then.
+fn plays_without_leave(alloc: Global, rows: &str) -> Result<LineBuffer, Fail> {
+    plays_on(alloc, LineBuffer::with_capacity(alloc, 4)?, rows)
 }
 
 /// Lines of four bytes without leave to grow.
 #[test]
 fn lines_without_leave_to_grow(rt: HostRuntime) -> Result<(), Fail> {
-    let mut line = LineBuffer::with_capacity(rt.alloc(), 4)?;
     let rows = "
         insert 2 'é' = Some(true) 'éé|' insert_str 0 'éé'
         insert 1 'x' = None 'éé|'
@@ -82,37 +94,37 @@ fn lines_without_leave_to_grow(rt: HostRuntime) -> Result<(), Fail> {
         replace 4 'efg' = 'ééefg|' replace 4 '' 'efg'
         insert 0 'x' = None 'ééefg|'
         ";
-    plays_on(&rt, &mut line, rows)
+    plays_without_leave(rt.alloc(), rows)?;
+    Ok(())
 }
 
 #[test]
 fn texts_popped_without_leave_to_grow(rt: HostRuntime) -> Result<(), Fail> {
-    let mut line = LineBuffer::with_capacity(rt.alloc(), 4)?;
     let rows = "
         insert 2 'é' = Some(true) 'éé|' insert_str 0 'éé'
         yank_pop 2 'abc' = None 'é|' delete 2 'é' Forward
         yank_pop 2 'abcd' = Some(true) 'abcd|' delete 0 'é' Forward; insert_str 0 'abcd'
         ";
-    plays_on(&rt, &mut line, rows)
+    plays_without_leave(rt.alloc(), rows)?;
+    Ok(())
 }
 
 #[test]
 fn updates_without_leave_to_grow(rt: HostRuntime) -> Result<(), Fail> {
-    let mut line = LineBuffer::with_capacity(rt.alloc(), 4)?;
     let rows = "
         update 6 'abéé' = 'abé|' delete 0 '' Forward; insert_str 0 'abé'
         update 1 'abcéé' = 'a|bc' delete 0 'abé' Forward; insert_str 0 'abc'
         ";
-    plays_on(&rt, &mut line, rows)?;
-    let mut grown = line.can_growth(true);
+    let grown = plays_without_leave(rt.alloc(), rows)?.can_growth(true);
     let rows = "update 4 'abéé' = 'abé|é' delete 0 'abc' Forward; insert_str 0 'abéé'";
-    plays_on(&rt, &mut grown, rows)
+    plays_on(rt.alloc(), grown, rows)?;
+    Ok(())
 }
 
 #[test]
 fn words_transposed(rt: HostRuntime) -> Result<(), Fail> {
     plays(
-        &rt,
+        rt.alloc(),
         "
         'ab c|'     transpose_words 1 = true 'c ab|' replace 3 'c' 'ab'; replace 0 'ab' 'c'
         '|ab c'     transpose_words 2 = true 'c ab|' replace 3 'c' 'ab'; replace 0 'ab' 'c'
@@ -128,7 +140,7 @@ fn words_transposed(rt: HostRuntime) -> Result<(), Fail> {
 #[test]
 fn words_in_another_case(rt: HostRuntime) -> Result<(), Fail> {
     plays(
-        &rt,
+        rt.alloc(),
         "
         '|  fOO bar' edit_word Capitalize = true '  Foo| bar' replace 2 'fOO' 'Foo'
         'f|OO bar'   edit_word Lowercase = true 'foo| bar' replace 1 'OO' 'oo'
@@ -145,7 +157,7 @@ fn words_in_another_case(rt: HostRuntime) -> Result<(), Fail> {
 #[test]
 fn rows_indented(rt: HostRuntime) -> Result<(), Fail> {
     plays(
-        &rt,
+        rt.alloc(),
         "
         'ab␊c|d' indent LineUp 1 >2 = true '  ab␊  c|d' insert_str 0 '  '; insert_str 5 '  '
                  indent LineUp 1 <4 = true 'ab␊c|d' delete 0 '  ' Forward; delete 3 '  ' Forward
@@ -156,7 +168,7 @@ fn rows_indented(rt: HostRuntime) -> Result<(), Fail> {
 #[test]
 fn rows_that_a_movement_covers(rt: HostRuntime) -> Result<(), Fail> {
     plays(
-        &rt,
+        rt.alloc(),
         "
         '|'                  indent ForwardWord 1 Start Vi >2 = true '  |' insert_str 0 '  '
         'a␊|b␊c'             indent WholeLine >1 = true 'a␊ |b␊c' insert_str 2 ' '

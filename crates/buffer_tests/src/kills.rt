@@ -4,45 +4,79 @@
 use crate::arguments::Arguments;
 use crate::log::Log;
 use crate::table::{begun, plays, quoted, written};
-use line_buffer::{LineBuffer, OutOfMemory};
+use line_buffer::{LineBuffer, Movement, OutOfMemory};
 use stand_ins::lines::line_of;
-use stand_ins::tables::call_and_answer;
-use std::alloc::Global;
-use std::process::Abort;
+use stand_ins::rows::{Player, rows_hold};
+use std::alloc::{AllocError, Global};
 use std::test::Fail;
 
-/// Copies and kills by a movement, and answers what is then written: `refused` where the listener refused the kill.
-fn killed(alloc: Global, line: &mut LineBuffer, call: &str, mut log: Log) -> Result<String, Fail> {
+fn movement_of(call: &str) -> Result<Movement, Fail> {
     let arguments = Arguments::of(call);
-    let movement = arguments.movement(arguments.name)?;
-    let copy = line.copy(alloc, &movement)?;
-    let copy = quoted(alloc, copy.as_ref().map(|text| text.as_str()))?;
-    let answer = match line.kill(alloc, &movement, &mut log) {
-        Ok(killed) => format!(in alloc; "{copy} {killed}")?,
-        Err(OutOfMemory) => format!(in alloc; "refused")?,
-    };
-    Ok(written(alloc, answer.as_str(), line, &log)?)
+    arguments.movement(arguments.name)
 }
 
-/// Plays each row on a line of its own, which is `shown` where the row has none.
-fn kills(rt: &(impl AllocGlobal + Abort), shown: &str, rows: &str) -> Result<(), Fail> {
-    for row in rows.lines() {
-        let Some((call, want)) = call_and_answer(row) else {
-            continue;
-        };
-        let mut line = line_of(rt.alloc(), shown)?;
-        let call = begun(rt.alloc(), &mut line, call)?;
-        let shown = killed(rt.alloc(), &mut line, call, Log::new(rt.alloc()))?;
-        assert_eq!(rt; shown.as_str(), want, "{row}");
+/// What a movement copies.
+fn copied(alloc: Global, line: &LineBuffer, movement: &Movement) -> Result<String, OutOfMemory> {
+    let copy = line.copy(alloc, movement)?;
+    Ok(quoted(alloc, copy.as_ref())?)
+}
+
+/// What a kill answers after a copy: `refused` where the listener refused it.
+fn answer_told(
+    alloc: Global,
+    copy: &str,
+    answer: Result<bool, OutOfMemory>,
+) -> Result<String, AllocError> {
+    match answer {
+        Ok(killed) => format!(in alloc; "{copy} {killed}"),
+        Err(OutOfMemory) => String::from_str(alloc, "refused"),
     }
-    Ok(())
+}
+
+/// Copies and kills by a movement, and answers what is then written.
+fn killed(
+    alloc: Global,
+    line: &mut LineBuffer,
+    movement: &Movement,
+    mut log: Log,
+) -> Result<String, OutOfMemory> {
+    let copy = copied(alloc, line, movement)?;
+    let answer = line.kill(alloc, movement, &mut log);
+    let answer = answer_told(alloc, copy.as_str(), answer)?;
+    written(alloc, answer.as_str(), line, &log)
+}
+
+/// Plays each row on a line of its own, the one that is shown where the row has none.
+#[derive(Clone, Copy, Drop)]
+struct Killing {
+    shown: &'static str,
+    refused: bool,
+}
+
+impl Player for Killing {
+    fn play(&mut self, alloc: Global, call: &str) -> Result<String, Fail> {
+        let mut line = line_of(alloc, self.shown)?;
+        let call = begun(alloc, &mut line, call)?;
+        let movement = movement_of(call)?;
+        let log = if self.refused {
+            Log::refusing(alloc)
+        } else {
+            Log::new(alloc)
+        };
+        Ok(killed(alloc, &mut line, &movement, log)?)
+    }
+}
+
+fn kills(alloc: Global, shown: &'static str, rows: &str) -> Result<(), Fail> {
+    let refused = false;
+    rows_hold(alloc, &mut Killing { shown, refused }, rows)
 }
 
 /// Four rows, at 0, 9, 20 and 30, and the cursor at 16.
 #[test]
 fn movements_killed_and_copied(rt: HostRuntime) -> Result<(), Fail> {
     kills(
-        &rt,
+        rt.alloc(),
         "ab ce\u{301}d␊漢字 |e_f␊🇷🇺x␊y",
         "
         WholeLine = '漢字 e_f' true 'ab ce\u{301}d␊|␊🇷🇺x␊y' start; delete 9 '漢字 e_f' Forward; stop
@@ -77,7 +111,7 @@ fn movements_killed_and_copied(rt: HostRuntime) -> Result<(), Fail> {
 #[test]
 fn kills_at_the_ends_of_rows(rt: HostRuntime) -> Result<(), Fail> {
     kills(
-        &rt,
+        rt.alloc(),
         "|",
         "
         'a␊|b'  BeginningOfLine = none true 'a|b' start; delete 1 '␊' Backward; stop
@@ -113,7 +147,7 @@ fn kills_at_the_ends_of_rows(rt: HostRuntime) -> Result<(), Fail> {
 #[test]
 fn parts_deleted_without_a_kill(rt: HostRuntime) -> Result<(), Fail> {
     plays(
-        &rt,
+        rt.alloc(),
         "
         'one |twe\u{301} ab␊cd' delete 3 = 'twe\u{301}' 'one | ab␊cd' delete 4 'twe\u{301}' Forward
                                 delete 0 = none 'one | ab␊cd'
@@ -131,20 +165,12 @@ fn parts_deleted_without_a_kill(rt: HostRuntime) -> Result<(), Fail> {
 /// A kill that its listener refuses is closed, and leaves the line as it was.
 #[test]
 fn refused_kills_are_closed(rt: HostRuntime) -> Result<(), Fail> {
-    let alloc = rt.alloc();
     let rows = "
         WholeLine = refused 'ab c|' start; delete 0 'ab c' Forward; stop
         BackwardWord 1 Emacs = refused 'ab c|' start; delete 3 'c' Backward; stop
         BackwardChar 1 = refused 'ab c|' delete 3 'c' Backward
         EndOfBuffer = none false 'ab c|' start; stop
         ";
-    for row in rows.lines() {
-        let Some((call, want)) = call_and_answer(row) else {
-            continue;
-        };
-        let mut line = line_of(alloc, "ab c|")?;
-        let shown = killed(alloc, &mut line, call, Log::refusing(alloc))?;
-        assert_eq!(rt; shown.as_str(), want, "{row}");
-    }
-    Ok(())
+    let (shown, refused) = ("ab c|", true);
+    rows_hold(rt.alloc(), &mut Killing { shown, refused }, rows)
 }

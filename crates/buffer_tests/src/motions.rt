@@ -1,13 +1,15 @@
 //! Motions of a line: by clusters, to the ends of rows, by words and by character searches.
 
 use crate::table::plays;
+use line_buffer::{LineBuffer, OutOfMemory};
 use stand_ins::lines::line_of;
+use std::alloc::{AllocError, Global};
 use std::test::Fail;
 
 #[test]
 fn previous_word_starts(rt: HostRuntime) -> Result<(), Fail> {
     plays(
-        &rt,
+        rt.alloc(),
         "
         'alpha ,beta/rho; mu|' move_to_prev_word Vi 1 = true 'alpha ,beta/rho; |mu'
                                move_to_prev_word Vi 1 = true 'alpha ,beta/rho|; mu'
@@ -24,7 +26,7 @@ fn previous_word_starts(rt: HostRuntime) -> Result<(), Fail> {
 #[test]
 fn earlier_words(rt: HostRuntime) -> Result<(), Fail> {
     plays(
-        &rt,
+        rt.alloc(),
         "
         'alpha ,beta/rho; mu|' move_to_prev_word Vi 6 = true 'alpha |,beta/rho; mu'
         'alpha ,beta/rho; mu|' move_to_prev_word Vi 7 = true '|alpha ,beta/rho; mu'
@@ -45,7 +47,7 @@ fn earlier_words(rt: HostRuntime) -> Result<(), Fail> {
 #[test]
 fn next_word_places(rt: HostRuntime) -> Result<(), Fail> {
     plays(
-        &rt,
+        rt.alloc(),
         "
         '|one two'     move_to_next_word AfterEnd Emacs 1 = true 'one| two'
         '|one two'     move_to_next_word Start Vi 1 = true 'one |two'
@@ -74,7 +76,7 @@ fn next_word_places(rt: HostRuntime) -> Result<(), Fail> {
 #[test]
 fn no_later_word(rt: HostRuntime) -> Result<(), Fail> {
     plays(
-        &rt,
+        rt.alloc(),
         "
         'one |two' move_to_next_word Start Vi 1 = true 'one tw|o'
                    move_to_next_word Start Vi 1 = false 'one tw|o'
@@ -88,7 +90,7 @@ fn no_later_word(rt: HostRuntime) -> Result<(), Fail> {
 #[test]
 fn counts_of_zero(rt: HostRuntime) -> Result<(), Fail> {
     plays(
-        &rt,
+        rt.alloc(),
         "
         'one |two' move_forward 0 = false 'one |two'
                    move_backward 0 = false 'one |two'
@@ -105,7 +107,7 @@ fn counts_of_zero(rt: HostRuntime) -> Result<(), Fail> {
 #[test]
 fn clusters_forward(rt: HostRuntime) -> Result<(), Fail> {
     plays(
-        &rt,
+        rt.alloc(),
         "
         '|abc'         next_pos 1 = Some(1) '|abc'
                        move_forward 1 = true 'a|bc'
@@ -136,7 +138,7 @@ fn clusters_forward(rt: HostRuntime) -> Result<(), Fail> {
 #[test]
 fn clusters_backward(rt: HostRuntime) -> Result<(), Fail> {
     plays(
-        &rt,
+        rt.alloc(),
         "
         'e\u{301}|'    move_backward 1 = true '|e\u{301}'
         'abc|'         move_backward 1 = true 'ab|c'
@@ -156,7 +158,7 @@ fn clusters_backward(rt: HostRuntime) -> Result<(), Fail> {
 #[test]
 fn row_starts_and_ends(rt: HostRuntime) -> Result<(), Fail> {
     plays(
-        &rt,
+        rt.alloc(),
         "
         '|one␊two␍␊three' move_home = false '|one␊two␍␊three'
                           move_end = true 'one|␊two␍␊three'
@@ -181,7 +183,7 @@ fn row_starts_and_ends(rt: HostRuntime) -> Result<(), Fail> {
 #[test]
 fn buffer_ends(rt: HostRuntime) -> Result<(), Fail> {
     plays(
-        &rt,
+        rt.alloc(),
         "
         'one␊|two' move_buffer_start = true '|one␊two'
                    move_buffer_start = false '|one␊two'
@@ -195,7 +197,7 @@ fn buffer_ends(rt: HostRuntime) -> Result<(), Fail> {
 #[test]
 fn character_searches(rt: HostRuntime) -> Result<(), Fail> {
     plays(
-        &rt,
+        rt.alloc(),
         "
         '|abcabc'    move_to fc 1 = true 'ab|cabc'
         '|abcabc'    move_to fc 2 = true 'abcab|c'
@@ -224,7 +226,7 @@ fn character_searches(rt: HostRuntime) -> Result<(), Fail> {
 #[test]
 fn ends_of_input(rt: HostRuntime) -> Result<(), Fail> {
     plays(
-        &rt,
+        rt.alloc(),
         "
         '|'         is_end_of_input = true '|'
         '|a ␊'      is_end_of_input = false '|a ␊'
@@ -235,19 +237,26 @@ fn ends_of_input(rt: HostRuntime) -> Result<(), Fail> {
     )
 }
 
+/// What a copy of a line is: shown, by its text, and as a text.
+fn copy_told(alloc: Global, line: &LineBuffer) -> Result<String, OutOfMemory> {
+    let copy = line.try_clone(alloc)?;
+    let shown = value_told(alloc, &copy)?;
+    let text = copy.into_string();
+    Ok(format!(in alloc; "{shown}, {text}")?)
+}
+
+fn value_told(alloc: Global, line: &LineBuffer) -> Result<String, AllocError> {
+    let (text, len, empty) = (line.as_str(), line.len(), line.is_empty());
+    format!(in alloc; "{line:?}: {text}, {len}, {empty}")
+}
+
 #[test]
 fn lines_as_values(rt: HostRuntime) -> Result<(), Fail> {
-    let alloc = rt.alloc();
-    let copy = line_of(alloc, "a|b")?.try_clone(alloc)?;
+    let line = line_of(rt.alloc(), "a|b")?;
+    let said = copy_told(rt.alloc(), &line)?;
     assert_eq!(rt;
-        (copy.as_str(), copy.len(), copy.is_empty()),
-        ("ab", 2, false)
+        said.as_str(),
+        "LineBuffer { buf: \"ab\", pos: 1, can_growth: true, limit: 8 }: ab, 2, false, ab"
     );
-    let shown = format!(in alloc; "{copy:?}")?;
-    assert_eq!(rt;
-        shown.as_str(),
-        "LineBuffer { buf: \"ab\", pos: 1, can_growth: true, limit: 8 }"
-    );
-    assert_eq!(rt; copy.into_string().as_str(), "ab");
     Ok(())
 }

@@ -4,34 +4,37 @@
 
 use crate::arguments::Arguments;
 use crate::log::Log;
-use line_buffer::{Layout, LineBuffer, OutOfMemory, Position};
+use line_buffer::{GraphemeClusterMode, Layout, LineBuffer, OutOfMemory, Position, RepeatCount};
 use stand_ins::lines::{line_of, shown_of};
-use stand_ins::tables::{call_and_answer, pictured};
+use stand_ins::rows::{Player, rows_hold};
+use stand_ins::tables::pictured;
 use std::alloc::{AllocError, Global};
-use std::process::Abort;
 use std::test::Fail;
 
-/// Plays rows, the first one on the empty line.
-pub(crate) fn plays(rt: &(impl AllocGlobal + Abort), rows: &str) -> Result<(), Fail> {
-    let mut line = line_of(rt.alloc(), "")?;
-    plays_on(rt, &mut line, rows)
+/// A line on which each row's call is made.
+#[derive(Drop)]
+struct Desk {
+    line: LineBuffer,
 }
 
-/// Plays rows, the first one on this line.
-pub(crate) fn plays_on(
-    rt: &(impl AllocGlobal + Abort),
-    line: &mut LineBuffer,
-    rows: &str,
-) -> Result<(), Fail> {
-    for row in rows.lines() {
-        let Some((call, want)) = call_and_answer(row) else {
-            continue;
-        };
-        let call = begun(rt.alloc(), line, call)?;
-        let shown = step(rt.alloc(), line, call)?;
-        assert_eq!(rt; shown.as_str(), want, "{row}");
+impl Player for Desk {
+    fn play(&mut self, alloc: Global, call: &str) -> Result<String, Fail> {
+        let call = begun(alloc, &mut self.line, call)?;
+        step(alloc, &mut self.line, call)
     }
-    Ok(())
+}
+
+/// Plays rows, the first one on the empty line.
+pub(crate) fn plays(alloc: Global, rows: &str) -> Result<(), Fail> {
+    let line = line_of(alloc, "")?;
+    rows_hold(alloc, &mut Desk { line }, rows)
+}
+
+/// Plays rows, the first one on this line; the line then.
+pub(crate) fn plays_on(alloc: Global, line: LineBuffer, rows: &str) -> Result<LineBuffer, Fail> {
+    let mut desk = Desk { line };
+    rows_hold(alloc, &mut desk, rows)?;
+    Ok(desk.line)
 }
 
 /// Takes the line that a row begins with, where it has one, and answers the call.
@@ -56,13 +59,13 @@ pub(crate) fn written(
     log: &Log,
 ) -> Result<String, OutOfMemory> {
     let shown = shown_of(alloc, line)?;
-    let events = pictured(alloc, log.events.as_str())?;
+    let events = log.events.as_str();
     let row = format!(in alloc; "{answer} '{shown}' {events}")?;
-    Ok(String::from_str(alloc, row.as_str().trim())?)
+    Ok(pictured(alloc, row.as_str().trim())?)
 }
 
 /// A text in quotes, or `none`.
-pub(crate) fn quoted(alloc: Global, text: Option<&str>) -> Result<String, AllocError> {
+pub(crate) fn quoted(alloc: Global, text: Option<&String>) -> Result<String, AllocError> {
     match text {
         Some(text) => pictured(alloc, format!(in alloc; "'{text}'")?.as_str()),
         None => String::from_str(alloc, "none"),
@@ -84,41 +87,42 @@ fn answer(
     a: &Arguments<'_>,
     log: &mut Log,
 ) -> Result<String, Fail> {
-    if let Some(moved) = moved(line, a) {
-        return Ok(format!(in alloc; "{moved}")?);
-    }
-    if let Some(taken) = taken(alloc, line, a, log)? {
-        return Ok(format!(in alloc; "{taken}")?);
-    }
-    if let Some(changed) = changed(alloc, line, a, log)? {
-        return Ok(format!(in alloc; "{changed}")?);
-    }
-    match a.name {
-        "next_pos" => Ok(format!(in alloc; "{:?}", line.next_pos(a.n()))?),
-        "delete" => {
-            let text = line.delete(alloc, a.n(), log)?;
-            Ok(quoted(alloc, text.as_ref().map(|text| text.as_str()))?)
-        }
-        "update" | "replace" => exchanged(alloc, line, a, log),
-        _ => Ok(format!(in alloc; "{:?}", put(alloc, line, a, log)?)?),
-    }
+    let answer = match moved(line, a) {
+        Some(answer) => answer,
+        None => match taken(alloc, line, a, log)? {
+            Some(answer) => answer,
+            None => return changed(alloc, line, a, log),
+        },
+    };
+    Ok(told(alloc, answer)?)
 }
 
-/// Makes a motion, or answers where the cursor is; `None` where the call is another one.
+fn told(alloc: Global, answer: bool) -> Result<String, AllocError> {
+    String::from_str(alloc, if answer { "true" } else { "false" })
+}
+
+/// Makes a motion; `None` where the call is another one.
 fn moved(line: &mut LineBuffer, a: &Arguments<'_>) -> Option<bool> {
     let n = a.n();
     Some(match a.name {
         "move_forward" => line.move_forward(n),
         "move_backward" => line.move_backward(n),
+        "move_to_prev_word" => line.move_to_prev_word(a.word, n),
+        "move_to_next_word" => line.move_to_next_word(a.at, a.word, n),
+        "move_to" => line.move_to(a.search, n),
+        "move_to_line_up" => line.move_to_line_up(n, &layout(a.mode, a.column)),
+        "move_to_line_down" => line.move_to_line_down(n, &layout(a.mode, a.column)),
+        _ => return moved_to_an_end(line, a.name),
+    })
+}
+
+/// Moves to an end, or answers where the cursor is; `None` where the call is another one.
+fn moved_to_an_end(line: &mut LineBuffer, name: &str) -> Option<bool> {
+    Some(match name {
         "move_home" => line.move_home(),
         "move_end" => line.move_end(),
         "move_buffer_start" => line.move_buffer_start(),
         "move_buffer_end" => line.move_buffer_end(),
-        "move_to_prev_word" => line.move_to_prev_word(a.word, n),
-        "move_to_next_word" => line.move_to_next_word(a.at, a.word, n),
-        "move_to" => line.move_to(a.search, n),
-        "move_to_line_up" => line.move_to_line_up(n, &layout(a)),
-        "move_to_line_down" => line.move_to_line_down(n, &layout(a)),
         "is_end_of_input" => line.is_end_of_input(),
         "is_cursor_at_end" => line.is_cursor_at_end(),
         _ => return None,
@@ -126,12 +130,9 @@ fn moved(line: &mut LineBuffer, a: &Arguments<'_>) -> Option<bool> {
 }
 
 /// The layout after a prompt that ends at a column.
-fn layout(a: &Arguments<'_>) -> Layout {
-    let mut layout = Layout::new(a.mode);
-    layout.prompt_size = Position {
-        col: a.column,
-        row: 0,
-    };
+pub(crate) fn layout(mode: GraphemeClusterMode, col: RepeatCount) -> Layout {
+    let mut layout = Layout::new(mode);
+    layout.prompt_size = Position { col, row: 0 };
     layout
 }
 
@@ -144,11 +145,25 @@ fn taken(
 ) -> Result<Option<bool>, OutOfMemory> {
     let n = a.n();
     let taken = match a.name {
-        "backspace" => line.backspace(alloc, n, log),
         "kill_line" => line.kill_line(alloc, log),
         "kill_buffer" => line.kill_buffer(alloc, log),
         "discard_line" => line.discard_line(alloc, log),
         "discard_buffer" => line.discard_buffer(alloc, log),
+        _ => return taken_by_count(alloc, line, a, log),
+    };
+    Ok(Some(taken?))
+}
+
+/// Makes a deletion of so many; `None` where the call is another one.
+fn taken_by_count(
+    alloc: Global,
+    line: &mut LineBuffer,
+    a: &Arguments<'_>,
+    log: &mut Log,
+) -> Result<Option<bool>, OutOfMemory> {
+    let n = a.n();
+    let taken = match a.name {
+        "backspace" => line.backspace(alloc, n, log),
         "delete_prev_word" => line.delete_prev_word(alloc, a.word, n, log),
         "delete_word" => line.delete_word(alloc, a.at, a.word, n, log),
         "delete_to" => line.delete_to(alloc, a.search, n, log),
@@ -157,21 +172,70 @@ fn taken(
     Ok(Some(taken?))
 }
 
-/// Makes a change of what stands; `None` where the call is another one.
+/// Makes a change of what stands, or another call.
 fn changed(
     alloc: Global,
     line: &mut LineBuffer,
     a: &Arguments<'_>,
     log: &mut Log,
-) -> Result<Option<bool>, Fail> {
+) -> Result<String, Fail> {
     let changed = match a.name {
         "transpose_chars" => line.transpose_chars(alloc, log),
         "transpose_words" => line.transpose_words(alloc, a.n(), log),
         "edit_word" => line.edit_word(alloc, a.action, log),
-        "indent" => line.indent(alloc, &a.movement(a.movement)?, a.amount, a.dedent, log),
-        _ => return Ok(None),
+        _ => return asked(alloc, line, a, log),
     };
-    Ok(Some(changed?))
+    Ok(told(alloc, changed?)?)
+}
+
+/// Moves rows in or out.
+fn indented(
+    alloc: Global,
+    line: &mut LineBuffer,
+    a: &Arguments<'_>,
+    log: &mut Log,
+) -> Result<String, Fail> {
+    let movement = a.movement(a.movement)?;
+    let indented = line.indent(alloc, &movement, a.amount, a.dedent, log)?;
+    Ok(told(alloc, indented)?)
+}
+
+/// Takes text out, and answers it.
+fn deleted(
+    alloc: Global,
+    line: &mut LineBuffer,
+    a: &Arguments<'_>,
+    log: &mut Log,
+) -> Result<String, OutOfMemory> {
+    let text = line.delete(alloc, a.n(), log)?;
+    Ok(quoted(alloc, text.as_ref())?)
+}
+
+/// The place that a motion by clusters leads to.
+fn next_told(alloc: Global, line: &LineBuffer, a: &Arguments<'_>) -> Result<String, AllocError> {
+    let place = line.next_pos(a.n());
+    format!(in alloc; "{place:?}")
+}
+
+/// What a call answers that puts text in.
+fn put_told(alloc: Global, put: Option<bool>) -> Result<String, AllocError> {
+    format!(in alloc; "{put:?}")
+}
+
+/// Makes one of the calls that answer no truth.
+fn asked(
+    alloc: Global,
+    line: &mut LineBuffer,
+    a: &Arguments<'_>,
+    log: &mut Log,
+) -> Result<String, Fail> {
+    match a.name {
+        "next_pos" => Ok(next_told(alloc, line, a)?),
+        "delete" => Ok(deleted(alloc, line, a, log)?),
+        "indent" => indented(alloc, line, a, log),
+        "update" | "replace" => exchanged(alloc, line, a, log),
+        _ => Ok(put_told(alloc, put(alloc, line, a, log)?)?),
+    }
 }
 
 /// Puts text in at the cursor.
@@ -181,19 +245,26 @@ fn put(
     a: &Arguments<'_>,
     log: &mut Log,
 ) -> Result<Option<bool>, Fail> {
-    let put = match a.name {
-        "insert" => line.insert(alloc, a.text.chars().next().unwrap_or(' '), a.n(), log),
-        "yank" => line.yank(alloc, a.text, a.n(), log),
-        "yank_pop" => {
-            let size = usize::from(a.n());
-            if size > line.pos() || !line.as_str().is_char_boundary(line.pos() - size) {
-                return Err(Fail::new("no text to exchange"));
-            }
-            line.yank_pop(alloc, size, a.text, log)
-        }
-        other => return Err(Fail::new(format_args!("no call: {other}"))),
-    };
-    Ok(put?)
+    match a.name {
+        "insert" => Ok(line.insert(alloc, a.text.chars().next().unwrap_or(' '), a.n(), log)?),
+        "yank" => Ok(line.yank(alloc, a.text, a.n(), log)?),
+        "yank_pop" => popped(alloc, line, a, log),
+        other => Err(Fail::new(format_args!("no call: {other}"))),
+    }
+}
+
+/// Exchanges as many bytes before the cursor.
+fn popped(
+    alloc: Global,
+    line: &mut LineBuffer,
+    a: &Arguments<'_>,
+    log: &mut Log,
+) -> Result<Option<bool>, Fail> {
+    let size = usize::from(a.n());
+    if size > line.pos() || !line.as_str().is_char_boundary(line.pos() - size) {
+        return Err(Fail::new("no text to exchange"));
+    }
+    Ok(line.yank_pop(alloc, size, a.text, log)?)
 }
 
 /// Exchanges the whole text, or puts some in by `replace`. Answers nothing.

@@ -3,68 +3,97 @@
 
 use line_config::{ReadSource, Sink, SliceSource, Source, VecSink, WriteSink};
 use stand_ins::devices::{Pieces, Taker, Turns};
-use stand_ins::tables::{call_and_answer, or_nothing, pictured_bytes};
+use stand_ins::rows::{Player, rows_hold};
+use stand_ins::tables::{or_nothing, pictured_bytes};
+use std::alloc::Global;
 use std::cell::Cell;
-use std::process::Abort;
 use std::test::Fail;
 
-/// What a source gives to its end or its failure, and whether it was the end.
-fn all_of<S: Source>(rt: &impl AllocGlobal, source: &mut S) -> Result<(Vec<u8>, bool), Fail> {
-    let mut bytes = Vec::new(rt.alloc());
+/// Takes what a source gives to its end or its failure, and answers whether it was the end.
+fn took_all<S: Source>(source: &mut S, bytes: &mut Vec<u8>) -> Result<bool, Fail> {
     for _ in 0..100_000 {
         match source.next_byte() {
             Ok(Some(byte)) => bytes.push(byte)?,
-            Ok(None) => return Ok((bytes, true)),
-            Err(_) => return Ok((bytes, false)),
+            Ok(None) => return Ok(true),
+            Err(_) => return Ok(false),
         }
     }
-    Ok((bytes, false))
+    Ok(false)
+}
+
+/// Refuses a source that failed otherwise than at the end of what it gave, or not for good.
+fn ends_for_good<S: Source>(source: &mut S, at_end: bool) -> Result<(), Fail> {
+    let failed = source.failed();
+    if source.next_byte().is_err() == at_end || failed == at_end {
+        return Err(Fail::new("a source fails for good, and is known to have failed"));
+    }
+    Ok(())
+}
+
+/// What a source gives, and how it ends, for good; a failed one asks no more.
+fn told<S: Source>(alloc: Global, source: &mut S, calls: &Cell<usize>) -> Result<String, Fail> {
+    let mut bytes = Vec::new(alloc);
+    let at_end = took_all(source, &mut bytes)?;
+    let asked = calls.get();
+    ends_for_good(source, at_end)?;
+    if !at_end && calls.get() != asked {
+        return Err(Fail::new("a failed source asks once more"));
+    }
+    let given = pictured_bytes(alloc, &bytes)?;
+    let given = or_nothing(given.as_str());
+    let last = if at_end { "end" } else { "failure" };
+    Ok(format!(in alloc; "{given}, {last}")?)
 }
 
 #[test]
 fn memory_sources(rt: HostRuntime) -> Result<(), Fail> {
-    let mut source = SliceSource::new(b"ab");
-    let (bytes, at_end) = all_of(&rt, &mut source)?;
-    assert_eq!(rt; bytes.as_slice(), b"ab".as_slice());
-    assert!(rt; at_end && !source.failed());
-
-    let mut source = SliceSource::failing_after(b"ab");
-    let (bytes, at_end) = all_of(&rt, &mut source)?;
-    assert_eq!(rt; bytes.as_slice(), b"ab".as_slice());
-    assert!(rt; !at_end && source.failed() && source.next_byte().is_err());
+    let calls = Cell::new(0);
+    let whole = told(rt.alloc(), &mut SliceSource::new(b"ab"), &calls)?;
+    assert_eq!(rt; whole.as_str(), "ab, end");
+    let cut = told(rt.alloc(), &mut SliceSource::failing_after(b"ab"), &calls)?;
+    assert_eq!(rt; cut.as_str(), "ab, failure");
     Ok(())
 }
 
 #[test]
 fn memory_sinks(rt: HostRuntime) {
     let mut sink = VecSink::new(rt.alloc());
-    for bytes in [b"ab".as_slice(), b"".as_slice(), b"c".as_slice()] {
-        assert!(rt; sink.write(bytes).is_ok());
-    }
-    assert!(rt; sink.flush().is_ok() && !sink.failed());
-    assert_eq!(rt; sink.bytes(), b"abc".as_slice());
+    assert!(rt; sink.write(b"ab").is_ok() && sink.write(b"").is_ok() && sink.write(b"c").is_ok());
+    assert!(rt; sink.flush().is_ok() && !sink.failed() && sink.bytes() == b"abc".as_slice());
     assert_eq!(rt; sink.into_bytes().as_slice(), b"abc".as_slice());
 }
 
-/// What a source gives over a reader with these turns, and how it ends, for good.
-fn read_by(rt: &(impl AllocGlobal + Abort), turns: &str) -> Result<String, Fail> {
-    let calls = Cell::new(0);
-    let mut source = ReadSource::new(Pieces {
+/// What the rows of a table ask.
+#[derive(Clone, Copy, Drop)]
+enum Ask {
+    Read,
+    Written,
+}
+
+impl Player for Ask {
+    fn play(&mut self, alloc: Global, call: &str) -> Result<String, Fail> {
+        match self {
+            Ask::Read => read_by(alloc, call),
+            Ask::Written => {
+                let (turns, flushes) = call.split_once(" | ").unwrap_or((call, ""));
+                written_by(alloc, turns, flushes)
+            }
+        }
+    }
+}
+
+/// A reader of six letters with turns.
+fn letters<'a>(turns: &'a str, calls: &'a Cell<usize>) -> Pieces<'a> {
+    Pieces {
         bytes: b"abcdef",
-        turns: Turns::new(turns, &calls),
-    });
-    let (bytes, at_end) = all_of(rt, &mut source)?;
-    let asked = calls.get();
-    assert_eq!(rt; source.next_byte().is_err(), !at_end, "for good");
-    assert_eq!(rt; source.failed(), !at_end);
-    assert!(rt;
-        at_end || calls.get() == asked,
-        "a failed source asks no more"
-    );
-    let given = pictured_bytes(rt.alloc(), &bytes)?;
-    let given = or_nothing(given.as_str());
-    let last = if at_end { "end" } else { "failure" };
-    Ok(format!(in rt.alloc(); "{given}, {last}")?)
+        turns: Turns::new(turns, calls),
+    }
+}
+
+/// What a source gives over a reader with these turns, and how it ends.
+fn read_by(alloc: Global, turns: &str) -> Result<String, Fail> {
+    let calls = Cell::new(0);
+    told(alloc, &mut ReadSource::new(letters(turns, &calls)), &calls)
 }
 
 #[test]
@@ -78,10 +107,19 @@ fn reads_in_pieces(rt: HostRuntime) -> Result<(), Fail> {
         broken = nothing, failure
         6 interrupted broken = abcdef, failure
         ";
-    for row in rows.lines() {
-        if let Some((turns, want)) = call_and_answer(row) {
-            assert_eq!(rt; read_by(&rt, turns)?.as_str(), want, "{row}");
-        }
+    rows_hold(rt.alloc(), &mut Ask::Read, rows)
+}
+
+/// Tells four bytes, each with the number of calls so far.
+fn tell_four<S: Source>(
+    source: &mut S,
+    calls: &Cell<usize>,
+    said: &mut String,
+) -> Result<(), Fail> {
+    for _ in 0..4 {
+        let byte = source.next_byte()?;
+        let asked = calls.get();
+        write!(said, "{byte:?} {asked}, ")?;
     }
     Ok(())
 }
@@ -93,32 +131,33 @@ fn reads_once_for_what_is_there(rt: HostRuntime) -> Result<(), Fail> {
         bytes: b"abc",
         turns: Turns::new("2", &calls),
     });
-    for (byte, asked) in [(Some(b'a'), 1), (Some(b'b'), 1), (Some(b'c'), 2), (None, 3)] {
-        assert!(rt; source.next_byte() == Ok(byte));
-        assert_eq!(rt; calls.get(), asked, "at {byte:?}");
-    }
+    let mut said = String::new(rt.alloc());
+    tell_four(&mut source, &calls, &mut said)?;
+    assert_eq!(rt;
+        said.as_str(),
+        "Some(97) 1, Some(98) 1, Some(99) 2, None 3, "
+    );
     Ok(())
 }
 
 #[test]
 fn hands_back_what_was_read(rt: HostRuntime) -> Result<(), Fail> {
     let calls = Cell::new(0);
-    let mut source = ReadSource::new(Pieces {
-        bytes: b"abcdef",
-        turns: Turns::new("3", &calls),
-    });
+    let mut source = ReadSource::new(letters("3", &calls));
     assert!(rt; source.next_byte() == Ok(Some(b'a')));
     let (reader, unread) = source.into_parts();
-    assert_eq!(rt; unread.as_slice(), b"bc".as_slice());
-    assert_eq!(rt; reader.bytes, b"def".as_slice());
+    assert_eq!(rt;
+        (unread.as_slice(), reader.bytes),
+        (b"bc".as_slice(), b"def".as_slice())
+    );
     let (_, unread) = ReadSource::new(reader).into_parts();
     assert!(rt; unread.is_empty());
     Ok(())
 }
 
 /// Bytes of every value, more than the arrays of the adapters hold.
-fn long_text(rt: &impl AllocGlobal) -> Result<Vec<u8>, Fail> {
-    let mut text = Vec::new(rt.alloc());
+fn long_text(alloc: Global) -> Result<Vec<u8>, Fail> {
+    let mut text = Vec::new(alloc);
     for number in 0..10_000u16 {
         text.push(number.to_le_bytes()[0])?;
     }
@@ -127,14 +166,14 @@ fn long_text(rt: &impl AllocGlobal) -> Result<Vec<u8>, Fail> {
 
 #[test]
 fn reads_more_than_its_array(rt: HostRuntime) -> Result<(), Fail> {
-    let text = long_text(&rt)?;
+    let text = long_text(rt.alloc())?;
     let calls = Cell::new(0);
     let mut source = ReadSource::new(Pieces {
         bytes: &text,
         turns: Turns::new("300 7", &calls),
     });
-    let (bytes, at_end) = all_of(&rt, &mut source)?;
-    assert!(rt; at_end);
+    let mut bytes = Vec::new(rt.alloc());
+    assert!(rt; took_all(&mut source, &mut bytes)?);
     assert_eq!(rt; bytes.as_slice(), text.as_slice());
     Ok(())
 }
@@ -161,34 +200,47 @@ impl Calls {
 
 /// A sink over a writer with these turns at writes and at flushes.
 fn sink_over<'a>(
-    rt: &impl AllocGlobal,
+    alloc: Global,
     turns: &'a str,
     flushes: &'a str,
     calls: &'a Calls,
 ) -> WriteSink<Taker<'a>> {
     WriteSink::new(Taker {
-        taken: Vec::new(rt.alloc()),
+        taken: Vec::new(alloc),
         turns: Turns::new(turns, &calls.writes),
         flushes: Turns::new(flushes, &calls.flushes),
     })
 }
 
+/// Writes three letters in as many calls, and tells the calls of the writer before the flush and after it.
+fn tell_flush(
+    sink: &mut WriteSink<Taker<'_>>,
+    calls: &Calls,
+    said: &mut String,
+) -> Result<(), Fail> {
+    sink.write(b"ab")?;
+    sink.write(b"")?;
+    sink.write(b"c")?;
+    let before = calls.counts();
+    sink.flush()?;
+    let after = calls.counts();
+    write!(said, "{before:?} {after:?}; ")?;
+    Ok(())
+}
+
+/// Nothing is sent before the flush.
 #[test]
 fn writes_once_for_each_flush(rt: HostRuntime) -> Result<(), Fail> {
     let calls = Calls::none();
-    let mut sink = sink_over(&rt, "", "", &calls);
-    for round in 1..4 {
-        assert!(rt;
-            sink.write(b"ab").is_ok() && sink.write(b"").is_ok() && sink.write(b"c").is_ok()
-        );
-        assert_eq!(rt;
-            calls.counts(),
-            (round - 1, round - 1),
-            "nothing is sent before the flush"
-        );
-        assert!(rt; sink.flush().is_ok());
-        assert_eq!(rt; calls.counts(), (round, round));
+    let mut sink = sink_over(rt.alloc(), "", "", &calls);
+    let mut said = String::new(rt.alloc());
+    for _ in 0..3 {
+        tell_flush(&mut sink, &calls, &mut said)?;
     }
+    assert_eq!(rt;
+        said.as_str(),
+        "(0, 0) (1, 1); (1, 1) (2, 2); (2, 2) (3, 3); "
+    );
     let (writer, unsent) = sink.into_parts();
     assert_eq!(rt; writer.taken.as_slice(), b"abcabcabc".as_slice());
     assert!(rt; unsent.is_empty());
@@ -197,9 +249,9 @@ fn writes_once_for_each_flush(rt: HostRuntime) -> Result<(), Fail> {
 
 #[test]
 fn writes_more_than_its_array(rt: HostRuntime) -> Result<(), Fail> {
-    let text = long_text(&rt)?;
+    let text = long_text(rt.alloc())?;
     let calls = Calls::none();
-    let mut sink = sink_over(&rt, "5 interrupted", "", &calls);
+    let mut sink = sink_over(rt.alloc(), "5 interrupted", "", &calls);
     assert!(rt; sink.write(b"ab").is_ok() && sink.write(&text).is_ok() && sink.flush().is_ok());
     let (writer, unsent) = sink.into_parts();
     let mut wanted = Vec::from_slice(rt.alloc(), b"ab")?;
@@ -209,28 +261,43 @@ fn writes_more_than_its_array(rt: HostRuntime) -> Result<(), Fail> {
     Ok(())
 }
 
-/// What a writer with these turns takes of `abcd`, what stays unsent, and whether the flush passed, else for good.
-fn written_by(rt: &(impl AllocGlobal + Abort), turns: &str, flushes: &str) -> Result<String, Fail> {
-    let calls = Calls::none();
-    let mut sink = sink_over(rt, turns, flushes, &calls);
-    assert!(rt; sink.write(b"abcd").is_ok());
-    let passed = sink.flush().is_ok();
-    assert_eq!(rt; sink.failed(), !passed);
+/// Refuses a failed sink that takes more, or asks its writer once more.
+fn fails_for_good(sink: &mut WriteSink<Taker<'_>>, calls: &Calls) -> Result<(), Fail> {
     let asked = calls.counts();
-    if !passed {
-        assert!(rt;
-            sink.write(b"e").is_err() && sink.flush().is_err(),
-            "for good"
-        );
-        assert_eq!(rt; calls.counts(), asked, "a failed sink asks no more");
+    if sink.write(b"e").is_err() && sink.flush().is_err() && calls.counts() == asked {
+        Ok(())
+    } else {
+        Err(Fail::new("a sink fails for good, and asks no more"))
     }
+}
+
+/// Flushes, and answers whether that passed, else for good.
+fn passed(sink: &mut WriteSink<Taker<'_>>, calls: &Calls) -> Result<bool, Fail> {
+    let passed = sink.flush().is_ok();
+    if sink.failed() == passed {
+        return Err(Fail::new("a sink is known to have failed"));
+    }
+    if !passed {
+        fails_for_good(sink, calls)?;
+    }
+    Ok(passed)
+}
+
+/// What a writer with these turns takes of `abcd`, what stays unsent, and whether the flush passed, else for good.
+fn written_by(alloc: Global, turns: &str, flushes: &str) -> Result<String, Fail> {
+    let calls = Calls::none();
+    let mut sink = sink_over(alloc, turns, flushes, &calls);
+    sink.write(b"abcd")?;
+    let last = if passed(&mut sink, &calls)? {
+        "passed"
+    } else {
+        "failed"
+    };
     let (writer, unsent) = sink.into_parts();
-    let taken = pictured_bytes(rt.alloc(), &writer.taken)?;
-    let unsent = pictured_bytes(rt.alloc(), unsent.as_slice())?;
-    let taken = or_nothing(taken.as_str());
-    let unsent = or_nothing(unsent.as_str());
-    let last = if passed { "passed" } else { "failed" };
-    Ok(format!(in rt.alloc(); "{taken}, {unsent}, {last}")?)
+    let taken = pictured_bytes(alloc, &writer.taken)?;
+    let unsent = pictured_bytes(alloc, unsent.as_slice())?;
+    let (taken, unsent) = (or_nothing(taken.as_str()), or_nothing(unsent.as_str()));
+    Ok(format!(in alloc; "{taken}, {unsent}, {last}")?)
 }
 
 /// The turns at writes, and after a bar those at flushes; what is taken, what stays unsent, and how the flush ends.
@@ -247,11 +314,5 @@ fn writes_that_take_a_part_or_fail(rt: HostRuntime) -> Result<(), Fail> {
         3 0 = abc, d, failed
         1000 | broken = abcd, nothing, failed
         ";
-    for row in rows.lines() {
-        if let Some((call, want)) = call_and_answer(row) {
-            let (turns, flushes) = call.split_once(" | ").unwrap_or((call, ""));
-            assert_eq!(rt; written_by(&rt, turns, flushes)?.as_str(), want, "{row}");
-        }
-    }
-    Ok(())
+    rows_hold(rt.alloc(), &mut Ask::Written, rows)
 }

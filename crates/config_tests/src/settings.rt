@@ -5,57 +5,72 @@ use line_config::{
     Behavior, BellStyle, Builder, ColorMode, CompletionType, Config, Configurer, DeviceFailed,
     EditMode, HookFault, ReadlineError,
 };
-use stand_ins::tables::call_and_answer;
+use stand_ins::rows::{Player, rows_hold};
 use std::alloc::{AllocError, Global};
-use std::process::Abort;
+use std::fmt::Debug;
 use std::test::Fail;
+
+fn shown<D: Debug + Drop>(alloc: Global, value: D) -> Result<String, AllocError> {
+    format!(in alloc; "{value:?}")
+}
 
 /// What the getter of this name answers.
 fn answer(alloc: Global, config: &Config, name: &str) -> Result<String, AllocError> {
     match name {
-        "max_history_size" => format!(in alloc; "{}", config.max_history_size()),
-        "history_duplicates" => format!(in alloc; "{:?}", config.history_duplicates()),
-        "history_ignore_space" => format!(in alloc; "{}", config.history_ignore_space()),
-        "completion_type" => format!(in alloc; "{:?}", config.completion_type()),
-        "completion_show_all_if_ambiguous" => {
-            format!(in alloc; "{}", config.completion_show_all_if_ambiguous())
-        }
-        "completion_prompt_limit" => format!(in alloc; "{}", config.completion_prompt_limit()),
-        "keyseq_timeout" => format!(in alloc; "{:?}", config.keyseq_timeout()),
-        "edit_mode" => format!(in alloc; "{:?}", config.edit_mode()),
-        "auto_add_history" => format!(in alloc; "{}", config.auto_add_history()),
+        "max_history_size" => shown(alloc, config.max_history_size()),
+        "history_duplicates" => shown(alloc, config.history_duplicates()),
+        "history_ignore_space" => shown(alloc, config.history_ignore_space()),
+        "keyseq_timeout" => shown(alloc, config.keyseq_timeout()),
+        "edit_mode" => shown(alloc, config.edit_mode()),
+        "auto_add_history" => shown(alloc, config.auto_add_history()),
+        "tab_stop" => shown(alloc, config.tab_stop()),
+        "indent_size" => shown(alloc, config.indent_size()),
         _ => drawing_answer(alloc, config, name),
     }
 }
 
-/// The same of the settings for drawing and for the terminal.
+/// The same of the settings for completion and drawing.
 fn drawing_answer(alloc: Global, config: &Config, name: &str) -> Result<String, AllocError> {
     match name {
-        "bell_style" => format!(in alloc; "{:?}", config.bell_style()),
-        "color_mode" => format!(in alloc; "{:?}", config.color_mode()),
-        "grapheme_cluster_mode" => format!(in alloc; "{:?}", config.grapheme_cluster_mode()),
-        "behavior" => format!(in alloc; "{:?}", config.behavior()),
-        "tab_stop" => format!(in alloc; "{}", config.tab_stop()),
-        "indent_size" => format!(in alloc; "{}", config.indent_size()),
-        "check_cursor_position" => format!(in alloc; "{}", config.check_cursor_position()),
-        "enable_bracketed_paste" => format!(in alloc; "{}", config.enable_bracketed_paste()),
-        "enable_synchronized_output" => {
-            format!(in alloc; "{}", config.enable_synchronized_output())
+        "completion_type" => shown(alloc, config.completion_type()),
+        "completion_show_all_if_ambiguous" => {
+            shown(alloc, config.completion_show_all_if_ambiguous())
         }
-        "enable_signals" => format!(in alloc; "{}", config.enable_signals()),
-        _ => format!(in alloc; "no setting"),
+        "completion_prompt_limit" => shown(alloc, config.completion_prompt_limit()),
+        "bell_style" => shown(alloc, config.bell_style()),
+        "color_mode" => shown(alloc, config.color_mode()),
+        "grapheme_cluster_mode" => shown(alloc, config.grapheme_cluster_mode()),
+        _ => terminal_answer(alloc, config, name),
+    }
+}
+
+/// The same of the settings for the terminal.
+fn terminal_answer(alloc: Global, config: &Config, name: &str) -> Result<String, AllocError> {
+    match name {
+        "behavior" => shown(alloc, config.behavior()),
+        "check_cursor_position" => shown(alloc, config.check_cursor_position()),
+        "enable_bracketed_paste" => shown(alloc, config.enable_bracketed_paste()),
+        "enable_synchronized_output" => shown(alloc, config.enable_synchronized_output()),
+        "enable_signals" => shown(alloc, config.enable_signals()),
+        _ => String::from_str(alloc, "no setting"),
+    }
+}
+
+/// A configuration whose getters the rows name.
+#[derive(Clone, Copy, Drop)]
+struct Getters<'c> {
+    config: &'c Config,
+}
+
+impl Player for Getters<'_> {
+    fn play(&mut self, alloc: Global, name: &str) -> Result<String, Fail> {
+        Ok(answer(alloc, self.config, name)?)
     }
 }
 
 /// Compares the getters' answers with a table of them.
-fn answers(rt: &(impl AllocGlobal + Abort), config: &Config, rows: &str) -> Result<(), Fail> {
-    for row in rows.lines() {
-        if let Some((name, want)) = call_and_answer(row) {
-            let answer = answer(rt.alloc(), config, name)?;
-            assert_eq!(rt; answer.as_str(), want, "{row}");
-        }
-    }
-    Ok(())
+fn answers(alloc: Global, config: &Config, rows: &str) -> Result<(), Fail> {
+    rows_hold(alloc, &mut Getters { config }, rows)
 }
 
 const DEFAULTS: &str = "
@@ -82,10 +97,10 @@ const DEFAULTS: &str = "
 
 #[test]
 fn defaults(rt: HostRuntime) -> Result<(), Fail> {
-    answers(&rt, &Config::default(), DEFAULTS)?;
-    answers(&rt, &Config::builder().build(), DEFAULTS)?;
-    answers(&rt, &Builder::new().build(), DEFAULTS)?;
-    answers(&rt, &Builder::default().build(), DEFAULTS)?;
+    answers(rt.alloc(), &Config::default(), DEFAULTS)?;
+    answers(rt.alloc(), &Config::builder().build(), DEFAULTS)?;
+    answers(rt.alloc(), &Builder::new().build(), DEFAULTS)?;
+    answers(rt.alloc(), &Builder::default().build(), DEFAULTS)?;
     assert!(rt; Config::default() == Config::default().clone()?);
     assert_eq!(rt; BellStyle::default(), BellStyle::Audible);
     assert_eq!(rt; Behavior::default(), Behavior::Stdio);
@@ -142,13 +157,13 @@ fn setters_of_both_types(rt: HostRuntime) -> Result<(), Fail> {
         ";
     let mut config = Config::default();
     set_all(&mut config)?;
-    answers(&rt, &config, ALL_SET)?;
-    answers(&rt, &config, behind)?;
+    answers(rt.alloc(), &config, ALL_SET)?;
+    answers(rt.alloc(), &config, behind)?;
     let mut builder = Builder::default();
     set_all(&mut builder)?;
     let config = builder.build();
-    answers(&rt, &config, ALL_SET)?;
-    answers(&rt, &config, behind)
+    answers(rt.alloc(), &config, ALL_SET)?;
+    answers(rt.alloc(), &config, behind)
 }
 
 /// A builder with every call made.
@@ -180,12 +195,12 @@ fn built() -> Result<Config, ReadlineError> {
 #[test]
 fn calls_of_the_builder(rt: HostRuntime) -> Result<(), Fail> {
     let config = built()?;
-    answers(&rt, &config, ALL_SET)?;
+    answers(rt.alloc(), &config, ALL_SET)?;
     let behind = "
         behavior = PreferTerm
         enable_synchronized_output = true
         ";
-    answers(&rt, &config, behind)
+    answers(rt.alloc(), &config, behind)
 }
 
 #[test]
@@ -196,9 +211,26 @@ fn timeouts_of_the_modes(rt: HostRuntime) {
     assert_eq!(rt; config.keyseq_timeout(), None);
 }
 
+/// Refusals, each of which a row names.
+#[derive(Clone, Copy, Drop)]
+struct Refusals {
+    left: &'static [ReadlineError],
+}
+
+impl Player for Refusals {
+    fn play(&mut self, alloc: Global, name: &str) -> Result<String, Fail> {
+        let (refusal, left) = self.left.split_first().ok_or("no refusal is left")?;
+        self.left = left;
+        if shown(alloc, *refusal)?.as_str() != name {
+            return Err(Fail::new("another refusal"));
+        }
+        Ok(format!(in alloc; "{refusal}")?)
+    }
+}
+
 #[test]
 fn texts_of_refusals(rt: HostRuntime) -> Result<(), Fail> {
-    let refusals = [
+    let left: &'static [ReadlineError] = &[
         ReadlineError::Eof,
         ReadlineError::Interrupted,
         ReadlineError::NotUtf8,
@@ -211,7 +243,8 @@ fn texts_of_refusals(rt: HostRuntime) -> Result<(), Fail> {
         ReadlineError::Handler,
         ReadlineError::Memory,
     ];
-    let rows = "Eof = EOF
+    let rows = "
+        Eof = EOF
         Interrupted = Interrupted
         NotUtf8 = input is not UTF-8
         PasteOutOfPlace = paste out of place
@@ -221,12 +254,9 @@ fn texts_of_refusals(rt: HostRuntime) -> Result<(), Fail> {
         HistoryText = history text failed
         Helper = helper failed
         Handler = handler failed
-        Memory = out of memory";
-    for (refusal, row) in refusals.into_iter().zip(rows.lines()) {
-        let shown = format!(in rt.alloc(); "{refusal:?} = {refusal}")?;
-        assert_eq!(rt; shown.as_str(), row.trim());
-    }
-    Ok(())
+        Memory = out of memory
+        ";
+    rows_hold(rt.alloc(), &mut Refusals { left }, rows)
 }
 
 #[test]

@@ -1,14 +1,14 @@
 //! Brackets: their matches, the line that shows one, and what validation says of them. A bar marks a place in a line.
 
-use crate::rows::{Player, rows_hold, trimmed};
 use line_config::{CompletionType, HookFault};
 use line_help::{
     Highlighter, MatchingBracketHighlighter, MatchingBracketValidator, ValidationContext,
     ValidationResult, Validator, check_bracket, find_matching_bracket, validate_brackets,
 };
 use line_keys::CmdKind;
+use stand_ins::rows::{Player, rows_hold, trimmed};
 use stand_ins::tables::{line_and_place, marked, meant, pictured, word_and_rest};
-use std::alloc::Global;
+use std::alloc::{AllocError, Global};
 use std::test::Fail;
 
 // A bracket and the line that it stands in; the bracket that matches it, and where.
@@ -53,17 +53,13 @@ const AT_THE_CURSOR: &str = "
 ";
 
 // A bracket that was found in a line, and where.
-fn place_told(alloc: Global, line: &str, found: Option<(u8, usize)>) -> Result<String, Fail> {
-    let mut said = String::new(alloc);
-    match found {
-        Some((bracket, place)) => {
-            let bracket = char::from(bracket);
-            let place = marked(alloc, line, place)?;
-            write!(said, "{bracket} {place}")?;
-        }
-        None => said.push_str("none")?,
-    }
-    Ok(said)
+fn place_told(alloc: Global, line: &str, found: Option<(u8, usize)>) -> Result<String, AllocError> {
+    let Some((bracket, place)) = found else {
+        return String::from_str(alloc, "none");
+    };
+    let bracket = char::from(bracket);
+    let place = marked(alloc, line, place)?;
+    format!(in alloc; "{bracket} {place}")
 }
 
 /// What the rows of a table ask.
@@ -79,15 +75,15 @@ enum Ask {
 impl Player for Ask {
     fn play(&mut self, alloc: Global, call: &str) -> Result<String, Fail> {
         match self {
-            Ask::Match => match_told(alloc, call),
-            Ask::AtTheCursor => bracket_at_the_cursor(alloc, call),
-            _ => validated(alloc, *self, call),
+            Ask::Match => Ok(match_told(alloc, call)?),
+            Ask::AtTheCursor => Ok(bracket_at_the_cursor(alloc, call)?),
+            _ => Ok(validated(alloc, *self, call)?),
         }
     }
 }
 
 // The bracket that matches a row's.
-fn match_told(alloc: Global, call: &str) -> Result<String, Fail> {
+fn match_told(alloc: Global, call: &str) -> Result<String, AllocError> {
     let (bracket, line) = word_and_rest(call);
     let bracket = bracket.bytes().next().unwrap_or(b' ');
     let (line, place) = line_and_place(alloc, line)?;
@@ -96,19 +92,19 @@ fn match_told(alloc: Global, call: &str) -> Result<String, Fail> {
 }
 
 // The bracket at the cursor of a row's line, or before it.
-fn bracket_at_the_cursor(alloc: Global, line: &str) -> Result<String, Fail> {
+fn bracket_at_the_cursor(alloc: Global, line: &str) -> Result<String, AllocError> {
     let (line, place) = line_and_place(alloc, line)?;
     place_told(alloc, line.as_str(), check_bracket(line.as_str(), place))
 }
 
 #[test]
 fn matches_of_brackets(rt: HostRuntime) -> Result<(), Fail> {
-    rows_hold(&rt, &mut Ask::Match, MATCHES)
+    rows_hold(rt.alloc(), &mut Ask::Match, MATCHES)
 }
 
 #[test]
 fn brackets_at_the_cursor(rt: HostRuntime) -> Result<(), Fail> {
-    rows_hold(&rt, &mut Ask::AtTheCursor, AT_THE_CURSOR)
+    rows_hold(rt.alloc(), &mut Ask::AtTheCursor, AT_THE_CURSOR)
 }
 
 // What a highlighter is told of a line before it is drawn, whether it marks something in it, and the line as it is drawn.
@@ -181,20 +177,40 @@ struct Asked<H> {
     highlighter: H,
 }
 
+impl<H: Highlighter> Asked<H> {
+    // Whether the highlighter says that it marks something, where the call tells it of a line.
+    fn marks(&mut self, call: &str, line: &str, place: usize) -> &'static str {
+        let Some(kind) = kind_of(call) else {
+            return "";
+        };
+        if self.highlighter.highlight_char(line, place, kind) {
+            "marks "
+        } else {
+            "leaves "
+        }
+    }
+
+    fn answer(
+        &mut self,
+        alloc: Global,
+        call: &str,
+        line: &str,
+        place: usize,
+    ) -> Result<String, Fail> {
+        let marks = self.marks(call, line, place);
+        if matches!(call, "told" | "denied") {
+            return trimmed(alloc, marks);
+        }
+        let shown = shown(alloc, &self.highlighter, call, line, place)?;
+        trimmed(alloc, format!(in alloc; "{marks}{shown}")?.as_str())
+    }
+}
+
 impl<H: Highlighter> Player for Asked<H> {
     fn play(&mut self, alloc: Global, call: &str) -> Result<String, Fail> {
         let (call, line) = word_and_rest(call);
         let (line, place) = line_and_place(alloc, line)?;
-        let mut said = String::new(alloc);
-        if let Some(kind) = kind_of(call) {
-            let marks = self.highlighter.highlight_char(line.as_str(), place, kind);
-            said.push_str(if marks { "marks " } else { "leaves " })?;
-        }
-        if call != "told" && call != "denied" {
-            let shown = shown(alloc, &self.highlighter, call, line.as_str(), place)?;
-            said.push_str(shown.as_str())?;
-        }
-        trimmed(alloc, said.as_str())
+        self.answer(alloc, call, line.as_str(), place)
     }
 }
 
@@ -206,11 +222,11 @@ fn for_brackets() -> Asked<MatchingBracketHighlighter> {
 
 #[test]
 fn texts_highlighted(rt: HostRuntime) -> Result<(), Fail> {
-    rows_hold(&rt, &mut for_brackets(), LINES)?;
-    rows_hold(&rt, &mut for_brackets(), KEPT_BRACKETS)?;
-    rows_hold(&rt, &mut for_brackets(), OTHER_TEXTS)?;
+    rows_hold(rt.alloc(), &mut for_brackets(), LINES)?;
+    rows_hold(rt.alloc(), &mut for_brackets(), KEPT_BRACKETS)?;
+    rows_hold(rt.alloc(), &mut for_brackets(), OTHER_TEXTS)?;
     let highlighter = Box::new(rt.alloc(), ())?;
-    rows_hold(&rt, &mut Asked { highlighter }, NOTHING_HIGHLIGHTED)
+    rows_hold(rt.alloc(), &mut Asked { highlighter }, NOTHING_HIGHLIGHTED)
 }
 
 const VERDICTS: &str = "
@@ -231,49 +247,58 @@ const VERDICTS: &str = "
     (a␊b)       = valid
 ";
 
-// What a validator finds of a text, in words.
-fn verdict_told(alloc: Global, found: &ValidationResult) -> Result<String, Fail> {
-    let message = match found {
-        ValidationResult::Invalid(message) | ValidationResult::Valid(message) => message.as_ref(),
-        ValidationResult::Incomplete => None,
-    };
-    let mut said = String::new(alloc);
-    let word = match found {
+// What a validator finds of a text, in a word.
+fn verdict_word(found: &ValidationResult) -> &'static str {
+    match found {
         ValidationResult::Incomplete => "incomplete",
         _ if found.is_valid() => "valid",
         _ => "invalid",
-    };
-    said.push_str(word)?;
-    if found.has_message() {
-        said.push_str(", for ")?;
     }
-    if let Some(message) = message {
-        said.push_str(message.as_str())?;
+}
+
+fn message_of(found: &ValidationResult) -> &str {
+    match found {
+        ValidationResult::Invalid(Some(message)) | ValidationResult::Valid(Some(message)) => {
+            message.as_str()
+        }
+        _ => "",
     }
-    Ok(said)
+}
+
+// What a validator finds of a text, in words.
+fn verdict_told(alloc: Global, found: &ValidationResult) -> Result<String, AllocError> {
+    let (word, message) = (verdict_word(found), message_of(found));
+    let mark = if found.has_message() { ", for " } else { "" };
+    format!(in alloc; "{word}{mark}{message}")
 }
 
 // What a validator says of a text.
-fn said_by<V: Validator>(alloc: Global, validator: &V, text: &str) -> Result<String, Fail> {
+fn said_by<V: Validator>(alloc: Global, validator: &V, text: &str) -> Result<String, HookFault> {
     let found = validator.validate(alloc, &ValidationContext::new(text))?;
-    verdict_told(alloc, &found)
+    Ok(verdict_told(alloc, &found)?)
+}
+
+// What is said of it by the function alone.
+fn function_told(alloc: Global, text: &str) -> Result<String, HookFault> {
+    let found = validate_brackets(alloc, text)?;
+    Ok(verdict_told(alloc, &found)?)
 }
 
 // What is said of a row's text, by a validator or by the function alone.
-fn validated(alloc: Global, ask: Ask, text: &str) -> Result<String, Fail> {
+fn validated(alloc: Global, ask: Ask, text: &str) -> Result<String, HookFault> {
     let text = meant(alloc, text)?;
     match ask {
         Ask::Validator => said_by(alloc, &MatchingBracketValidator::new(), text.as_str()),
         Ask::NoValidator => said_by(alloc, &(), text.as_str()),
-        _ => verdict_told(alloc, &validate_brackets(alloc, text.as_str())?),
+        _ => function_told(alloc, text.as_str()),
     }
 }
 
 #[test]
 fn texts_validated(rt: HostRuntime) -> Result<(), Fail> {
-    rows_hold(&rt, &mut Ask::Brackets, VERDICTS)?;
-    rows_hold(&rt, &mut Ask::Validator, VERDICTS)?;
-    rows_hold(&rt, &mut Ask::NoValidator, "    ( = valid")
+    rows_hold(rt.alloc(), &mut Ask::Brackets, VERDICTS)?;
+    rows_hold(rt.alloc(), &mut Ask::Validator, VERDICTS)?;
+    rows_hold(rt.alloc(), &mut Ask::NoValidator, "    ( = valid")
 }
 
 #[test]

@@ -3,16 +3,16 @@ ghost use Rattle.std.specs.Prelude.{◌≡◌, List, ℕ, [], true, false, map, 
 ghost use Rattle.line_config.specs.declared.errors.HookFault.TheVariants.{Memory};
 ghost use Rattle.line_help.specs.FileNames.{Named};
 
-use crate::rows::{Player, rows_hold, trimmed};
 use line_buffer::{LineBuffer, NoListener};
 use line_config::HookFault;
 use line_help::{
     Candidate, Completer, Context, FilenameCompleter, Listed, Lister, MemHistory, Pair, Quote,
     escape, extract_word, longest_common_prefix, unescape,
 };
-use stand_ins::tables::{call_and_answer, line_and_place, marked, meant, word_and_rest};
-use std::alloc::Global;
-use std::process::Abort;
+use stand_ins::lines::{line_of, shown_of};
+use stand_ins::rows::{Player, rows_hold, trimmed};
+use stand_ins::tables::{line_and_place, marked, meant, word_and_rest};
+use std::alloc::{AllocError, Global};
 use std::test::Fail;
 
 /// Whether a character ends a word, as the completer of file names sees it.
@@ -92,7 +92,7 @@ fn told<C: Candidate>(
     line: &str,
     start: usize,
     candidates: &[C],
-) -> Result<String, Fail> {
+) -> Result<String, AllocError> {
     let mut said = marked(alloc, line, start)?;
     for candidate in candidates {
         let (display, replacement) = (candidate.display(), candidate.replacement());
@@ -117,18 +117,18 @@ impl Player for PathCompleter {
                 .complete_path_unsorted(alloc, line, line.len()),
         };
         let (start, pairs) = found?;
-        told(alloc, line, start, &pairs)
+        Ok(told(alloc, line, start, &pairs)?)
     }
 }
 
 fn completes_paths(
-    rt: &(impl AllocGlobal + Abort),
+    alloc: Global,
     path: &'static str,
     names: &'static [(&'static str, bool)],
     table: &str,
 ) -> Result<(), Fail> {
     let completer = FilenameCompleter::new(Folder { path, names });
-    rows_hold(rt, &mut PathCompleter { completer }, table)
+    rows_hold(alloc, &mut PathCompleter { completer }, table)
 }
 
 const IN_USR: &str = r#"
@@ -164,7 +164,7 @@ fn paths(rt: HostRuntime) -> Result<(), Fail> {
         ("été", true),
         ("a\"$b`\\'", false),
     ];
-    completes_paths(&rt, "/usr/", in_usr, IN_USR)?;
+    completes_paths(rt.alloc(), "/usr/", in_usr, IN_USR)?;
     let here: &'static [(&'static str, bool)] = &[
         ("b", false),
         ("a", true),
@@ -172,58 +172,101 @@ fn paths(rt: HostRuntime) -> Result<(), Fail> {
         ("a", false),
         ("", true),
     ];
-    completes_paths(&rt, "", here, IN_ORDER)?;
-    completes_paths(&rt, "~/", &[], "    sorted ~/ = |~/")
+    completes_paths(rt.alloc(), "", here, IN_ORDER)?;
+    completes_paths(rt.alloc(), "~/", &[], "    sorted ~/ = |~/")
 }
 
-// What a completer answers to a line with the cursor, and what all its candidates begin with.
-fn completed<C: Completer>(
-    rt: &(impl AllocGlobal + Abort),
-    completer: &C,
+// Candidates for a line, and what all of them begin with.
+fn offer_told<C: Candidate>(
+    alloc: Global,
     line: &str,
-) -> Result<String, Fail> {
-    let history = MemHistory::new(rt.alloc());
-    let (line, pos) = line_and_place(rt.alloc(), line)?;
-    let line = line.as_str();
-    assert!(rt; line.is_char_boundary(pos));
-    match completer.complete(rt.alloc(), line, pos, &Context::new(&history)) {
-        Ok((start, found)) => {
-            let mut said = told(rt.alloc(), line, start, &found)?;
-            if let Some(prefix) = longest_common_prefix(&found) {
-                write!(said, ", all with {prefix}")?;
-            }
-            Ok(said)
-        }
-        Err(fault) => Ok(format!(in rt.alloc(); "{fault:?}")?),
+    start: usize,
+    candidates: &[C],
+) -> Result<String, AllocError> {
+    let mut said = told(alloc, line, start, candidates)?;
+    if let Some(prefix) = longest_common_prefix(candidates) {
+        write!(said, ", all with {prefix}")?;
     }
+    Ok(said)
+}
+
+// An answer of a completer.
+fn answer_told<C: Candidate>(
+    alloc: Global,
+    line: &str,
+    answer: Result<(usize, Vec<C>), HookFault>,
+) -> Result<String, AllocError> {
+    match answer {
+        Ok((start, found)) => offer_told(alloc, line, start, &found),
+        Err(fault) => format!(in alloc; "{fault:?}"),
+    }
+}
+
+// What a completer answers to a line with the cursor.
+fn completed<C: Completer>(alloc: Global, completer: &C, line: &str) -> Result<String, Fail> {
+    let history = MemHistory::new(alloc);
+    let (line, pos) = line_and_place(alloc, line)?;
+    let line = line.as_str();
+    if !line.is_char_boundary(pos) {
+        return Err(Fail::new("no place for a cursor"));
+    }
+    let answer = completer.complete(alloc, line, pos, &Context::new(&history));
+    Ok(answer_told(alloc, line, answer)?)
+}
+
+const COMPLETERS: &str = "
+    broken cat lo|      = Failed
+    boxed cat lo|       = cat |lo; local→local/; log→log, all with lo
+    none ca|t lo        = |cat lo
+";
+
+/// A completer by its name: one whose lister fails, one in a box, and the one that has nothing.
+#[derive(Drop)]
+struct ByName;
+
+impl Player for ByName {
+    fn play(&mut self, alloc: Global, call: &str) -> Result<String, Fail> {
+        let (name, line) = word_and_rest(call);
+        match name {
+            "broken" => completed(alloc, &FilenameCompleter::new(Broken), line),
+            "boxed" => boxed_completed(alloc, line),
+            _ => completed(alloc, &(), line),
+        }
+    }
+}
+
+fn of_two_names() -> FilenameCompleter<Folder> {
+    let names: &'static [(&'static str, bool)] = &[("log", false), ("local", true)];
+    FilenameCompleter::new(Folder { path: "", names })
+}
+
+fn boxed_completed(alloc: Global, line: &str) -> Result<String, Fail> {
+    let completer = Box::new(alloc, of_two_names())?;
+    completed(alloc, &completer, line)
 }
 
 #[test]
 fn completers(rt: HostRuntime) -> Result<(), Fail> {
-    let failed = completed(&rt, &FilenameCompleter::new(Broken), "cat lo|")?;
-    assert_eq!(rt; failed.as_str(), "Failed");
-    let names: &'static [(&'static str, bool)] = &[("log", false), ("local", true)];
-    let completer = FilenameCompleter::new(Folder { path: "", names });
-    let found = completed(&rt, &Box::new(rt.alloc(), completer)?, "cat lo|")?;
-    assert_eq!(rt;
-        found.as_str(),
-        "cat |lo; local→local/; log→log, all with lo"
-    );
-    let none = completed(&rt, &(), "ca|t lo")?;
-    assert_eq!(rt; none.as_str(), "|cat lo");
-    Ok(())
+    rows_hold(rt.alloc(), &mut ByName, COMPLETERS)
+}
+
+fn copied(alloc: Global, pairs: &[Pair]) -> Result<Vec<Pair>, HookFault> {
+    let mut copies = Vec::new(alloc);
+    for pair in pairs {
+        copies.push(pair.try_clone(alloc)?)?;
+    }
+    Ok(copies)
+}
+
+fn copies_told(alloc: Global) -> Result<String, HookFault> {
+    let (start, pairs) = of_two_names().complete_path(alloc, "lo", 2)?;
+    let copies = copied(alloc, &pairs)?;
+    Ok(told(alloc, "lo", start, &copies)?)
 }
 
 #[test]
 fn candidates_copied(rt: HostRuntime) -> Result<(), Fail> {
-    let names: &'static [(&'static str, bool)] = &[("log", false), ("local", true)];
-    let completer = FilenameCompleter::new(Folder { path: "", names });
-    let (_, pairs) = completer.complete_path(rt.alloc(), "lo", 2)?;
-    let mut copies: Vec<Pair> = Vec::new(rt.alloc());
-    for pair in &pairs {
-        copies.push(pair.try_clone(rt.alloc())?)?;
-    }
-    let said = told(rt.alloc(), "lo", 0, &copies)?;
+    let said = copies_told(rt.alloc())?;
     assert_eq!(rt; said.as_str(), "|lo; local→local/; log→log");
     Ok(())
 }
@@ -235,45 +278,50 @@ const UPDATES: &str = "
     cat [| x : été    = cat été| x
 ";
 
-// A line with the cursor at a place.
-fn line_of(rt: &(impl AllocGlobal + Abort), text: &str, pos: usize) -> Result<LineBuffer, Fail> {
-    let mut line = LineBuffer::with_capacity(rt.alloc(), 64)?.can_growth(true);
-    line.replace(rt.alloc(), 0..0, text, &mut NoListener)?;
-    assert!(rt; line.as_str().is_char_boundary(pos));
-    line.set_pos(pos);
-    Ok(line)
+/// A completer in a box.
+#[derive(Drop)]
+struct Updater {
+    completer: Box<()>,
 }
 
-// The line after an update, with its cursor.
-fn updated<C: Completer>(
-    rt: &(impl AllocGlobal + Abort),
-    completer: &C,
-    text: &str,
-    elected: &str,
-) -> Result<String, Fail> {
-    let (front, behind) = text.split_once('[').unwrap_or(("", text));
-    let start = front.len();
-    let (text, pos) = line_and_place(
-        rt.alloc(),
-        format!(in rt.alloc(); "{front}{behind}")?.as_str(),
-    )?;
-    let mut line = line_of(rt, text.as_str(), pos)?;
-    assert!(rt; start <= line.pos() && line.as_str().is_char_boundary(start));
-    completer.update(rt.alloc(), &mut line, start, elected, &mut NoListener)?;
-    Ok(marked(rt.alloc(), line.as_str(), line.pos())?)
+impl Updater {
+    // Replaces the text from a place to the cursor.
+    fn update(
+        &self,
+        alloc: Global,
+        line: &mut LineBuffer,
+        start: usize,
+        elected: &str,
+    ) -> Result<(), Fail> {
+        if start > line.pos() || !line.as_str().is_char_boundary(start) {
+            return Err(Fail::new("no place to begin at"));
+        }
+        self.completer
+            .update(alloc, line, start, elected, &mut NoListener)?;
+        Ok(())
+    }
+
+    // The line after an update, with its cursor.
+    fn updated(&self, alloc: Global, text: &str, elected: &str) -> Result<String, Fail> {
+        let (front, behind) = text.split_once('[').unwrap_or(("", text));
+        let text = format!(in alloc; "{front}{behind}")?;
+        let mut line = line_of(alloc, text.as_str())?;
+        self.update(alloc, &mut line, front.len(), elected)?;
+        Ok(shown_of(alloc, &line)?)
+    }
+}
+
+impl Player for Updater {
+    fn play(&mut self, alloc: Global, call: &str) -> Result<String, Fail> {
+        let (line, elected) = call.split_once(':').unwrap_or((call, ""));
+        self.updated(alloc, line.trim(), elected.trim())
+    }
 }
 
 #[test]
 fn updates(rt: HostRuntime) -> Result<(), Fail> {
     let completer = Box::new(rt.alloc(), ())?;
-    for row in UPDATES.lines() {
-        if let Some((call, answer)) = call_and_answer(row) {
-            let (line, elected) = call.split_once(':').unwrap_or((call, ""));
-            let said = updated(&rt, &completer, line.trim(), elected.trim())?;
-            assert_eq!(rt; said.as_str(), answer, "{row}");
-        }
-    }
-    Ok(())
+    rows_hold(rt.alloc(), &mut Updater { completer }, UPDATES)
 }
 
 // Where the last word of a line begins, and the word; a text escaped, bare or in quotes; and unescaped. The character that
@@ -305,21 +353,31 @@ const WORDS: &str = r#"
     unescape é aébé                 = ab
 "#;
 
-// What a call makes of a text.
-fn made(alloc: Global, call: &str, esc: Option<char>, text: &str) -> Result<String, Fail> {
-    let quote = match call {
-        "word" => {
-            let (start, word) = extract_word(text, text.len(), esc, ends_word);
-            let line = marked(alloc, text, start)?;
-            return Ok(format!(in alloc; "{line}; {word}")?);
-        }
-        "unescape" => return Ok(unescape(alloc, text, esc)?.into_owned(alloc)?),
+// Where the last word of a text begins, and the word.
+fn word_told(alloc: Global, esc: Option<char>, text: &str) -> Result<String, AllocError> {
+    let (start, word) = extract_word(text, text.len(), esc, ends_word);
+    let line = marked(alloc, text, start)?;
+    format!(in alloc; "{line}; {word}")
+}
+
+fn quote_of(call: &str) -> Quote {
+    match call {
         "double" => Quote::Double,
         "single" => Quote::Single,
         _ => Quote::None,
-    };
-    let input = String::from_str(alloc, text)?;
-    Ok(escape(alloc, input, esc, ends_word, quote)?)
+    }
+}
+
+// What a call makes of a text.
+fn made(alloc: Global, call: &str, esc: Option<char>, text: &str) -> Result<String, HookFault> {
+    match call {
+        "word" => Ok(word_told(alloc, esc, text)?),
+        "unescape" => Ok(unescape(alloc, text, esc)?.into_owned(alloc)?),
+        _ => {
+            let input = String::from_str(alloc, text)?;
+            escape(alloc, input, esc, ends_word, quote_of(call))
+        }
+    }
 }
 
 /// What the rows of a table ask.
@@ -333,7 +391,7 @@ impl Player for Ask {
     fn play(&mut self, alloc: Global, call: &str) -> Result<String, Fail> {
         match self {
             Ask::Words => made_of_row(alloc, call),
-            Ask::CommonPrefixes => common_prefix(alloc, call),
+            Ask::CommonPrefixes => Ok(common_prefix(alloc, call)?),
         }
     }
 }
@@ -353,7 +411,7 @@ fn made_of_row(alloc: Global, call: &str) -> Result<String, Fail> {
 
 #[test]
 fn words_and_escapes(rt: HostRuntime) -> Result<(), Fail> {
-    rows_hold(&rt, &mut Ask::Words, WORDS)
+    rows_hold(rt.alloc(), &mut Ask::Words, WORDS)
 }
 
 // Candidates, with a semicolon after each, and what all of them begin with.
@@ -368,18 +426,23 @@ const COMMON_PREFIXES: &str = "
     漢字b; 漢字ab; 漢字a;      = 漢字
 ";
 
-// What a row's candidates begin with.
-fn common_prefix(alloc: Global, texts: &str) -> Result<String, Fail> {
-    let mut candidates: Vec<&str> = Vec::new(alloc);
+fn trimmed_parts(alloc: Global, texts: &str) -> Result<Vec<&str>, AllocError> {
+    let mut parts = Vec::new(alloc);
     for text in texts.split_terminator(';') {
-        candidates.push(text.trim())?;
+        parts.push(text.trim())?;
     }
+    Ok(parts)
+}
+
+// What a row's candidates begin with.
+fn common_prefix(alloc: Global, texts: &str) -> Result<String, AllocError> {
+    let candidates = trimmed_parts(alloc, texts)?;
     let prefix = longest_common_prefix(&candidates).unwrap_or("none");
-    Ok(String::from_str(alloc, prefix)?)
+    String::from_str(alloc, prefix)
 }
 
 #[test]
 fn common_prefixes(rt: HostRuntime) -> Result<(), Fail> {
     assert_eq!(rt; "text".display(), "text");
-    rows_hold(&rt, &mut Ask::CommonPrefixes, COMMON_PREFIXES)
+    rows_hold(rt.alloc(), &mut Ask::CommonPrefixes, COMMON_PREFIXES)
 }

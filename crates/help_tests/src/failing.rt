@@ -1,11 +1,11 @@
 //! Devices that fail at each byte in turn, and what a history is then.
 
-use crate::history::{answer_told, entries, saved, with_lines};
-use crate::rows::{Player, rows_hold};
+use crate::history::{add_lines, answer_told, entries, saved, with_lines};
 use line_config::{Config, DeviceFailed, ReadlineError, Sink, SliceSource, Source, VecSink};
 use line_help::{FileHistory, History};
+use stand_ins::rows::{Player, rows_hold};
 use stand_ins::tables::{meant_bytes, or_nothing, pictured_bytes, word_and_rest};
-use std::alloc::Global;
+use std::alloc::{AllocError, Global};
 use std::test::Fail;
 
 /// A sink that has room for so many bytes and one flush, which takes the place of a byte.
@@ -133,7 +133,7 @@ fn refused(
     alloc: Global,
     history: &mut FileHistory,
     source: &mut SliceSource<'_>,
-) -> Result<String, Fail> {
+) -> Result<String, AllocError> {
     let answer = answer_told(history.load_from(alloc, source));
     let entries = entries(alloc, history)?;
     let failed = if source.failed() {
@@ -141,28 +141,41 @@ fn refused(
     } else {
         " at no failure"
     };
-    Ok(format!(in alloc; "{answer}{failed} {entries}")?)
+    format!(in alloc; "{answer}{failed} {entries}")
 }
 
-// What a history answers twice to a source that fails after these bytes, and what of its entries is new.
+// What a history answers twice to a source that fails after these bytes.
+fn twice_refused(
+    alloc: Global,
+    history: &mut FileHistory,
+    bytes: &[u8],
+) -> Result<String, AllocError> {
+    let mut source = SliceSource::failing_after(bytes);
+    let first = refused(alloc, history, &mut source)?;
+    let second = refused(alloc, history, &mut source)?;
+    if first == second {
+        return Ok(first);
+    }
+    format!(in alloc; "{first}, then {second}")
+}
+
+// What of a history is written now.
+fn written(alloc: Global, way: Way, history: &mut FileHistory) -> Result<String, AllocError> {
+    let mut sink = VecSink::new(alloc);
+    let _ = write_to(way, history, &mut sink);
+    pictured_bytes(alloc, sink.bytes())
+}
+
+// The same answers, and what of the history's entries is new then.
 fn after_failing_source(
     alloc: Global,
     history: &mut FileHistory,
     bytes: &[u8],
-) -> Result<String, Fail> {
-    let mut source = SliceSource::failing_after(bytes);
-    let mut said = refused(alloc, history, &mut source)?;
-    let second = refused(alloc, history, &mut source)?;
-    if second != said {
-        write!(said, ", then {second}")?;
-    }
-    let mut sink = VecSink::new(alloc);
-    history.append_to(&mut sink)?;
-    let new = pictured_bytes(alloc, sink.bytes())?;
-    if !new.is_empty() {
-        write!(said, ", new {new}")?;
-    }
-    Ok(said)
+) -> Result<String, AllocError> {
+    let said = twice_refused(alloc, history, bytes)?;
+    let new = written(alloc, Way::Append, history)?;
+    let mark = if new.is_empty() { "" } else { ", new " };
+    format!(in alloc; "{said}{mark}{new}")
 }
 
 /// Sources that fail after each row's bytes.
@@ -174,13 +187,13 @@ impl Player for CutTexts {
         let mut history = with_lines(alloc, "old|")?;
         let _ = saved(alloc, &mut history)?;
         let bytes = meant_bytes(alloc, text)?;
-        after_failing_source(alloc, &mut history, &bytes)
+        Ok(after_failing_source(alloc, &mut history, &bytes)?)
     }
 }
 
 #[test]
 fn sources_that_fail_at_each_byte(rt: HostRuntime) -> Result<(), Fail> {
-    rows_hold(&rt, &mut CutTexts, CUT_TEXTS)
+    rows_hold(rt.alloc(), &mut CutTexts, CUT_TEXTS)
 }
 
 /// A row that isn't UTF-8 is met before the failure after it.
@@ -188,12 +201,8 @@ fn sources_that_fail_at_each_byte(rt: HostRuntime) -> Result<(), Fail> {
 fn bad_rows_before_a_failure(rt: HostRuntime) -> Result<(), Fail> {
     let mut history = FileHistory::new(rt.alloc());
     let mut source = SliceSource::failing_after(b"a\n\xff\nb");
-    assert_eq!(rt;
-        answer_told(history.load_from(rt.alloc(), &mut source)),
-        "HistoryText"
-    );
-    assert!(rt; !source.failed());
-    assert_eq!(rt; entries(rt.alloc(), &history)?.as_str(), "a|");
+    let said = refused(rt.alloc(), &mut history, &mut source)?;
+    assert_eq!(rt; said.as_str(), "HistoryText at no failure a|");
     Ok(())
 }
 
@@ -247,6 +256,20 @@ fn write_to<S: Sink>(way: Way, history: &mut FileHistory, sink: &mut S) -> &'sta
     }
 }
 
+// What a sink with so much room answers twice.
+fn answers(
+    way: Way,
+    history: &mut FileHistory,
+    room: usize,
+) -> Result<(&'static str, &'static str), Fail> {
+    let mut sink = Narrow::new(room);
+    let first = write_to(way, history, &mut sink);
+    if sink.failed() == (first == "fine") {
+        return Err(Fail::new("a sink's failure is answered, and nothing else"));
+    }
+    Ok((first, write_to(way, history, &mut sink)))
+}
+
 // What happens with so much room.
 fn with_room(
     alloc: Global,
@@ -254,31 +277,26 @@ fn with_room(
     history: &mut FileHistory,
     room: usize,
 ) -> Result<String, Fail> {
-    let mut sink = Narrow::new(room);
-    let first = write_to(way, history, &mut sink);
-    if sink.failed() == (first == "fine") {
-        return Err(Fail::new("a sink's failure is answered, and nothing else"));
-    }
-    let second = write_to(way, history, &mut sink);
+    let (first, second) = answers(way, history, room)?;
     let entries = entries(alloc, history)?;
-    let mut rest = VecSink::new(alloc);
-    let _ = write_to(way, history, &mut rest);
-    let rest = pictured_bytes(alloc, rest.bytes())?;
+    let rest = written(alloc, way, history)?;
     let rest = or_nothing(rest.as_str());
     Ok(format!(in alloc; "{first}, {second}, {entries}, {rest}")?)
 }
 
+// A history with a text that is saved, and entries that are to be added to it.
+fn to_be_appended(alloc: Global) -> Result<FileHistory, ReadlineError> {
+    let mut history = with_lines(alloc, "a|")?;
+    let _ = saved(alloc, &mut history)?;
+    add_lines(alloc, &mut history, "b␊|c|")?;
+    Ok(history)
+}
+
 // A history with entries that are to be written.
-fn to_be_written(alloc: Global, way: Way) -> Result<FileHistory, Fail> {
+fn to_be_written(alloc: Global, way: Way) -> Result<FileHistory, ReadlineError> {
     match way {
         Way::Save => with_lines(alloc, r"a\|b␊|"),
-        Way::Append => {
-            let mut history = with_lines(alloc, "a|")?;
-            let _ = saved(alloc, &mut history)?;
-            history.add(alloc, "b\n")?;
-            history.add(alloc, "c")?;
-            Ok(history)
-        }
+        Way::Append => to_be_appended(alloc),
     }
 }
 
@@ -291,8 +309,8 @@ impl Player for Way {
 
 #[test]
 fn sinks_that_fail_at_each_byte(rt: HostRuntime) -> Result<(), Fail> {
-    rows_hold(&rt, &mut Way::Save, SAVES)?;
-    rows_hold(&rt, &mut Way::Append, ADDITIONS)
+    rows_hold(rt.alloc(), &mut Way::Save, SAVES)?;
+    rows_hold(rt.alloc(), &mut Way::Append, ADDITIONS)
 }
 
 /// A sink that has failed isn't asked where nothing is new.
@@ -356,5 +374,5 @@ impl Player for Desk {
 fn rows_are_passed_on_at_their_end(rt: HostRuntime) -> Result<(), Fail> {
     let history = FileHistory::new(rt.alloc());
     let sink = Barred::new(rt.alloc());
-    rows_hold(&rt, &mut Desk { history, sink }, PASSED_ON)
+    rows_hold(rt.alloc(), &mut Desk { history, sink }, PASSED_ON)
 }

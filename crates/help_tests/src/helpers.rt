@@ -5,7 +5,6 @@ ghost use Rattle.line_help.specs.Completion.{nothing_offered};
 ghost use Rattle.line_config.specs.declared.errors.HookFault.{HookFault};
 ghost use Rattle.line_help.specs.declared.validate.ValidationResult.TheVariants.{Valid};
 
-use crate::rows::{Player, rows_hold};
 use line_buffer::{ChangeListener, LineBuffer};
 use line_config::{CompletionType, HookFault};
 use line_help::{
@@ -14,10 +13,10 @@ use line_help::{
     ValidationResult, Validator,
 };
 use line_keys::CmdKind;
+use stand_ins::rows::{Player, rows_hold};
 use stand_ins::tables::{meant, pictured, word_and_rest};
-use std::alloc::Global;
+use std::alloc::{AllocError, Global};
 use std::borrow::CowStr;
-use std::process::Abort;
 use std::test::Fail;
 
 /// Hints from the history, brackets shown and validated, and no candidates.
@@ -305,6 +304,12 @@ fn verdict_after_drawing<H: Helper>(
     helper.validate(alloc, &ValidationContext::new(line))
 }
 
+// A text with pictures, in quotes.
+fn quoted(alloc: Global, text: &str) -> Result<String, AllocError> {
+    let shown = pictured(alloc, text)?;
+    format!(in alloc; "\"{shown}\"")
+}
+
 // What a helper shows of a text.
 fn drawn<H: Helper>(
     alloc: Global,
@@ -317,26 +322,39 @@ fn drawn<H: Helper>(
         "hint_shown" => helper.highlight_hint(alloc, text),
         _ => helper.highlight(alloc, text, text.len()),
     };
-    let shown = pictured(alloc, shown?.as_str())?;
-    Ok(format!(in alloc; "\"{shown}\"")?)
+    Ok(quoted(alloc, shown?.as_str())?)
 }
 
-// What a helper has for a line with the cursor at its end: a hint, or the number of candidates.
-fn offered<H: Helper>(
+// The hint that a helper has for a line with the cursor at its end.
+fn hinted<H: Helper>(
     alloc: Global,
     helper: &H,
-    call: &str,
     line: &str,
     context: &Context<'_, MemHistory>,
 ) -> Result<String, HookFault> {
-    if call == "hint" {
-        let hint = helper.hint(alloc, line, line.len(), context)?;
-        let hint = hint.as_ref().map_or("none", |hint| hint.display());
-        return Ok(String::from_str(alloc, hint)?);
-    }
+    let hint = match helper.hint(alloc, line, line.len(), context)? {
+        Some(hint) => String::from_str(alloc, hint.display()),
+        None => String::from_str(alloc, "none"),
+    };
+    Ok(hint?)
+}
+
+// The number of candidates that it has.
+fn counted<H: Helper>(
+    alloc: Global,
+    helper: &H,
+    line: &str,
+    context: &Context<'_, MemHistory>,
+) -> Result<String, HookFault> {
     let (_, candidates) = helper.complete(alloc, line, line.len(), context)?;
     let count = candidates.len();
     Ok(format!(in alloc; "{count}")?)
+}
+
+// What it finds of the line.
+fn verdict_told<H: Helper>(alloc: Global, helper: &mut H, line: &str) -> Result<String, HookFault> {
+    let found = verdict_after_drawing(alloc, helper, line)?;
+    Ok(format!(in alloc; "{found:?}")?)
 }
 
 // What a helper answers to a call.
@@ -348,12 +366,18 @@ fn asked<H: Helper>(
     context: &Context<'_, MemHistory>,
 ) -> Result<String, HookFault> {
     match call {
-        "verdict" => {
-            let found = verdict_after_drawing(alloc, helper, text)?;
-            Ok(format!(in alloc; "{found:?}")?)
-        }
-        "hint" | "candidates" => offered(alloc, helper, call, text, context),
+        "verdict" => verdict_told(alloc, helper, text),
+        "hint" => hinted(alloc, helper, text, context),
+        "candidates" => counted(alloc, helper, text, context),
         _ => drawn(alloc, helper, call, text),
+    }
+}
+
+// An answer, or the fault in its place.
+fn answer_told(alloc: Global, answer: Result<String, HookFault>) -> Result<String, AllocError> {
+    match answer {
+        Ok(said) => Ok(said),
+        Err(fault) => format!(in alloc; "{fault:?}"),
     }
 }
 
@@ -369,23 +393,21 @@ impl<H: Helper> Player for Answering<H> {
         let (call, text) = word_and_rest(call);
         let text = meant(alloc, text)?;
         let context = Context::new(&self.history);
-        match asked(alloc, &mut self.helper, call, text.as_str(), &context) {
-            Ok(said) => Ok(said),
-            Err(fault) => Ok(format!(in alloc; "{fault:?}")?),
-        }
+        let answer = asked(alloc, &mut self.helper, call, text.as_str(), &context);
+        Ok(answer_told(alloc, answer)?)
     }
 }
 
 // Asks a helper, with one entry in the history.
 fn answers<H: Helper + Drop>(
-    rt: &(impl AllocGlobal + Abort),
+    alloc: Global,
     helper: H,
     entry: &str,
     table: &str,
 ) -> Result<(), Fail> {
-    let mut history = MemHistory::new(rt.alloc());
-    history.add(rt.alloc(), entry)?;
-    rows_hold(rt, &mut Answering { helper, history }, table)
+    let mut history = MemHistory::new(alloc);
+    history.add(alloc, entry)?;
+    rows_hold(alloc, &mut Answering { helper, history }, table)
 }
 
 fn make_helper() -> Whole {
@@ -429,16 +451,16 @@ const WANTS_MEMORY: &str = "
 
 #[test]
 fn what_helpers_answer(rt: HostRuntime) -> Result<(), Fail> {
-    answers(&rt, make_helper(), "(hello)", EVERYTHING)?;
-    answers(&rt, (), "hello", NOTHING)?;
-    answers(&rt, Refusing { fails: true }, "a", FAILED)?;
-    answers(&rt, Refusing { fails: false }, "a", WANTS_MEMORY)
+    answers(rt.alloc(), make_helper(), "(hello)", EVERYTHING)?;
+    answers(rt.alloc(), (), "hello", NOTHING)?;
+    answers(rt.alloc(), Refusing { fails: true }, "a", FAILED)?;
+    answers(rt.alloc(), Refusing { fails: false }, "a", WANTS_MEMORY)
 }
 
 // A prompt in both versions.
-fn both_texts<P: Prompt>(alloc: Global, prompt: &P) -> Result<String, Fail> {
+fn both_texts<P: Prompt>(alloc: Global, prompt: &P) -> Result<String, AllocError> {
     let (raw, styled) = (prompt.raw(), pictured(alloc, prompt.styled())?);
-    Ok(format!(in alloc; "\"{raw}\" \"{styled}\"")?)
+    format!(in alloc; "\"{raw}\" \"{styled}\"")
 }
 
 // The type of a prompt, and its versions.
@@ -455,14 +477,14 @@ struct Prompts;
 impl Player for Prompts {
     fn play(&mut self, alloc: Global, call: &str) -> Result<String, Fail> {
         match call {
-            "str" => both_texts(alloc, &"> "),
-            "String" => both_texts(alloc, &String::from_str(alloc, "é ")?),
-            _ => both_texts(alloc, &("> ", "\x1b[1m> \x1b[m")),
+            "str" => Ok(both_texts(alloc, &"> ")?),
+            "String" => Ok(both_texts(alloc, &String::from_str(alloc, "é ")?)?),
+            _ => Ok(both_texts(alloc, &("> ", "\x1b[1m> \x1b[m"))?),
         }
     }
 }
 
 #[test]
 fn prompts_in_both_versions(rt: HostRuntime) -> Result<(), Fail> {
-    rows_hold(&rt, &mut Prompts, PROMPTS)
+    rows_hold(rt.alloc(), &mut Prompts, PROMPTS)
 }

@@ -1,19 +1,19 @@
 //! Histories, call by call. An entry has a bar after it.
 
-use crate::rows::{Player, rows_hold, trimmed};
 use line_config::{Config, Configurer, ReadlineError, SliceSource, VecSink};
 use line_help::{
     Context, FileHistory, Hint, Hinter, History, HistoryHinter, MemHistory, SearchDirection,
     SearchResult,
 };
+use stand_ins::rows::{Player, rows_hold, trimmed};
 use stand_ins::tables::{
     line_and_place, marked, meant, meant_bytes, pictured, pictured_bytes, word_and_rest,
 };
-use std::alloc::Global;
+use std::alloc::{AllocError, Global};
 use std::test::Fail;
 
 /// The entries of a history, a bar after each.
-pub(crate) fn entries<H: History>(alloc: Global, history: &H) -> Result<String, Fail> {
+pub(crate) fn entries<H: History>(alloc: Global, history: &H) -> Result<String, AllocError> {
     let mut text = String::new(alloc);
     for index in 0..history.len() {
         if let Some(found) = history.get(index, SearchDirection::Forward) {
@@ -24,17 +24,27 @@ pub(crate) fn entries<H: History>(alloc: Global, history: &H) -> Result<String, 
     Ok(text)
 }
 
-/// A history to which these lines were added, each of which ends with a bar.
-pub(crate) fn with_lines(alloc: Global, lines: &str) -> Result<FileHistory, Fail> {
-    let mut history = FileHistory::new(alloc);
+/// Adds lines, each of which ends with a bar.
+pub(crate) fn add_lines<H: History>(
+    alloc: Global,
+    history: &mut H,
+    lines: &str,
+) -> Result<(), ReadlineError> {
     for line in lines.split_terminator('|') {
         history.add(alloc, meant(alloc, line)?.as_str())?;
     }
+    Ok(())
+}
+
+/// A history to which these lines were added, each of which ends with a bar.
+pub(crate) fn with_lines(alloc: Global, lines: &str) -> Result<FileHistory, ReadlineError> {
+    let mut history = FileHistory::new(alloc);
+    add_lines(alloc, &mut history, lines)?;
     Ok(history)
 }
 
 /// What a save of the history writes, where it is answered.
-pub(crate) fn saved(alloc: Global, history: &mut FileHistory) -> Result<String, Fail> {
+pub(crate) fn saved(alloc: Global, history: &mut FileHistory) -> Result<String, ReadlineError> {
     let mut sink = VecSink::new(alloc);
     history.save_to(&mut sink)?;
     Ok(pictured_bytes(alloc, sink.bytes())?)
@@ -71,7 +81,7 @@ const LOADED: &str = r"
 ";
 
 // What a history answers to a text that it loads, its entries then, and what of them is new.
-fn loaded(alloc: Global, history: &mut FileHistory, text: &[u8]) -> Result<String, Fail> {
+fn loaded(alloc: Global, history: &mut FileHistory, text: &[u8]) -> Result<String, ReadlineError> {
     let answer = answer_told(history.load_from(alloc, &mut SliceSource::new(text)));
     let entries = entries(alloc, history)?;
     let new = saved(alloc, history)?;
@@ -104,7 +114,7 @@ fn loaded_anew(alloc: Global, text: &str) -> Result<String, Fail> {
 
 #[test]
 fn texts_that_are_loaded(rt: HostRuntime) -> Result<(), Fail> {
-    rows_hold(&rt, &mut Ask::Loaded, LOADED)
+    rows_hold(rt.alloc(), &mut Ask::Loaded, LOADED)
 }
 
 // A text that is loaded by histories with these settings: the most entries, and what is ignored.
@@ -138,7 +148,7 @@ fn loaded_under(alloc: Global, settings: &str) -> Result<String, Fail> {
 /// Loading goes by the history's own settings, as adding does.
 #[test]
 fn texts_under_other_settings(rt: HostRuntime) -> Result<(), Fail> {
-    rows_hold(&rt, &mut Ask::Settings, SETTINGS)
+    rows_hold(rt.alloc(), &mut Ask::Settings, SETTINGS)
 }
 
 /// The settings of a configuration are those of a history made with it.
@@ -149,22 +159,39 @@ fn histories_of_a_configuration(rt: HostRuntime) -> Result<(), Fail> {
     let _ = config.set_history_ignore_dups(false);
     config.set_history_ignore_space(true);
     let mut history = FileHistory::with_config(rt.alloc(), &config);
-    for line in "a|b|b| c|".split_terminator('|') {
-        history.add(rt.alloc(), line)?;
-    }
+    add_lines(rt.alloc(), &mut history, "a|b|b| c|")?;
     assert_eq!(rt; entries(rt.alloc(), &history)?.as_str(), "b|b|");
     Ok(())
 }
 
 // Where a search found an entry: the place of the entry, and the entry with a bar at the place in it.
-fn hit_told(alloc: Global, found: Option<SearchResult<'_>>) -> Result<String, Fail> {
+fn hit_told(alloc: Global, found: Option<SearchResult<'_>>) -> Result<String, AllocError> {
     match found {
         Some(found) => {
             let (place, entry) = (found.idx, marked(alloc, found.entry, found.pos)?);
-            Ok(format!(in alloc; "{place} {entry}")?)
+            format!(in alloc; "{place} {entry}")
         }
-        None => Ok(String::from_str(alloc, "none")?),
+        None => String::from_str(alloc, "none"),
     }
+}
+
+// Adds a line, or sets what is kept and what ignored; whether a line was added, where one was to be.
+fn change<H: History>(
+    alloc: Global,
+    history: &mut H,
+    call: &str,
+    text: &str,
+) -> Result<Option<bool>, Fail> {
+    match call {
+        "add" => return Ok(Some(history.add(alloc, meant(alloc, text)?.as_str())?)),
+        "add_owned" => return Ok(Some(history.add_owned(alloc, meant(alloc, text)?)?)),
+        "max_len" => history.set_max_len(text.parse()?),
+        "ignore_dups" => history.ignore_dups(text == "yes"),
+        "ignore_space" => history.ignore_space(text == "yes"),
+        "clear" => history.clear(),
+        other => return Err(Fail::new(format_args!("no call: {other}"))),
+    }
+    Ok(None)
 }
 
 // Changes a history, and tells what it answers and the entries then.
@@ -174,45 +201,51 @@ fn changed<H: History>(
     call: &str,
     text: &str,
 ) -> Result<String, Fail> {
-    let text = meant(alloc, text)?;
-    let text = text.as_str();
-    let answer = match call {
-        "add" => Some(history.add(alloc, text)?),
-        "add_owned" => Some(history.add_owned(alloc, String::from_str(alloc, text)?)?),
-        _ => None,
+    let answer = match change(alloc, history, call, text)? {
+        Some(true) => "added ",
+        Some(false) => "ignored ",
+        None => "",
     };
-    match call {
-        "max_len" => history.set_max_len(text.parse().unwrap_or(usize::MAX)),
-        "ignore_dups" => history.ignore_dups(text == "yes"),
-        "ignore_space" => history.ignore_space(text == "yes"),
-        "clear" => history.clear(),
-        _ => {}
-    }
     let entries = entries(alloc, history)?;
-    let answer = answer.map_or("", |added| if added { "added " } else { "ignored " });
     Ok(format!(in alloc; "{answer}{entries}")?)
 }
 
-// Looks an entry up, as `search forward 3 line` does from the place 3 on; or changes the history.
+// Looks an entry up, as `search forward 3 line` does from the place 3 on.
+fn looked_up<H: History>(
+    alloc: Global,
+    history: &H,
+    call: &str,
+    text: &str,
+) -> Result<String, AllocError> {
+    let (dir, place, term) = direction_place_and_term(text);
+    match call {
+        "search" => hit_told(alloc, history.search(term, place, dir)),
+        "starts_with" => hit_told(alloc, history.starts_with(term, place, dir)),
+        _ => hit_told(alloc, history.get(place, dir)),
+    }
+}
+
+// Looks an entry up, or changes the history.
 fn answered<H: History>(
     alloc: Global,
     history: &mut H,
     call: &str,
     text: &str,
 ) -> Result<String, Fail> {
+    match call {
+        "search" | "starts_with" | "get" => Ok(looked_up(alloc, history, call, text)?),
+        _ => changed(alloc, history, call, text),
+    }
+}
+
+// The direction in which is searched, the place from which, and what for.
+fn direction_place_and_term(text: &str) -> (SearchDirection, usize, &str) {
     let (dir, rest) = word_and_rest(text);
     let (place, term) = word_and_rest(rest);
     let place = place.parse().unwrap_or(0);
-    let dir = if dir == "forward" {
-        SearchDirection::Forward
-    } else {
-        SearchDirection::Reverse
-    };
-    match call {
-        "search" => hit_told(alloc, history.search(term, place, dir)),
-        "starts_with" => hit_told(alloc, history.starts_with(term, place, dir)),
-        "get" => hit_told(alloc, history.get(place, dir)),
-        _ => changed(alloc, history, call, text),
+    match dir {
+        "forward" => (SearchDirection::Forward, place, term),
+        _ => (SearchDirection::Reverse, place, term),
     }
 }
 
@@ -236,7 +269,7 @@ impl Desk {
             "reload" => {
                 self.history = FileHistory::new(self.alloc);
                 self.history.set_max_len(2);
-                loaded(self.alloc, &mut self.history, self.file.bytes())
+                Ok(loaded(self.alloc, &mut self.history, self.file.bytes())?)
             }
             _ => answered(self.alloc, &mut self.history, call, text),
         }
@@ -262,13 +295,16 @@ impl Player for Desk {
     }
 }
 
-// A history with these lines.
-fn desk_with(alloc: Global, lines: &str) -> Result<Desk, Fail> {
-    Ok(Desk {
+// Plays a table on a history with these lines.
+fn plays_with(alloc: Global, lines: &str, table: &str) -> Result<(), Fail> {
+    let history = with_lines(alloc, lines)?;
+    let file = VecSink::new(alloc);
+    let mut desk = Desk {
         alloc,
-        history: with_lines(alloc, lines)?,
-        file: VecSink::new(alloc),
-    })
+        history,
+        file,
+    };
+    rows_hold(alloc, &mut desk, table)
 }
 
 /// A history in memory.
@@ -277,9 +313,25 @@ struct Memory {
     history: MemHistory,
 }
 
+impl Memory {
+    // The number of its lines, also counted one by one, whether there are none, and the line at a place.
+    fn told(&self, alloc: Global, place: usize) -> Result<String, AllocError> {
+        let (count, counted) = (self.history.len(), self.history.iter().count());
+        let empty = self.history.is_empty();
+        if place >= count {
+            return format!(in alloc; "{count}, {counted}, {empty}");
+        }
+        let line = self.history[place].as_str();
+        format!(in alloc; "{count}, {counted}, {empty}, {line:?}")
+    }
+}
+
 impl Player for Memory {
     fn play(&mut self, alloc: Global, call: &str) -> Result<String, Fail> {
         let (call, text) = word_and_rest(call);
+        if call == "lines" {
+            return Ok(self.told(alloc, text.parse()?)?);
+        }
         let said = answered(alloc, &mut self.history, call, text)?;
         trimmed(alloc, said.as_str())
     }
@@ -331,13 +383,13 @@ const SEARCHES: &str = "
 
 #[test]
 fn histories_with_texts(rt: HostRuntime) -> Result<(), Fail> {
-    rows_hold(&rt, &mut desk_with(rt.alloc(), r"x\y|")?, SAVED)?;
-    rows_hold(&rt, &mut desk_with(rt.alloc(), "")?, APPENDED)?;
-    let mut three = desk_with(rt.alloc(), "line1|line2|line3|")?;
-    rows_hold(&rt, &mut three, SEARCHES)
+    plays_with(rt.alloc(), r"x\y|", SAVED)?;
+    plays_with(rt.alloc(), "", APPENDED)?;
+    plays_with(rt.alloc(), "line1|line2|line3|", SEARCHES)
 }
 
-const FOUR_ADDED: &str = "
+// `lines 1` tells the number of the lines, also counted one by one, whether there are none, and the line at 1.
+const ADDED: &str = "
     ignore_space yes    = nothing
     add line2           = added line2|
     add line2           = ignored line2|
@@ -348,15 +400,11 @@ const FOUR_ADDED: &str = "
     add line2           = added line2|line3|line2|
     ignore_dups no      = line2|line3|line2|
     add_owned line2     = added line2|line3|line2|line2|
-";
-
-const TWO_KEPT: &str = "
+    lines 4             = 4, 4, false
     max_len 2           = line2|line2|
     ignore_space no     = line2|line2|
     add ␠a              = added line2| a|
-";
-
-const ONE_KEPT: &str = "
+    lines 1             = 2, 2, false, \" a\"
     max_len 0           = nothing
     add b               = ignored
     max_len 1           = nothing
@@ -365,21 +413,13 @@ const ONE_KEPT: &str = "
     get forward 0       = 0 |c
     get forward 1       = none
     clear               = nothing
+    lines 0             = 0, 0, true
 ";
 
 #[test]
 fn lines_that_are_added(rt: HostRuntime) -> Result<(), Fail> {
     let history = MemHistory::with_config(rt.alloc(), &Config::default());
-    let mut memory = Memory { history };
-    rows_hold(&rt, &mut memory, FOUR_ADDED)?;
-    assert_eq!(rt; memory.history.len(), 4);
-    assert_eq!(rt; memory.history.iter().count(), 4);
-    rows_hold(&rt, &mut memory, TWO_KEPT)?;
-    assert_eq!(rt; memory.history.len(), 2);
-    assert_eq!(rt; memory.history[1].as_str(), " a");
-    rows_hold(&rt, &mut memory, ONE_KEPT)?;
-    assert!(rt; memory.history.is_empty());
-    Ok(())
+    rows_hold(rt.alloc(), &mut Memory { history }, ADDED)
 }
 
 // A line with the cursor; the hint of the only entry, as it is shown and as it is taken.
@@ -436,5 +476,5 @@ fn hints(rt: HostRuntime) -> Result<(), Fail> {
     assert_eq!(rt; context.history_index(), 1);
     context.set_history_index(0);
     assert_eq!(rt; context.history_index(), 0);
-    rows_hold(&rt, &mut Hinted { history }, HINTS)
+    rows_hold(rt.alloc(), &mut Hinted { history }, HINTS)
 }

@@ -11,5 +11,3 @@ mod failing;
 mod helpers;
 #[cfg(test)]
 mod history;
-#[cfg(test)]
-mod rows;

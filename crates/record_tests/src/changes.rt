@@ -2,9 +2,9 @@
 //! record has it then, or `none`.
 
 use line_record::Changeset;
-use stand_ins::tables::{call_and_answer, word_and_rest};
+use stand_ins::rows::{Player, rows_hold};
+use stand_ins::tables::word_and_rest;
 use std::alloc::Global;
-use std::process::Abort;
 use std::test::Fail;
 
 /// Tells of a change: a place, and one text or two; `''` is no text.
@@ -50,22 +50,24 @@ fn tell_last(alloc: Global, changes: &Changeset, shown: &mut String) -> Result<(
     Ok(())
 }
 
-/// Makes each row's call.
-fn plays(rt: &(impl AllocGlobal + Abort), changes: &mut Changeset, rows: &str) -> Result<(), Fail> {
-    for row in rows.lines() {
-        let Some((call, want)) = call_and_answer(row) else {
-            continue;
-        };
-        let mut shown = made(rt.alloc(), changes, call)?;
-        tell_last(rt.alloc(), changes, &mut shown)?;
-        assert_eq!(rt; shown.as_str(), want, "{row}");
+/// A record that is told of each row's change.
+#[derive(Drop)]
+struct Recorded {
+    changes: Changeset,
+}
+
+impl Player for Recorded {
+    fn play(&mut self, alloc: Global, call: &str) -> Result<String, Fail> {
+        let mut shown = made(alloc, &mut self.changes, call)?;
+        tell_last(alloc, &self.changes, &mut shown)?;
+        Ok(shown)
     }
-    Ok(())
 }
 
 #[test]
 fn changes_recorded_by_themselves(rt: HostRuntime) -> Result<(), Fail> {
-    let mut changes = Changeset::new(rt.alloc())?;
+    let changes = Changeset::new(rt.alloc())?;
+    let mut first = Recorded { changes };
     let told = "
         look = none
         insert 0 a = a
@@ -78,8 +80,8 @@ fn changes_recorded_by_themselves(rt: HostRuntime) -> Result<(), Fail> {
         replace 4 '' '' = xyz!
         end = true xyz!
         ";
-    plays(&rt, &mut changes, told)?;
-    let mut copy = changes.try_clone(rt.alloc())?;
-    plays(&rt, &mut changes, "delete 0 x = none\ntruncate 1 = ab")?;
-    plays(&rt, &mut copy, "look = xyz!")
+    rows_hold(rt.alloc(), &mut first, told)?;
+    let changes = first.changes.try_clone(rt.alloc())?;
+    rows_hold(rt.alloc(), &mut first, "delete 0 x = none\ntruncate 1 = ab")?;
+    rows_hold(rt.alloc(), &mut Recorded { changes }, "look = xyz!")
 }

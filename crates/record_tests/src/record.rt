@@ -7,9 +7,9 @@ ghost use Rattle.line_record.specs.Props.{ItemsStand-prop};
 use line_buffer::{DeleteListener, LineBuffer, Movement, OutOfMemory, Word, WordAction};
 use line_record::{Changeset, Joined, KillRing};
 use stand_ins::lines::{line_of, shown_of};
-use stand_ins::tables::{call_and_answer, word_and_rest};
+use stand_ins::rows::{Player, rows_hold};
+use stand_ins::tables::word_and_rest;
 use std::alloc::Global;
-use std::process::Abort;
 use std::test::Fail;
 
 /// A line with its record.
@@ -179,27 +179,26 @@ fn raise(alloc: Global, line: &mut LineBuffer, changes: &mut Changeset) -> Resul
     Ok(())
 }
 
-/// Makes each row's call.
-fn plays(rt: &(impl AllocGlobal + Abort), rows: &str) -> Result<(), Fail> {
-    let mut desk = Desk::new(rt.alloc(), "")?;
-    for row in rows.lines() {
-        let Some((call, want)) = call_and_answer(row) else {
-            continue;
-        };
+impl Player for Desk {
+    fn play(&mut self, alloc: Global, call: &str) -> Result<String, Fail> {
         let (call, text) = word_and_rest(call);
         if call == "line" {
-            desk = Desk::new(rt.alloc(), text)?;
+            *self = Desk::new(alloc, text)?;
         }
-        let shown = desk.step(call, text)?;
-        assert_eq!(rt; shown.as_str(), want, "{row}");
+        self.step(call, text)
     }
-    Ok(())
+}
+
+/// Makes each row's call, the first one on the empty line.
+fn plays(alloc: Global, rows: &str) -> Result<(), Fail> {
+    let mut desk = Desk::new(alloc, "")?;
+    rows_hold(alloc, &mut desk, rows)
 }
 
 #[test]
 fn typed_words_undone(rt: HostRuntime) -> Result<(), Fail> {
     plays(
-        &rt,
+        rt.alloc(),
         "
         put ab c = ab c|
         undo 1 = true ab|
@@ -220,7 +219,7 @@ fn typed_words_undone(rt: HostRuntime) -> Result<(), Fail> {
 #[test]
 fn joins_at_each_edge(rt: HostRuntime) -> Result<(), Fail> {
     plays(
-        &rt,
+        rt.alloc(),
         "
         line abc|d = abc|d
         backspace 1 = ab|d
@@ -240,7 +239,7 @@ fn joins_at_each_edge(rt: HostRuntime) -> Result<(), Fail> {
 #[test]
 fn erased_letters_are_one_step(rt: HostRuntime) -> Result<(), Fail> {
     plays(
-        &rt,
+        rt.alloc(),
         "
         put a = a|
         put b = ab|
@@ -263,7 +262,7 @@ fn erased_letters_are_one_step(rt: HostRuntime) -> Result<(), Fail> {
 #[test]
 fn pasted_text_joined_by_typing(rt: HostRuntime) -> Result<(), Fail> {
     plays(
-        &rt,
+        rt.alloc(),
         "
         put a = a|
         paste b = ab|
@@ -280,7 +279,7 @@ fn pasted_text_joined_by_typing(rt: HostRuntime) -> Result<(), Fail> {
 #[test]
 fn groups_undone_as_one(rt: HostRuntime) -> Result<(), Fail> {
     plays(
-        &rt,
+        rt.alloc(),
         "
         begin = 0 |
         end = false |
@@ -328,7 +327,7 @@ fn long_groups_made_near_and_far(rt: HostRuntime) -> Result<(), Fail> {
 #[test]
 fn open_marks_undone(rt: HostRuntime) -> Result<(), Fail> {
     plays(
-        &rt,
+        rt.alloc(),
         "
         put a = a|
         begin = 1 a|
@@ -344,7 +343,7 @@ fn open_marks_undone(rt: HostRuntime) -> Result<(), Fail> {
 #[test]
 fn each_kind_made_anew(rt: HostRuntime) -> Result<(), Fail> {
     plays(
-        &rt,
+        rt.alloc(),
         "
         line |one two = |one two
         upcase = ONE| two

@@ -2,9 +2,9 @@
 
 use line_buffer::{DeleteListener, Direction, Mode, OutOfMemory};
 use line_record::KillRing;
-use stand_ins::tables::{call_and_answer, word_and_rest};
+use stand_ins::rows::{Player, rows_hold};
+use stand_ins::tables::word_and_rest;
 use std::alloc::Global;
-use std::process::Abort;
 use std::test::Fail;
 
 /// A yanked text, and `none` where there is none.
@@ -37,29 +37,29 @@ fn made(alloc: Global, ring: &mut KillRing, call: &str, text: &str) -> Result<St
     Ok(String::new(alloc))
 }
 
-/// Makes each row's call.
-fn plays(rt: &(impl AllocGlobal + Abort), ring: &mut KillRing, rows: &str) -> Result<(), Fail> {
-    for row in rows.lines() {
-        let Some((call, want)) = call_and_answer(row) else {
-            continue;
-        };
-        let (call, text) = word_and_rest(call);
-        let answer = made(rt.alloc(), ring, call, text)?;
-        assert_eq!(rt; answer.as_str(), want, "{row}");
-    }
-    Ok(())
+/// A ring on which each row's call is made.
+#[derive(Drop)]
+struct Played {
+    ring: KillRing,
 }
 
-/// The same of a new ring of so many slots.
-fn ring_plays(rt: &(impl AllocGlobal + Abort), size: usize, rows: &str) -> Result<(), Fail> {
-    let mut ring = KillRing::new(rt.alloc(), size)?;
-    plays(rt, &mut ring, rows)
+impl Player for Played {
+    fn play(&mut self, alloc: Global, call: &str) -> Result<String, Fail> {
+        let (call, text) = word_and_rest(call);
+        made(alloc, &mut self.ring, call, text)
+    }
+}
+
+/// Makes each row's call on a new ring of so many slots.
+fn ring_plays(alloc: Global, size: usize, rows: &str) -> Result<(), Fail> {
+    let ring = KillRing::new(alloc, size)?;
+    rows_hold(alloc, &mut Played { ring }, rows)
 }
 
 #[test]
 fn kills_yanked_in_turn(rt: HostRuntime) -> Result<(), Fail> {
     ring_plays(
-        &rt,
+        rt.alloc(),
         2,
         "
         kill ab
@@ -79,7 +79,7 @@ fn kills_yanked_in_turn(rt: HostRuntime) -> Result<(), Fail> {
 #[test]
 fn kills_joined(rt: HostRuntime) -> Result<(), Fail> {
     ring_plays(
-        &rt,
+        rt.alloc(),
         3,
         "
         kill b
@@ -104,7 +104,7 @@ fn rings_of_none_and_of_one(rt: HostRuntime) -> Result<(), Fail> {
         yank = none
         yank_pop = none
         ";
-    ring_plays(&rt, 0, none)?;
+    ring_plays(rt.alloc(), 0, none)?;
     let one = "
         reset
         kill a
@@ -113,7 +113,7 @@ fn rings_of_none_and_of_one(rt: HostRuntime) -> Result<(), Fail> {
         yank = b
         yank_pop = 1 b
         ";
-    ring_plays(&rt, 1, one)
+    ring_plays(rt.alloc(), 1, one)
 }
 
 /// Kills the numbers below 61, each for itself.
@@ -126,13 +126,22 @@ fn many_killed(alloc: Global, ring: &mut KillRing) -> Result<(), OutOfMemory> {
     Ok(())
 }
 
+// Pops the ring so many times.
+fn popped_often(ring: &mut KillRing, count: usize) -> bool {
+    for _ in 0..count {
+        if ring.yank_pop().is_none() {
+            return false;
+        }
+    }
+    true
+}
+
 #[test]
 fn a_ring_of_many(rt: HostRuntime) -> Result<(), Fail> {
     let mut ring = KillRing::new(rt.alloc(), 60)?;
     many_killed(rt.alloc(), &mut ring)?;
-    plays(&rt, &mut ring, "yank = 60\nyank_pop = 2 59")?;
-    for n in 0..58 {
-        assert!(rt; ring.yank_pop().is_some(), "after {n}");
-    }
-    plays(&rt, &mut ring, "yank_pop = 1 60")
+    let mut played = Played { ring };
+    rows_hold(rt.alloc(), &mut played, "yank = 60\nyank_pop = 2 59")?;
+    assert!(rt; popped_often(&mut played.ring, 58));
+    rows_hold(rt.alloc(), &mut played, "yank_pop = 1 60")
 }

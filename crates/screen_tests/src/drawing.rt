@@ -6,9 +6,9 @@ use line_config::{BellStyle, ReadlineError, Sink, VecSink};
 use line_editor::Renderer;
 use line_screen::{ScreenRenderer, laws};
 use stand_ins::lines::line_of;
-use stand_ins::tables::{call_and_answer, meant, or_nothing, pictured_bytes, word_and_rest};
+use stand_ins::rows::{Player, rows_hold};
+use stand_ins::tables::{meant, pictured_bytes, word_and_rest};
 use std::alloc::Global;
-use std::process::Abort;
 use std::test::Fail;
 
 /// A line with its cursor, and what stands around it.
@@ -76,64 +76,81 @@ const MARGINS: &str = "
     80 none a\u{85}␡|   = ␍␛[J␛[m␛[ma␛[m?␛[m␛[m?␛[m␛[m␛[m
 ";
 
+/// What the rows of a table ask.
+#[derive(Clone, Copy, Drop)]
+enum Ask {
+    Drawing,
+    Call,
+    FailedWrite,
+    PassedOn,
+}
+
+impl Player for Ask {
+    fn play(&mut self, alloc: Global, call: &str) -> Result<String, Fail> {
+        match self {
+            Ask::Drawing => drawn(alloc, call),
+            Ask::Call => sent(alloc, call),
+            Ask::FailedWrite => refusals_told(alloc, call.parse()?),
+            Ask::PassedOn => passed_on(alloc, call),
+        }
+    }
+}
+
+// The bytes of a drawing on so many columns.
+fn bytes_of(alloc: Global, columns: u16, shown: Shown) -> Result<String, Fail> {
+    let mut screen = screen(VecSink::new(alloc), columns, BellStyle::Audible);
+    draw(&mut screen, shown)?;
+    Ok(pictured_bytes(alloc, screen.into_sink().bytes())?)
+}
+
 // The bytes of a row's drawing.
-fn drawn(rt: &(impl AllocGlobal + Abort), call: &str) -> Result<String, Fail> {
+fn drawn(alloc: Global, call: &str) -> Result<String, Fail> {
     let (columns, call) = word_and_rest(call);
     let (prompt, call) = word_and_rest(call);
     let (line, info) = word_and_rest(call);
-    let mut screen = screen(
-        VecSink::new(rt.alloc()),
-        columns.parse()?,
-        BellStyle::Audible,
-    );
-    let prompt = if prompt == "none" { "" } else { prompt };
-    let prompt = meant(rt.alloc(), prompt)?;
-    let line = line_of(rt.alloc(), line)?;
+    let prompt = meant(alloc, if prompt == "none" { "" } else { prompt })?;
+    let line = line_of(alloc, line)?;
     let shown = Shown {
         prompt: prompt.as_str(),
         line: &line,
         info: if info.is_empty() { None } else { Some(info) },
     };
-    draw(&mut screen, shown)?;
-    Ok(pictured_bytes(rt.alloc(), screen.into_sink().bytes())?)
-}
-
-fn draws(rt: &(impl AllocGlobal + Abort), table: &str) -> Result<(), Fail> {
-    for row in table.lines() {
-        if let Some((call, answer)) = call_and_answer(row) {
-            let said = drawn(rt, call)?;
-            assert_eq!(rt; said.as_str(), answer, "{row}");
-        }
-    }
-    Ok(())
+    bytes_of(alloc, columns.parse()?, shown)
 }
 
 #[test]
 fn draws_lines(rt: HostRuntime) -> Result<(), Fail> {
-    draws(&rt, LINES)?;
-    draws(&rt, MARGINS)
+    rows_hold(rt.alloc(), &mut Ask::Drawing, LINES)?;
+    rows_hold(rt.alloc(), &mut Ask::Drawing, MARGINS)
+}
+
+// Draws the longer line over the other, that one without an older drawing, and clears its rows; the bytes.
+fn drawn_over(alloc: Global, shown: Shown, longer: Shown) -> Result<String, Fail> {
+    let mut screen = screen(VecSink::new(alloc), 4, BellStyle::Audible);
+    let layout = layout_of(&screen, shown);
+    draw_over(&mut screen, longer, Some(layout), &layout)?;
+    draw_over(&mut screen, shown, None, &layout)?;
+    screen.clear_rows(&layout)?;
+    Ok(pictured_bytes(alloc, screen.into_sink().bytes())?)
+}
+
+fn after_the_prompt(line: &LineBuffer) -> Shown<'_> {
+    Shown {
+        prompt: "> ",
+        line,
+        info: None,
+    }
 }
 
 #[test]
 fn draws_over_and_without_an_older_drawing(rt: HostRuntime) -> Result<(), Fail> {
     let line = line_of(rt.alloc(), "ab")?;
     let longer = line_of(rt.alloc(), "abc")?;
-    let shown = Shown {
-        prompt: "> ",
-        line: &line,
-        info: None,
-    };
-    let over = Shown {
-        prompt: "> ",
-        line: &longer,
-        info: None,
-    };
-    let mut screen = screen(VecSink::new(rt.alloc()), 4, BellStyle::Audible);
-    let layout = layout_of(&screen, shown);
-    draw_over(&mut screen, over, Some(layout), &layout)?;
-    draw_over(&mut screen, shown, None, &layout)?;
-    screen.clear_rows(&layout)?;
-    let said = pictured_bytes(rt.alloc(), screen.into_sink().bytes())?;
+    let said = drawn_over(
+        rt.alloc(),
+        after_the_prompt(&line),
+        after_the_prompt(&longer),
+    )?;
     assert_eq!(rt;
         said.as_str(),
         "␛[1A␍␛[J␛[m> ␛[mab␍␊c␛[m␛[m␛[m> ␛[mab␍␊␛[m␛[m␛[1A␍␛[J"
@@ -193,18 +210,19 @@ fn bell_of(word: &str) -> BellStyle {
     }
 }
 
+// The bytes that a row's call sends.
+fn sent(alloc: Global, call: &str) -> Result<String, Fail> {
+    let (bell, call) = word_and_rest(call);
+    let (call, text) = word_and_rest(call);
+    let line = line_of(alloc, text)?;
+    let mut screen = screen(VecSink::new(alloc), 80, bell_of(bell));
+    call_made(&mut screen, call, &line)?;
+    Ok(pictured_bytes(alloc, screen.into_sink().bytes())?)
+}
+
 #[test]
 fn makes_the_other_calls(rt: HostRuntime) -> Result<(), Fail> {
-    for row in CALLS.lines() {
-        if let Some((call, answer)) = call_and_answer(row) {
-            let (bell, call) = word_and_rest(call);
-            let (call, text) = word_and_rest(call);
-            let mut screen = screen(VecSink::new(rt.alloc()), 80, bell_of(bell));
-            call_made(&mut screen, call, &line_of(rt.alloc(), text)?)?;
-            let said = pictured_bytes(rt.alloc(), screen.into_sink().bytes())?;
-            assert_eq!(rt; or_nothing(said.as_str()), answer, "{row}");
-        }
-    }
+    rows_hold(rt.alloc(), &mut Ask::Call, CALLS)?;
     let mut screen = screen(VecSink::new(rt.alloc()), 80, BellStyle::Audible);
     screen.update_size();
     assert_eq!(rt; (screen.get_columns(), screen.get_rows()), (80, 65535));
@@ -226,15 +244,38 @@ fn refused(screen: &mut ScreenRenderer<FailsAfter>, line: &LineBuffer) -> bool {
         && screen.clear_screen() == refusal
 }
 
+// Whether every call is refused after so many writes.
+fn refusals_told(alloc: Global, writes: u32) -> Result<String, Fail> {
+    let line = line_of(alloc, "|e\\u{301}\\u{6F22}ab")?;
+    let mut screen = screen(FailsAfter::new(writes), 4, BellStyle::Audible);
+    let told = if refused(&mut screen, &line) {
+        "refused"
+    } else {
+        "another"
+    };
+    Ok(String::from_str(alloc, told)?)
+}
+
+// How many writes a sink takes, and what a drawing and the calls after it answer.
+const FAILED_WRITES: &str = "
+    0   = refused
+    1   = refused
+    2   = refused
+    3   = refused
+    4   = refused
+    5   = refused
+    6   = refused
+    7   = refused
+    8   = refused
+    9   = refused
+    10  = refused
+    11  = refused
+";
+
 /// The whole drawing takes more than twelve writes.
 #[test]
 fn answers_each_failed_write(rt: HostRuntime) -> Result<(), Fail> {
-    let line = line_of(rt.alloc(), "|e\\u{301}\\u{6F22}ab")?;
-    for writes in 0..12 {
-        let mut screen = screen(FailsAfter::new(writes), 4, BellStyle::Audible);
-        assert!(rt; refused(&mut screen, &line), "after {writes}");
-    }
-    Ok(())
+    rows_hold(rt.alloc(), &mut Ask::FailedWrite, FAILED_WRITES)
 }
 
 // Calls, and whether they write anything; nothing waits after them.
@@ -250,17 +291,18 @@ const PASSED_ON: &str = "
     stay                = nothing
 ";
 
+// What a row's call leaves waiting.
+fn passed_on(alloc: Global, call: &str) -> Result<String, Fail> {
+    let (call, text) = word_and_rest(call);
+    let line = line_of(alloc, text)?;
+    let mut screen = screen(Gathers::new(), 80, BellStyle::Audible);
+    call_made(&mut screen, call, &line)?;
+    Ok(String::from_str(alloc, screen.into_sink().told())?)
+}
+
 #[test]
 fn passes_on_what_it_wrote(rt: HostRuntime) -> Result<(), Fail> {
-    for row in PASSED_ON.lines() {
-        if let Some((call, answer)) = call_and_answer(row) {
-            let (call, text) = word_and_rest(call);
-            let mut screen = screen(Gathers::new(), 80, BellStyle::Audible);
-            call_made(&mut screen, call, &line_of(rt.alloc(), text)?)?;
-            assert_eq!(rt; screen.into_sink().told(), answer, "{row}");
-        }
-    }
-    Ok(())
+    rows_hold(rt.alloc(), &mut Ask::PassedOn, PASSED_ON)
 }
 
 #[test]

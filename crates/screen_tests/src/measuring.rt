@@ -2,7 +2,8 @@
 
 use line_buffer::{GraphemeClusterMode, Position};
 use line_screen::{measure, short_insertion, short_kill};
-use stand_ins::tables::{call_and_answer, meant, word_and_rest};
+use stand_ins::rows::{Player, rows_hold};
+use stand_ins::tables::{meant, word_and_rest};
 use std::alloc::Global;
 use std::test::Fail;
 
@@ -44,22 +45,53 @@ fn position_told(alloc: Global, place: Option<Position>) -> Result<String, Fail>
     }
 }
 
+/// What the rows of a table ask.
+#[derive(Clone, Copy, Drop)]
+enum Ask {
+    End,
+    Insertion,
+    Kill,
+}
+
+impl Player for Ask {
+    fn play(&mut self, alloc: Global, call: &str) -> Result<String, Fail> {
+        let (first, rest) = word_and_rest(call);
+        let place = match self {
+            Ask::End => end_measured(alloc, first, rest)?,
+            Ask::Insertion => after_insertion(alloc, first, rest)?,
+            Ask::Kill => after_kill(alloc, first, rest)?,
+        };
+        position_told(alloc, place)
+    }
+}
+
+// Where a row's text ends on so many columns.
+fn end_measured(alloc: Global, columns: &str, call: &str) -> Result<Option<Position>, Fail> {
+    let (mode, call) = word_and_rest(call);
+    let (from, text) = word_and_rest(call);
+    let columns: u16 = columns.parse()?;
+    let columns = columns.max(2).min(1000);
+    let text = meant(alloc, text)?;
+    let end = measure(text.as_str(), position_of(from), columns, mode_of(mode));
+    Ok(Some(end))
+}
+
+// Where the line ends after a typed character, where its byte is enough.
+fn after_insertion(alloc: Global, end: &str, text: &str) -> Result<Option<Position>, Fail> {
+    let text = meant(alloc, text)?;
+    let c = text.as_str().chars().next().ok_or("no character")?;
+    Ok(short_insertion(position_of(end), c, 80))
+}
+
+// Where the cursor goes after a kill, where an erasure is enough.
+fn after_kill(alloc: Global, end: &str, text: &str) -> Result<Option<Position>, Fail> {
+    let text = meant(alloc, text)?;
+    Ok(short_kill(position_of(end), text.as_str()))
+}
+
 #[test]
 fn measures(rt: HostRuntime) -> Result<(), Fail> {
-    for row in PLACES.lines() {
-        if let Some((call, answer)) = call_and_answer(row) {
-            let (columns, call) = word_and_rest(call);
-            let (mode, call) = word_and_rest(call);
-            let (from, text) = word_and_rest(call);
-            let columns: u16 = columns.parse()?;
-            let text = meant(rt.alloc(), text)?;
-            let columns = columns.max(2).min(1000);
-            let end = measure(text.as_str(), position_of(from), columns, mode_of(mode));
-            let said = position_told(rt.alloc(), Some(end))?;
-            assert_eq!(rt; said.as_str(), answer, "{row}");
-        }
-    }
-    Ok(())
+    rows_hold(rt.alloc(), &mut Ask::End, PLACES)
 }
 
 // The end of a line on 80 columns and a character that is typed there; the line's end, where its byte is enough.
@@ -93,27 +125,10 @@ const KILLS: &str = "
 fn short_insertions_are_printable_ascii_with_room_to_its_right(
     rt: HostRuntime,
 ) -> Result<(), Fail> {
-    for row in INSERTIONS.lines() {
-        if let Some((call, answer)) = call_and_answer(row) {
-            let (end, text) = word_and_rest(call);
-            let text = meant(rt.alloc(), text)?;
-            let c = text.as_str().chars().next().ok_or("no character")?;
-            let said = position_told(rt.alloc(), short_insertion(position_of(end), c, 80))?;
-            assert_eq!(rt; said.as_str(), answer, "{row}");
-        }
-    }
-    Ok(())
+    rows_hold(rt.alloc(), &mut Ask::Insertion, INSERTIONS)
 }
 
 #[test]
 fn short_kills_are_printable_ascii_in_one_row(rt: HostRuntime) -> Result<(), Fail> {
-    for row in KILLS.lines() {
-        if let Some((call, answer)) = call_and_answer(row) {
-            let (end, text) = word_and_rest(call);
-            let text = meant(rt.alloc(), text)?;
-            let said = position_told(rt.alloc(), short_kill(position_of(end), text.as_str()))?;
-            assert_eq!(rt; said.as_str(), answer, "{row}");
-        }
-    }
-    Ok(())
+    rows_hold(rt.alloc(), &mut Ask::Kill, KILLS)
 }

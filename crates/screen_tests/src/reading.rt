@@ -6,19 +6,10 @@ use line_keys::{KeyCode, KeyEvent, Modifiers, RawReader};
 use line_screen::KeyReader;
 use stand_ins::key_names::write_key;
 use stand_ins::reader_calls::tell_call;
-use stand_ins::tables::{call_and_answer, meant_bytes, pictured, pictured_bytes, word_and_rest};
+use stand_ins::rows::{Player, rows_hold, trimmed};
+use stand_ins::tables::{meant_bytes, pictured, pictured_bytes, word_and_rest};
 use std::alloc::Global;
-use std::process::Abort;
 use std::test::Fail;
-
-/// The modes that a word names.
-pub(crate) fn modes_of(word: &str) -> &'static [EditMode] {
-    match word {
-        "emacs" => &[EditMode::Emacs],
-        "vi" => &[EditMode::Vi],
-        _ => &[EditMode::Emacs, EditMode::Vi],
-    }
-}
 
 // Asks for a key, and tells its name.
 fn tell_key<R: RawReader>(reader: &mut R, said: &mut String) -> Result<(), ReadlineError> {
@@ -40,58 +31,141 @@ fn tell_text<R: RawReader>(
     Ok(())
 }
 
+// Asks for a text after a PasteStart, where texts are asked for, and else for a key.
+fn tell_next<R: RawReader>(
+    alloc: Global,
+    reader: &mut R,
+    said: &mut String,
+    texts: bool,
+) -> Result<(), ReadlineError> {
+    if texts && said.as_str().ends_with("PasteStart ") {
+        tell_text(alloc, reader, said)
+    } else {
+        tell_key(reader, said)
+    }
+}
+
+// Asks until the reader refuses, and tells the refusal, which it has to answer again.
+fn tell_all<R: RawReader>(
+    alloc: Global,
+    reader: &mut R,
+    said: &mut String,
+    texts: bool,
+) -> Result<(), Fail> {
+    for _ in 0..100 {
+        if let Err(why) = tell_next(alloc, reader, said, texts) {
+            return tell_refusal(reader, said, why);
+        }
+    }
+    Ok(())
+}
+
+fn tell_refusal<R: RawReader>(
+    reader: &mut R,
+    said: &mut String,
+    why: ReadlineError,
+) -> Result<(), Fail> {
+    write!(said, "{why:?}")?;
+    if reader.next_key(true) != Err(why) {
+        said.push_str(", but not for good")?;
+    }
+    Ok(())
+}
+
 /// What a reader gives until it refuses, which it does then again: keys by their names, and, where they are asked for,
 /// pasted texts as `text:ab`.
 pub(crate) fn given<S: Source + Drop>(
-    rt: &(impl AllocGlobal + Abort),
+    alloc: Global,
     source: S,
     mode: EditMode,
     texts: bool,
 ) -> Result<String, Fail> {
     let mut reader = KeyReader::new(source, mode);
-    let mut said = String::new(rt.alloc());
-    for _ in 0..100 {
-        let answer = if texts && said.as_str().ends_with("PasteStart ") {
-            tell_text(rt.alloc(), &mut reader, &mut said)
-        } else {
-            tell_key(&mut reader, &mut said)
-        };
-        if let Err(why) = answer {
-            assert_eq!(rt; reader.next_key(true), Err(why), "{said}");
-            write!(said, "{why:?}")?;
-            return Ok(said);
-        }
-    }
+    let mut said = String::new(alloc);
+    tell_all(alloc, &mut reader, &mut said, texts)?;
     Ok(said)
 }
 
-/// Compares what is given of the bytes as they are, and of the bytes one a read.
-pub(crate) fn reads_as(
-    rt: &(impl AllocGlobal + Abort),
+// What two readers gave, where it is the same.
+fn agreed(alloc: Global, one: String, other: &str) -> Result<String, Fail> {
+    if one.as_str() == other {
+        Ok(one)
+    } else {
+        Ok(format!(in alloc; "{one}, but {other}")?)
+    }
+}
+
+/// What the bytes are read as: as they are, and one a read.
+pub(crate) fn read_as(
+    alloc: Global,
     bytes: &[u8],
     mode: EditMode,
     texts: bool,
-    answer: &str,
-) -> Result<(), Fail> {
-    let whole = given(rt, SliceSource::new(bytes), mode, texts)?;
-    assert_eq!(rt; whole.as_str(), answer, "of {bytes:?}");
-    let in_pieces = given(rt, ReadSource::new(OneByOne { bytes }), mode, texts)?;
-    assert_eq!(rt; in_pieces.as_str(), answer, "of {bytes:?}, one a read");
-    Ok(())
+) -> Result<String, Fail> {
+    let whole = given(alloc, SliceSource::new(bytes), mode, texts)?;
+    let in_pieces = given(alloc, ReadSource::new(OneByOne { bytes }), mode, texts)?;
+    agreed(alloc, whole, in_pieces.as_str())
 }
 
-// Each row has a mode or `both` and bytes, and what they are read as.
-fn each_row(rt: &(impl AllocGlobal + Abort), texts: bool, table: &str) -> Result<(), Fail> {
-    for row in table.lines() {
-        if let Some((call, answer)) = call_and_answer(row) {
-            let (modes, bytes) = word_and_rest(call);
-            let bytes = meant_bytes(rt.alloc(), bytes)?;
-            for mode in modes_of(modes) {
-                reads_as(rt, &bytes, *mode, texts, answer)?;
-            }
+/// The same in both modes.
+pub(crate) fn read_in_both_modes(alloc: Global, bytes: &[u8], texts: bool) -> Result<String, Fail> {
+    let emacs = read_as(alloc, bytes, EditMode::Emacs, texts)?;
+    let vi = read_as(alloc, bytes, EditMode::Vi, texts)?;
+    agreed(alloc, emacs, vi.as_str())
+}
+
+/// The same of a source that fails after the bytes.
+pub(crate) fn read_until_a_failure(
+    alloc: Global,
+    bytes: &[u8],
+    texts: bool,
+) -> Result<String, Fail> {
+    let emacs = given(
+        alloc,
+        SliceSource::failing_after(bytes),
+        EditMode::Emacs,
+        texts,
+    )?;
+    let vi = given(
+        alloc,
+        SliceSource::failing_after(bytes),
+        EditMode::Vi,
+        texts,
+    )?;
+    agreed(alloc, emacs, vi.as_str())
+}
+
+/// What the rows of a table ask.
+#[derive(Clone, Copy, Drop)]
+enum Ask {
+    Keys,
+    Texts,
+    CutText,
+    Character,
+    Calls,
+}
+
+impl Player for Ask {
+    fn play(&mut self, alloc: Global, call: &str) -> Result<String, Fail> {
+        match self {
+            Ask::Keys => read_by_modes(alloc, call, false),
+            Ask::Texts => read_by_modes(alloc, call, true),
+            Ask::CutText => cut_text_told(alloc, call),
+            Ask::Character => character_told(alloc, call),
+            Ask::Calls => calls_told(alloc, call),
         }
     }
-    Ok(())
+}
+
+// What the bytes of a row are read as, in the mode that it names or in `both`.
+fn read_by_modes(alloc: Global, call: &str, texts: bool) -> Result<String, Fail> {
+    let (modes, bytes) = word_and_rest(call);
+    let bytes = meant_bytes(alloc, bytes)?;
+    match modes {
+        "emacs" => read_as(alloc, &bytes, EditMode::Emacs, texts),
+        "vi" => read_as(alloc, &bytes, EditMode::Vi, texts),
+        _ => read_in_both_modes(alloc, &bytes, texts),
+    }
 }
 
 // Asked for keys alone.
@@ -167,30 +241,44 @@ const TEXTS: &str = "
 
 #[test]
 fn bytes_read_as_keys_and_texts(rt: HostRuntime) -> Result<(), Fail> {
-    each_row(&rt, false, KEYS)?;
-    each_row(&rt, false, NO_CHARACTERS)?;
-    each_row(&rt, true, TEXTS)
+    rows_hold(rt.alloc(), &mut Ask::Keys, KEYS)?;
+    rows_hold(rt.alloc(), &mut Ask::Keys, NO_CHARACTERS)?;
+    rows_hold(rt.alloc(), &mut Ask::Texts, TEXTS)
+}
+
+// How many bytes of a text come, and what they are read as by their end and by a failure.
+const CUT_TEXTS: &str = "
+    6   = PasteStart Eof, PasteStart Reader
+    7   = PasteStart Eof, PasteStart Reader
+    8   = PasteStart NotUtf8, PasteStart Reader
+    9   = PasteStart NotUtf8, PasteStart Reader
+    10  = PasteStart Eof, PasteStart Reader
+    11  = PasteStart Eof, PasteStart Reader
+    12  = PasteStart Eof, PasteStart Reader
+    13  = PasteStart Eof, PasteStart Reader
+    14  = PasteStart Eof, PasteStart Reader
+    15  = PasteStart Eof, PasteStart Reader
+    16  = PasteStart Eof, PasteStart Reader
+    17  = PasteStart Eof, PasteStart Reader
+    18  = PasteStart Eof, PasteStart Reader
+    19  = PasteStart Eof, PasteStart Reader
+    20  = PasteStart Eof, PasteStart Reader
+    21  = PasteStart Eof, PasteStart Reader
+";
+
+// What the first bytes of a pasted text are read as.
+fn cut_text_told(alloc: Global, count: &str) -> Result<String, Fail> {
+    let bytes = meant_bytes(alloc, "␛[200~a€␍␊␛[20␛[201~")?;
+    let front = bytes.get(..count.parse()?).ok_or("no such byte")?;
+    let by_end = read_in_both_modes(alloc, front, true)?;
+    let by_failure = read_until_a_failure(alloc, front, true)?;
+    Ok(format!(in alloc; "{by_end}, {by_failure}")?)
 }
 
 // A text that is cut off is refused as the bytes end: by their end, inside a character, or by a failure.
 #[test]
 fn texts_are_cut_off_anywhere(rt: HostRuntime) -> Result<(), Fail> {
-    let bytes = meant_bytes(rt.alloc(), "␛[200~a€␍␊␛[20␛[201~")?;
-    for mode in modes_of("both") {
-        for cut in 6..bytes.len() {
-            let front = &bytes[..cut];
-            let inside_of_a_character = cut == 8 || cut == 9;
-            let answer = if inside_of_a_character {
-                "PasteStart NotUtf8"
-            } else {
-                "PasteStart Eof"
-            };
-            reads_as(&rt, front, *mode, true, answer)?;
-            let said = given(&rt, SliceSource::failing_after(front), *mode, true)?;
-            assert_eq!(rt; said.as_str(), "PasteStart Reader", "after {cut} bytes");
-        }
-    }
-    Ok(())
+    rows_hold(rt.alloc(), &mut Ask::CutText, CUT_TEXTS)
 }
 
 // The first and the last characters of each length, and those around the surrogates, by their numbers.
@@ -208,44 +296,48 @@ const CHARACTERS: &str = "
     ‹f4 8f bf bf›   = 10ffff
 ";
 
-// The bytes are a character, which is a key too.
-fn is_character(rt: &(impl AllocGlobal + Abort), bytes: &[u8], number: &str) -> Result<(), Fail> {
+// Whether the bytes are the key of a character.
+fn is_key(bytes: &[u8], c: char) -> bool {
     let mut reader = KeyReader::new(SliceSource::new(bytes), EditMode::Vi);
-    let c = reader.next_char()?;
-    let said = format!(in rt.alloc(); "{:x}", u32::from(c))?;
-    assert_eq!(rt; said.as_str(), number);
-    assert_eq!(rt;
-        reader.next_char(),
-        Err(ReadlineError::Eof),
-        "behind {number}"
-    );
-    let mut reader = KeyReader::new(SliceSource::new(bytes), EditMode::Vi);
-    let key = KeyEvent::new(c, Modifiers::NONE);
-    assert_eq!(rt; reader.next_key(false), Ok(key), "{number}");
-    Ok(())
+    reader.next_key(false) == Ok(KeyEvent::new(c, Modifiers::NONE))
 }
 
-// They are none where their end or a failure cuts them off.
-fn is_cut_off(rt: &impl Abort, front: &[u8]) {
+// The number of the character that the bytes are, which is a key too.
+fn number_told(alloc: Global, bytes: &[u8]) -> Result<String, Fail> {
+    let mut reader = KeyReader::new(SliceSource::new(bytes), EditMode::Vi);
+    let c = reader.next_char()?;
+    if reader.next_char() != Err(ReadlineError::Eof) {
+        return Err(Fail::new("more than a character"));
+    }
+    if !is_key(bytes, c) {
+        return Err(Fail::new("another key"));
+    }
+    Ok(format!(in alloc; "{:x}", u32::from(c))?)
+}
+
+// Whether they are none where their end or a failure cuts them off.
+fn is_cut_off(front: &[u8]) -> bool {
     let mut ended = KeyReader::new(SliceSource::new(front), EditMode::Vi);
-    assert_eq!(rt; ended.next_char(), Err(ReadlineError::NotUtf8));
     let mut failing = KeyReader::new(SliceSource::failing_after(front), EditMode::Vi);
-    assert_eq!(rt; failing.next_char(), Err(ReadlineError::Reader));
-    assert_eq!(rt; failing.next_key(false), Err(ReadlineError::Reader));
+    ended.next_char() == Err(ReadlineError::NotUtf8)
+        && failing.next_char() == Err(ReadlineError::Reader)
+        && failing.next_key(false) == Err(ReadlineError::Reader)
+}
+
+// The number of the character that a row's bytes are, and the first bytes of which are none.
+fn character_told(alloc: Global, bytes: &str) -> Result<String, Fail> {
+    let bytes = meant_bytes(alloc, bytes)?;
+    for cut in 1..bytes.len() {
+        if !is_cut_off(&bytes[..cut]) {
+            return Err(Fail::new("fewer bytes aren't cut off"));
+        }
+    }
+    number_told(alloc, &bytes)
 }
 
 #[test]
 fn characters_are_read(rt: HostRuntime) -> Result<(), Fail> {
-    for row in CHARACTERS.lines() {
-        if let Some((bytes, number)) = call_and_answer(row) {
-            let bytes = meant_bytes(rt.alloc(), bytes)?;
-            is_character(&rt, &bytes, number)?;
-            for cut in 1..bytes.len() {
-                is_cut_off(&rt, &bytes[..cut]);
-            }
-        }
-    }
-    Ok(())
+    rows_hold(rt.alloc(), &mut Ask::Character, CHARACTERS)
 }
 
 // Calls of a reader of bytes, one after the other; what they answer, what the reader has read ahead then, and what it leaves
@@ -307,18 +399,43 @@ fn called(alloc: Global, bytes: &[u8], mode: EditMode, calls: &str) -> Result<St
     Ok(said)
 }
 
+// What a row's calls answer.
+fn calls_told(alloc: Global, call: &str) -> Result<String, Fail> {
+    let (mode, call) = word_and_rest(call);
+    let (bytes, calls) = call.split_once(" : ").ok_or("no calls")?;
+    let bytes = meant_bytes(alloc, bytes)?;
+    let mode = if mode == "vi" {
+        EditMode::Vi
+    } else {
+        EditMode::Emacs
+    };
+    trimmed(alloc, called(alloc, &bytes, mode, calls)?.as_str())
+}
+
 #[test]
 fn calls_one_after_the_other(rt: HostRuntime) -> Result<(), Fail> {
-    for row in CALLS.lines() {
-        if let Some((call, answer)) = call_and_answer(row) {
-            let (modes, call) = word_and_rest(call);
-            let (bytes, calls) = call.split_once(" : ").ok_or("no calls")?;
-            let bytes = meant_bytes(rt.alloc(), bytes)?;
-            for mode in modes_of(modes) {
-                let said = called(rt.alloc(), &bytes, *mode, calls)?;
-                assert_eq!(rt; said.as_str().trim(), answer, "{row}");
-            }
-        }
+    rows_hold(rt.alloc(), &mut Ask::Calls, CALLS)
+}
+
+// Tells the command of a key, where it is one of the reader's own.
+fn tell_binding<R: RawReader>(reader: &R, key: KeyEvent, said: &mut String) -> Result<(), Fail> {
+    if let Some(cmd) = reader.find_binding(&key) {
+        write_key(said, key)?;
+        write!(said, " {cmd:?}, ")?;
+    }
+    Ok(())
+}
+
+// The same of the keys of a character.
+fn tell_bindings<R: RawReader>(reader: &R, c: char, said: &mut String) -> Result<(), Fail> {
+    for mods in [
+        Modifiers::NONE,
+        Modifiers::CTRL,
+        Modifiers::ALT,
+        Modifiers::CTRL_ALT,
+        Modifiers::CTRL_SHIFT,
+    ] {
+        tell_binding(reader, KeyEvent(KeyCode::Char(c), mods), said)?;
     }
     Ok(())
 }
@@ -330,19 +447,7 @@ fn commands_of_the_readers_own(rt: HostRuntime) -> Result<(), Fail> {
     assert_eq!(rt; reader.find_binding(&KeyEvent::ENTER), None);
     let mut said = String::new(rt.alloc());
     for c in ' '..='~' {
-        for mods in [
-            Modifiers::NONE,
-            Modifiers::CTRL,
-            Modifiers::ALT,
-            Modifiers::CTRL_ALT,
-            Modifiers::CTRL_SHIFT,
-        ] {
-            let key = KeyEvent(KeyCode::Char(c), mods);
-            if let Some(cmd) = reader.find_binding(&key) {
-                write_key(&mut said, key)?;
-                write!(said, " {cmd:?}, ")?;
-            }
-        }
+        tell_bindings(&reader, c, &mut said)?;
     }
     assert_eq!(rt;
         said.as_str(),

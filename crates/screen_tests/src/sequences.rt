@@ -1,9 +1,10 @@
 //! Control sequences and their keys.
 
-use crate::reading::{given, modes_of, reads_as};
-use line_config::{EditMode, SliceSource};
-use stand_ins::tables::{call_and_answer, meant_bytes, word_and_rest};
-use std::process::Abort;
+use crate::reading::{read_as, read_in_both_modes, read_until_a_failure};
+use line_config::EditMode;
+use stand_ins::rows::{Player, rows_hold};
+use stand_ins::tables::{meant_bytes, word_and_rest};
+use std::alloc::Global;
 use std::test::Fail;
 
 const PLAIN: &str = "
@@ -93,18 +94,7 @@ const NAMELESS: &str = "
     ␛[!!A       = UnknownEscSeq
 ";
 
-// The number of what is held down, and how that is written before a key's name.
-const MODIFIERS: &str = "
-    2 = S-
-    3 = A-
-    4 = A-S-
-    5 = C-
-    6 = C-S-
-    7 = C-A-
-    8 = C-A-S-
-";
-
-// `@` stands for such a number.
+// The number of what is held down stands in place of `@`.
 const MODIFIED: &str = "
     ␛[1;@A      = Up
     ␛[1;@B      = Down
@@ -138,50 +128,67 @@ const MODIFIED: &str = "
     ␛[24;@~     = F12
 ";
 
-// Reads the sequence in both modes: whole, one byte a read, and cut after each byte by the end and by a failure.
-fn is_key(rt: &(impl AllocGlobal + Abort), shown: &str, key: &str) -> Result<(), Fail> {
-    let bytes = meant_bytes(rt.alloc(), shown)?;
-    let whole = format!(in rt.alloc(); "{key} Eof")?;
-    for mode in modes_of("both") {
-        reads_as(rt, &bytes, *mode, false, whole.as_str())?;
-        for cut in 1..bytes.len() {
-            let front = &bytes[..cut];
-            let answer = if cut == 1 { "Esc Eof" } else { "Eof" };
-            reads_as(rt, front, *mode, false, answer)?;
-            let said = given(rt, SliceSource::failing_after(front), *mode, false)?;
-            assert_eq!(rt; said.as_str(), "Reader", "{shown} after {cut} bytes");
-        }
+/// Reads sequences with a number in place of `@`, each a key before which the prefix stands.
+#[derive(Clone, Copy, Drop)]
+struct Sequences {
+    number: &'static str,
+    prefix: &'static str,
+}
+
+impl Player for Sequences {
+    fn play(&mut self, alloc: Global, sequence: &str) -> Result<String, Fail> {
+        let sequence = sequence.replace(alloc, "@", self.number)?;
+        let bytes = meant_bytes(alloc, sequence.as_str())?;
+        all_cut_off(alloc, &bytes)?;
+        let said = read_in_both_modes(alloc, &bytes, false)?;
+        let key = said
+            .as_str()
+            .strip_suffix(" Eof")
+            .and_then(|key| key.strip_prefix(self.prefix));
+        Ok(format!(in alloc; "{}", key.ok_or("another key")?)?)
+    }
+}
+
+// A sequence that is cut off after a byte, by the end and by a failure.
+fn cut_off(alloc: Global, front: &[u8]) -> Result<(), Fail> {
+    let by_end = read_in_both_modes(alloc, front, false)?;
+    let by_failure = read_until_a_failure(alloc, front, false)?;
+    let answer = if front.len() == 1 { "Esc Eof" } else { "Eof" };
+    if by_end.as_str() == answer && by_failure.as_str() == "Reader" {
+        Ok(())
+    } else {
+        Err(Fail::new(format_args!("cut off it is {by_end}, {by_failure}")))
+    }
+}
+
+fn all_cut_off(alloc: Global, bytes: &[u8]) -> Result<(), Fail> {
+    for cut in 1..bytes.len() {
+        cut_off(alloc, &bytes[..cut])?;
     }
     Ok(())
 }
 
-// Each row has a sequence and a key, before which the prefix stands.
+// Reads the sequences in both modes: whole, one byte a read, and cut after each byte by the end and by a failure.
 fn each_key(
-    rt: &(impl AllocGlobal + Abort),
+    alloc: Global,
     table: &str,
-    number: &str,
-    prefix: &str,
+    number: &'static str,
+    prefix: &'static str,
 ) -> Result<(), Fail> {
-    for row in table.lines() {
-        if let Some((sequence, key)) = call_and_answer(row) {
-            let sequence = sequence.replace(rt.alloc(), "@", number)?;
-            let key = format!(in rt.alloc(); "{prefix}{key}")?;
-            is_key(rt, sequence.as_str(), key.as_str())?;
-        }
-    }
-    Ok(())
+    rows_hold(alloc, &mut Sequences { number, prefix }, table)
 }
 
 #[test]
 fn sequences_have_their_keys(rt: HostRuntime) -> Result<(), Fail> {
-    each_key(&rt, PLAIN, "", "")?;
-    each_key(&rt, NAMELESS, "", "")?;
-    for row in MODIFIERS.lines() {
-        if let Some((number, prefix)) = call_and_answer(row) {
-            each_key(&rt, MODIFIED, number, prefix)?;
-        }
-    }
-    Ok(())
+    each_key(rt.alloc(), PLAIN, "", "")?;
+    each_key(rt.alloc(), NAMELESS, "", "")?;
+    each_key(rt.alloc(), MODIFIED, "2", "S-")?;
+    each_key(rt.alloc(), MODIFIED, "3", "A-")?;
+    each_key(rt.alloc(), MODIFIED, "4", "A-S-")?;
+    each_key(rt.alloc(), MODIFIED, "5", "C-")?;
+    each_key(rt.alloc(), MODIFIED, "6", "C-S-")?;
+    each_key(rt.alloc(), MODIFIED, "7", "C-A-")?;
+    each_key(rt.alloc(), MODIFIED, "8", "C-A-S-")
 }
 
 // What each byte after ESC [ comes to: the first and the last byte of a row.
@@ -222,25 +229,43 @@ const INTERMEDIATE: &str = "
     80 ff = NotUtf8
 ";
 
-fn each_byte(rt: &(impl AllocGlobal + Abort), front: &str, table: &str) -> Result<(), Fail> {
-    for row in table.lines() {
-        if let Some((range, answer)) = call_and_answer(row) {
-            let (first, last) = word_and_rest(range);
-            let last = u8::from_str_radix(last, 16)?;
-            for byte in u8::from_str_radix(first, 16)?..=last {
-                let mut bytes = meant_bytes(rt.alloc(), front)?;
-                bytes.push(byte)?;
-                reads_as(rt, &bytes, EditMode::Emacs, false, answer)?;
+/// Reads each byte of a row's range after the same bytes.
+#[derive(Clone, Copy, Drop)]
+struct After {
+    front: &'static str,
+}
+
+impl After {
+    // What a byte comes to.
+    fn read(self, alloc: Global, byte: u8) -> Result<String, Fail> {
+        let mut bytes = meant_bytes(alloc, self.front)?;
+        bytes.push(byte)?;
+        read_as(alloc, &bytes, EditMode::Emacs, false)
+    }
+}
+
+impl Player for After {
+    fn play(&mut self, alloc: Global, range: &str) -> Result<String, Fail> {
+        let (first, last) = word_and_rest(range);
+        let first = u8::from_str_radix(first, 16)?;
+        let said = self.read(alloc, first)?;
+        for byte in first..=u8::from_str_radix(last, 16)? {
+            if self.read(alloc, byte)? != said {
+                return Err(Fail::new(format_args!("another answer to {byte:02x}")));
             }
         }
+        Ok(said)
     }
-    Ok(())
+}
+
+fn each_byte(alloc: Global, front: &'static str, table: &str) -> Result<(), Fail> {
+    rows_hold(alloc, &mut After { front }, table)
 }
 
 #[test]
 fn any_byte_in_a_finals_place(rt: HostRuntime) -> Result<(), Fail> {
-    each_byte(&rt, "␛[", FIRST)?;
-    each_byte(&rt, "␛[1", PARAMETER)?;
-    each_byte(&rt, "␛[1 ", INTERMEDIATE)?;
-    each_byte(&rt, "␛[ ", INTERMEDIATE)
+    each_byte(rt.alloc(), "␛[", FIRST)?;
+    each_byte(rt.alloc(), "␛[1", PARAMETER)?;
+    each_byte(rt.alloc(), "␛[1 ", INTERMEDIATE)?;
+    each_byte(rt.alloc(), "␛[ ", INTERMEDIATE)
 }
