@@ -1,8 +1,14 @@
 //! Tables of commands. A row is a line with a bar at the cursor, after `:` the commands, parted by `; `, and after ` = `
-//! what they lead to.
+//! what they lead to. A row that begins with one of these words sets what stands there for the rows after it, and leads
+//! to nothing: `columns: 10` the display's columns, `colours: yes` whether it has colours, `answered: 3` how many calls it
+//! makes; `history: one,two` the entries; `mode: Vi` the keymap; `first:` the commands that each row begins with;
+//! `tells: ring` what is told of a row; `helper: InvalidTold no` a helper with its verdict and its message, which never
+//! fails, and then of that helper `marks: 2` the place at which it highlights, `takes: no` that its hints are only shown,
+//! `hint-fails: 3` and `verdict-fails: 3` the length of the texts from which on it fails, and `wants-memory: yes` that it
+//! does so for want of memory.
 
 use crate::calls::CallList;
-use crate::helpers::Adviser;
+use crate::helpers::{Adviser, Verdict};
 use line_buffer::Unit;
 use line_config::{Config, EditMode, ReadlineError};
 use line_editor::commands::{Status, execute};
@@ -12,49 +18,112 @@ use line_keys::{Bindings, Cmd, CmdKind, Decides, InputState};
 use line_record::{Changeset, KillRing};
 use stand_ins::commands::command_named;
 use stand_ins::lines::shown_of;
-use stand_ins::tables::{call_and_answer, meant, pictured};
+use stand_ins::rows::{Player, rows_hold, trimmed};
+use stand_ins::tables::{meant, pictured, word_and_rest};
 use std::alloc::Global;
-use std::process::Abort;
 use std::test::Fail;
 
-/// What a table's lines are edited with.
-#[derive(Clone, Copy)]
+/// What a table's lines are edited with, and what is told of them.
+#[derive(Drop)]
 pub(crate) struct Stage {
     pub columns: Unit,
     pub colours: bool,
     /// The entries of the history, oldest first, parted by commas.
-    pub history: &'static str,
-    pub helper: Option<Adviser>,
+    pub history: String,
+    /// Whether there is a helper.
+    helped: bool,
+    helper: Adviser,
     /// How many calls the renderer makes for the last command, if not all.
     pub answered: Option<u32>,
     pub mode: EditMode,
-    /// The commands that are made before each row's own, or none.
-    pub first: &'static str,
+    /// The commands that are made before each row's own, with `; ` after each.
+    first: String,
+    /// A key and the command that it is bound to, or nothing.
+    pub bound: String,
+    /// Whether the ring is told of, and not the calls.
+    pub tells_ring: bool,
 }
 
-pub(crate) const PLAIN: Stage = Stage {
-    columns: 80,
-    colours: false,
-    history: "",
-    helper: None,
-    answered: None,
-    mode: EditMode::Emacs,
-    first: "Noop",
-};
+fn verdict_named(name: &str) -> Verdict {
+    match name {
+        "Incomplete" => Verdict::Incomplete,
+        "Invalid" => Verdict::Invalid,
+        "InvalidTold" => Verdict::InvalidTold,
+        "ValidTold" => Verdict::ValidTold,
+        _ => Verdict::Valid,
+    }
+}
 
-/// What a row's commands lead to.
-#[derive(Drop)]
-pub(crate) struct Outcome {
-    /// `Submit`, or the name of a refusal, or nothing.
-    pub status: String,
-    /// The line, with a bar at the cursor.
-    pub line: String,
-    /// The calls of the last command.
-    pub calls: String,
-    /// What a yank would give.
-    pub ring: String,
-    /// The line when one change is taken back.
-    pub undone: String,
+fn message_named(name: &str) -> &'static str {
+    match name {
+        "ok" => "ok",
+        "no" => "no",
+        _ => "",
+    }
+}
+
+impl Stage {
+    /// A display of 80 columns without colours, no history and no helper.
+    pub(crate) fn new(alloc: Global) -> Self {
+        Stage {
+            columns: 80,
+            colours: false,
+            history: String::new(alloc),
+            helped: false,
+            helper: Adviser::new(Verdict::Valid, ""),
+            answered: None,
+            mode: EditMode::Emacs,
+            first: String::new(alloc),
+            bound: String::new(alloc),
+            tells_ring: false,
+        }
+    }
+
+    pub(crate) fn helper(&self) -> Option<Adviser> {
+        if self.helped { Some(self.helper) } else { None }
+    }
+
+    /// Sets what a row says, and tells whether it says something to set.
+    pub(crate) fn sets(&mut self, alloc: Global, row: &str) -> Result<bool, Fail> {
+        let (word, rest) = word_and_rest(row);
+        match word {
+            "bind:" => self.bound = String::from_str(alloc, rest)?,
+            "first:" => self.first = format!(in alloc; "{rest}; ")?,
+            "history:" => self.history = String::from_str(alloc, rest)?,
+            _ => return Ok(self.sets_display(word, rest)),
+        }
+        Ok(true)
+    }
+
+    fn sets_display(&mut self, word: &str, rest: &str) -> bool {
+        match word {
+            "answered:" => self.answered = rest.parse().ok(),
+            "colours:" => self.colours = rest == "yes",
+            "columns:" => self.columns = rest.parse().unwrap_or(80),
+            "mode:" if rest == "Vi" => self.mode = EditMode::Vi,
+            "tells:" => self.tells_ring = rest == "ring",
+            _ => return self.sets_helper(word, rest),
+        }
+        true
+    }
+
+    fn sets_helper(&mut self, word: &str, rest: &str) -> bool {
+        let number = rest.parse().unwrap_or(usize::MAX);
+        match word {
+            "helper:" => {
+                let (verdict, message) = word_and_rest(rest);
+                self.helper = Adviser::new(verdict_named(verdict), message_named(message));
+                self.helped = true;
+            }
+            "marks:" => self.helper.marked_at = number,
+            "takes:" => self.helper.completes = rest == "yes",
+            "hint-fails:" => self.helper.hint_fails_at = number,
+            "verdict-fails:" => self.helper.verdict_fails_at = number,
+            "wants-memory:" => self.helper.wants_memory = rest == "yes",
+            _ => return false,
+        }
+        true
+    }
 }
 
 /// A line over a renderer that writes down what it is asked. Whoever edits it names no helper: of one that is named,
@@ -177,39 +246,36 @@ fn make_all<H: Helper + Drop>(
     Ok(status)
 }
 
-// What the commands of a row lead to, on the line that it shows.
-fn outcome_of<H: Helper + Drop>(
+// What the commands of a row led to.
+fn told<H: Helper + Drop>(
     alloc: Global,
+    stage: &Stage,
     desk: &mut Desk<'_, H>,
     input: &InputState<'_>,
     ring: &mut KillRing,
     config: &Config,
-    status: String,
-) -> Result<Outcome, Fail> {
+    status: &str,
+) -> Result<String, Fail> {
     let line = line_shown(alloc, desk)?;
-    let calls = String::from_str(alloc, desk.out.calls())?;
+    if !stage.tells_ring {
+        return Ok(format!(in alloc; "{status}{line} / {}", desk.out.calls())?);
+    }
     let lent = lent_by(alloc, ring)?;
     desk.out.answer(None);
     let _ = make(desk, input, ring, config, Cmd::Undo(1));
     let undone = line_shown(alloc, desk)?;
-    Ok(Outcome {
-        status,
-        line,
-        calls,
-        ring: lent,
-        undone,
-    })
+    Ok(format!(in alloc; "{line} / {lent} / {undone}")?)
 }
 
-/// Makes the commands of a row, over a helper.
+// Makes the commands of a row, over a helper.
 fn led_over<H: Helper + Drop>(
     alloc: Global,
     stage: &Stage,
     helper: Option<H>,
     shown: &str,
     commands: &str,
-) -> Result<Outcome, Fail> {
-    let history = history_of(alloc, stage.history)?;
+) -> Result<String, Fail> {
+    let history = history_of(alloc, stage.history.as_str())?;
     let bindings = Bindings::new(alloc)?;
     let config = Config::builder().edit_mode(stage.mode).build();
     let input = InputState::new(alloc, &config, &bindings)?;
@@ -224,56 +290,35 @@ fn led_over<H: Helper + Drop>(
         stage.answered,
         commands,
     )?;
-    outcome_of(alloc, &mut desk, &input, &mut ring, &config, status)
+    told(
+        alloc,
+        stage,
+        &mut desk,
+        &input,
+        &mut ring,
+        &config,
+        status.as_str(),
+    )
 }
 
-/// Makes the commands of a row.
-fn led_to(alloc: Global, stage: &Stage, shown: &str, commands: &str) -> Result<Outcome, Fail> {
-    let commands = format!(in alloc; "{}; {commands}", stage.first)?;
-    led_over(alloc, stage, stage.helper, shown, commands.as_str())
-}
-
-// The line, the commands, and what they lead to.
-fn columns_of(row: &str) -> Option<(&str, &str, &str)> {
-    let (call, wanted) = call_and_answer(row)?;
-    let (shown, commands) = call.split_once(": ")?;
-    Some((shown, commands, wanted))
+impl Player for Stage {
+    fn play(&mut self, alloc: Global, row: &str) -> Result<String, Fail> {
+        if self.sets(alloc, row)? {
+            return Ok(String::new(alloc));
+        }
+        let Some((shown, commands)) = row.split_once(": ") else {
+            return Err(Fail::new(format_args!("no row: {row}")));
+        };
+        let commands = format!(in alloc; "{}{commands}", self.first)?;
+        let said = led_over(alloc, self, self.helper(), shown, commands.as_str())?;
+        trimmed(alloc, said.as_str())
+    }
 }
 
 /// Each row has, after ` = `, how the last command ends unless the line goes on, the line then, and after ` / ` the calls
-/// of that command.
-pub(crate) fn draws(
-    rt: &(impl AllocGlobal + Abort),
-    stage: &Stage,
-    table: &str,
-) -> Result<(), Fail> {
-    for row in table.lines() {
-        let Some((shown, commands, wanted)) = columns_of(row) else {
-            assert!(rt; row.trim().is_empty(), "no row: {row}");
-            continue;
-        };
-        let found = led_to(rt.alloc(), stage, shown, commands)?;
-        let said = format!(in rt.alloc(); "{}{} / {}", found.status, found.line, found.calls)?;
-        assert_eq!(rt; said.as_str().trim(), wanted, "{row}");
-    }
-    Ok(())
-}
-
-/// Each row has, after ` = `, the line then, what a yank would give, in quotes or `-`, and the line when one change is
-/// taken back.
-pub(crate) fn keeps(
-    rt: &(impl AllocGlobal + Abort),
-    stage: &Stage,
-    table: &str,
-) -> Result<(), Fail> {
-    for row in table.lines() {
-        let Some((shown, commands, wanted)) = columns_of(row) else {
-            assert!(rt; row.trim().is_empty(), "no row: {row}");
-            continue;
-        };
-        let found = led_to(rt.alloc(), stage, shown, commands)?;
-        let said = format!(in rt.alloc(); "{} / {} / {}", found.line, found.ring, found.undone)?;
-        assert_eq!(rt; said.as_str().trim(), wanted, "{row}");
-    }
-    Ok(())
+/// of that command; where the ring is told of, the line then, what a yank would give, in quotes or `-`, and the line when
+/// one change is taken back.
+pub(crate) fn holds(rt: &impl AllocGlobal, table: &str) -> Result<(), Fail> {
+    let mut stage = Stage::new(rt.alloc());
+    rows_hold(rt.alloc(), &mut stage, table)
 }

@@ -1,10 +1,12 @@
 //! Displays that fail at a call, and helpers that fail or want memory.
 
-use crate::desk::{PLAIN, draws, keeps};
-use crate::helpers::{Adviser, Verdict};
+use crate::desk::holds;
 use std::test::Fail;
 
-const AT_THE_FIRST_CALL: &str = "
+// What the edit did is in the record.
+const FAILING_DISPLAYS: &str = "
+    history: line0,line1 = nothing
+    answered: 0 = nothing
     ab|c: Move BackwardChar 1 = Display a|bc /
     ab|: SelfInsert 1 c = Display abc| /
     a|b: SelfInsert 1 c = Display ac|b /
@@ -29,42 +31,36 @@ const AT_THE_FIRST_CALL: &str = "
     a|b: AcceptAtEndOrInsertLine = Display a␊|b /
     ab|: AcceptLine = Submit ab| /
     |ab: Move BackwardChar 1 = |ab /
-";
 
-const AT_THE_SECOND_CALL: &str = "
+    tells: ring = nothing
+    a|b: SelfInsert 1 c = ac|b / - / a|b
+    abc|: Kill WholeLine = | / 'abc' / abc|
+    ab|: PreviousHistory = line1| / - / ab|
+
+    tells: calls = nothing
+    answered: 1 = nothing
     abc|: Kill BackwardChar 1 = Display ab| / move 0,5 to 0,4
     ab|c: Replace ForwardChar 1 with xy = Display ab| / move 0,4 to 0,4
     a|b: ClearScreen = Display a|b / clear screen
     ␠ ab|: Move ViFirstPrint = Display ␠ |ab / move 0,6 to 0,2
     ab|: SelfInsert 1 c = abc| / write 'c'
-";
 
-const AT_THE_THIRD_CALL: &str = "
+    answered: 2 = nothing
     ab|c: Replace ForwardChar 1 with xy = Display ab|xy / move 0,4 to 0,4; clear row
     abc|: Kill BackwardChar 1 = ab| / move 0,5 to 0,4; clear row
 ";
 
-// What the edit did is in the record.
-const UNDONE: &str = "
-    a|b: SelfInsert 1 c = ac|b / - / a|b
-    abc|: Kill WholeLine = | / 'abc' / abc|
-    ab|: PreviousHistory = line1| / - / ab|
-";
-
 #[test]
 fn displays_that_fail(rt: HostRuntime) -> Result<(), Fail> {
-    let mut stage = PLAIN;
-    stage.history = "line0,line1";
-    stage.answered = Some(0);
-    draws(&rt, &stage, AT_THE_FIRST_CALL)?;
-    keeps(&rt, &stage, UNDONE)?;
-    stage.answered = Some(1);
-    draws(&rt, &stage, AT_THE_SECOND_CALL)?;
-    stage.answered = Some(2);
-    draws(&rt, &stage, AT_THE_THIRD_CALL)
+    holds(&rt, FAILING_DISPLAYS)
 }
 
-const HINTER_THAT_FAILS: &str = "
+// The group that was begun for it stays open: what is typed then is taken back step by step, until a later group
+// closes it.
+const FAILING_HELPERS: &str = "
+    history: line0,line1 = nothing
+    helper: Valid = nothing
+    hint-fails: 3 = nothing
     ab|: SelfInsert 1 c = Helper abc| /
     abcd|: Kill BackwardChar 1 = Helper abc| /
     abc|: Repaint = Helper abc| /
@@ -73,30 +69,26 @@ const HINTER_THAT_FAILS: &str = "
     abc|: Move BackwardChar 1 = ab|c / move 0,5 to 0,4
     a|: SelfInsert 1 b = ab| / write 'b'
     abc|: AcceptLine = Submit abc| /
-";
 
-const HINTER_THAT_WANTS_MEMORY: &str = "
+    wants-memory: yes = nothing
     ab|: SelfInsert 1 c = Memory abc| /
     abc|: Repaint = Memory abc| /
     a|: SelfInsert 1 b = ab| / write 'b'
-";
 
-const VALIDATOR_THAT_FAILS: &str = "
+    hint-fails: never = nothing
+    verdict-fails: 3 = nothing
+    abc|: AcceptLine = Memory abc| /
+    ab|: AcceptLine = Submit ab| /
+
+    wants-memory: no = nothing
     abc|: AcceptLine = Helper abc| /
     abc|: AcceptOrInsertLine = Helper abc| /
     ab|: AcceptLine = Submit ab| /
     ab|: SelfInsert 1 c = abc| / write 'c'
     abc|: Newline = abc␊| / draw '> abc␊|' at 1,0 to 1,0
     abc|: EndOfFile = abc| /
-";
 
-const VALIDATOR_THAT_WANTS_MEMORY: &str = "
-    abc|: AcceptLine = Memory abc| /
-    ab|: AcceptLine = Submit ab| /
-";
-
-// The group that was begun for it stays open: what is typed then is taken back step by step, until a later group closes it.
-const GROUP_LEFT_OPEN: &str = "
+    tells: ring = nothing
     abc|: AcceptLine = abc| / - / abc|
     abc|: AcceptLine; SelfInsert 1 +; SelfInsert 1 - = abc+-| / - / abc+|
     abc|: AcceptLine; SelfInsert 1 +; SelfInsert 1 -; TransposeChars = abc-+| / - / abc|
@@ -105,21 +97,5 @@ const GROUP_LEFT_OPEN: &str = "
 
 #[test]
 fn helpers_that_fail(rt: HostRuntime) -> Result<(), Fail> {
-    let mut helper = Adviser::new(Verdict::Valid, "");
-    helper.hint_fails_at = 3;
-    let mut stage = PLAIN;
-    stage.history = "line0,line1";
-    stage.helper = Some(helper);
-    draws(&rt, &stage, HINTER_THAT_FAILS)?;
-    helper.wants_memory = true;
-    stage.helper = Some(helper);
-    draws(&rt, &stage, HINTER_THAT_WANTS_MEMORY)?;
-    helper.hint_fails_at = usize::MAX;
-    helper.verdict_fails_at = 3;
-    stage.helper = Some(helper);
-    draws(&rt, &stage, VALIDATOR_THAT_WANTS_MEMORY)?;
-    helper.wants_memory = false;
-    stage.helper = Some(helper);
-    draws(&rt, &stage, VALIDATOR_THAT_FAILS)?;
-    keeps(&rt, &stage, GROUP_LEFT_OPEN)
+    holds(&rt, FAILING_HELPERS)
 }

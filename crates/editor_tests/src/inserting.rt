@@ -1,10 +1,9 @@
 //! Characters and texts put in.
 
-use crate::desk::{PLAIN, Stage, draws, keeps};
-use crate::helpers::{Adviser, Verdict};
+use crate::desk::holds;
 use std::test::Fail;
 
-const TYPED: &str = "
+const INSERTIONS: &str = "
     |: SelfInsert 1 a = a| / write 'a'
     ab|: SelfInsert 1 c = abc| / write 'c'
     ab|: SelfInsert 1 ␠ = ab | / write ' '
@@ -21,32 +20,7 @@ const TYPED: &str = "
     ab|: SelfInsert 1 ␊ = ab␊| / draw '> ab␊|' at 1,0 to 1,0
     ab␉|: SelfInsert 1 x = ab␉x| / draw '> ab␉x|' at 0,6 to 0,6
     ab␊cd|: SelfInsert 1 é = ab␊cdé| / draw '> ab␊cdé|' at 1,3 to 1,3 below 1
-";
 
-const IN_TEN_COLUMNS: &str = "
-    abcdef|: SelfInsert 1 g = abcdefg| / write 'g'
-    abcdefg|: SelfInsert 1 h = abcdefgh| / draw '> abcdefgh|' at 1,0 to 1,0
-    abcdefgh|: SelfInsert 1 i = abcdefghi| / write 'i'
-    abcdefgh|: SelfInsert 1 é = abcdefghé| / draw '> abcdefghé|' at 1,1 to 1,1 below 1
-    abc|defgh: SelfInsert 1 x = abcx|defgh / draw '> abcx|defgh' at 0,6 to 1,1
-";
-
-const TYPED_UNDONE: &str = "
-    |: SelfInsert 1 a = a| / - / |
-    |: SelfInsert 1 a; SelfInsert 1 b = ab| / - / |
-    |: SelfInsert 1 a; SelfInsert 1 + = a+| / - / a|
-    |: SelfInsert 1 a; SelfInsert 1 +; SelfInsert 1 b = a+b| / - / a|
-    a|b: SelfInsert 1 x = ax|b / - / a|b
-    ab|: SelfInsert 3 x = abxxx| / - / ab|
-    ab|: SelfInsert 0 x = ab| / - / ab|
-    a|b: Insert 1 xy = axy|b / - / a|b
-    a|b: Insert 1 xy; SelfInsert 1 z = axyz|b / - / a|b
-    a|bcd: ReplaceChar 2 x = ax|xd / - / abc|d
-    a|bc: Overwrite x = ax|c / - / ab|c
-    ab|: Newline = ab␊| / - / ab|
-";
-
-const TEXTS: &str = "
     a|b: Insert 1 xy = axy|b / draw '> axy|b' at 0,5 to 0,6
     a|b: Insert 2 xy = axyxy|b / draw '> axyxy|b' at 0,7 to 0,8
     a|b: Insert 0 xy = a|b / draw '> a|b' at 0,3 to 0,4
@@ -55,9 +29,7 @@ const TEXTS: &str = "
     |: Insert 1 a␊b = a␊b| / draw '> a␊b|' at 1,1 to 1,1
     ab|: Newline = ab␊| / draw '> ab␊|' at 1,0 to 1,0
     a|b: Newline = a␊|b / draw '> a␊|b' at 1,0 to 1,1
-";
 
-const EXCHANGED: &str = "
     a|bcd: ReplaceChar 2 x = ax|xd / draw '> ax|xd' at 0,4 to 0,6
     ab|c: ReplaceChar 9 x = ab|x / draw '> ab|x' at 0,4 to 0,5
     ab|c: ReplaceChar 1 漢 = ab|漢 / draw '> ab|漢' at 0,4 to 0,6
@@ -70,31 +42,48 @@ const EXCHANGED: &str = "
     |漢字: Overwrite x = x|字 / draw '> x|字' at 0,3 to 0,5
     abc|: Overwrite x = abc| /
     |: Overwrite x = | /
+
+    tells: ring = nothing
+    |: SelfInsert 1 a = a| / - / |
+    |: SelfInsert 1 a; SelfInsert 1 b = ab| / - / |
+    |: SelfInsert 1 a; SelfInsert 1 + = a+| / - / a|
+    |: SelfInsert 1 a; SelfInsert 1 +; SelfInsert 1 b = a+b| / - / a|
+    a|b: SelfInsert 1 x = ax|b / - / a|b
+    ab|: SelfInsert 3 x = abxxx| / - / ab|
+    ab|: SelfInsert 0 x = ab| / - / ab|
+    a|b: Insert 1 xy = axy|b / - / a|b
+    a|b: Insert 1 xy; SelfInsert 1 z = axyz|b / - / a|b
+    a|bcd: ReplaceChar 2 x = ax|xd / - / abc|d
+    a|bc: Overwrite x = ax|c / - / ab|c
+    ab|: Newline = ab␊| / - / ab|
+
+    tells: calls = nothing
+    columns: 10 = nothing
+    abcdef|: SelfInsert 1 g = abcdefg| / write 'g'
+    abcdefg|: SelfInsert 1 h = abcdefgh| / draw '> abcdefgh|' at 1,0 to 1,0
+    abcdefgh|: SelfInsert 1 i = abcdefghi| / write 'i'
+    abcdefgh|: SelfInsert 1 é = abcdefghé| / draw '> abcdefghé|' at 1,1 to 1,1 below 1
+    abc|defgh: SelfInsert 1 x = abcx|defgh / draw '> abcx|defgh' at 0,6 to 1,1
 ";
 
 #[test]
 fn insertions_and_what_they_draw(rt: HostRuntime) -> Result<(), Fail> {
-    draws(&rt, &PLAIN, TYPED)?;
-    draws(&rt, &PLAIN, TEXTS)?;
-    draws(&rt, &PLAIN, EXCHANGED)?;
-    keeps(&rt, &PLAIN, TYPED_UNDONE)?;
-    let narrow = Stage {
-        columns: 10,
-        ..PLAIN
-    };
-    draws(&rt, &narrow, IN_TEN_COLUMNS)
+    holds(&rt, INSERTIONS)
 }
 
-const WITH_HINTS: &str = "
+const HINTS_AND_HIGHLIGHTS: &str = "
+    history: abcd = nothing
+    helper: Valid = nothing
     a|: SelfInsert 1 b = ab| / draw '> ab|{cd}' at 0,4 to 0,6
     |: SelfInsert 1 x = x| / write 'x'
     ab|: Repaint; SelfInsert 1 x = abx| / draw '> abx|' at 0,5 to 0,5
     ab|: Repaint; SelfInsert 1 x; SelfInsert 1 y = abxy| / write 'y'
     ab|: Repaint; Newline = ab␊| / draw '> ab|' at 0,4 to 0,4; draw '> ab␊|' at 1,0 to 1,0
     |b: Insert 1 a; Move EndOfLine; Repaint = ab| / draw '> ab|{cd}' at 0,4 to 0,6
-";
 
-const WITH_A_HIGHLIGHT: &str = "
+    history: = nothing
+    colours: yes = nothing
+    marks: 3 = nothing
     ab|: SelfInsert 1 c = abc| / draw '> abc|' at 0,5 to 0,5 lit
     ab|: SelfInsert 1 c; SelfInsert 1 d = abcd| / draw '> abcd|' at 0,6 to 0,6 lit
     ab|: SelfInsert 1 c; SelfInsert 1 d; SelfInsert 1 e = abcde| / write 'e'
@@ -102,14 +91,5 @@ const WITH_A_HIGHLIGHT: &str = "
 
 #[test]
 fn insertions_with_hints_and_highlights(rt: HostRuntime) -> Result<(), Fail> {
-    let mut helper = Adviser::new(Verdict::Valid, "");
-    let mut stage = PLAIN;
-    stage.history = "abcd";
-    stage.helper = Some(helper);
-    draws(&rt, &stage, WITH_HINTS)?;
-    helper.marked_at = 3;
-    stage.helper = Some(helper);
-    stage.history = "";
-    stage.colours = true;
-    draws(&rt, &stage, WITH_A_HIGHLIGHT)
+    holds(&rt, HINTS_AND_HIGHLIGHTS)
 }

@@ -1,10 +1,9 @@
 //! Kills, and copies into the ring.
 
-use crate::desk::{PLAIN, Stage, draws, keeps};
-use crate::helpers::{Adviser, Verdict};
+use crate::desk::holds;
 use std::test::Fail;
 
-const IN_A_ROW: &str = "
+const DRAWN: &str = "
     |: Kill BackwardChar 1 = | /
     |: Kill ForwardChar 1 = | /
     |: Kill EndOfLine = | /
@@ -42,9 +41,7 @@ const IN_A_ROW: &str = "
     漢字|: Kill BackwardChar 1 = 漢| / draw '> 漢|' at 0,4 to 0,4
     e\u{301}|: Kill BackwardChar 1 = | / draw '> |' at 0,2 to 0,2
     a|bc: ViYankTo EndOfLine = a|bc /
-";
 
-const IN_ROWS: &str = "
     ab␊cd|: Kill BackwardChar 1 = ab␊c| / move 1,2 to 1,1; clear row
     ab␊cd|: Kill BeginningOfLine = ab␊| / move 1,2 to 1,0; clear row
     ab␊|: Kill BackwardChar 1 = ab| / draw '> ab|' at 0,4 to 0,4 below 1
@@ -60,9 +57,14 @@ const IN_ROWS: &str = "
     ab␊c|d: Kill WholeBuffer = | / draw '> |' at 0,2 to 0,2 below 1
     ab␊c|d: Kill BeginningOfBuffer = |d / draw '> |d' at 0,2 to 0,3 below 1
     ab␊c|d: Kill EndOfBuffer = ab␊c| / move 1,1 to 1,1; clear row
-";
 
-const IN_TEN_COLUMNS: &str = "
+    ab|c: Replace ForwardChar 1 with xy = ab|xy / move 0,4 to 0,4; clear row; draw '> ab|xy' at 0,4 to 0,6
+    ab|c: Replace ForwardChar 1 = ab| / move 0,4 to 0,4; clear row
+    |abc: Replace ForwardChar 1 with x = |xbc / draw '> |bc' at 0,2 to 0,4; draw '> |xbc' at 0,2 to 0,5
+    |: Replace WholeLine with x = |x / draw '> |x' at 0,2 to 0,3
+    abc|: Replace EndOfLine = abc| /
+
+    columns: 10 = nothing
     abcdefghij|: Kill BackwardChar 1 = abcdefghi| / move 1,2 to 1,1; clear row
     abcdefghij|: Kill BackwardChar 2 = abcdefgh| / move 1,2 to 1,0; clear row
     abcdefghij|: Kill BackwardChar 3 = abcdefg| / draw '> abcdefg|' at 0,9 to 0,9 below 1
@@ -70,7 +72,13 @@ const IN_TEN_COLUMNS: &str = "
     abcdefgh|ij: Kill EndOfLine = abcdefgh| / move 1,0 to 1,0; clear row
 ";
 
+#[test]
+fn kills_and_what_they_draw(rt: HostRuntime) -> Result<(), Fail> {
+    holds(&rt, DRAWN)
+}
+
 const KEPT: &str = "
+    tells: ring = nothing
     abc|: Kill BackwardChar 1 = ab| / - / abc|
     a|bc: Kill ForwardChar 1 = a|c / - / ab|c
     a|bc: Kill EndOfLine = a| / 'bc' / abc|
@@ -94,32 +102,14 @@ const KEPT: &str = "
     a|bc: Replace EndOfLine = a| / 'bc' / abc|
 ";
 
-const REPLACED: &str = "
-    ab|c: Replace ForwardChar 1 with xy = ab|xy / move 0,4 to 0,4; clear row; draw '> ab|xy' at 0,4 to 0,6
-    ab|c: Replace ForwardChar 1 = ab| / move 0,4 to 0,4; clear row
-    |abc: Replace ForwardChar 1 with x = |xbc / draw '> |bc' at 0,2 to 0,4; draw '> |xbc' at 0,2 to 0,5
-    |: Replace WholeLine with x = |x / draw '> |x' at 0,2 to 0,3
-    abc|: Replace EndOfLine = abc| /
-";
-
-#[test]
-fn kills_and_what_they_draw(rt: HostRuntime) -> Result<(), Fail> {
-    draws(&rt, &PLAIN, IN_A_ROW)?;
-    draws(&rt, &PLAIN, IN_ROWS)?;
-    draws(&rt, &PLAIN, REPLACED)?;
-    let narrow = Stage {
-        columns: 10,
-        ..PLAIN
-    };
-    draws(&rt, &narrow, IN_TEN_COLUMNS)
-}
-
 #[test]
 fn kills_and_what_they_keep(rt: HostRuntime) -> Result<(), Fail> {
-    keeps(&rt, &PLAIN, KEPT)
+    holds(&rt, KEPT)
 }
 
 const WITH_HINTS: &str = "
+    history: abcd = nothing
+    helper: Valid = nothing
     abx|: Repaint; Kill BackwardChar 1 = ab| / draw '> ab|{cd}' at 0,4 to 0,6
     ab|: Repaint; Kill BackwardChar 2 = | / draw '> |' at 0,2 to 0,2
     ab|: Repaint; Kill ForwardChar 1; CompleteHint = abcd| / draw '> abcd|' at 0,6 to 0,6
@@ -128,8 +118,5 @@ const WITH_HINTS: &str = "
 
 #[test]
 fn kills_with_hints(rt: HostRuntime) -> Result<(), Fail> {
-    let mut stage = PLAIN;
-    stage.history = "abcd";
-    stage.helper = Some(Adviser::new(Verdict::Valid, ""));
-    draws(&rt, &stage, WITH_HINTS)
+    holds(&rt, WITH_HINTS)
 }

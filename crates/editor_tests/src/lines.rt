@@ -1,12 +1,10 @@
 //! Lines as they are typed. A row has keys by their names, parted by blanks, and after ` = ` how the line ends and the line
-//! then. `text:ab` is the pasted text `ab`; `!failed` at the end is a source that fails there.
+//! then. `text:ab` is the pasted text `ab`; `!failed` at the end is a source that fails there. What a row sets for the rows
+//! after it is as in tables of commands, and `bind: C-O: Noop` is the only key that is bound to a command.
 
 use crate::calls::CallList;
-use crate::desk::{
-    Desk, PLAIN, Stage, empty_desk, history_of, lent_by, line_shown, make, status_of,
-};
-use crate::helpers::{Adviser, Verdict};
-use line_config::{Config, EditMode, ReadlineError};
+use crate::desk::{Desk, Stage, empty_desk, history_of, lent_by, line_shown, make, status_of};
+use line_config::{Config, ReadlineError};
 use line_editor::commands::Status;
 use line_editor::run;
 use line_help::Helper;
@@ -15,9 +13,9 @@ use line_record::KillRing;
 use stand_ins::commands::command_named;
 use stand_ins::key_names::key_named;
 use stand_ins::readers::{After, KeyList, Typed};
-use stand_ins::tables::{call_and_answer, meant, pictured};
+use stand_ins::rows::{Player, rows_hold, trimmed};
+use stand_ins::tables::{meant, pictured};
 use std::alloc::Global;
-use std::process::Abort;
 use std::test::Fail;
 
 /// What a row types.
@@ -145,7 +143,7 @@ fn typed_over<H: Helper + Drop>(
     bindings: &Bindings,
     keys: &Input,
 ) -> Result<Ended, Fail> {
-    let history = history_of(alloc, stage.history)?;
+    let history = history_of(alloc, stage.history.as_str())?;
     let config = Config::builder().edit_mode(stage.mode).build();
     let mut input = InputState::new(alloc, &config, bindings)?;
     let mut ring = KillRing::new(alloc, 60)?;
@@ -165,7 +163,7 @@ fn run_over<H: Helper + Drop>(
     bindings: &Bindings,
     keys: &Input,
 ) -> Result<String, Fail> {
-    let history = history_of(alloc, stage.history)?;
+    let history = history_of(alloc, stage.history.as_str())?;
     let config = Config::builder().edit_mode(stage.mode).build();
     let mut ring = KillRing::new(alloc, 60)?;
     let mut reader = KeyList::new(&keys.typed, false, keys.after);
@@ -207,74 +205,51 @@ impl Ended {
         };
         Ok(format!(in alloc; "{text} / {} / {}", self.calls, self.ring)?)
     }
-}
 
-// Types a row's keys, turn by turn and as a whole line, which is the same.
-fn typed_out(
-    rt: &(impl AllocGlobal + Abort),
-    stage: &Stage,
-    bound: &str,
-    keys: &str,
-) -> Result<Ended, Fail> {
-    let alloc = rt.alloc();
-    let mut bindings = Bindings::new(alloc)?;
-    bind(alloc, &mut bindings, bound)?;
-    let input = typed(alloc, keys)?;
-    let found = typed_over(alloc, stage, stage.helper, &bindings, &input)?;
-    let whole = run_over(alloc, stage, stage.helper, &bindings, &input)?;
-    assert_eq!(rt; whole.as_str(), found.whole(alloc)?.as_str(), "{keys}");
-    Ok(found)
-}
-
-/// Each row has, after ` / `, all calls from the first drawing on.
-fn types(
-    rt: &(impl AllocGlobal + Abort),
-    stage: &Stage,
-    bound: &str,
-    table: &str,
-) -> Result<(), Fail> {
-    for row in table.lines() {
-        let Some((keys, wanted)) = call_and_answer(row) else {
-            continue;
-        };
-        let found = typed_out(rt, stage, bound, keys)?;
-        let said = format!(in rt.alloc(); "{}{} / {}", found.status, found.line, found.calls)?;
-        assert_eq!(rt; said.as_str().trim(), wanted, "{row}");
+    // What is told of this line: the calls, or the ring.
+    fn told(&self, alloc: Global, ring: bool) -> Result<String, Fail> {
+        let last = if ring { &self.ring } else { &self.calls };
+        Ok(format!(in alloc; "{}{} / {last}", self.status, self.line)?)
     }
-    Ok(())
 }
 
-/// Each row has, after ` / `, what a yank would give, in quotes or `-`.
-fn leaves(rt: &(impl AllocGlobal + Abort), stage: &Stage, table: &str) -> Result<(), Fail> {
-    for row in table.lines() {
-        let Some((keys, wanted)) = call_and_answer(row) else {
-            continue;
-        };
-        let found = typed_out(rt, stage, "", keys)?;
-        let said = format!(in rt.alloc(); "{}{} / {}", found.status, found.line, found.ring)?;
-        assert_eq!(rt; said.as_str().trim(), wanted, "{row}");
-    }
-    Ok(())
+/// Keys that are typed on a stage.
+#[derive(Drop)]
+struct Typist {
+    stage: Stage,
 }
 
-/// Each row has a number of calls that the renderer makes before it fails.
-fn fails_after(
-    rt: &(impl AllocGlobal + Abort),
-    stage: &Stage,
-    keys: &str,
-    table: &str,
-) -> Result<(), Fail> {
-    for row in table.lines() {
-        let Some((answered, wanted)) = call_and_answer(row) else {
-            continue;
-        };
-        let mut failing = *stage;
-        failing.answered = answered.parse().ok();
-        let found = typed_out(rt, &failing, "", keys)?;
-        let said = format!(in rt.alloc(); "{}{} / {}", found.status, found.line, found.calls)?;
-        assert_eq!(rt; said.as_str().trim(), wanted, "{row}");
+impl Typist {
+    // What `run` is to leave of the same line, and what the keys lead to, turn by turn.
+    fn types(&self, alloc: Global, keys: &str) -> Result<String, Fail> {
+        let mut bindings = Bindings::new(alloc)?;
+        bind(alloc, &mut bindings, self.stage.bound.as_str())?;
+        let input = typed(alloc, keys)?;
+        let stage = &self.stage;
+        let found = typed_over(alloc, stage, stage.helper(), &bindings, &input)?;
+        let whole = run_over(alloc, stage, stage.helper(), &bindings, &input)?;
+        if whole.as_str() != found.whole(alloc)?.as_str() {
+            return Err(Fail::new(format_args!("run leaves of {keys}: {whole}")));
+        }
+        found.told(alloc, stage.tells_ring)
     }
-    Ok(())
+}
+
+impl Player for Typist {
+    fn play(&mut self, alloc: Global, row: &str) -> Result<String, Fail> {
+        if self.stage.sets(alloc, row)? {
+            return Ok(String::new(alloc));
+        }
+        let said = self.types(alloc, row)?;
+        trimmed(alloc, said.as_str())
+    }
+}
+
+/// Each row has, after ` / `, all calls from the first drawing on; where the ring is told of, what a yank would give, in
+/// quotes or `-`.
+fn types(rt: &impl AllocGlobal, table: &str) -> Result<(), Fail> {
+    let stage = Stage::new(rt.alloc());
+    rows_hold(rt.alloc(), &mut Typist { stage }, table)
 }
 
 const TYPED: &str = "
@@ -290,9 +265,7 @@ const TYPED: &str = "
     a b Backspace Enter = Submit a| / draw '> |' at 0,2 to 0,2; write 'a'; write 'b'; move 0,4 to 0,3; clear row
     a C-X C-U Enter = Submit | / draw '> |' at 0,2 to 0,2; write 'a'; draw '> |' at 0,2 to 0,2
     a Tab C-G Enter = Submit a| / draw '> |' at 0,2 to 0,2; write 'a'
-";
 
-const COUNTED: &str = "
     A-2 x = Eof xx| / draw '> |' at 0,2 to 0,2; draw '(arg: 2) |' at 0,9 to 0,9; draw '> |' at 0,2 to 0,2; draw '> xx|' at 0,4 to 0,4
     A-1 2 = Eof | / draw '> |' at 0,2 to 0,2; draw '(arg: 1) |' at 0,9 to 0,9; draw '(arg: 12) |' at 0,10 to 0,10
     A-- x = Eof | / draw '> |' at 0,2 to 0,2; draw '(arg: -1) |' at 0,10 to 0,10; draw '> |' at 0,2 to 0,2
@@ -304,15 +277,14 @@ const COUNTED: &str = "
 
 #[test]
 fn keys_of_a_line(rt: HostRuntime) -> Result<(), Fail> {
-    types(&rt, &PLAIN, "", TYPED)?;
-    types(&rt, &PLAIN, "", COUNTED)
+    types(&rt, TYPED)
 }
 
-const BOUND: &str = "
+const HISTORY: &str = "
+    bind: C-O: HistorySearchBackward = nothing
     C-O = Eof | / draw '> |' at 0,2 to 0,2; beep
-";
 
-const WITH_ENTRIES: &str = "
+    history: line0,line1 = nothing
     c u r Up Up Up Down Down Enter = Submit cur| / draw '> |' at 0,2 to 0,2; write 'c'; write 'u'; write 'r'; draw '> line1|' at 0,7 to 0,7; draw '> line0|' at 0,7 to 0,7; draw '> line1|' at 0,7 to 0,7; draw '> cur|' at 0,5 to 0,5
     l C-O Enter = Submit line1| / draw '> |' at 0,2 to 0,2; write 'l'; draw '> l|ine1' at 0,3 to 0,7; move 0,3 to 0,7
     A-< Enter = Submit line0| / draw '> |' at 0,2 to 0,2; draw '> line0|' at 0,7 to 0,7
@@ -320,13 +292,11 @@ const WITH_ENTRIES: &str = "
 
 #[test]
 fn keys_that_step_through_the_history(rt: HostRuntime) -> Result<(), Fail> {
-    types(&rt, &PLAIN, "C-O: HistorySearchBackward", BOUND)?;
-    let mut stage = PLAIN;
-    stage.history = "line0,line1";
-    types(&rt, &stage, "C-O: HistorySearchBackward", WITH_ENTRIES)
+    types(&rt, HISTORY)
 }
 
 const IN_VI: &str = "
+    mode: Vi = nothing
     a b Esc x Enter = Submit a| / draw '> |' at 0,2 to 0,2; write 'a'; write 'b'; move 0,4 to 0,3; move 0,3 to 0,3; clear row
     3 Enter = Submit 3| / draw '> |' at 0,2 to 0,2; write '3'
     a b c Esc 2 h Enter = Submit abc| / draw '> |' at 0,2 to 0,2; write 'a'; write 'b'; write 'c'; move 0,5 to 0,4; draw '(arg: 2) ab|c' at 0,11 to 0,12; draw '> ab|c' at 0,4 to 0,5; move 0,4 to 0,2; move 0,2 to 0,5
@@ -335,9 +305,8 @@ const IN_VI: &str = "
     a C-D = Submit a| / draw '> |' at 0,2 to 0,2; write 'a'
     C-D = Eof | / draw '> |' at 0,2 to 0,2
     a b Esc y y p Enter = Submit abab| / draw '> |' at 0,2 to 0,2; write 'a'; write 'b'; move 0,4 to 0,3; draw '> aba|b' at 0,5 to 0,6; move 0,5 to 0,6
-";
 
-const YANKED_IN_VI: &str = "
+    tells: ring = nothing
     a b Esc y y p Enter = Submit abab| / 'ab'
     a b Space c Esc y b P Enter = Submit ab ab c| / 'ab '
     a b Space c Esc y b P = Eof ab ab| c / 'ab '
@@ -347,9 +316,7 @@ const YANKED_IN_VI: &str = "
     a b Esc x p Enter = Submit a| / -
     a b Esc y ^ p Enter = Submit ab| / -
     a Space b Esc 0 c w x y Esc w . Enter = Submit xy xy| / 'b'
-";
 
-const CHANGED_IN_VI: &str = "
     a + b Esc A c + Esc u Enter = Submit a+b| / -
     a b c Esc 0 R x y Esc Enter = Submit xyc| / -
     a b c Esc 0 R x y Esc u Enter = Submit abc| / -
@@ -359,21 +326,17 @@ const CHANGED_IN_VI: &str = "
 
 #[test]
 fn keys_of_a_line_in_vi(rt: HostRuntime) -> Result<(), Fail> {
-    let mut stage = PLAIN;
-    stage.mode = EditMode::Vi;
-    types(&rt, &stage, "", IN_VI)?;
-    leaves(&rt, &stage, YANKED_IN_VI)?;
-    leaves(&rt, &stage, CHANGED_IN_VI)
+    types(&rt, IN_VI)
 }
 
-const YANKED: &str = "
+const KILLS_AND_FAILURES: &str = "
+    tells: ring = nothing
     a b c C-A C-K C-Y Enter = Submit abc| / 'abc'
     a Space b C-W A-Backspace C-Y = Eof a b| / 'a b'
     a Space b C-W Left A-Backspace C-Y A-y = Eof b|  / 'b'
     a b Backspace C-Y Enter = Submit a| / -
-";
 
-const SOURCE_FAILS: &str = "
+    tells: calls = nothing
     !failed = Reader | / draw '> |' at 0,2 to 0,2
     a !failed = Reader a| / draw '> |' at 0,2 to 0,2; write 'a'
     a Left !failed = Reader |a / draw '> |' at 0,2 to 0,2; write 'a'; move 0,3 to 0,2
@@ -387,59 +350,54 @@ const SOURCE_FAILS: &str = "
 
 #[test]
 fn kills_and_sources_that_fail_within_a_line(rt: HostRuntime) -> Result<(), Fail> {
-    leaves(&rt, &PLAIN, YANKED)?;
-    types(&rt, &PLAIN, "", SOURCE_FAILS)
+    types(&rt, KILLS_AND_FAILURES)
 }
 
-const AFTER_SO_MANY_CALLS: &str = "
-    0 = Display | /
-    1 = Display a| / draw '> |' at 0,2 to 0,2
-    2 = Display |a / draw '> |' at 0,2 to 0,2; write 'a'
-    3 = Display |a / draw '> |' at 0,2 to 0,2; write 'a'; move 0,3 to 0,2
-    4 = Display |a / draw '> |' at 0,2 to 0,2; write 'a'; move 0,3 to 0,2; draw '(arg: 2) |a' at 0,9 to 0,10
-    5 = Display bb|a / draw '> |' at 0,2 to 0,2; write 'a'; move 0,3 to 0,2; draw '(arg: 2) |a' at 0,9 to 0,10; draw '> |a' at 0,2 to 0,3
-    6 = Display bba| / draw '> |' at 0,2 to 0,2; write 'a'; move 0,3 to 0,2; draw '(arg: 2) |a' at 0,9 to 0,10; draw '> |a' at 0,2 to 0,3; draw '> bb|a' at 0,4 to 0,5
-    7 = Submit bba| / draw '> |' at 0,2 to 0,2; write 'a'; move 0,3 to 0,2; draw '(arg: 2) |a' at 0,9 to 0,10; draw '> |a' at 0,2 to 0,3; draw '> bb|a' at 0,4 to 0,5; move 0,4 to 0,5
+const FAILING_DISPLAYS: &str = "
+    answered: 0 = nothing
+    a Left A-2 b Up Enter = Display | /
+    answered: 1 = nothing
+    a Left A-2 b Up Enter = Display a| / draw '> |' at 0,2 to 0,2
+    answered: 2 = nothing
+    a Left A-2 b Up Enter = Display |a / draw '> |' at 0,2 to 0,2; write 'a'
+    answered: 3 = nothing
+    a Left A-2 b Up Enter = Display |a / draw '> |' at 0,2 to 0,2; write 'a'; move 0,3 to 0,2
+    answered: 4 = nothing
+    a Left A-2 b Up Enter = Display |a / draw '> |' at 0,2 to 0,2; write 'a'; move 0,3 to 0,2; draw '(arg: 2) |a' at 0,9 to 0,10
+    answered: 5 = nothing
+    a Left A-2 b Up Enter = Display bb|a / draw '> |' at 0,2 to 0,2; write 'a'; move 0,3 to 0,2; draw '(arg: 2) |a' at 0,9 to 0,10; draw '> |a' at 0,2 to 0,3
+    answered: 6 = nothing
+    a Left A-2 b Up Enter = Display bba| / draw '> |' at 0,2 to 0,2; write 'a'; move 0,3 to 0,2; draw '(arg: 2) |a' at 0,9 to 0,10; draw '> |a' at 0,2 to 0,3; draw '> bb|a' at 0,4 to 0,5
+    answered: 7 = nothing
+    a Left A-2 b Up Enter = Submit bba| / draw '> |' at 0,2 to 0,2; write 'a'; move 0,3 to 0,2; draw '(arg: 2) |a' at 0,9 to 0,10; draw '> |a' at 0,2 to 0,3; draw '> bb|a' at 0,4 to 0,5; move 0,4 to 0,5
 ";
 
 #[test]
 fn displays_that_fail_within_a_line(rt: HostRuntime) -> Result<(), Fail> {
-    fails_after(&rt, &PLAIN, "a Left A-2 b Up Enter", AFTER_SO_MANY_CALLS)
+    types(&rt, FAILING_DISPLAYS)
 }
 
-const WITH_A_HINT: &str = "
+const WITH_A_HELPER: &str = "
+    helper: Incomplete = nothing
+    a Enter b C-C = Interrupted a␊b| / draw '> |' at 0,2 to 0,2; write 'a'; draw '> a␊|' at 1,0 to 1,0; write 'b'
+
+    helper: InvalidTold no = nothing
+    a Enter Left Enter = Eof |a / draw '> |' at 0,2 to 0,2; write 'a'; draw '> a|{no}' at 0,3 to 0,5; move 0,3 to 0,2; draw '> |a{no}' at 0,2 to 0,5
+    a Enter A-2 b = Eof abb| / draw '> |' at 0,2 to 0,2; write 'a'; draw '> a|{no}' at 0,3 to 0,5; draw '(arg: 2) a|' at 0,10 to 0,10; draw '> a|' at 0,3 to 0,3; draw '> abb|' at 0,5 to 0,5
+
+    helper: Valid = nothing
+    history: abcd = nothing
     a b Right Enter = Submit abcd| / draw '> |' at 0,2 to 0,2; draw '> a|{bcd}' at 0,3 to 0,6; draw '> ab|{cd}' at 0,4 to 0,6; draw '> abcd|' at 0,6 to 0,6
     a Enter = Submit a| / draw '> |' at 0,2 to 0,2; draw '> a|{bcd}' at 0,3 to 0,6; draw '> a|' at 0,3 to 0,3
     a C-C = Interrupted a| / draw '> |' at 0,2 to 0,2; draw '> a|{bcd}' at 0,3 to 0,6; move 0,3 to 0,6
-";
 
-const INCOMPLETE: &str = "
-    a Enter b C-C = Interrupted a␊b| / draw '> |' at 0,2 to 0,2; write 'a'; draw '> a␊|' at 1,0 to 1,0; write 'b'
-";
-
-const INVALID_WITH_A_MESSAGE: &str = "
-    a Enter Left Enter = Eof |a / draw '> |' at 0,2 to 0,2; write 'a'; draw '> a|{no}' at 0,3 to 0,5; move 0,3 to 0,2; draw '> |a{no}' at 0,2 to 0,5
-    a Enter A-2 b = Eof abb| / draw '> |' at 0,2 to 0,2; write 'a'; draw '> a|{no}' at 0,3 to 0,5; draw '(arg: 2) a|' at 0,10 to 0,10; draw '> a|' at 0,3 to 0,3; draw '> abb|' at 0,5 to 0,5
-";
-
-const HINTER_FAILS: &str = "
+    history: = nothing
+    hint-fails: 2 = nothing
     a b Enter = Helper ab| / draw '> |' at 0,2 to 0,2; write 'a'
     a A-2 b Enter = Helper abb| / draw '> |' at 0,2 to 0,2; write 'a'; draw '(arg: 2) a|' at 0,10 to 0,10; draw '> a|' at 0,3 to 0,3
 ";
 
 #[test]
 fn keys_of_a_line_with_a_helper(rt: HostRuntime) -> Result<(), Fail> {
-    let mut stage = PLAIN;
-    stage.helper = Some(Adviser::new(Verdict::Incomplete, ""));
-    types(&rt, &stage, "", INCOMPLETE)?;
-    stage.helper = Some(Adviser::new(Verdict::InvalidTold, "no"));
-    types(&rt, &stage, "", INVALID_WITH_A_MESSAGE)?;
-    let mut helper = Adviser::new(Verdict::Valid, "");
-    stage.history = "abcd";
-    stage.helper = Some(helper);
-    types(&rt, &stage, "", WITH_A_HINT)?;
-    helper.hint_fails_at = 2;
-    stage.history = "";
-    stage.helper = Some(helper);
-    types(&rt, &stage, "", HINTER_FAILS)
+    types(&rt, WITH_A_HELPER)
 }

@@ -1,10 +1,9 @@
 //! Motions.
 
-use crate::desk::{PLAIN, Stage, draws};
-use crate::helpers::{Adviser, Verdict};
+use crate::desk::holds;
 use std::test::Fail;
 
-const ALONG_A_ROW: &str = "
+const MOTIONS: &str = "
     |: Move BackwardChar 1 = | /
     |: Move ForwardChar 1 = | /
     |: Move BeginningOfLine = | /
@@ -30,9 +29,7 @@ const ALONG_A_ROW: &str = "
     e|\u{301}x: Move ForwardChar 1 = e\u{301}|x /
     e\u{301}|x: Move BackwardChar 1 = |e\u{301}x / move 0,3 to 0,2
     👨‍👩‍👧|: Move BackwardChar 1 = |👨‍👩‍👧 / move 0,4 to 0,2
-";
 
-const TO_WORDS: &str = "
     |one two: Move ForwardWord 1 AfterEnd Emacs = one| two / move 0,2 to 0,5
     |one two: Move ForwardWord 1 Start Vi = one |two / move 0,2 to 0,6
     |one two: Move ForwardWord 1 BeforeEnd Vi = on|e two / move 0,2 to 0,4
@@ -48,9 +45,7 @@ const TO_WORDS: &str = "
     alpha ,beta/rho; mu|: Move BackwardWord 1 Vi = alpha ,beta/rho; |mu / move 0,21 to 0,19
     alpha ,beta/rho; |mu: Move BackwardWord 1 Vi = alpha ,beta/rho|; mu / move 0,19 to 0,17
     alpha ,beta/rho; |mu: Move BackwardWord 1 Big = alpha |,beta/rho; mu / move 0,19 to 0,8
-";
 
-const TO_CHARACTERS: &str = "
     a|bcbd: Move ViCharSearch 1 Forward b = abc|bd / move 0,3 to 0,5
     |abcb: Move ViCharSearch 9 Forward b = abc|b / move 0,2 to 0,5
     |abcb: Move ViCharSearch 1 ForwardBefore c = a|bcb / move 0,2 to 0,3
@@ -61,9 +56,7 @@ const TO_CHARACTERS: &str = "
     abcbd|: Move ViCharSearch 2 Backward b = a|bcbd / move 0,7 to 0,3
     abcbd|: Move ViCharSearch 1 BackwardAfter b = abcb|d / move 0,7 to 0,6
     |: Move ViCharSearch 1 Backward b = | /
-";
 
-const IN_ROWS: &str = "
     ab␊cd|: Move LineUp 1 = |ab␊cd / move 1,2 to 0,2
     abc␊wxyz|: Move LineUp 1 = ab|c␊wxyz / move 1,4 to 0,4
     ab|c␊wxyz: Move LineDown 1 = abc␊wxyz| / move 0,4 to 1,4
@@ -81,9 +74,7 @@ const IN_ROWS: &str = "
     |ab␊cd: Move BeginningOfBuffer = |ab␊cd /
     a|b␊cd: Move EndOfBuffer = ab␊cd| / move 0,3 to 1,2
     ab␊cd|: Move EndOfBuffer = ab␊cd| /
-";
 
-const TO_FIRST_PRINT: &str = "
     ␠ ab|: Move ViFirstPrint = ␠ |ab / move 0,6 to 0,2; move 0,2 to 0,4
     |␠ ab: Move ViFirstPrint = ␠ |ab / move 0,2 to 0,4
     ab c|: Move ViFirstPrint = |ab c / move 0,6 to 0,2
@@ -91,7 +82,13 @@ const TO_FIRST_PRINT: &str = "
     |: Move ViFirstPrint = | /
 ";
 
+#[test]
+fn motions_ask_for_moves(rt: HostRuntime) -> Result<(), Fail> {
+    holds(&rt, MOTIONS)
+}
+
 const IN_TEN_COLUMNS: &str = "
+    columns: 10 = nothing
     abcdefgh|: Move BackwardChar 1 = abcdefg|h / move 1,0 to 0,9
     abcdefg|h: Move ForwardChar 1 = abcdefgh| / move 0,9 to 1,0
     abcdefghij|: Move BeginningOfLine = |abcdefghij / move 1,2 to 0,2
@@ -99,46 +96,30 @@ const IN_TEN_COLUMNS: &str = "
 ";
 
 #[test]
-fn motions_ask_for_moves(rt: HostRuntime) -> Result<(), Fail> {
-    draws(&rt, &PLAIN, ALONG_A_ROW)?;
-    draws(&rt, &PLAIN, TO_WORDS)?;
-    draws(&rt, &PLAIN, TO_CHARACTERS)?;
-    draws(&rt, &PLAIN, IN_ROWS)?;
-    draws(&rt, &PLAIN, TO_FIRST_PRINT)
-}
-
-#[test]
 fn motions_in_a_narrow_display(rt: HostRuntime) -> Result<(), Fail> {
-    let narrow = Stage {
-        columns: 10,
-        ..PLAIN
-    };
-    draws(&rt, &narrow, IN_TEN_COLUMNS)
+    holds(&rt, IN_TEN_COLUMNS)
 }
 
-const ONTO_A_HIGHLIGHTED_CHARACTER: &str = "
+const HIGHLIGHTS: &str = "
+    helper: Valid = nothing
+    marks: 1 = nothing
+    ab|c: Move BackwardChar 1 = a|bc / move 0,4 to 0,3
+
+    colours: yes = nothing
     ab|c: Move BackwardChar 1 = a|bc / draw '> a|bc' at 0,3 to 0,5 lit
     ab|c: Move BackwardChar 1; Move BackwardChar 1 = |abc / draw '> |abc' at 0,2 to 0,5 lit
     ab|c: Move BackwardChar 1; Move BackwardChar 1; Move EndOfLine = abc| / move 0,2 to 0,5
     ab|c: Move BackwardChar 2 = |abc / move 0,4 to 0,2
 ";
 
-const WITHOUT_COLOURS: &str = "
-    ab|c: Move BackwardChar 1 = a|bc / move 0,4 to 0,3
-";
-
 #[test]
 fn moves_that_highlight_draw(rt: HostRuntime) -> Result<(), Fail> {
-    let mut helper = Adviser::new(Verdict::Valid, "");
-    helper.marked_at = 1;
-    let mut stage = PLAIN;
-    stage.helper = Some(helper);
-    draws(&rt, &stage, WITHOUT_COLOURS)?;
-    stage.colours = true;
-    draws(&rt, &stage, ONTO_A_HIGHLIGHTED_CHARACTER)
+    holds(&rt, HIGHLIGHTS)
 }
 
 const WITH_A_HINT: &str = "
+    history: abcd = nothing
+    helper: Valid = nothing
     ab|: Repaint = ab| / draw '> ab|{cd}' at 0,4 to 0,6
     ab|: Repaint; Move BackwardChar 1 = a|b / move 0,4 to 0,3
     ab|: Repaint; Move ForwardChar 1 = ab| /
@@ -146,8 +127,5 @@ const WITH_A_HINT: &str = "
 
 #[test]
 fn moves_leave_the_hint(rt: HostRuntime) -> Result<(), Fail> {
-    let mut stage = PLAIN;
-    stage.history = "abcd";
-    stage.helper = Some(Adviser::new(Verdict::Valid, ""));
-    draws(&rt, &stage, WITH_A_HINT)
+    holds(&rt, WITH_A_HINT)
 }

@@ -1,9 +1,10 @@
 //! The history in place of the line.
 
-use crate::desk::{PLAIN, Stage, draws, keeps};
+use crate::desk::holds;
 use std::test::Fail;
 
 const STEPS: &str = "
+    history: line0,line1 = nothing
     cur|: PreviousHistory = line1| / draw '> line1|' at 0,7 to 0,7
     cur|: PreviousHistory; PreviousHistory = line0| / draw '> line0|' at 0,7 to 0,7
     cur|: PreviousHistory; PreviousHistory; PreviousHistory = line0| /
@@ -20,9 +21,7 @@ const STEPS: &str = "
     cu|r: PreviousHistory; BeginningOfHistory; EndOfHistory = cu|r / draw '> cu|r' at 0,4 to 0,5
     cu|r: EndOfHistory = cu|r /
     a␊b|: PreviousHistory = line1| / draw '> line1|' at 0,7 to 0,7 below 1
-";
 
-const BY_ROWS: &str = "
     cur|: LineUpOrPreviousHistory 1 = line1| / draw '> line1|' at 0,7 to 0,7
     cur|: LineUpOrPreviousHistory 9 = line1| / draw '> line1|' at 0,7 to 0,7
     cur|: LineDownOrNextHistory 1 = cur| /
@@ -32,9 +31,8 @@ const BY_ROWS: &str = "
     ab|c␊wxyz: LineDownOrNextHistory 1 = abc␊wxyz| / move 0,4 to 1,4
     abc␊wxyz|: LineDownOrNextHistory 1 = abc␊wxyz| /
     ab␊cd|: LineUpOrPreviousHistory 0 = line1| / draw '> line1|' at 0,7 to 0,7 below 1
-";
 
-const STEPS_UNDONE: &str = "
+    tells: ring = nothing
     cur|: PreviousHistory = line1| / - / cur|
     cu|r: PreviousHistory = line1| / - / cur|
     cu|r: PreviousHistory; PreviousHistory = line0| / - / line1|
@@ -44,16 +42,21 @@ const STEPS_UNDONE: &str = "
 
 #[test]
 fn steps_through_the_history(rt: HostRuntime) -> Result<(), Fail> {
-    let stage = Stage {
-        history: "line0,line1",
-        ..PLAIN
-    };
-    draws(&rt, &stage, STEPS)?;
-    draws(&rt, &stage, BY_ROWS)?;
-    keeps(&rt, &stage, STEPS_UNDONE)
+    holds(&rt, STEPS)
 }
 
+// A search that finds nothing moves the place nevertheless, and no search keeps the line; at the history's end the
+// next step back does.
 const SEARCHES: &str = "
+    |: HistorySearchBackward = | / beep
+    ab|: HistorySearchForward = ab| / beep
+    ab|: PreviousHistory = ab| /
+    ab|: NextHistory = ab| /
+    ab|: BeginningOfHistory = ab| /
+    ab|: EndOfHistory = ab| /
+    ab|: LineUpOrPreviousHistory 1 = ab| /
+
+    history: line0,line1,xy = nothing
     li|: HistorySearchBackward = li|ne1 / draw '> li|ne1' at 0,4 to 0,7
     li|x: HistorySearchBackward = li|ne1 / draw '> li|ne1' at 0,4 to 0,7
     li|: HistorySearchBackward; HistorySearchBackward = li|ne0 / draw '> li|ne0' at 0,4 to 0,7
@@ -64,38 +67,18 @@ const SEARCHES: &str = "
     |: HistorySearchBackward = | / beep
     lix|: HistorySearchBackward; PreviousHistory = line1| / draw '> line1|' at 0,7 to 0,7
     lix|: HistorySearchBackward; NextHistory = | / draw '> |' at 0,2 to 0,2
-";
 
-// A search that finds nothing moves the place nevertheless, and no search keeps the line; at the history's end the next
-// step back does.
-const SEARCHES_TO_THE_END: &str = "
     li|: HistorySearchBackward; HistorySearchForward = li|ne1 / beep
     li|: HistorySearchBackward; HistorySearchForward; HistorySearchForward = li|ne1 / beep
     li|: HistorySearchBackward; HistorySearchForward; HistorySearchForward; PreviousHistory = xy| / draw '> xy|' at 0,4 to 0,4
     li|: HistorySearchBackward; HistorySearchForward; HistorySearchForward; PreviousHistory; NextHistory = li|ne1 / draw '> li|ne1' at 0,4 to 0,7
-";
 
-const SEARCHES_UNDONE: &str = "
+    tells: ring = nothing
     li|: HistorySearchBackward = li|ne1 / - / li|
     lix|: HistorySearchBackward = lix| / - / lix|
 ";
 
-const WITHOUT_ENTRIES: &str = "
-    |: HistorySearchBackward = | / beep
-    ab|: HistorySearchForward = ab| / beep
-    ab|: PreviousHistory = ab| /
-    ab|: NextHistory = ab| /
-    ab|: BeginningOfHistory = ab| /
-    ab|: EndOfHistory = ab| /
-    ab|: LineUpOrPreviousHistory 1 = ab| /
-";
-
 #[test]
 fn searches_of_the_history(rt: HostRuntime) -> Result<(), Fail> {
-    let mut stage = PLAIN;
-    draws(&rt, &stage, WITHOUT_ENTRIES)?;
-    stage.history = "line0,line1,xy";
-    draws(&rt, &stage, SEARCHES)?;
-    draws(&rt, &stage, SEARCHES_TO_THE_END)?;
-    keeps(&rt, &stage, SEARCHES_UNDONE)
+    holds(&rt, SEARCHES)
 }

@@ -1,9 +1,9 @@
 //! Transpositions, letters in another case, indentation, and changes taken back.
 
-use crate::desk::{PLAIN, draws, keeps};
+use crate::desk::holds;
 use std::test::Fail;
 
-const TRANSPOSED: &str = "
+const CHANGES: &str = "
     a|ßc: TransposeChars = ßa|c / draw '> ßa|c' at 0,4 to 0,5
     abc|: TransposeChars = acb| / draw '> acb|' at 0,5 to 0,5
     aa|: TransposeChars = aa| / draw '> aa|' at 0,4 to 0,4
@@ -18,9 +18,7 @@ const TRANSPOSED: &str = "
     w|: TransposeWords 1 = w| /
     ab c|: TransposeWords 0 = ab c| /
     |: TransposeWords 1 = | /
-";
 
-const IN_OTHER_LETTERS: &str = "
     |one two: CapitalizeWord = One| two / draw '> One| two' at 0,5 to 0,9
     o|nE: CapitalizeWord = oNe| / draw '> oNe|' at 0,5 to 0,5
     ONE| TWO: DowncaseWord = ONE two| / draw '> ONE two|' at 0,9 to 0,9
@@ -31,9 +29,7 @@ const IN_OTHER_LETTERS: &str = "
     one|: UpcaseWord = one| /
     |--: UpcaseWord = |-- /
     |: CapitalizeWord = | /
-";
 
-const INDENTED: &str = "
     ab|: Indent WholeLine = ␠ ab| / draw '>   ab|' at 0,6 to 0,6
     a|b␊cd: Indent LineDown 1 = ␠ a|b␊  cd / draw '>   a|b␊  cd' at 0,5 to 1,4
     |: Indent ForwardWord 1 Start Vi = ␠ | / draw '>   |' at 0,4 to 0,4
@@ -41,9 +37,7 @@ const INDENTED: &str = "
     ␠␠␠ ab|: Dedent WholeLine = ␠ ab| / draw '>   ab|' at 0,6 to 0,6
     ab|: Dedent WholeLine = ab| / draw '> ab|' at 0,4 to 0,4
     |: Dedent WholeLine = | / draw '> |' at 0,2 to 0,2
-";
 
-const UNDONE: &str = "
     ab|: Undo 1 = ab| /
     ab|: SelfInsert 1 c; Undo 1 = ab| / draw '> ab|' at 0,4 to 0,4
     ab|: SelfInsert 1 c; Undo 0 = ab| / draw '> ab|' at 0,4 to 0,4
@@ -52,9 +46,8 @@ const UNDONE: &str = "
     ab|: SelfInsert 1 c; Undo 1; Undo 1 = ab| /
     a|bc: Kill EndOfLine; Undo 1 = abc| / draw '> abc|' at 0,5 to 0,5
     ab␊|cd: Kill BeginningOfLine; Undo 1 = ab␊|cd / draw '> ab␊|cd' at 1,0 to 1,2
-";
 
-const KEPT: &str = "
+    tells: ring = nothing
     abc|: TransposeChars = acb| / - / abc|
     ab c|: TransposeWords 1 = c ab| / - / ab c|
     |w: TransposeWords 1 = w| / - / w|
@@ -67,9 +60,5 @@ const KEPT: &str = "
 
 #[test]
 fn words_and_rows_changed(rt: HostRuntime) -> Result<(), Fail> {
-    draws(&rt, &PLAIN, TRANSPOSED)?;
-    draws(&rt, &PLAIN, IN_OTHER_LETTERS)?;
-    draws(&rt, &PLAIN, INDENTED)?;
-    draws(&rt, &PLAIN, UNDONE)?;
-    keeps(&rt, &PLAIN, KEPT)
+    holds(&rt, CHANGES)
 }

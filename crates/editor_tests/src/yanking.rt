@@ -1,9 +1,10 @@
 //! Yanks.
 
-use crate::desk::{PLAIN, draws, keeps};
+use crate::desk::holds;
 use std::test::Fail;
 
-const YANKED: &str = "
+// `one` and `two` are killed, each into a slot of its own, `one` last.
+const YANKS: &str = "
     |: Yank 1 Before = | /
     |ab: Yank 1 After = |ab /
     a|bc: Kill EndOfLine; Yank 1 Before = abc| / draw '> abc|' at 0,5 to 0,5
@@ -18,20 +19,15 @@ const YANKED: &str = "
     a|bc: Kill EndOfLine; YankPop = a| /
     a|bc: Kill EndOfLine; Yank 1 Before; YankPop = abc| / draw '> abc|' at 0,5 to 0,5
     a|bc: Kill EndOfLine; Yank 1 Before; Move BackwardChar 1; YankPop = ab|c /
-";
 
-/// `one` and `two` are killed, each into a slot of its own, `one` last.
-const KILLED: &str = "Kill BackwardWord 1 Emacs; Move BackwardChar 1; Kill BackwardWord 1 Emacs";
-
-const POPPED: &str = "
+    first: Kill BackwardWord 1 Emacs; Move BackwardChar 1; Kill BackwardWord 1 Emacs = nothing
     one two|: Yank 1 Before; YankPop = two|  / draw '> two| ' at 0,5 to 0,6
     one two|: Yank 1 Before; YankPop; YankPop = one|  / draw '> one| ' at 0,5 to 0,6
     one two|: Yank 2 Before; YankPop = onetwo|  / draw '> onetwo| ' at 0,8 to 0,9
     one two|: Yank 0 Before; YankPop = |  /
     éé one two|: Move BackwardChar 1; Yank 0 Before; YankPop = éé|   /
-";
 
-const POPPED_KEPT: &str = "
+    tells: ring = nothing
     one two|: Yank 1 Before = one|  / 'one' / | 
     one two|: Yank 1 Before; YankPop = two|  / 'two' / one| 
     one two|: Yank 0 Before; YankPop = |  / 'two' / one| 
@@ -39,9 +35,5 @@ const POPPED_KEPT: &str = "
 
 #[test]
 fn yanks(rt: HostRuntime) -> Result<(), Fail> {
-    draws(&rt, &PLAIN, YANKED)?;
-    let mut stage = PLAIN;
-    stage.first = KILLED;
-    draws(&rt, &stage, POPPED)?;
-    keeps(&rt, &stage, POPPED_KEPT)
+    holds(&rt, YANKS)
 }

@@ -12,9 +12,9 @@ use stand_ins::key_names::{key_named, write_key};
 use stand_ins::reader_calls::tell_call;
 use stand_ins::readers::KeyList;
 use stand_ins::refreshers::PlainLine;
-use stand_ins::tables::{call_and_answer, line_and_place, meant, word_and_rest};
+use stand_ins::rows::{Player, rows_hold};
+use stand_ins::tables::{line_and_place, meant, word_and_rest};
 use std::alloc::Global;
-use std::process::Abort;
 use std::test::Fail;
 
 // What was bound, or is: a command.
@@ -91,25 +91,56 @@ fn bindings_told(
     }
 }
 
-// Makes each row's call on new bindings.
-fn binds(rt: &(impl AllocGlobal + Abort), table: &str) -> Result<(), Fail> {
-    let mut bindings = Bindings::new(rt.alloc())?;
-    for row in table.lines() {
-        if let Some((call, answer)) = call_and_answer(row) {
-            let (call, cmd) = call.split_once(':').unwrap_or((call, ""));
-            let (call, keys) = word_and_rest(call);
-            let said = bindings_told(rt.alloc(), &mut bindings, call, keys, cmd.trim())?;
-            assert_eq!(rt; said.as_str(), answer, "{row}");
-        }
+/// Bindings that the rows of a table change.
+#[derive(Drop)]
+struct Binder {
+    bindings: Bindings,
+}
+
+impl Player for Binder {
+    fn play(&mut self, alloc: Global, call: &str) -> Result<String, Fail> {
+        let (call, cmd) = call.split_once(':').unwrap_or((call, ""));
+        let (call, keys) = word_and_rest(call);
+        bindings_told(alloc, &mut self.bindings, call, keys, cmd.trim())
     }
-    Ok(())
+}
+
+// Makes each row's call on new bindings.
+fn binds(alloc: Global, table: &str) -> Result<(), Fail> {
+    let bindings = Bindings::new(alloc)?;
+    rows_hold(alloc, &mut Binder { bindings }, table)
 }
 
 #[test]
 fn bindings_call_by_call(rt: HostRuntime) -> Result<(), Fail> {
-    binds(&rt, SEQUENCES)?;
-    binds(&rt, OLD_ONES)?;
-    binds(&rt, SIX_KEYS)
+    binds(rt.alloc(), SEQUENCES)?;
+    binds(rt.alloc(), OLD_ONES)?;
+    binds(rt.alloc(), SIX_KEYS)
+}
+
+/// What the rows of a table ask.
+#[derive(Clone, Copy, Drop)]
+enum Ask {
+    Form,
+    MadeAnew,
+    Printed,
+    Reader,
+    Signal,
+}
+
+impl Player for Ask {
+    fn play(&mut self, alloc: Global, call: &str) -> Result<String, Fail> {
+        match self {
+            Ask::Form => form_told(alloc, call),
+            Ask::MadeAnew => made_anew(alloc, call),
+            Ask::Printed => {
+                let event = event(alloc, call)?;
+                Ok(format!(in alloc; "{event:?}")?)
+            }
+            Ask::Reader => read(alloc, call),
+            Ask::Signal => signal_told(alloc, call),
+        }
+    }
 }
 
 // A character and its key; a key and its one form.
@@ -137,18 +168,17 @@ fn key_made(call: &str, word: &str) -> Option<KeyEvent> {
     }
 }
 
+fn form_told(alloc: Global, call: &str) -> Result<String, Fail> {
+    let (call, word) = word_and_rest(call);
+    let word = meant(alloc, word)?;
+    let mut said = String::new(alloc);
+    write_key(&mut said, key_made(call, word.as_str()).ok_or("no key")?)?;
+    Ok(said)
+}
+
 #[test]
 fn keys_have_one_form(rt: HostRuntime) -> Result<(), Fail> {
-    for row in KEYS.lines() {
-        if let Some((call, answer)) = call_and_answer(row) {
-            let (call, word) = word_and_rest(call);
-            let word = meant(rt.alloc(), word)?;
-            let mut said = String::new(rt.alloc());
-            write_key(&mut said, key_made(call, word.as_str()).ok_or("no key")?)?;
-            assert_eq!(rt; said.as_str(), answer, "{row}");
-        }
-    }
-    Ok(())
+    rows_hold(rt.alloc(), &mut Ask::Form, KEYS)
 }
 
 // A count, a line with its cursor and a hint after it, if there is one; what the handler bound to any key answers.
@@ -186,25 +216,28 @@ fn decided(
     }
 }
 
-fn decided_told(alloc: Global, bindings: &Bindings, call: &str) -> Result<String, Fail> {
-    let (count, shown) = word_and_rest(call);
-    let line = line_of(alloc, shown)?;
-    let amount = count.trim_start_matches('-').parse()?;
-    let answer = decided(alloc, bindings, amount, !count.starts_with('-'), &line);
-    Ok(format!(in alloc; "{answer:?}")?)
+/// What is bound to any key, asked at a line.
+#[derive(Drop)]
+struct Decider {
+    bindings: Bindings,
+}
+
+impl Player for Decider {
+    fn play(&mut self, alloc: Global, call: &str) -> Result<String, Fail> {
+        let (count, shown) = word_and_rest(call);
+        let line = line_of(alloc, shown)?;
+        let amount = count.trim_start_matches('-').parse()?;
+        let positive = !count.starts_with('-');
+        let answer = decided(alloc, &self.bindings, amount, positive, &line);
+        Ok(format!(in alloc; "{answer:?}")?)
+    }
 }
 
 #[test]
 fn a_boxed_handler_is_asked(rt: HostRuntime) -> Result<(), Fail> {
     let mut bindings = Bindings::new(rt.alloc())?;
     bind_handler(rt.alloc(), &mut bindings, "", "HintOrKill")?;
-    for row in DECIDED.lines() {
-        if let Some((call, answer)) = call_and_answer(row) {
-            let said = decided_told(rt.alloc(), &bindings, call)?;
-            assert_eq!(rt; said.as_str(), answer, "{row}");
-        }
-    }
-    Ok(())
+    rows_hold(rt.alloc(), &mut Decider { bindings }, DECIDED)
 }
 
 // A count, a text that was inserted before, and a command; the command made anew.
@@ -230,13 +263,7 @@ fn made_anew(alloc: Global, call: &str) -> Result<String, Fail> {
 
 #[test]
 fn commands_are_made_anew(rt: HostRuntime) -> Result<(), Fail> {
-    for row in MADE_ANEW.lines() {
-        if let Some((call, answer)) = call_and_answer(row) {
-            let said = made_anew(rt.alloc(), call)?;
-            assert_eq!(rt; said.as_str(), answer, "{row}");
-        }
-    }
-    Ok(())
+    rows_hold(rt.alloc(), &mut Ask::MadeAnew, MADE_ANEW)
 }
 
 #[test]
@@ -263,42 +290,48 @@ const READERS: &str = "
 ";
 
 // Makes the calls, and tells what they answer.
-fn read(alloc: Global, words: &str, calls: &str) -> Result<String, Fail> {
+fn read(alloc: Global, row: &str) -> Result<String, Fail> {
+    let (words, calls) = row.split_once(" : ").ok_or("no calls")?;
     let input = typed(alloc, words)?;
     let mut reader = KeyList::new(&input.typed, input.cut, input.after);
     let mut said = String::new(alloc);
     for call in calls.split_whitespace() {
+        if !said.is_empty() {
+            said.push(' ')?;
+        }
         if let Err(why) = tell_call(alloc, &mut reader, call, &mut said) {
             write!(said, "{why:?}")?;
         }
-        said.push(' ')?;
     }
     Ok(said)
 }
 
 #[test]
 fn readers_call_by_call(rt: HostRuntime) -> Result<(), Fail> {
-    for row in READERS.lines() {
-        if let Some((call, answer)) = call_and_answer(row) {
-            let (words, calls) = call.split_once(" : ").ok_or("no calls")?;
-            let said = read(rt.alloc(), words, calls)?;
-            assert_eq!(rt; said.as_str().trim(), answer, "{row}");
-        }
+    rows_hold(rt.alloc(), &mut Ask::Reader, READERS)
+}
+
+// What a reader knows a key for, and what it gives back.
+const SIGNALS: &str = "
+    C-c                     = None
+    C-C                     = Some(Interrupt)
+    unbuffer                = None
+";
+
+fn signal_told(alloc: Global, call: &str) -> Result<String, Fail> {
+    let input = typed(alloc, "!bad")?;
+    let reader = KeyList::new(&input.typed, input.cut, input.after);
+    if call == "unbuffer" {
+        let kept = reader.unbuffer();
+        return Ok(format!(in alloc; "{kept:?}")?);
     }
-    Ok(())
+    let found = reader.find_binding(&key_named(call).ok_or("no key")?);
+    Ok(format!(in alloc; "{found:?}")?)
 }
 
 #[test]
 fn a_reader_knows_signals(rt: HostRuntime) -> Result<(), Fail> {
-    let input = typed(rt.alloc(), "!bad")?;
-    let reader = KeyList::new(&input.typed, input.cut, input.after);
-    assert_eq!(rt; reader.find_binding(&KeyEvent::ctrl('c')), None);
-    assert_eq!(rt;
-        reader.find_binding(&KeyEvent::ctrl('C')),
-        Some(Cmd::Interrupt)
-    );
-    assert_eq!(rt; reader.unbuffer(), None);
-    Ok(())
+    rows_hold(rt.alloc(), &mut Ask::Signal, SIGNALS)
 }
 
 // Calls of a line with the hint `c`; the request that it keeps, and the hint then.
@@ -308,6 +341,7 @@ const REQUESTS: &str = "
     message no              = Some(Message(Some(\"no\"), Other)) None false
     doing_insert            = Some(DoingInsert) None false
     done_inserting          = Some(DoneInserting) None false
+    count                   = 5
 ";
 
 fn request(line: &mut PlainLine, call: &str) -> Result<(), ReadlineError> {
@@ -321,28 +355,35 @@ fn request(line: &mut PlainLine, call: &str) -> Result<(), ReadlineError> {
     }
 }
 
-#[test]
-fn requests_are_kept(rt: HostRuntime) -> Result<(), Fail> {
-    let mut line = line_of(rt.alloc(), "ab| c")?;
-    for row in REQUESTS.lines() {
-        if let Some((call, answer)) = call_and_answer(row) {
-            request(&mut line, call)?;
-            let (last, hint) = (line.requests.last(), line.hint_text());
-            let said = format!(in rt.alloc(); "{last:?} {hint:?} {}", line.has_hint())?;
-            assert_eq!(rt; said.as_str(), answer, "{row}");
+/// A line that is asked for drawings.
+#[derive(Drop)]
+struct Asked {
+    line: PlainLine,
+}
+
+impl Player for Asked {
+    fn play(&mut self, alloc: Global, call: &str) -> Result<String, Fail> {
+        let line = &mut self.line;
+        if call == "count" {
+            return Ok(format!(in alloc; "{}", line.requests.len())?);
         }
+        request(line, call)?;
+        let (last, hint) = (line.requests.last(), line.hint_text());
+        Ok(format!(in alloc; "{last:?} {hint:?} {}", line.has_hint())?)
     }
-    assert_eq!(rt; line.requests.len(), 5);
-    Ok(())
 }
 
 #[test]
+fn requests_are_kept(rt: HostRuntime) -> Result<(), Fail> {
+    let line = line_of(rt.alloc(), "ab| c")?;
+    rows_hold(rt.alloc(), &mut Asked { line }, REQUESTS)
+}
+
+const PRINTED: &str = "
+    C-S-F1 Esc = KeySeq([KeyEvent(F(1), Modifiers(CTRL | SHIFT)), KeyEvent(Esc, Modifiers(0x0))])
+";
+
+#[test]
 fn keys_print_their_names(rt: HostRuntime) -> Result<(), Fail> {
-    let event = event(rt.alloc(), "C-S-F1 Esc")?;
-    let text = format!(in rt.alloc(); "{event:?}")?;
-    assert_eq!(rt;
-        text.as_str(),
-        "KeySeq([KeyEvent(F(1), Modifiers(CTRL | SHIFT)), KeyEvent(Esc, Modifiers(0x0))])"
-    );
-    Ok(())
+    rows_hold(rt.alloc(), &mut Ask::Printed, PRINTED)
 }

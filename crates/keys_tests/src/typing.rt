@@ -4,7 +4,8 @@ use line_config::ReadlineError;
 use line_keys::{Event, Keys, Text};
 use stand_ins::key_names::key_named;
 use stand_ins::readers::{After, Typed};
-use stand_ins::tables::{call_and_answer, meant};
+use stand_ins::rows::{Player, rows_hold};
+use stand_ins::tables::meant;
 use std::alloc::{AllocError, Global};
 use std::test::Fail;
 
@@ -64,11 +65,7 @@ fn item(alloc: Global, word: &str) -> Result<Typed, ReadlineError> {
 
 /// More characters than a count can name.
 pub(crate) fn long_text(alloc: Global) -> Result<String, AllocError> {
-    let mut long = String::new(alloc);
-    for _ in 0..70_000 {
-        long.push('x')?;
-    }
-    Ok(long)
+    "x".repeat(alloc, 70_000)
 }
 
 const NAMES: &str = "
@@ -81,16 +78,21 @@ const NAMES: &str = "
     Enterr  = none
 ";
 
+/// The key of a name.
+#[derive(Clone, Copy, Drop)]
+struct Name;
+
+impl Player for Name {
+    fn play(&mut self, alloc: Global, name: &str) -> Result<String, Fail> {
+        let said = match key_named(name) {
+            Some(key) => format!(in alloc; "{key:?}")?,
+            None => String::from_str(alloc, "none")?,
+        };
+        Ok(said)
+    }
+}
+
 #[test]
 fn names_are_keys(rt: HostRuntime) -> Result<(), Fail> {
-    for row in NAMES.lines() {
-        if let Some((name, answer)) = call_and_answer(row) {
-            let said = match key_named(name) {
-                Some(key) => format!(in rt.alloc(); "{key:?}")?,
-                None => String::from_str(rt.alloc(), "none")?,
-            };
-            assert_eq!(rt; said.as_str(), answer, "{row}");
-        }
-    }
-    Ok(())
+    rows_hold(rt.alloc(), &mut Name, NAMES)
 }

@@ -54,10 +54,12 @@ const MOTIONS: &str = "
 
 // What gives an operator up.
 const NO_MOTIONS: &str = "
-    ; | , | q | x | i | a | p | u | . | r | G | D | s | é
-    f Esc | T C-G | t A-x | F Enter | Esc | Enter | C-C | C-D | C-W | C-G | C-U
+    ; | , | q | x | i | a | p | u | . | r | G | D | s | é |
+    f Esc | T C-G | t A-x | F Enter | Esc | Enter | C-C | C-D | C-W | C-G | C-U |
     A-w | A-5 | S-w | Left | Right | Home | End | Tab | F1 | UnknownEscSeq
 ";
+
+const OPERATOR_KEYS: &str = "d y < > c";
 
 #[derive(Clone, Copy)]
 struct Operator<'t> {
@@ -84,10 +86,12 @@ fn operates(
     command: &str,
 ) -> Result<(), ReadlineError> {
     let (asked, after) = (counts.asked, operator.after);
+    let gap = if asked.is_empty() { "" } else { " " };
     let typed = counts.keys.replace(desk.alloc, "@", operator.key)?;
     let typed = format!(in desk.alloc; "Esc {typed} {keys} q")?;
-    let led = format!(in desk.alloc; "{asked} {command}; {after}")?;
-    let wanted = format!(in desk.alloc; "<done> Move(BackwardChar(1)); {}", led.as_str().trim())?;
+    let wanted = format!(in desk.alloc;
+        "<done> Move(BackwardChar(1)); {asked}{gap}{command}; {after}"
+    )?;
     leads_to(rt, desk, typed.as_str(), wanted.as_str())
 }
 
@@ -131,12 +135,8 @@ fn each_other_key(
     operator: &Operator<'_>,
     counts: &Counts<'_>,
 ) -> Result<(), ReadlineError> {
-    for row in NO_MOTIONS.lines() {
-        for keys in row.split('|') {
-            if !keys.trim().is_empty() {
-                operates(rt, desk, operator, counts, keys, "Unknown")?;
-            }
-        }
+    for keys in NO_MOTIONS.split('|') {
+        operates(rt, desk, operator, counts, keys.trim(), "Unknown")?;
     }
     Ok(())
 }
@@ -150,7 +150,7 @@ fn each_operator_key(
     counts: &Counts<'_>,
 ) -> Result<(), ReadlineError> {
     let one_count = counts.keys.ends_with('@');
-    for keys in ["d", "y", "<", ">", "c"] {
+    for keys in OPERATOR_KEYS.split_whitespace() {
         if keys == operator.key && one_count {
             takes(rt, desk, operator, counts, keys, "WholeLine")?;
         } else {
