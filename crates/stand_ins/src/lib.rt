@@ -10,6 +10,7 @@ pub mod listener;
 pub mod reader_calls;
 pub mod readers;
 pub mod refreshers;
+pub mod rows;
 pub mod sources;
 pub mod tables;
 pub mod tray;

@@ -1,0 +1,29 @@
+//! The rows of a table, one after the other.
+
+use crate::tables::{call_and_answer, or_nothing};
+use std::alloc::Global;
+use std::test::Fail;
+
+/// What makes a row's call.
+pub trait Player {
+    /// Makes the call, and tells what it answers.
+    fn play(&mut self, alloc: Global, call: &str) -> Result<String, Fail>;
+}
+
+/// Makes each row's call, and compares what it answers. `nothing` stands for an empty text, and so does no answer.
+pub fn rows_hold<P: Player>(alloc: Global, player: &mut P, table: &str) -> Result<(), Fail> {
+    for row in table.lines() {
+        if let Some((call, answer)) = call_and_answer(row) {
+            let said = player.play(alloc, call)?;
+            if or_nothing(said.as_str()) != or_nothing(answer) {
+                return Err(Fail::new(format_args!("{row}, but it answers {said}")));
+            }
+        }
+    }
+    Ok(())
+}
+
+/// A text without the blanks at its ends.
+pub fn trimmed(alloc: Global, text: &str) -> Result<String, Fail> {
+    Ok(String::from_str(alloc, text.trim())?)
+}
