@@ -1,7 +1,9 @@
 //! Devices that fail: the ending, and what stands before it.
 
+ghost use Rattle.std.specs.Prelude.{◌≡◌, false};
+
 use crate::fixtures::{ending_and_lines, plain, told};
-use keyline::{Ending, ReadlineError, SliceSource, VecSink};
+use keyline::{Ending, ReadlineError, Sink, SliceSource, VecSink};
 use session_rows::notation::{display_meant, field, setting_of};
 use session_rows::play::{Left, ended, left_of};
 use stand_ins::rows::{Player, rows_hold};
@@ -78,7 +80,10 @@ const TWO_LINES: &[u8] = b"ab\rcd\r";
 const TWO_LINES_SHOWN: &str = "{} a b ␍␊ {} c d ␍␊ {} ␍␊";
 
 /// What a session over two lines leaves in these sinks, and whether its display failed in a flush.
-fn two_lines_into(alloc: Global, display: Tray, lines: Tray) -> Result<(Left, bool), Fail> {
+fn two_lines_into(alloc: Global, display: Tray, lines: Tray) -> Result<(Left, bool), Fail>
+    requires display { ⟦<Tray as Sink>⟧.has_failed display ≡ false }
+    requires lines { ⟦<Tray as Sink>⟧.has_failed lines ≡ false }
+{
     let source = SliceSource::new(TWO_LINES);
     let end = ended(alloc, &plain(), source, display, lines, VecSink::new(alloc))?;
     let left = Left {
@@ -91,7 +96,9 @@ fn two_lines_into(alloc: Global, display: Tray, lines: Tray) -> Result<(Left, bo
 }
 
 /// A sink with room for all.
-fn roomy() -> Tray {
+fn roomy() -> Tray
+    ensures { ⟦<Tray as Sink>⟧.has_failed result ≡ false }
+{
     Tray::with_room(usize::MAX)
 }
 
