@@ -1,40 +1,71 @@
 //! Sessions by the program's options.
 
-use keyline::{Parsed, SliceSource, VecSink, edit, parse};
-use stand_ins::tables::{meant_bytes, pictured};
+ghost use Rattle.std.specs.Prelude.{◌≤◌};
+
+use keyline::{Ending, Options, Parsed, ReadlineError, SliceSource, VecSink, edit, parse};
+use stand_ins::rows::{Player, rows_hold};
+use stand_ins::tables::{meant_bytes, pictured_bytes};
+use std::alloc::{AllocError, Global};
 use std::test::Fail;
 
-// How a session ends, with its lines and the history's text; or why none is opened.
-fn played(rt: &impl AllocGlobal, line: &str, history: &str, keys: &str) -> Result<String, Fail> {
-    let alloc = rt.alloc();
-    let words: Vec<&str> = line.split_whitespace().collect(alloc)?;
-    let Parsed::Run(options) = parse(alloc, words.as_slice()) else {
-        return Ok(String::from_str(alloc, "no options")?);
-    };
+/// Plays a session by a row's command line, history and keys.
+#[derive(Drop)]
+struct Optioned;
+
+impl Player for Optioned {
+    fn play(&mut self, alloc: Global, call: &str) -> Result<String, Fail> {
+        let (line, devices) = call.split_once(" : ").unwrap_or((call, ""));
+        let (history, keys) = devices.split_once(" : ").unwrap_or((devices, ""));
+        let words: Vec<&str> = line.split_whitespace().collect(alloc)?;
+        match parse(alloc, words.as_slice()) {
+            Parsed::Run(options) => Ok(told(alloc, played(alloc, &options, history, keys))?),
+            _ => Ok(String::from_str(alloc, "no options")?),
+        }
+    }
+}
+
+/// What a session left.
+#[derive(Drop)]
+struct Kept {
+    ending: Ending,
+    lines: Vec<u8>,
+    saved: Vec<u8>,
+}
+
+fn played(
+    alloc: Global,
+    options: &Options,
+    history: &str,
+    keys: &str,
+) -> Result<Kept, ReadlineError>
+    requires { (2 ≤ options.now.columns) × (options.now.columns ≤ 1000) }
+{
     let loaded = meant_bytes(alloc, history)?;
     let typed = meant_bytes(alloc, keys)?;
-    let played = edit(
-        alloc,
-        &options,
-        SliceSource::new(loaded.as_slice()),
-        SliceSource::new(typed.as_slice()),
+    let (history, keys) = (SliceSource::new(&loaded), SliceSource::new(&typed));
+    let (display, lines, text) = (
         VecSink::new(alloc),
         VecSink::new(alloc),
         VecSink::new(alloc),
     );
-    match played {
-        Ok(ended) => {
-            let lines = shown(rt, ended.lines.bytes())?;
-            let text = shown(rt, ended.text.bytes())?;
-            Ok(format!(in alloc; "{:?} <{lines}> <{text}>", ended.ending)?)
-        }
-        Err(refusal) => Ok(format!(in alloc; "{refusal:?}")?),
-    }
+    let end = edit(alloc, options, history, keys, display, lines, text)?;
+    Ok(Kept {
+        ending: end.ending,
+        lines: end.lines.into_bytes(),
+        saved: end.text.into_bytes(),
+    })
 }
 
-fn shown(rt: &impl AllocGlobal, bytes: &[u8]) -> Result<String, Fail> {
-    let text = str::from_utf8(bytes).unwrap_or("no text");
-    Ok(pictured(rt.alloc(), text)?)
+/// How a session ended, with its lines and the history's text; or why none was opened.
+fn told(alloc: Global, kept: Result<Kept, ReadlineError>) -> Result<String, AllocError> {
+    match kept {
+        Ok(kept) => {
+            let lines = pictured_bytes(alloc, &kept.lines)?;
+            let saved = pictured_bytes(alloc, &kept.saved)?;
+            format!(in alloc; "{:?} <{lines}> <{saved}>", kept.ending)
+        }
+        Err(refusal) => format!(in alloc; "{refusal:?}"),
+    }
 }
 
 #[test]
@@ -45,14 +76,5 @@ fn sessions_by_options(rt: HostRuntime) -> Result<(), Fail> {
         keyline --mode vi : #V2␊ : ab␛x␍ = Eof <a␊> <#V2␊a␊>
         keyline : #V2␊ : (␍)␍ = Eof <(␊)␊> <#V2␊(␊)␊>
         keyline --brackets : #V2␊ : (␍)␍ = Eof <(␊)␊> <#V2␊(\\n)␊>";
-    for row in rows.lines() {
-        let Some((call, want)) = row.trim().split_once(" = ") else {
-            continue;
-        };
-        let (line, devices) = call.split_once(" : ").unwrap_or((call, ""));
-        let (history, keys) = devices.split_once(" : ").unwrap_or((devices, ""));
-        let found = played(&rt, line, history, keys)?;
-        assert_eq!(rt; found.as_str(), want, "{row}");
-    }
-    Ok(())
+    rows_hold(rt.alloc(), &mut Optioned, rows)
 }

@@ -1,7 +1,44 @@
 //! What the words of a command line come to.
 
-use keyline::{Parsed, parse};
+use keyline::{Options, Parsed, parse};
+use stand_ins::rows::{Player, rows_hold};
+use std::alloc::{AllocError, Global};
 use std::test::Fail;
+
+/// Tells what a command line comes to.
+#[derive(Drop)]
+struct CommandLine;
+
+impl Player for CommandLine {
+    fn play(&mut self, alloc: Global, line: &str) -> Result<String, Fail> {
+        let words: Vec<&str> = line.split_whitespace().collect(alloc)?;
+        Ok(shown(alloc, parse(alloc, words.as_slice()))?)
+    }
+}
+
+fn shown(alloc: Global, parsed: Parsed) -> Result<String, AllocError> {
+    match parsed {
+        Parsed::Run(options) => options_shown(alloc, &options),
+        Parsed::Help(_) => String::from_str(alloc, "help"),
+        Parsed::Usage(_) => String::from_str(alloc, "usage"),
+        Parsed::Memory => String::from_str(alloc, "memory"),
+    }
+}
+
+fn options_shown(alloc: Global, options: &Options) -> Result<String, AllocError> {
+    let history = match &options.history {
+        Some(path) => path.as_str(),
+        None => "no history",
+    };
+    let brackets = if options.brackets {
+        "brackets"
+    } else {
+        "no brackets"
+    };
+    let prompt = options.prompt.as_str();
+    let (mode, columns) = (options.mode, options.columns);
+    format!(in alloc; "{mode:?} {columns} <{prompt}> {history}, {brackets}")
+}
 
 #[test]
 fn command_lines(rt: HostRuntime) -> Result<(), Fail> {
@@ -27,34 +64,5 @@ fn command_lines(rt: HostRuntime) -> Result<(), Fail> {
         keyline --help = help
         keyline --mode ed --help = help
         keyline -h = help";
-    for row in rows.lines() {
-        let Some((line, want)) = row.trim().split_once(" = ") else {
-            continue;
-        };
-        let words: Vec<&str> = line.split_whitespace().collect(rt.alloc())?;
-        let shown = shown(&rt, parse(rt.alloc(), words.as_slice()))?;
-        assert_eq!(rt; shown.as_str(), want, "{row}");
-    }
-    Ok(())
-}
-
-fn shown(rt: &impl AllocGlobal, parsed: Parsed) -> Result<String, Fail> {
-    let options = match parsed {
-        Parsed::Run(options) => options,
-        Parsed::Help(_) => return Ok(String::from_str(rt.alloc(), "help")?),
-        Parsed::Usage(_) => return Ok(String::from_str(rt.alloc(), "usage")?),
-        Parsed::Memory => return Ok(String::from_str(rt.alloc(), "memory")?),
-    };
-    let history = match &options.history {
-        Some(path) => path.as_str(),
-        None => "no history",
-    };
-    let brackets = if options.brackets {
-        "brackets"
-    } else {
-        "no brackets"
-    };
-    let prompt = options.prompt.as_str();
-    let (mode, columns) = (options.mode, options.columns);
-    Ok(format!(in rt.alloc(); "{mode:?} {columns} <{prompt}> {history}, {brackets}")?)
+    rows_hold(rt.alloc(), &mut CommandLine, rows)
 }

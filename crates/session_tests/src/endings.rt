@@ -1,23 +1,47 @@
 //! The status and the words of each ending.
 
 use keyline::Ending;
+use stand_ins::rows::{Player, rows_hold};
+use std::alloc::Global;
 use std::test::Fail;
+
+/// Each ending, one after the other.
+#[derive(Drop)]
+struct Endings {
+    left: &'static [Ending],
+}
+
+impl Player for Endings {
+    fn play(&mut self, alloc: Global, name: &str) -> Result<String, Fail> {
+        let Some((ending, left)) = self.left.split_first() else {
+            return Ok(String::from_str(alloc, "no ending")?);
+        };
+        self.left = left;
+        let (status, text) = (ending.status(), ending.text());
+        let shown = format!(in alloc; "{ending:?}")?;
+        if shown.as_str() != name {
+            return Ok(shown);
+        }
+        Ok(format!(in alloc; "{status} {text}")?)
+    }
+}
+
+const ENDINGS: [Ending; 11] = [
+    Ending::Eof,
+    Ending::Interrupted,
+    Ending::NotUtf8,
+    Ending::PasteOutOfPlace,
+    Ending::Reader,
+    Ending::Display,
+    Ending::Lines,
+    Ending::HistoryText,
+    Ending::Helper,
+    Ending::Handler,
+    Ending::Memory,
+];
 
 #[test]
 fn statuses_and_words(rt: HostRuntime) -> Result<(), Fail> {
-    let endings = [
-        Ending::Eof,
-        Ending::Interrupted,
-        Ending::NotUtf8,
-        Ending::PasteOutOfPlace,
-        Ending::Reader,
-        Ending::Display,
-        Ending::Lines,
-        Ending::HistoryText,
-        Ending::Helper,
-        Ending::Handler,
-        Ending::Memory,
-    ];
     let rows = "Eof = 0 EOF
         Interrupted = 130 Interrupted
         NotUtf8 = 3 input is not UTF-8
@@ -29,11 +53,8 @@ fn statuses_and_words(rt: HostRuntime) -> Result<(), Fail> {
         Helper = 1 helper failed
         Handler = 1 handler failed
         Memory = 1 out of memory";
-    for (ending, row) in endings.into_iter().zip(rows.lines()) {
-        let status = ending.status();
-        let text = ending.text();
-        let shown = format!(in rt.alloc(); "{ending:?} = {status} {text}")?;
-        assert_eq!(rt; shown.as_str(), row.trim());
-    }
+    let mut endings = Endings { left: &ENDINGS };
+    rows_hold(rt.alloc(), &mut endings, rows)?;
+    assert!(rt; endings.left.is_empty());
     Ok(())
 }

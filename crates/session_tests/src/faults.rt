@@ -1,61 +1,76 @@
 //! Devices that fail: the ending, and what stands before it.
 
-use crate::fixtures::{Play, display_of, ended, field, played, tried};
-use keyline::{Ending, ReadlineError, SliceSource, Source, VecSink};
+ghost use Rattle.std.specs.Prelude.{◌≡◌, false};
+
+use crate::fixtures::{ending_and_lines, plain, told};
+use keyline::{Ending, ReadlineError, Sink, SliceSource, VecSink};
+use session_rows::notation::{display_meant, field, setting_of};
+use session_rows::play::{Left, ended, left_of};
+use stand_ins::rows::{Player, rows_hold};
 use stand_ins::sources::Faltering;
-use stand_ins::tables::{call_and_answer, meant, meant_bytes, word_and_rest};
+use stand_ins::tables::{meant, meant_bytes, word_and_rest};
 use stand_ins::tray::Tray;
+use std::alloc::Global;
 use std::process::Abort;
 use std::test::Fail;
 
-/// A session over a source that fails.
-fn cut_off<S: Source + Drop>(
-    rt: &(impl AllocGlobal + Abort),
-    source: S,
-    shown: &str,
-    lines: &str,
-) -> Result<(), Fail> {
-    let alloc = rt.alloc();
-    let end = ended(rt, source, VecSink::new(alloc), VecSink::new(alloc))?;
-    assert_eq!(rt; end.ending, Ending::Reader, "{shown}");
-    let lines = meant(alloc, field(lines))?;
-    assert_eq!(rt; end.lines.bytes(), lines.as_bytes(), "{shown}");
-    let wanted = display_of(alloc, shown)?;
-    assert_eq!(rt; end.display.bytes(), wanted.as_slice(), "{shown}");
-    Ok(())
+/// Sessions over sources that fail later and later: the keys until then, and what is drawn of them.
+#[derive(Drop)]
+struct Cut {
+    keys: String,
+    shown: String,
 }
 
-/// A byte that is read, what is then drawn, and what lines are written by then: over a source that says where it fails,
-/// and over one of more bytes that fails at some call.
+impl Cut {
+    /// What a session leaves over a source that says where it fails.
+    fn steady(&self, alloc: Global) -> Result<String, Fail> {
+        let source = SliceSource::failing_after(self.keys.as_bytes());
+        let left = left_of(alloc, &plain(), source)?;
+        Ok(told(alloc, &left, self.shown.as_str())?)
+    }
+
+    /// What one leaves over a source of more bytes that fails at some call.
+    fn faltering(&self, alloc: Global) -> Result<String, Fail> {
+        let further = format!(in alloc; "{}\rab\r", self.keys)?;
+        let source = Faltering::failing_at(further.as_bytes(), self.keys.len());
+        let left = left_of(alloc, &plain(), source)?;
+        Ok(told(alloc, &left, self.shown.as_str())?)
+    }
+}
+
+impl Player for Cut {
+    fn play(&mut self, alloc: Global, call: &str) -> Result<String, Fail> {
+        let (key, drawn) = call.split_once(" | ").unwrap_or((call, ""));
+        self.keys.push_str(meant(alloc, field(key))?.as_str())?;
+        self.shown.push_str(field(drawn))?;
+        let steady = self.steady(alloc)?;
+        let faltering = self.faltering(alloc)?;
+        if steady == faltering {
+            return Ok(steady);
+        }
+        Ok(format!(in alloc; "{steady}, but {faltering}")?)
+    }
+}
+
+/// A byte that is read, what is then drawn, and the ending and what lines are written by then.
 #[test]
 fn source_that_fails_after_each_byte(rt: HostRuntime) -> Result<(), Fail> {
     let rows = "
-        nothing = {} | nothing
-        a = a | nothing
-        b = b | nothing
-        ␛ = nothing | nothing
-        [ = nothing | nothing
-        D = ␛[1D | nothing
-        ␍ = ␛[1C␍␊ {} | ab␊
-        c = c | ab␊
-        ␍ = ␍␊ {} | ab␊c␊
+        nothing | {} = Reader nothing
+        a | a = Reader nothing
+        b | b = Reader nothing
+        ␛ | nothing = Reader nothing
+        [ | nothing = Reader nothing
+        D | ␛[1D = Reader nothing
+        ␍ | ␛[1C␍␊ {} = Reader ab␊
+        c | c = Reader ab␊
+        ␍ | ␍␊ {} = Reader ab␊c␊
         ";
-    let mut keys = String::new(rt.alloc());
-    let mut shown = String::new(rt.alloc());
-    for row in rows.lines() {
-        let Some((key, want)) = call_and_answer(row) else {
-            continue;
-        };
-        let (drawn, lines) = want.split_once(" | ").unwrap_or((want, ""));
-        keys.push_str(meant(rt.alloc(), field(key))?.as_str())?;
-        shown.push_str(field(drawn))?;
-        let steady = SliceSource::failing_after(keys.as_bytes());
-        cut_off(&rt, steady, shown.as_str(), lines)?;
-        let further = format!(in rt.alloc(); "{keys}\rab\r")?;
-        let faltering = Faltering::failing_at(further.as_bytes(), keys.len());
-        cut_off(&rt, faltering, shown.as_str(), lines)?;
-    }
-    Ok(())
+    let mut cut = Cut {
+        keys: String::new(rt.alloc()),
+        shown: String::new(rt.alloc()),
+    };
+    rows_hold(rt.alloc(), &mut cut, rows)
 }
 
 /// Two lines; the display bytes of a session over them are `TWO_LINES_SHOWN`.
@@ -64,52 +79,75 @@ const TWO_LINES: &[u8] = b"ab\rcd\r";
 /// A drawing or a row's end for each piece.
 const TWO_LINES_SHOWN: &str = "{} a b ␍␊ {} c d ␍␊ {} ␍␊";
 
+/// What a session over two lines leaves in these sinks, and whether its display failed in a flush.
+fn two_lines_into(alloc: Global, display: Tray, lines: Tray) -> Result<(Left, bool), Fail>
+    requires display { ⟦<Tray as Sink>⟧.has_failed display ≡ false }
+    requires lines { ⟦<Tray as Sink>⟧.has_failed lines ≡ false }
+{
+    let source = SliceSource::new(TWO_LINES);
+    let end = ended(alloc, &plain(), source, display, lines, VecSink::new(alloc))?;
+    let left = Left {
+        ending: end.ending,
+        lines: Vec::from_slice(alloc, end.lines.bytes())?,
+        saved: end.text.into_bytes(),
+        shown: Vec::from_slice(alloc, end.display.bytes())?,
+    };
+    Ok((left, end.display.failed_in_flush()))
+}
+
+/// A sink with room for all.
+fn roomy() -> Tray
+    ensures { ⟦<Tray as Sink>⟧.has_failed result ≡ false }
+{
+    Tray::with_room(usize::MAX)
+}
+
 /// The first pieces of `TWO_LINES_SHOWN`, one after the other.
-fn first_pieces(rt: &impl AllocGlobal, count: usize) -> Result<Vec<u8>, Fail> {
-    let mut bytes = Vec::new(rt.alloc());
+fn first_pieces(alloc: Global, count: usize) -> Result<Vec<u8>, Fail> {
+    let mut bytes = Vec::new(alloc);
     for piece in TWO_LINES_SHOWN.split_whitespace().take(count) {
-        bytes.extend_from_slice(display_of(rt.alloc(), piece)?.as_slice())?;
+        bytes.extend_from_slice(display_meant(alloc, piece)?.as_slice())?;
     }
     Ok(bytes)
 }
 
 /// The lines that stand where so many display bytes have passed: a line stands where its row's end has.
-fn lines_after(rt: &impl AllocGlobal, passed: usize) -> Result<&'static [u8], Fail> {
-    if passed < first_pieces(rt, 4)?.len() {
+fn lines_after(alloc: Global, passed: usize) -> Result<&'static [u8], Fail> {
+    if passed < first_pieces(alloc, 4)?.len() {
         return Ok(b"");
     }
-    if passed < first_pieces(rt, 8)?.len() {
+    if passed < first_pieces(alloc, 8)?.len() {
         return Ok(b"ab\n");
     }
     Ok(b"ab\ncd\n")
 }
 
+/// Sees that a session whose display failed has drawn the first bytes, and written the lines for them. A line stands where
+/// the flush after its drawing's end has passed.
+fn cut_display(
+    rt: &(impl AllocGlobal + Abort),
+    left: &Left,
+    in_flush: bool,
+    at: usize,
+) -> Result<(), Fail> {
+    let taken = left.shown.as_slice();
+    assert_eq!(rt; left.ending, Ending::Display, "at {at}");
+    assert!(rt; first_pieces(rt.alloc(), 10)?.starts_with(taken), "at {at}");
+    let passed = taken.len().saturating_sub(usize::from(in_flush));
+    let lines = lines_after(rt.alloc(), passed)?;
+    assert_eq!(rt; left.lines.as_slice(), lines, "at {at}");
+    Ok(())
+}
+
 /// A session whose display fails at a call: whether that was a flush, or `None` where the session ends before it.
 fn display_failing_at(rt: &(impl AllocGlobal + Abort), call: usize) -> Result<Option<bool>, Fail> {
-    let shown = first_pieces(rt, 10)?;
-    let lines = VecSink::new(rt.alloc());
-    let end = ended(
-        rt,
-        SliceSource::new(TWO_LINES),
-        Tray::failing_at(call),
-        lines,
-    )?;
-    let taken = end.display.bytes();
-    if end.ending == Ending::Eof {
-        assert_eq!(rt; taken, shown.as_slice());
-        assert_eq!(rt; end.lines.bytes(), b"ab\ncd\n".as_slice());
+    let (left, in_flush) = two_lines_into(rt.alloc(), Tray::failing_at(call), roomy())?;
+    if left.ending == Ending::Eof {
+        assert_eq!(rt; left.shown, first_pieces(rt.alloc(), 10)?);
+        assert_eq!(rt; left.lines.as_slice(), b"ab\ncd\n".as_slice());
         return Ok(None);
     }
-    assert_eq!(rt; end.ending, Ending::Display, "at call {call}");
-    assert!(rt; shown.starts_with(taken), "at call {call}");
-    // A line stands where the flush after its drawing's end has passed.
-    let in_flush = end.display.failed_in_flush();
-    let passed = taken.len().saturating_sub(usize::from(in_flush));
-    assert_eq!(rt;
-        end.lines.bytes(),
-        lines_after(rt, passed)?,
-        "at call {call}"
-    );
+    cut_display(rt, &left, in_flush, call)?;
     Ok(Some(in_flush))
 }
 
@@ -129,85 +167,84 @@ fn display_that_fails_at_each_call(rt: HostRuntime) -> Result<(), Fail> {
     panic!(rt; "a session over so few keys has ended by now")
 }
 
-/// A session over this sink of lines: its ending, the lines, and how many pieces of the display are sent.
-fn lines_into(
-    rt: &(impl AllocGlobal + Abort),
-    sink: Tray,
-    ending: Ending,
-    lines: &[u8],
-    pieces: usize,
-) -> Result<(), Fail> {
-    let source = SliceSource::new(TWO_LINES);
-    let end = ended(rt, source, VecSink::new(rt.alloc()), sink)?;
-    assert_eq!(rt; end.ending, ending);
-    assert_eq!(rt; end.lines.bytes(), lines);
-    let shown = first_pieces(rt, pieces)?;
-    assert_eq!(rt; end.display.bytes(), shown.as_slice());
-    Ok(())
-}
-
-#[test]
-fn lines_that_fail_at_each_call(rt: HostRuntime) -> Result<(), Fail> {
-    // For each line its text, its newline and a flush.
-    let written = "a ab ab␊ ab␊c ab␊cd ab␊cd␊";
-    for (call, lines) in written.split_whitespace().enumerate() {
-        let lines = meant(rt.alloc(), lines)?;
-        let pieces = if call < 3 { 4 } else { 8 };
-        let sink = Tray::failing_at(call);
-        lines_into(&rt, sink, Ending::Lines, lines.as_bytes(), pieces)?;
-    }
-    lines_into(&rt, Tray::failing_at(6), Ending::Eof, b"ab\ncd\n", 10)
-}
-
 /// A session whose display has room for so many bytes.
-fn display_with_room(
-    rt: &(impl AllocGlobal + Abort),
-    shown: &[u8],
-    room: usize,
-) -> Result<(), Fail> {
-    let lines = VecSink::new(rt.alloc());
-    let end = ended(
-        rt,
-        SliceSource::new(TWO_LINES),
-        Tray::with_room(room),
-        lines,
-    )?;
-    assert_eq!(rt; end.ending, Ending::Display, "room for {room}");
-    let taken = end.display.bytes();
-    assert_eq!(rt; taken.len(), room);
-    assert!(rt; shown.starts_with(taken), "room for {room}");
-    assert_eq!(rt;
-        end.lines.bytes(),
-        lines_after(rt, room)?,
-        "room for {room}"
-    );
-    Ok(())
+fn display_with_room(rt: &(impl AllocGlobal + Abort), room: usize) -> Result<(), Fail> {
+    let (left, _) = two_lines_into(rt.alloc(), Tray::with_room(room), roomy())?;
+    assert_eq!(rt; left.shown.len(), room);
+    cut_display(rt, &left, false, room)
 }
 
 #[test]
 fn display_that_is_full(rt: HostRuntime) -> Result<(), Fail> {
-    let shown = first_pieces(&rt, 10)?;
-    for room in 0..shown.len() {
-        display_with_room(&rt, &shown, room)?;
+    for room in 0..first_pieces(rt.alloc(), 10)?.len() {
+        display_with_room(&rt, room)?;
     }
     Ok(())
+}
+
+/// Sessions over a sink of lines that fails at a call, or has room for so many bytes.
+#[derive(Drop)]
+struct Lines;
+
+impl Player for Lines {
+    fn play(&mut self, alloc: Global, call: &str) -> Result<String, Fail> {
+        let (how, call) = word_and_rest(call);
+        let (number, shown) = word_and_rest(call);
+        let number = number.parse().unwrap_or(0);
+        let sink = match how {
+            "call" => Tray::failing_at(number),
+            _ => Tray::with_room(number),
+        };
+        let (left, _) = two_lines_into(alloc, roomy(), sink)?;
+        Ok(told(alloc, &left, shown)?)
+    }
+}
+
+/// For each line its text, its newline and a flush.
+#[test]
+fn lines_that_fail_at_each_call(rt: HostRuntime) -> Result<(), Fail> {
+    let rows = "
+        call 0 {} a b ␍␊ = Lines a
+        call 1 {} a b ␍␊ = Lines ab
+        call 2 {} a b ␍␊ = Lines ab␊
+        call 3 {} a b ␍␊ {} c d ␍␊ = Lines ab␊c
+        call 4 {} a b ␍␊ {} c d ␍␊ = Lines ab␊cd
+        call 5 {} a b ␍␊ {} c d ␍␊ = Lines ab␊cd␊
+        call 6 {} a b ␍␊ {} c d ␍␊ {} ␍␊ = Eof ab␊cd␊
+        ";
+    rows_hold(rt.alloc(), &mut Lines, rows)
 }
 
 #[test]
 fn lines_that_are_full(rt: HostRuntime) -> Result<(), Fail> {
-    let written = b"ab\ncd\n";
-    for room in 0..=written.len() {
-        let (ending, pieces) = match room {
-            0..3 => (Ending::Lines, 4),
-            3..6 => (Ending::Lines, 8),
-            _ => (Ending::Eof, 10),
-        };
-        lines_into(&rt, Tray::with_room(room), ending, &written[..room], pieces)?;
-    }
-    Ok(())
+    let rows = "
+        room 0 {} a b ␍␊ = Lines nothing
+        room 1 {} a b ␍␊ = Lines a
+        room 2 {} a b ␍␊ = Lines ab
+        room 3 {} a b ␍␊ {} c d ␍␊ = Lines ab␊
+        room 4 {} a b ␍␊ {} c d ␍␊ = Lines ab␊c
+        room 5 {} a b ␍␊ {} c d ␍␊ = Lines ab␊cd
+        room 6 {} a b ␍␊ {} c d ␍␊ {} ␍␊ = Eof ab␊cd␊
+        ";
+    rows_hold(rt.alloc(), &mut Lines, rows)
 }
 
-/// The sink of the history's text fails: that is the ending where no fault came before.
+/// Sessions whose sink of the history's text fails at once.
+#[derive(Drop)]
+struct Unsaved;
+
+impl Player for Unsaved {
+    fn play(&mut self, alloc: Global, call: &str) -> Result<String, Fail> {
+        let keys = meant_bytes(alloc, call)?;
+        let source = SliceSource::new(&keys);
+        let (display, lines) = (VecSink::new(alloc), VecSink::new(alloc));
+        let text = Tray::failing_at(0);
+        let end = ended(alloc, &setting_of("adding"), source, display, lines, text)?;
+        Ok(ending_and_lines(alloc, end.ending, end.lines.bytes())?)
+    }
+}
+
+/// That is the ending where no fault came before.
 #[test]
 fn history_text_that_fails(rt: HostRuntime) -> Result<(), Fail> {
     let rows = "
@@ -216,46 +253,14 @@ fn history_text_that_fails(rt: HostRuntime) -> Result<(), Fail> {
         ab␍‹ff› = HistoryText ab␊
         ␃ = Interrupted nothing
         ";
-    for row in rows.lines() {
-        let Some((keys, want)) = call_and_answer(row) else {
-            continue;
-        };
-        let (ending, lines) = word_and_rest(want);
-        let alloc = rt.alloc();
-        let keys = meant_bytes(alloc, keys)?;
-        let play = Play {
-            adds: true,
-            ..Play::plain()
-        };
-        let end = played(
-            &rt,
-            play,
-            None::<()>,
-            SliceSource::new(&keys),
-            VecSink::new(alloc),
-            VecSink::new(alloc),
-            Tray::failing_at(0),
-        )?;
-        let shown = format!(in alloc; "{:?}", end.ending)?;
-        assert_eq!(&rt; shown.as_str(), ending, "{row}");
-        let lines = meant(alloc, field(lines))?;
-        assert_eq!(&rt; end.lines.bytes(), lines.as_bytes(), "{row}");
-    }
-    Ok(())
+    rows_hold(rt.alloc(), &mut Unsaved, rows)
 }
 
 /// A history that is no text is refused before any key is read.
 #[test]
 fn history_that_is_no_text(rt: HostRuntime) -> Result<(), Fail> {
-    let alloc = rt.alloc();
-    let play = Play {
-        history: "‹ff›",
-        ..Play::plain()
-    };
-    let text = VecSink::new(alloc);
     let source = SliceSource::new(b"a");
-    let sinks = (VecSink::new(alloc), VecSink::new(alloc));
-    let tried = tried(&rt, play, None::<()>, source, sinks.0, sinks.1, text)?;
-    assert_eq!(&rt; tried.err(), Some(ReadlineError::HistoryText));
+    let left = left_of(rt.alloc(), &setting_of("loaded:‹ff›"), source);
+    assert_eq!(&rt; left.err(), Some(ReadlineError::HistoryText));
     Ok(())
 }

@@ -12,8 +12,6 @@ mod faults;
 #[cfg(test)]
 mod fixtures;
 #[cfg(test)]
-mod helpers;
-#[cfg(test)]
 mod reading;
 #[cfg(test)]
 mod sessions;

@@ -1,6 +1,6 @@
 //! A source of the tests, which fails as they ask.
 
-ghost use Rattle.std.specs.Prelude.{false, length, true};
+ghost use Rattle.std.specs.Prelude.{◌≡◌, false, length, true};
 ghost use Rattle.line_config.specs.declared.device.Last.TheVariants.{End};
 
 use line_config::{DeviceFailed, Source};
@@ -15,7 +15,9 @@ pub struct Faltering<'a> {
 
 impl<'a> Faltering<'a> {
     /// A source whose call with this number fails, counted from 0.
-    pub fn failing_at(bytes: &'a [u8], call: usize) -> Self {
+    pub fn failing_at(bytes: &'a [u8], call: usize) -> Self
+        ensures { (⟦<Faltering<'a> as Source>⟧.feed result).failed ≡ false }
+    {
         Faltering {
             bytes,
             calls_left: call,

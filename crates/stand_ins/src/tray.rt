@@ -1,6 +1,6 @@
 //! A sink of the tests, which fails as they ask.
 
-ghost use Rattle.std.specs.Prelude.{◌≡◌, ◌≤◌, ◌++◌, take, length};
+ghost use Rattle.std.specs.Prelude.{◌≡◌, ◌≤◌, ◌++◌, false, take, length};
 ghost use Rattle.stand_ins.specs.declared.tray.TheConstants.{SIZE};
 
 use line_config::{DeviceFailed, Sink};
@@ -23,7 +23,9 @@ pub struct Tray {
 
 impl Tray {
     /// A sink with room for so many bytes, and no more than its array has.
-    pub fn with_room(room: usize) -> Tray {
+    pub fn with_room(room: usize) -> Tray
+        ensures { ⟦<Tray as Sink>⟧.has_failed result ≡ false }
+    {
         Tray {
             bytes: [0; SIZE],
             len: 0,
@@ -36,7 +38,9 @@ impl Tray {
     }
 
     /// A sink whose call with this number fails, counted from 0 over writes and flushes.
-    pub fn failing_at(call: usize) -> Tray {
+    pub fn failing_at(call: usize) -> Tray
+        ensures { ⟦<Tray as Sink>⟧.has_failed result ≡ false }
+    {
         Tray {
             failing_call: call,
             bytes: [0; SIZE],

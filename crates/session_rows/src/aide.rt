@@ -1,6 +1,6 @@
-//! A helper that hints from the history and validates brackets.
-ghost use Rattle.std.specs.Prelude.{◌≡◌, Some, false, refl};
-ghost use Rattle.std.proofs.Common.{ap};
+//! A helper: hints of the history, and brackets.
+
+ghost use Rattle.std.specs.Prelude.{◌≡◌, Some, false, option_map, refl};
 ghost use Rattle.line_help.specs.Completion.{nothing_offered};
 
 use keyline::{
@@ -11,22 +11,11 @@ use keyline::{
 use std::alloc::Global;
 use std::borrow::CowStr;
 
-/// Hints from the history, and brackets validated.
-#[derive(Drop)]
-pub struct Guide {
-    hinter: HistoryHinter,
-    validator: MatchingBracketValidator,
-}
+/// Hints of the history, and lines whose brackets are balanced.
+#[derive(Clone, Copy, Drop)]
+pub struct Aide;
 
-/// A helper of the tests.
-pub(crate) fn advice() -> Option<Guide> {
-    Some(Guide {
-        hinter: HistoryHinter::new(),
-        validator: MatchingBracketValidator::new(),
-    })
-}
-
-impl Completer for Guide {
+impl Completer for Aide {
     type Candidate = String;
 
     ghost completion_of = { λ self line pos entries place. nothing_offered };
@@ -46,12 +35,14 @@ impl Completer for Guide {
     }
 }
 
-impl Hinter for Guide {
+impl Hinter for Aide {
+    ghost use Rattle.line_help.specs.Hints.{history_hint, text_hint};
+
     type Hint = String;
 
-    ghost hint_of = { λ self. ⟦<HistoryHinter as Hinter>⟧.hint_of self.hinter };
+    ghost hint_of = { λ self line pos entries place. option_map text_hint (history_hint line pos entries place) };
 
-    ghost fails = { λ self. ⟦<HistoryHinter as Hinter>⟧.fails self.hinter };
+    ghost fails = { λ self line pos entries place. false };
 
     fn hint<Hi: History>(
         &self,
@@ -60,11 +51,11 @@ impl Hinter for Guide {
         pos: usize,
         ctx: &Context<'_, Hi>,
     ) -> Result<Option<String>, HookFault> {
-        self.hinter.hint(alloc, line, pos, ctx)
+        HistoryHinter.hint(alloc, line, pos, ctx)
     }
 }
 
-impl Highlighter for Guide {
+impl Highlighter for Aide {
     ghost marks = { λ self line pos kind. false };
 
     ghost kept = { λ before after. after ≡ before };
@@ -107,38 +98,42 @@ impl Highlighter for Guide {
     }
 }
 
-impl Validator for Guide {
-    ghost verdict_of = { λ self. ⟦<MatchingBracketValidator as Validator>⟧.verdict_of self.validator };
+impl Validator for Aide {
+    ghost use Rattle.line_help.specs.Validation.{bracket_verdict};
 
-    ghost validating_fails = { λ self. ⟦<MatchingBracketValidator as Validator>⟧.validating_fails self.validator };
+    ghost verdict_of = { λ self text. bracket_verdict text };
 
-    ghost while_typing = { λ self. ⟦<MatchingBracketValidator as Validator>⟧.while_typing self.validator };
+    ghost validating_fails = { λ self text. false };
+
+    ghost while_typing = { λ self. false };
 
     fn validate(
         &self,
         alloc: Global,
         ctx: &ValidationContext<'_>,
     ) -> Result<ValidationResult, HookFault> {
-        self.validator.validate(alloc, ctx)
+        MatchingBracketValidator::new().validate(alloc, ctx)
     }
 
     fn validate_while_typing(&self) -> bool {
-        self.validator.validate_while_typing()
+        false
     }
 }
 
-impl Helper for Guide {
+impl Helper for Aide {
+    ghost use Rattle.std.proofs.Common.{ap};
+
     ghost same_completions = { λ before after kept. refl };
 
     ghost same_completing = { λ before after kept. refl };
 
     ghost same_updating = { λ before after kept. refl };
 
-    ghost same_hints = { λ before after kept. ap ⟦<Guide as Hinter>⟧.hint_of kept };
+    ghost same_hints = { λ before after kept. ap ⟦<Aide as Hinter>⟧.hint_of kept };
 
-    ghost same_hinting = { λ before after kept. ap ⟦<Guide as Hinter>⟧.fails kept };
+    ghost same_hinting = { λ before after kept. ap ⟦<Aide as Hinter>⟧.fails kept };
 
-    ghost same_verdicts = { λ before after kept. ap ⟦<Guide as Validator>⟧.verdict_of kept };
+    ghost same_verdicts = { λ before after kept. ap ⟦<Aide as Validator>⟧.verdict_of kept };
 
-    ghost same_validating = { λ before after kept. ap ⟦<Guide as Validator>⟧.validating_fails kept };
+    ghost same_validating = { λ before after kept. ap ⟦<Aide as Validator>⟧.validating_fails kept };
 }

@@ -1,0 +1,7 @@
+//! Whole sessions as rows of text: their notation, and what plays them. A row is played twice: over memory, and over a
+//! reader that gives a byte at a read.
+#![tactic(auto)]
+
+pub mod aide;
+pub mod notation;
+pub mod play;

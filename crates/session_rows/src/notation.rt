@@ -1,0 +1,189 @@
+//! The notation of sessions.
+//!
+//! A row has keys, ` = `, and the lines that are written; then, after ` | `, what else is looked at: `ends`, where it isn't
+//! the end of the input, `saves` and `shows`. Keys are parted by blanks: `C-a` is Ctrl, `M-b` is Esc and then `b`, `Left` is
+//! what a terminal sends, and any other word is itself. Lines are parted by blanks too; `""` is an empty one. A control
+//! character stands as its picture, a blank as `␠`. Where lines aren't added to the history, nothing is to be saved. A line
+//! without ` = ` is a comment, and so is one that begins with `#`. Settings are words, as `vi` or `columns:4`.
+
+use keyline::EditMode;
+use stand_ins::tables::{meant, meant_bytes};
+use std::alloc::{AllocError, Global};
+
+/// What a session is opened with.
+#[derive(Clone, Copy)]
+pub struct Setting<'a> {
+    pub mode: EditMode,
+    pub adding: bool,
+    pub helped: bool,
+    /// Whether Ctrl-O is bound to `YankPop`.
+    pub bound: bool,
+    pub columns: u16,
+    pub prompt: &'a str,
+    /// The text of the history, with pictures.
+    pub loaded: &'a str,
+}
+
+fn has(words: &str, wanted: &str) -> bool {
+    words.split_whitespace().any(|word| word == wanted)
+}
+
+/// What stands after a beginning, in the first word that has it.
+fn after<'a>(words: &'a str, beginning: &str) -> Option<&'a str> {
+    for word in words.split_whitespace() {
+        if let Some(rest) = word.strip_prefix(beginning) {
+            return Some(rest);
+        }
+    }
+    None
+}
+
+/// Emacs mode, 80 columns, the prompt `> `, and what these words say.
+pub fn setting_of(words: &str) -> Setting<'_> {
+    let digits = after(words, "columns:").unwrap_or("80");
+    Setting {
+        mode: if has(words, "vi") {
+            EditMode::Vi
+        } else {
+            EditMode::Emacs
+        },
+        adding: has(words, "adding"),
+        helped: has(words, "helped"),
+        bound: has(words, "bound"),
+        columns: digits.parse().unwrap_or(80),
+        prompt: if has(words, "bare") { "" } else { "> " },
+        loaded: after(words, "loaded:").unwrap_or(""),
+    }
+}
+
+/// A field of a row: `nothing` is the empty text.
+pub fn field(text: &str) -> &str {
+    let text = text.trim();
+    if text == "nothing" { "" } else { text }
+}
+
+/// A row: what is typed, and what comes of it where it is looked at.
+#[derive(Clone, Copy)]
+pub struct Row<'a> {
+    pub keys: &'a str,
+    pub lines: &'a str,
+    pub ends: &'a str,
+    pub saves: Option<&'a str>,
+    pub shows: Option<&'a str>,
+}
+
+/// What stands after a name in a part of what a row wants.
+fn part_of<'a>(wanted: &'a str, name: &str) -> Option<&'a str> {
+    for part in wanted.split(" | ") {
+        if let Some(rest) = part.strip_prefix(name) {
+            return Some(rest);
+        }
+    }
+    None
+}
+
+/// What a line of a table says, where it is a row.
+pub fn row_of(text: &str) -> Option<Row<'_>> {
+    let (keys, wanted) = text.split_once(" = ")?;
+    if keys.trim_start().starts_with('#') {
+        return None;
+    }
+    let (lines, _) = wanted.split_once(" | ").unwrap_or((wanted, ""));
+    Some(Row {
+        keys,
+        lines,
+        ends: part_of(wanted, "ends ").unwrap_or("Eof").trim(),
+        saves: part_of(wanted, "saves "),
+        shows: part_of(wanted, "shows "),
+    })
+}
+
+/// What the keys with names send.
+const NAMED: &str =
+    "nothing: Enter:␍ Tab:␉ Backspace:␡ Esc:␛ Left:␛[D Right:␛[C Up:␛[A Down:␛[B Home:␛[H End:␛[F \
+    Delete:␛[3~ Paste:␛[200~ Pasted:␛[201~";
+
+/// What a named key sends.
+fn named(word: &str) -> Option<&'static str> {
+    for entry in NAMED.split_whitespace() {
+        if let Some((name, sent)) = entry.split_once(':')
+            && name == word
+        {
+            return Some(sent);
+        }
+    }
+    None
+}
+
+/// The code of Ctrl with a letter or sign.
+fn control(word: &str) -> Option<u8> {
+    match word.strip_prefix("C-")?.as_bytes() {
+        [letter] => Some(*letter & 0x1F),
+        _ => None,
+    }
+}
+
+fn put_key(alloc: Global, bytes: &mut Vec<u8>, word: &str) -> Result<(), AllocError> {
+    if let Some(code) = control(word) {
+        bytes.push(code)?;
+        return Ok(());
+    }
+    let (before, shown) = match word.strip_prefix("M-") {
+        Some(rest) if !rest.is_empty() => (b"\x1B".as_slice(), rest),
+        _ => (b"".as_slice(), named(word).unwrap_or(word)),
+    };
+    bytes.extend_from_slice(before)?;
+    bytes.extend_from_slice(meant_bytes(alloc, shown)?.as_slice())
+}
+
+/// The bytes that are typed.
+pub fn typed(alloc: Global, keys: &str) -> Result<Vec<u8>, AllocError> {
+    let mut bytes = Vec::new(alloc);
+    for word in keys.split_whitespace() {
+        put_key(alloc, &mut bytes, word)?;
+    }
+    Ok(bytes)
+}
+
+fn put_line(alloc: Global, bytes: &mut Vec<u8>, word: &str) -> Result<(), AllocError> {
+    let line = if word == "\"\"" { "" } else { word };
+    bytes.extend_from_slice(meant(alloc, line)?.as_bytes())?;
+    bytes.push(b'\n')?;
+    Ok(())
+}
+
+/// The bytes of the lines, each with its newline.
+pub fn lines_meant(alloc: Global, words: &str) -> Result<Vec<u8>, AllocError> {
+    let mut bytes = Vec::new(alloc);
+    for word in field(words).split_whitespace() {
+        put_line(alloc, &mut bytes, word)?;
+    }
+    Ok(bytes)
+}
+
+/// What a drawing begins with: CR, ESC [ J, and the prompt between two ESC [ m.
+const BEFORE_THE_LINE: &[u8] = b"\r\x1B[J\x1B[m> \x1B[m";
+
+/// What stands after the line in a drawing.
+const AFTER_THE_LINE: &[u8] = b"\x1B[m\x1B[m";
+
+/// Puts a piece of display bytes after others.
+fn put_piece(alloc: Global, bytes: &mut Vec<u8>, piece: &str) -> Result<(), AllocError> {
+    for byte in meant_bytes(alloc, piece)? {
+        match byte {
+            b'{' => bytes.extend_from_slice(BEFORE_THE_LINE)?,
+            b'}' => bytes.extend_from_slice(AFTER_THE_LINE)?,
+            other => bytes.push(other)?,
+        }
+    }
+    Ok(())
+}
+
+/// Display bytes: `{ab}` is a drawing of the line `ab` in the first row, blanks are nothing, and the rest stands for itself.
+pub fn display_meant(alloc: Global, shown: &str) -> Result<Vec<u8>, AllocError> {
+    let mut bytes = Vec::new(alloc);
+    for piece in shown.split_whitespace() {
+        put_piece(alloc, &mut bytes, piece)?;
+    }
+    Ok(bytes)
+}
