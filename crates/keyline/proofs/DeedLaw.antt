@@ -9,7 +9,7 @@ use Rattle.line_editor.specs.Lines.{Told}
 use Rattle.line_editor.specs.Redraws.{fresh}
 use Rattle.line_screen.specs.Calls.{Screen}
 use Rattle.line_keys.specs.Coming.{Coming}
-use Rattle.keyline.specs.Deeds.{Deed, Draws, Hears, Keeps, Writes, bytes_drawn, left_after, lines_kept, lines_written, call_deeds, act_deeds, acts_in, close_deeds, line_deeds, deeds_after, session_deeds, AreFirst, DeedsTell}
+use Rattle.keyline.specs.Deeds.{SessionDeed, Draws, Hears, Keeps, Writes, bytes_drawn, coming_after, lines_kept, lines_written, call_deeds, act_deeds, acts_in, close_deeds, line_deeds, deeds_after, session_deeds, AreFirst, DeedsTell}
 use Rattle.keyline.specs.Playing.{accepted_of}
 use Rattle.keyline.specs.Sessions.{Given, SessionState, Report, line_in, after_line, line_reported, line_bytes, display_bytes, session}
 use Rattle.keyline.specs.Shows.{drawn_by}
@@ -17,19 +17,19 @@ use Rattle.keyline.proofs.DeedLemmas.{drawn_both, left_both, kept_both, written_
 
 -- ---- what all of them come to
 
-record Tells (s : Screen) (coming : Coming) (deeds : List Deed) (report : Report) : Type 0 where
+record Tells (s : Screen) (coming : Coming) (deeds : List SessionDeed) (report : Report) : Type 0 where
   drawn : bytes_drawn deeds ≡ display_bytes s report
-  left : left_after coming deeds ≡ report.rest
+  left : coming_after coming deeds ≡ report.rest
   kept : lines_kept deeds ≡ report.accepted
   written : lines_written deeds ≡ report.accepted
 
 -- a line's, and then those of what comes after it
-tells_then : (s : Screen) (c : Coming) (t : Told) (o : Result (List ℕ) ReadlineError) (deeds more : List Deed) (later : Report)
-    → bytes_drawn deeds ≡ line_bytes s t → left_after c deeds ≡ t.rest → lines_kept deeds ≡ accepted_of o → lines_written deeds ≡ accepted_of o
+tells_then : (s : Screen) (c : Coming) (t : Told) (o : Result (List ℕ) ReadlineError) (deeds more : List SessionDeed) (later : Report)
+    → bytes_drawn deeds ≡ line_bytes s t → coming_after c deeds ≡ t.rest → lines_kept deeds ≡ accepted_of o → lines_written deeds ≡ accepted_of o
     → Tells s t.rest more later → Tells s c (deeds ++ deeds_after o more) (line_reported t o later)
 tells_then s c t (Ok text) deeds more later drawn left kept written r = record {
   drawn = drawn_both deeds more ∙ (ap (λ bytes. bytes ++ bytes_drawn more) drawn ∙ ap (λ bytes. line_bytes s t ++ bytes) r.drawn);
-  left = left_both c deeds more ∙ (ap (λ here. left_after here more) left ∙ r.left);
+  left = left_both c deeds more ∙ (ap (λ here. coming_after here more) left ∙ r.left);
   kept = kept_both deeds more ∙ (ap (λ lines. lines ++ lines_kept more) kept ∙ ap (λ lines. text ∷ lines) r.kept);
   written = written_both deeds more ∙ (ap (λ lines. lines ++ lines_written more) written ∙ ap (λ lines. text ∷ lines) r.written);
 }
@@ -51,19 +51,19 @@ told (suc n) g x =
 -- ---- what the first of them come to: a line is written right after it was kept
 
 -- where these are the lines kept and not yet written
-abbrev Ordered : List (List ℕ) → List Deed → Type 0
+abbrev Ordered : List (List ℕ) → List SessionDeed → Type 0
 Ordered hand [] = ⊤
 Ordered hand (Draws bytes ∷ more) = Ordered hand more
 Ordered hand (Hears rest ∷ more) = Ordered hand more
 Ordered hand (Keeps line ∷ more) = (hand ≡ []) × Ordered (line ∷ []) more
 Ordered hand (Writes line ∷ more) = (hand ≡ line ∷ []) × Ordered [] more
 
-record Hand (hand : List (List ℕ)) (done : List Deed) : Type 0 where
+record Hand (hand : List (List ℕ)) (done : List SessionDeed) : Type 0 where
   in_hand : List (List ℕ)
   one : length in_hand ≤ 1
   kept : hand ++ lines_kept done ≡ lines_written done ++ in_hand
 
-hand_of : (hand : List (List ℕ)) (done next : List Deed) → length hand ≤ 1 → Ordered hand (done ++ next) → Hand hand done
+hand_of : (hand : List (List ℕ)) (done next : List SessionDeed) → length hand ≤ 1 → Ordered hand (done ++ next) → Hand hand done
 hand_of hand [] next one is = record { in_hand = hand; one = one; kept = append-nil hand }
 hand_of hand (Draws bytes ∷ done) next one is = let r = hand_of hand done next one is in record { in_hand = r.in_hand; one = r.one; kept = r.kept }
 hand_of hand (Hears rest ∷ done) next one is = let r = hand_of hand done next one is in record { in_hand = r.in_hand; one = r.one; kept = r.kept }
@@ -74,11 +74,11 @@ hand_of hand (Writes line ∷ done) next one is =
     let r = hand_of [] done next (search arith) is.1 in
     record { in_hand = r.in_hand; one = r.one; kept = ap (λ lines. lines ++ lines_kept done) is.0 ∙ ap (λ lines. line ∷ lines) r.kept }
 
-ordered_calls : (s : Screen) (calls : List Call) (more : List Deed) → Ordered [] more → Ordered [] (call_deeds s calls ++ more)
+ordered_calls : (s : Screen) (calls : List Call) (more : List SessionDeed) → Ordered [] more → Ordered [] (call_deeds s calls ++ more)
 ordered_calls s [] more is = is
 ordered_calls s (call ∷ calls) more is = ordered_calls s calls more is
 
-ordered_acts : (s : Screen) (l : Layout) (acts : List Act) (more : List Deed) → Ordered [] more → Ordered [] (act_deeds s l acts ++ more)
+ordered_acts : (s : Screen) (l : Layout) (acts : List Act) (more : List SessionDeed) → Ordered [] more → Ordered [] (act_deeds s l acts ++ more)
 ordered_acts s l [] more is = is
 ordered_acts s l (Sees redraws ∷ acts) more is =
     let a = drawn_by s l redraws in
@@ -88,7 +88,7 @@ ordered_acts s l (Obeys kills ring redraws ∷ acts) more is =
     let a = drawn_by s l redraws in
     subst (λ deeds. Ordered [] deeds) (sym (append_assoc (call_deeds s a.calls) (act_deeds s a.layout acts) more)) (ordered_calls s a.calls _ (ordered_acts s a.layout acts more is))
 
-ordered_close : (o : Result (List ℕ) ReadlineError) (more : List Deed) → Ordered [] more → Ordered [] (close_deeds o ++ deeds_after o more)
+ordered_close : (o : Result (List ℕ) ReadlineError) (more : List SessionDeed) → Ordered [] more → Ordered [] (close_deeds o ++ deeds_after o more)
 ordered_close (Ok text) more is = (refl, (refl, is))
 ordered_close (Err e) more is = tt
 
@@ -103,7 +103,7 @@ ordered (suc n) g x =
     subst (λ deeds. Ordered [] deeds) (sym (append_assoc (act_deeds g.screen l acts) (close_deeds t.outcome) more))
     (ordered_acts g.screen l acts (close_deeds t.outcome ++ more) (ordered_close t.outcome (session_deeds n g (after_line g t x)) (ordered n g (after_line g t x))))
 
-are_first : (lines : List (List ℕ)) (deeds done next : List Deed) → Ordered [] deeds → lines_kept deeds ≡ lines → deeds ≡ done ++ next → AreFirst done lines
+are_first : (lines : List (List ℕ)) (deeds done next : List SessionDeed) → Ordered [] deeds → lines_kept deeds ≡ lines → deeds ≡ done ++ next → AreFirst done lines
 are_first lines deeds done next is kept split =
     let r = hand_of [] done next (search arith) (subst (λ deeds. Ordered [] deeds) split is) in
     record {

@@ -28,7 +28,7 @@ use Rattle.line_screen.specs.Drawing.{break_if}
 use Rattle.line_screen.specs.declared.renderer.ScreenRenderer.{ScreenRenderer}
 use Rattle.line_screen.proofs.CallLemmas.{sent_in_all}
 use Rattle.keyline.specs.Closing.{work}
-use Rattle.keyline.specs.Deeds.{Deed, Draws, Hears, Keeps, Writes, bytes_drawn, left_after, lines_kept, lines_written, call_deeds, act_deeds, close_deeds, acts_in, line_deeds}
+use Rattle.keyline.specs.Deeds.{SessionDeed, Draws, Hears, Keeps, Writes, bytes_drawn, coming_after, lines_kept, lines_written, call_deeds, act_deeds, close_deeds, acts_in, line_deeds}
 use Rattle.keyline.specs.Playing.{Work, LineWhole, Cut, CutsBy, Stops, Tears, IsHeard, accepted_of}
 use Rattle.keyline.specs.Sessions.{Given, SessionState, breaks, calls_of, history_after, line_bytes, line_in, line_text, lines_text, remembered, setting_in}
 use Rattle.keyline.specs.Shows.{drawn_by}
@@ -36,28 +36,28 @@ use Rattle.keyline.proofs.Told.{Takes-none, Takes-then}
 
 -- ---- what deeds come to, some after others
 
-pub drawn_both : (xs ys : List Deed) → bytes_drawn (xs ++ ys) ≡ bytes_drawn xs ++ bytes_drawn ys
+pub drawn_both : (xs ys : List SessionDeed) → bytes_drawn (xs ++ ys) ≡ bytes_drawn xs ++ bytes_drawn ys
 drawn_both [] ys = refl
 drawn_both (Draws bytes ∷ xs) ys = ap (λ zs. bytes ++ zs) (drawn_both xs ys) ∙ sym (append_assoc bytes (bytes_drawn xs) (bytes_drawn ys))
 drawn_both (Hears rest ∷ xs) ys = drawn_both xs ys
 drawn_both (Keeps line ∷ xs) ys = drawn_both xs ys
 drawn_both (Writes line ∷ xs) ys = drawn_both xs ys
 
-pub left_both : (c : Coming) (xs ys : List Deed) → left_after c (xs ++ ys) ≡ left_after (left_after c xs) ys
+pub left_both : (c : Coming) (xs ys : List SessionDeed) → coming_after c (xs ++ ys) ≡ coming_after (coming_after c xs) ys
 left_both c [] ys = refl
 left_both c (Draws bytes ∷ xs) ys = left_both c xs ys
 left_both c (Hears rest ∷ xs) ys = left_both rest xs ys
 left_both c (Keeps line ∷ xs) ys = left_both c xs ys
 left_both c (Writes line ∷ xs) ys = left_both c xs ys
 
-pub kept_both : (xs ys : List Deed) → lines_kept (xs ++ ys) ≡ lines_kept xs ++ lines_kept ys
+pub kept_both : (xs ys : List SessionDeed) → lines_kept (xs ++ ys) ≡ lines_kept xs ++ lines_kept ys
 kept_both [] ys = refl
 kept_both (Draws bytes ∷ xs) ys = kept_both xs ys
 kept_both (Hears rest ∷ xs) ys = kept_both xs ys
 kept_both (Keeps line ∷ xs) ys = ap (λ lines. line ∷ lines) (kept_both xs ys)
 kept_both (Writes line ∷ xs) ys = kept_both xs ys
 
-pub written_both : (xs ys : List Deed) → lines_written (xs ++ ys) ≡ lines_written xs ++ lines_written ys
+pub written_both : (xs ys : List SessionDeed) → lines_written (xs ++ ys) ≡ lines_written xs ++ lines_written ys
 written_both [] ys = refl
 written_both (Draws bytes ∷ xs) ys = written_both xs ys
 written_both (Hears rest ∷ xs) ys = written_both xs ys
@@ -71,7 +71,7 @@ module _ (s : Screen) where
   calls_drawn [] = refl
   calls_drawn (call ∷ calls) = ap (λ zs. bytes_of s call ++ zs) (calls_drawn calls)
 
-  calls_left : (c : Coming) (calls : List Call) → left_after c (call_deeds s calls) ≡ c
+  calls_left : (c : Coming) (calls : List Call) → coming_after c (call_deeds s calls) ≡ c
   calls_left c [] = refl
   calls_left c (call ∷ calls) = calls_left c calls
 
@@ -85,10 +85,10 @@ module _ (s : Screen) where
 
   -- ---- acts
 
-  abbrev asks_of : Layout → List Redraw → List Deed
+  abbrev asks_of : Layout → List Redraw → List SessionDeed
   asks_of l redraws = call_deeds s (drawn_by s l redraws).calls
 
-  drawn_then : (l : Layout) (redraws : List Redraw) (deeds : List Deed) (calls : List Call) → bytes_drawn deeds ≡ flat_map (bytes_of s) calls
+  drawn_then : (l : Layout) (redraws : List Redraw) (deeds : List SessionDeed) (calls : List Call) → bytes_drawn deeds ≡ flat_map (bytes_of s) calls
       → bytes_drawn (asks_of l redraws ++ deeds) ≡ flat_map (bytes_of s) ((drawn_by s l redraws).calls ++ calls)
   drawn_then l redraws deeds calls is =
       let first = (drawn_by s l redraws).calls in
@@ -101,16 +101,16 @@ module _ (s : Screen) where
   acts_drawn l (Gets rest ∷ more) = acts_drawn l more
   acts_drawn l (Obeys kills ring redraws ∷ more) = let l' = (drawn_by s l redraws).layout in drawn_then l redraws (act_deeds s l' more) _ (acts_drawn l' more)
 
-  left_then : (c : Coming) (l : Layout) (redraws : List Redraw) (deeds : List Deed) → left_after c (asks_of l redraws ++ deeds) ≡ left_after c deeds
-  left_then c l redraws deeds = left_both c (asks_of l redraws) deeds ∙ ap (λ d. left_after d deeds) (calls_left c (drawn_by s l redraws).calls)
+  left_then : (c : Coming) (l : Layout) (redraws : List Redraw) (deeds : List SessionDeed) → coming_after c (asks_of l redraws ++ deeds) ≡ coming_after c deeds
+  left_then c l redraws deeds = left_both c (asks_of l redraws) deeds ∙ ap (λ d. coming_after d deeds) (calls_left c (drawn_by s l redraws).calls)
 
-  acts_left : (c : Coming) (l : Layout) (acts : List Act) → left_after c (act_deeds s l acts) ≡ rest_of c acts
+  acts_left : (c : Coming) (l : Layout) (acts : List Act) → coming_after c (act_deeds s l acts) ≡ rest_of c acts
   acts_left c l [] = refl
   acts_left c l (Sees redraws ∷ more) = left_then c l redraws _ ∙ acts_left c (drawn_by s l redraws).layout more
   acts_left c l (Gets rest ∷ more) = acts_left rest l more
   acts_left c l (Obeys kills ring redraws ∷ more) = left_then c l redraws _ ∙ acts_left c (drawn_by s l redraws).layout more
 
-  kept_then : (l : Layout) (redraws : List Redraw) (deeds : List Deed) → lines_kept deeds ≡ [] → lines_kept (asks_of l redraws ++ deeds) ≡ []
+  kept_then : (l : Layout) (redraws : List Redraw) (deeds : List SessionDeed) → lines_kept deeds ≡ [] → lines_kept (asks_of l redraws ++ deeds) ≡ []
   kept_then l redraws deeds none = kept_both (asks_of l redraws) deeds ∙ (ap (λ lines. lines ++ lines_kept deeds) (calls_kept (drawn_by s l redraws).calls) ∙ none)
 
   acts_kept : (l : Layout) (acts : List Act) → lines_kept (act_deeds s l acts) ≡ []
@@ -119,7 +119,7 @@ module _ (s : Screen) where
   acts_kept l (Gets rest ∷ more) = acts_kept l more
   acts_kept l (Obeys kills ring redraws ∷ more) = kept_then l redraws _ (acts_kept (drawn_by s l redraws).layout more)
 
-  written_then : (l : Layout) (redraws : List Redraw) (deeds : List Deed) → lines_written deeds ≡ [] → lines_written (asks_of l redraws ++ deeds) ≡ []
+  written_then : (l : Layout) (redraws : List Redraw) (deeds : List SessionDeed) → lines_written deeds ≡ [] → lines_written (asks_of l redraws ++ deeds) ≡ []
   written_then l redraws deeds none = written_both (asks_of l redraws) deeds ∙ (ap (λ lines. lines ++ lines_written deeds) (calls_written (drawn_by s l redraws).calls) ∙ none)
 
   acts_written : (l : Layout) (acts : List Act) → lines_written (act_deeds s l acts) ≡ []
@@ -167,7 +167,7 @@ module _ (n : ℕ) (g : Given) (x : SessionState) where
   abbrev read : Told
   read = line_in n g x
 
-  abbrev in_line : List Deed
+  abbrev in_line : List SessionDeed
   in_line = act_deeds g.screen (fresh g.screen.mode) (acts_in n g x)
 
   pub line_drawn : bytes_drawn in_line ≡ flat_map (bytes_of g.screen) (calls_of g.screen read)
@@ -179,7 +179,7 @@ module _ (n : ℕ) (g : Given) (x : SessionState) where
       acts_drawn s l (acts_in n g x) ∙ (ap bytes (asked_same (ruler_of s) l (acts_in n g x))
       ∙ ap of_redraws (whole_redraws n (setting_in g x.history.kept.entries) g.custom g.config.indent_size (new_input g.config.edit_mode) x.ring x.coming))
 
-  pub line_left : left_after x.coming in_line ≡ read.rest
+  pub line_left : coming_after x.coming in_line ≡ read.rest
   line_left = acts_left g.screen x.coming (fresh g.screen.mode) (acts_in n g x)
       ∙ whole_rest n (setting_in g x.history.kept.entries) g.custom g.config.indent_size (new_input g.config.edit_mode) x.ring x.coming
 
@@ -187,7 +187,7 @@ close_drawn : (o : Result (List ℕ) ReadlineError) → bytes_drawn (close_deeds
 close_drawn (Ok text) = append-nil _
 close_drawn (Err e) = append-nil _
 
-close_left : (c : Coming) (o : Result (List ℕ) ReadlineError) → left_after c (close_deeds o) ≡ c
+close_left : (c : Coming) (o : Result (List ℕ) ReadlineError) → coming_after c (close_deeds o) ≡ c
 close_left c (Ok text) = refl
 close_left c (Err e) = refl
 
@@ -203,15 +203,15 @@ module _ (n : ℕ) (g : Given) (x : SessionState) where
   abbrev outcome : Result (List ℕ) ReadlineError
   outcome = (line_in n g x).outcome
 
-  abbrev lined : List Deed
+  abbrev lined : List SessionDeed
   lined = act_deeds g.screen (fresh g.screen.mode) (acts_in n g x)
 
   pub deeds_drawn : bytes_drawn (line_deeds n g x) ≡ line_bytes g.screen (line_in n g x)
   deeds_drawn = drawn_both lined (close_deeds outcome) ∙ (ap (λ zs. zs ++ bytes_drawn (close_deeds outcome)) (line_drawn n g x)
       ∙ ap (λ zs. flat_map (bytes_of g.screen) (calls_of g.screen (line_in n g x)) ++ zs) (close_drawn outcome))
 
-  pub deeds_left : left_after x.coming (line_deeds n g x) ≡ (line_in n g x).rest
-  deeds_left = left_both x.coming lined (close_deeds outcome) ∙ (close_left (left_after x.coming lined) outcome ∙ line_left n g x)
+  pub deeds_left : coming_after x.coming (line_deeds n g x) ≡ (line_in n g x).rest
+  deeds_left = left_both x.coming lined (close_deeds outcome) ∙ (close_left (coming_after x.coming lined) outcome ∙ line_left n g x)
 
   pub deeds_kept : lines_kept (line_deeds n g x) ≡ accepted_of outcome
   deeds_kept = kept_both lined (close_deeds outcome) ∙ (ap (λ lines. lines ++ lines_kept (close_deeds outcome)) (acts_kept g.screen (fresh g.screen.mode) (acts_in n g x)) ∙ close_kept outcome)
@@ -236,21 +236,21 @@ remembered_none false h = refl
 
 -- ---- a fault's stop, with more to come after it
 
-tears_more : (torn : List ℕ) (xs ys : List Deed) → Tears torn xs → Tears torn (xs ++ ys)
+tears_more : (torn : List ℕ) (xs ys : List SessionDeed) → Tears torn xs → Tears torn (xs ++ ys)
 tears_more torn [] ys p = absurd p
 tears_more torn (Draws bytes ∷ xs) ys p = absurd p
 tears_more torn (Hears rest ∷ xs) ys p = absurd p
 tears_more torn (Keeps line ∷ xs) ys p = absurd p
 tears_more torn (Writes line ∷ xs) ys p = p
 
-heard_more : (xs ys : List Deed) → IsHeard xs → IsHeard (xs ++ ys)
+heard_more : (xs ys : List SessionDeed) → IsHeard xs → IsHeard (xs ++ ys)
 heard_more [] ys p = absurd p
 heard_more (Draws bytes ∷ xs) ys p = absurd p
 heard_more (Hears rest ∷ xs) ys p = p
 heard_more (Keeps line ∷ xs) ys p = absurd p
 heard_more (Writes line ∷ xs) ys p = absurd p
 
-stops_more : (why : ReadlineError) (c : Coming) (xs ys : List Deed) (left : Coming) (torn : List ℕ) → Stops why c xs left torn → Stops why c (xs ++ ys) left torn
+stops_more : (why : ReadlineError) (c : Coming) (xs ys : List SessionDeed) (left : Coming) (torn : List ℕ) → Stops why c xs left torn → Stops why c (xs ++ ys) left torn
 stops_more why c xs ys left torn (inl p) = inl p
 stops_more why c xs ys left torn (inr (inl p)) = inr (inl (p.0, p.1, tears_more torn xs ys p.2))
 stops_more why c xs ys left torn (inr (inr p)) = inr (inr (p.0, p.1, p.2, heard_more xs ys p.3))
@@ -258,18 +258,18 @@ stops_more why c xs ys left torn (inr (inr p)) = inr (inr (p.0, p.1, p.2, heard_
 -- ---- deeds that were done, and deeds that were cut
 
 -- all of them
-pub record Done {D L : Type 0} (shows : D → Bool) (shown : D → List ℕ) (writes : L → Bool) (written_in : L → List ℕ) (adds : Bool) (deeds : List Deed)
+pub record Done {D L : Type 0} (shows : D → Bool) (shown : D → List ℕ) (writes : L → Bool) (written_in : L → List ℕ) (adds : Bool) (deeds : List SessionDeed)
     (coming : Coming) (old new : Work D L) (left : Coming) : Type 0 where
   pub drawn : Takes shows shown old.display new.display (bytes_drawn deeds)
   pub wrote : Takes writes written_in old.lines new.lines (lines_text (lines_written deeds))
   pub history_is : new.history ≡ remembered adds (lines_kept deeds) old.history
-  pub left_is : left ≡ left_after coming deeds
+  pub left_is : left ≡ coming_after coming deeds
 
 module _ {D L : Type 0} (shows : D → Bool) (shown : D → List ℕ) (show_failed : D → Bool) (writes : L → Bool) (written_in : L → List ℕ) (adds : Bool) where
-  abbrev AllDone : List Deed → Coming → Work D L → Work D L → Coming → Type 0
+  abbrev AllDone : List SessionDeed → Coming → Work D L → Work D L → Coming → Type 0
   AllDone deeds coming old new left = Done shows shown writes written_in adds deeds coming old new left
 
-  abbrev CutAt : List Deed → Coming → Work D L → Work D L → Coming → ReadlineError → Type 0
+  abbrev CutAt : List SessionDeed → Coming → Work D L → Work D L → Coming → ReadlineError → Type 0
   CutAt deeds coming old new left why = Cut shows shown show_failed writes written_in adds deeds coming old new left why
 
   abbrev Shown : Work D L → Work D L → List ℕ → Type 0
@@ -280,7 +280,7 @@ module _ {D L : Type 0} (shows : D → Bool) (shown : D → List ℕ) (show_fail
   shown_then old mid new xs ys first (inr failed) = inr failed
 
   -- more are to come after those that were cut
-  pub cut_more : (xs ys : List Deed) (c : Coming) (old new : Work D L) (left : Coming) (why : ReadlineError) → CutAt xs c old new left why → CutAt (xs ++ ys) c old new left why
+  pub cut_more : (xs ys : List SessionDeed) (c : Coming) (old new : Work D L) (left : Coming) (why : ReadlineError) → CutAt xs c old new left why → CutAt (xs ++ ys) c old new left why
   cut_more xs ys c old new left why r = record {
     cut = r.cut;
     done = r.done;
@@ -288,13 +288,13 @@ module _ {D L : Type 0} (shows : D → Bool) (shown : D → List ℕ) (show_fail
     first = ap (λ zs. zs ++ ys) r.first ∙ append_assoc r.done r.next ys;
     drawn = r.drawn;
     torn = r.torn;
-    stops = stops_more why (left_after c r.done) r.next ys left r.torn r.stops;
+    stops = stops_more why (coming_after c r.done) r.next ys left r.torn r.stops;
     wrote = r.wrote;
     history_is = r.history_is;
   }
 
   -- others were done before them
-  pub cut_after : (xs ys : List Deed) (c c' : Coming) (old mid new : Work D L) (left : Coming) (why : ReadlineError) → AllDone xs c old mid c' → CutAt ys c' mid new left why
+  pub cut_after : (xs ys : List SessionDeed) (c c' : Coming) (old mid new : Work D L) (left : Coming) (why : ReadlineError) → AllDone xs c old mid c' → CutAt ys c' mid new left why
       → CutAt (xs ++ ys) c old new left why
   cut_after xs ys c c' old mid new left why d r =
       let lines = lines_written r.done in
@@ -308,7 +308,7 @@ module _ {D L : Type 0} (shows : D → Bool) (shown : D → List ℕ) (show_fail
         first = ap (λ zs. xs ++ zs) r.first ∙ sym (append_assoc xs r.done r.next);
         drawn = subst B (sym (drawn_both xs r.done)) (shown_then old mid new (bytes_drawn xs) (bytes_drawn r.done) d.drawn r.drawn);
         torn = r.torn;
-        stops = subst S (ap (λ here. left_after here r.done) d.left_is ∙ sym (left_both c xs r.done)) r.stops;
+        stops = subst S (ap (λ here. coming_after here r.done) d.left_is ∙ sym (left_both c xs r.done)) r.stops;
         wrote =
             subst W (sym (append_assoc (lines_text (lines_written xs)) (lines_text lines) r.torn)
             ∙ ap (λ bytes. bytes ++ r.torn) (sym (flat_map-append line_text (lines_written xs) lines) ∙ ap lines_text (sym (written_both xs r.done))))
@@ -320,7 +320,7 @@ module _ {D L : Type 0} (shows : D → Bool) (shown : D → List ℕ) (show_fail
       }
 
   -- none of them was done, and none was to be torn
-  pub cut_first : (deeds : List Deed) (c : Coming) (old new : Work D L) (why : ReadlineError) → CutsBy why → (why ≡ Lines → ⊥)
+  pub cut_first : (deeds : List SessionDeed) (c : Coming) (old new : Work D L) (why : ReadlineError) → CutsBy why → (why ≡ Lines → ⊥)
       → Shown old new [] → new.lines ≡ old.lines → new.history ≡ old.history → CutAt deeds c old new c why
   cut_first deeds c old new why cut other shown' lines history = record {
     cut = cut;
@@ -358,8 +358,8 @@ module _ {D L : Type 0} (shows : D → Bool) (shown : D → List ℕ) (show_fail
     abbrev on : ScreenRenderer D → Work D L
     on out = work (sink_of out) lines history
 
-    untouched : (deeds : List Deed) (c c' : Coming) (a b : ScreenRenderer D) (bytes : List ℕ) → Takes shows shown (sink_of a) (sink_of b) bytes → bytes ≡ bytes_drawn deeds
-        → lines_kept deeds ≡ [] → lines_written deeds ≡ [] → c' ≡ left_after c deeds → AllDone deeds c (on a) (on b) c'
+    untouched : (deeds : List SessionDeed) (c c' : Coming) (a b : ScreenRenderer D) (bytes : List ℕ) → Takes shows shown (sink_of a) (sink_of b) bytes → bytes ≡ bytes_drawn deeds
+        → lines_kept deeds ≡ [] → lines_written deeds ≡ [] → c' ≡ coming_after c deeds → AllDone deeds c (on a) (on b) c'
     untouched deeds c c' a b bytes took is kept written left =
         let B : List ℕ → Type 0 = Takes shows shown (sink_of a) (sink_of b) in
         let W : List (List ℕ) → Type 0 = λ these. Takes writes written_in lines lines (lines_text these) in
@@ -382,7 +382,7 @@ module _ {D L : Type 0} (shows : D → Bool) (shown : D → List ℕ) (show_fail
       abbrev Made : List Call → ScreenRenderer D → ScreenRenderer D → Type 0
       Made calls a b = FoldsTo (canvas_of shows shown show_failed).made a calls b
 
-      stay : (deeds : List Deed) (c : Coming) (a b : ScreenRenderer D) → b ≡ a → CutAt deeds c (on a) (on b) c why
+      stay : (deeds : List SessionDeed) (c : Coming) (a b : ScreenRenderer D) → b ≡ a → CutAt deeds c (on a) (on b) c why
       stay deeds c a b same = cut_first deeds c (on a) (on b) why cut other (inl (Takes-none shows shown (sink_of a) (sink_of b) (ap sink_of same))) refl refl
 
       done_calls : (calls : List Call) (c : Coming) (a b : ScreenRenderer D) → screen_of a ≡ s → Made calls a b → AllDone (call_deeds s calls) c (on a) (on b) c
@@ -405,13 +405,13 @@ module _ {D L : Type 0} (shows : D → Bool) (shown : D → List ℕ) (show_fail
           let first = untouched (Draws (bytes_of s call) ∷ []) c c a h.0 _ (subst P is h.1.takes) (sym (append-nil (bytes_of s call))) refl refl refl in
           cut_after (Draws (bytes_of s call) ∷ []) (call_deeds s calls) c c (on a) (on h.0) (on b) c why first (cut_calls calls c h.0 b (h.1.screen ∙ is) h.2)
 
-      cut_heard : (rest : Coming) (deeds : List Deed) (c left : Coming) (a b : ScreenRenderer D) → CutAt deeds rest (on a) (on b) left why → CutAt (Hears rest ∷ deeds) c (on a) (on b) left why
+      cut_heard : (rest : Coming) (deeds : List SessionDeed) (c left : Coming) (a b : ScreenRenderer D) → CutAt deeds rest (on a) (on b) left why → CutAt (Hears rest ∷ deeds) c (on a) (on b) left why
       cut_heard rest deeds c left a b r =
           let first = untouched (Hears rest ∷ []) c rest a a [] (Takes-none shows shown (sink_of a) (sink_of a) refl) refl refl refl refl in
           cut_after (Hears rest ∷ []) deeds c rest (on a) (on a) (on b) left why first r
 
       -- a paste that found no memory
-      cut_unheard : (rest : Coming) (deeds : List Deed) (c left : Coming) (a b : ScreenRenderer D) → why ≡ Memory → left ≡ left_by Memory → b ≡ a
+      cut_unheard : (rest : Coming) (deeds : List SessionDeed) (c left : Coming) (a b : ScreenRenderer D) → why ≡ Memory → left ≡ left_by Memory → b ≡ a
           → CutAt (Hears rest ∷ deeds) c (on a) (on b) left why
       cut_unheard rest deeds c left a b is lost same = record {
         cut = cut;
@@ -425,7 +425,7 @@ module _ {D L : Type 0} (shows : D → Bool) (shown : D → List ℕ) (show_fail
         history_is = sym (remembered_none adds history);
       }
 
-      here : (deeds : List Deed) (c left : Coming) (a b : ScreenRenderer D) → left ≡ c → CutAt deeds c (on a) (on b) c why → CutAt deeds c (on a) (on b) left why
+      here : (deeds : List SessionDeed) (c left : Coming) (a b : ScreenRenderer D) → left ≡ c → CutAt deeds c (on a) (on b) c why → CutAt deeds c (on a) (on b) left why
       here deeds c left a b same r = let P : Coming → Type 0 = λ left. CutAt deeds c (on a) (on b) left why in subst P (sym same) r
 
       pub cut_acts : (acts : List Act) (l : Layout) (old new : Stage (ScreenRenderer D)) → screen_of old.out ≡ s

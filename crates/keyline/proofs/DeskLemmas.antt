@@ -28,7 +28,7 @@ use Rattle.line_screen.specs.declared.reading.reader.KeyReader.{KeyReader}
 use Rattle.line_screen.specs.declared.renderer.ScreenRenderer.{ScreenRenderer}
 use Rattle.line_screen.proofs.CallLemmas.{sent_in_all, begun_stays}
 use Rattle.keyline.specs.Closing.{Closes, CloseReason, work}
-use Rattle.keyline.specs.Deeds.{Deed, act_deeds, acts_in, close_deeds, line_deeds}
+use Rattle.keyline.specs.Deeds.{SessionDeed, act_deeds, acts_in, close_deeds, line_deeds}
 use Rattle.keyline.specs.Desks.{Known, Lined, TakesLine, DeskReason, feed_of, hearing, work_of}
 use Rattle.keyline.specs.Playing.{Work, Cut, LineWhole, LineCut, CutsBy, SessionReason}
 use Rattle.keyline.specs.Sessions.{Given, given_by, breaks, line_in, history_after}
@@ -185,7 +185,7 @@ module _ {S H D L K T : Type 0} (k : Known S D L) (helps : Option H → Helping)
     abbrev StaysAs : Result (List ℕ) ReadlineError → Type 0
     StaysAs outcome = IfErr outcome (λ e. breaks_after e ≡ false → (work_of k new ≡ at_end) × (result ≡ Err e))
 
-    abbrev CutAs : List Deed → Coming → Type 0
+    abbrev CutAs : List SessionDeed → Coming → Type 0
     CutAs deeds heard = LineCut k.shows k.shown k.show_failed k.writes k.written_in config.auto_add_history deeds heard (work_of k old) (work_of k new) left result
 
     after_whole : (n : ℕ) (heard : Coming) → let x = hearing k old heard in WentWhole (line_in n given x) → EndedAs (line_in n given x).outcome

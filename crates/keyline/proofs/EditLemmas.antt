@@ -9,7 +9,7 @@ use Rattle.line_keys.specs.Handling.{Meaning}
 use Rattle.line_keys.specs.declared.events.Event.{Event}
 use Rattle.line_screen.specs.Calls.{screen_of}
 use Rattle.keyline.specs.Desks.{Known, hearing}
-use Rattle.keyline.specs.Edits.{Edits, bracket_helping, config_of, given_to, helper_of, nothing_bound}
+use Rattle.keyline.specs.Edits.{EditsByOptions, bracket_helping, config_of, given_to, helper_of, nothing_bound}
 use Rattle.keyline.specs.Plays.{Opens, Plays}
 use Rattle.keyline.specs.SessionShows.{Displays}
 use Rattle.keyline.specs.Sessions.{Given, given_by}
@@ -28,7 +28,7 @@ module _ {S D L T : Type 0} (k : Known S D L) (told : T → Bool) (held : T → 
       → Plays k told held failed (given_by config' custom prompt (screen_of desk.out) (bracket_helping desk.helper)) desk text' ended
       → ((heard : Coming) → Displays (given_by config' custom prompt (screen_of desk.out) (bracket_helping desk.helper)) (hearing k desk heard))
       → config ≡ config_of options → config' ≡ config → prompt ≡ string_bytes options.prompt → helper ≡ helper_of options → text' ≡ text → custom ≡ nothing_bound
-      → Edits k told held failed options history source display lines text ended
+      → EditsByOptions k told held failed options history source display lines text ended
   edited options history source display lines text text' ended desk config config' custom prompt helper opens plays shows config_is config_is' prompt_is helper_is text_is custom_is =
       let screen = screen_of desk.out in
       let helping = bracket_helping desk.helper in

@@ -9,7 +9,7 @@ use Rattle.line_help.specs.History.{Filed}
 use Rattle.line_keys.specs.Answers.{HandlerFails}
 use Rattle.line_keys.specs.Coming.{Coming}
 use Rattle.line_keys.specs.Early.{Heard}
-use Rattle.keyline.specs.Deeds.{Deed, deeds_after, line_deeds, session_deeds}
+use Rattle.keyline.specs.Deeds.{SessionDeed, deeds_after, line_deeds, session_deeds}
 use Rattle.keyline.specs.Desks.{Known, Lined, TakesLine, TakesLines, DeskReason, HeardAt, feed_of, hearing, session_state_of, work_of}
 use Rattle.keyline.specs.Playing.{Work, LineWhole, LineCut, Cut, Reads}
 use Rattle.keyline.specs.Sessions.{Given, SessionState, Report, line_in, after_line, line_reported, line_text, lines_text, line_bytes, display_bytes, remembered, session}
@@ -53,11 +53,11 @@ module _ {D L : Type 0} (shows : D → Bool) (shown : D → List ℕ) (show_fail
   abbrev Whole : Told → Result (List ℕ) ReadlineError → Work D L → Work D L → Result (Unit {0}) ReadlineError → Type 0
   Whole t o old new result = LineWhole shows shown show_failed writes written_in adds (line_bytes g.screen t) o old new result
 
-  abbrev All : Report → List Deed → Coming → Work D L → Work D L → Coming → ReadlineError → Type 0
+  abbrev All : Report → List SessionDeed → Coming → Work D L → Work D L → Coming → ReadlineError → Type 0
   All report deeds coming old new left why = Reads shows shown show_failed writes written_in g report deeds coming old new left why
 
   -- an accepted line, and then a session
-  then_reads : (t : Told) (o : Result (List ℕ) ReadlineError) (later : Report) (deeds more : List Deed) (c c' : Coming) (old mid new : Work D L) (left : Coming) (why : ReadlineError)
+  then_reads : (t : Told) (o : Result (List ℕ) ReadlineError) (later : Report) (deeds more : List SessionDeed) (c c' : Coming) (old mid new : Work D L) (left : Coming) (why : ReadlineError)
       → Whole t o old mid (Ok (tt {0})) → Done shows shown writes written_in adds deeds c old mid c' → All later more c' mid new left why
       → All (line_reported t o later) (deeds ++ deeds_after o more) c old new left why
   then_reads t (Ok text) later deeds more c c' old mid new left why w d (inl r) = inl (record {
@@ -74,7 +74,7 @@ module _ {D L : Type 0} (shows : D → Bool) (shown : D → List ℕ) (show_fail
   then_reads t (Err e) later deeds more c c' old mid new left why w d r = absurd (ok_not_err (tt {0}) e w.result_is)
 
   -- the line that ends the session
-  ends_reads : (t : Told) (o : Result (List ℕ) ReadlineError) (later : Report) (deeds : List Deed) (c : Coming) (old new : Work D L) (left : Coming) (e : ReadlineError)
+  ends_reads : (t : Told) (o : Result (List ℕ) ReadlineError) (later : Report) (deeds : List SessionDeed) (c : Coming) (old new : Work D L) (left : Coming) (e : ReadlineError)
       → Whole t o old new (Err e) → left ≡ t.rest → All (line_reported t o later) deeds c old new left e
   ends_reads t (Ok text) later deeds c old new left e w rest = absurd (ok_not_err (tt {0}) e (sym w.result_is))
   ends_reads t (Err d) later deeds c old new left e w rest = inl (record {
@@ -86,7 +86,7 @@ module _ {D L : Type 0} (shows : D → Bool) (shown : D → List ℕ) (show_fail
   })
 
   -- a line that a fault cut off
-  cut_reads : (report : Report) (deeds more : List Deed) (c : Coming) (old new : Work D L) (left : Coming) (e : ReadlineError)
+  cut_reads : (report : Report) (deeds more : List SessionDeed) (c : Coming) (old new : Work D L) (left : Coming) (e : ReadlineError)
       → LineCut shows shown show_failed writes written_in adds deeds c old new left (Err e) → All report (deeds ++ more) c old new left e
   cut_reads report deeds more c old new left e r =
       let same : e ≡ r.fault = fault_by (Err e) e r.fault refl r.result_is in
@@ -140,7 +140,7 @@ module _ {S H D L : Type 0} (k : Known S D L) where
       let y = after_line g t x in
       let X : SessionState → Type 0 = λ x. Reads k.shows k.shown k.show_failed k.writes k.written_in g (session n g x) (session_deeds n g x) x.coming (work_of k next) end left why in
       let Q : Report → Type 0 = λ report. Reads k.shows k.shown k.show_failed k.writes k.written_in g report (session_deeds (suc n) g x) heard (work_of k now) end left why in
-      let R : List Deed → Type 0 = λ deeds. Reads k.shows k.shown k.show_failed k.writes k.written_in g (line_reported t t.outcome (session n g y)) deeds heard (work_of k now) end left why in
+      let R : List SessionDeed → Type 0 = λ deeds. Reads k.shows k.shown k.show_failed k.writes k.written_in g (line_reported t t.outcome (session n g y)) deeds heard (work_of k now) end left why in
       subst Q (sym (session_by n g x t is)) (subst R (sym (deeds_by n g x t is))
       (then_reads k.shows k.shown k.show_failed k.writes k.written_in g t t.outcome (session n g y) (line_deeds (suc n) g x) (session_deeds n g y) heard y.coming
       (work_of k now) (work_of k next) end left why whole
@@ -167,7 +167,7 @@ module _ {S H D L : Type 0} (k : Known S D L) where
       let t = line_in (suc n) g x in
       let later = session n g (after_line g t x) in
       let Q : Report → Type 0 = λ report. Reads k.shows k.shown k.show_failed k.writes k.written_in g report (session_deeds (suc n) g x) heard (work_of k now) (work_of k next) (feed_of k next).coming e in
-      let R : List Deed → Type 0 = λ deeds. Reads k.shows k.shown k.show_failed k.writes k.written_in g (line_reported t t.outcome later) deeds heard (work_of k now) (work_of k next) (feed_of k next).coming e in
+      let R : List SessionDeed → Type 0 = λ deeds. Reads k.shows k.shown k.show_failed k.writes k.written_in g (line_reported t t.outcome later) deeds heard (work_of k now) (work_of k next) (feed_of k next).coming e in
       (heard, is, subst Q (sym (session_step n g x)) (subst R (sym (deeds_step n g x)) (by_cases x t lined)))
     where
       by_cases : (x : SessionState) (t : Told) → Lined k g t (line_deeds (suc n) g x) heard now next (Err e)

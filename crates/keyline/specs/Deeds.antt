@@ -12,19 +12,19 @@ use Rattle.line_screen.specs.Drawing.{break_if}
 use Rattle.keyline.specs.Sessions.{Given, SessionState, line_in, setting_in, after_line, breaks, display_bytes, session}
 use Rattle.keyline.specs.Shows.{drawn_by}
 
-pub data Deed : Type 0 where
+pub data SessionDeed : Type 0 where
   -- the display is sent the bytes of a call
-  Draws : (bytes : List ℕ) → Deed
+  Draws : (bytes : List ℕ) → SessionDeed
   -- a key or a paste is read, and this is to come after it
-  Hears : (rest : Coming) → Deed
+  Hears : (rest : Coming) → SessionDeed
   -- a line is added to the history, where the settings say so
-  Keeps : (line : List ℕ) → Deed
+  Keeps : (line : List ℕ) → SessionDeed
   -- a line is written
-  Writes : (line : List ℕ) → Deed
+  Writes : (line : List ℕ) → SessionDeed
 
 -- ---- what deeds come to
 
-abbrev pub bytes_drawn : List Deed → List ℕ
+abbrev pub bytes_drawn : List SessionDeed → List ℕ
 bytes_drawn [] = []
 bytes_drawn (Draws bytes ∷ more) = bytes ++ bytes_drawn more
 bytes_drawn (Hears rest ∷ more) = bytes_drawn more
@@ -32,21 +32,21 @@ bytes_drawn (Keeps line ∷ more) = bytes_drawn more
 bytes_drawn (Writes line ∷ more) = bytes_drawn more
 
 -- what is left to come after them
-abbrev pub left_after : Coming → List Deed → Coming
-left_after coming [] = coming
-left_after coming (Draws bytes ∷ more) = left_after coming more
-left_after coming (Hears rest ∷ more) = left_after rest more
-left_after coming (Keeps line ∷ more) = left_after coming more
-left_after coming (Writes line ∷ more) = left_after coming more
+abbrev pub coming_after : Coming → List SessionDeed → Coming
+coming_after coming [] = coming
+coming_after coming (Draws bytes ∷ more) = coming_after coming more
+coming_after coming (Hears rest ∷ more) = coming_after rest more
+coming_after coming (Keeps line ∷ more) = coming_after coming more
+coming_after coming (Writes line ∷ more) = coming_after coming more
 
-abbrev pub lines_kept : List Deed → List (List ℕ)
+abbrev pub lines_kept : List SessionDeed → List (List ℕ)
 lines_kept [] = []
 lines_kept (Draws bytes ∷ more) = lines_kept more
 lines_kept (Hears rest ∷ more) = lines_kept more
 lines_kept (Keeps line ∷ more) = line ∷ lines_kept more
 lines_kept (Writes line ∷ more) = lines_kept more
 
-abbrev pub lines_written : List Deed → List (List ℕ)
+abbrev pub lines_written : List SessionDeed → List (List ℕ)
 lines_written [] = []
 lines_written (Draws bytes ∷ more) = lines_written more
 lines_written (Hears rest ∷ more) = lines_written more
@@ -55,12 +55,12 @@ lines_written (Writes line ∷ more) = line ∷ lines_written more
 
 -- ---- a line's
 
-abbrev pub call_deeds : Screen → List Call → List Deed
+abbrev pub call_deeds : Screen → List Call → List SessionDeed
 call_deeds s [] = []
 call_deeds s (call ∷ calls) = Draws (bytes_of s call) ∷ call_deeds s calls
 
 -- its acts, by the calls that they ask where this layout is kept
-abbrev pub act_deeds : Screen → Layout → List Act → List Deed
+abbrev pub act_deeds : Screen → Layout → List Act → List SessionDeed
 act_deeds s l [] = []
 act_deeds s l (Sees redraws ∷ more) =
     call_deeds s (drawn_by s l redraws).calls ++ act_deeds s (drawn_by s l redraws).layout more
@@ -69,29 +69,29 @@ act_deeds s l (Obeys kills ring redraws ∷ more) =
     call_deeds s (drawn_by s l redraws).calls ++ act_deeds s (drawn_by s l redraws).layout more
 
 -- its end: an accepted line is kept, and then written
-abbrev pub accept_deeds : Result (List ℕ) ReadlineError → List Deed
+abbrev pub accept_deeds : Result (List ℕ) ReadlineError → List SessionDeed
 accept_deeds (Ok text) = Keeps text ∷ Writes text ∷ []
 accept_deeds (Err e) = []
 
-abbrev pub close_deeds : Result (List ℕ) ReadlineError → List Deed
+abbrev pub close_deeds : Result (List ℕ) ReadlineError → List SessionDeed
 close_deeds outcome = Draws (break_if (breaks outcome)) ∷ accept_deeds outcome
 
 abbrev pub acts_in : ℕ → Given → SessionState → List Act
 acts_in n g x =
     acts_meant n (setting_in g x.history.kept.entries) g.custom g.config x.ring x.coming
 
-abbrev pub line_deeds : ℕ → Given → SessionState → List Deed
+abbrev pub line_deeds : ℕ → Given → SessionState → List SessionDeed
 line_deeds n g x =
     act_deeds g.screen (fresh g.screen.mode) (acts_in n g x)
     ++ close_deeds (line_in n g x).outcome
 
 -- ---- a session's, line after line
 
-abbrev pub deeds_after : Result (List ℕ) ReadlineError → List Deed → List Deed
+abbrev pub deeds_after : Result (List ℕ) ReadlineError → List SessionDeed → List SessionDeed
 deeds_after (Ok text) later = later
 deeds_after (Err e) later = []
 
-unfoldable pub session_deeds : ℕ → Given → SessionState → List Deed
+unfoldable pub session_deeds : ℕ → Given → SessionState → List SessionDeed
 session_deeds zero g x = []
 session_deeds (suc n) g x =
     let t = line_in (suc n) g x in
@@ -101,7 +101,7 @@ session_deeds (suc n) g x =
 
 -- after the first of them: the lines that are written, and perhaps the next one, are kept, and are
 -- the first of these
-pub record AreFirst (done : List Deed) (lines : List (List ℕ)) : Type 0 where
+pub record AreFirst (done : List SessionDeed) (lines : List (List ℕ)) : Type 0 where
   pub in_hand : List (List ℕ)
   pub others : List (List ℕ)
   pub one : length in_hand ≤ 1
@@ -114,7 +114,7 @@ DeedsTell =
     (n : ℕ) (g : Given) (x : SessionState) → let deeds = session_deeds n g x in
     let report = session n g x in
     (bytes_drawn deeds ≡ display_bytes g.screen report)
-    × (left_after x.coming deeds ≡ report.rest)
+    × (coming_after x.coming deeds ≡ report.rest)
     × (lines_kept deeds ≡ report.accepted)
     × (lines_written deeds ≡ report.accepted)
-    × ((done next : List Deed) → deeds ≡ done ++ next → AreFirst done report.accepted)
+    × ((done next : List SessionDeed) → deeds ≡ done ++ next → AreFirst done report.accepted)

@@ -8,7 +8,7 @@ use Rattle.line_keys.specs.Feeds.{KeyFeed}
 use Rattle.line_editor.specs.Lines.{Told}
 use Rattle.line_screen.specs.Calls.{sink_of}
 use Rattle.line_screen.specs.Reader.{items_of, source_of}
-use Rattle.keyline.specs.Deeds.{Deed, line_deeds, session_deeds}
+use Rattle.keyline.specs.Deeds.{SessionDeed, line_deeds, session_deeds}
 use Rattle.keyline.specs.Playing.{Work, SessionReason, LineWhole, LineCut, Reads}
 use Rattle.keyline.specs.Sessions.{Given, SessionState, line_in, after_line, line_bytes, session}
 use Rattle.keyline.specs.declared.desk.Desk.{Desk}
@@ -58,7 +58,7 @@ module _ {S H D L : Type 0} (k : Known S D L) where
   DeskReason told g d e = SessionReason told g (k.feed (source_of d.reader)).failed
       (k.show_failed (sink_of d.out)) (k.write_failed d.lines) e
 
-  abbrev pub Lined : Given → Told → List Deed → Coming → Desk S H D L → Desk S H D L
+  abbrev pub Lined : Given → Told → List SessionDeed → Coming → Desk S H D L → Desk S H D L
       → Result (Unit {0}) ReadlineError → Type 0
   Lined g t deeds heard old new result =
       (LineWhole k.shows k.shown k.show_failed k.writes k.written_in g.config.auto_add_history

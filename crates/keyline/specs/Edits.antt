@@ -42,7 +42,7 @@ given_to options desk = given_by (config_of options) nothing_bound (string_bytes
     (screen_of desk.out) (bracket_helping desk.helper)
 
 -- a session was opened by these options, and run
-pub record Edits {S D L T : Type 0} (k : Known S D L) (told : T → Bool) (held : T → List ℕ)
+pub record EditsByOptions {S D L T : Type 0} (k : Known S D L) (told : T → Bool) (held : T → List ℕ)
     (failed : T → Bool) (options : Options) (history : Feed) (source : S) (display : D)
     (lines : L) (text : T) (ended : Ended S D L T) : Type 0 where
   pub desk : Desk S BracketHelper D L

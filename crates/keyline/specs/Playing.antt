@@ -9,7 +9,7 @@ use Rattle.line_help.specs.History.{Filed, all_saved}
 use Rattle.line_help.specs.HistoryText.{text_to_save}
 use Rattle.line_keys.specs.Answers.{HandlerFails}
 use Rattle.line_keys.specs.Coming.{Coming, made_of, left_by}
-use Rattle.keyline.specs.Deeds.{Deed, Draws, Hears, Keeps, Writes, bytes_drawn, left_after, lines_kept, lines_written}
+use Rattle.keyline.specs.Deeds.{SessionDeed, Draws, Hears, Keeps, Writes, bytes_drawn, coming_after, lines_kept, lines_written}
 use Rattle.keyline.specs.Sessions.{Given, Report, remembered, history_after, line_text, lines_text, display_bytes}
 
 -- the faults that no input gives
@@ -55,7 +55,7 @@ accepted_of (Err e) = []
 -- ---- where a fault stops deeds
 
 -- the next one is to write a line, and this is a beginning of it
-abbrev pub Tears : List ℕ → List Deed → Type 0
+abbrev pub Tears : List ℕ → List SessionDeed → Type 0
 Tears torn [] = ⊥
 Tears torn (Draws bytes ∷ more) = ⊥
 Tears torn (Hears rest ∷ more) = ⊥
@@ -63,7 +63,7 @@ Tears torn (Keeps line ∷ more) = ⊥
 Tears torn (Writes line ∷ more) = (later : List ℕ) × (line_text line ≡ torn ++ later)
 
 -- the next one is to read
-abbrev pub IsHeard : List Deed → Type 0
+abbrev pub IsHeard : List SessionDeed → Type 0
 IsHeard [] = ⊥
 IsHeard (Draws bytes ∷ more) = ⊥
 IsHeard (Hears rest ∷ more) = ⊤
@@ -72,7 +72,7 @@ IsHeard (Writes line ∷ more) = ⊥
 
 -- nothing was done of the next one; or the sink of lines failed at its line, and has taken a
 -- beginning of it; or a paste found no memory, and every read is refused from there on
-abbrev pub Stops : ReadlineError → Coming → List Deed → Coming → List ℕ → Type 0
+abbrev pub Stops : ReadlineError → Coming → List SessionDeed → Coming → List ℕ → Type 0
 Stops why coming next left torn =
     ((why ≡ Lines → ⊥) × (left ≡ coming) × (torn ≡ []))
     ⊎ (((why ≡ Lines) × (left ≡ coming) × Tears torn next)
@@ -83,16 +83,16 @@ module _ {D L : Type 0} (shows : D → Bool) (shown : D → List ℕ) (show_fail
   -- of these deeds the first were done, in order, and a fault stopped the next one: the display has
   -- the bytes drawn, unless it has failed; the source has left what comes after what was heard; the
   -- sink of lines has the lines written; and the history has those kept
-  pub record Cut (adds : Bool) (deeds : List Deed) (coming : Coming) (old new : Work D L)
+  pub record Cut (adds : Bool) (deeds : List SessionDeed) (coming : Coming) (old new : Work D L)
       (left : Coming) (why : ReadlineError) : Type 0 where
     pub cut : CutsBy why
-    pub done : List Deed
-    pub next : List Deed
+    pub done : List SessionDeed
+    pub next : List SessionDeed
     pub first : deeds ≡ done ++ next
     pub drawn : Takes shows shown old.display new.display (bytes_drawn done)
         ⊎ IsTrue (show_failed new.display)
     pub torn : List ℕ
-    pub stops : Stops why (left_after coming done) next left torn
+    pub stops : Stops why (coming_after coming done) next left torn
     pub wrote : Takes writes written_in old.lines new.lines
         (lines_text (lines_written done) ++ torn)
     pub history_is : new.history ≡ remembered adds (lines_kept done) old.history
@@ -108,7 +108,7 @@ module _ {D L : Type 0} (shows : D → Bool) (shown : D → List ℕ) (show_fail
     pub wrote : Takes writes written_in old.lines new.lines (lines_text (accepted_of outcome))
 
   -- a fault cut its deeds
-  pub record LineCut (adds : Bool) (deeds : List Deed) (coming : Coming) (old new : Work D L)
+  pub record LineCut (adds : Bool) (deeds : List SessionDeed) (coming : Coming) (old new : Work D L)
       (left : Coming) (result : Result (Unit {0}) ReadlineError) : Type 0 where
     pub fault : ReadlineError
     pub result_is : result ≡ Err fault
@@ -127,7 +127,7 @@ module _ {D L : Type 0} (shows : D → Bool) (shown : D → List ℕ) (show_fail
     pub wrote : Takes writes written_in old.lines new.lines (lines_text report.accepted)
 
   -- whole, or a fault cut its deeds
-  abbrev pub Reads : Given → Report → List Deed → Coming → Work D L → Work D L → Coming
+  abbrev pub Reads : Given → Report → List SessionDeed → Coming → Work D L → Work D L → Coming
       → ReadlineError → Type 0
   Reads g report deeds coming old new left why =
       Whole g report old new left why

@@ -2,7 +2,7 @@
 
 ghost use Rattle.std.specs.Prelude.{◌≡◌, ◌≤◌, IfErr, IfOk, false};
 ghost use Rattle.keyline.specs.Desks.{known_by};
-ghost use Rattle.keyline.specs.Edits.{Edits, config_of, helper_of};
+ghost use Rattle.keyline.specs.Edits.{EditsByOptions, config_of, helper_of};
 ghost use Rattle.keyline.specs.Plays.{LoadFault};
 
 use crate::brackets::BracketHelper;
@@ -51,7 +51,7 @@ pub fn edit<F: Source + Drop, S: Source + Drop, D: Sink + Drop, L: Sink + Drop, 
     requires lines { L.has_failed lines ≡ false }
     requires text { T.has_failed text ≡ false }
     ensures edits { let known = known_by S.feed D.told D.held D.has_failed L.told L.held L.has_failed
-        in IfOk result (Edits known T.told T.held T.has_failed options.now (F.feed history) source
+        in IfOk result (EditsByOptions known T.told T.held T.has_failed options.now (F.feed history) source
         display lines text) }
     ensures fault { IfErr result (LoadFault (config_of options.now) (F.feed history)) }
 {

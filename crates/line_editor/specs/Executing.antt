@@ -16,15 +16,15 @@ use Rattle.line_editor.specs.declared.renderer as renderers
 use Rattle.line_editor.specs.declared.state.State.{State}
 
 -- a command that neither ends a line nor kills
-abbrev pub is_simple : Cmd → Bool
-is_simple EndOfFile = false
-is_simple AcceptLine = false
-is_simple (AcceptOrInsertLine middle) = false
-is_simple Interrupt = false
-is_simple (Kill movement) = false
-is_simple (Replace movement text) = false
-is_simple (ViYankTo movement) = false
-is_simple cmd = true
+abbrev pub is_obeyed : Cmd → Bool
+is_obeyed EndOfFile = false
+is_obeyed AcceptLine = false
+is_obeyed (AcceptOrInsertLine middle) = false
+is_obeyed Interrupt = false
+is_obeyed (Kill movement) = false
+is_obeyed (Replace movement text) = false
+is_obeyed (ViYankTo movement) = false
+is_obeyed cmd = true
 
 module _ {Out H Hi K T : Type 0} {renderer : renderers.Renderer.Ghosts Out}
     {completer : completions.Completer.Ghosts H K} {candidate : completions.Candidate.Ghosts K}

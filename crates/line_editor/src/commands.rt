@@ -2,7 +2,7 @@
 ghost use Rattle.std.specs.Prelude.{◌≡◌, true, Ok, IfOk, IfErr, OnOk};
 ghost use Rattle.line_keys.specs.InputStates.{input_of};
 ghost use Rattle.line_editor.specs.Commands.{means_of};
-ghost use Rattle.line_editor.specs.Executing.{Executes, is_simple};
+ghost use Rattle.line_editor.specs.Executing.{Executes, is_obeyed};
 ghost use Rattle.line_editor.specs.declared.commands.Status.TheVariants.{Proceed};
 
 use crate::renderer::Renderer;
@@ -68,7 +68,7 @@ impl<'p, 'h, Out: Renderer, H: Helper + Drop, Hi: History> State<'p, 'h, Out, H,
         ring: &mut KillRing,
         indent: u8,
     ) -> Result<(), ReadlineError>
-        requires { is_simple cmd.now ≡ true }
+        requires { is_obeyed cmd.now ≡ true }
         ensures does { Does (effect (means_of (input_of input_state.now) indent ring.old) cmd.now)
             self.old self.new result }
         ensures outcome { outcome (means_of (input_of input_state.now) indent ring.old) cmd.now
