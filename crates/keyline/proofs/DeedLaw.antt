@@ -9,7 +9,7 @@ use Rattle.line_editor.specs.Lines.{Told}
 use Rattle.line_editor.specs.Redraws.{fresh}
 use Rattle.line_screen.specs.Calls.{Screen}
 use Rattle.line_keys.specs.Coming.{Coming}
-use Rattle.keyline.specs.Deeds.{SessionDeed, Draws, Hears, Keeps, Writes, bytes_drawn, coming_after, lines_kept, lines_written, call_deeds, act_deeds, acts_in, close_deeds, line_deeds, deeds_after, session_deeds, AreFirst, DeedsTell}
+use Rattle.keyline.specs.Deeds.{SessionDeed, Draws, Hears, Keeps, Writes, bytes_drawn, left_of_deeds, lines_kept, lines_written, call_deeds, act_deeds, acts_in, close_deeds, line_deeds, deeds_after, session_deeds, AreFirst, DeedsTell}
 use Rattle.keyline.specs.Playing.{accepted_of}
 use Rattle.keyline.specs.Sessions.{Given, SessionState, Report, line_in, after_line, line_reported, line_bytes, display_bytes, session}
 use Rattle.keyline.specs.Shows.{drawn_by}
@@ -19,17 +19,17 @@ use Rattle.keyline.proofs.DeedLemmas.{drawn_both, left_both, kept_both, written_
 
 record Tells (s : Screen) (coming : Coming) (deeds : List SessionDeed) (report : Report) : Type 0 where
   drawn : bytes_drawn deeds ≡ display_bytes s report
-  left : coming_after coming deeds ≡ report.rest
+  left : left_of_deeds coming deeds ≡ report.rest
   kept : lines_kept deeds ≡ report.accepted
   written : lines_written deeds ≡ report.accepted
 
 -- a line's, and then those of what comes after it
 tells_then : (s : Screen) (c : Coming) (t : Told) (o : Result (List ℕ) ReadlineError) (deeds more : List SessionDeed) (later : Report)
-    → bytes_drawn deeds ≡ line_bytes s t → coming_after c deeds ≡ t.rest → lines_kept deeds ≡ accepted_of o → lines_written deeds ≡ accepted_of o
+    → bytes_drawn deeds ≡ line_bytes s t → left_of_deeds c deeds ≡ t.rest → lines_kept deeds ≡ accepted_of o → lines_written deeds ≡ accepted_of o
     → Tells s t.rest more later → Tells s c (deeds ++ deeds_after o more) (line_reported t o later)
 tells_then s c t (Ok text) deeds more later drawn left kept written r = record {
   drawn = drawn_both deeds more ∙ (ap (λ bytes. bytes ++ bytes_drawn more) drawn ∙ ap (λ bytes. line_bytes s t ++ bytes) r.drawn);
-  left = left_both c deeds more ∙ (ap (λ here. coming_after here more) left ∙ r.left);
+  left = left_both c deeds more ∙ (ap (λ here. left_of_deeds here more) left ∙ r.left);
   kept = kept_both deeds more ∙ (ap (λ lines. lines ++ lines_kept more) kept ∙ ap (λ lines. text ∷ lines) r.kept);
   written = written_both deeds more ∙ (ap (λ lines. lines ++ lines_written more) written ∙ ap (λ lines. text ∷ lines) r.written);
 }

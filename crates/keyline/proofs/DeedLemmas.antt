@@ -28,7 +28,7 @@ use Rattle.line_screen.specs.Drawing.{break_if}
 use Rattle.line_screen.specs.declared.renderer.ScreenRenderer.{ScreenRenderer}
 use Rattle.line_screen.proofs.CallLemmas.{sent_in_all}
 use Rattle.keyline.specs.Closing.{work}
-use Rattle.keyline.specs.Deeds.{SessionDeed, Draws, Hears, Keeps, Writes, bytes_drawn, coming_after, lines_kept, lines_written, call_deeds, act_deeds, close_deeds, acts_in, line_deeds}
+use Rattle.keyline.specs.Deeds.{SessionDeed, Draws, Hears, Keeps, Writes, bytes_drawn, left_of_deeds, lines_kept, lines_written, call_deeds, act_deeds, close_deeds, acts_in, line_deeds}
 use Rattle.keyline.specs.Playing.{Work, LineWhole, Cut, CutsBy, Stops, Tears, IsHeard, accepted_of}
 use Rattle.keyline.specs.Sessions.{Given, SessionState, breaks, calls_of, history_after, line_bytes, line_in, line_text, lines_text, remembered, setting_in}
 use Rattle.keyline.specs.Shows.{drawn_by}
@@ -43,7 +43,7 @@ drawn_both (Hears rest ∷ xs) ys = drawn_both xs ys
 drawn_both (Keeps line ∷ xs) ys = drawn_both xs ys
 drawn_both (Writes line ∷ xs) ys = drawn_both xs ys
 
-pub left_both : (c : Coming) (xs ys : List SessionDeed) → coming_after c (xs ++ ys) ≡ coming_after (coming_after c xs) ys
+pub left_both : (c : Coming) (xs ys : List SessionDeed) → left_of_deeds c (xs ++ ys) ≡ left_of_deeds (left_of_deeds c xs) ys
 left_both c [] ys = refl
 left_both c (Draws bytes ∷ xs) ys = left_both c xs ys
 left_both c (Hears rest ∷ xs) ys = left_both rest xs ys
@@ -71,7 +71,7 @@ module _ (s : Screen) where
   calls_drawn [] = refl
   calls_drawn (call ∷ calls) = ap (λ zs. bytes_of s call ++ zs) (calls_drawn calls)
 
-  calls_left : (c : Coming) (calls : List Call) → coming_after c (call_deeds s calls) ≡ c
+  calls_left : (c : Coming) (calls : List Call) → left_of_deeds c (call_deeds s calls) ≡ c
   calls_left c [] = refl
   calls_left c (call ∷ calls) = calls_left c calls
 
@@ -101,10 +101,10 @@ module _ (s : Screen) where
   acts_drawn l (Gets rest ∷ more) = acts_drawn l more
   acts_drawn l (Obeys kills ring redraws ∷ more) = let l' = (drawn_by s l redraws).layout in drawn_then l redraws (act_deeds s l' more) _ (acts_drawn l' more)
 
-  left_then : (c : Coming) (l : Layout) (redraws : List Redraw) (deeds : List SessionDeed) → coming_after c (asks_of l redraws ++ deeds) ≡ coming_after c deeds
-  left_then c l redraws deeds = left_both c (asks_of l redraws) deeds ∙ ap (λ d. coming_after d deeds) (calls_left c (drawn_by s l redraws).calls)
+  left_then : (c : Coming) (l : Layout) (redraws : List Redraw) (deeds : List SessionDeed) → left_of_deeds c (asks_of l redraws ++ deeds) ≡ left_of_deeds c deeds
+  left_then c l redraws deeds = left_both c (asks_of l redraws) deeds ∙ ap (λ d. left_of_deeds d deeds) (calls_left c (drawn_by s l redraws).calls)
 
-  acts_left : (c : Coming) (l : Layout) (acts : List Act) → coming_after c (act_deeds s l acts) ≡ rest_of c acts
+  acts_left : (c : Coming) (l : Layout) (acts : List Act) → left_of_deeds c (act_deeds s l acts) ≡ rest_of c acts
   acts_left c l [] = refl
   acts_left c l (Sees redraws ∷ more) = left_then c l redraws _ ∙ acts_left c (drawn_by s l redraws).layout more
   acts_left c l (Gets rest ∷ more) = acts_left rest l more
@@ -179,7 +179,7 @@ module _ (n : ℕ) (g : Given) (x : SessionState) where
       acts_drawn s l (acts_in n g x) ∙ (ap bytes (asked_same (ruler_of s) l (acts_in n g x))
       ∙ ap of_redraws (whole_redraws n (setting_in g x.history.kept.entries) g.custom g.config.indent_size (new_input g.config.edit_mode) x.ring x.coming))
 
-  pub line_left : coming_after x.coming in_line ≡ read.rest
+  pub line_left : left_of_deeds x.coming in_line ≡ read.rest
   line_left = acts_left g.screen x.coming (fresh g.screen.mode) (acts_in n g x)
       ∙ whole_rest n (setting_in g x.history.kept.entries) g.custom g.config.indent_size (new_input g.config.edit_mode) x.ring x.coming
 
@@ -187,7 +187,7 @@ close_drawn : (o : Result (List ℕ) ReadlineError) → bytes_drawn (close_deeds
 close_drawn (Ok text) = append-nil _
 close_drawn (Err e) = append-nil _
 
-close_left : (c : Coming) (o : Result (List ℕ) ReadlineError) → coming_after c (close_deeds o) ≡ c
+close_left : (c : Coming) (o : Result (List ℕ) ReadlineError) → left_of_deeds c (close_deeds o) ≡ c
 close_left c (Ok text) = refl
 close_left c (Err e) = refl
 
@@ -210,8 +210,8 @@ module _ (n : ℕ) (g : Given) (x : SessionState) where
   deeds_drawn = drawn_both lined (close_deeds outcome) ∙ (ap (λ zs. zs ++ bytes_drawn (close_deeds outcome)) (line_drawn n g x)
       ∙ ap (λ zs. flat_map (bytes_of g.screen) (calls_of g.screen (line_in n g x)) ++ zs) (close_drawn outcome))
 
-  pub deeds_left : coming_after x.coming (line_deeds n g x) ≡ (line_in n g x).rest
-  deeds_left = left_both x.coming lined (close_deeds outcome) ∙ (close_left (coming_after x.coming lined) outcome ∙ line_left n g x)
+  pub deeds_left : left_of_deeds x.coming (line_deeds n g x) ≡ (line_in n g x).rest
+  deeds_left = left_both x.coming lined (close_deeds outcome) ∙ (close_left (left_of_deeds x.coming lined) outcome ∙ line_left n g x)
 
   pub deeds_kept : lines_kept (line_deeds n g x) ≡ accepted_of outcome
   deeds_kept = kept_both lined (close_deeds outcome) ∙ (ap (λ lines. lines ++ lines_kept (close_deeds outcome)) (acts_kept g.screen (fresh g.screen.mode) (acts_in n g x)) ∙ close_kept outcome)
@@ -263,7 +263,7 @@ pub record Done {D L : Type 0} (shows : D → Bool) (shown : D → List ℕ) (wr
   pub drawn : Takes shows shown old.display new.display (bytes_drawn deeds)
   pub wrote : Takes writes written_in old.lines new.lines (lines_text (lines_written deeds))
   pub history_is : new.history ≡ remembered adds (lines_kept deeds) old.history
-  pub left_is : left ≡ coming_after coming deeds
+  pub left_is : left ≡ left_of_deeds coming deeds
 
 module _ {D L : Type 0} (shows : D → Bool) (shown : D → List ℕ) (show_failed : D → Bool) (writes : L → Bool) (written_in : L → List ℕ) (adds : Bool) where
   abbrev AllDone : List SessionDeed → Coming → Work D L → Work D L → Coming → Type 0
@@ -288,7 +288,7 @@ module _ {D L : Type 0} (shows : D → Bool) (shown : D → List ℕ) (show_fail
     first = ap (λ zs. zs ++ ys) r.first ∙ append_assoc r.done r.next ys;
     drawn = r.drawn;
     torn = r.torn;
-    stops = stops_more why (coming_after c r.done) r.next ys left r.torn r.stops;
+    stops = stops_more why (left_of_deeds c r.done) r.next ys left r.torn r.stops;
     wrote = r.wrote;
     history_is = r.history_is;
   }
@@ -308,7 +308,7 @@ module _ {D L : Type 0} (shows : D → Bool) (shown : D → List ℕ) (show_fail
         first = ap (λ zs. xs ++ zs) r.first ∙ sym (append_assoc xs r.done r.next);
         drawn = subst B (sym (drawn_both xs r.done)) (shown_then old mid new (bytes_drawn xs) (bytes_drawn r.done) d.drawn r.drawn);
         torn = r.torn;
-        stops = subst S (ap (λ here. coming_after here r.done) d.left_is ∙ sym (left_both c xs r.done)) r.stops;
+        stops = subst S (ap (λ here. left_of_deeds here r.done) d.left_is ∙ sym (left_both c xs r.done)) r.stops;
         wrote =
             subst W (sym (append_assoc (lines_text (lines_written xs)) (lines_text lines) r.torn)
             ∙ ap (λ bytes. bytes ++ r.torn) (sym (flat_map-append line_text (lines_written xs) lines) ∙ ap lines_text (sym (written_both xs r.done))))
@@ -359,7 +359,7 @@ module _ {D L : Type 0} (shows : D → Bool) (shown : D → List ℕ) (show_fail
     on out = work (sink_of out) lines history
 
     untouched : (deeds : List SessionDeed) (c c' : Coming) (a b : ScreenRenderer D) (bytes : List ℕ) → Takes shows shown (sink_of a) (sink_of b) bytes → bytes ≡ bytes_drawn deeds
-        → lines_kept deeds ≡ [] → lines_written deeds ≡ [] → c' ≡ coming_after c deeds → AllDone deeds c (on a) (on b) c'
+        → lines_kept deeds ≡ [] → lines_written deeds ≡ [] → c' ≡ left_of_deeds c deeds → AllDone deeds c (on a) (on b) c'
     untouched deeds c c' a b bytes took is kept written left =
         let B : List ℕ → Type 0 = Takes shows shown (sink_of a) (sink_of b) in
         let W : List (List ℕ) → Type 0 = λ these. Takes writes written_in lines lines (lines_text these) in

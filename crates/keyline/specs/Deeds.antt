@@ -32,12 +32,12 @@ bytes_drawn (Keeps line ∷ more) = bytes_drawn more
 bytes_drawn (Writes line ∷ more) = bytes_drawn more
 
 -- what is left to come after them
-abbrev pub coming_after : Coming → List SessionDeed → Coming
-coming_after coming [] = coming
-coming_after coming (Draws bytes ∷ more) = coming_after coming more
-coming_after coming (Hears rest ∷ more) = coming_after rest more
-coming_after coming (Keeps line ∷ more) = coming_after coming more
-coming_after coming (Writes line ∷ more) = coming_after coming more
+abbrev pub left_of_deeds : Coming → List SessionDeed → Coming
+left_of_deeds coming [] = coming
+left_of_deeds coming (Draws bytes ∷ more) = left_of_deeds coming more
+left_of_deeds coming (Hears rest ∷ more) = left_of_deeds rest more
+left_of_deeds coming (Keeps line ∷ more) = left_of_deeds coming more
+left_of_deeds coming (Writes line ∷ more) = left_of_deeds coming more
 
 abbrev pub lines_kept : List SessionDeed → List (List ℕ)
 lines_kept [] = []
@@ -114,7 +114,7 @@ DeedsTell =
     (n : ℕ) (g : Given) (x : SessionState) → let deeds = session_deeds n g x in
     let report = session n g x in
     (bytes_drawn deeds ≡ display_bytes g.screen report)
-    × (coming_after x.coming deeds ≡ report.rest)
+    × (left_of_deeds x.coming deeds ≡ report.rest)
     × (lines_kept deeds ≡ report.accepted)
     × (lines_written deeds ≡ report.accepted)
     × ((done next : List SessionDeed) → deeds ≡ done ++ next → AreFirst done report.accepted)

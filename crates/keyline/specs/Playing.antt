@@ -9,7 +9,7 @@ use Rattle.line_help.specs.History.{Filed, all_saved}
 use Rattle.line_help.specs.HistoryText.{text_to_save}
 use Rattle.line_keys.specs.Answers.{HandlerFails}
 use Rattle.line_keys.specs.Coming.{Coming, made_of, left_by}
-use Rattle.keyline.specs.Deeds.{SessionDeed, Draws, Hears, Keeps, Writes, bytes_drawn, coming_after, lines_kept, lines_written}
+use Rattle.keyline.specs.Deeds.{SessionDeed, Draws, Hears, Keeps, Writes, bytes_drawn, left_of_deeds, lines_kept, lines_written}
 use Rattle.keyline.specs.Sessions.{Given, Report, remembered, history_after, line_text, lines_text, display_bytes}
 
 -- the faults that no input gives
@@ -92,7 +92,7 @@ module _ {D L : Type 0} (shows : D → Bool) (shown : D → List ℕ) (show_fail
     pub drawn : Takes shows shown old.display new.display (bytes_drawn done)
         ⊎ IsTrue (show_failed new.display)
     pub torn : List ℕ
-    pub stops : Stops why (coming_after coming done) next left torn
+    pub stops : Stops why (left_of_deeds coming done) next left torn
     pub wrote : Takes writes written_in old.lines new.lines
         (lines_text (lines_written done) ++ torn)
     pub history_is : new.history ≡ remembered adds (lines_kept done) old.history
