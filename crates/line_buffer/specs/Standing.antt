@@ -47,8 +47,8 @@ begins_with_emoji (c ∷ d ∷ cs) =
 abbrev pub ends_in_joiner : List ℕ → Bool
 ends_in_joiner cs = unwrap_or (last_or None cs) 0 == 0x200D
 
--- a letter that parts a text: what follows on it says nothing of what stands before it. Latin, Greek,
--- Cyrillic, Hebrew, Arabic, Devanagari, Thai, Khmer, kana, Chinese and Korean
+-- a letter that parts a text: what follows on it says nothing of what stands before it. Latin,
+-- Greek, Cyrillic, Hebrew, Arabic, Devanagari, Thai, Khmer, kana, Chinese and Korean
 abbrev pub is_parting_letter : ℕ → Bool
 is_parting_letter c =
     is_in_range 0x41 0x5A c
