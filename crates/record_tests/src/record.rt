@@ -306,7 +306,7 @@ fn groups_undone_as_one(rt: HostRuntime) -> Result<(), Fail> {
 #[test]
 fn long_groups_made_near_and_far(rt: HostRuntime) -> Result<(), Fail> {
     plays(
-        &rt,
+        rt.alloc(),
         "
         line |漢 = |漢
         begin = 0 |漢
