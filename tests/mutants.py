@@ -68,12 +68,19 @@ class Checker:
         return words + [word for path in sorted(paths) for word in ("--only", path.partition("::")[2])]
 
     def check(self, crate, group, brief, kept):
-        """What a check of the functions that a group changes costs, and what rattle says of them, of some in brief."""
-        with tempfile.TemporaryDirectory(prefix="mutants-") as room:
+        """What a check of the functions that a group changes costs, and what rattle says of them, of some in brief.
+
+        What the crate's first check keeps, each later one has a copy of: rattle shares no such folder at one time.
+        """
+        with tempfile.TemporaryDirectory(prefix="mutants-") as top:
+            room, own = os.path.join(top, "crate"), os.path.join(top, "kept")
+            os.mkdir(room)
+            if crate.checks:
+                shutil.copytree(kept, own)
             crate.furnish(room, group)
             crate.shorten(room, group, brief)
             paths = {path for edit in group for path in edit.paths()}
-            return self.ran(self.words(crate, kept, paths), room)
+            return self.ran(self.words(crate, own if crate.checks else kept, paths), room)
 
     def ran(self, words, room):
         """The processor time of a command, and what it says."""
@@ -223,7 +230,7 @@ def judged(crate, group, said, by_hand):
 class Trial:
     """A crate's wrong bodies as they are tried: what is found of them, and the groups that are still to be tried.
 
-    What its first check keeps serves the others, so these begin when that one has ended.
+    What its first check keeps serves the others, of which each has a copy, so these begin when that one has ended.
     """
 
     def __init__(self, crate, checker, by_hand):
