@@ -15,6 +15,8 @@ refused though nothing is wrong with it fails too.
     tests/mutants.py [CRATE..]          all crates, or these
     tests/mutants.py --fit [CRATE..]    says in a second which wrong bodies no longer fit, and tries none
     tests/mutants.py --all-goals ..     asks every goal, and writes tests/mutants-unasked.txt anew for these crates
+    rt ci | tests/mutants.py --beside   begins with a crate as soon as what `rt ci` says shows that it has proved the
+                                        libraries below it, one check at a time until `rt ci` has ended
 
 Where a wrong body leaves several goals open, one is enough to refuse it, and each takes seconds. So those of which
 tests/mutants-unasked.txt tells are left as holes; where no other one is open, the body is tried again with them.
@@ -27,7 +29,9 @@ import shutil
 import subprocess
 import sys
 import tempfile
+import time
 from concurrent.futures import FIRST_COMPLETED, ThreadPoolExecutor, wait
+from threading import Thread
 
 from functions import functions
 from wrong_bodies import UNREAD, Crate, below, crates_of, head, joined, read, write
@@ -50,8 +54,9 @@ class Checker:
         own = os.path.join(self.top, "crates", name, "out", "rlib", f"{name}.rlib")
         return own if name in self.uses else os.path.join(self.kit, "rlibs", f"{name}.rlib")
 
-    def lacking(self, crate):
-        return [it for it in below(self.uses, crate.name) if not os.path.isdir(self.rlib(it))]
+    def lacking(self, crate, proofs):
+        """The libraries below a crate that aren't built, or that `rt ci`, if it is heard, hasn't proved."""
+        return [it for it in below(self.uses, crate.name) if not (proofs.has(it) and os.path.isdir(self.rlib(it)))]
 
     def words(self, crate, kept, paths):
         """The command that checks these functions of a crate, those of others taken by their contracts."""
@@ -91,6 +96,27 @@ class Checker:
                 it.returncode = os.waitstatus_to_exitcode(status)
             said.seek(0)
             return used.ru_utime + used.ru_stime, said.read()
+
+
+class Proofs:
+    """What `rt ci` has proved so far, as the lines that it writes say; all crates, where it isn't heard."""
+
+    PROVED = re.compile(r"rt: (\w+) proved\n")
+
+    def __init__(self, lines=None):
+        self.is_heard, self.ended, self.names = lines is not None, lines is None, set()
+        if self.is_heard:
+            Thread(target=self.hear, args=[lines], daemon=True).start()
+
+    def hear(self, lines):
+        try:
+            for line in lines:
+                self.names.update(self.PROVED.findall(line))
+        finally:
+            self.ended = True
+
+    def has(self, name):
+        return not self.is_heard or name in self.names
 
 
 class Said:
@@ -238,15 +264,15 @@ class Trial:
         self.kept = tempfile.TemporaryDirectory(prefix="mutants-kept-")
         self.found = [(False, f"{crate.name}/{name}", f"it no longer fits: {why}") for name, why in crate.unfit.items()]
         self.full, self.running, self.left, self.spared = set(), 0, crate.groups(), {}
-        lacking = checker.lacking(crate)
-        if lacking:
+
+    def ready(self, proofs):
+        """The groups that may be tried now; none ever, where a library that they need is not to come."""
+        lacking = self.left and self.checker.lacking(self.crate, proofs)
+        if lacking and proofs.ended:
             self.left = []
             why = f"no library of {', '.join(lacking)} is built: run rt ci first"
-            self.found.append((False, crate.name, why))
-
-    def ready(self):
-        """The groups that may be tried now."""
-        if self.running and not self.crate.checks:
+            self.found.append((False, self.crate.name, why))
+        if lacking or self.running and not self.crate.checks:
             return []
         groups = self.left if self.crate.checks else self.left[:1]
         self.left = self.left[len(groups) :]
@@ -282,19 +308,32 @@ class Trial:
         self.found += [it for it in judged(self.crate, group, said, self.by_hand) if it[1] not in names]
 
 
-def tried(trials, lanes):
-    """Tries the wrong bodies of crates, so many checks side by side, and yields each trial as it ends."""
-    running, left = {}, list(trials)
+def tried(trials, lanes, proofs):
+    """Tries the wrong bodies of crates, so many checks side by side, and yields each trial as it ends.
+
+    While `rt ci` is at work there is one check at a time, and a crate whose libraries it hasn't proved waits.
+    """
+    running, ready, left = {}, [], list(trials)
     with ThreadPoolExecutor(lanes) as pool:
-        while left or running:
-            for trial in left:
-                running.update({pool.submit(trial.check, group): (trial, group) for group in trial.ready()})
-            for ended in [it for it in left if not it.running]:
+        while left:
+            is_alone = proofs.ended
+            ready += [(trial, group) for trial in left for group in trial.ready(proofs)]
+            for trial, group in ready[: (lanes if is_alone else 1) - len(running)]:
+                ready.remove((trial, group))
+                running[pool.submit(trial.check, group)] = trial, group
+            for ended in [it for it in left if not it.running and (is_alone or not it.left)]:
                 left.remove(ended)
                 yield ended
-            for check in wait(running, return_when=FIRST_COMPLETED).done:
+            for check in ended_of(running):
                 trial, group = running.pop(check)
                 trial.take(group, *check.result())
+
+
+def ended_of(running):
+    """Those of the running checks that have ended, after a second or as soon as there is one."""
+    if not running:
+        time.sleep(1)
+    return wait(running, timeout=1, return_when=FIRST_COMPLETED).done
 
 
 def refused_unread(said, group):
@@ -352,7 +391,9 @@ def main(words):
         return finished(len(known) - len(unfit), failed + len(unfit))
     checker = Checker(TOP, uses)
     trials = [Trial(it, checker, by_hand) for it in sorted(crates, key=Crate.weight, reverse=True)]
-    for trial in tried(trials, processors()):
+    sys.stdin.reconfigure(errors="replace")
+    proofs = Proofs(sys.stdin if "--beside" in words else None)
+    for trial in tried(trials, processors(), proofs):
         tell(trial)
         passed += sum(well for well, _, _ in trial.found)
         failed += sum(not well for well, _, _ in trial.found)

@@ -110,7 +110,7 @@ class Small:
 
 def tried(trial):
     """What is found of a trial's wrong bodies, each with what was said of it."""
-    [ended] = mutants.tried([trial], 2)
+    [ended] = mutants.tried([trial], 2, mutants.Proofs())
     return {name: (well, text) for well, name, text in ended.found}
 
 
@@ -164,8 +164,8 @@ class Told:
     def __init__(self, top, said):
         self.top, self.said = top, said
 
-    def lacking(self, _crate):
-        return []
+    def lacking(self, _crate, proofs):
+        return [] if proofs.has("low") else ["low"]
 
     def check(self, _crate, group, _brief, _kept):
         return 1, self.said[" ".join(it.name for it in group)]
@@ -184,6 +184,37 @@ def a_body_that_waits_for_its_callee_is_tried_again():
     expect(found, "small/added-once", True, "small::doubled")
     expect(found, "small/half-of-it", True, "small::fourfold")
     same("checks", [names for _, names in trial.crate.checks], [["added-once", "half-of-it"], ["half-of-it"]])
+
+
+def heard(lines, ended):
+    """What is known of `rt ci` that has written these lines."""
+    proofs = mutants.Proofs(())
+    proofs.hear(lines)
+    proofs.ended = ended
+    return proofs
+
+
+def a_crate_waits_for_its_libraries():
+    small = Small("added-once", "nothing-said", "other-for-one", "does-not-compile")
+    made = lambda: mutants.Trial(small.crate(), Told(small.folder.name, {}), {})
+    said = ["== low\n", "rt: lower NOT PROVED\n", "rt: low: its tests are proved\n"]
+    for lines, ended, ready, faults in (
+        (said, False, 0, []),
+        ([*said, "rt: low proved\n"], False, 1, []),
+        ([*said, "rt: low proved\n"], True, 1, []),
+        (said, True, 0, ["no library of low is built: run rt ci first"]),
+    ):
+        trial = made()
+        same("the first checks", len(trial.ready(heard(lines, ended))), ready)
+        same("what is left for later", bool(trial.left), not faults)
+        same("what fails", [why for _, _, why in trial.found], faults)
+    stream = iter(["rt: low proved\n"])
+    trial = made()
+    group = [it for it in trial.crate.edits if it.name == "added-once"]
+    trial.left, trial.full = [group], {*group}
+    trial.checker.said = {"added-once": "fn small::doubled: no proof: `search` did not prove `returns`\n"}
+    [ended] = mutants.tried([trial], 2, mutants.Proofs(stream))
+    same("what is found", [(well, name) for well, name, _ in ended.found], [(True, "small/added-once")])
 
 
 def edits_that_no_longer_fit():
@@ -371,6 +402,7 @@ if __name__ == "__main__":
         a_body_keeps_its_shape,
         a_stored_proof_that_no_longer_fits,
         a_body_that_waits_for_its_callee_is_tried_again,
+        a_crate_waits_for_its_libraries,
         goals_that_need_not_be_asked,
         what_the_prover_says,
         goals_that_go_unasked,
