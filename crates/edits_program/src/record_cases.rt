@@ -103,32 +103,24 @@ impl Case {
 
     /// What comes before the call.
     fn prepare(self, desk: &mut Desk) -> Result<(), OutOfMemory> {
-        match self {
-            Case::LetterJoined | Case::LastInsert => desk.type_text("x")?,
-            Case::BackspaceJoined => desk.backspace()?,
-            Case::ReplacementJoined => desk.replace(0, 3, "ONE")?,
-            Case::RaiseWord => desk.move_to_start(),
-            Case::Indent => desk.paste("\nfour")?,
-            Case::Kill => desk.end_run(),
-            Case::KillRound => {
-                desk.end_run();
-                desk.kill_word_back()?;
-                desk.end_run();
-            }
-            Case::End => {
-                desk.begin()?;
-                desk.paste("x")?;
-                desk.type_text(" y")?;
-            }
-            Case::Redo => {
-                desk.undo(1)?;
-            }
-            Case::RedoAll => {
-                desk.undo(ALL)?;
-            }
-            _ => {}
-        }
+        self.lead_up(desk)?;
         desk.tighten()
+    }
+
+    fn lead_up(self, desk: &mut Desk) -> Result<(), OutOfMemory> {
+        match self {
+            Case::LetterJoined | Case::LastInsert => desk.type_text("x"),
+            Case::BackspaceJoined => desk.backspace(),
+            Case::ReplacementJoined => desk.replace(0, 3, "ONE"),
+            Case::RaiseWord => Ok(desk.move_to_start()),
+            Case::Indent => desk.paste("\nfour"),
+            Case::Kill => Ok(desk.end_run()),
+            Case::KillRound => kill_round(desk),
+            Case::End => type_group(desk),
+            Case::Redo => desk.undo(1).map(drop),
+            Case::RedoAll => desk.undo(ALL).map(drop),
+            _ => Ok(()),
+        }
     }
 
     /// The call, and whether its answer is the right one.
@@ -167,6 +159,21 @@ impl Case {
             _ => desk.copies_record(),
         }
     }
+}
+
+/// Another kill, so that the ring goes round at the next.
+fn kill_round(desk: &mut Desk) -> Result<(), OutOfMemory> {
+    desk.end_run();
+    desk.kill_word_back()?;
+    desk.end_run();
+    Ok(())
+}
+
+/// The changes of a group that is still open.
+fn type_group(desk: &mut Desk) -> Result<(), OutOfMemory> {
+    desk.begin()?;
+    desk.paste("x")?;
+    desk.type_text(" y")
 }
 
 /// Whether the line had this text at some time.
