@@ -7,29 +7,29 @@ use Rattle.std.proofs.lemmas.Str.{IsUtf8-past_char, IsUtf8-encode, chars-append,
 use Rattle.unicode_segmentation.proofs.TextLemmas.{IsUtf8-before, chars-encode_utf8}
 use Rattle.std.specs.List.{last_or, onto_first}
 use Rattle.std.proofs.lemmas.Bool.{and_parts, or_cases}
-use Rattle.std.proofs.lemmas.Bool.Decides.{nat_tests}
 use borrow.Author.Tests.{eq-eqb, eqb-true, ne_eqb}
 use Rattle.ucd_table.specs.Rows.{Range, in_ranges}
 use Rattle.ucd_table.proofs.StepsLemmas.{rises_from}
 use Rattle.ucd_table.proofs.Stepped.{Stepped, of_ranges, zip_stepped}
 use Rattle.ucd_table.proofs.Facts.{Stepped-everywhere}
 use Rattle.ucd_table.proofs.Computing.{tables}
-use Rattle.ucd_emoji.specs.Binary.{is_emoji_presentation, is_emoji_variation_base}
+use Rattle.ucd_emoji.specs.Binary.{is_emoji_modifier_base, is_emoji_presentation, is_emoji_variation_base}
 use Rattle.ucd_emoji.proofs.BinaryLemmas.{is_emoji_presentation_stepped}
 use Rattle.unicode_width.specs.declared.state.After.{After}
 use Rattle.unicode_width.specs.declared.state.After.TheVariants as after
 use Rattle.unicode_width.specs.declared.state.Change.{Change}
-use Rattle.unicode_width.specs.declared.state.Change.TheVariants.{Same}
+use Rattle.unicode_width.specs.declared.state.Change.TheVariants.{Less, Same}
 use Rattle.unicode_width.specs.declared.state.State.{State}
 use Rattle.unicode_width.specs.declared.kind.Kind.{Kind}
 use Rattle.unicode_width.specs.declared.kind.Kind.TheVariants as kinds
 use Rattle.unicode_width.specs.Kind.{kind, is_ligature_transparent, is_text_presentation_base}
-use Rattle.unicode_width.specs.Width.{before, plain, of_kind, alone, joins, before_alef, read_before, str_width, skips_marks, is_joined_emoji, if_kept, is_plain, is_line_feed, is_quote, is_emoji, is_indicator, is_tag_letter, is_tag_digit, Reading, first_of, added, joined_or, past_selectors, in_context, past_emoji, step}
+use Rattle.unicode_width.specs.Width.{before, plain, of_kind, alone, joins, before_alef, read_before, str_width, skips_marks, is_joined_emoji, if_kept, is_plain, is_line_feed, is_quote, is_emoji, is_indicator, is_tag_letter, is_tag_digit, is_tifinagh, Reading, first_of, added, joined_or, past_selectors, in_context, past_emoji, step}
 use Rattle.unicode_width.proofs.Computing.{unicode_width}
 use Rattle.unicode_width.proofs.KindLemmas.{kind_stepped, is_ligature_transparent_stepped}
 use Rattle.line_buffer.specs.declared.layout.GraphemeClusterMode.{GraphemeClusterMode}
 use Rattle.line_buffer.specs.Standing.{is_own_emoji, begins_with_emoji, ends_in_joiner}
 use Rattle.line_buffer.specs.Width.{unjoined, columns_of}
+use Rattle.line_buffer.proofs.ListedRanges.{in_ranges-some, beside, apart}
 use Rattle.line_buffer.proofs.SeamLemmas.{IsOpen, PartsAdd, emoji_selector, quote_selector, text_selector, str_width-open, columns-open}
 
 -- ---- facts of the tables
@@ -95,46 +95,58 @@ record Facts (c : ℕ) : Type 0 where
   no_kirat_e : (c == 0x16D67) ≡ false
   no_kirat_ai : (c == 0x16D68) ≡ false
 
+one_test : (b : Bool) → settles (cond b (Some (Same, after.Emoji)) None) ≡ true
+one_test true = refl
+one_test false = refl
+
+first_test : (b : Bool) (change : Change) → settles (first_of {A = Change × After} (cond b (Some (change, after.Nothing)) None) None) ≡ true
+first_test true change = refl
+first_test false change = refl
+
 joins_settle : (c : ℕ) → Facts c → (a : After) → settles (joins false a c) ≡ true
 unfolding joins before_alef
-joins_settle c f after.Nothing = grind arith
-joins_settle c f after.LineFeed = grind arith
-joins_settle c f after.EmojiModifier = grind (arith, f.no_joiner)
-joins_settle c f after.RegionalIndicator = grind (arith, f.no_indicator)
-joins_settle c f after.RegionalIndicators = grind (arith, f.no_indicator, f.no_joiner)
-joins_settle c f after.Emoji = grind (arith, f.no_joiner)
-joins_settle c f after.ZwjEmoji = grind (arith, f.no_keycap, f.no_indicator, f.no_modifier, f.no_tag_end)
-joins_settle c f after.KeycapZwjEmoji = grind arith
-joins_settle c f after.IndicatorZwj = grind (arith, f.no_indicator)
-joins_settle c f after.EvenIndicatorsZwj = grind (arith, f.no_indicator, f.no_joiner)
-joins_settle c f after.OddIndicatorsZwj = grind (arith, f.no_indicator, f.no_joiner)
-joins_settle c f after.TagEnd = grind (arith, f.no_letter, f.no_digit)
-joins_settle c f after.TagDigit1 = grind (arith, f.no_digit)
-joins_settle c f after.TagDigit2 = grind (arith, f.no_digit)
-joins_settle c f after.TagDigit3 = grind arith
-joins_settle c f after.TagLetter1 = grind (arith, f.no_letter, f.no_digit)
-joins_settle c f after.TagLetter2 = grind (arith, f.no_letter, f.no_digit)
-joins_settle c f after.TagLetter3 = grind (arith, f.no_letter, f.no_digit)
-joins_settle c f after.TagLetter4 = grind (arith, f.no_letter, f.no_digit)
-joins_settle c f after.TagLetter5 = grind (arith, f.no_letter)
-joins_settle c f after.TagLetter6 = grind arith
+joins_settle c f after.Nothing = refl
+joins_settle c f after.LineFeed = refl
+joins_settle c f after.EmojiModifier = by (is_emoji_modifier_base c)
+  where
+    by : (b : Bool) → settles (cond b (Some (Same, after.Emoji)) (cond (c == 0x200D) (Some (Same, after.ZwjEmoji)) None)) ≡ true
+    by true = refl
+    by false = rw f.no_joiner refl
+joins_settle c f after.RegionalIndicator = rw (f.no_indicator)
+joins_settle c f after.RegionalIndicators = rw (f.no_indicator, f.no_joiner)
+joins_settle c f after.Emoji = rw (f.no_joiner)
+joins_settle c f after.ZwjEmoji = rw (f.no_keycap, f.no_indicator, f.no_modifier, f.no_tag_end, f.emoji)
+joins_settle c f after.KeycapZwjEmoji = refl
+joins_settle c f after.IndicatorZwj = rw (f.no_indicator)
+joins_settle c f after.EvenIndicatorsZwj = rw (f.no_joiner, f.no_indicator)
+joins_settle c f after.OddIndicatorsZwj = rw (f.no_joiner, f.no_indicator)
+joins_settle c f after.TagEnd = rw (f.no_letter, f.no_digit)
+joins_settle c f after.TagDigit1 = rw (f.no_digit)
+joins_settle c f after.TagDigit2 = rw (f.no_digit)
+joins_settle c f after.TagDigit3 = one_test (c == 0x1F3F4)
+joins_settle c f after.TagLetter1 = rw (f.no_letter, f.no_digit)
+joins_settle c f after.TagLetter2 = rw (f.no_letter, f.no_digit)
+joins_settle c f after.TagLetter3 = rw (f.no_letter, f.no_digit) (one_test (c == 0x1F3F4))
+joins_settle c f after.TagLetter4 = rw (f.no_letter, f.no_digit) (one_test (c == 0x1F3F4))
+joins_settle c f after.TagLetter5 = rw (f.no_letter) (one_test (c == 0x1F3F4))
+joins_settle c f after.TagLetter6 = one_test (c == 0x1F3F4)
 joins_settle c f after.KiratE = grind (arith, f.no_kirat_e, f.no_kirat_ai)
-joins_settle c f after.KiratAi = grind arith
+joins_settle c f after.KiratAi = first_test (c == 0x16D63) Same
 joins_settle c f after.Alef = grind (arith, f.wide)
-joins_settle c f after.Solidus = grind arith
-joins_settle c f after.SolidusAlef = grind arith
-joins_settle c f after.Lamed = grind arith
-joins_settle c f after.ZwjLamed = grind arith
-joins_settle c f after.Ya = grind arith
-joins_settle c f after.ZwjYa = grind (arith, f.no_vowel)
-joins_settle c f after.VowelZwjYa = grind arith
-joins_settle c f after.Tifinagh = grind (arith, f.no_tifinagh_joiner)
-joins_settle c f after.ZwjTifinagh = grind (arith, f.no_tifinagh_joiner)
-joins_settle c f after.JoinerTifinagh = grind arith
-joins_settle c f after.LisuTone = grind arith
-joins_settle c f after.OrkhonI = grind arith
-joins_settle c f after.ZwjOrkhonI = grind arith
-joins_settle c f after.KhmerLetter = grind arith
+joins_settle c f after.Solidus = refl
+joins_settle c f after.SolidusAlef = refl
+joins_settle c f after.Lamed = refl
+joins_settle c f after.ZwjLamed = first_test (c == 0x05D0) Same
+joins_settle c f after.Ya = refl
+joins_settle c f after.ZwjYa = rw (f.no_vowel)
+joins_settle c f after.VowelZwjYa = first_test (c == 0x1A15) Same
+joins_settle c f after.Tifinagh = rw (f.no_tifinagh_joiner)
+joins_settle c f after.ZwjTifinagh = rw (f.no_tifinagh_joiner) (first_test (is_tifinagh c) Same)
+joins_settle c f after.JoinerTifinagh = first_test (is_tifinagh c) Less
+joins_settle c f after.LisuTone = first_test (is_in_range 0xA4F8 0xA4FB c) Same
+joins_settle c f after.OrkhonI = refl
+joins_settle c f after.ZwjOrkhonI = first_test (c == 0x10C32) Same
+joins_settle c f after.KhmerLetter = first_test (c == 0x17D2) Less
 
 alone_settled : (c : ℕ) → is_emoji (kind c) ≡ true → IsSettled (alone false c).1
 unfolding alone IsSettled
@@ -175,12 +187,16 @@ implied : (a b : Bool) → a ≡ true → (not a || b) ≡ true → b ≡ true
 implied true b e h = h
 implied false b e h = cc
 
+or_false : (a b : Bool) → (a || b) ≡ false → (a ≡ false) × (b ≡ false)
+or_false true b e = cc
+or_false false b e = (refl, e)
+
 facts : (c : ℕ) → is_own_emoji c ≡ true → Facts c
 unfolding holds in_ranges tails span
 facts c h =
     let own = and_parts (is_emoji_presentation c) (not (is_in_range 0x1F1E6 0x1F1FF c || is_in_range 0x1F3FB 0x1F3FF c)) h in
-    let no_tail : (is_in_range 0x1F1E6 0x1F1FF c || is_in_range 0x1F3FB 0x1F3FF c) ≡ false = not_true _ own.1 in
-    let table = implied (is_emoji_presentation c && not (in_ranges tails c)) (is_emoji (kind c) && (not (is_ligature_transparent c) && in_ranges span c)) (grind (arith, own.0, no_tail)) (all_hold c) in
+    let no_tails = or_false (is_in_range 0x1F1E6 0x1F1FF c) (is_in_range 0x1F3FB 0x1F3FF c) (not_true _ own.1) in
+    let table = implied (is_emoji_presentation c && not (in_ranges tails c)) (is_emoji (kind c) && (not (is_ligature_transparent c) && in_ranges span c)) (ap (λ b. is_emoji_presentation c && not b) (sym (in_ranges-some (0x1F1E6, 0x1F1FF) ((0x1F3FB, 0x1F3FF) ∷ []) c)) ∙ h) (all_hold c) in
     let first = and_parts (is_emoji (kind c)) (not (is_ligature_transparent c) && in_ranges span c) table in
     let second = and_parts (not (is_ligature_transparent c)) (in_ranges span c) first.1 in
     let inside : in_ranges span c ≡ true = second.1 in
@@ -188,21 +204,21 @@ facts c h =
       emoji = first.0;
       opaque = not_true _ second.0;
       wide = emoji_width c first.0;
-      no_lf = grind (arith, nat_tests, inside);
-      no_emoji_selector = grind (arith, nat_tests, inside);
-      no_quote_selector = grind (arith, nat_tests, inside);
-      no_text_selector = grind (arith, nat_tests, inside);
-      no_joiner = grind (arith, nat_tests, inside);
-      no_keycap = grind (arith, nat_tests, inside);
-      no_indicator = grind (arith, nat_tests, no_tail);
-      no_modifier = grind (arith, nat_tests, no_tail);
-      no_tag_end = grind (arith, nat_tests, inside);
-      no_letter = grind (arith, nat_tests, inside);
-      no_digit = grind (arith, nat_tests, inside);
-      no_tifinagh_joiner = grind (arith, nat_tests, inside);
-      no_vowel = grind (arith, nat_tests, inside);
-      no_kirat_e = grind (arith, nat_tests, inside);
-      no_kirat_ai = grind (arith, nat_tests, inside);
+      no_lf = apart (in_ranges span) c 0x0A inside refl;
+      no_emoji_selector = apart (in_ranges span) c 0xFE0F inside refl;
+      no_quote_selector = apart (in_ranges span) c 0xFE01 inside refl;
+      no_text_selector = apart (in_ranges span) c 0xFE0E inside refl;
+      no_joiner = apart (in_ranges span) c 0x200D inside refl;
+      no_keycap = apart (in_ranges span) c 0x20E3 inside refl;
+      no_indicator = no_tails.0;
+      no_modifier = no_tails.1;
+      no_tag_end = apart (in_ranges span) c 0xE007F inside refl;
+      no_letter = beside 0xE0061 0xE007A c span refl inside;
+      no_digit = beside 0xE0030 0xE0039 c span refl inside;
+      no_tifinagh_joiner = apart (in_ranges span) c 0x2D7F inside refl;
+      no_vowel = apart (in_ranges span) c 0x1A17 inside refl;
+      no_kirat_e = apart (in_ranges span) c 0x16D67 inside refl;
+      no_kirat_ai = apart (in_ranges span) c 0x16D68 inside refl;
     }
 
 and_false : (a b : Bool) → b ≡ false → (a && b) ≡ false

@@ -13,6 +13,7 @@ pub mod InsertionLemmas
 pub mod JoinLemmas
 pub mod LeftLemmas
 pub mod LetterCaseLemmas
+pub mod ListedRanges
 mod MotionRows
 pub mod NewlineLemmas
 pub mod PartLemmas

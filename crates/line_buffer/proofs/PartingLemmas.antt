@@ -1,8 +1,9 @@
 -- A letter that parts a text: what follows on it changes no columns of what stands before it.
-use Rattle.std.proofs.Common.{◌≡◌, ℕ, ◌+◌, ◌-◌, ◌==◌, ◌<◌, ◌≤◌, nat_le, ⊎_elim, Bool, true, false, not, cond, ◌&&◌, ◌||◌, List, [], ◌∷◌, ◌++◌, length, Option, None, Some, refl, sym, ap, ◌∙◌, subst, arith, append_assoc}
+use Rattle.std.proofs.Common.{◌≡◌, ℕ, ◌+◌, ◌-◌, ◌==◌, ◌<◌, ◌≤◌, nat_le, ⊎_elim, Bool, true, false, not, cond, ◌&&◌, ◌||◌, List, [], ◌∷◌, ◌++◌, length, drop, Option, None, Some, refl, sym, ap, ◌∙◌, subst, arith, append_assoc}
 use Rattle.std.proofs.Math.ListN.{replicate}
 use Rattle.std.specs.Prelude.{sum_by, IsUtf8, chars, encode_utf8}
 use Rattle.std.specs.Char.{IsScalar}
+use Rattle.std.specs.Int.{is_in_range}
 use Rattle.std.proofs.lemmas.Str.{IsUtf8-encode, chars-append}
 use Rattle.unicode_segmentation.proofs.TextLemmas.{IsUtf8-before, chars-encode_utf8}
 use Rattle.std.specs.List.{onto_first, list_all}
@@ -38,13 +39,20 @@ use Rattle.line_buffer.specs.declared.layout.GraphemeClusterMode.{GraphemeCluste
 use Rattle.line_buffer.specs.declared.layout.GraphemeClusterMode.TheVariants.{Unicode, WcWidth, NoZwj}
 use Rattle.line_buffer.specs.Standing.{is_parting_letter, is_flag_letter, ends_in_flag}
 use Rattle.line_buffer.specs.Width.{char_columns_of, unjoined, columns_of}
+use Rattle.line_buffer.proofs.ListedRanges.{in_ranges-some, is_beside, beside, apart}
 use Rattle.line_buffer.proofs.SeamLemmas.{read-append, read_letters, letters_simple}
 
 -- ---- facts of the tables
 
--- all of the letters but Hebrew lamed
-letters : List Range
-letters = (0x41, 0x5A) ∷ (0x61, 0x7A) ∷ (0xC0, 0x24F) ∷ (0x391, 0x3C9) ∷ (0x410, 0x44F) ∷ (0x5D0, 0x5DB) ∷ (0x5DD, 0x5EA) ∷ (0x620, 0x64A) ∷ (0x671, 0x6D3) ∷ (0x904, 0x939) ∷ (0xE01, 0xE30) ∷ (0x1780, 0x17B3) ∷ (0x3041, 0x3096) ∷ (0x30A1, 0x30FA) ∷ (0x4E00, 0x9FFF) ∷ (0xAC00, 0xD7A3) ∷ []
+abbrev letters : List Range
+letters = (0x41, 0x5A) ∷ (0x61, 0x7A) ∷ (0xC0, 0x24F) ∷ (0x391, 0x3C9) ∷ (0x410, 0x44F) ∷ (0x5D0, 0x5EA) ∷ (0x620, 0x64A) ∷ (0x671, 0x6D3) ∷ (0x904, 0x939) ∷ (0xE01, 0xE30) ∷ (0x1780, 0x17B3) ∷ (0x3041, 0x3096) ∷ (0x30A1, 0x30FA) ∷ (0x4E00, 0x9FFF) ∷ (0xAC00, 0xD7A3) ∷ []
+
+letters_listed : (c : ℕ) → is_parting_letter c ≡ in_ranges letters c
+letters_listed c = in_ranges-some (0x41, 0x5A) (drop 1 letters) c
+
+-- Hebrew lamed
+lamed : List Range
+lamed = (0x5DC, 0x5DC) ∷ []
 
 -- such a letter has columns, and leaves nothing open before it where it is a lam
 abbrev fits : Kind → Bool → Bool
@@ -59,19 +67,20 @@ no_emoji : ℕ → Bool
 no_emoji c = not (is_ligature_transparent c || (is_emoji_variation_base c || is_emoji_modifier_base c))
 
 holds : ℕ → Bool
-holds c = not (in_ranges letters c) || (fits (kind c) (is_lam c) && no_emoji c)
+holds c = not (in_ranges letters c) || (in_ranges lamed c || (fits (kind c) (is_lam c) && no_emoji c))
 
 unfoldable holds_stepped : Stepped holds
-unfolding holds no_emoji letters rises_from
+unfolding holds no_emoji lamed rises_from
 holds_stepped =
-    zip_stepped (λ inside well. not inside || well) (in_ranges letters) (λ c. fits (kind c) (is_lam c) && no_emoji c) (of_ranges letters refl)
+    zip_stepped (λ inside well. not inside || well) (in_ranges letters) (λ c. in_ranges lamed c || (fits (kind c) (is_lam c) && no_emoji c)) (of_ranges letters refl)
+    (zip_stepped (λ a b. a || b) (in_ranges lamed) (λ c. fits (kind c) (is_lam c) && no_emoji c) (of_ranges lamed refl)
     (zip_stepped (λ a b. a && b) (λ c. fits (kind c) (is_lam c)) no_emoji
     (zip_stepped (λ k g. fits k (joining_group_eq g Lam)) kind joining_group kind_stepped joining_group_stepped)
     (zip_stepped (λ t x. not (t || x)) is_ligature_transparent (λ c. is_emoji_variation_base c || is_emoji_modifier_base c) is_ligature_transparent_stepped
-    (zip_stepped (λ b m. b || m) is_emoji_variation_base is_emoji_modifier_base is_emoji_variation_base_stepped is_emoji_modifier_base_stepped)))
+    (zip_stepped (λ b m. b || m) is_emoji_variation_base is_emoji_modifier_base is_emoji_variation_base_stepped is_emoji_modifier_base_stepped))))
 
 all_hold : (c : ℕ) → holds c ≡ true
-unfolding unicode_width tables holds_stepped letters rises_from
+unfolding unicode_width tables holds_stepped lamed rises_from
 all_hold = Stepped-everywhere holds holds_stepped refl
 
 -- ---- what the rules see of a letter
@@ -92,6 +101,10 @@ not_true false e = refl
 implied : (a b : Bool) → a ≡ true → (not a || b) ≡ true → b ≡ true
 implied true b e h = h
 implied false b e h = cc
+
+or_second : (a b : Bool) → a ≡ false → (a || b) ≡ true → b ≡ true
+or_second true b e h = cc
+or_second false b e h = h
 
 or_false : (a b : Bool) → (a || b) ≡ false → (a ≡ false) × (b ≡ false)
 or_false true b e = cc
@@ -125,19 +138,21 @@ kind_closes c lam h is = by (kind c) h
     by kinds.KhmerLetter e = cc
     by _ e = cc
 
-listed_facts : (c : ℕ) → is_parting_letter c ≡ true → in_ranges letters c ≡ true → Facts c
+listed_facts : (c : ℕ) → is_parting_letter c ≡ true → in_ranges lamed c ≡ false → Facts c
 unfolding holds no_emoji
-listed_facts c h listed =
-    let both = and_parts (fits (kind c) (is_lam c)) (no_emoji c) (implied (in_ranges letters c) (fits (kind c) (is_lam c) && no_emoji c) listed (all_hold c)) in
-    let first = or_false (is_ligature_transparent c) (is_emoji_variation_base c || is_emoji_modifier_base c) (not_true _ both.1) in
-    let second = or_false (is_emoji_variation_base c) (is_emoji_modifier_base c) first.1 in
+listed_facts c h other =
+    let fitting = fits (kind c) (is_lam c) && no_emoji c in
+    let both = and_parts (fits (kind c) (is_lam c)) (no_emoji c)
+    (or_second (in_ranges lamed c) fitting other (implied (in_ranges letters c) (in_ranges lamed c || fitting) (sym (letters_listed c) ∙ h) (all_hold c))) in
+    let clear = or_false (is_ligature_transparent c) (is_emoji_variation_base c || is_emoji_modifier_base c) (not_true _ both.1) in
+    let no_emoji = or_false (is_emoji_variation_base c) (is_emoji_modifier_base c) clear.1 in
     record {
       wide = kind_wide c (is_lam c) both.0;
       dull = kind_dull (kind c) (is_lam c) both.0;
       closes = kind_closes c (is_lam c) both.0;
-      opaque = first.0;
-      no_base = second.0;
-      no_modified = second.1;
+      opaque = clear.0;
+      no_base = no_emoji.0;
+      no_modified = no_emoji.1;
       inside = h;
     }
 
@@ -155,12 +170,19 @@ lamed_facts =
     }
 
 facts : (c : ℕ) → is_parting_letter c ≡ true → Facts c
-unfolding in_ranges letters
+unfolding in_ranges lamed
 facts c h = by (c == 0x5DC) refl
   where
     by : (b : Bool) → (c == 0x5DC) ≡ b → Facts c
     by true e = subst Facts (sym (eqb-true c 0x5DC e)) lamed_facts
-    by false e = listed_facts c h (grind (arith, nat_tests, h, e))
+    by false e = listed_facts c h (grind (arith, nat_tests, e))
+
+-- what is none of the letters
+not_in : (a b c : ℕ) → Facts c → list_all (is_beside a b) letters ≡ true → is_in_range a b c ≡ false
+not_in a b c f h = beside a b c letters h (sym (letters_listed c) ∙ f.inside)
+
+is_not : (c d : ℕ) → Facts c → is_parting_letter d ≡ false → (c == d) ≡ false
+is_not c d f h = apart is_parting_letter c d f.inside h
 
 -- ---- what is left to see of the text before a letter
 
@@ -188,42 +210,42 @@ joins_nothing c f after.ZwjLamed n = by (c == 0x5D0) refl
     by : (b : Bool) → (c == 0x5D0) ≡ b → (joined_or n (first_of {A = Change × After} (cond b (Some (Same, after.Nothing)) None) (first_of None None)) (alone false c)).1 ≡ (alone false c).1
     by true e = sym (alef_closes c e)
     by false e = refl
-joins_nothing c f after.Nothing n = own_state n c (joins false after.Nothing c) (grind (arith, nat_tests, f.inside))
-joins_nothing c f after.LineFeed n = own_state n c (joins false after.LineFeed c) (grind (arith, nat_tests, f.inside))
-joins_nothing c f after.EmojiModifier n = own_state n c (joins false after.EmojiModifier c) (grind (arith, nat_tests, f.inside, f.no_modified))
-joins_nothing c f after.RegionalIndicator n = own_state n c (joins false after.RegionalIndicator c) (grind (arith, nat_tests, f.inside))
-joins_nothing c f after.RegionalIndicators n = own_state n c (joins false after.RegionalIndicators c) (grind (arith, nat_tests, f.inside))
-joins_nothing c f after.Emoji n = own_state n c (joins false after.Emoji c) (grind (arith, nat_tests, f.inside))
-joins_nothing c f after.ZwjEmoji n = own_state n c (joins false after.ZwjEmoji c) (grind (arith, nat_tests, f.inside, f.dull))
-joins_nothing c f after.KeycapZwjEmoji n = own_state n c (joins false after.KeycapZwjEmoji c) (grind (arith, nat_tests, f.inside))
-joins_nothing c f after.IndicatorZwj n = own_state n c (joins false after.IndicatorZwj c) (grind (arith, nat_tests, f.inside))
-joins_nothing c f after.EvenIndicatorsZwj n = own_state n c (joins false after.EvenIndicatorsZwj c) (grind (arith, nat_tests, f.inside))
-joins_nothing c f after.OddIndicatorsZwj n = own_state n c (joins false after.OddIndicatorsZwj c) (grind (arith, nat_tests, f.inside))
-joins_nothing c f after.TagEnd n = own_state n c (joins false after.TagEnd c) (grind (arith, nat_tests, f.inside))
-joins_nothing c f after.TagDigit1 n = own_state n c (joins false after.TagDigit1 c) (grind (arith, nat_tests, f.inside))
-joins_nothing c f after.TagDigit2 n = own_state n c (joins false after.TagDigit2 c) (grind (arith, nat_tests, f.inside))
-joins_nothing c f after.TagDigit3 n = own_state n c (joins false after.TagDigit3 c) (grind (arith, nat_tests, f.inside))
-joins_nothing c f after.TagLetter1 n = own_state n c (joins false after.TagLetter1 c) (grind (arith, nat_tests, f.inside))
-joins_nothing c f after.TagLetter2 n = own_state n c (joins false after.TagLetter2 c) (grind (arith, nat_tests, f.inside))
-joins_nothing c f after.TagLetter3 n = own_state n c (joins false after.TagLetter3 c) (grind (arith, nat_tests, f.inside))
-joins_nothing c f after.TagLetter4 n = own_state n c (joins false after.TagLetter4 c) (grind (arith, nat_tests, f.inside))
-joins_nothing c f after.TagLetter5 n = own_state n c (joins false after.TagLetter5 c) (grind (arith, nat_tests, f.inside))
-joins_nothing c f after.TagLetter6 n = own_state n c (joins false after.TagLetter6 c) (grind (arith, nat_tests, f.inside))
-joins_nothing c f after.KiratE n = own_state n c (joins false after.KiratE c) (grind (arith, nat_tests, f.inside))
-joins_nothing c f after.KiratAi n = own_state n c (joins false after.KiratAi c) (grind (arith, nat_tests, f.inside))
-joins_nothing c f after.Solidus n = own_state n c (joins false after.Solidus c) (grind (arith, nat_tests, f.inside))
-joins_nothing c f after.SolidusAlef n = own_state n c (joins false after.SolidusAlef c) (grind (arith, nat_tests, f.inside))
-joins_nothing c f after.Lamed n = own_state n c (joins false after.Lamed c) (grind (arith, nat_tests, f.inside))
-joins_nothing c f after.ZwjYa n = own_state n c (joins false after.ZwjYa c) (grind (arith, nat_tests, f.inside))
-joins_nothing c f after.Ya n = own_state n c (joins false after.Ya c) (grind (arith, nat_tests, f.inside))
-joins_nothing c f after.VowelZwjYa n = own_state n c (joins false after.VowelZwjYa c) (grind (arith, nat_tests, f.inside))
-joins_nothing c f after.Tifinagh n = own_state n c (joins false after.Tifinagh c) (grind (arith, nat_tests, f.inside))
-joins_nothing c f after.ZwjTifinagh n = own_state n c (joins false after.ZwjTifinagh c) (grind (arith, nat_tests, f.inside))
-joins_nothing c f after.JoinerTifinagh n = own_state n c (joins false after.JoinerTifinagh c) (grind (arith, nat_tests, f.inside))
-joins_nothing c f after.LisuTone n = own_state n c (joins false after.LisuTone c) (grind (arith, nat_tests, f.inside))
-joins_nothing c f after.OrkhonI n = own_state n c (joins false after.OrkhonI c) (grind (arith, nat_tests, f.inside))
-joins_nothing c f after.ZwjOrkhonI n = own_state n c (joins false after.ZwjOrkhonI c) (grind (arith, nat_tests, f.inside))
-joins_nothing c f after.KhmerLetter n = own_state n c (joins false after.KhmerLetter c) (grind (arith, nat_tests, f.inside))
+joins_nothing c f after.Nothing n = own_state n c (joins false after.Nothing c) refl
+joins_nothing c f after.LineFeed n = own_state n c (joins false after.LineFeed c) refl
+joins_nothing c f after.EmojiModifier n = own_state n c (joins false after.EmojiModifier c) (rw (f.no_modified, is_not c 0x200D f refl))
+joins_nothing c f after.RegionalIndicator n = own_state n c (joins false after.RegionalIndicator c) (rw (not_in 0x1F1E6 0x1F1FF c f refl))
+joins_nothing c f after.RegionalIndicators n = own_state n c (joins false after.RegionalIndicators c) (rw (not_in 0x1F1E6 0x1F1FF c f refl, is_not c 0x200D f refl))
+joins_nothing c f after.Emoji n = own_state n c (joins false after.Emoji c) (rw (is_not c 0x200D f refl))
+joins_nothing c f after.ZwjEmoji n = own_state n c (joins false after.ZwjEmoji c) (rw (is_not c 0x20E3 f refl, not_in 0x1F1E6 0x1F1FF c f refl, not_in 0x1F3FB 0x1F3FF c f refl, is_not c 0xE007F f refl, f.dull))
+joins_nothing c f after.KeycapZwjEmoji n = own_state n c (joins false after.KeycapZwjEmoji c) refl
+joins_nothing c f after.IndicatorZwj n = own_state n c (joins false after.IndicatorZwj c) (rw (not_in 0x1F1E6 0x1F1FF c f refl))
+joins_nothing c f after.EvenIndicatorsZwj n = own_state n c (joins false after.EvenIndicatorsZwj c) (rw (is_not c 0x200D f refl, not_in 0x1F1E6 0x1F1FF c f refl))
+joins_nothing c f after.OddIndicatorsZwj n = own_state n c (joins false after.OddIndicatorsZwj c) (rw (is_not c 0x200D f refl, not_in 0x1F1E6 0x1F1FF c f refl))
+joins_nothing c f after.TagEnd n = own_state n c (joins false after.TagEnd c) (rw (not_in 0xE0061 0xE007A c f refl, not_in 0xE0030 0xE0039 c f refl))
+joins_nothing c f after.TagDigit1 n = own_state n c (joins false after.TagDigit1 c) (rw (not_in 0xE0030 0xE0039 c f refl))
+joins_nothing c f after.TagDigit2 n = own_state n c (joins false after.TagDigit2 c) (rw (not_in 0xE0030 0xE0039 c f refl))
+joins_nothing c f after.TagDigit3 n = own_state n c (joins false after.TagDigit3 c) (rw (is_not c 0x1F3F4 f refl))
+joins_nothing c f after.TagLetter1 n = own_state n c (joins false after.TagLetter1 c) (rw (not_in 0xE0061 0xE007A c f refl, not_in 0xE0030 0xE0039 c f refl))
+joins_nothing c f after.TagLetter2 n = own_state n c (joins false after.TagLetter2 c) (rw (not_in 0xE0061 0xE007A c f refl, not_in 0xE0030 0xE0039 c f refl))
+joins_nothing c f after.TagLetter3 n = own_state n c (joins false after.TagLetter3 c) (rw (not_in 0xE0061 0xE007A c f refl, not_in 0xE0030 0xE0039 c f refl, is_not c 0x1F3F4 f refl))
+joins_nothing c f after.TagLetter4 n = own_state n c (joins false after.TagLetter4 c) (rw (not_in 0xE0061 0xE007A c f refl, not_in 0xE0030 0xE0039 c f refl, is_not c 0x1F3F4 f refl))
+joins_nothing c f after.TagLetter5 n = own_state n c (joins false after.TagLetter5 c) (rw (not_in 0xE0061 0xE007A c f refl, is_not c 0x1F3F4 f refl))
+joins_nothing c f after.TagLetter6 n = own_state n c (joins false after.TagLetter6 c) (rw (is_not c 0x1F3F4 f refl))
+joins_nothing c f after.KiratE n = own_state n c (joins false after.KiratE c) (rw (is_not c 0x16D63 f refl, is_not c 0x16D67 f refl, is_not c 0x16D68 f refl, is_not c 0x16D69 f refl))
+joins_nothing c f after.KiratAi n = own_state n c (joins false after.KiratAi c) (rw (is_not c 0x16D63 f refl))
+joins_nothing c f after.Solidus n = own_state n c (joins false after.Solidus c) refl
+joins_nothing c f after.SolidusAlef n = own_state n c (joins false after.SolidusAlef c) refl
+joins_nothing c f after.Lamed n = own_state n c (joins false after.Lamed c) refl
+joins_nothing c f after.ZwjYa n = own_state n c (joins false after.ZwjYa c) (rw (is_not c 0x1A17 f refl))
+joins_nothing c f after.Ya n = own_state n c (joins false after.Ya c) refl
+joins_nothing c f after.VowelZwjYa n = own_state n c (joins false after.VowelZwjYa c) (rw (is_not c 0x1A15 f refl))
+joins_nothing c f after.Tifinagh n = own_state n c (joins false after.Tifinagh c) (rw (is_not c 0x2D7F f refl))
+joins_nothing c f after.ZwjTifinagh n = own_state n c (joins false after.ZwjTifinagh c) (rw (is_not c 0x2D7F f refl, not_in 0x2D31 0x2D65 c f refl, is_not c 0x2D6F f refl))
+joins_nothing c f after.JoinerTifinagh n = own_state n c (joins false after.JoinerTifinagh c) (rw (not_in 0x2D31 0x2D65 c f refl, is_not c 0x2D6F f refl))
+joins_nothing c f after.LisuTone n = own_state n c (joins false after.LisuTone c) (rw (not_in 0xA4F8 0xA4FB c f refl))
+joins_nothing c f after.OrkhonI n = own_state n c (joins false after.OrkhonI c) refl
+joins_nothing c f after.ZwjOrkhonI n = own_state n c (joins false after.ZwjOrkhonI c) (rw (is_not c 0x10C32 f refl))
+joins_nothing c f after.KhmerLetter n = own_state n c (joins false after.KhmerLetter c) (rw (is_not c 0x17D2 f refl))
 
 settled_unless : (b : Bool) (x y : Reading) (s : State) → b ≡ false → y.1 ≡ s → (cond b x y).1 ≡ s
 settled_unless true x y s e q = cc
@@ -240,17 +262,17 @@ no_presentation c e = grind (arith, e)
 past_selectors_own : (c n : ℕ) (a : After) → Facts c → (past_selectors false c n a).1 ≡ (alone false c).1
 unfolding past_selectors
 past_selectors_own c n a f =
-    let joiner : (c == 0x200D) ≡ false = grind (arith, nat_tests, f.inside) in
+    let joiner = is_not c 0x200D f refl in
     settled_unless _ _ _ _ (and_false (skips_marks a) (c == 0x200D) joiner)
     (settled_unless _ _ _ _ (and_false (skips_marks a) (is_ligature_transparent c) f.opaque) (joins_nothing c f a n))
 
 in_context_own : (c n : ℕ) (s : State) → Facts c → (in_context false c n s).1 ≡ (alone false c).1
 unfolding in_context
 in_context_own c n s f =
-    let emoji : (c == 0xFE0F) ≡ false = grind (arith, nat_tests, f.inside) in
-    let quote : (c == 0xFE01) ≡ false = grind (arith, nat_tests, f.inside) in
-    let text : (c == 0xFE0E) ≡ false = grind (arith, nat_tests, f.inside) in
-    let no_quote : is_quote c ≡ false = grind (arith, nat_tests, f.inside) in
+    let emoji = is_not c 0xFE0F f refl in
+    let quote = is_not c 0xFE01 f refl in
+    let text = is_not c 0xFE0E f refl in
+    let no_quote : is_quote c ≡ false = rw (not_in 0x2018 0x2019 c f refl, not_in 0x201C 0x201D c f refl) in
     settled_unless _ _ _ _ emoji
     (settled_unless _ _ _ _ quote
     (settled_unless _ _ _ _ text
@@ -264,8 +286,8 @@ own c = cond (nat_le c 0xA0) plain (alone false c).1
 past_emoji_own : (c n : ℕ) (s : State) → Facts c → (past_emoji false c n s).1 ≡ own c
 unfolding past_emoji own
 past_emoji_own c n s f =
-    let newline : (c == 0x0A) ≡ false = grind (arith, nat_tests, f.inside) in
-    let no_cr : (c == 0x0D) ≡ false = grind (arith, nat_tests, f.inside) in
+    let newline = is_not c 0x0A f refl in
+    let no_cr = is_not c 0x0D f refl in
     settled_unless _ _ _ _ newline (settled_unless _ _ _ _ (no_return (is_line_feed s.after) no_cr) (by (nat_le c 0xA0)))
   where
     no_return : (b : Bool) → (c == 0x0D) ≡ false → ((c == 0x0D) && b) ≡ false
@@ -388,7 +410,7 @@ module _ (c : ℕ) (ds es : List ℕ) (no_joiner : (c == 0x200D) ≡ false) (par
   columns_balanced NoZwj cs whole = both_sum cs (unjoined (cs ++ c ∷ ds)) (unjoined (cs ++ c ∷ es)) (both_parts cs)
 
 pub columns_parted : (mode : GraphemeClusterMode) (c : ℕ) (cs ds es : List ℕ) → is_parting_letter c ≡ true → Balanced (columns_of mode) cs (c ∷ ds) (c ∷ es)
-columns_parted mode c cs ds es h = columns_balanced c ds es (grind (arith, nat_tests, h)) (λ bs p q ps qs d e. parted_width c bs p q h) mode cs (parted_width c cs ds es h)
+columns_parted mode c cs ds es h = columns_balanced c ds es (apart is_parting_letter c 0x200D h refl) (λ bs p q ps qs d e. parted_width c bs p q h) mode cs (parted_width c cs ds es h)
 
 -- ---- letters of flags
 
@@ -459,7 +481,7 @@ flags_unjoined (c ∷ cs) h =
     ap (λ b. cond b ([] ∷ unjoined cs) (onto_first c (unjoined cs))) other ∙ ap (onto_first c) (flags_unjoined cs parts.1)
   where
     no_joiner : (c : ℕ) → is_flag_letter c ≡ true → (c == 0x200D) ≡ false
-    no_joiner c h = grind (arith, nat_tests, h)
+    no_joiner c h = apart is_flag_letter c 0x200D h refl
 
 -- two of them part a text where only such letters follow
 module _ (a b : ℕ) (ds : List ℕ) (h : list_all is_flag_letter (a ∷ b ∷ ds) ≡ true) (k : list_all is_flag_letter (a ∷ b ∷ []) ≡ true) where
@@ -525,7 +547,7 @@ columns_of_flags NoZwj cs ds h k =
     omega (arith, sum, whole, ap (columns_of NoZwj) e.is, unjoined_flags (e.one ∷ e.other ∷ ds) more, unjoined_flags (e.one ∷ e.other ∷ []) e.flags, unjoined_flags ds k)
   where
     no_joiner_flag : (c : ℕ) → is_flag_letter c ≡ true → (c == 0x200D) ≡ false
-    no_joiner_flag c h = grind (arith, nat_tests, h)
+    no_joiner_flag c h = apart is_flag_letter c 0x200D h refl
 
 -- ---- by the text's last two characters
 
