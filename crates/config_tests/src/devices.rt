@@ -1,16 +1,16 @@
 //! The devices over memory, and over readers and writers that give and take in pieces, are interrupted, or fail. The rows
 //! begin with the turns of the reader or the writer, a word for each call.
 
-use line_config::{ReadSource, Sink, SliceSource, Source, VecSink, WriteSink};
+use line_config::{DeviceFailed, ReadSource, Sink, SliceSource, Source, VecSink, WriteSink};
 use stand_ins::devices::{Pieces, Taker, Turns};
 use stand_ins::rows::{Player, rows_hold};
 use stand_ins::tables::{or_nothing, pictured_bytes};
-use std::alloc::Global;
+use std::alloc::{AllocError, Global};
 use std::cell::Cell;
 use std::test::Fail;
 
 /// Takes what a source gives to its end or its failure, and answers whether it was the end.
-fn took_all<S: Source>(source: &mut S, bytes: &mut Vec<u8>) -> Result<bool, Fail> {
+fn took_all<S: Source>(source: &mut S, bytes: &mut Vec<u8>) -> Result<bool, AllocError> {
     for _ in 0..100_000 {
         match source.next_byte() {
             Ok(Some(byte)) => bytes.push(byte)?,
@@ -30,36 +30,63 @@ fn ends_for_good<S: Source>(source: &mut S, at_end: bool) -> Result<(), Fail> {
     Ok(())
 }
 
-/// What a source gives, and how it ends, for good; a failed one asks no more.
-fn told<S: Source>(alloc: Global, source: &mut S, calls: &Cell<usize>) -> Result<String, Fail> {
-    let mut bytes = Vec::new(alloc);
-    let at_end = took_all(source, &mut bytes)?;
+/// The same, of a source that counts its calls; a failed one asks no more.
+fn stays_ended<S: Source>(source: &mut S, at_end: bool, calls: &Cell<usize>) -> Result<(), Fail> {
     let asked = calls.get();
     ends_for_good(source, at_end)?;
     if !at_end && calls.get() != asked {
         return Err(Fail::new("a failed source asks once more"));
     }
-    let given = pictured_bytes(alloc, &bytes)?;
+    Ok(())
+}
+
+/// What a source gives, and how it ends, for good.
+fn told<S: Source>(alloc: Global, source: &mut S, calls: &Cell<usize>) -> Result<String, Fail> {
+    let mut bytes = Vec::new(alloc);
+    let at_end = took_all(source, &mut bytes)?;
+    stays_ended(source, at_end, calls)?;
+    Ok(given_told(alloc, &bytes, at_end)?)
+}
+
+fn given_told(alloc: Global, bytes: &[u8], at_end: bool) -> Result<String, AllocError> {
+    let given = pictured_bytes(alloc, bytes)?;
     let given = or_nothing(given.as_str());
     let last = if at_end { "end" } else { "failure" };
-    Ok(format!(in alloc; "{given}, {last}")?)
+    format!(in alloc; "{given}, {last}")
+}
+
+/// What a source over memory gives, and how it ends.
+fn told_of_memory(alloc: Global, mut source: SliceSource<'_>) -> Result<String, Fail> {
+    told(alloc, &mut source, &Cell::new(0))
+}
+
+fn both_told(alloc: Global) -> Result<String, Fail> {
+    let whole = told_of_memory(alloc, SliceSource::new(b"ab"))?;
+    let cut = told_of_memory(alloc, SliceSource::failing_after(b"ab"))?;
+    Ok(format!(in alloc; "{whole}; {cut}")?)
 }
 
 #[test]
 fn memory_sources(rt: HostRuntime) -> Result<(), Fail> {
-    let calls = Cell::new(0);
-    let whole = told(rt.alloc(), &mut SliceSource::new(b"ab"), &calls)?;
-    assert_eq!(rt; whole.as_str(), "ab, end");
-    let cut = told(rt.alloc(), &mut SliceSource::failing_after(b"ab"), &calls)?;
-    assert_eq!(rt; cut.as_str(), "ab, failure");
+    let said = both_told(rt.alloc())?;
+    assert_eq!(rt; said.as_str(), "ab, end; ab, failure");
     Ok(())
+}
+
+/// Whether a sink takes three letters and passes them on.
+fn takes_three<S: Sink>(sink: &mut S) -> bool {
+    sink.write(b"ab").is_ok()
+        && sink.write(b"").is_ok()
+        && sink.write(b"c").is_ok()
+        && sink.flush().is_ok()
+        && !sink.failed()
 }
 
 #[test]
 fn memory_sinks(rt: HostRuntime) {
     let mut sink = VecSink::new(rt.alloc());
-    assert!(rt; sink.write(b"ab").is_ok() && sink.write(b"").is_ok() && sink.write(b"c").is_ok());
-    assert!(rt; sink.flush().is_ok() && !sink.failed() && sink.bytes() == b"abc".as_slice());
+    assert!(rt; takes_three(&mut sink));
+    assert!(rt; sink.bytes() == b"abc".as_slice());
     assert_eq!(rt; sink.into_bytes().as_slice(), b"abc".as_slice());
 }
 
@@ -74,10 +101,7 @@ impl Player for Ask {
     fn play(&mut self, alloc: Global, call: &str) -> Result<String, Fail> {
         match self {
             Ask::Read => read_by(alloc, call),
-            Ask::Written => {
-                let (turns, flushes) = call.split_once(" | ").unwrap_or((call, ""));
-                written_by(alloc, turns, flushes)
-            }
+            Ask::Written => written_by(alloc, call),
         }
     }
 }
@@ -140,40 +164,55 @@ fn reads_once_for_what_is_there(rt: HostRuntime) -> Result<(), Fail> {
     Ok(())
 }
 
+fn has_read_nothing(source: ReadSource<Pieces<'_>>) -> bool {
+    let (_, unread) = source.into_parts();
+    unread.is_empty()
+}
+
 #[test]
 fn hands_back_what_was_read(rt: HostRuntime) -> Result<(), Fail> {
     let calls = Cell::new(0);
     let mut source = ReadSource::new(letters("3", &calls));
     assert!(rt; source.next_byte() == Ok(Some(b'a')));
     let (reader, unread) = source.into_parts();
-    assert_eq!(rt;
-        (unread.as_slice(), reader.bytes),
-        (b"bc".as_slice(), b"def".as_slice())
-    );
-    let (_, unread) = ReadSource::new(reader).into_parts();
-    assert!(rt; unread.is_empty());
+    assert!(rt; unread.as_slice() == b"bc".as_slice() && reader.bytes == b"def".as_slice());
+    assert!(rt; has_read_nothing(ReadSource::new(reader)));
     Ok(())
 }
 
 /// Bytes of every value, more than the arrays of the adapters hold.
-fn long_text(alloc: Global) -> Result<Vec<u8>, Fail> {
+fn long_text(alloc: Global) -> Result<Vec<u8>, AllocError> {
     let mut text = Vec::new(alloc);
+    push_numbers(&mut text)?;
+    Ok(text)
+}
+
+fn push_numbers(text: &mut Vec<u8>) -> Result<(), AllocError> {
     for number in 0..10_000u16 {
         text.push(number.to_le_bytes()[0])?;
     }
-    Ok(text)
+    Ok(())
+}
+
+/// What a source gives to its end over a reader of these bytes.
+fn read_to_end(alloc: Global, text: &[u8]) -> Result<Vec<u8>, Fail> {
+    let calls = Cell::new(0);
+    let mut source = ReadSource::new(Pieces {
+        bytes: text,
+        turns: Turns::new("300 7", &calls),
+    });
+    let mut bytes = Vec::new(alloc);
+    if took_all(&mut source, &mut bytes)? {
+        Ok(bytes)
+    } else {
+        Err(Fail::new("no end"))
+    }
 }
 
 #[test]
 fn reads_more_than_its_array(rt: HostRuntime) -> Result<(), Fail> {
     let text = long_text(rt.alloc())?;
-    let calls = Cell::new(0);
-    let mut source = ReadSource::new(Pieces {
-        bytes: &text,
-        turns: Turns::new("300 7", &calls),
-    });
-    let mut bytes = Vec::new(rt.alloc());
-    assert!(rt; took_all(&mut source, &mut bytes)?);
+    let bytes = read_to_end(rt.alloc(), &text)?;
     assert_eq!(rt; bytes.as_slice(), text.as_slice());
     Ok(())
 }
@@ -212,15 +251,20 @@ fn sink_over<'a>(
     })
 }
 
-/// Writes three letters in as many calls, and tells the calls of the writer before the flush and after it.
+/// Writes three letters in as many calls.
+fn write_three(sink: &mut WriteSink<Taker<'_>>) -> Result<(), DeviceFailed> {
+    sink.write(b"ab")?;
+    sink.write(b"")?;
+    sink.write(b"c")
+}
+
+/// Writes three letters, and tells the calls of the writer before the flush and after it.
 fn tell_flush(
     sink: &mut WriteSink<Taker<'_>>,
     calls: &Calls,
     said: &mut String,
 ) -> Result<(), Fail> {
-    sink.write(b"ab")?;
-    sink.write(b"")?;
-    sink.write(b"c")?;
+    write_three(sink)?;
     let before = calls.counts();
     sink.flush()?;
     let after = calls.counts();
@@ -228,36 +272,68 @@ fn tell_flush(
     Ok(())
 }
 
+fn tell_three(
+    sink: &mut WriteSink<Taker<'_>>,
+    calls: &Calls,
+    said: &mut String,
+) -> Result<(), Fail> {
+    for _ in 0..3 {
+        tell_flush(sink, calls, said)?;
+    }
+    Ok(())
+}
+
+fn three_told(
+    alloc: Global,
+    sink: &mut WriteSink<Taker<'_>>,
+    calls: &Calls,
+) -> Result<String, Fail> {
+    let mut said = String::new(alloc);
+    tell_three(sink, calls, &mut said)?;
+    Ok(said)
+}
+
 /// Nothing is sent before the flush.
 #[test]
 fn writes_once_for_each_flush(rt: HostRuntime) -> Result<(), Fail> {
     let calls = Calls::none();
     let mut sink = sink_over(rt.alloc(), "", "", &calls);
-    let mut said = String::new(rt.alloc());
-    for _ in 0..3 {
-        tell_flush(&mut sink, &calls, &mut said)?;
-    }
+    let said = three_told(rt.alloc(), &mut sink, &calls)?;
     assert_eq!(rt;
         said.as_str(),
         "(0, 0) (1, 1); (1, 1) (2, 2); (2, 2) (3, 3); "
     );
     let (writer, unsent) = sink.into_parts();
-    assert_eq!(rt; writer.taken.as_slice(), b"abcabcabc".as_slice());
-    assert!(rt; unsent.is_empty());
+    assert!(rt; writer.taken.as_slice() == b"abcabcabc".as_slice() && unsent.is_empty());
     Ok(())
+}
+
+/// What a writer has taken of `ab` and these bytes, once they are flushed.
+fn taken_of(alloc: Global, text: &[u8]) -> Result<Vec<u8>, Fail> {
+    let calls = Calls::none();
+    let mut sink = sink_over(alloc, "5 interrupted", "", &calls);
+    let passed = sink.write(b"ab").is_ok() && sink.write(text).is_ok() && sink.flush().is_ok();
+    let (writer, unsent) = sink.into_parts();
+    if passed && unsent.is_empty() {
+        Ok(writer.taken)
+    } else {
+        Err(Fail::new("not all was sent"))
+    }
+}
+
+/// `ab` and these bytes.
+fn ab_and(alloc: Global, text: &[u8]) -> Result<Vec<u8>, AllocError> {
+    let mut wanted = Vec::from_slice(alloc, b"ab")?;
+    wanted.extend_from_slice(text)?;
+    Ok(wanted)
 }
 
 #[test]
 fn writes_more_than_its_array(rt: HostRuntime) -> Result<(), Fail> {
     let text = long_text(rt.alloc())?;
-    let calls = Calls::none();
-    let mut sink = sink_over(rt.alloc(), "5 interrupted", "", &calls);
-    assert!(rt; sink.write(b"ab").is_ok() && sink.write(&text).is_ok() && sink.flush().is_ok());
-    let (writer, unsent) = sink.into_parts();
-    let mut wanted = Vec::from_slice(rt.alloc(), b"ab")?;
-    wanted.extend_from_slice(&text)?;
-    assert_eq!(rt; writer.taken.as_slice(), wanted.as_slice());
-    assert!(rt; unsent.is_empty());
+    let wanted = ab_and(rt.alloc(), &text)?;
+    let taken = taken_of(rt.alloc(), &text)?;
+    assert_eq!(rt; taken.as_slice(), wanted.as_slice());
     Ok(())
 }
 
@@ -283,21 +359,33 @@ fn passed(sink: &mut WriteSink<Taker<'_>>, calls: &Calls) -> Result<bool, Fail> 
     Ok(passed)
 }
 
-/// What a writer with these turns takes of `abcd`, what stays unsent, and whether the flush passed, else for good.
-fn written_by(alloc: Global, turns: &str, flushes: &str) -> Result<String, Fail> {
+/// Writes four letters, and answers whether the flush passed, else for good.
+fn wrote(sink: &mut WriteSink<Taker<'_>>, calls: &Calls) -> Result<bool, Fail> {
+    sink.write(b"abcd")?;
+    passed(sink, calls)
+}
+
+/// What a writer with these turns takes of `abcd`, what stays unsent, and whether the flush passed.
+fn written_by(alloc: Global, turns: &str) -> Result<String, Fail> {
+    let (turns, flushes) = turns.split_once(" | ").unwrap_or((turns, ""));
     let calls = Calls::none();
     let mut sink = sink_over(alloc, turns, flushes, &calls);
-    sink.write(b"abcd")?;
-    let last = if passed(&mut sink, &calls)? {
-        "passed"
-    } else {
-        "failed"
-    };
+    let passed = wrote(&mut sink, &calls)?;
     let (writer, unsent) = sink.into_parts();
-    let taken = pictured_bytes(alloc, &writer.taken)?;
-    let unsent = pictured_bytes(alloc, unsent.as_slice())?;
+    Ok(written_told(alloc, &writer.taken, unsent.as_slice(), passed)?)
+}
+
+fn written_told(
+    alloc: Global,
+    taken: &[u8],
+    unsent: &[u8],
+    passed: bool,
+) -> Result<String, AllocError> {
+    let taken = pictured_bytes(alloc, taken)?;
+    let unsent = pictured_bytes(alloc, unsent)?;
     let (taken, unsent) = (or_nothing(taken.as_str()), or_nothing(unsent.as_str()));
-    Ok(format!(in alloc; "{taken}, {unsent}, {last}")?)
+    let last = if passed { "passed" } else { "failed" };
+    format!(in alloc; "{taken}, {unsent}, {last}")
 }
 
 /// The turns at writes, and after a bar those at flushes; what is taken, what stays unsent, and how the flush ends.

@@ -95,38 +95,64 @@ const DEFAULTS: &str = "
     enable_signals = false
     ";
 
+fn has_defaults(alloc: Global, config: Config) -> Result<(), Fail> {
+    answers(alloc, &config, DEFAULTS)
+}
+
+fn copies_itself(config: &Config) -> Result<bool, AllocError> {
+    let copy = config.clone()?;
+    Ok(*config == copy)
+}
+
+fn have_defaults(alloc: Global) -> Result<(), Fail> {
+    has_defaults(alloc, Config::default())?;
+    has_defaults(alloc, Config::builder().build())?;
+    has_defaults(alloc, Builder::new().build())?;
+    has_defaults(alloc, Builder::default().build())
+}
+
 #[test]
 fn defaults(rt: HostRuntime) -> Result<(), Fail> {
-    answers(rt.alloc(), &Config::default(), DEFAULTS)?;
-    answers(rt.alloc(), &Config::builder().build(), DEFAULTS)?;
-    answers(rt.alloc(), &Builder::new().build(), DEFAULTS)?;
-    answers(rt.alloc(), &Builder::default().build(), DEFAULTS)?;
-    assert!(rt; Config::default() == Config::default().clone()?);
-    assert_eq!(rt; BellStyle::default(), BellStyle::Audible);
-    assert_eq!(rt; Behavior::default(), Behavior::Stdio);
+    have_defaults(rt.alloc())?;
+    assert!(rt; copies_itself(&Config::default())?);
+    assert!(rt;
+        BellStyle::default() == BellStyle::Audible && Behavior::default() == Behavior::Stdio
+    );
     Ok(())
 }
 
 /// Calls every setter. Two settings have none.
 fn set_all<C: Configurer>(holder: &mut C) -> Result<(), ReadlineError> {
+    set_editing(holder);
+    set_drawing(holder);
+    set_terminal(holder);
+    holder.set_history_ignore_dups(false)?;
+    holder.set_max_history_size(7)
+}
+
+fn set_editing<C: Configurer>(holder: &mut C) {
     holder.set_history_ignore_space(true);
+    holder.set_auto_add_history(true);
+    holder.set_edit_mode(EditMode::Vi);
+    holder.set_keyseq_timeout(Some(7));
+    holder.set_tab_stop(4);
+    holder.set_indent_size(5);
+}
+
+fn set_drawing<C: Configurer>(holder: &mut C) {
     holder.set_completion_type(CompletionType::List);
     holder.set_completion_show_all_if_ambiguous(true);
     holder.set_completion_prompt_limit(7);
-    holder.set_edit_mode(EditMode::Vi);
-    holder.set_keyseq_timeout(Some(7));
-    holder.set_auto_add_history(true);
     holder.set_bell_style(BellStyle::Visible);
     holder.set_color_mode(ColorMode::Forced);
     holder.set_grapheme_cluster_mode(GraphemeClusterMode::NoZwj);
-    holder.set_tab_stop(4);
-    holder.set_indent_size(5);
+}
+
+fn set_terminal<C: Configurer>(holder: &mut C) {
     holder.set_check_cursor_position(true);
     holder.enable_bracketed_paste(false);
     holder.enable_synchronized_output(false);
     holder.set_enable_signals(true);
-    holder.set_history_ignore_dups(false)?;
-    holder.set_max_history_size(7)
 }
 
 const ALL_SET: &str = "
@@ -149,58 +175,72 @@ const ALL_SET: &str = "
     enable_signals = true
     ";
 
+/// What is behind the setters of [`ALL_SET`]: a setting without one, and one that the builder has no call for.
+fn all_set(alloc: Global, config: Config, behind: &str) -> Result<(), Fail> {
+    answers(alloc, &config, ALL_SET)?;
+    answers(alloc, &config, behind)
+}
+
+fn set_in_config() -> Result<Config, ReadlineError> {
+    let mut config = Config::default();
+    set_all(&mut config)?;
+    Ok(config)
+}
+
+fn set_in_builder() -> Result<Config, ReadlineError> {
+    let mut builder = Builder::default();
+    set_all(&mut builder)?;
+    Ok(builder.build())
+}
+
 #[test]
 fn setters_of_both_types(rt: HostRuntime) -> Result<(), Fail> {
     let behind = "
         behavior = Stdio
         enable_synchronized_output = false
         ";
-    let mut config = Config::default();
-    set_all(&mut config)?;
-    answers(rt.alloc(), &config, ALL_SET)?;
-    answers(rt.alloc(), &config, behind)?;
-    let mut builder = Builder::default();
-    set_all(&mut builder)?;
-    let config = builder.build();
-    answers(rt.alloc(), &config, ALL_SET)?;
-    answers(rt.alloc(), &config, behind)
+    all_set(rt.alloc(), set_in_config()?, behind)?;
+    all_set(rt.alloc(), set_in_builder()?, behind)
 }
 
 /// A builder with every call made.
 fn built() -> Result<Config, ReadlineError> {
-    Ok(
-        Builder::new()
-            .max_history_size(7)?
-            .history_ignore_dups(false)?
-            .history_ignore_space(true)
-            .completion_type(CompletionType::List)
-            .completion_show_all_if_ambiguous(true)
-            .completion_prompt_limit(7)
-            .edit_mode(EditMode::Vi)
-            .keyseq_timeout(Some(7))
-            .auto_add_history(true)
-            .bell_style(BellStyle::Visible)
-            .color_mode(ColorMode::Forced)
-            .grapheme_cluster_mode(GraphemeClusterMode::NoZwj)
-            .behavior(Behavior::PreferTerm)
-            .tab_stop(4)
-            .indent_size(5)
-            .check_cursor_position(true)
-            .bracketed_paste(false)
-            .enable_signals(true)
-            .build(),
-    )
+    let builder = Builder::new().max_history_size(7)?;
+    let builder = builder.history_ignore_dups(false)?;
+    Ok(build_drawing(build_editing(builder)).build())
+}
+
+fn build_editing(builder: Builder) -> Builder {
+    builder
+        .history_ignore_space(true)
+        .edit_mode(EditMode::Vi)
+        .keyseq_timeout(Some(7))
+        .auto_add_history(true)
+        .behavior(Behavior::PreferTerm)
+        .tab_stop(4)
+        .indent_size(5)
+        .check_cursor_position(true)
+        .bracketed_paste(false)
+        .enable_signals(true)
+}
+
+fn build_drawing(builder: Builder) -> Builder {
+    builder
+        .completion_type(CompletionType::List)
+        .completion_show_all_if_ambiguous(true)
+        .completion_prompt_limit(7)
+        .bell_style(BellStyle::Visible)
+        .color_mode(ColorMode::Forced)
+        .grapheme_cluster_mode(GraphemeClusterMode::NoZwj)
 }
 
 #[test]
 fn calls_of_the_builder(rt: HostRuntime) -> Result<(), Fail> {
-    let config = built()?;
-    answers(rt.alloc(), &config, ALL_SET)?;
     let behind = "
         behavior = PreferTerm
         enable_synchronized_output = true
         ";
-    answers(rt.alloc(), &config, behind)
+    all_set(rt.alloc(), built()?, behind)
 }
 
 #[test]
@@ -217,14 +257,20 @@ struct Refusals {
     left: &'static [ReadlineError],
 }
 
+fn is_named(alloc: Global, refusal: ReadlineError, name: &str) -> Result<bool, AllocError> {
+    let shown = shown(alloc, refusal)?;
+    Ok(shown.as_str() == name)
+}
+
 impl Player for Refusals {
     fn play(&mut self, alloc: Global, name: &str) -> Result<String, Fail> {
         let (refusal, left) = self.left.split_first().ok_or("no refusal is left")?;
         self.left = left;
-        if shown(alloc, *refusal)?.as_str() != name {
-            return Err(Fail::new("another refusal"));
+        if is_named(alloc, *refusal, name)? {
+            Ok(format!(in alloc; "{refusal}")?)
+        } else {
+            Err(Fail::new("another refusal"))
         }
-        Ok(format!(in alloc; "{refusal}")?)
     }
 }
 

@@ -1,9 +1,9 @@
 //! How the first key of a command is asked for.
 
+use crate::telling::line_marked;
 use line_config::{Config, EditMode, ReadlineError};
-use line_keys::{Bindings, InputState, Text};
+use line_keys::{Bindings, InputState};
 use stand_ins::listener::Listener;
-use stand_ins::refreshers::PlainLine;
 use stand_ins::rows::{Player, rows_hold};
 use std::alloc::Global;
 use std::test::Fail;
@@ -14,24 +14,36 @@ fn asked(
     mode: EditMode,
     single_esc_abort: bool,
     first_by_key: bool,
-) -> Result<(bool, bool), ReadlineError> {
+) -> Result<Listener, ReadlineError> {
     let config = Config::builder().edit_mode(mode).build();
     let bindings = Bindings::new(alloc)?;
     let mut state = InputState::new(alloc, &config, &bindings)?;
-    let mut line = PlainLine::new(alloc, Text::try_from_str(alloc, "")?);
+    ask(alloc, &mut state, single_esc_abort, first_by_key)
+}
+
+fn ask(
+    alloc: Global,
+    state: &mut InputState<'_>,
+    single_esc_abort: bool,
+    first_by_key: bool,
+) -> Result<Listener, ReadlineError> {
+    let mut line = line_marked(alloc, "")?;
     let mut reader = Listener {
         left: 1,
         report: false,
         single_esc_abort: false,
     };
-    let _cmd = state.next_cmd(
+    let answer = state.next_cmd(
         alloc,
         &mut reader,
         &mut line,
         single_esc_abort,
         first_by_key,
-    )?;
-    Ok((reader.report, reader.single_esc_abort))
+    );
+    match answer {
+        Ok(_) => Ok(reader),
+        Err(why) => Err(why),
+    }
 }
 
 // The mode, whether Esc alone ends a line, and whether the first key is asked for by key; how it is asked for.
@@ -57,7 +69,8 @@ impl Player for FirstKey {
         } else {
             EditMode::Emacs
         };
-        let said = match asked(alloc, mode, call.contains("abort"), call.contains("key"))? {
+        let reader = asked(alloc, mode, call.contains("abort"), call.contains("key"))?;
+        let said = match (reader.report, reader.single_esc_abort) {
             (true, true) => "report abort",
             (true, false) => "report",
             (false, true) => "key abort",

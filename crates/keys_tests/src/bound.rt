@@ -5,11 +5,11 @@ use line_config::EditMode;
 use std::test::Fail;
 
 const COMMANDS: &str = "
-    bind: C-O          = SelfInsert(1, 'x')
-    bind: C-T          = Yank(2, Before)
-    bind: C-K          = Undo(3)
-    bind: C-R          = Replace(ForwardChar(0), None)
-    bind: C-B          = Move(EndOfLine)
+    bind: C-O          = SelfInsert 1 x
+    bind: C-T          = Yank 2 Before
+    bind: C-K          = Undo 3
+    bind: C-R          = Replace ForwardChar 0
+    bind: C-B          = Move EndOfLine
     bind: C-C          = Repaint
     bind: C-D          = Noop
     bind: x            = Newline
@@ -57,12 +57,12 @@ const COMMANDS: &str = "
 
 #[test]
 fn keys_bound_to_commands(rt: HostRuntime) -> Result<(), Fail> {
-    plays(&rt, EditMode::Emacs, COMMANDS)
+    plays(rt.alloc(), EditMode::Emacs, COMMANDS)
 }
 
 const SEQUENCES: &str = "
     bind: C-x C-e      = Repaint
-    bind: C-X C-Y      = SelfInsert(1, 'x')
+    bind: C-X C-Y      = SelfInsert 1 x
     bind: C-X C-U C-F  = Newline
     bind: F1 F2        = ClearScreen
     bind: F1 F2 F5     = Complete
@@ -129,7 +129,7 @@ const SEQUENCES: &str = "
 
 #[test]
 fn bound_sequences(rt: HostRuntime) -> Result<(), Fail> {
-    plays(&rt, EditMode::Emacs, SEQUENCES)
+    plays(rt.alloc(), EditMode::Emacs, SEQUENCES)
 }
 
 const HANDLERS: &str = "
@@ -170,12 +170,12 @@ const HANDLERS: &str = "
 
 #[test]
 fn keys_bound_to_handlers(rt: HostRuntime) -> Result<(), Fail> {
-    plays(&rt, EditMode::Emacs, HANDLERS)
+    plays(rt.alloc(), EditMode::Emacs, HANDLERS)
 }
 
 const ANY: &str = "
     bind:              = Noop
-    bind: C-O          = Undo(3)
+    bind: C-O          = Undo 3
     bind: C-X C-E      = Repaint
     ask: C-K           = Nothing
 
@@ -189,7 +189,7 @@ const ANY: &str = "
     UnknownEscSeq        | Noop
     PasteStart text:ab x | Noop; PasteOutOfPlace left 2
 
-    bind:              = SelfInsert(9, 'y')
+    bind:              = SelfInsert 9 y
     A-3 x C-K            | <3> <line> SelfInsert(3, 'y'); Kill(EndOfLine)
     C-D                  | SelfInsert(1, 'y')
 
@@ -203,5 +203,5 @@ const ANY: &str = "
 
 #[test]
 fn any_key_bound(rt: HostRuntime) -> Result<(), Fail> {
-    plays(&rt, EditMode::Emacs, ANY)
+    plays(rt.alloc(), EditMode::Emacs, ANY)
 }

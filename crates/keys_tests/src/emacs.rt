@@ -130,8 +130,8 @@ const COMMON: &str = "
 
 #[test]
 fn each_key_with_each_count(rt: HostRuntime) -> Result<(), Fail> {
-    each_count(&rt, EditMode::Emacs, COUNTS, EMACS)?;
-    each_count(&rt, EditMode::Emacs, COUNTS, COMMON)
+    each_count(rt.alloc(), EditMode::Emacs, COUNTS, EMACS)?;
+    each_count(rt.alloc(), EditMode::Emacs, COUNTS, COMMON)
 }
 
 // Counts, and how they end.
@@ -159,7 +159,7 @@ const TYPED_COUNTS: &str = "
 
 #[test]
 fn counts_and_how_they_end(rt: HostRuntime) -> Result<(), Fail> {
-    plays(&rt, EditMode::Emacs, TYPED_COUNTS)
+    plays(rt.alloc(), EditMode::Emacs, TYPED_COUNTS)
 }
 
 // Where the input ends or is no key, in the middle of a phrase.
@@ -194,7 +194,7 @@ const CUT: &str = "
 
 #[test]
 fn phrases_cut_off(rt: HostRuntime) -> Result<(), Fail> {
-    plays(&rt, EditMode::Emacs, CUT)
+    plays(rt.alloc(), EditMode::Emacs, CUT)
 }
 
 const CONDITIONS: &str = "
@@ -224,7 +224,7 @@ const CONDITIONS: &str = "
 
 #[test]
 fn rows_with_conditions(rt: HostRuntime) -> Result<(), Fail> {
-    plays(&rt, EditMode::Emacs, CONDITIONS)
+    plays(rt.alloc(), EditMode::Emacs, CONDITIONS)
 }
 
 const FAILING_DISPLAYS: &str = "
@@ -240,5 +240,5 @@ const FAILING_DISPLAYS: &str = "
 
 #[test]
 fn the_display_fails_at_each_call(rt: HostRuntime) -> Result<(), Fail> {
-    plays(&rt, EditMode::Emacs, FAILING_DISPLAYS)
+    plays(rt.alloc(), EditMode::Emacs, FAILING_DISPLAYS)
 }

@@ -1,6 +1,7 @@
 //! Keys, bindings and commands at work.
 
-use crate::commands::{bind_handler, command_named};
+use crate::commands::{bind_command, bind_handler, command_of};
+use crate::telling::line_marked;
 use crate::typing::{event, long_text, typed};
 use line_buffer::{Movement, RepeatCount};
 use line_config::{EditMode, ReadlineError};
@@ -10,19 +11,24 @@ use line_keys::{
 };
 use stand_ins::key_names::{key_named, write_key};
 use stand_ins::reader_calls::tell_call;
-use stand_ins::readers::KeyList;
+use stand_ins::readers::{After, KeyList};
 use stand_ins::refreshers::PlainLine;
 use stand_ins::rows::{Player, rows_hold};
-use stand_ins::tables::{line_and_place, meant, word_and_rest};
-use std::alloc::Global;
+use stand_ins::tables::{meant, word_and_rest};
+use std::alloc::{AllocError, Global};
+use std::fmt::Debug;
 use std::test::Fail;
 
+fn shown<D: Debug>(alloc: Global, value: &D) -> Result<String, AllocError> {
+    format!(in alloc; "{value:?}")
+}
+
 // What was bound, or is: a command.
-fn handler_told(alloc: Global, handler: Option<&EventHandler>) -> Result<String, Fail> {
+fn handler_told(alloc: Global, handler: Option<&EventHandler>) -> Result<String, AllocError> {
     match handler {
-        Some(EventHandler::Simple(cmd)) => Ok(format!(in alloc; "{cmd:?}")?),
-        Some(_) => Ok(String::from_str(alloc, "handler")?),
-        None => Ok(String::from_str(alloc, "none")?),
+        Some(EventHandler::Simple(cmd)) => shown(alloc, cmd),
+        Some(_) => String::from_str(alloc, "handler"),
+        None => String::from_str(alloc, "none"),
     }
 }
 
@@ -47,12 +53,12 @@ const OLD_ONES: &str = "
 ";
 
 const SIX_KEYS: &str = "
-    bind Backspace: Undo(0)   = none
-    bind C-Backspace: Undo(1) = none
-    bind Enter: Undo(2)       = none
-    bind C-Enter: Undo(3)     = none
-    bind Tab: Undo(4)         = none
-    bind C-Tab: Undo(5)       = none
+    bind Backspace: Undo 0    = none
+    bind C-Backspace: Undo 1  = none
+    bind Enter: Undo 2        = none
+    bind C-Enter: Undo 3      = none
+    bind Tab: Undo 4          = none
+    bind C-Tab: Undo 5        = none
     get Backspace             = Undo(0)
     get C-Backspace           = Undo(1)
     get Enter                 = Undo(2)
@@ -62,33 +68,36 @@ const SIX_KEYS: &str = "
 ";
 
 // Whether bindings have a sequence that begins with a key.
-fn begun_told(alloc: Global, bindings: &Bindings, key: &str) -> Result<String, Fail> {
-    let key = key_named(key).ok_or("no key")?;
-    let begins = bindings.begins(&[key]);
-    Ok(format!(in alloc; "{begins}")?)
+fn begun_told(alloc: Global, bindings: &Bindings, key: &str) -> Result<String, AllocError> {
+    match key_named(key) {
+        Some(key) => shown(alloc, &bindings.begins(&[key])),
+        None => String::from_str(alloc, "no key"),
+    }
 }
 
-// Makes a call, and tells what it answers.
-fn bindings_told(
+fn bound_told(
     alloc: Global,
     bindings: &mut Bindings,
-    call: &str,
     keys: &str,
     cmd: &str,
-) -> Result<String, Fail> {
-    match call {
-        "begins" => begun_told(alloc, bindings, keys),
-        "bind" => {
-            let handler = EventHandler::from(command_named(cmd).ok_or("no command")?);
-            let old = bindings.bind_sequence(event(alloc, keys)?, handler)?;
-            handler_told(alloc, old.as_ref())
-        }
-        "unbind" => {
-            let old = bindings.unbind_sequence(event(alloc, keys)?);
-            handler_told(alloc, old.as_ref())
-        }
-        _ => handler_told(alloc, bindings.get(&event(alloc, keys)?)),
-    }
+) -> Result<String, ReadlineError> {
+    let old = bind_command(alloc, bindings, keys, cmd)?;
+    Ok(handler_told(alloc, old.as_ref())?)
+}
+
+fn unbound_told(
+    alloc: Global,
+    bindings: &mut Bindings,
+    keys: &str,
+) -> Result<String, ReadlineError> {
+    let event = event(alloc, keys)?;
+    let old = bindings.unbind_sequence(event);
+    Ok(handler_told(alloc, old.as_ref())?)
+}
+
+fn got_told(alloc: Global, bindings: &Bindings, keys: &str) -> Result<String, ReadlineError> {
+    let event = event(alloc, keys)?;
+    Ok(handler_told(alloc, bindings.get(&event))?)
 }
 
 /// Bindings that the rows of a table change.
@@ -101,7 +110,14 @@ impl Player for Binder {
     fn play(&mut self, alloc: Global, call: &str) -> Result<String, Fail> {
         let (call, cmd) = call.split_once(':').unwrap_or((call, ""));
         let (call, keys) = word_and_rest(call);
-        bindings_told(alloc, &mut self.bindings, call, keys, cmd.trim())
+        let bindings = &mut self.bindings;
+        let said = match call {
+            "begins" => return Ok(begun_told(alloc, bindings, keys)?),
+            "bind" => bound_told(alloc, bindings, keys, cmd.trim()),
+            "unbind" => unbound_told(alloc, bindings, keys),
+            _ => got_told(alloc, bindings, keys),
+        };
+        Ok(said?)
     }
 }
 
@@ -132,13 +148,10 @@ impl Player for Ask {
     fn play(&mut self, alloc: Global, call: &str) -> Result<String, Fail> {
         match self {
             Ask::Form => form_told(alloc, call),
-            Ask::MadeAnew => made_anew(alloc, call),
-            Ask::Printed => {
-                let event = event(alloc, call)?;
-                Ok(format!(in alloc; "{event:?}")?)
-            }
+            Ask::MadeAnew => Ok(made_anew(alloc, call)?),
+            Ask::Printed => Ok(printed(alloc, call)?),
             Ask::Reader => read(alloc, call),
-            Ask::Signal => signal_told(alloc, call),
+            Ask::Signal => Ok(signal_told(alloc, call)?),
         }
     }
 }
@@ -171,8 +184,15 @@ fn key_made(call: &str, word: &str) -> Option<KeyEvent> {
 fn form_told(alloc: Global, call: &str) -> Result<String, Fail> {
     let (call, word) = word_and_rest(call);
     let word = meant(alloc, word)?;
+    match key_made(call, word.as_str()) {
+        Some(key) => Ok(key_told(alloc, key)?),
+        None => Err(Fail::new("no key")),
+    }
+}
+
+fn key_told(alloc: Global, key: KeyEvent) -> Result<String, AllocError> {
     let mut said = String::new(alloc);
-    write_key(&mut said, key_made(call, word.as_str()).ok_or("no key")?)?;
+    write_key(&mut said, key)?;
     Ok(said)
 }
 
@@ -190,11 +210,9 @@ const DECIDED: &str = "
 ";
 
 // The line of a row.
-fn line_of(alloc: Global, shown: &str) -> Result<PlainLine, Fail> {
+fn line_of(alloc: Global, shown: &str) -> Result<PlainLine, ReadlineError> {
     let (text, hint) = word_and_rest(shown);
-    let (text, pos) = line_and_place(alloc, text)?;
-    let mut line = PlainLine::new(alloc, Text::from(text));
-    line.pos = pos;
+    let mut line = line_marked(alloc, text)?;
     if !hint.is_empty() {
         line.hint = Some(Text::try_from_str(alloc, hint)?);
     }
@@ -216,6 +234,17 @@ fn decided(
     }
 }
 
+fn decision(
+    alloc: Global,
+    bindings: &Bindings,
+    n: RepeatCount,
+    positive: bool,
+    line: &PlainLine,
+) -> Result<String, AllocError> {
+    let answer = decided(alloc, bindings, n, positive, line);
+    shown(alloc, &answer)
+}
+
 /// What is bound to any key, asked at a line.
 #[derive(Drop)]
 struct Decider {
@@ -224,41 +253,57 @@ struct Decider {
 
 impl Player for Decider {
     fn play(&mut self, alloc: Global, call: &str) -> Result<String, Fail> {
-        let (count, shown) = word_and_rest(call);
-        let line = line_of(alloc, shown)?;
-        let amount = count.trim_start_matches('-').parse()?;
+        let (count, line) = word_and_rest(call);
+        let Ok(amount) = count.trim_start_matches('-').parse() else {
+            return Err(Fail::new("no count"));
+        };
         let positive = !count.starts_with('-');
-        let answer = decided(alloc, &self.bindings, amount, positive, &line);
-        Ok(format!(in alloc; "{answer:?}")?)
+        let line = line_of(alloc, line)?;
+        Ok(decision(alloc, &self.bindings, amount, positive, &line)?)
     }
 }
 
 #[test]
 fn a_boxed_handler_is_asked(rt: HostRuntime) -> Result<(), Fail> {
     let mut bindings = Bindings::new(rt.alloc())?;
-    bind_handler(rt.alloc(), &mut bindings, "", "HintOrKill")?;
+    let _old = bind_handler(rt.alloc(), &mut bindings, "", "HintOrKill")?;
     rows_hold(rt.alloc(), &mut Decider { bindings }, DECIDED)
 }
 
 // A count, a text that was inserted before, and a command; the command made anew.
 const MADE_ANEW: &str = "
-    3 none SelfInsert(1, 'x')              = SelfInsert(3, 'x')
-    none abc SelfInsert(1, 'x')            = Insert(1, \"abc\")
-    9 abc Replace(ForwardChar(0), None)    = Replace(ForwardChar(3), Some(\"abc\"))
-    9 abc Kill(EndOfLine)                  = Kill(EndOfLine)
+    3 none SelfInsert 1 x                  = SelfInsert(3, 'x')
+    none abc SelfInsert 1 x                = Insert(1, \"abc\")
+    9 abc Replace ForwardChar 0            = Replace(ForwardChar(3), Some(\"abc\"))
+    9 abc Kill EndOfLine                   = Kill(EndOfLine)
     9 abc Abort                            = Abort
 ";
 
-fn made_anew(alloc: Global, call: &str) -> Result<String, Fail> {
-    let (count, call) = word_and_rest(call);
-    let (inserted, cmd) = word_and_rest(call);
-    let mut line = PlainLine::new(alloc, Text::try_from_str(alloc, "")?);
+// A line with this text inserted before.
+fn line_behind(alloc: Global, inserted: &str) -> Result<PlainLine, ReadlineError> {
+    let mut line = line_marked(alloc, "")?;
     if inserted != "none" {
         line.inserted = Some(Text::try_from_str(alloc, inserted)?);
     }
-    let cmd = command_named(cmd).ok_or("no command")?;
-    let again = cmd.redo(alloc, count.parse().ok(), &line)?;
-    Ok(format!(in alloc; "{again:?}")?)
+    Ok(line)
+}
+
+fn made_anew(alloc: Global, call: &str) -> Result<String, ReadlineError> {
+    let (count, call) = word_and_rest(call);
+    let (inserted, cmd) = word_and_rest(call);
+    let line = line_behind(alloc, inserted)?;
+    let cmd = command_of(alloc, cmd)?;
+    redone(alloc, &cmd, count.parse().ok(), &line)
+}
+
+fn redone(
+    alloc: Global,
+    cmd: &Cmd,
+    count: Option<RepeatCount>,
+    line: &PlainLine,
+) -> Result<String, ReadlineError> {
+    let again = cmd.redo(alloc, count, line)?;
+    Ok(shown(alloc, &again)?)
 }
 
 #[test]
@@ -266,18 +311,36 @@ fn commands_are_made_anew(rt: HostRuntime) -> Result<(), Fail> {
     rows_hold(rt.alloc(), &mut Ask::MadeAnew, MADE_ANEW)
 }
 
+// A line with a long text inserted before.
+fn line_behind_long(alloc: Global) -> Result<PlainLine, ReadlineError> {
+    let mut line = line_marked(alloc, "")?;
+    line.inserted = Some(Text::from(long_text(alloc)?));
+    Ok(line)
+}
+
+// A replacement by its movement and how long its text is.
+fn length_told(alloc: Global, cmd: &Cmd) -> Result<String, AllocError> {
+    match cmd {
+        Cmd::Replace(movement, Some(text)) => {
+            let length = text.as_str().len();
+            format!(in alloc; "{movement:?} {length}")
+        }
+        other => shown(alloc, other),
+    }
+}
+
+// The replacement of what was typed over.
+fn typed_over(alloc: Global, line: &PlainLine) -> Result<String, ReadlineError> {
+    let replacement = Cmd::Replace(Movement::ForwardChar(0), None);
+    let again = replacement.redo(alloc, None, line)?;
+    Ok(length_told(alloc, &again)?)
+}
+
 #[test]
 fn a_text_of_any_length_is_typed_over(rt: HostRuntime) -> Result<(), Fail> {
-    let long = long_text(rt.alloc())?;
-    let mut line = PlainLine::new(rt.alloc(), Text::try_from_str(rt.alloc(), "")?);
-    line.inserted = Some(Text::from(long));
-    match Cmd::Replace(Movement::ForwardChar(0), None).redo(rt.alloc(), None, &line)? {
-        Cmd::Replace(movement, Some(text)) => {
-            assert_eq!(rt; movement, Movement::ForwardChar(65535));
-            assert_eq!(rt; text.as_str().len(), 70_000);
-        }
-        other => assert_eq!(rt; other, Cmd::Noop),
-    }
+    let line = line_behind_long(rt.alloc())?;
+    let said = typed_over(rt.alloc(), &line)?;
+    assert_eq!(rt; said.as_str(), "ForwardChar(65535) 70000");
     Ok(())
 }
 
@@ -291,19 +354,31 @@ const READERS: &str = "
 
 // Makes the calls, and tells what they answer.
 fn read(alloc: Global, row: &str) -> Result<String, Fail> {
-    let (words, calls) = row.split_once(" : ").ok_or("no calls")?;
+    let Some((words, calls)) = row.split_once(" : ") else {
+        return Err(Fail::new("no calls"));
+    };
     let input = typed(alloc, words)?;
     let mut reader = KeyList::new(&input.typed, input.cut, input.after);
     let mut said = String::new(alloc);
+    tell_calls(alloc, &mut reader, calls, &mut said)?;
+    Ok(said)
+}
+
+fn tell_calls(
+    alloc: Global,
+    reader: &mut KeyList<'_>,
+    calls: &str,
+    said: &mut String,
+) -> Result<(), AllocError> {
     for call in calls.split_whitespace() {
         if !said.is_empty() {
             said.push(' ')?;
         }
-        if let Err(why) = tell_call(alloc, &mut reader, call, &mut said) {
+        if let Err(why) = tell_call(alloc, reader, call, said) {
             write!(said, "{why:?}")?;
         }
     }
-    Ok(said)
+    Ok(())
 }
 
 #[test]
@@ -318,15 +393,15 @@ const SIGNALS: &str = "
     unbuffer                = None
 ";
 
-fn signal_told(alloc: Global, call: &str) -> Result<String, Fail> {
-    let input = typed(alloc, "!bad")?;
-    let reader = KeyList::new(&input.typed, input.cut, input.after);
+fn signal_told(alloc: Global, call: &str) -> Result<String, AllocError> {
+    let reader = KeyList::new(&[], false, After::Bad);
     if call == "unbuffer" {
-        let kept = reader.unbuffer();
-        return Ok(format!(in alloc; "{kept:?}")?);
+        return shown(alloc, &reader.unbuffer());
     }
-    let found = reader.find_binding(&key_named(call).ok_or("no key")?);
-    Ok(format!(in alloc; "{found:?}")?)
+    match key_named(call) {
+        Some(key) => shown(alloc, &reader.find_binding(&key)),
+        None => String::from_str(alloc, "no key"),
+    }
 }
 
 #[test]
@@ -355,6 +430,12 @@ fn request(line: &mut PlainLine, call: &str) -> Result<(), ReadlineError> {
     }
 }
 
+// The last request, and the hint.
+fn kept(alloc: Global, line: &PlainLine) -> Result<String, AllocError> {
+    let (last, hint, has_hint) = (line.requests.last(), line.hint_text(), line.has_hint());
+    format!(in alloc; "{last:?} {hint:?} {has_hint}")
+}
+
 /// A line that is asked for drawings.
 #[derive(Drop)]
 struct Asked {
@@ -363,13 +444,11 @@ struct Asked {
 
 impl Player for Asked {
     fn play(&mut self, alloc: Global, call: &str) -> Result<String, Fail> {
-        let line = &mut self.line;
         if call == "count" {
-            return Ok(format!(in alloc; "{}", line.requests.len())?);
+            return Ok(shown(alloc, &self.line.requests.len())?);
         }
-        request(line, call)?;
-        let (last, hint) = (line.requests.last(), line.hint_text());
-        Ok(format!(in alloc; "{last:?} {hint:?} {}", line.has_hint())?)
+        request(&mut self.line, call)?;
+        Ok(kept(alloc, &self.line)?)
     }
 }
 
@@ -382,6 +461,11 @@ fn requests_are_kept(rt: HostRuntime) -> Result<(), Fail> {
 const PRINTED: &str = "
     C-S-F1 Esc = KeySeq([KeyEvent(F(1), Modifiers(CTRL | SHIFT)), KeyEvent(Esc, Modifiers(0x0))])
 ";
+
+fn printed(alloc: Global, keys: &str) -> Result<String, ReadlineError> {
+    let event = event(alloc, keys)?;
+    Ok(shown(alloc, &event)?)
+}
 
 #[test]
 fn keys_print_their_names(rt: HostRuntime) -> Result<(), Fail> {

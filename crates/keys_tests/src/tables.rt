@@ -3,7 +3,7 @@
 //! A row has keys, ` | `, and what they lead to. A row that begins with one of these words sets what stands there for the
 //! rows after it: `line: a|b` the line, with a bar at its cursor; `hint: c` the hint after it; `inserted: kl` the text that
 //! was inserted last; `answered: 3` how many requests the display answers before it fails, all of them where no number
-//! stands there; `bind: C-O = Undo(3)` and `ask: C-O = Count` bind keys to a command or a handler, and any key where no
+//! stands there; `bind: C-O = Undo 3` and `ask: C-O = Count` bind keys to a command or a handler, and any key where no
 //! keys are named; `unbind:` takes all bindings off; from `modes:` on, the mode that a command leaves is told after it;
 //! `then: Noop` is the command of the key `q` that a row with a count ends with.
 
@@ -12,8 +12,7 @@ use crate::telling::told;
 use line_config::{EditMode, ReadlineError};
 use line_keys::Bindings;
 use stand_ins::tables::word_and_rest;
-use std::alloc::Global;
-use std::process::Abort;
+use std::alloc::{AllocError, Global};
 use std::test::Fail;
 
 /// Where the keys of a table are typed.
@@ -61,55 +60,78 @@ impl<'t> Desk<'t> {
             "modes:" => self.modes = true,
             "then:" => self.then = rest,
             "unbind:" => self.bindings = Bindings::new(self.alloc)?,
-            _ => self.bind(word, rest)?,
+            _ => return self.bind(word, rest),
         }
         Ok(())
     }
 
     fn bind(&mut self, word: &str, rest: &str) -> Result<(), Fail> {
-        let (keys, bound) = rest.split_once("= ").ok_or("nothing to bind")?;
-        match word {
-            "bind:" => bind_command(self.alloc, &mut self.bindings, keys, bound)?,
-            "ask:" => bind_handler(self.alloc, &mut self.bindings, keys, bound)?,
+        let bindings = &mut self.bindings;
+        let old = match (word, rest.split_once("= ")) {
+            ("bind:", Some((keys, bound))) => bind_command(self.alloc, bindings, keys, bound),
+            ("ask:", Some((keys, bound))) => bind_handler(self.alloc, bindings, keys, bound),
             _ => return Err(Fail::new(format_args!("no row: {word} {rest}"))),
-        }
+        };
+        let _old = old?;
         Ok(())
     }
 }
 
+/// What takes the parts of a text.
+pub(crate) trait TakesParts<'t> {
+    /// Takes a part, as it stands in the text.
+    fn take(&mut self, part: &'t str) -> Result<(), Fail>;
+}
+
+/// Hands over each part of a text, parted by a mark.
+pub(crate) fn each_part<'t, T: TakesParts<'t>>(
+    taker: &mut T,
+    text: &'t str,
+    mark: char,
+) -> Result<(), Fail> {
+    for part in text.split(mark) {
+        taker.take(part)?;
+    }
+    Ok(())
+}
+
 /// A line of a table that is no row of it has to be blank.
-pub(crate) fn is_blank(rt: &impl Abort, line: &str) {
-    assert!(rt; line.trim().is_empty(), "no row: {line}");
+pub(crate) fn is_blank(line: &str) -> Result<(), Fail> {
+    if line.trim().is_empty() {
+        Ok(())
+    } else {
+        Err(Fail::new(format_args!("no row: {line}")))
+    }
 }
 
 /// Types the keys, and compares what they lead to. How the first key of a phrase is asked for makes no difference.
-pub(crate) fn leads_to(
-    rt: &impl Abort,
-    desk: &Desk<'_>,
-    keys: &str,
-    wanted: &str,
-) -> Result<(), ReadlineError> {
-    for first_by_key in [false, true] {
-        let said = told(desk, first_by_key, keys)?;
-        assert_eq!(rt; said.as_str(), wanted, "typed: {keys}");
+pub(crate) fn leads_to(desk: &Desk<'_>, keys: &str, wanted: &str) -> Result<(), Fail> {
+    leads_by(desk, false, keys, wanted)?;
+    leads_by(desk, true, keys, wanted)
+}
+
+fn leads_by(desk: &Desk<'_>, first_by_key: bool, keys: &str, wanted: &str) -> Result<(), Fail> {
+    let said = told(desk, first_by_key, keys)?;
+    if said.as_str() == wanted {
+        Ok(())
+    } else {
+        Err(Fail::new(format_args!("typed: {keys}, wanted: {wanted}, but it leads to {said}")))
     }
-    Ok(())
+}
+
+impl<'t> TakesParts<'t> for Desk<'t> {
+    fn take(&mut self, row: &'t str) -> Result<(), Fail> {
+        match row.split_once(" | ") {
+            Some((keys, wanted)) => leads_to(self, keys, wanted.trim()),
+            None => self.set(row.trim()),
+        }
+    }
 }
 
 /// Types the keys of each row, from the desk as it stands at first.
-pub(crate) fn plays(
-    rt: &(impl AllocGlobal + Abort),
-    mode: EditMode,
-    table: &str,
-) -> Result<(), Fail> {
-    let mut desk = Desk::new(rt.alloc(), mode)?;
-    for row in table.lines() {
-        match row.split_once(" | ") {
-            Some((keys, wanted)) => leads_to(rt, &desk, keys, wanted.trim())?,
-            None => desk.set(row.trim())?,
-        }
-    }
-    Ok(())
+pub(crate) fn plays(alloc: Global, mode: EditMode, table: &str) -> Result<(), Fail> {
+    let mut desk = Desk::new(alloc, mode)?;
+    each_part(&mut desk, table, '\n')
 }
 
 /// The three columns of a row.
@@ -119,53 +141,87 @@ pub(crate) fn three_columns(row: &str) -> Option<(&str, &str, &str)> {
     Some((first.trim(), second.trim(), third.trim()))
 }
 
+/// A table whose rows are typed with each count.
+#[derive(Drop)]
+struct Counting<'t> {
+    desk: Desk<'t>,
+    counts: &'t str,
+}
+
+impl<'t> TakesParts<'t> for Counting<'t> {
+    fn take(&mut self, row: &'t str) -> Result<(), Fail> {
+        let Some((keys, commands)) = row.split_once(" | ") else {
+            return self.desk.set(row.trim());
+        };
+        let (plus, minus) = commands.split_once(" | ").unwrap_or((commands, commands));
+        let mut counted = Counted {
+            desk: &self.desk,
+            keys,
+            plus: plus.trim(),
+            minus: minus.trim(),
+        };
+        each_part(&mut counted, self.counts, '\n')
+    }
+}
+
 /// Each row has keys and a command, and perhaps the command where the count is negative. `n` in parentheses stands for
 /// the count's amount. Each row of `counts` has keys, what the display is asked for them, and the count. After all the
 /// key `q` is typed.
 pub(crate) fn each_count(
-    rt: &(impl AllocGlobal + Abort),
+    alloc: Global,
     mode: EditMode,
     counts: &str,
     table: &str,
 ) -> Result<(), Fail> {
-    let mut desk = Desk::new(rt.alloc(), mode)?;
-    for row in table.lines() {
-        match row.split_once(" | ") {
-            Some((keys, commands)) => {
-                let (plus, minus) = commands.split_once(" | ").unwrap_or((commands, commands));
-                counted(rt, &desk, counts, keys, plus.trim(), minus.trim())?;
-            }
-            None => desk.set(row.trim())?,
-        }
-    }
-    Ok(())
+    let desk = Desk::new(alloc, mode)?;
+    each_part(&mut Counting { desk, counts }, table, '\n')
 }
 
-fn counted(
-    rt: &impl Abort,
-    desk: &Desk<'_>,
-    counts: &str,
-    keys: &str,
-    plus: &str,
-    minus: &str,
-) -> Result<(), ReadlineError> {
-    for row in counts.lines() {
-        let Some((typed, asked, count)) = three_columns(row) else {
-            is_blank(rt, row);
-            continue;
-        };
+/// Keys that are typed with each count, and the commands where it is positive and where it is negative.
+#[derive(Drop)]
+struct Counted<'d> {
+    desk: &'d Desk<'d>,
+    keys: &'d str,
+    plus: &'d str,
+    minus: &'d str,
+}
+
+impl Counted<'_> {
+    // The command with the count, and what the key after it means.
+    fn command(&self, count: &str) -> Result<String, AllocError> {
         let (command, amount) = match count.strip_prefix('-') {
-            Some(amount) => (minus, amount),
-            None => (plus, count),
+            Some(amount) => (self.minus, amount),
+            None => (self.plus, count),
         };
-        let (before, amount, after) = match command.split_once("(n") {
-            Some((before, after)) => (before, amount, after),
-            None => (command, "", ""),
-        };
-        let open = if amount.is_empty() { "" } else { "(" };
-        let keys = format!(in desk.alloc; "{typed} {keys} q")?;
-        let led = format!(in desk.alloc; "{asked} {before}{open}{amount}{after}; {}", desk.then)?;
-        leads_to(rt, desk, keys.as_str(), led.as_str().trim())?;
+        let then = self.desk.then;
+        match command.split_once("(n") {
+            Some((before, after)) => format!(in self.desk.alloc;
+                "{before}({amount}{after}; {then}"
+            ),
+            None => format!(in self.desk.alloc; "{command}; {then}"),
+        }
     }
-    Ok(())
+
+    // What is typed with the keys of a count.
+    fn typed(&self, count: &str) -> Result<String, AllocError> {
+        let keys = self.keys;
+        format!(in self.desk.alloc; "{count} {keys} q")
+    }
+
+    // What it leads to.
+    fn led(&self, asked: &str, count: &str) -> Result<String, AllocError> {
+        let command = self.command(count)?;
+        format!(in self.desk.alloc; "{asked} {command}")
+    }
+}
+
+impl<'t> TakesParts<'t> for Counted<'_> {
+    fn take(&mut self, row: &'t str) -> Result<(), Fail> {
+        let Some((typed, asked, count)) = three_columns(row) else {
+            return is_blank(row);
+        };
+        let keys = self.typed(typed)?;
+        let led = self.led(asked, count)?;
+        leads_to(self.desk, keys.as_str(), led.as_str().trim())
+    }
 }

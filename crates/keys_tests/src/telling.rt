@@ -1,30 +1,124 @@
 //! What typed keys lead to, in words.
 
 use crate::tables::Desk;
-use crate::typing::typed;
+use crate::typing::{Input, typed};
 use line_config::{Config, ReadlineError};
 use line_keys::{Cmd, InputState, Text};
 use stand_ins::readers::KeyList;
 use stand_ins::refreshers::{PlainLine, Request};
 use stand_ins::tables::line_and_place;
-use std::alloc::Global;
-use std::mem::replace;
+use std::alloc::{AllocError, Global};
+
+/// A line with its cursor, as a bar marks it.
+pub(crate) fn line_marked(alloc: Global, marked: &str) -> Result<PlainLine, ReadlineError> {
+    let (text, pos) = line_and_place(alloc, marked)?;
+    let mut line = PlainLine::new(alloc, Text::from(text));
+    line.pos = pos;
+    Ok(line)
+}
 
 // The line that stands there when keys are typed.
 fn line_at(desk: &Desk<'_>) -> Result<PlainLine, ReadlineError> {
-    let (text, pos) = line_and_place(desk.alloc, desk.line)?;
-    let mut line = PlainLine::new(desk.alloc, Text::from(text));
-    line.pos = pos;
+    let mut line = line_marked(desk.alloc, desk.line)?;
+    line.answered = desk.answered;
+    put_texts(&mut line, desk)?;
+    Ok(line)
+}
+
+fn put_texts(line: &mut PlainLine, desk: &Desk<'_>) -> Result<(), ReadlineError> {
     line.hint = copied(desk.alloc, desk.hint)?;
     line.inserted = copied(desk.alloc, desk.inserted)?;
-    line.answered = desk.answered;
-    Ok(line)
+    Ok(())
 }
 
 fn copied(alloc: Global, text: Option<&str>) -> Result<Option<Text>, ReadlineError> {
     match text {
         Some(text) => Ok(Some(Text::try_from_str(alloc, text)?)),
         None => Ok(None),
+    }
+}
+
+/// Keys that are typed at a desk.
+#[derive(Drop)]
+struct Typing<'d> {
+    desk: &'d Desk<'d>,
+    first_by_key: bool,
+    state: InputState<'d>,
+    reader: KeyList<'d>,
+}
+
+impl<'d> Typing<'d> {
+    fn new(
+        desk: &'d Desk<'d>,
+        first_by_key: bool,
+        input: &'d Input,
+    ) -> Result<Self, ReadlineError> {
+        let config = Config::builder().edit_mode(desk.mode).build();
+        Ok(Typing {
+            desk,
+            first_by_key,
+            state: InputState::new(desk.alloc, &config, &desk.bindings)?,
+            reader: KeyList::new(&input.typed, input.cut, input.after),
+        })
+    }
+
+    // Tells each phrase.
+    fn tell(&mut self, line: &mut PlainLine, said: &mut String) -> Result<(), ReadlineError> {
+        for _ in 0..100 {
+            if self.tell_phrase(line, said)? {
+                break;
+            }
+        }
+        Ok(())
+    }
+
+    // Tells one phrase, and answers whether it was the last.
+    fn tell_phrase(
+        &mut self,
+        line: &mut PlainLine,
+        said: &mut String,
+    ) -> Result<bool, ReadlineError> {
+        let alloc = self.desk.alloc;
+        let answer = self
+            .state
+            .next_cmd(alloc, &mut self.reader, line, false, self.first_by_key);
+        tell_requests(said, line)?;
+        Ok(self.tell_answer(said, &answer)?)
+    }
+
+    fn tell_answer(
+        &self,
+        said: &mut String,
+        answer: &Result<Cmd, ReadlineError>,
+    ) -> Result<bool, AllocError> {
+        let left = self.reader.left().len();
+        match answer {
+            Ok(cmd) => self.tell_command(said, cmd, left == 0),
+            Err(why) => {
+                write!(said, "{why:?} left {left}")?;
+                Ok(true)
+            }
+        }
+    }
+
+    fn tell_command(&self, said: &mut String, cmd: &Cmd, last: bool) -> Result<bool, AllocError> {
+        let mode = self.mode();
+        let end = if last { "" } else { "; " };
+        write!(said, "{cmd:?}{mode}{end}")?;
+        Ok(last)
+    }
+
+    // The mode that a command leaves, where it is told.
+    fn mode(&self) -> &'static str {
+        if !self.desk.modes {
+            ""
+        } else if self.state.is_emacs_mode() {
+            " in Emacs mode"
+        } else if self.state.is_vi_cmd_mode() {
+            " in command mode"
+        } else {
+            " in insert mode"
+        }
     }
 }
 
@@ -35,70 +129,50 @@ pub(crate) fn told(
     first_by_key: bool,
     words: &str,
 ) -> Result<String, ReadlineError> {
-    let alloc = desk.alloc;
-    let config = Config::builder().edit_mode(desk.mode).build();
-    let input = typed(alloc, words)?;
-    let mut reader = KeyList::new(&input.typed, input.cut, input.after);
-    let mut line = line_at(desk)?;
-    let mut state = InputState::new(alloc, &config, &desk.bindings)?;
-    let mut said = String::new(alloc);
-    for _ in 0..100 {
-        let answer = state.next_cmd(alloc, &mut reader, &mut line, false, first_by_key);
-        let mode = match (desk.modes, state.is_emacs_mode(), state.is_vi_cmd_mode()) {
-            (false, _, _) => "",
-            (true, true, _) => " in Emacs mode",
-            (true, false, true) => " in command mode",
-            (true, false, false) => " in insert mode",
-        };
-        let requests = replace(&mut line.requests, Vec::new(alloc));
-        if tell(&mut said, &requests, answer, mode, reader.left().len())? {
-            break;
-        }
-    }
+    let input = typed(desk.alloc, words)?;
+    let mut said = String::new(desk.alloc);
+    tell_input(desk, first_by_key, &input, &mut said)?;
     Ok(said)
 }
 
-// Tells one phrase, and answers whether it was the last.
-fn tell(
+fn tell_input(
+    desk: &Desk<'_>,
+    first_by_key: bool,
+    input: &Input,
     said: &mut String,
-    requests: &[Request],
-    answer: Result<Cmd, ReadlineError>,
-    mode: &str,
-    left: usize,
-) -> Result<bool, ReadlineError> {
-    for request in requests {
-        tell_request(said, request)?;
-    }
-    match &answer {
-        Ok(cmd) => write!(said, "{cmd:?}{mode}")?,
-        Err(why) => write!(said, "{why:?} left {left}")?,
-    }
-    let last = answer.is_err() || left == 0;
-    if !last {
-        said.push_str("; ")?;
-    }
-    Ok(last)
+) -> Result<(), ReadlineError> {
+    let mut line = line_at(desk)?;
+    let mut typing = Typing::new(desk, first_by_key, input)?;
+    typing.tell(&mut line, said)
 }
 
-fn tell_request(said: &mut String, request: &Request) -> Result<(), ReadlineError> {
-    match request {
-        Request::Line => said.push_str("<line> ")?,
-        Request::Message(..) => said.push_str("<message> ")?,
-        Request::Prompt(prompt) => tell_prompt(said, prompt.as_str())?,
-        Request::DoingInsert => said.push_str("<insert> ")?,
-        Request::DoneInserting => said.push_str("<done> ")?,
+// Tells what was asked of the display, and forgets it.
+fn tell_requests(said: &mut String, line: &mut PlainLine) -> Result<(), AllocError> {
+    for request in &line.requests {
+        tell_request(said, request)?;
     }
+    line.requests.clear();
     Ok(())
+}
+
+fn tell_request(said: &mut String, request: &Request) -> Result<(), AllocError> {
+    match request {
+        Request::Line => said.push_str("<line> "),
+        Request::Message(..) => said.push_str("<message> "),
+        Request::Prompt(prompt) => tell_prompt(said, prompt.as_str()),
+        Request::DoingInsert => said.push_str("<insert> "),
+        Request::DoneInserting => said.push_str("<done> "),
+    }
 }
 
 // The prompt of a count by the count alone, any other whole.
-fn tell_prompt(said: &mut String, prompt: &str) -> Result<(), ReadlineError> {
-    if let Some(rest) = prompt.strip_prefix("(arg: ")
-        && let Some(n) = rest.strip_suffix(") ")
-    {
-        write!(said, "<{n}> ")?;
-    } else {
-        write!(said, "<{prompt:?}> ")?;
+fn tell_prompt(said: &mut String, prompt: &str) -> Result<(), AllocError> {
+    match count_in(prompt) {
+        Some(n) => write!(said, "<{n}> "),
+        None => write!(said, "<{prompt:?}> "),
     }
-    Ok(())
+}
+
+fn count_in(prompt: &str) -> Option<&str> {
+    prompt.strip_prefix("(arg: ")?.strip_suffix(") ")
 }

@@ -1,7 +1,7 @@
 //! What is typed, by names.
 
 use line_config::ReadlineError;
-use line_keys::{Event, Keys, Text};
+use line_keys::{Event, KeyEvent, Keys, Text};
 use stand_ins::key_names::key_named;
 use stand_ins::readers::{After, Typed};
 use stand_ins::rows::{Player, rows_hold};
@@ -12,16 +12,21 @@ use std::test::Fail;
 /// The event of keys by their names; without any, any event.
 pub(crate) fn event(alloc: Global, words: &str) -> Result<Event, ReadlineError> {
     let mut keys = Vec::new(alloc);
+    name_keys(&mut keys, words)?;
+    if keys.is_empty() {
+        return Ok(Event::Any);
+    }
+    Ok(Event::KeySeq(Keys::from(keys)))
+}
+
+fn name_keys(keys: &mut Vec<KeyEvent>, words: &str) -> Result<(), ReadlineError> {
     for word in words.split_whitespace() {
         match key_named(word) {
             Some(key) => keys.push(key)?,
             None => return Err(ReadlineError::Helper),
         }
     }
-    if keys.is_empty() {
-        return Ok(Event::Any);
-    }
-    Ok(Event::KeySeq(Keys::from(keys)))
+    Ok(())
 }
 
 /// What a row of a table types.
@@ -42,6 +47,11 @@ pub(crate) fn typed(alloc: Global, words: &str) -> Result<Input, ReadlineError> 
         cut: false,
         after: After::End,
     };
+    type_words(alloc, &mut input, words)?;
+    Ok(input)
+}
+
+fn type_words(alloc: Global, input: &mut Input, words: &str) -> Result<(), ReadlineError> {
     for word in words.split_whitespace() {
         match word {
             "!cut" => input.cut = true,
@@ -50,12 +60,13 @@ pub(crate) fn typed(alloc: Global, words: &str) -> Result<Input, ReadlineError> 
             _ => input.typed.push(item(alloc, word)?)?,
         }
     }
-    Ok(input)
+    Ok(())
 }
 
 fn item(alloc: Global, word: &str) -> Result<Typed, ReadlineError> {
     if let Some(text) = word.strip_prefix("text:") {
-        return Ok(Typed::Paste(Text::from(meant(alloc, text)?)));
+        let text = meant(alloc, text)?;
+        return Ok(Typed::Paste(Text::from(text)));
     }
     match key_named(word) {
         Some(key) => Ok(Typed::Key(key)),

@@ -3,7 +3,8 @@
 use crate::tables::{Desk, each_count, plays};
 use crate::telling::told;
 use crate::typing::long_text;
-use line_config::EditMode;
+use line_config::{EditMode, ReadlineError};
+use std::alloc::Global;
 use std::test::Fail;
 
 // Keys of a count, what the display is asked for them, and the count. Esc leaves insert mode, in which a line begins.
@@ -124,7 +125,7 @@ const COMMANDS: &str = "
 
 #[test]
 fn each_key_of_command_mode(rt: HostRuntime) -> Result<(), Fail> {
-    each_count(&rt, EditMode::Vi, COUNTS, COMMANDS)
+    each_count(rt.alloc(), EditMode::Vi, COUNTS, COMMANDS)
 }
 
 // What `0` does where no count is typed, and what ends a count.
@@ -141,7 +142,7 @@ const NO_COUNT: &str = "
 
 #[test]
 fn what_is_no_count(rt: HostRuntime) -> Result<(), Fail> {
-    plays(&rt, EditMode::Vi, NO_COUNT)
+    plays(rt.alloc(), EditMode::Vi, NO_COUNT)
 }
 
 // Where the input ends or is no key, in the middle of a phrase of command mode.
@@ -164,7 +165,7 @@ const CUT: &str = "
 
 #[test]
 fn phrases_cut_off(rt: HostRuntime) -> Result<(), Fail> {
-    plays(&rt, EditMode::Vi, CUT)
+    plays(rt.alloc(), EditMode::Vi, CUT)
 }
 
 // Searches of a character, as they are remembered.
@@ -183,7 +184,7 @@ const SEARCHES: &str = "
 
 #[test]
 fn searches_are_remembered(rt: HostRuntime) -> Result<(), Fail> {
-    plays(&rt, EditMode::Vi, SEARCHES)
+    plays(rt.alloc(), EditMode::Vi, SEARCHES)
 }
 
 // Changes made anew by `.`, where no text was inserted before, and where the text `kl` was.
@@ -226,16 +227,26 @@ const DOTS: &str = "
 
 #[test]
 fn changes_are_remembered(rt: HostRuntime) -> Result<(), Fail> {
-    plays(&rt, EditMode::Vi, DOTS)
+    plays(rt.alloc(), EditMode::Vi, DOTS)
+}
+
+// What keys lead to where this text was inserted before.
+fn told_behind(alloc: Global, inserted: &str) -> Result<String, ReadlineError> {
+    let mut desk = Desk::new(alloc, EditMode::Vi)?;
+    desk.inserted = Some(inserted);
+    told(&desk, true, "Esc R Esc .")
+}
+
+// The same, with a word for the text.
+fn replacement_told(alloc: Global, inserted: &str) -> Result<String, ReadlineError> {
+    let said = told_behind(alloc, inserted)?;
+    Ok(said.replace(alloc, inserted, "LONG")?)
 }
 
 #[test]
 fn a_long_text_typed_over(rt: HostRuntime) -> Result<(), Fail> {
     let long = long_text(rt.alloc())?;
-    let mut desk = Desk::new(rt.alloc(), EditMode::Vi)?;
-    desk.inserted = Some(long.as_str());
-    let said = told(&desk, true, "Esc R Esc .")?;
-    let said = said.replace(rt.alloc(), long.as_str(), "LONG")?;
+    let said = replacement_told(rt.alloc(), long.as_str())?;
     assert_eq!(rt;
         said.as_str(),
         "<done> Move(BackwardChar(1)); Replace(ForwardChar(0), None); <done> Move(BackwardChar(1)); Replace(ForwardChar(65535), Some(\"LONG\"))"

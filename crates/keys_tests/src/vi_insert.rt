@@ -67,7 +67,7 @@ const INSERT: &str = "
 
 #[test]
 fn each_key_of_insert_mode(rt: HostRuntime) -> Result<(), Fail> {
-    each_count(&rt, EditMode::Vi, NO_COUNT, INSERT)
+    each_count(rt.alloc(), EditMode::Vi, NO_COUNT, INSERT)
 }
 
 // How insert and replace mode are left and entered.
@@ -96,7 +96,7 @@ const MODES: &str = "
 
 #[test]
 fn modes_left_and_entered(rt: HostRuntime) -> Result<(), Fail> {
-    plays(&rt, EditMode::Vi, MODES)
+    plays(rt.alloc(), EditMode::Vi, MODES)
 }
 
 // Where the input ends or is no key, in the middle of a phrase of insert mode.
@@ -116,7 +116,7 @@ const CUT: &str = "
 
 #[test]
 fn phrases_cut_off(rt: HostRuntime) -> Result<(), Fail> {
-    plays(&rt, EditMode::Vi, CUT)
+    plays(rt.alloc(), EditMode::Vi, CUT)
 }
 
 const CONDITIONS: &str = "
@@ -139,19 +139,19 @@ const CONDITIONS: &str = "
 
 #[test]
 fn rows_with_conditions(rt: HostRuntime) -> Result<(), Fail> {
-    plays(&rt, EditMode::Vi, CONDITIONS)
+    plays(rt.alloc(), EditMode::Vi, CONDITIONS)
 }
 
 // Bindings, first in insert mode and then, after ALT with `u`, in command mode.
 const BOUND: &str = "
-    bind: C-O          = SelfInsert(2, 'y')
-    bind: C-T          = Kill(BackwardChar(2))
-    bind: C-N          = Undo(3)
-    bind: z            = Kill(ForwardChar(4))
+    bind: C-O          = SelfInsert 2 y
+    bind: C-T          = Kill BackwardChar 2
+    bind: C-N          = Undo 3
+    bind: z            = Kill ForwardChar 4
     bind: Esc          = AcceptLine
     bind: 3            = Abort
     bind: C-X C-E      = Repaint
-    bind: C-X C-K      = Kill(EndOfLine)
+    bind: C-X C-K      = Kill EndOfLine
     ask: C-L           = Count
     ask: C-P           = Nothing
     ask: C-X C-B       = Count
@@ -203,7 +203,7 @@ const BOUND: &str = "
 
 #[test]
 fn bindings_in_vi(rt: HostRuntime) -> Result<(), Fail> {
-    plays(&rt, EditMode::Vi, BOUND)
+    plays(rt.alloc(), EditMode::Vi, BOUND)
 }
 
 const FAILING_DISPLAYS: &str = "
@@ -228,5 +228,5 @@ const FAILING_DISPLAYS: &str = "
 
 #[test]
 fn the_display_fails_at_each_call(rt: HostRuntime) -> Result<(), Fail> {
-    plays(&rt, EditMode::Vi, FAILING_DISPLAYS)
+    plays(rt.alloc(), EditMode::Vi, FAILING_DISPLAYS)
 }

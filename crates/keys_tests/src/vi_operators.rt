@@ -1,8 +1,8 @@
 //! Vi: operators and the ranges that they take.
 
-use crate::tables::{Desk, is_blank, leads_to, three_columns};
-use line_config::{EditMode, ReadlineError};
-use std::process::Abort;
+use crate::tables::{Desk, TakesParts, each_part, is_blank, leads_to, three_columns};
+use line_config::EditMode;
+use std::alloc::AllocError;
 use std::test::Fail;
 
 // Operators, the command for a range, and what the key `q` means after it.
@@ -61,7 +61,7 @@ const NO_MOTIONS: &str = "
 
 const OPERATOR_KEYS: &str = "d y < > c";
 
-#[derive(Clone, Copy)]
+#[derive(Clone, Copy, Drop)]
 struct Operator<'t> {
     key: &'t str,
     // The command, with `RANGE` for its range.
@@ -69,136 +69,165 @@ struct Operator<'t> {
     after: &'t str,
 }
 
-#[derive(Clone, Copy)]
-struct Counts<'t> {
-    keys: &'t str,
+/// An operator that is typed with counts around it.
+#[derive(Clone, Copy, Drop)]
+struct Operating<'t> {
+    desk: &'t Desk<'t>,
+    operator: Operator<'t>,
+    // The keys of the counts, what the display is asked for them, and their product.
+    counts: &'t str,
     asked: &'t str,
     product: &'t str,
 }
 
-// Types the operator with its counts and the keys after it, then `q`.
-fn operates(
-    rt: &impl Abort,
-    desk: &Desk<'_>,
-    operator: &Operator<'_>,
-    counts: &Counts<'_>,
-    keys: &str,
-    command: &str,
-) -> Result<(), ReadlineError> {
-    let (asked, after) = (counts.asked, operator.after);
-    let gap = if asked.is_empty() { "" } else { " " };
-    let typed = counts.keys.replace(desk.alloc, "@", operator.key)?;
-    let typed = format!(in desk.alloc; "Esc {typed} {keys} q")?;
-    let wanted = format!(in desk.alloc;
-        "<done> Move(BackwardChar(1)); {asked}{gap}{command}; {after}"
-    )?;
-    leads_to(rt, desk, typed.as_str(), wanted.as_str())
+impl Operating<'_> {
+    // The operator with its counts and the keys after it, then `q`.
+    fn typed(&self, keys: &str) -> Result<String, AllocError> {
+        let alloc = self.desk.alloc;
+        let operator = self.counts.replace(alloc, "@", self.operator.key)?;
+        format!(in alloc; "Esc {operator} {keys} q")
+    }
+
+    // What that leads to.
+    fn wanted(&self, command: &str) -> Result<String, AllocError> {
+        let (asked, after) = (self.asked, self.operator.after);
+        let gap = if asked.is_empty() { "" } else { " " };
+        format!(in self.desk.alloc; "<done> Move(BackwardChar(1)); {asked}{gap}{command}; {after}")
+    }
+
+    // The operator's command for a range.
+    fn command(&self, range: &str) -> Result<String, AllocError> {
+        let alloc = self.desk.alloc;
+        let product = format!(in alloc; "({}", self.product)?;
+        let range = range.replace(alloc, "(n", product.as_str())?;
+        self.operator
+            .command
+            .replace(alloc, "RANGE", range.as_str())
+    }
+
+    fn leads_to(&self, keys: &str, command: &str) -> Result<(), Fail> {
+        let typed = self.typed(keys)?;
+        let wanted = self.wanted(command)?;
+        leads_to(self.desk, typed.as_str(), wanted.as_str())
+    }
+
+    fn takes(&self, keys: &str, range: &str) -> Result<(), Fail> {
+        let command = self.command(range)?;
+        self.leads_to(keys, command.as_str())
+    }
+
+    fn one_count(&self) -> bool {
+        self.counts.ends_with('@')
+    }
 }
 
-fn takes(
-    rt: &impl Abort,
-    desk: &Desk<'_>,
-    operator: &Operator<'_>,
-    counts: &Counts<'_>,
-    keys: &str,
-    range: &str,
-) -> Result<(), ReadlineError> {
-    let product = format!(in desk.alloc; "({}", counts.product)?;
-    let range = range.replace(desk.alloc, "(n", product.as_str())?;
-    let command = operator
-        .command
-        .replace(desk.alloc, "RANGE", range.as_str())?;
-    operates(rt, desk, operator, counts, keys, command.as_str())
+/// The rows of motions.
+#[derive(Clone, Copy, Drop)]
+struct Motions<'t> {
+    operating: Operating<'t>,
 }
 
-fn each_motion(
-    rt: &impl Abort,
-    desk: &Desk<'_>,
-    operator: &Operator<'_>,
-    counts: &Counts<'_>,
-) -> Result<(), ReadlineError> {
-    for row in MOTIONS.lines() {
+impl<'t> TakesParts<'t> for Motions<'_> {
+    fn take(&mut self, row: &'t str) -> Result<(), Fail> {
         let Some((keys, ranges)) = row.split_once('|') else {
-            is_blank(rt, row);
-            continue;
+            return is_blank(row);
         };
         let (usual, for_c) = ranges.split_once('|').unwrap_or((ranges, ranges));
-        let range = if operator.key == "c" { for_c } else { usual };
-        takes(rt, desk, operator, counts, keys, range.trim())?;
-    }
-    Ok(())
-}
-
-fn each_other_key(
-    rt: &impl Abort,
-    desk: &Desk<'_>,
-    operator: &Operator<'_>,
-    counts: &Counts<'_>,
-) -> Result<(), ReadlineError> {
-    for keys in NO_MOTIONS.split('|') {
-        operates(rt, desk, operator, counts, keys.trim(), "Unknown")?;
-    }
-    Ok(())
-}
-
-// The operator's own key names the whole line, and `0` the line's beginning, but not after a second count: there the
-// one names nothing, and the other is a digit. The other operators' keys name nothing.
-fn each_operator_key(
-    rt: &impl Abort,
-    desk: &Desk<'_>,
-    operator: &Operator<'_>,
-    counts: &Counts<'_>,
-) -> Result<(), ReadlineError> {
-    let one_count = counts.keys.ends_with('@');
-    for keys in OPERATOR_KEYS.split_whitespace() {
-        if keys == operator.key && one_count {
-            takes(rt, desk, operator, counts, keys, "WholeLine")?;
+        let range = if self.operating.operator.key == "c" {
+            for_c
         } else {
-            operates(rt, desk, operator, counts, keys, "Unknown")?;
+            usual
+        };
+        self.operating.takes(keys, range.trim())
+    }
+}
+
+/// The keys that give an operator up.
+#[derive(Clone, Copy, Drop)]
+struct OtherKeys<'t> {
+    operating: Operating<'t>,
+}
+
+impl<'t> TakesParts<'t> for OtherKeys<'_> {
+    fn take(&mut self, keys: &'t str) -> Result<(), Fail> {
+        self.operating.leads_to(keys.trim(), "Unknown")
+    }
+}
+
+/// The operators' keys. The operator's own one names the whole line, but nothing after a second count; the others name
+/// nothing.
+#[derive(Clone, Copy, Drop)]
+struct OperatorKeys<'t> {
+    operating: Operating<'t>,
+}
+
+impl<'t> TakesParts<'t> for OperatorKeys<'_> {
+    fn take(&mut self, keys: &'t str) -> Result<(), Fail> {
+        if keys == self.operating.operator.key && self.operating.one_count() {
+            self.operating.takes(keys, "WholeLine")
+        } else {
+            self.operating.leads_to(keys, "Unknown")
         }
     }
-    if one_count {
-        takes(rt, desk, operator, counts, "0", "BeginningOfLine")?;
-    }
-    Ok(())
 }
 
-fn with_each_count(
-    rt: &impl Abort,
-    desk: &Desk<'_>,
-    operator: &Operator<'_>,
-) -> Result<(), ReadlineError> {
-    for row in COUNTS.lines() {
-        let Some((keys, asked, product)) = three_columns(row) else {
-            is_blank(rt, row);
-            continue;
+// Types all that may follow. `0` is the line's beginning, but after a second count a digit.
+fn each_key(operating: Operating<'_>) -> Result<(), Fail> {
+    each_part(&mut Motions { operating }, MOTIONS, '\n')?;
+    each_part(&mut OtherKeys { operating }, NO_MOTIONS, '|')?;
+    each_part(&mut OperatorKeys { operating }, OPERATOR_KEYS, ' ')?;
+    if operating.one_count() {
+        operating.takes("0", "BeginningOfLine")
+    } else {
+        Ok(())
+    }
+}
+
+/// The rows of counts around an operator.
+#[derive(Clone, Copy, Drop)]
+struct Counts<'d> {
+    desk: &'d Desk<'d>,
+    operator: Operator<'d>,
+}
+
+impl<'t> TakesParts<'t> for Counts<'_> {
+    fn take(&mut self, row: &'t str) -> Result<(), Fail> {
+        let Some((counts, asked, product)) = three_columns(row) else {
+            return is_blank(row);
         };
-        let counts = Counts {
-            keys,
+        each_key(Operating {
+            desk: self.desk,
+            operator: self.operator,
+            counts,
             asked,
             product,
-        };
-        each_motion(rt, desk, operator, &counts)?;
-        each_other_key(rt, desk, operator, &counts)?;
-        each_operator_key(rt, desk, operator, &counts)?;
+        })
     }
-    Ok(())
 }
 
-#[test]
-fn each_operator_with_each_motion(rt: HostRuntime) -> Result<(), Fail> {
-    let desk = Desk::new(rt.alloc(), EditMode::Vi)?;
-    for row in OPERATORS.lines() {
+/// The rows of operators.
+#[derive(Clone, Copy, Drop)]
+struct Operators<'d> {
+    desk: &'d Desk<'d>,
+}
+
+impl<'t> TakesParts<'t> for Operators<'_> {
+    fn take(&mut self, row: &'t str) -> Result<(), Fail> {
         let Some((key, command, after)) = three_columns(row) else {
-            is_blank(&rt, row);
-            continue;
+            return is_blank(row);
         };
         let operator = Operator {
             key,
             command,
             after,
         };
-        with_each_count(&rt, &desk, &operator)?;
+        let desk = self.desk;
+        each_part(&mut Counts { desk, operator }, COUNTS, '\n')
     }
-    Ok(())
+}
+
+#[test]
+fn each_operator_with_each_motion(rt: HostRuntime) -> Result<(), Fail> {
+    let desk = Desk::new(rt.alloc(), EditMode::Vi)?;
+    each_part(&mut Operators { desk: &desk }, OPERATORS, '\n')
 }

@@ -82,31 +82,22 @@ pub fn movement_named(alloc: Global, words: &str) -> Option<Movement> {
 fn bare_command(name: &str) -> Option<Cmd> {
     let cmd = match name {
         "Abort" => Cmd::Abort,
-        "AcceptLine" => Cmd::AcceptLine,
-        "BeginningOfHistory" => Cmd::BeginningOfHistory,
-        "CapitalizeWord" => Cmd::CapitalizeWord,
-        "ClearScreen" => Cmd::ClearScreen,
-        "Complete" => Cmd::Complete,
-        "CompleteBackward" => Cmd::CompleteBackward,
-        "CompleteHint" => Cmd::CompleteHint,
-        "DowncaseWord" => Cmd::DowncaseWord,
         "EndOfFile" => Cmd::EndOfFile,
-        "EndOfHistory" => Cmd::EndOfHistory,
-        "ForwardSearchHistory" => Cmd::ForwardSearchHistory,
-        "HistorySearchBackward" => Cmd::HistorySearchBackward,
-        "HistorySearchForward" => Cmd::HistorySearchForward,
         "Interrupt" => Cmd::Interrupt,
-        "NextHistory" => Cmd::NextHistory,
         "Noop" => Cmd::Noop,
         "Repaint" => Cmd::Repaint,
-        "PreviousHistory" => Cmd::PreviousHistory,
-        "QuotedInsert" => Cmd::QuotedInsert,
-        "ReverseSearchHistory" => Cmd::ReverseSearchHistory,
+        "ClearScreen" => Cmd::ClearScreen,
         "Suspend" => Cmd::Suspend,
-        "TransposeChars" => Cmd::TransposeChars,
         "Unknown" => Cmd::Unknown,
-        "UpcaseWord" => Cmd::UpcaseWord,
-        "YankPop" => Cmd::YankPop,
+        _ => return accepting_command(name),
+    };
+    Some(cmd)
+}
+
+// One that accepts the line or puts a newline into it.
+fn accepting_command(name: &str) -> Option<Cmd> {
+    let cmd = match name {
+        "AcceptLine" => Cmd::AcceptLine,
         "Newline" => Cmd::Newline,
         "AcceptOrInsertLine" => Cmd::AcceptOrInsertLine {
             accept_in_the_middle: true,
@@ -114,22 +105,70 @@ fn bare_command(name: &str) -> Option<Cmd> {
         "AcceptAtEndOrInsertLine" => Cmd::AcceptOrInsertLine {
             accept_in_the_middle: false,
         },
+        _ => return history_command(name),
+    };
+    Some(cmd)
+}
+
+// One that goes through the history.
+fn history_command(name: &str) -> Option<Cmd> {
+    let cmd = match name {
+        "BeginningOfHistory" => Cmd::BeginningOfHistory,
+        "EndOfHistory" => Cmd::EndOfHistory,
+        "ForwardSearchHistory" => Cmd::ForwardSearchHistory,
+        "HistorySearchBackward" => Cmd::HistorySearchBackward,
+        "HistorySearchForward" => Cmd::HistorySearchForward,
+        "NextHistory" => Cmd::NextHistory,
+        "PreviousHistory" => Cmd::PreviousHistory,
+        "ReverseSearchHistory" => Cmd::ReverseSearchHistory,
+        _ => return changing_command(name),
+    };
+    Some(cmd)
+}
+
+// One that changes what the cursor stands at.
+fn changing_command(name: &str) -> Option<Cmd> {
+    let cmd = match name {
+        "CapitalizeWord" => Cmd::CapitalizeWord,
+        "Complete" => Cmd::Complete,
+        "CompleteBackward" => Cmd::CompleteBackward,
+        "CompleteHint" => Cmd::CompleteHint,
+        "DowncaseWord" => Cmd::DowncaseWord,
+        "QuotedInsert" => Cmd::QuotedInsert,
+        "TransposeChars" => Cmd::TransposeChars,
+        "UpcaseWord" => Cmd::UpcaseWord,
+        "YankPop" => Cmd::YankPop,
         _ => return None,
     };
     Some(cmd)
 }
 
-// A command that takes a movement.
+// A command that takes a movement, and perhaps a text after `with`.
 fn moving_command(alloc: Global, name: &str, rest: &str) -> Option<Cmd> {
-    let (words, text) = match rest.split_once(" with ") {
-        Some((words, text)) => (words, Some(Text::from(meant(alloc, text).ok()?))),
-        None => (rest, None),
-    };
-    let movement = movement_named(alloc, words)?;
+    match name {
+        "Replace" => replacement(alloc, rest),
+        _ => command_over(name, movement_named(alloc, rest)?),
+    }
+}
+
+fn replacement(alloc: Global, rest: &str) -> Option<Cmd> {
+    match rest.split_once(" with ") {
+        Some((words, text)) => {
+            let movement = movement_named(alloc, words)?;
+            Some(Cmd::Replace(movement, Some(text_meant(alloc, text)?)))
+        }
+        None => Some(Cmd::Replace(movement_named(alloc, rest)?, None)),
+    }
+}
+
+fn text_meant(alloc: Global, shown: &str) -> Option<Text> {
+    Some(Text::from(meant(alloc, shown).ok()?))
+}
+
+fn command_over(name: &str, movement: Movement) -> Option<Cmd> {
     let cmd = match name {
         "Move" => Cmd::Move(movement),
         "Kill" => Cmd::Kill(movement),
-        "Replace" => Cmd::Replace(movement, text),
         "ViYankTo" => Cmd::ViYankTo(movement),
         "Indent" => Cmd::Indent(movement),
         "Dedent" => Cmd::Dedent(movement),
@@ -141,18 +180,31 @@ fn moving_command(alloc: Global, name: &str, rest: &str) -> Option<Cmd> {
 // A command that takes a count.
 fn counted_command(alloc: Global, name: &str, n: RepeatCount, rest: &str) -> Option<Cmd> {
     let cmd = match name {
-        "SelfInsert" => Cmd::SelfInsert(n, char_named(alloc, rest)?),
-        "ReplaceChar" => Cmd::ReplaceChar(n, char_named(alloc, rest)?),
-        "Insert" => Cmd::Insert(n, Text::from(meant(alloc, rest).ok()?)),
-        "Yank" if rest == "After" => Cmd::Yank(n, Anchor::After),
-        "Yank" => Cmd::Yank(n, Anchor::Before),
+        "Yank" => Cmd::Yank(n, anchor_named(rest)),
         "TransposeWords" => Cmd::TransposeWords(n),
         "Undo" => Cmd::Undo(n),
         "LineUpOrPreviousHistory" => Cmd::LineUpOrPreviousHistory(n),
         "LineDownOrNextHistory" => Cmd::LineDownOrNextHistory(n),
-        _ => return None,
+        "Insert" => Cmd::Insert(n, text_meant(alloc, rest)?),
+        _ => return typing_command(name, n, char_named(alloc, rest)?),
     };
     Some(cmd)
+}
+
+fn anchor_named(name: &str) -> Anchor {
+    match name {
+        "After" => Anchor::After,
+        _ => Anchor::Before,
+    }
+}
+
+// A command that takes a count and a character.
+fn typing_command(name: &str, n: RepeatCount, c: char) -> Option<Cmd> {
+    match name {
+        "SelfInsert" => Some(Cmd::SelfInsert(n, c)),
+        "ReplaceChar" => Some(Cmd::ReplaceChar(n, c)),
+        _ => None,
+    }
 }
 
 /// The command with these words. The text of a `Replace` stands after `with`; `AcceptAtEndOrInsertLine` is the command

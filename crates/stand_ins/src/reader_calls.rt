@@ -1,11 +1,45 @@
 //! Calls of a reader by their names, as tables make them.
 
 use crate::key_names::write_key;
-use crate::tables::pictured;
+use crate::tables::{picture_of, push_pictured};
 use line_config::ReadlineError;
 use line_keys::RawReader;
 use line_keys::tty::Event as Report;
 use std::alloc::Global;
+
+// What each call tells: a key by its name, and a text with pictures.
+
+fn tell_char<R: RawReader>(reader: &mut R, said: &mut String) -> Result<(), ReadlineError> {
+    let c = reader.next_char()?;
+    Ok(said.push(picture_of(c))?)
+}
+
+fn tell_paste<R: RawReader>(
+    alloc: Global,
+    reader: &mut R,
+    said: &mut String,
+) -> Result<(), ReadlineError> {
+    let text = reader.read_pasted_text(alloc)?;
+    Ok(push_pictured(said, text.as_str())?)
+}
+
+fn tell_wait<R: RawReader>(
+    reader: &mut R,
+    single: bool,
+    said: &mut String,
+) -> Result<(), ReadlineError> {
+    let Report::KeyPress(key) = reader.wait_for_input(single)?;
+    Ok(write_key(said, key)?)
+}
+
+fn tell_key<R: RawReader>(
+    reader: &mut R,
+    single: bool,
+    said: &mut String,
+) -> Result<(), ReadlineError> {
+    let key = reader.next_key(single)?;
+    Ok(write_key(said, key)?)
+}
 
 /// Makes a call, and tells what it answers: `key`, `wait`, `char` or `paste`. With `+` after it, a single Esc doesn't wait
 /// for what may follow.
@@ -17,20 +51,9 @@ pub fn tell_call<R: RawReader>(
 ) -> Result<(), ReadlineError> {
     let single = call.ends_with('+');
     match call {
-        "char" => {
-            let mut text = String::new(alloc);
-            text.push(reader.next_char()?)?;
-            said.push_str(pictured(alloc, text.as_str())?.as_str())?;
-        }
-        "paste" => {
-            let text = reader.read_pasted_text(alloc)?;
-            said.push_str(pictured(alloc, text.as_str())?.as_str())?;
-        }
-        "wait" | "wait+" => {
-            let Report::KeyPress(key) = reader.wait_for_input(single)?;
-            write_key(said, key)?;
-        }
-        _ => write_key(said, reader.next_key(single)?)?,
+        "char" => tell_char(reader, said),
+        "paste" => tell_paste(alloc, reader, said),
+        "wait" | "wait+" => tell_wait(reader, single, said),
+        _ => tell_key(reader, single, said),
     }
-    Ok(())
 }

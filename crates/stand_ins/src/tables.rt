@@ -29,8 +29,8 @@ fn shown_by(picture: char) -> char {
     }
 }
 
-// The picture of a control character.
-fn picture_of(c: char) -> char {
+/// The picture of a control character. Any other character shows itself.
+pub(crate) fn picture_of(c: char) -> char {
     match c {
         '\0'..='\x1f' => char::from_u32(u32::from(c) + 0x2400).unwrap_or(c),
         '\x7f' => '␡',
@@ -41,19 +41,30 @@ fn picture_of(c: char) -> char {
 /// The text that is meant by one with pictures.
 pub fn meant(alloc: Global, shown: &str) -> Result<String, AllocError> {
     let mut text = String::new(alloc);
+    push_meant(&mut text, shown)?;
+    Ok(text)
+}
+
+fn push_meant(text: &mut String, shown: &str) -> Result<(), AllocError> {
     for c in shown.chars() {
         text.push(shown_by(c))?;
     }
-    Ok(text)
+    Ok(())
 }
 
 /// A text with pictures in place of its control characters.
 pub fn pictured(alloc: Global, text: &str) -> Result<String, AllocError> {
     let mut shown = String::new(alloc);
+    push_pictured(&mut shown, text)?;
+    Ok(shown)
+}
+
+/// Writes a text with pictures in place of its control characters.
+pub(crate) fn push_pictured(shown: &mut String, text: &str) -> Result<(), AllocError> {
     for c in text.chars() {
         shown.push(picture_of(c))?;
     }
-    Ok(shown)
+    Ok(())
 }
 
 /// The bytes that are meant: a text with pictures, in which `‹c3 28›` is the bytes C3 and 28.
@@ -92,7 +103,7 @@ pub fn line_and_place(alloc: Global, marked: &str) -> Result<(String, usize), Al
     match beyond {
         Some(count) => Ok((line, place.saturating_add(count))),
         None => {
-            line.push_str(meant(alloc, behind)?.as_str())?;
+            push_meant(&mut line, behind)?;
             Ok((line, place))
         }
     }
