@@ -9,6 +9,7 @@ use line_keys::CmdKind;
 use stand_ins::rows::{Player, rows_hold, trimmed};
 use stand_ins::tables::{line_and_place, marked, meant, pictured, word_and_rest};
 use std::alloc::{AllocError, Global};
+use std::borrow::CowStr;
 use std::test::Fail;
 
 // A bracket and the line that it stands in; the bracket that matches it, and where.
@@ -63,7 +64,7 @@ fn place_told(alloc: Global, line: &str, found: Option<(u8, usize)>) -> Result<S
 }
 
 /// What the rows of a table ask.
-#[derive(Clone, Copy, Drop)]
+#[derive(Drop)]
 enum Ask {
     Match,
     AtTheCursor,
@@ -74,11 +75,12 @@ enum Ask {
 
 impl Player for Ask {
     fn play(&mut self, alloc: Global, call: &str) -> Result<String, Fail> {
-        match self {
-            Ask::Match => Ok(match_told(alloc, call)?),
-            Ask::AtTheCursor => Ok(bracket_at_the_cursor(alloc, call)?),
-            _ => Ok(validated(alloc, *self, call)?),
-        }
+        let said = match self {
+            Ask::Match => match_told(alloc, call),
+            Ask::AtTheCursor => bracket_at_the_cursor(alloc, call),
+            _ => validated(alloc, self, call),
+        };
+        Ok(said?)
     }
 }
 
@@ -107,8 +109,18 @@ fn brackets_at_the_cursor(rt: HostRuntime) -> Result<(), Fail> {
     rows_hold(rt.alloc(), &mut Ask::AtTheCursor, AT_THE_CURSOR)
 }
 
-// What a highlighter is told of a line before it is drawn, whether it marks something in it, and the line as it is drawn.
-const LINES: &str = "
+// What a highlighter is told of a line before it is drawn, whether it marks something in it, and the line as it is drawn:
+// first a bracket that was found in one line and other lines drawn, then texts that are left as they are.
+const HIGHLIGHTED: &str = "
+    drawn  |()     = ()
+    told   (ab|)   = marks
+    drawn  (|)     = ()
+    drawn  (|cd)   = ␛[1;34m(␛[0mcd)
+    denied (ab|)   = leaves
+    drawn  (ab|)   = (ab)
+    prompt    (>)  = (>)
+    hint      (>)  = (>)
+    candidate (>)  = (>)
     move   |(a)    = marks (a␛[1;34m)␛[0m
     other  (a)|    = marks ␛[1;34m(␛[0ma)
     other  x|[é]y  = marks x[é␛[1;34m]␛[0my
@@ -119,23 +131,6 @@ const LINES: &str = "
     other  |       = leaves
 ";
 
-// A bracket that was found in one line, and other lines drawn.
-const KEPT_BRACKETS: &str = "
-    drawn  |()     = ()
-    told   (ab|)   = marks
-    drawn  (|)     = ()
-    drawn  (|cd)   = ␛[1;34m(␛[0mcd)
-    denied (ab|)   = leaves
-    drawn  (ab|)   = (ab)
-";
-
-// What the highlighter of brackets leaves as it is.
-const OTHER_TEXTS: &str = "
-    prompt    (>)  = (>)
-    hint      (>)  = (>)
-    candidate (>)  = (>)
-";
-
 // What a helper that highlights nothing leaves.
 const NOTHING_HIGHLIGHTED: &str = "
     other     |(a) = leaves (a)
@@ -144,21 +139,34 @@ const NOTHING_HIGHLIGHTED: &str = "
     candidate (>)  = (>)
 ";
 
-// What a highlighter makes of a text that isn't a line; of any other call, the line.
-fn shown<H: Highlighter>(
+// What a highlighter makes of a text: nothing where it is only told of a line.
+fn shown<'t, H: Highlighter>(
     alloc: Global,
     highlighter: &H,
     call: &str,
-    text: &str,
+    text: &'t str,
     place: usize,
-) -> Result<String, HookFault> {
-    let shown = match call {
+) -> Result<CowStr<'t>, HookFault> {
+    match call {
+        "told" | "denied" => Ok(CowStr::Borrowed("")),
         "prompt" => highlighter.highlight_prompt(alloc, text, true),
         "hint" => highlighter.highlight_hint(alloc, text),
         "candidate" => highlighter.highlight_candidate(alloc, text, CompletionType::List),
         _ => highlighter.highlight(alloc, text, place),
+    }
+}
+
+// Whether something is marked, in words, and what is shown.
+fn marks_told(
+    alloc: Global,
+    marks: &str,
+    shown: Result<CowStr<'_>, HookFault>,
+) -> Result<String, AllocError> {
+    let shown = match shown {
+        Ok(shown) => pictured(alloc, shown.as_str())?,
+        Err(_) => return String::from_str(alloc, "a fault"),
     };
-    Ok(pictured(alloc, shown?.as_str())?)
+    format!(in alloc; "{marks}{shown}")
 }
 
 // Why the line is to be drawn, where a call tells of it.
@@ -190,41 +198,30 @@ impl<H: Highlighter> Asked<H> {
         }
     }
 
-    fn answer(
-        &mut self,
-        alloc: Global,
-        call: &str,
-        line: &str,
-        place: usize,
-    ) -> Result<String, Fail> {
+    fn answer(&mut self, alloc: Global, call: &str, line: &str) -> Result<String, AllocError> {
+        let (line, place) = line_and_place(alloc, line)?;
+        let line = line.as_str();
         let marks = self.marks(call, line, place);
-        if matches!(call, "told" | "denied") {
-            return trimmed(alloc, marks);
-        }
-        let shown = shown(alloc, &self.highlighter, call, line, place)?;
-        trimmed(alloc, format!(in alloc; "{marks}{shown}")?.as_str())
+        marks_told(
+            alloc,
+            marks,
+            shown(alloc, &self.highlighter, call, line, place),
+        )
     }
 }
 
 impl<H: Highlighter> Player for Asked<H> {
     fn play(&mut self, alloc: Global, call: &str) -> Result<String, Fail> {
         let (call, line) = word_and_rest(call);
-        let (line, place) = line_and_place(alloc, line)?;
-        self.answer(alloc, call, line.as_str(), place)
-    }
-}
-
-fn for_brackets() -> Asked<MatchingBracketHighlighter> {
-    Asked {
-        highlighter: MatchingBracketHighlighter::new(),
+        let said = self.answer(alloc, call, line)?;
+        trimmed(alloc, said.as_str())
     }
 }
 
 #[test]
 fn texts_highlighted(rt: HostRuntime) -> Result<(), Fail> {
-    rows_hold(rt.alloc(), &mut for_brackets(), LINES)?;
-    rows_hold(rt.alloc(), &mut for_brackets(), KEPT_BRACKETS)?;
-    rows_hold(rt.alloc(), &mut for_brackets(), OTHER_TEXTS)?;
+    let highlighter = MatchingBracketHighlighter::new();
+    rows_hold(rt.alloc(), &mut Asked { highlighter }, HIGHLIGHTED)?;
     let highlighter = Box::new(rt.alloc(), ())?;
     rows_hold(rt.alloc(), &mut Asked { highlighter }, NOTHING_HIGHLIGHTED)
 }
@@ -266,32 +263,32 @@ fn message_of(found: &ValidationResult) -> &str {
 }
 
 // What a validator finds of a text, in words.
-fn verdict_told(alloc: Global, found: &ValidationResult) -> Result<String, AllocError> {
-    let (word, message) = (verdict_word(found), message_of(found));
+fn verdict_told(
+    alloc: Global,
+    found: Result<ValidationResult, HookFault>,
+) -> Result<String, AllocError> {
+    let Ok(found) = found else {
+        return String::from_str(alloc, "a fault");
+    };
+    let (word, message) = (verdict_word(&found), message_of(&found));
     let mark = if found.has_message() { ", for " } else { "" };
     format!(in alloc; "{word}{mark}{message}")
 }
 
-// What a validator says of a text.
-fn said_by<V: Validator>(alloc: Global, validator: &V, text: &str) -> Result<String, HookFault> {
-    let found = validator.validate(alloc, &ValidationContext::new(text))?;
-    Ok(verdict_told(alloc, &found)?)
-}
-
-// What is said of it by the function alone.
-fn function_told(alloc: Global, text: &str) -> Result<String, HookFault> {
-    let found = validate_brackets(alloc, text)?;
-    Ok(verdict_told(alloc, &found)?)
+// What is found of a text, by a validator or by the function alone.
+fn found_of(alloc: Global, ask: &Ask, text: &str) -> Result<ValidationResult, HookFault> {
+    let context = ValidationContext::new(text);
+    match ask {
+        Ask::Validator => MatchingBracketValidator::new().validate(alloc, &context),
+        Ask::NoValidator => ().validate(alloc, &context),
+        _ => validate_brackets(alloc, text),
+    }
 }
 
 // What is said of a row's text, by a validator or by the function alone.
-fn validated(alloc: Global, ask: Ask, text: &str) -> Result<String, HookFault> {
+fn validated(alloc: Global, ask: &Ask, text: &str) -> Result<String, AllocError> {
     let text = meant(alloc, text)?;
-    match ask {
-        Ask::Validator => said_by(alloc, &MatchingBracketValidator::new(), text.as_str()),
-        Ask::NoValidator => said_by(alloc, &(), text.as_str()),
-        _ => function_told(alloc, text.as_str()),
-    }
+    verdict_told(alloc, found_of(alloc, ask, text.as_str()))
 }
 
 #[test]

@@ -202,16 +202,25 @@ fn answer_told<C: Candidate>(
     }
 }
 
-// What a completer answers to a line with the cursor.
-fn completed<C: Completer>(alloc: Global, completer: &C, line: &str) -> Result<String, Fail> {
-    let history = MemHistory::new(alloc);
-    let (line, pos) = line_and_place(alloc, line)?;
-    let line = line.as_str();
+// What a completer answers to a line with the cursor at a place.
+fn completed_at<C: Completer>(
+    alloc: Global,
+    completer: &C,
+    line: &str,
+    pos: usize,
+) -> Result<String, AllocError> {
     if !line.is_char_boundary(pos) {
-        return Err(Fail::new("no place for a cursor"));
+        return String::from_str(alloc, "no place for a cursor");
     }
+    let history = MemHistory::new(alloc);
     let answer = completer.complete(alloc, line, pos, &Context::new(&history));
-    Ok(answer_told(alloc, line, answer)?)
+    answer_told(alloc, line, answer)
+}
+
+// What a completer answers to a line with the cursor.
+fn completed<C: Completer>(alloc: Global, completer: &C, line: &str) -> Result<String, AllocError> {
+    let (line, pos) = line_and_place(alloc, line)?;
+    completed_at(alloc, completer, line.as_str(), pos)
 }
 
 const COMPLETERS: &str = "
@@ -227,11 +236,12 @@ struct ByName;
 impl Player for ByName {
     fn play(&mut self, alloc: Global, call: &str) -> Result<String, Fail> {
         let (name, line) = word_and_rest(call);
-        match name {
+        let said = match name {
             "broken" => completed(alloc, &FilenameCompleter::new(Broken), line),
             "boxed" => boxed_completed(alloc, line),
             _ => completed(alloc, &(), line),
-        }
+        };
+        Ok(said?)
     }
 }
 
@@ -240,7 +250,7 @@ fn of_two_names() -> FilenameCompleter<Folder> {
     FilenameCompleter::new(Folder { path: "", names })
 }
 
-fn boxed_completed(alloc: Global, line: &str) -> Result<String, Fail> {
+fn boxed_completed(alloc: Global, line: &str) -> Result<String, AllocError> {
     let completer = Box::new(alloc, of_two_names())?;
     completed(alloc, &completer, line)
 }
@@ -292,21 +302,24 @@ impl Updater {
         line: &mut LineBuffer,
         start: usize,
         elected: &str,
-    ) -> Result<(), Fail> {
+    ) -> Result<(), HookFault> {
         if start > line.pos() || !line.as_str().is_char_boundary(start) {
-            return Err(Fail::new("no place to begin at"));
+            return Err(HookFault::Failed);
         }
         self.completer
-            .update(alloc, line, start, elected, &mut NoListener)?;
-        Ok(())
+            .update(alloc, line, start, elected, &mut NoListener)
     }
 
     // The line after an update, with its cursor.
-    fn updated(&self, alloc: Global, text: &str, elected: &str) -> Result<String, Fail> {
-        let (front, behind) = text.split_once('[').unwrap_or(("", text));
-        let text = format!(in alloc; "{front}{behind}")?;
-        let mut line = line_of(alloc, text.as_str())?;
-        self.update(alloc, &mut line, front.len(), elected)?;
+    fn updated(
+        &self,
+        alloc: Global,
+        line: &str,
+        start: usize,
+        elected: &str,
+    ) -> Result<String, HookFault> {
+        let mut line = line_of(alloc, line)?;
+        self.update(alloc, &mut line, start, elected)?;
         Ok(shown_of(alloc, &line)?)
     }
 }
@@ -314,7 +327,9 @@ impl Updater {
 impl Player for Updater {
     fn play(&mut self, alloc: Global, call: &str) -> Result<String, Fail> {
         let (line, elected) = call.split_once(':').unwrap_or((call, ""));
-        self.updated(alloc, line.trim(), elected.trim())
+        let start = line.find('[').unwrap_or(0);
+        let line = line.trim().replace(alloc, "[", "")?;
+        Ok(self.updated(alloc, line.as_str(), start, elected.trim())?)
     }
 }
 
@@ -360,28 +375,34 @@ fn word_told(alloc: Global, esc: Option<char>, text: &str) -> Result<String, All
     format!(in alloc; "{line}; {word}")
 }
 
-fn quote_of(call: &str) -> Quote {
-    match call {
-        "double" => Quote::Double,
-        "single" => Quote::Single,
-        _ => Quote::None,
-    }
+fn unescaped(alloc: Global, esc: Option<char>, text: &str) -> Result<String, HookFault> {
+    let text = unescape(alloc, text, esc)?;
+    Ok(text.into_owned(alloc)?)
+}
+
+fn escaped(
+    alloc: Global,
+    esc: Option<char>,
+    text: &str,
+    quote: Quote,
+) -> Result<String, HookFault> {
+    let input = String::from_str(alloc, text)?;
+    escape(alloc, input, esc, ends_word, quote)
 }
 
 // What a call makes of a text.
 fn made(alloc: Global, call: &str, esc: Option<char>, text: &str) -> Result<String, HookFault> {
     match call {
         "word" => Ok(word_told(alloc, esc, text)?),
-        "unescape" => Ok(unescape(alloc, text, esc)?.into_owned(alloc)?),
-        _ => {
-            let input = String::from_str(alloc, text)?;
-            escape(alloc, input, esc, ends_word, quote_of(call))
-        }
+        "unescape" => unescaped(alloc, esc, text),
+        "double" => escaped(alloc, esc, text, Quote::Double),
+        "single" => escaped(alloc, esc, text, Quote::Single),
+        _ => escaped(alloc, esc, text, Quote::None),
     }
 }
 
 /// What the rows of a table ask.
-#[derive(Clone, Copy, Drop)]
+#[derive(Drop)]
 enum Ask {
     Words,
     CommonPrefixes,
@@ -390,23 +411,26 @@ enum Ask {
 impl Player for Ask {
     fn play(&mut self, alloc: Global, call: &str) -> Result<String, Fail> {
         match self {
-            Ask::Words => made_of_row(alloc, call),
+            Ask::Words => trimmed(alloc, made_of_row(alloc, call)?.as_str()),
             Ask::CommonPrefixes => Ok(common_prefix(alloc, call)?),
         }
     }
 }
 
+// The character that escapes, if there is one.
+fn escape_named(word: &str) -> Option<char> {
+    match word {
+        "none" => None,
+        _ => word.chars().next(),
+    }
+}
+
 // What a row's call makes of its text.
-fn made_of_row(alloc: Global, call: &str) -> Result<String, Fail> {
+fn made_of_row(alloc: Global, call: &str) -> Result<String, HookFault> {
     let (call, rest) = word_and_rest(call);
     let (esc, text) = word_and_rest(rest);
-    let esc = if esc == "none" {
-        None
-    } else {
-        esc.chars().next()
-    };
     let text = meant(alloc, text)?;
-    trimmed(alloc, made(alloc, call, esc, text.as_str())?.as_str())
+    made(alloc, call, escape_named(esc), text.as_str())
 }
 
 #[test]
@@ -419,24 +443,16 @@ const COMMON_PREFIXES: &str = "
                             = none
     User;                   = User
     ;                       = nothing
-    User; Users;            = User
-    User; Users; ;          = none
-    fée; fête;              = f
-    été; êta;               = none
-    漢字b; 漢字ab; 漢字a;      = 漢字
+    User;Users;             = User
+    User;Users;;            = none
+    fée;fête;               = f
+    été;êta;                = none
+    漢字b;漢字ab;漢字a;        = 漢字
 ";
-
-fn trimmed_parts(alloc: Global, texts: &str) -> Result<Vec<&str>, AllocError> {
-    let mut parts = Vec::new(alloc);
-    for text in texts.split_terminator(';') {
-        parts.push(text.trim())?;
-    }
-    Ok(parts)
-}
 
 // What a row's candidates begin with.
 fn common_prefix(alloc: Global, texts: &str) -> Result<String, AllocError> {
-    let candidates = trimmed_parts(alloc, texts)?;
+    let candidates: Vec<&str> = texts.split_terminator(';').collect(alloc)?;
     let prefix = longest_common_prefix(&candidates).unwrap_or("none");
     String::from_str(alloc, prefix)
 }

@@ -1,6 +1,6 @@
 //! Devices that fail at each byte in turn, and what a history is then.
 
-use crate::history::{add_lines, answer_told, entries, saved, with_lines};
+use crate::history::{add_line, add_lines, answer_told, entries, with_lines};
 use line_config::{Config, DeviceFailed, ReadlineError, Sink, SliceSource, Source, VecSink};
 use line_help::{FileHistory, History};
 use stand_ins::rows::{Player, rows_hold};
@@ -160,7 +160,7 @@ fn twice_refused(
 }
 
 // What of a history is written now.
-fn written(alloc: Global, way: Way, history: &mut FileHistory) -> Result<String, AllocError> {
+fn written(alloc: Global, way: &Way, history: &mut FileHistory) -> Result<String, AllocError> {
     let mut sink = VecSink::new(alloc);
     let _ = write_to(way, history, &mut sink);
     pictured_bytes(alloc, sink.bytes())
@@ -173,7 +173,7 @@ fn after_failing_source(
     bytes: &[u8],
 ) -> Result<String, AllocError> {
     let said = twice_refused(alloc, history, bytes)?;
-    let new = written(alloc, Way::Append, history)?;
+    let new = written(alloc, &Way::Append, history)?;
     let mark = if new.is_empty() { "" } else { ", new " };
     format!(in alloc; "{said}{mark}{new}")
 }
@@ -184,11 +184,21 @@ struct CutTexts;
 
 impl Player for CutTexts {
     fn play(&mut self, alloc: Global, text: &str) -> Result<String, Fail> {
-        let mut history = with_lines(alloc, "old|")?;
-        let _ = saved(alloc, &mut history)?;
-        let bytes = meant_bytes(alloc, text)?;
-        Ok(after_failing_source(alloc, &mut history, &bytes)?)
+        Ok(cut_text_told(alloc, text)?)
     }
+}
+
+fn cut_text_told(alloc: Global, text: &str) -> Result<String, ReadlineError> {
+    let bytes = meant_bytes(alloc, text)?;
+    let mut history = saved_with(alloc, "old|")?;
+    Ok(after_failing_source(alloc, &mut history, &bytes)?)
+}
+
+// A history with these lines, the text of which is saved.
+fn saved_with(alloc: Global, lines: &str) -> Result<FileHistory, ReadlineError> {
+    let mut history = with_lines(alloc, lines)?;
+    history.save_to(&mut VecSink::new(alloc))?;
+    Ok(history)
 }
 
 #[test]
@@ -196,12 +206,16 @@ fn sources_that_fail_at_each_byte(rt: HostRuntime) -> Result<(), Fail> {
     rows_hold(rt.alloc(), &mut CutTexts, CUT_TEXTS)
 }
 
+// What a new history answers to a row that isn't UTF-8 before a failure.
+fn bad_row_told(alloc: Global) -> Result<String, AllocError> {
+    let mut source = SliceSource::failing_after(b"a\n\xff\nb");
+    refused(alloc, &mut FileHistory::new(alloc), &mut source)
+}
+
 /// A row that isn't UTF-8 is met before the failure after it.
 #[test]
 fn bad_rows_before_a_failure(rt: HostRuntime) -> Result<(), Fail> {
-    let mut history = FileHistory::new(rt.alloc());
-    let mut source = SliceSource::failing_after(b"a\n\xff\nb");
-    let said = refused(rt.alloc(), &mut history, &mut source)?;
+    let said = bad_row_told(rt.alloc())?;
     assert_eq!(rt; said.as_str(), "HistoryText at no failure a|");
     Ok(())
 }
@@ -237,14 +251,14 @@ const ADDITIONS: &str = r"
 ";
 
 /// Where the text of a history goes.
-#[derive(Clone, Copy, Drop)]
+#[derive(Drop)]
 enum Way {
     Save,
     Append,
 }
 
 // Writes the text, and tells the answer.
-fn write_to<S: Sink>(way: Way, history: &mut FileHistory, sink: &mut S) -> &'static str {
+fn write_to<S: Sink>(way: &Way, history: &mut FileHistory, sink: &mut S) -> &'static str {
     let answer = match way {
         Way::Save => history.save_to(sink),
         Way::Append => history.append_to(sink),
@@ -257,53 +271,59 @@ fn write_to<S: Sink>(way: Way, history: &mut FileHistory, sink: &mut S) -> &'sta
 }
 
 // What a sink with so much room answers twice.
-fn answers(
-    way: Way,
-    history: &mut FileHistory,
-    room: usize,
-) -> Result<(&'static str, &'static str), Fail> {
+fn answers(way: &Way, history: &mut FileHistory, room: usize) -> (&'static str, &'static str) {
     let mut sink = Narrow::new(room);
     let first = write_to(way, history, &mut sink);
     if sink.failed() == (first == "fine") {
-        return Err(Fail::new("a sink's failure is answered, and nothing else"));
+        return (first, "not as the sink has failed");
     }
-    Ok((first, write_to(way, history, &mut sink)))
+    (first, write_to(way, history, &mut sink))
+}
+
+// The entries of a history, and what of them is still to be written.
+fn left_told(alloc: Global, way: &Way, history: &mut FileHistory) -> Result<String, AllocError> {
+    let entries = entries(alloc, history)?;
+    let rest = written(alloc, way, history)?;
+    let rest = or_nothing(rest.as_str());
+    format!(in alloc; "{entries}, {rest}")
 }
 
 // What happens with so much room.
 fn with_room(
     alloc: Global,
-    way: Way,
+    way: &Way,
     history: &mut FileHistory,
     room: usize,
-) -> Result<String, Fail> {
-    let (first, second) = answers(way, history, room)?;
-    let entries = entries(alloc, history)?;
-    let rest = written(alloc, way, history)?;
-    let rest = or_nothing(rest.as_str());
-    Ok(format!(in alloc; "{first}, {second}, {entries}, {rest}")?)
+) -> Result<String, AllocError> {
+    let (first, second) = answers(way, history, room);
+    let left = left_told(alloc, way, history)?;
+    format!(in alloc; "{first}, {second}, {left}")
 }
 
 // A history with a text that is saved, and entries that are to be added to it.
 fn to_be_appended(alloc: Global) -> Result<FileHistory, ReadlineError> {
-    let mut history = with_lines(alloc, "a|")?;
-    let _ = saved(alloc, &mut history)?;
+    let mut history = saved_with(alloc, "a|")?;
     add_lines(alloc, &mut history, "b␊|c|")?;
     Ok(history)
 }
 
 // A history with entries that are to be written.
-fn to_be_written(alloc: Global, way: Way) -> Result<FileHistory, ReadlineError> {
+fn to_be_written(alloc: Global, way: &Way) -> Result<FileHistory, ReadlineError> {
     match way {
         Way::Save => with_lines(alloc, r"a\|b␊|"),
         Way::Append => to_be_appended(alloc),
     }
 }
 
+// What happens to such a history with so much room.
+fn room_told(alloc: Global, way: &Way, room: usize) -> Result<String, ReadlineError> {
+    let mut history = to_be_written(alloc, way)?;
+    Ok(with_room(alloc, way, &mut history, room)?)
+}
+
 impl Player for Way {
     fn play(&mut self, alloc: Global, room: &str) -> Result<String, Fail> {
-        let mut history = to_be_written(alloc, *self)?;
-        with_room(alloc, *self, &mut history, room.parse()?)
+        Ok(room_told(alloc, self, room.parse()?)?)
     }
 }
 
@@ -313,14 +333,18 @@ fn sinks_that_fail_at_each_byte(rt: HostRuntime) -> Result<(), Fail> {
     rows_hold(rt.alloc(), &mut Way::Append, ADDITIONS)
 }
 
+// Whether a history with no entries has nothing to write to a sink.
+fn writes_nothing(alloc: Global, sink: &mut Narrow) -> bool {
+    let mut history = FileHistory::with_config(alloc, &Config::default());
+    history.save_to(sink) == Ok(()) && history.append_to(sink) == Ok(())
+}
+
 /// A sink that has failed isn't asked where nothing is new.
 #[test]
-fn nothing_new_for_a_failed_sink(rt: HostRuntime) -> Result<(), Fail> {
-    let mut history = FileHistory::with_config(rt.alloc(), &Config::default());
+fn nothing_new_for_a_failed_sink(rt: HostRuntime) {
     let mut sink = Narrow::new(0);
     assert!(rt; sink.flush().is_err());
-    assert!(rt; history.save_to(&mut sink) == Ok(()) && history.append_to(&mut sink) == Ok(()));
-    Ok(())
+    assert!(rt; writes_nothing(rt.alloc(), &mut sink));
 }
 
 // Calls of one history, and what they write to one sink.
@@ -353,7 +377,7 @@ impl Desk {
         match call {
             "save" => self.history.save_to(&mut self.sink),
             "append" => self.history.append_to(&mut self.sink),
-            _ => self.history.add(alloc, line).map(|_| ()),
+            _ => add_line(alloc, &mut self.history, line),
         }
     }
 }
@@ -362,10 +386,11 @@ impl Player for Desk {
     fn play(&mut self, alloc: Global, call: &str) -> Result<String, Fail> {
         let before = self.sink.written.len();
         self.made(alloc, call)?;
-        let Some(written) = self.sink.written.get(before..) else {
-            return Err(Fail::new("less is written than before"));
+        let said = match self.sink.written.get(before..) {
+            Some(written) => pictured_bytes(alloc, written),
+            None => String::from_str(alloc, "less than before"),
         };
-        Ok(pictured_bytes(alloc, written)?)
+        Ok(said?)
     }
 }
 

@@ -311,50 +311,63 @@ fn quoted(alloc: Global, text: &str) -> Result<String, AllocError> {
 }
 
 // What a helper shows of a text.
-fn drawn<H: Helper>(
+fn shown<'t, H: Helper>(
     alloc: Global,
     helper: &H,
     call: &str,
-    text: &str,
-) -> Result<String, HookFault> {
-    let shown = match call {
+    text: &'t str,
+) -> Result<CowStr<'t>, HookFault> {
+    match call {
         "prompt" => helper.highlight_prompt(alloc, text, true),
         "hint_shown" => helper.highlight_hint(alloc, text),
         _ => helper.highlight(alloc, text, text.len()),
-    };
-    Ok(quoted(alloc, shown?.as_str())?)
+    }
 }
 
-// The hint that a helper has for a line with the cursor at its end.
-fn hinted<H: Helper>(
+// How many candidates it has for a line with the cursor at its end.
+fn candidates<H: Helper>(
     alloc: Global,
     helper: &H,
     line: &str,
     context: &Context<'_, MemHistory>,
-) -> Result<String, HookFault> {
-    let hint = match helper.hint(alloc, line, line.len(), context)? {
-        Some(hint) => String::from_str(alloc, hint.display()),
-        None => String::from_str(alloc, "none"),
-    };
-    Ok(hint?)
+) -> Result<usize, HookFault> {
+    Ok(helper.complete(alloc, line, line.len(), context)?.1.len())
 }
 
-// The number of candidates that it has.
-fn counted<H: Helper>(
+// An answer, or the fault in its place.
+fn shown_told(alloc: Global, answer: Result<CowStr<'_>, HookFault>) -> Result<String, AllocError> {
+    match answer {
+        Ok(shown) => quoted(alloc, shown.as_str()),
+        Err(fault) => format!(in alloc; "{fault:?}"),
+    }
+}
+
+fn hint_told<T: Hint>(
     alloc: Global,
-    helper: &H,
-    line: &str,
-    context: &Context<'_, MemHistory>,
-) -> Result<String, HookFault> {
-    let (_, candidates) = helper.complete(alloc, line, line.len(), context)?;
-    let count = candidates.len();
-    Ok(format!(in alloc; "{count}")?)
+    answer: Result<Option<T>, HookFault>,
+) -> Result<String, AllocError> {
+    match answer {
+        Ok(Some(hint)) => String::from_str(alloc, hint.display()),
+        Ok(None) => String::from_str(alloc, "none"),
+        Err(fault) => format!(in alloc; "{fault:?}"),
+    }
 }
 
-// What it finds of the line.
-fn verdict_told<H: Helper>(alloc: Global, helper: &mut H, line: &str) -> Result<String, HookFault> {
-    let found = verdict_after_drawing(alloc, helper, line)?;
-    Ok(format!(in alloc; "{found:?}")?)
+fn count_told(alloc: Global, answer: Result<usize, HookFault>) -> Result<String, AllocError> {
+    match answer {
+        Ok(count) => format!(in alloc; "{count}"),
+        Err(fault) => format!(in alloc; "{fault:?}"),
+    }
+}
+
+fn verdict_told(
+    alloc: Global,
+    answer: Result<ValidationResult, HookFault>,
+) -> Result<String, AllocError> {
+    match answer {
+        Ok(found) => format!(in alloc; "{found:?}"),
+        Err(fault) => format!(in alloc; "{fault:?}"),
+    }
 }
 
 // What a helper answers to a call.
@@ -364,20 +377,12 @@ fn asked<H: Helper>(
     call: &str,
     text: &str,
     context: &Context<'_, MemHistory>,
-) -> Result<String, HookFault> {
+) -> Result<String, AllocError> {
     match call {
-        "verdict" => verdict_told(alloc, helper, text),
-        "hint" => hinted(alloc, helper, text, context),
-        "candidates" => counted(alloc, helper, text, context),
-        _ => drawn(alloc, helper, call, text),
-    }
-}
-
-// An answer, or the fault in its place.
-fn answer_told(alloc: Global, answer: Result<String, HookFault>) -> Result<String, AllocError> {
-    match answer {
-        Ok(said) => Ok(said),
-        Err(fault) => format!(in alloc; "{fault:?}"),
+        "verdict" => verdict_told(alloc, verdict_after_drawing(alloc, helper, text)),
+        "hint" => hint_told(alloc, helper.hint(alloc, text, text.len(), context)),
+        "candidates" => count_told(alloc, candidates(alloc, helper, text, context)),
+        _ => shown_told(alloc, shown(alloc, helper, call, text)),
     }
 }
 
@@ -393,8 +398,8 @@ impl<H: Helper> Player for Answering<H> {
         let (call, text) = word_and_rest(call);
         let text = meant(alloc, text)?;
         let context = Context::new(&self.history);
-        let answer = asked(alloc, &mut self.helper, call, text.as_str(), &context);
-        Ok(answer_told(alloc, answer)?)
+        let said = asked(alloc, &mut self.helper, call, text.as_str(), &context);
+        Ok(said?)
     }
 }
 
@@ -476,12 +481,18 @@ struct Prompts;
 
 impl Player for Prompts {
     fn play(&mut self, alloc: Global, call: &str) -> Result<String, Fail> {
-        match call {
-            "str" => Ok(both_texts(alloc, &"> ")?),
-            "String" => Ok(both_texts(alloc, &String::from_str(alloc, "é ")?)?),
-            _ => Ok(both_texts(alloc, &("> ", "\x1b[1m> \x1b[m"))?),
-        }
+        let said = match call {
+            "str" => both_texts(alloc, &"> "),
+            "String" => string_told(alloc),
+            _ => both_texts(alloc, &("> ", "\x1b[1m> \x1b[m")),
+        };
+        Ok(said?)
     }
+}
+
+fn string_told(alloc: Global) -> Result<String, AllocError> {
+    let prompt = String::from_str(alloc, "é ")?;
+    both_texts(alloc, &prompt)
 }
 
 #[test]

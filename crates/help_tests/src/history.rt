@@ -1,6 +1,6 @@
 //! Histories, call by call. An entry has a bar after it.
 
-use line_config::{Config, Configurer, ReadlineError, SliceSource, VecSink};
+use line_config::{Config, Configurer, HookFault, ReadlineError, SliceSource, VecSink};
 use line_help::{
     Context, FileHistory, Hint, Hinter, History, HistoryHinter, MemHistory, SearchDirection,
     SearchResult,
@@ -24,14 +24,25 @@ pub(crate) fn entries<H: History>(alloc: Global, history: &H) -> Result<String, 
     Ok(text)
 }
 
-/// Adds lines, each of which ends with a bar.
-pub(crate) fn add_lines<H: History>(
+/// Adds a line.
+pub(crate) fn add_line(
     alloc: Global,
-    history: &mut H,
+    history: &mut FileHistory,
+    line: &str,
+) -> Result<(), ReadlineError> {
+    let line = meant(alloc, line)?;
+    history.add(alloc, line.as_str())?;
+    Ok(())
+}
+
+/// Adds lines, each of which ends with a bar.
+pub(crate) fn add_lines(
+    alloc: Global,
+    history: &mut FileHistory,
     lines: &str,
 ) -> Result<(), ReadlineError> {
     for line in lines.split_terminator('|') {
-        history.add(alloc, meant(alloc, line)?.as_str())?;
+        add_line(alloc, history, line)?;
     }
     Ok(())
 }
@@ -43,8 +54,8 @@ pub(crate) fn with_lines(alloc: Global, lines: &str) -> Result<FileHistory, Read
     Ok(history)
 }
 
-/// What a save of the history writes, where it is answered.
-pub(crate) fn saved(alloc: Global, history: &mut FileHistory) -> Result<String, ReadlineError> {
+// What a save of the history writes, where it is answered.
+fn saved(alloc: Global, history: &mut FileHistory) -> Result<String, ReadlineError> {
     let mut sink = VecSink::new(alloc);
     history.save_to(&mut sink)?;
     Ok(pictured_bytes(alloc, sink.bytes())?)
@@ -80,17 +91,23 @@ const LOADED: &str = r"
     #V2␊a␊b␊‹e2 82›           = HistoryText a|b|, new #V2␊a␊b␊
 ";
 
-// What a history answers to a text that it loads, its entries then, and what of them is new.
-fn loaded(alloc: Global, history: &mut FileHistory, text: &[u8]) -> Result<String, ReadlineError> {
+// What a history answers to a text that it loads, and its entries then.
+fn load_told(alloc: Global, history: &mut FileHistory, text: &[u8]) -> Result<String, AllocError> {
     let answer = answer_told(history.load_from(alloc, &mut SliceSource::new(text)));
     let entries = entries(alloc, history)?;
+    format!(in alloc; "{answer} {entries}")
+}
+
+// The same, and what of the entries is new.
+fn loaded(alloc: Global, history: &mut FileHistory, text: &[u8]) -> Result<String, ReadlineError> {
+    let said = load_told(alloc, history, text)?;
     let new = saved(alloc, history)?;
     let mark = if new.is_empty() { "" } else { ", new " };
-    Ok(format!(in alloc; "{answer} {entries}{mark}{new}")?)
+    Ok(format!(in alloc; "{said}{mark}{new}")?)
 }
 
 /// What the rows of a table ask.
-#[derive(Clone, Copy, Drop)]
+#[derive(Drop)]
 enum Ask {
     Loaded,
     Settings,
@@ -98,18 +115,18 @@ enum Ask {
 
 impl Player for Ask {
     fn play(&mut self, alloc: Global, call: &str) -> Result<String, Fail> {
-        match self {
-            Ask::Loaded => loaded_anew(alloc, call),
-            Ask::Settings => loaded_under(alloc, call),
-        }
+        let said = match self {
+            Ask::Loaded => loaded_anew(alloc, call)?,
+            Ask::Settings => loaded_under(alloc, call)?,
+        };
+        trimmed(alloc, said.as_str())
     }
 }
 
 // What a new history answers to a row's text.
-fn loaded_anew(alloc: Global, text: &str) -> Result<String, Fail> {
+fn loaded_anew(alloc: Global, text: &str) -> Result<String, ReadlineError> {
     let text = meant_bytes(alloc, text)?;
-    let said = loaded(alloc, &mut FileHistory::new(alloc), &text)?;
-    trimmed(alloc, said.as_str())
+    loaded(alloc, &mut FileHistory::new(alloc), &text)
 }
 
 #[test]
@@ -131,18 +148,20 @@ const SETTINGS: &str = "
     0                   = part
 ";
 
-// What a history with a row's settings answers to the text, and its entries then.
-fn loaded_under(alloc: Global, settings: &str) -> Result<String, Fail> {
+// What a history answers to the text, and its entries then.
+fn settings_text_told(alloc: Global, history: &mut FileHistory) -> Result<String, AllocError> {
+    let text = meant_bytes(alloc, SETTINGS_TEXT)?;
+    load_told(alloc, history, &text)
+}
+
+// The same of a history with a row's settings.
+fn loaded_under(alloc: Global, settings: &str) -> Result<String, AllocError> {
     let (size, ignored) = word_and_rest(settings);
     let mut history = FileHistory::new(alloc);
-    history.set_max_len(size.parse()?);
+    history.set_max_len(size.parse().unwrap_or(usize::MAX));
     history.ignore_space(ignored.contains("spaces"));
     history.ignore_dups(ignored.contains("repeated"));
-    let text = meant_bytes(alloc, SETTINGS_TEXT)?;
-    let answered = answer_told(history.load_from(alloc, &mut SliceSource::new(&text)));
-    let entries = entries(alloc, &history)?;
-    let said = format!(in alloc; "{answered} {entries}")?;
-    trimmed(alloc, said.as_str())
+    settings_text_told(alloc, &mut history)
 }
 
 /// Loading goes by the history's own settings, as adding does.
@@ -151,16 +170,27 @@ fn texts_under_other_settings(rt: HostRuntime) -> Result<(), Fail> {
     rows_hold(rt.alloc(), &mut Ask::Settings, SETTINGS)
 }
 
-/// The settings of a configuration are those of a history made with it.
-#[test]
-fn histories_of_a_configuration(rt: HostRuntime) -> Result<(), Fail> {
+// Other settings for histories than those of the default.
+fn unlike_the_default() -> Config {
     let mut config = Config::default();
     let _ = config.set_max_history_size(2);
     let _ = config.set_history_ignore_dups(false);
     config.set_history_ignore_space(true);
-    let mut history = FileHistory::with_config(rt.alloc(), &config);
-    add_lines(rt.alloc(), &mut history, "a|b|b| c|")?;
-    assert_eq!(rt; entries(rt.alloc(), &history)?.as_str(), "b|b|");
+    config
+}
+
+// What a history of a configuration keeps of these lines.
+fn kept_of(alloc: Global, config: &Config, lines: &str) -> Result<String, ReadlineError> {
+    let mut history = FileHistory::with_config(alloc, config);
+    add_lines(alloc, &mut history, lines)?;
+    Ok(entries(alloc, &history)?)
+}
+
+/// The settings of a configuration are those of a history made with it.
+#[test]
+fn histories_of_a_configuration(rt: HostRuntime) -> Result<(), Fail> {
+    let kept = kept_of(rt.alloc(), &unlike_the_default(), "a|b|b| c|")?;
+    assert_eq!(rt; kept.as_str(), "b|b|");
     Ok(())
 }
 
@@ -175,23 +205,41 @@ fn hit_told(alloc: Global, found: Option<SearchResult<'_>>) -> Result<String, Al
     }
 }
 
-// Adds a line, or sets what is kept and what ignored; whether a line was added, where one was to be.
-fn change<H: History>(
+// Adds a line, and tells whether it did.
+fn added<H: History>(
     alloc: Global,
     history: &mut H,
     call: &str,
     text: &str,
-) -> Result<Option<bool>, Fail> {
+) -> Result<&'static str, ReadlineError> {
+    let line = meant(alloc, text)?;
+    let added = match call {
+        "add" => history.add(alloc, line.as_str()),
+        _ => history.add_owned(alloc, line),
+    };
+    Ok(if added? { "added " } else { "ignored " })
+}
+
+// Sets what is kept and what ignored; there is nothing to tell then.
+fn set<H: History>(history: &mut H, call: &str, text: &str) -> &'static str {
     match call {
-        "add" => return Ok(Some(history.add(alloc, meant(alloc, text)?.as_str())?)),
-        "add_owned" => return Ok(Some(history.add_owned(alloc, meant(alloc, text)?)?)),
-        "max_len" => history.set_max_len(text.parse()?),
+        "max_len" => history.set_max_len(text.parse().unwrap_or(usize::MAX)),
         "ignore_dups" => history.ignore_dups(text == "yes"),
         "ignore_space" => history.ignore_space(text == "yes"),
         "clear" => history.clear(),
-        other => return Err(Fail::new(format_args!("no call: {other}"))),
+        _ => return "no call ",
     }
-    Ok(None)
+    ""
+}
+
+// An answer, and the entries of a history.
+fn told_with_entries<H: History>(
+    alloc: Global,
+    history: &H,
+    answer: &str,
+) -> Result<String, AllocError> {
+    let entries = entries(alloc, history)?;
+    format!(in alloc; "{answer}{entries}")
 }
 
 // Changes a history, and tells what it answers and the entries then.
@@ -200,14 +248,12 @@ fn changed<H: History>(
     history: &mut H,
     call: &str,
     text: &str,
-) -> Result<String, Fail> {
-    let answer = match change(alloc, history, call, text)? {
-        Some(true) => "added ",
-        Some(false) => "ignored ",
-        None => "",
+) -> Result<String, ReadlineError> {
+    let answer = match call {
+        "add" | "add_owned" => added(alloc, history, call, text)?,
+        _ => set(history, call, text),
     };
-    let entries = entries(alloc, history)?;
-    Ok(format!(in alloc; "{answer}{entries}")?)
+    Ok(told_with_entries(alloc, history, answer)?)
 }
 
 // Looks an entry up, as `search forward 3 line` does from the place 3 on.
@@ -218,11 +264,12 @@ fn looked_up<H: History>(
     text: &str,
 ) -> Result<String, AllocError> {
     let (dir, place, term) = direction_place_and_term(text);
-    match call {
-        "search" => hit_told(alloc, history.search(term, place, dir)),
-        "starts_with" => hit_told(alloc, history.starts_with(term, place, dir)),
-        _ => hit_told(alloc, history.get(place, dir)),
-    }
+    let found = match call {
+        "search" => history.search(term, place, dir),
+        "starts_with" => history.starts_with(term, place, dir),
+        _ => history.get(place, dir),
+    };
+    hit_told(alloc, found)
 }
 
 // Looks an entry up, or changes the history.
@@ -231,7 +278,7 @@ fn answered<H: History>(
     history: &mut H,
     call: &str,
     text: &str,
-) -> Result<String, Fail> {
+) -> Result<String, ReadlineError> {
     match call {
         "search" | "starts_with" | "get" => Ok(looked_up(alloc, history, call, text)?),
         _ => changed(alloc, history, call, text),
@@ -252,45 +299,48 @@ fn direction_place_and_term(text: &str) -> (SearchDirection, usize, &str) {
 // A history with the text that it is saved to.
 #[derive(Drop)]
 struct Desk {
-    alloc: Global,
     history: FileHistory,
     file: VecSink,
 }
 
 impl Desk {
     // Makes a call, and tells what it answers: of a save what it writes, and of an addition the whole text then.
-    fn made(&mut self, call: &str, text: &str) -> Result<String, Fail> {
+    fn made(&mut self, alloc: Global, call: &str, text: &str) -> Result<String, ReadlineError> {
         match call {
-            "save" => self.save(),
-            "append" => {
-                self.history.append_to(&mut self.file)?;
-                Ok(pictured_bytes(self.alloc, self.file.bytes())?)
-            }
-            "reload" => {
-                self.history = FileHistory::new(self.alloc);
-                self.history.set_max_len(2);
-                Ok(loaded(self.alloc, &mut self.history, self.file.bytes())?)
-            }
-            _ => answered(self.alloc, &mut self.history, call, text),
+            "save" => self.save(alloc),
+            "append" => self.append(alloc),
+            "reload" => self.reload(alloc),
+            _ => answered(alloc, &mut self.history, call, text),
         }
     }
 
     // A save that writes nothing leaves the text as it is.
-    fn save(&mut self) -> Result<String, Fail> {
-        let mut sink = VecSink::new(self.alloc);
+    fn save(&mut self, alloc: Global) -> Result<String, ReadlineError> {
+        let mut sink = VecSink::new(alloc);
         self.history.save_to(&mut sink)?;
-        let written = pictured_bytes(self.alloc, sink.bytes())?;
+        let written = pictured_bytes(alloc, sink.bytes())?;
         if !written.is_empty() {
             self.file = sink;
         }
         Ok(written)
+    }
+
+    fn append(&mut self, alloc: Global) -> Result<String, ReadlineError> {
+        self.history.append_to(&mut self.file)?;
+        Ok(pictured_bytes(alloc, self.file.bytes())?)
+    }
+
+    fn reload(&mut self, alloc: Global) -> Result<String, ReadlineError> {
+        self.history = FileHistory::new(alloc);
+        self.history.set_max_len(2);
+        loaded(alloc, &mut self.history, self.file.bytes())
     }
 }
 
 impl Player for Desk {
     fn play(&mut self, alloc: Global, call: &str) -> Result<String, Fail> {
         let (call, text) = word_and_rest(call);
-        let said = self.made(call, text)?;
+        let said = self.made(alloc, call, text)?;
         trimmed(alloc, said.as_str())
     }
 }
@@ -299,12 +349,7 @@ impl Player for Desk {
 fn plays_with(alloc: Global, lines: &str, table: &str) -> Result<(), Fail> {
     let history = with_lines(alloc, lines)?;
     let file = VecSink::new(alloc);
-    let mut desk = Desk {
-        alloc,
-        history,
-        file,
-    };
-    rows_hold(alloc, &mut desk, table)
+    rows_hold(alloc, &mut Desk { history, file }, table)
 }
 
 /// A history in memory.
@@ -314,25 +359,35 @@ struct Memory {
 }
 
 impl Memory {
-    // The number of its lines, also counted one by one, whether there are none, and the line at a place.
-    fn told(&self, alloc: Global, place: usize) -> Result<String, AllocError> {
+    // The number of its lines, also counted one by one, and whether there are none.
+    fn counts_told(&self, alloc: Global) -> Result<String, AllocError> {
         let (count, counted) = (self.history.len(), self.history.iter().count());
         let empty = self.history.is_empty();
-        if place >= count {
-            return format!(in alloc; "{count}, {counted}, {empty}");
+        format!(in alloc; "{count}, {counted}, {empty}")
+    }
+
+    // The same, and the line at a place.
+    fn told(&self, alloc: Global, place: usize) -> Result<String, AllocError> {
+        let counts = self.counts_told(alloc)?;
+        if place >= self.history.len() {
+            return Ok(counts);
         }
         let line = self.history[place].as_str();
-        format!(in alloc; "{count}, {counted}, {empty}, {line:?}")
+        format!(in alloc; "{counts}, {line:?}")
+    }
+
+    fn answer(&mut self, alloc: Global, call: &str, text: &str) -> Result<String, ReadlineError> {
+        match call {
+            "lines" => Ok(self.told(alloc, text.parse().unwrap_or(usize::MAX))?),
+            _ => answered(alloc, &mut self.history, call, text),
+        }
     }
 }
 
 impl Player for Memory {
     fn play(&mut self, alloc: Global, call: &str) -> Result<String, Fail> {
         let (call, text) = word_and_rest(call);
-        if call == "lines" {
-            return Ok(self.told(alloc, text.parse()?)?);
-        }
-        let said = answered(alloc, &mut self.history, call, text)?;
+        let said = self.answer(alloc, call, text)?;
         trimmed(alloc, said.as_str())
     }
 }
@@ -431,24 +486,21 @@ const HINTS: &str = r#"
     help|           = none
 "#;
 
-// What a hinter has for a line.
-fn hint_told<Hi: Hinter>(
+// A hint, as it is shown and as it is taken.
+fn hint_told<T: Hint>(
     alloc: Global,
-    hinter: &Hi,
-    line: &str,
-    context: &Context<'_, FileHistory>,
-) -> Result<String, Fail> {
-    let (line, pos) = line_and_place(alloc, line)?;
-    if pos > line.len() {
-        return Err(Fail::new("a cursor beyond the line"));
+    answer: Result<Option<T>, HookFault>,
+) -> Result<String, AllocError> {
+    match answer {
+        Ok(Some(hint)) => both_told(alloc, hint.display(), hint.completion()),
+        Ok(None) => String::from_str(alloc, "none"),
+        Err(fault) => format!(in alloc; "{fault:?}"),
     }
-    match hinter.hint(alloc, line.as_str(), pos, context)? {
-        Some(hint) => {
-            let (shown, taken) = (hint.display(), hint.completion().unwrap_or("none"));
-            Ok(format!(in alloc; "{shown:?}, takes {taken:?}")?)
-        }
-        None => Ok(String::from_str(alloc, "none")?),
-    }
+}
+
+fn both_told(alloc: Global, shown: &str, taken: Option<&str>) -> Result<String, AllocError> {
+    let taken = taken.unwrap_or("none");
+    format!(in alloc; "{shown:?}, takes {taken:?}")
 }
 
 /// A history with the line that is hinted.
@@ -457,24 +509,39 @@ struct Hinted {
     history: FileHistory,
 }
 
+impl Hinted {
+    // The hint from the history, and where no hinter has one, that.
+    fn told(&self, alloc: Global, line: &str, pos: usize) -> Result<String, AllocError> {
+        if pos > line.len() {
+            return String::from_str(alloc, "a cursor beyond the line");
+        }
+        let context = Context::new(&self.history);
+        let other = hint_told(alloc, ().hint(alloc, line, pos, &context))?;
+        if other.as_str() != "none" {
+            return Ok(other);
+        }
+        hint_told(alloc, HistoryHinter::new().hint(alloc, line, pos, &context))
+    }
+}
+
 impl Player for Hinted {
     fn play(&mut self, alloc: Global, line: &str) -> Result<String, Fail> {
-        let context = Context::new(&self.history);
-        let mut said = hint_told(alloc, &HistoryHinter::new(), line, &context)?;
-        let other = hint_told(alloc, &(), line, &context)?;
-        if other.as_str() != "none" {
-            write!(said, ", and without a hinter {other}")?;
-        }
-        Ok(said)
+        let (line, pos) = line_and_place(alloc, line)?;
+        Ok(self.told(alloc, line.as_str(), pos)?)
     }
+}
+
+// The place in a history at first, and after it is set to 0.
+fn first_and_set_place<H: History>(history: &H) -> (usize, usize) {
+    let mut context = Context::new(history);
+    let first = context.history_index();
+    context.set_history_index(0);
+    (first, context.history_index())
 }
 
 #[test]
 fn hints(rt: HostRuntime) -> Result<(), Fail> {
     let history = with_lines(rt.alloc(), "hello world|")?;
-    let mut context = Context::new(&history);
-    assert_eq!(rt; context.history_index(), 1);
-    context.set_history_index(0);
-    assert_eq!(rt; context.history_index(), 0);
+    assert_eq!(rt; first_and_set_place(&history), (1, 0));
     rows_hold(rt.alloc(), &mut Hinted { history }, HINTS)
 }

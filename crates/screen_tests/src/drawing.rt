@@ -8,7 +8,7 @@ use line_screen::{ScreenRenderer, laws};
 use stand_ins::lines::line_of;
 use stand_ins::rows::{Player, rows_hold};
 use stand_ins::tables::{meant, pictured_bytes, word_and_rest};
-use std::alloc::Global;
+use std::alloc::{AllocError, Global};
 use std::test::Fail;
 
 /// A line with its cursor, and what stands around it.
@@ -77,7 +77,7 @@ const MARGINS: &str = "
 ";
 
 /// What the rows of a table ask.
-#[derive(Clone, Copy, Drop)]
+#[derive(Drop)]
 enum Ask {
     Drawing,
     Call,
@@ -87,35 +87,54 @@ enum Ask {
 
 impl Player for Ask {
     fn play(&mut self, alloc: Global, call: &str) -> Result<String, Fail> {
-        match self {
+        let said = match self {
             Ask::Drawing => drawn(alloc, call),
             Ask::Call => sent(alloc, call),
-            Ask::FailedWrite => refusals_told(alloc, call.parse()?),
+            Ask::FailedWrite => refusals_told(alloc, call),
             Ask::PassedOn => passed_on(alloc, call),
-        }
+        };
+        Ok(said?)
     }
 }
 
 // The bytes of a drawing on so many columns.
-fn bytes_of(alloc: Global, columns: u16, shown: Shown) -> Result<String, Fail> {
+fn bytes_of(alloc: Global, columns: u16, shown: Shown) -> Result<String, ReadlineError> {
     let mut screen = screen(VecSink::new(alloc), columns, BellStyle::Audible);
     draw(&mut screen, shown)?;
     Ok(pictured_bytes(alloc, screen.into_sink().bytes())?)
 }
 
-// The bytes of a row's drawing.
-fn drawn(alloc: Global, call: &str) -> Result<String, Fail> {
-    let (columns, call) = word_and_rest(call);
-    let (prompt, call) = word_and_rest(call);
-    let (line, info) = word_and_rest(call);
-    let prompt = meant(alloc, if prompt == "none" { "" } else { prompt })?;
+// The prompt that a word means.
+fn prompt_of(alloc: Global, word: &str) -> Result<String, AllocError> {
+    match word {
+        "none" => Ok(String::new(alloc)),
+        _ => meant(alloc, word),
+    }
+}
+
+// The bytes of the drawing of a line and what follows it, after a prompt.
+fn drawn_after(
+    alloc: Global,
+    columns: u16,
+    prompt: &str,
+    shown: &str,
+) -> Result<String, ReadlineError> {
+    let (line, info) = word_and_rest(shown);
     let line = line_of(alloc, line)?;
     let shown = Shown {
-        prompt: prompt.as_str(),
+        prompt,
         line: &line,
         info: if info.is_empty() { None } else { Some(info) },
     };
-    bytes_of(alloc, columns.parse()?, shown)
+    bytes_of(alloc, columns, shown)
+}
+
+// The bytes of a row's drawing.
+fn drawn(alloc: Global, call: &str) -> Result<String, ReadlineError> {
+    let (columns, call) = word_and_rest(call);
+    let (prompt, shown) = word_and_rest(call);
+    let prompt = prompt_of(alloc, prompt)?;
+    drawn_after(alloc, columns.parse().unwrap_or(0), prompt.as_str(), shown)
 }
 
 #[test]
@@ -125,7 +144,7 @@ fn draws_lines(rt: HostRuntime) -> Result<(), Fail> {
 }
 
 // Draws the longer line over the other, that one without an older drawing, and clears its rows; the bytes.
-fn drawn_over(alloc: Global, shown: Shown, longer: Shown) -> Result<String, Fail> {
+fn drawn_over(alloc: Global, shown: Shown, longer: Shown) -> Result<String, ReadlineError> {
     let mut screen = screen(VecSink::new(alloc), 4, BellStyle::Audible);
     let layout = layout_of(&screen, shown);
     draw_over(&mut screen, longer, Some(layout), &layout)?;
@@ -142,15 +161,15 @@ fn after_the_prompt(line: &LineBuffer) -> Shown<'_> {
     }
 }
 
+fn two_lines_drawn(alloc: Global) -> Result<String, ReadlineError> {
+    let line = line_of(alloc, "ab")?;
+    let longer = line_of(alloc, "abc")?;
+    drawn_over(alloc, after_the_prompt(&line), after_the_prompt(&longer))
+}
+
 #[test]
 fn draws_over_and_without_an_older_drawing(rt: HostRuntime) -> Result<(), Fail> {
-    let line = line_of(rt.alloc(), "ab")?;
-    let longer = line_of(rt.alloc(), "abc")?;
-    let said = drawn_over(
-        rt.alloc(),
-        after_the_prompt(&line),
-        after_the_prompt(&longer),
-    )?;
+    let said = two_lines_drawn(rt.alloc())?;
     assert_eq!(rt;
         said.as_str(),
         "␛[1A␍␛[J␛[m> ␛[mab␍␊c␛[m␛[m␛[m> ␛[mab␍␊␛[m␛[m␛[1A␍␛[J"
@@ -174,22 +193,30 @@ const CALLS: &str = "
     visible beep        = nothing
 ";
 
+const HERE: Position = Position { col: 12, row: 3 };
+
+const THERE: Position = Position { col: 2, row: 1 };
+
+// A layout with the cursor and the end at the origin, or inside the text.
+fn layout_for(call: &str) -> Layout {
+    let mut layout = Layout::new(GraphemeClusterMode::Unicode);
+    if call == "refresh_inside" {
+        (layout.cursor, layout.end) = (THERE, HERE);
+    }
+    layout
+}
+
 // Makes a call that sends bytes.
 fn call_made<Out: Renderer>(
     screen: &mut Out,
     call: &str,
     text: &LineBuffer,
 ) -> Result<(), ReadlineError> {
-    let here = Position { col: 12, row: 3 };
-    let there = Position { col: 2, row: 1 };
-    let mut layout = Layout::new(GraphemeClusterMode::Unicode);
-    if call == "refresh_inside" {
-        (layout.cursor, layout.end) = (there, here);
-    }
+    let layout = layout_for(call);
     match call {
-        "up" => screen.move_cursor(here, there),
-        "stay" => screen.move_cursor(here, here),
-        "down" => screen.move_cursor(there, here),
+        "up" => screen.move_cursor(HERE, THERE),
+        "stay" => screen.move_cursor(HERE, HERE),
+        "down" => screen.move_cursor(THERE, HERE),
         "write" => screen.write_and_flush(text.as_str()),
         "beep" => screen.beep(),
         "clear_to_eol" => screen.clear_to_eol(),
@@ -211,7 +238,7 @@ fn bell_of(word: &str) -> BellStyle {
 }
 
 // The bytes that a row's call sends.
-fn sent(alloc: Global, call: &str) -> Result<String, Fail> {
+fn sent(alloc: Global, call: &str) -> Result<String, ReadlineError> {
     let (bell, call) = word_and_rest(call);
     let (call, text) = word_and_rest(call);
     let line = line_of(alloc, text)?;
@@ -245,8 +272,9 @@ fn refused(screen: &mut ScreenRenderer<FailsAfter>, line: &LineBuffer) -> bool {
 }
 
 // Whether every call is refused after so many writes.
-fn refusals_told(alloc: Global, writes: u32) -> Result<String, Fail> {
+fn refusals_told(alloc: Global, writes: &str) -> Result<String, ReadlineError> {
     let line = line_of(alloc, "|e\\u{301}\\u{6F22}ab")?;
+    let writes = writes.parse().unwrap_or(u32::MAX);
     let mut screen = screen(FailsAfter::new(writes), 4, BellStyle::Audible);
     let told = if refused(&mut screen, &line) {
         "refused"
@@ -292,7 +320,7 @@ const PASSED_ON: &str = "
 ";
 
 // What a row's call leaves waiting.
-fn passed_on(alloc: Global, call: &str) -> Result<String, Fail> {
+fn passed_on(alloc: Global, call: &str) -> Result<String, ReadlineError> {
     let (call, text) = word_and_rest(call);
     let line = line_of(alloc, text)?;
     let mut screen = screen(Gathers::new(), 80, BellStyle::Audible);

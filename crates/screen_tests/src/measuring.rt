@@ -4,7 +4,7 @@ use line_buffer::{GraphemeClusterMode, Position};
 use line_screen::{measure, short_insertion, short_kill};
 use stand_ins::rows::{Player, rows_hold};
 use stand_ins::tables::{meant, word_and_rest};
-use std::alloc::Global;
+use std::alloc::{AllocError, Global};
 use std::test::Fail;
 
 // Columns, mode, the row and the column from which a text is measured, and the text; the row and the column of its end.
@@ -38,15 +38,15 @@ fn position_of(word: &str) -> Position {
     }
 }
 
-fn position_told(alloc: Global, place: Option<Position>) -> Result<String, Fail> {
+fn position_told(alloc: Global, place: Option<Position>) -> Result<String, AllocError> {
     match place {
-        Some(Position { row, col }) => Ok(format!(in alloc; "{row}:{col}")?),
-        None => Ok(String::from_str(alloc, "none")?),
+        Some(Position { row, col }) => format!(in alloc; "{row}:{col}"),
+        None => String::from_str(alloc, "none"),
     }
 }
 
 /// What the rows of a table ask.
-#[derive(Clone, Copy, Drop)]
+#[derive(Drop)]
 enum Ask {
     End,
     Insertion,
@@ -57,19 +57,19 @@ impl Player for Ask {
     fn play(&mut self, alloc: Global, call: &str) -> Result<String, Fail> {
         let (first, rest) = word_and_rest(call);
         let place = match self {
-            Ask::End => end_measured(alloc, first, rest)?,
-            Ask::Insertion => after_insertion(alloc, first, rest)?,
-            Ask::Kill => after_kill(alloc, first, rest)?,
+            Ask::End => end_measured(alloc, first, rest),
+            Ask::Insertion => after_insertion(alloc, first, rest),
+            Ask::Kill => after_kill(alloc, first, rest),
         };
-        position_told(alloc, place)
+        Ok(position_told(alloc, place?)?)
     }
 }
 
 // Where a row's text ends on so many columns.
-fn end_measured(alloc: Global, columns: &str, call: &str) -> Result<Option<Position>, Fail> {
+fn end_measured(alloc: Global, columns: &str, call: &str) -> Result<Option<Position>, AllocError> {
     let (mode, call) = word_and_rest(call);
     let (from, text) = word_and_rest(call);
-    let columns: u16 = columns.parse()?;
+    let columns: u16 = columns.parse().unwrap_or(0);
     let columns = columns.max(2).min(1000);
     let text = meant(alloc, text)?;
     let end = measure(text.as_str(), position_of(from), columns, mode_of(mode));
@@ -77,14 +77,14 @@ fn end_measured(alloc: Global, columns: &str, call: &str) -> Result<Option<Posit
 }
 
 // Where the line ends after a typed character, where its byte is enough.
-fn after_insertion(alloc: Global, end: &str, text: &str) -> Result<Option<Position>, Fail> {
+fn after_insertion(alloc: Global, end: &str, text: &str) -> Result<Option<Position>, AllocError> {
     let text = meant(alloc, text)?;
-    let c = text.as_str().chars().next().ok_or("no character")?;
+    let c = text.as_str().chars().next().unwrap_or('\0');
     Ok(short_insertion(position_of(end), c, 80))
 }
 
 // Where the cursor goes after a kill, where an erasure is enough.
-fn after_kill(alloc: Global, end: &str, text: &str) -> Result<Option<Position>, Fail> {
+fn after_kill(alloc: Global, end: &str, text: &str) -> Result<Option<Position>, AllocError> {
     let text = meant(alloc, text)?;
     Ok(short_kill(position_of(end), text.as_str()))
 }

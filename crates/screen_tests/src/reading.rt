@@ -6,9 +6,9 @@ use line_keys::{KeyCode, KeyEvent, Modifiers, RawReader};
 use line_screen::KeyReader;
 use stand_ins::key_names::write_key;
 use stand_ins::reader_calls::tell_call;
-use stand_ins::rows::{Player, rows_hold, trimmed};
+use stand_ins::rows::{Player, rows_hold};
 use stand_ins::tables::{meant_bytes, pictured, pictured_bytes, word_and_rest};
-use std::alloc::Global;
+use std::alloc::{AllocError, Global};
 use std::test::Fail;
 
 // Asks for a key, and tells its name.
@@ -51,7 +51,7 @@ fn tell_all<R: RawReader>(
     reader: &mut R,
     said: &mut String,
     texts: bool,
-) -> Result<(), Fail> {
+) -> Result<(), AllocError> {
     for _ in 0..100 {
         if let Err(why) = tell_next(alloc, reader, said, texts) {
             return tell_refusal(reader, said, why);
@@ -64,7 +64,7 @@ fn tell_refusal<R: RawReader>(
     reader: &mut R,
     said: &mut String,
     why: ReadlineError,
-) -> Result<(), Fail> {
+) -> Result<(), AllocError> {
     write!(said, "{why:?}")?;
     if reader.next_key(true) != Err(why) {
         said.push_str(", but not for good")?;
@@ -79,7 +79,7 @@ pub(crate) fn given<S: Source + Drop>(
     source: S,
     mode: EditMode,
     texts: bool,
-) -> Result<String, Fail> {
+) -> Result<String, AllocError> {
     let mut reader = KeyReader::new(source, mode);
     let mut said = String::new(alloc);
     tell_all(alloc, &mut reader, &mut said, texts)?;
@@ -87,11 +87,11 @@ pub(crate) fn given<S: Source + Drop>(
 }
 
 // What two readers gave, where it is the same.
-fn agreed(alloc: Global, one: String, other: &str) -> Result<String, Fail> {
+fn agreed(alloc: Global, one: String, other: &str) -> Result<String, AllocError> {
     if one.as_str() == other {
         Ok(one)
     } else {
-        Ok(format!(in alloc; "{one}, but {other}")?)
+        format!(in alloc; "{one}, but {other}")
     }
 }
 
@@ -101,14 +101,18 @@ pub(crate) fn read_as(
     bytes: &[u8],
     mode: EditMode,
     texts: bool,
-) -> Result<String, Fail> {
+) -> Result<String, AllocError> {
     let whole = given(alloc, SliceSource::new(bytes), mode, texts)?;
     let in_pieces = given(alloc, ReadSource::new(OneByOne { bytes }), mode, texts)?;
     agreed(alloc, whole, in_pieces.as_str())
 }
 
 /// The same in both modes.
-pub(crate) fn read_in_both_modes(alloc: Global, bytes: &[u8], texts: bool) -> Result<String, Fail> {
+pub(crate) fn read_in_both_modes(
+    alloc: Global,
+    bytes: &[u8],
+    texts: bool,
+) -> Result<String, AllocError> {
     let emacs = read_as(alloc, bytes, EditMode::Emacs, texts)?;
     let vi = read_as(alloc, bytes, EditMode::Vi, texts)?;
     agreed(alloc, emacs, vi.as_str())
@@ -119,7 +123,7 @@ pub(crate) fn read_until_a_failure(
     alloc: Global,
     bytes: &[u8],
     texts: bool,
-) -> Result<String, Fail> {
+) -> Result<String, AllocError> {
     let emacs = given(
         alloc,
         SliceSource::failing_after(bytes),
@@ -136,7 +140,7 @@ pub(crate) fn read_until_a_failure(
 }
 
 /// What the rows of a table ask.
-#[derive(Clone, Copy, Drop)]
+#[derive(Drop)]
 enum Ask {
     Keys,
     Texts,
@@ -147,18 +151,19 @@ enum Ask {
 
 impl Player for Ask {
     fn play(&mut self, alloc: Global, call: &str) -> Result<String, Fail> {
-        match self {
+        let said = match self {
             Ask::Keys => read_by_modes(alloc, call, false),
             Ask::Texts => read_by_modes(alloc, call, true),
             Ask::CutText => cut_text_told(alloc, call),
             Ask::Character => character_told(alloc, call),
             Ask::Calls => calls_told(alloc, call),
-        }
+        };
+        Ok(said?)
     }
 }
 
 // What the bytes of a row are read as, in the mode that it names or in `both`.
-fn read_by_modes(alloc: Global, call: &str, texts: bool) -> Result<String, Fail> {
+fn read_by_modes(alloc: Global, call: &str, texts: bool) -> Result<String, AllocError> {
     let (modes, bytes) = word_and_rest(call);
     let bytes = meant_bytes(alloc, bytes)?;
     match modes {
@@ -266,13 +271,21 @@ const CUT_TEXTS: &str = "
     21  = PasteStart Eof, PasteStart Reader
 ";
 
+// What bytes are read as by their end and by a failure after them.
+fn cut_off_told(alloc: Global, bytes: &[u8]) -> Result<String, AllocError> {
+    let by_end = read_in_both_modes(alloc, bytes, true)?;
+    let by_failure = read_until_a_failure(alloc, bytes, true)?;
+    format!(in alloc; "{by_end}, {by_failure}")
+}
+
 // What the first bytes of a pasted text are read as.
-fn cut_text_told(alloc: Global, count: &str) -> Result<String, Fail> {
+fn cut_text_told(alloc: Global, count: &str) -> Result<String, AllocError> {
     let bytes = meant_bytes(alloc, "␛[200~a€␍␊␛[20␛[201~")?;
-    let front = bytes.get(..count.parse()?).ok_or("no such byte")?;
-    let by_end = read_in_both_modes(alloc, front, true)?;
-    let by_failure = read_until_a_failure(alloc, front, true)?;
-    Ok(format!(in alloc; "{by_end}, {by_failure}")?)
+    let count = count.parse().unwrap_or(usize::MAX);
+    match bytes.get(..count) {
+        Some(front) => cut_off_told(alloc, front),
+        None => String::from_str(alloc, "no such byte"),
+    }
 }
 
 // A text that is cut off is refused as the bytes end: by their end, inside a character, or by a failure.
@@ -303,16 +316,15 @@ fn is_key(bytes: &[u8], c: char) -> bool {
 }
 
 // The number of the character that the bytes are, which is a key too.
-fn number_told(alloc: Global, bytes: &[u8]) -> Result<String, Fail> {
+fn number_told(alloc: Global, bytes: &[u8]) -> Result<String, AllocError> {
     let mut reader = KeyReader::new(SliceSource::new(bytes), EditMode::Vi);
-    let c = reader.next_char()?;
-    if reader.next_char() != Err(ReadlineError::Eof) {
-        return Err(Fail::new("more than a character"));
+    let Ok(c) = reader.next_char() else {
+        return String::from_str(alloc, "no character");
+    };
+    if reader.next_char() != Err(ReadlineError::Eof) || !is_key(bytes, c) {
+        return String::from_str(alloc, "more than a character, or another key");
     }
-    if !is_key(bytes, c) {
-        return Err(Fail::new("another key"));
-    }
-    Ok(format!(in alloc; "{:x}", u32::from(c))?)
+    format!(in alloc; "{:x}", u32::from(c))
 }
 
 // Whether they are none where their end or a failure cuts them off.
@@ -324,13 +336,21 @@ fn is_cut_off(front: &[u8]) -> bool {
         && failing.next_key(false) == Err(ReadlineError::Reader)
 }
 
-// The number of the character that a row's bytes are, and the first bytes of which are none.
-fn character_told(alloc: Global, bytes: &str) -> Result<String, Fail> {
-    let bytes = meant_bytes(alloc, bytes)?;
+// Whether no first bytes of these are a character.
+fn all_cut_off(bytes: &[u8]) -> bool {
     for cut in 1..bytes.len() {
         if !is_cut_off(&bytes[..cut]) {
-            return Err(Fail::new("fewer bytes aren't cut off"));
+            return false;
         }
+    }
+    true
+}
+
+// The number of the character that a row's bytes are, and the first bytes of which are none.
+fn character_told(alloc: Global, bytes: &str) -> Result<String, AllocError> {
+    let bytes = meant_bytes(alloc, bytes)?;
+    if !all_cut_off(&bytes) {
+        return String::from_str(alloc, "fewer bytes aren't cut off");
     }
     number_told(alloc, &bytes)
 }
@@ -355,17 +375,16 @@ const CALLS: &str = "
 ";
 
 // What a reader has read ahead.
-fn tell_kept(said: &mut String, kept: Option<u8>) -> Result<(), Fail> {
+fn tell_kept(said: &mut String, kept: Option<u8>) -> Result<(), AllocError> {
     match kept {
-        Some(0x1B) => said.push_str(", keeps ␛")?,
-        Some(byte) => write!(said, ", keeps {byte:x}")?,
-        None => said.push_str(", keeps none")?,
+        Some(0x1B) => said.push_str(", keeps ␛"),
+        Some(byte) => write!(said, ", keeps {byte:x}"),
+        None => said.push_str(", keeps none"),
     }
-    Ok(())
 }
 
 // What a source has left.
-fn rest_of<S: Source>(alloc: Global, source: &mut S) -> Result<String, Fail> {
+fn rest_of<S: Source>(alloc: Global, source: &mut S) -> Result<String, AllocError> {
     let mut bytes = Vec::new(alloc);
     for _ in 0..100 {
         let Ok(Some(byte)) = source.next_byte() else {
@@ -373,43 +392,74 @@ fn rest_of<S: Source>(alloc: Global, source: &mut S) -> Result<String, Fail> {
         };
         bytes.push(byte)?;
     }
-    Ok(pictured_bytes(alloc, &bytes)?)
+    pictured_bytes(alloc, &bytes)
+}
+
+// Makes a call, and tells what it answers.
+fn tell_answer<R: RawReader>(
+    alloc: Global,
+    reader: &mut R,
+    call: &str,
+    said: &mut String,
+) -> Result<(), AllocError> {
+    if let Err(why) = tell_call(alloc, reader, call, said) {
+        write!(said, "{why:?}")?;
+    }
+    said.push(' ')
+}
+
+fn tell_answers<R: RawReader>(
+    alloc: Global,
+    reader: &mut R,
+    calls: &str,
+    said: &mut String,
+) -> Result<(), AllocError> {
+    for call in calls.split_whitespace() {
+        tell_answer(alloc, reader, call, said)?;
+    }
+    Ok(())
+}
+
+// What a source has left, and what was read ahead of it.
+fn tell_parts<S: Source>(
+    alloc: Global,
+    said: &mut String,
+    source: &mut S,
+    kept: Option<u8>,
+) -> Result<(), AllocError> {
+    if kept.is_some() {
+        tell_kept(said, kept)?;
+    }
+    let rest = rest_of(alloc, source)?;
+    write!(said, ", leaves {rest}")
 }
 
 // Makes the calls, and tells what is after them.
-fn called(alloc: Global, bytes: &[u8], mode: EditMode, calls: &str) -> Result<String, Fail> {
+fn called(alloc: Global, bytes: &[u8], mode: EditMode, calls: &str) -> Result<String, AllocError> {
     let mut reader = KeyReader::new(SliceSource::new(bytes), mode);
     let mut said = String::new(alloc);
-    for call in calls.split_whitespace() {
-        if call == "unbuffer" {
-            tell_kept(&mut said, reader.unbuffer())?;
-            return Ok(said);
-        }
-        if let Err(why) = tell_call(alloc, &mut reader, call, &mut said) {
-            write!(said, "{why:?}")?;
-        }
-        said.push(' ')?;
+    if let Some(calls) = calls.strip_suffix("unbuffer") {
+        tell_answers(alloc, &mut reader, calls, &mut said)?;
+        tell_kept(&mut said, reader.unbuffer())?;
+    } else {
+        tell_answers(alloc, &mut reader, calls, &mut said)?;
+        let (mut source, kept) = reader.into_parts();
+        tell_parts(alloc, &mut said, &mut source, kept)?;
     }
-    let (mut source, kept) = reader.into_parts();
-    if kept.is_some() {
-        tell_kept(&mut said, kept)?;
-    }
-    let rest = rest_of(alloc, &mut source)?;
-    write!(said, ", leaves {rest}")?;
     Ok(said)
 }
 
 // What a row's calls answer.
-fn calls_told(alloc: Global, call: &str) -> Result<String, Fail> {
+fn calls_told(alloc: Global, call: &str) -> Result<String, AllocError> {
     let (mode, call) = word_and_rest(call);
-    let (bytes, calls) = call.split_once(" : ").ok_or("no calls")?;
+    let (bytes, calls) = call.split_once(" : ").unwrap_or((call, ""));
     let bytes = meant_bytes(alloc, bytes)?;
-    let mode = if mode == "vi" {
-        EditMode::Vi
-    } else {
-        EditMode::Emacs
+    let mode = match mode {
+        "vi" => EditMode::Vi,
+        _ => EditMode::Emacs,
     };
-    trimmed(alloc, called(alloc, &bytes, mode, calls)?.as_str())
+    let said = called(alloc, &bytes, mode, calls)?;
+    String::from_str(alloc, said.as_str().trim())
 }
 
 #[test]
@@ -418,7 +468,11 @@ fn calls_one_after_the_other(rt: HostRuntime) -> Result<(), Fail> {
 }
 
 // Tells the command of a key, where it is one of the reader's own.
-fn tell_binding<R: RawReader>(reader: &R, key: KeyEvent, said: &mut String) -> Result<(), Fail> {
+fn tell_binding<R: RawReader>(
+    reader: &R,
+    key: KeyEvent,
+    said: &mut String,
+) -> Result<(), AllocError> {
     if let Some(cmd) = reader.find_binding(&key) {
         write_key(said, key)?;
         write!(said, " {cmd:?}, ")?;
@@ -427,7 +481,7 @@ fn tell_binding<R: RawReader>(reader: &R, key: KeyEvent, said: &mut String) -> R
 }
 
 // The same of the keys of a character.
-fn tell_bindings<R: RawReader>(reader: &R, c: char, said: &mut String) -> Result<(), Fail> {
+fn tell_bindings<R: RawReader>(reader: &R, c: char, said: &mut String) -> Result<(), AllocError> {
     for mods in [
         Modifiers::NONE,
         Modifiers::CTRL,
@@ -440,15 +494,21 @@ fn tell_bindings<R: RawReader>(reader: &R, c: char, said: &mut String) -> Result
     Ok(())
 }
 
+// The commands of the keys of all characters of ASCII that are printed.
+fn bindings_told<R: RawReader>(alloc: Global, reader: &R) -> Result<String, AllocError> {
+    let mut said = String::new(alloc);
+    for c in ' '..='~' {
+        tell_bindings(reader, c, &mut said)?;
+    }
+    Ok(said)
+}
+
 // The commands of Ctrl with a character, and of no other key.
 #[test]
 fn commands_of_the_readers_own(rt: HostRuntime) -> Result<(), Fail> {
     let reader = KeyReader::new(SliceSource::new(b""), EditMode::Emacs);
     assert_eq!(rt; reader.find_binding(&KeyEvent::ENTER), None);
-    let mut said = String::new(rt.alloc());
-    for c in ' '..='~' {
-        tell_bindings(&reader, c, &mut said)?;
-    }
+    let said = bindings_told(rt.alloc(), &reader)?;
     assert_eq!(rt;
         said.as_str(),
         r"C-C Interrupt, C-D EndOfFile, C-Z Suspend, C-\ Interrupt, "

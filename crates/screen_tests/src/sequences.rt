@@ -4,7 +4,7 @@ use crate::reading::{read_as, read_in_both_modes, read_until_a_failure};
 use line_config::EditMode;
 use stand_ins::rows::{Player, rows_hold};
 use stand_ins::tables::{meant_bytes, word_and_rest};
-use std::alloc::Global;
+use std::alloc::{AllocError, Global};
 use std::test::Fail;
 
 const PLAIN: &str = "
@@ -129,7 +129,7 @@ const MODIFIED: &str = "
 ";
 
 /// Reads sequences with a number in place of `@`, each a key before which the prefix stands.
-#[derive(Clone, Copy, Drop)]
+#[derive(Drop)]
 struct Sequences {
     number: &'static str,
     prefix: &'static str,
@@ -138,34 +138,36 @@ struct Sequences {
 impl Player for Sequences {
     fn play(&mut self, alloc: Global, sequence: &str) -> Result<String, Fail> {
         let sequence = sequence.replace(alloc, "@", self.number)?;
-        let bytes = meant_bytes(alloc, sequence.as_str())?;
-        all_cut_off(alloc, &bytes)?;
-        let said = read_in_both_modes(alloc, &bytes, false)?;
-        let key = said
-            .as_str()
-            .strip_suffix(" Eof")
-            .and_then(|key| key.strip_prefix(self.prefix));
-        Ok(format!(in alloc; "{}", key.ok_or("another key")?)?)
+        Ok(key_told(alloc, sequence.as_str(), self.prefix)?)
     }
 }
 
-// A sequence that is cut off after a byte, by the end and by a failure.
-fn cut_off(alloc: Global, front: &[u8]) -> Result<(), Fail> {
+// The key that a sequence is, without the prefix; where bytes of it were no such key, what they are read as.
+fn key_told(alloc: Global, sequence: &str, prefix: &str) -> Result<String, AllocError> {
+    let bytes = meant_bytes(alloc, sequence)?;
+    if !all_cut_off(alloc, &bytes)? {
+        return String::from_str(alloc, "another answer where it is cut off");
+    }
+    let said = read_in_both_modes(alloc, &bytes, false)?;
+    let key = said.as_str().strip_suffix(" Eof").unwrap_or("another end");
+    String::from_str(alloc, key.strip_prefix(prefix).unwrap_or("another key"))
+}
+
+// Whether a sequence is no key where it is cut off after a byte, by the end and by a failure.
+fn is_cut_off(alloc: Global, front: &[u8]) -> Result<bool, AllocError> {
     let by_end = read_in_both_modes(alloc, front, false)?;
     let by_failure = read_until_a_failure(alloc, front, false)?;
     let answer = if front.len() == 1 { "Esc Eof" } else { "Eof" };
-    if by_end.as_str() == answer && by_failure.as_str() == "Reader" {
-        Ok(())
-    } else {
-        Err(Fail::new(format_args!("cut off it is {by_end}, {by_failure}")))
-    }
+    Ok(by_end.as_str() == answer && by_failure.as_str() == "Reader")
 }
 
-fn all_cut_off(alloc: Global, bytes: &[u8]) -> Result<(), Fail> {
+fn all_cut_off(alloc: Global, bytes: &[u8]) -> Result<bool, AllocError> {
     for cut in 1..bytes.len() {
-        cut_off(alloc, &bytes[..cut])?;
+        if !is_cut_off(alloc, &bytes[..cut])? {
+            return Ok(false);
+        }
     }
-    Ok(())
+    Ok(true)
 }
 
 // Reads the sequences in both modes: whole, one byte a read, and cut after each byte by the end and by a failure.
@@ -230,17 +232,28 @@ const INTERMEDIATE: &str = "
 ";
 
 /// Reads each byte of a row's range after the same bytes.
-#[derive(Clone, Copy, Drop)]
+#[derive(Drop)]
 struct After {
     front: &'static str,
 }
 
 impl After {
     // What a byte comes to.
-    fn read(self, alloc: Global, byte: u8) -> Result<String, Fail> {
+    fn read(&self, alloc: Global, byte: u8) -> Result<String, AllocError> {
         let mut bytes = meant_bytes(alloc, self.front)?;
         bytes.push(byte)?;
         read_as(alloc, &bytes, EditMode::Emacs, false)
+    }
+
+    // What the first byte comes to, and the bytes after it to the last one too.
+    fn read_all(&self, alloc: Global, first: u8, last: u8) -> Result<String, AllocError> {
+        let said = self.read(alloc, first)?;
+        for byte in first..=last {
+            if self.read(alloc, byte)? != said {
+                return format!(in alloc; "another answer to {byte:02x}");
+            }
+        }
+        Ok(said)
     }
 }
 
@@ -248,13 +261,8 @@ impl Player for After {
     fn play(&mut self, alloc: Global, range: &str) -> Result<String, Fail> {
         let (first, last) = word_and_rest(range);
         let first = u8::from_str_radix(first, 16)?;
-        let said = self.read(alloc, first)?;
-        for byte in first..=u8::from_str_radix(last, 16)? {
-            if self.read(alloc, byte)? != said {
-                return Err(Fail::new(format_args!("another answer to {byte:02x}")));
-            }
-        }
-        Ok(said)
+        let last = u8::from_str_radix(last, 16)?;
+        Ok(self.read_all(alloc, first, last)?)
     }
 }
 
