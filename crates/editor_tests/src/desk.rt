@@ -17,10 +17,9 @@ use line_help::{Context, Helper, History, MemHistory};
 use line_keys::{Bindings, Cmd, CmdKind, Decides, InputState};
 use line_record::{Changeset, KillRing};
 use stand_ins::commands::command_named;
-use stand_ins::lines::shown_of;
 use stand_ins::rows::{Player, rows_hold, trimmed};
-use stand_ins::tables::{meant, pictured, word_and_rest};
-use std::alloc::Global;
+use stand_ins::tables::{marked, meant, pictured, word_and_rest};
+use std::alloc::{AllocError, Global};
 use std::test::Fail;
 
 /// What a table's lines are edited with, and what is told of them.
@@ -194,34 +193,32 @@ pub(crate) fn make<H: Helper + Drop, D: Decides>(
 pub(crate) fn status_of(
     alloc: Global,
     answer: Result<Status, ReadlineError>,
-) -> Result<String, ReadlineError> {
-    let text = match answer {
-        Ok(Status::Proceed) => String::new(alloc),
-        Ok(Status::Submit) => String::from_str(alloc, "Submit ")?,
-        Err(refusal) => format!(in alloc; "{refusal:?} ")?,
-    };
-    Ok(text)
+) -> Result<String, AllocError> {
+    match answer {
+        Ok(Status::Proceed) => Ok(String::new(alloc)),
+        Ok(Status::Submit) => String::from_str(alloc, "Submit "),
+        Err(refusal) => format!(in alloc; "{refusal:?} "),
+    }
 }
 
 /// A line as tables show it: a blank at its start as its picture.
 pub(crate) fn line_shown<H: Helper + Drop>(
     alloc: Global,
     desk: &Desk<'_, H>,
-) -> Result<String, ReadlineError> {
-    let shown = shown_of(alloc, &desk.line)?;
+) -> Result<String, AllocError> {
+    let shown = marked(alloc, desk.line.as_str(), desk.line.pos())?;
     match shown.as_str().strip_prefix(' ') {
-        Some(rest) => Ok(format!(in alloc; "␠{rest}")?),
+        Some(rest) => format!(in alloc; "␠{rest}"),
         None => Ok(shown),
     }
 }
 
 /// What a yank would give, in quotes, or `-`.
-pub(crate) fn lent_by(alloc: Global, ring: &mut KillRing) -> Result<String, ReadlineError> {
-    let text = match ring.yank() {
-        Some(text) => format!(in alloc; "'{}'", pictured(alloc, text)?)?,
-        None => String::from_str(alloc, "-")?,
-    };
-    Ok(text)
+pub(crate) fn lent_by(alloc: Global, ring: &mut KillRing) -> Result<String, AllocError> {
+    match ring.yank() {
+        Some(text) => format!(in alloc; "'{}'", pictured(alloc, text)?),
+        None => String::from_str(alloc, "-"),
+    }
 }
 
 // Makes commands one after the other, the calls of the last of them kept; how that one ended.
@@ -255,16 +252,59 @@ fn told<H: Helper + Drop>(
     ring: &mut KillRing,
     config: &Config,
     status: &str,
-) -> Result<String, Fail> {
-    let line = line_shown(alloc, desk)?;
-    if !stage.tells_ring {
-        return Ok(format!(in alloc; "{status}{line} / {}", desk.out.calls())?);
+) -> Result<String, AllocError> {
+    if stage.tells_ring {
+        return ring_told(alloc, desk, input, ring, config);
     }
-    let lent = lent_by(alloc, ring)?;
+    let line = line_shown(alloc, desk)?;
+    format!(in alloc; "{status}{line} / {}", desk.out.calls())
+}
+
+// The line, what a yank would give, and the line when one change is taken back.
+fn ring_told<H: Helper + Drop>(
+    alloc: Global,
+    desk: &mut Desk<'_, H>,
+    input: &InputState<'_>,
+    ring: &mut KillRing,
+    config: &Config,
+) -> Result<String, AllocError> {
+    let mut text = line_shown(alloc, desk)?;
+    write!(text, " / {}", lent_by(alloc, ring)?)?;
     desk.out.answer(None);
     let _ = make(desk, input, ring, config, Cmd::Undo(1));
-    let undone = line_shown(alloc, desk)?;
-    Ok(format!(in alloc; "{line} / {lent} / {undone}")?)
+    write!(text, " / {}", line_shown(alloc, desk)?)?;
+    Ok(text)
+}
+
+// Makes the commands of a row on a desk.
+fn led_on<H: Helper + Drop>(
+    alloc: Global,
+    stage: &Stage,
+    desk: &mut Desk<'_, H>,
+    commands: &str,
+) -> Result<String, Fail> {
+    let bindings = Bindings::new(alloc)?;
+    let config = Config::builder().edit_mode(stage.mode).build();
+    let input = InputState::new(alloc, &config, &bindings)?;
+    let mut ring = KillRing::new(alloc, 60)?;
+    let status = make_all(
+        alloc,
+        desk,
+        &input,
+        &mut ring,
+        &config,
+        stage.answered,
+        commands,
+    )?;
+    Ok(told(
+        alloc,
+        stage,
+        desk,
+        &input,
+        &mut ring,
+        &config,
+        status.as_str(),
+    )?)
 }
 
 // Makes the commands of a row, over a helper.
@@ -276,29 +316,8 @@ fn led_over<H: Helper + Drop>(
     commands: &str,
 ) -> Result<String, Fail> {
     let history = history_of(alloc, stage.history.as_str())?;
-    let bindings = Bindings::new(alloc)?;
-    let config = Config::builder().edit_mode(stage.mode).build();
-    let input = InputState::new(alloc, &config, &bindings)?;
-    let mut ring = KillRing::new(alloc, 60)?;
     let mut desk = desk_with(alloc, stage, helper, &history, shown)?;
-    let status = make_all(
-        alloc,
-        &mut desk,
-        &input,
-        &mut ring,
-        &config,
-        stage.answered,
-        commands,
-    )?;
-    told(
-        alloc,
-        stage,
-        &mut desk,
-        &input,
-        &mut ring,
-        &config,
-        status.as_str(),
-    )
+    led_on(alloc, stage, &mut desk, commands)
 }
 
 impl Player for Stage {

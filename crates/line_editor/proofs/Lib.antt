@@ -9,6 +9,7 @@ pub mod LeadLemmas
 pub mod LineLeads
 pub mod LoopLemmas
 pub mod CarriesLemmas
+pub mod QuietLemmas
 pub mod ReachLemmas
 pub mod RefusedLemmas
 pub mod ReplaysLemmas
