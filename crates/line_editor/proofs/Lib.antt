@@ -9,7 +9,6 @@ pub mod LeadLemmas
 pub mod LineLeads
 pub mod LoopLemmas
 pub mod CarriesLemmas
-pub mod QuietLemmas
 pub mod ReachLemmas
 pub mod RefusedLemmas
 pub mod ReplaysLemmas
