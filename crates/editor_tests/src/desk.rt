@@ -138,6 +138,15 @@ pub(crate) fn history_of(alloc: Global, entries: &str) -> Result<MemHistory, Rea
     Ok(history)
 }
 
+// Puts a text behind the cursor.
+fn put<H: Helper + Drop>(
+    alloc: Global,
+    desk: &mut Desk<'_, H>,
+    shown: &str,
+) -> Result<(), ReadlineError> {
+    desk.edit_insert_text(meant(alloc, shown)?.as_str())
+}
+
 // Puts the line there that a table shows, with nothing in its record.
 fn set_line<H: Helper + Drop>(
     alloc: Global,
@@ -145,9 +154,9 @@ fn set_line<H: Helper + Drop>(
     shown: &str,
 ) -> Result<(), ReadlineError> {
     let (before, after) = shown.split_once('|').unwrap_or((shown, ""));
-    desk.edit_insert_text(meant(alloc, before)?.as_str())?;
+    put(alloc, desk, before)?;
     desk.edit_move_buffer_end(CmdKind::Other)?;
-    desk.edit_insert_text(meant(alloc, after)?.as_str())?;
+    put(alloc, desk, after)?;
     desk.changes = Changeset::new(alloc)?;
     desk.repaint(RefreshKind::All)
 }
@@ -221,6 +230,21 @@ pub(crate) fn lent_by(alloc: Global, ring: &mut KillRing) -> Result<String, Allo
     }
 }
 
+// Makes a command by its words; how it ended.
+fn make_named<H: Helper + Drop>(
+    alloc: Global,
+    desk: &mut Desk<'_, H>,
+    input: &InputState<'_>,
+    ring: &mut KillRing,
+    config: &Config,
+    words: &str,
+) -> Result<String, Fail> {
+    let Some(cmd) = command_named(alloc, words) else {
+        return Err(Fail::new(format_args!("no command: {words}")));
+    };
+    Ok(status_of(alloc, make(desk, input, ring, config, cmd))?)
+}
+
 // Makes commands one after the other, the calls of the last of them kept; how that one ended.
 fn make_all<H: Helper + Drop>(
     alloc: Global,
@@ -233,12 +257,9 @@ fn make_all<H: Helper + Drop>(
 ) -> Result<String, Fail> {
     let mut status = String::new(alloc);
     for words in commands.split("; ") {
-        let Some(cmd) = command_named(alloc, words.trim()) else {
-            return Err(Fail::new(format_args!("no command: {words}")));
-        };
         desk.out.forget();
         desk.out.answer(answered);
-        status = status_of(alloc, make(desk, input, ring, config, cmd))?;
+        status = make_named(alloc, desk, input, ring, config, words.trim())?;
     }
     Ok(status)
 }
@@ -276,6 +297,20 @@ fn ring_told<H: Helper + Drop>(
     Ok(text)
 }
 
+// Makes the commands of a row, and tells what they led to.
+fn led<H: Helper + Drop>(
+    alloc: Global,
+    stage: &Stage,
+    desk: &mut Desk<'_, H>,
+    input: &InputState<'_>,
+    ring: &mut KillRing,
+    config: &Config,
+    commands: &str,
+) -> Result<String, Fail> {
+    let status = make_all(alloc, desk, input, ring, config, stage.answered, commands)?;
+    Ok(told(alloc, stage, desk, input, ring, config, status.as_str())?)
+}
+
 // Makes the commands of a row on a desk.
 fn led_on<H: Helper + Drop>(
     alloc: Global,
@@ -287,24 +322,7 @@ fn led_on<H: Helper + Drop>(
     let config = Config::builder().edit_mode(stage.mode).build();
     let input = InputState::new(alloc, &config, &bindings)?;
     let mut ring = KillRing::new(alloc, 60)?;
-    let status = make_all(
-        alloc,
-        desk,
-        &input,
-        &mut ring,
-        &config,
-        stage.answered,
-        commands,
-    )?;
-    Ok(told(
-        alloc,
-        stage,
-        desk,
-        &input,
-        &mut ring,
-        &config,
-        status.as_str(),
-    )?)
+    led(alloc, stage, desk, &input, &mut ring, &config, commands)
 }
 
 // Makes the commands of a row, over a helper.
