@@ -1,2 +1,1 @@
 pub mod Rulers
-pub mod Verdicts

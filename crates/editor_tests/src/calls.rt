@@ -29,7 +29,7 @@ pub struct CallList {
 }
 
 impl CallList {
-    ghost use Rattle.editor_tests.specs.Rulers.{call_list_ruler};
+    ghost use Rattle.editor_tests.specs.Rulers.{ruler_of};
 
     /// A display of so many columns, and of at least 2 and at most 1,000.
     pub fn new(alloc: Global, columns: Unit, colours: bool) -> Self {
@@ -50,14 +50,16 @@ impl CallList {
 
     /// Forgets the calls that were made.
     pub fn forget(&mut self)
-        ensures { call_list_ruler self.new ≡ call_list_ruler self.old }
+        ensures { ruler_of self.new.columns self.new.colours
+            ≡ ruler_of self.old.columns self.old.colours }
     {
         self.calls = String::new(self.alloc);
     }
 
     /// Sets how many more calls are made, if not all.
     pub fn answer(&mut self, answered: Option<u32>)
-        ensures { call_list_ruler self.new ≡ call_list_ruler self.old }
+        ensures { ruler_of self.new.columns self.new.colours
+            ≡ ruler_of self.old.columns self.old.colours }
     {
         self.answered = answered;
         self.failed = false;
@@ -65,7 +67,8 @@ impl CallList {
 
     // Whether one more call is made.
     fn answers(&mut self) -> bool
-        ensures { call_list_ruler self.new ≡ call_list_ruler self.old }
+        ensures { ruler_of self.new.columns self.new.colours
+            ≡ ruler_of self.old.columns self.old.colours }
     {
         match self.answered {
             None => !self.failed,
@@ -78,7 +81,8 @@ impl CallList {
     }
 
     fn keep(&mut self, call: &str) -> Result<(), AllocError>
-        ensures { call_list_ruler self.new ≡ call_list_ruler self.old }
+        ensures { ruler_of self.new.columns self.new.colours
+            ≡ ruler_of self.old.columns self.old.colours }
     {
         if !self.calls.is_empty() {
             self.calls.push_str("; ")?;
@@ -90,7 +94,8 @@ impl CallList {
     fn note(&mut self, call: Result<String, AllocError>) -> Result<(), ReadlineError>
         ensures fault { IfErr result (λ e. e ≡ Display) }
         ensures failed { OnErr result (IsTrue self.new.failed) }
-        ensures ruler { call_list_ruler self.new ≡ call_list_ruler self.old }
+        ensures ruler { ruler_of self.new.columns self.new.colours
+            ≡ ruler_of self.old.columns self.old.colours }
     {
         if self.answers()
             && let Ok(call) = call
@@ -142,9 +147,11 @@ fn drawing(
 }
 
 impl Renderer for CallList {
-    ghost use Rattle.editor_tests.specs.Rulers.{call_list_canvas};
+    ghost use Rattle.std.specs.Prelude.{⊤};
+    ghost use Rattle.editor_tests.specs.Rulers.{ruler_of};
 
-    ghost canvas = { call_list_canvas };
+    // its calls are text: no clause says more of them than that they were made
+    ghost canvas = { record { made = λ _ _ _. ⊤; refused = λ _ _ _. ⊤; failed = λ list. list.failed; ruler = λ list. ruler_of list.columns list.colours } };
 
     fn move_cursor(&mut self, old: Position, new: Position) -> Result<(), ReadlineError> {
         self.note(format!(in self.alloc; "move {},{} to {},{}", old.row, old.col, new.row, new.col))

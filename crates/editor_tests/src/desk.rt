@@ -17,10 +17,9 @@ use line_help::{Context, Helper, History, MemHistory};
 use line_keys::{Bindings, Cmd, CmdKind, Decides, InputState};
 use line_record::{Changeset, KillRing};
 use stand_ins::commands::command_named;
-use stand_ins::lines::shown_of;
 use stand_ins::rows::{Player, rows_hold, trimmed};
-use stand_ins::tables::{meant, pictured, word_and_rest};
-use std::alloc::Global;
+use stand_ins::tables::{marked, meant, pictured, word_and_rest};
+use std::alloc::{AllocError, Global};
 use std::test::Fail;
 
 /// What a table's lines are edited with, and what is told of them.
@@ -139,6 +138,15 @@ pub(crate) fn history_of(alloc: Global, entries: &str) -> Result<MemHistory, Rea
     Ok(history)
 }
 
+// Puts a text behind the cursor.
+fn put<H: Helper + Drop>(
+    alloc: Global,
+    desk: &mut Desk<'_, H>,
+    shown: &str,
+) -> Result<(), ReadlineError> {
+    desk.edit_insert_text(meant(alloc, shown)?.as_str())
+}
+
 // Puts the line there that a table shows, with nothing in its record.
 fn set_line<H: Helper + Drop>(
     alloc: Global,
@@ -146,9 +154,9 @@ fn set_line<H: Helper + Drop>(
     shown: &str,
 ) -> Result<(), ReadlineError> {
     let (before, after) = shown.split_once('|').unwrap_or((shown, ""));
-    desk.edit_insert_text(meant(alloc, before)?.as_str())?;
+    put(alloc, desk, before)?;
     desk.edit_move_buffer_end(CmdKind::Other)?;
-    desk.edit_insert_text(meant(alloc, after)?.as_str())?;
+    put(alloc, desk, after)?;
     desk.changes = Changeset::new(alloc)?;
     desk.repaint(RefreshKind::All)
 }
@@ -194,34 +202,47 @@ pub(crate) fn make<H: Helper + Drop, D: Decides>(
 pub(crate) fn status_of(
     alloc: Global,
     answer: Result<Status, ReadlineError>,
-) -> Result<String, ReadlineError> {
-    let text = match answer {
-        Ok(Status::Proceed) => String::new(alloc),
-        Ok(Status::Submit) => String::from_str(alloc, "Submit ")?,
-        Err(refusal) => format!(in alloc; "{refusal:?} ")?,
-    };
-    Ok(text)
+) -> Result<String, AllocError> {
+    match answer {
+        Ok(Status::Proceed) => Ok(String::new(alloc)),
+        Ok(Status::Submit) => String::from_str(alloc, "Submit "),
+        Err(refusal) => format!(in alloc; "{refusal:?} "),
+    }
 }
 
 /// A line as tables show it: a blank at its start as its picture.
 pub(crate) fn line_shown<H: Helper + Drop>(
     alloc: Global,
     desk: &Desk<'_, H>,
-) -> Result<String, ReadlineError> {
-    let shown = shown_of(alloc, &desk.line)?;
+) -> Result<String, AllocError> {
+    let shown = marked(alloc, desk.line.as_str(), desk.line.pos())?;
     match shown.as_str().strip_prefix(' ') {
-        Some(rest) => Ok(format!(in alloc; "␠{rest}")?),
+        Some(rest) => format!(in alloc; "␠{rest}"),
         None => Ok(shown),
     }
 }
 
 /// What a yank would give, in quotes, or `-`.
-pub(crate) fn lent_by(alloc: Global, ring: &mut KillRing) -> Result<String, ReadlineError> {
-    let text = match ring.yank() {
-        Some(text) => format!(in alloc; "'{}'", pictured(alloc, text)?)?,
-        None => String::from_str(alloc, "-")?,
+pub(crate) fn lent_by(alloc: Global, ring: &mut KillRing) -> Result<String, AllocError> {
+    match ring.yank() {
+        Some(text) => format!(in alloc; "'{}'", pictured(alloc, text)?),
+        None => String::from_str(alloc, "-"),
+    }
+}
+
+// Makes a command by its words; how it ended.
+fn make_named<H: Helper + Drop>(
+    alloc: Global,
+    desk: &mut Desk<'_, H>,
+    input: &InputState<'_>,
+    ring: &mut KillRing,
+    config: &Config,
+    words: &str,
+) -> Result<String, Fail> {
+    let Some(cmd) = command_named(alloc, words) else {
+        return Err(Fail::new(format_args!("no command: {words}")));
     };
-    Ok(text)
+    Ok(status_of(alloc, make(desk, input, ring, config, cmd))?)
 }
 
 // Makes commands one after the other, the calls of the last of them kept; how that one ended.
@@ -236,12 +257,9 @@ fn make_all<H: Helper + Drop>(
 ) -> Result<String, Fail> {
     let mut status = String::new(alloc);
     for words in commands.split("; ") {
-        let Some(cmd) = command_named(alloc, words.trim()) else {
-            return Err(Fail::new(format_args!("no command: {words}")));
-        };
         desk.out.forget();
         desk.out.answer(answered);
-        status = status_of(alloc, make(desk, input, ring, config, cmd))?;
+        status = make_named(alloc, desk, input, ring, config, words.trim())?;
     }
     Ok(status)
 }
@@ -255,16 +273,56 @@ fn told<H: Helper + Drop>(
     ring: &mut KillRing,
     config: &Config,
     status: &str,
-) -> Result<String, Fail> {
-    let line = line_shown(alloc, desk)?;
-    if !stage.tells_ring {
-        return Ok(format!(in alloc; "{status}{line} / {}", desk.out.calls())?);
+) -> Result<String, AllocError> {
+    if stage.tells_ring {
+        return ring_told(alloc, desk, input, ring, config);
     }
-    let lent = lent_by(alloc, ring)?;
+    let line = line_shown(alloc, desk)?;
+    format!(in alloc; "{status}{line} / {}", desk.out.calls())
+}
+
+// The line, what a yank would give, and the line when one change is taken back.
+fn ring_told<H: Helper + Drop>(
+    alloc: Global,
+    desk: &mut Desk<'_, H>,
+    input: &InputState<'_>,
+    ring: &mut KillRing,
+    config: &Config,
+) -> Result<String, AllocError> {
+    let mut text = line_shown(alloc, desk)?;
+    write!(text, " / {}", lent_by(alloc, ring)?)?;
     desk.out.answer(None);
     let _ = make(desk, input, ring, config, Cmd::Undo(1));
-    let undone = line_shown(alloc, desk)?;
-    Ok(format!(in alloc; "{line} / {lent} / {undone}")?)
+    write!(text, " / {}", line_shown(alloc, desk)?)?;
+    Ok(text)
+}
+
+// Makes the commands of a row, and tells what they led to.
+fn led<H: Helper + Drop>(
+    alloc: Global,
+    stage: &Stage,
+    desk: &mut Desk<'_, H>,
+    input: &InputState<'_>,
+    ring: &mut KillRing,
+    config: &Config,
+    commands: &str,
+) -> Result<String, Fail> {
+    let status = make_all(alloc, desk, input, ring, config, stage.answered, commands)?;
+    Ok(told(alloc, stage, desk, input, ring, config, status.as_str())?)
+}
+
+// Makes the commands of a row on a desk.
+fn led_on<H: Helper + Drop>(
+    alloc: Global,
+    stage: &Stage,
+    desk: &mut Desk<'_, H>,
+    commands: &str,
+) -> Result<String, Fail> {
+    let bindings = Bindings::new(alloc)?;
+    let config = Config::builder().edit_mode(stage.mode).build();
+    let input = InputState::new(alloc, &config, &bindings)?;
+    let mut ring = KillRing::new(alloc, 60)?;
+    led(alloc, stage, desk, &input, &mut ring, &config, commands)
 }
 
 // Makes the commands of a row, over a helper.
@@ -276,29 +334,8 @@ fn led_over<H: Helper + Drop>(
     commands: &str,
 ) -> Result<String, Fail> {
     let history = history_of(alloc, stage.history.as_str())?;
-    let bindings = Bindings::new(alloc)?;
-    let config = Config::builder().edit_mode(stage.mode).build();
-    let input = InputState::new(alloc, &config, &bindings)?;
-    let mut ring = KillRing::new(alloc, 60)?;
     let mut desk = desk_with(alloc, stage, helper, &history, shown)?;
-    let status = make_all(
-        alloc,
-        &mut desk,
-        &input,
-        &mut ring,
-        &config,
-        stage.answered,
-        commands,
-    )?;
-    told(
-        alloc,
-        stage,
-        &mut desk,
-        &input,
-        &mut ring,
-        &config,
-        status.as_str(),
-    )
+    led_on(alloc, stage, &mut desk, commands)
 }
 
 impl Player for Stage {

@@ -3,12 +3,14 @@
 
 #[cfg(test)]
 mod accepting;
-pub mod calls;
+#[cfg(test)]
+mod calls;
 #[cfg(test)]
 mod desk;
 #[cfg(test)]
 mod faults;
-pub mod helpers;
+#[cfg(test)]
+mod helpers;
 #[cfg(test)]
 mod inserting;
 #[cfg(test)]

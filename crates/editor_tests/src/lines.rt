@@ -15,7 +15,7 @@ use stand_ins::key_names::key_named;
 use stand_ins::readers::{After, KeyList, Typed};
 use stand_ins::rows::{Player, rows_hold, trimmed};
 use stand_ins::tables::{meant, pictured};
-use std::alloc::Global;
+use std::alloc::{AllocError, Global};
 use std::test::Fail;
 
 /// What a row types.
@@ -126,7 +126,7 @@ fn end_of<H: Helper + Drop>(
     desk: &Desk<'_, H>,
     ring: &mut KillRing,
     answer: Result<Status, ReadlineError>,
-) -> Result<Ended, Fail> {
+) -> Result<Ended, AllocError> {
     Ok(Ended {
         status: status_of(alloc, answer)?,
         line: line_shown(alloc, desk)?,
@@ -152,7 +152,7 @@ fn typed_over<H: Helper + Drop>(
     desk.helper = helper;
     desk.out.answer(stage.answered);
     let answer = line(&mut desk, &mut input, &mut reader, &mut ring, &config);
-    end_of(alloc, &desk, &mut ring, answer)
+    Ok(end_of(alloc, &desk, &mut ring, answer)?)
 }
 
 // What `run` leaves of the same line: its text, or why there is none, all calls, and what a yank would give.
@@ -180,36 +180,46 @@ fn run_over<H: Helper + Drop>(
         bindings,
         &mut ring,
     );
-    let text = outcome_shown(alloc, ran.outcome)?;
-    let lent = lent_by(alloc, &mut ring)?;
-    Ok(format!(in alloc; "{text} / {} / {lent}", ran.out.calls())?)
+    Ok(left_by(alloc, ran.outcome, ran.out.calls(), &mut ring)?)
+}
+
+// What is left of a line, in words.
+fn left_by(
+    alloc: Global,
+    outcome: Result<String, ReadlineError>,
+    calls: &str,
+    ring: &mut KillRing,
+) -> Result<String, AllocError> {
+    let mut text = outcome_shown(alloc, outcome)?;
+    write!(text, " / {calls} / {}", lent_by(alloc, ring)?)?;
+    Ok(text)
 }
 
 // The text of a line, with pictures, or why there is none.
 fn outcome_shown(
     alloc: Global,
     outcome: Result<String, ReadlineError>,
-) -> Result<String, ReadlineError> {
+) -> Result<String, AllocError> {
     match outcome {
-        Ok(text) => Ok(pictured(alloc, text.as_str())?),
-        Err(refusal) => Ok(format!(in alloc; "{refusal:?}")?),
+        Ok(text) => pictured(alloc, text.as_str()),
+        Err(refusal) => format!(in alloc; "{refusal:?}"),
     }
 }
 
 impl Ended {
     // What `run` is to leave of this line.
-    fn whole(&self, alloc: Global) -> Result<String, Fail> {
+    fn whole(&self, alloc: Global) -> Result<String, AllocError> {
         let text = match self.status.as_str() {
             "Submit " => self.line.as_str().trim_end_matches('|'),
             refusal => refusal.trim(),
         };
-        Ok(format!(in alloc; "{text} / {} / {}", self.calls, self.ring)?)
+        format!(in alloc; "{text} / {} / {}", self.calls, self.ring)
     }
 
     // What is told of this line: the calls, or the ring.
-    fn told(&self, alloc: Global, ring: bool) -> Result<String, Fail> {
+    fn told(&self, alloc: Global, ring: bool) -> Result<String, AllocError> {
         let last = if ring { &self.ring } else { &self.calls };
-        Ok(format!(in alloc; "{}{} / {last}", self.status, self.line)?)
+        format!(in alloc; "{}{} / {last}", self.status, self.line)
     }
 }
 
@@ -231,7 +241,7 @@ impl Typist {
         if whole.as_str() != found.whole(alloc)?.as_str() {
             return Err(Fail::new(format_args!("run leaves of {keys}: {whole}")));
         }
-        found.told(alloc, stage.tells_ring)
+        Ok(found.told(alloc, stage.tells_ring)?)
     }
 }
 

@@ -9,6 +9,7 @@ pub mod LeadLemmas
 pub mod LineLeads
 pub mod LoopLemmas
 pub mod CarriesLemmas
+pub mod ObeyLemmas
 pub mod ReachLemmas
 pub mod RefusedLemmas
 pub mod ReplaysLemmas

@@ -48,6 +48,11 @@ verdict_told Incomplete draws = unchanged
 verdict_told (Invalid text) draws = told_if draws text Other
 verdict_told (Valid text) draws = told_if draws text ForcedRefresh
 
+-- told where the groups have been closed
+abbrev pub closed_and_told : ValidationResult → Transition
+closed_and_told found s v =
+    verdict_told found (closes v.held || is_some v.hint) s (rewritten group_closed v)
+
 -- groups are closed by the way
 abbrev pub validate_by : Option (List ℕ → ValidationResult) → Transition
 validate_by None s v = unchanged s v

@@ -33,6 +33,17 @@ show_typed c n before s v = record {
   redraws = typed_redraw c n s before (asked_anew s v) ∷ [];
 }
 
+-- the same, of a character that was put in so many times, at the end or not, into a plain line or
+-- not, with nothing to show before it or something
+abbrev pub inserted_shown : ℕ → ℕ → Bool → Bool → Bool → Transition
+inserted_shown c n at_end plain was_bare s v = record {
+  value = asked_anew s v;
+  redraws =
+      (if (n == 1) && (at_end && (plain && (is_printable c && (was_bare && is_bare (asked_anew s v)))))
+      then Typed s.prompt c v.line.text v.line.place else drawn s (asked_anew s v))
+      ∷ [];
+}
+
 abbrev pub insert_char : ℕ → ℕ → Transition
 insert_char c n s v =
     if is_some (insertion c n v.line).answer then show_typed c n v s (rewritten (char_typed c n) v)

@@ -1,5 +1,5 @@
 -- What is killed, and what is copied into the ring.
-use Rattle.std.specs.Prelude.{ℕ, ◌-◌, ◌==◌, ◌&&◌, if◌then◌else◌, Bool, List, [], ◌∷◌, length, drop, Option, Some, None, is_some, option_map}
+use Rattle.std.specs.Prelude.{ℕ, ◌-◌, ◌==◌, ◌&&◌, nat_le, if◌then◌else◌, Bool, List, [], ◌∷◌, length, drop, Option, Some, None, is_some, option_map}
 use Rattle.std.specs.List.{list_all}
 use Rattle.line_buffer.specs.Range.{range_of, copied_range, span_text, kill_events}
 use Rattle.line_buffer.specs.declared.types.Mode.TheVariants.{Append}
@@ -30,6 +30,17 @@ abbrev pub show_taken : Value → Transition
 show_taken before s v = record {
   value = asked_anew s v;
   redraws = taken_redraw s before (asked_anew s v) ∷ [];
+}
+
+-- the same, of a line that was printable from a place on, with nothing to show or something
+abbrev pub killed_shown : ℕ → ℕ → Bool → Transition
+killed_shown count printable was_bare s v = record {
+  value = asked_anew s v;
+  redraws =
+      (if is_plain v.line.text && (nat_le printable (length v.line.text)
+      && ((v.line.place == length v.line.text) && (was_bare && is_bare (asked_anew s v))))
+      then Taken s.prompt count v.line.text v.line.place else drawn s (asked_anew s v))
+      ∷ [];
 }
 
 abbrev pub kill : Movement → Transition

@@ -29,8 +29,16 @@ abbrev pub recall : ℕ → Option Hit → Transition
 recall place None s v = unchanged s v
 recall place (Some hit) s v = refreshed s (recalled hit.entry (length hit.entry) (at_place place v))
 
+-- an entry shown in place of the line, the cursor at a place of it
+abbrev pub entry_shown : ℕ → List ℕ → ℕ → Transition
+entry_shown index entry place s v = refreshed s (recalled entry place (at_place index v))
+
 abbrev pub come_back : Transition
 come_back s v = refreshed s (restored (at_place (length s.entries) v))
+
+-- an entry before the present one
+abbrev pub recalled_earlier : ℕ → Transition
+recalled_earlier index s v = recall index (entry_at index s.entries) s (saved_on_leaving s v)
 
 abbrev pub previous_entry : Transition
 previous_entry s v = if v.history == 0 then unchanged s v

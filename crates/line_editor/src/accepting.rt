@@ -10,7 +10,7 @@ use line_keys::{CmdKind, Text};
 #[tactic(auto, using(crate::proofs::BegunLemmas::begun_none, crate::proofs::BegunLemmas::begun_refused))]
 impl<'p, 'h, Out: Renderer, H: Helper + Drop, Hi: History> State<'p, 'h, Out, H, Hi> {
     ghost use Rattle.line_editor.specs.States.{value_of, setting_of, Does, Stays, reason_of, HookFails};
-    ghost use Rattle.line_editor.specs.Accepting.{bare, verdict, told_if, verdict_told, validate, accepts_found, newline, accept, accepts, newline_if, accept_or_insert, submitted};
+    ghost use Rattle.line_editor.specs.Accepting.{bare, verdict, told_if, verdict_told, closed_and_told, validate, accepts_found, newline, accept, accepts, newline_if, accept_or_insert, submitted};
 
     /// Draws the line as it was typed, without hint and highlighted character, where one stands or
     /// the prompt isn't the session's own.
@@ -71,6 +71,15 @@ impl<'p, 'h, Out: Renderer, H: Helper + Drop, Hi: History> State<'p, 'h, Out, H,
         }
     }
 
+    /// Closes the groups, and tells what was found.
+    fn close_and_tell(&mut self, found: &ValidationResult) -> Result<(), ReadlineError>
+        ensures does { Does (closed_and_told found.now) self.old self.new result }
+    {
+        let ended = self.changes.end(self.alloc)?;
+        let draws = ended || self.hint.is_some();
+        self.tell_verdict(found, draws)
+    }
+
     /// Asks the helper whether the line is whole. Where a message came, or a group was closed or a
     /// hint stands, the line is drawn without hint and with the message. Where the helper refuses,
     /// the group that was opened for it stays open.
@@ -84,9 +93,7 @@ impl<'p, 'h, Out: Renderer, H: Helper + Drop, Hi: History> State<'p, 'h, Out, H,
         }
         self.changes.begin(self.alloc)?;
         let found = self.judge()?;
-        let ended = self.changes.end(self.alloc)?;
-        let draws = ended || self.hint.is_some();
-        self.tell_verdict(&found, draws)?;
+        self.close_and_tell(&found)?;
         Ok(found)
     }
 
@@ -150,8 +157,7 @@ impl<'p, 'h, Out: Renderer, H: Helper + Drop, Hi: History> State<'p, 'h, Out, H,
         ensures does { Does submitted self.old self.new result }
     {
         self.edit_move_buffer_end(CmdKind::ForcedRefresh)?;
-        self.move_cursor_to_end()?;
-        Ok(())
+        self.move_cursor_to_end()
     }
 }
 

@@ -30,20 +30,22 @@ impl<'p, 'h, Out: Renderer, H: Helper + Drop, Hi: History> State<'p, 'h, Out, H,
     fn line_up_or_previous(&mut self, n: RepeatCount) -> Result<(), ReadlineError>
         ensures does { Does (line_up_or_previous n) self.old self.new result }
     {
-        if !self.edit_move_line_up(n)? {
-            self.edit_history_next(true)?;
+        if self.edit_move_line_up(n)? {
+            Ok(())
+        } else {
+            self.edit_history_next(true)
         }
-        Ok(())
     }
 
     /// Moves down by rows; in the last row, one history entry on.
     fn line_down_or_next(&mut self, n: RepeatCount) -> Result<(), ReadlineError>
         ensures does { Does (line_down_or_next n) self.old self.new result }
     {
-        if !self.edit_move_line_down(n)? {
-            self.edit_history_next(false)?;
+        if self.edit_move_line_down(n)? {
+            Ok(())
+        } else {
+            self.edit_history_next(false)
         }
-        Ok(())
     }
 
     /// The end of the input on an empty line; in Vi another line is accepted.

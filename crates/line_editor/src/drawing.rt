@@ -1,9 +1,13 @@
 //! What a state draws.
-ghost use Rattle.std.specs.Prelude.{◌≡◌, None, false, if◌then◌else◌, IfErr, OnOk, option_map, option_copied};
+ghost use Rattle.std.specs.Prelude.{◌≡◌, ◌+◌, ◌<◌, ◌≤◌, ◌&&◌, not, nat_lt, Some, None, false, if◌then◌else◌, IfOk, IfErr, IsTrue, OnOk, option_map, option_copied};
+ghost use Rattle.line_buffer.specs.Cells.{origin};
+ghost use Rattle.line_editor.specs.Calls.{Makes};
+ghost use Rattle.line_editor.specs.Calls.Call.{Draw};
+ghost use Rattle.line_editor.specs.Redraws.{layout_of, info_text, may_take};
 
 use crate::renderer::{RefreshKind, Renderer};
 use crate::state::State;
-use line_buffer::{Layout, Position};
+use line_buffer::{Layout, LineBuffer, Position, Unit};
 use line_config::{HookFault, ReadlineError};
 use line_help::{Helper, Highlighter, Hint, Hinter, History};
 use line_keys::CmdKind;
@@ -25,6 +29,51 @@ pub(crate) fn highlighter_of<H>(helper: &Option<H>, colours: bool) -> Option<&H>
     if colours { helper.as_ref() } else { None }
 }
 
+/// Whether nothing stands after the line, and a character after the cursor doesn't fill the row.
+fn has_room(layout: &Layout, columns: Unit) -> bool
+    ensures value { result
+        ≡ (not layout.now.has_info && nat_lt (layout.now.cursor.col + 1) columns) }
+    ensures room { IsTrue result → layout.now.cursor.col + 1 < columns }
+{
+    let col = layout.cursor.col;
+    !layout.has_info && col < columns && col + 1 < columns
+}
+
+/// Whether nothing stands after the line, and so many columns of the cursor's row end it.
+fn may_take(layout: &Layout, count: usize) -> bool
+    ensures value { result ≡ may_take layout.now count }
+    ensures room { IsTrue result → count ≤ layout.now.end.col }
+{
+    !layout.has_info && layout.cursor.row == layout.end.row && count <= usize::from(layout.end.col)
+}
+
+/// Draws a line and what stands after it over an older drawing. Answers the layout of the new one.
+fn draw_over<Out: Renderer, H: Highlighter>(
+    out: &mut Out,
+    old: Layout,
+    prompt: &str,
+    given: bool,
+    line: &LineBuffer,
+    info: Option<&str>,
+    helper: &Option<H>,
+) -> Result<Layout, ReadlineError>
+    ensures makes { let ruler = Out.canvas.ruler out.old in
+        let new = layout_of ruler (ruler.measure prompt.now origin) given line.now.text
+        line.now.place (option_copied info.entry) in
+        Makes Out.canvas (Draw (Some old.cursor.row) prompt.now line.now.text
+        (info_text (option_copied info.entry)) new.end new.cursor) out.old out.new result }
+    ensures layout { let ruler = Out.canvas.ruler out.old in
+        IfOk result (λ new. new ≡ layout_of ruler (ruler.measure prompt.now origin) given
+        line.now.text line.now.place (option_copied info.entry)) }
+{
+    let origin = Position { col: 0, row: 0 };
+    let start = out.calculate_position(prompt, origin);
+    let layout = out.compute_layout(start, given, line, info);
+    let highlighter = highlighter_of(helper, out.colors_enabled());
+    out.refresh_line(prompt, line, info, Some(old), &layout, highlighter)?;
+    Ok(layout)
+}
+
 #[tactic(auto, using(crate::proofs::BegunLemmas::begun_none, crate::proofs::BegunLemmas::begun_refused, crate::proofs::BegunLemmas::begun_made))]
 impl<'p, 'h, Out: Renderer, H: Helper + Drop, Hi: History> State<'p, 'h, Out, H, Hi> {
     ghost use Rattle.line_editor.specs.States.{value_of, setting_of, Stays, Does, HookFails, reason_of};
@@ -33,9 +82,31 @@ impl<'p, 'h, Out: Renderer, H: Helper + Drop, Hi: History> State<'p, 'h, Out, H,
     ghost use Rattle.line_editor.specs.Drawing.{asked_anew};
     ghost use Rattle.line_editor.specs.Values.{redrawn};
     ghost use Rattle.line_editor.specs.Redraws.Redraw.{Typed, Taken, Bared};
-    ghost use Rattle.line_editor.specs.Calls.{Makes};
     ghost use Rattle.line_editor.specs.Calls.Call.{ToLeftmost};
     ghost use Rattle.line_keys.specs.declared.command.CmdKind.TheVariants.{Other};
+
+    /// The helper's hint, if it has one that shows anything.
+    fn found_hint(&self) -> Result<Option<H::Hint>, ReadlineError>
+        ensures value { IfOk result (λ hint. option_map H.Hint.says hint
+            ≡ (with_hint (setting_of self.now) (value_of self.now)).hint) }
+        ensures reason { IfErr result (λ e. reason_of false (HookFails self.now) e) }
+    {
+        let Some(helper) = &self.helper else {
+            return Ok(None);
+        };
+        match helper.hint(self.alloc, self.line.as_str(), self.line.pos(), &self.ctx) {
+            Ok(Some(found)) => {
+                if !found.display().is_empty() {
+                    Ok(Some(found))
+                } else {
+                    Ok(None)
+                }
+            }
+            Ok(None) => Ok(None),
+            Err(HookFault::Failed) => Err(ReadlineError::Helper),
+            Err(HookFault::Memory) => Err(ReadlineError::Memory),
+        }
+    }
 
     /// Asks the helper for the hint. Nothing is drawn.
     pub fn hint(&mut self) -> Result<(), ReadlineError>
@@ -46,20 +117,7 @@ impl<'p, 'h, Out: Renderer, H: Helper + Drop, Hi: History> State<'p, 'h, Out, H,
         ensures stays { Stays self.old self.new }
         ensures reason { IfErr result (λ e. reason_of false (HookFails self.new) e) }
     {
-        let mut hint = None;
-        if let Some(helper) = &self.helper {
-            match helper.hint(self.alloc, self.line.as_str(), self.line.pos(), &self.ctx) {
-                Ok(Some(found)) => {
-                    if !found.display().is_empty() {
-                        hint = Some(found);
-                    }
-                }
-                Ok(None) => {}
-                Err(HookFault::Failed) => return Err(ReadlineError::Helper),
-                Err(HookFault::Memory) => return Err(ReadlineError::Memory),
-            }
-        }
-        self.hint = hint;
+        self.hint = self.found_hint()?;
         Ok(())
     }
 
@@ -85,20 +143,16 @@ impl<'p, 'h, Out: Renderer, H: Helper + Drop, Hi: History> State<'p, 'h, Out, H,
     pub(crate) fn draw(&mut self, prompt: &str, given: bool) -> Result<(), ReadlineError>
         ensures does { Does (drawn_behind prompt.now given) self.old self.new result }
     {
-        let origin = Position { col: 0, row: 0 };
-        let start = self.out.calculate_position(prompt, origin);
         let info = display_of(&self.hint);
-        let layout = self.out.compute_layout(start, given, &self.line, info);
-        let highlighter = highlighter_of(&self.helper, self.out.colors_enabled());
-        self.out.refresh_line(
+        self.layout = draw_over(
+            &mut self.out,
+            self.layout,
             prompt,
+            given,
             &self.line,
             info,
-            Some(self.layout),
-            &layout,
-            highlighter,
+            &self.helper,
         )?;
-        self.layout = layout;
         Ok(())
     }
 
@@ -106,19 +160,15 @@ impl<'p, 'h, Out: Renderer, H: Helper + Drop, Hi: History> State<'p, 'h, Out, H,
     pub(crate) fn draw_with(&mut self, info: Option<&str>) -> Result<(), ReadlineError>
         ensures does { Does (drawn_with (option_copied info.entry)) self.old self.new result }
     {
-        let origin = Position { col: 0, row: 0 };
-        let start = self.out.calculate_position(self.prompt, origin);
-        let layout = self.out.compute_layout(start, true, &self.line, info);
-        let highlighter = highlighter_of(&self.helper, self.out.colors_enabled());
-        self.out.refresh_line(
+        self.layout = draw_over(
+            &mut self.out,
+            self.layout,
             self.prompt,
+            true,
             &self.line,
             info,
-            Some(self.layout),
-            &layout,
-            highlighter,
+            &self.helper,
         )?;
-        self.layout = layout;
         Ok(())
     }
 
@@ -243,8 +293,7 @@ impl<'p, 'h, Out: Renderer, H: Helper + Drop, Hi: History> State<'p, 'h, Out, H,
         ensures does { Does cleared_and_drawn self.old self.new result }
     {
         self.clear_screen()?;
-        self.refresh()?;
-        Ok(())
+        self.refresh()
     }
 
     /// Shows a character that was typed at the end: its byte alone, where nothing stands after it
@@ -253,12 +302,10 @@ impl<'p, 'h, Out: Renderer, H: Helper + Drop, Hi: History> State<'p, 'h, Out, H,
         ensures does { Does (λ s v. redrawn (Typed s.prompt ch v.line.text v.line.place) s v)
             self.old self.new result }
     {
-        let columns = self.out.get_columns();
-        let col = self.layout.cursor.col;
-        if !self.layout.has_info && col < columns && col + 1 < columns {
+        if has_room(&self.layout, self.out.get_columns()) {
             let mut bytes = [0u8; 4];
             self.out.write_and_flush(ch.encode_utf8(&mut bytes))?;
-            self.layout.cursor.col = col + 1;
+            self.layout.cursor.col += 1;
             self.layout.end = self.layout.cursor;
             return Ok(());
         }
@@ -271,14 +318,10 @@ impl<'p, 'h, Out: Renderer, H: Helper + Drop, Hi: History> State<'p, 'h, Out, H,
         ensures does { Does (λ s v. redrawn (Taken s.prompt count v.line.text v.line.place) s v)
             self.old self.new result }
     {
-        let end = self.layout.end;
-        if !self.layout.has_info
-            && self.layout.cursor.row == end.row
-            && count <= usize::from(end.col)
-        {
+        if may_take(&self.layout, count) {
             let end = Position {
-                col: end.col - count as u16,
-                row: end.row,
+                col: self.layout.end.col - count as u16,
+                row: self.layout.end.row,
             };
             self.out.move_cursor(self.layout.cursor, end)?;
             self.out.clear_to_eol()?;

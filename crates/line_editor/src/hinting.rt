@@ -19,8 +19,7 @@ impl<'p, 'h, Out: Renderer, H: Helper + Drop, Hi: History> State<'p, 'h, Out, H,
         ensures does { Does (then_do beeped refreshed) self.old self.new result }
     {
         self.beep()?;
-        self.refresh()?;
-        Ok(())
+        self.refresh()
     }
 
     /// Takes the hint into the line at the row's end.

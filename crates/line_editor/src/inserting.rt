@@ -1,5 +1,6 @@
 //! Characters and texts put in.
 ghost use Rattle.std.specs.Prelude.{◌≡◌, ◌==◌, ◌&&◌};
+ghost use Rattle.line_buffer.specs.Short.{is_printable};
 
 use crate::renderer::Renderer;
 use crate::state::State;
@@ -8,11 +9,26 @@ use line_config::ReadlineError;
 use line_edits::{insert_char, insert_text, is_printable, overwrite, replace_chars};
 use line_help::{Helper, History};
 
+/// Whether what was typed is all that is to be drawn: a printable character at the end of a
+/// plain line, with neither hint nor highlighted character, before and after it.
+fn stands_alone(
+    ch: char,
+    n: RepeatCount,
+    at_end: bool,
+    plain: bool,
+    was_bare: bool,
+    is_bare: bool,
+) -> bool
+    ensures { result
+        ≡ ((n == 1) && (at_end && (plain && (is_printable ch && (was_bare && is_bare))))) }
+{
+    n == 1 && (at_end && (plain && (is_printable(ch) && (was_bare && is_bare))))
+}
+
 #[tactic(auto, using(crate::proofs::BegunLemmas::begun_none, crate::proofs::BegunLemmas::begun_refused))]
 impl<'p, 'h, Out: Renderer, H: Helper + Drop, Hi: History> State<'p, 'h, Out, H, Hi> {
     ghost use Rattle.line_editor.specs.States.{value_of, setting_of, Does};
-    ghost use Rattle.line_buffer.specs.Short.{is_printable};
-    ghost use Rattle.line_editor.specs.Inserting.{is_bare, insert_char, insert_text, replace_char, overwrite_char};
+    ghost use Rattle.line_editor.specs.Inserting.{is_bare, inserted_shown, insert_char, insert_text, replace_char, overwrite_char};
 
     /// Whether neither a hint nor a highlighted character stands.
     pub(crate) fn is_bare(&self) -> bool
@@ -21,20 +37,24 @@ impl<'p, 'h, Out: Renderer, H: Helper + Drop, Hi: History> State<'p, 'h, Out, H,
         self.hint.is_none() && !self.highlight_char
     }
 
-    /// Whether what was typed is all that is to be drawn: a printable character at the end of a
-    /// plain line, with neither hint nor highlighted character, before and after it.
-    fn stands_alone(
-        &self,
+    /// Shows a character that was inserted, with a new hint: by its byte alone where that is enough.
+    fn show_inserted(
+        &mut self,
         ch: char,
         n: RepeatCount,
         at_end: bool,
         plain: bool,
         was_bare: bool,
-    ) -> bool
-        ensures { result ≡ ((n == 1) &&
-            (at_end && (plain && (is_printable ch && (was_bare && is_bare (value_of self.now)))))) }
+    ) -> Result<(), ReadlineError>
+        ensures does { Does (inserted_shown ch n at_end plain was_bare) self.old self.new result }
     {
-        n == 1 && (at_end && (plain && (is_printable(ch) && (was_bare && self.is_bare()))))
+        self.ask_anew()?;
+        if stands_alone(ch, n, at_end, plain, was_bare, self.is_bare()) {
+            self.show_short_typed(ch)
+        } else {
+            let prompt = self.prompt;
+            self.draw(prompt, true)
+        }
     }
 
     /// Inserts a character so many times. At the end of the line its byte alone is drawn where that
@@ -56,13 +76,7 @@ impl<'p, 'h, Out: Renderer, H: Helper + Drop, Hi: History> State<'p, 'h, Out, H,
         if inserted.is_none() {
             return Ok(());
         }
-        self.ask_anew()?;
-        if self.stands_alone(ch, n, at_end, plain, was_bare) {
-            self.show_short_typed(ch)
-        } else {
-            let prompt = self.prompt;
-            self.draw(prompt, true)
-        }
+        self.show_inserted(ch, n, at_end, plain, was_bare)
     }
 
     /// Puts a text at the cursor, which stays before it.
@@ -94,10 +108,7 @@ impl<'p, 'h, Out: Renderer, H: Helper + Drop, Hi: History> State<'p, 'h, Out, H,
             ch,
             n,
         )?;
-        if replaced {
-            self.refresh()?;
-        }
-        Ok(())
+        if replaced { self.refresh() } else { Ok(()) }
     }
 
     /// Writes a character over the cluster at the cursor.
@@ -111,9 +122,6 @@ impl<'p, 'h, Out: Renderer, H: Helper + Drop, Hi: History> State<'p, 'h, Out, H,
             &mut self.plain,
             ch,
         )?;
-        if written {
-            self.refresh()?;
-        }
-        Ok(())
+        if written { self.refresh() } else { Ok(()) }
     }
 }

@@ -16,7 +16,7 @@ impl<'p, 'h, Out: Renderer, H: Helper + Drop, Hi: History> State<'p, 'h, Out, H,
     ghost use Rattle.line_editor.specs.States.{value_of, setting_of, Does, Stays};
     ghost use Rattle.line_edits.specs.Plain.{is_plain};
     ghost use Rattle.line_editor.specs.Inserting.{is_bare};
-    ghost use Rattle.line_editor.specs.Killing.{kill, insert_text_if, replace, killed_into, copied_into};
+    ghost use Rattle.line_editor.specs.Killing.{killed_shown, kill, insert_text_if, replace, killed_into, copied_into};
 
     /// Whether what was taken is all that is to be erased: printable characters from the end of a
     /// plain line, with neither hint nor highlighted character, before and after it.
@@ -29,6 +29,25 @@ impl<'p, 'h, Out: Renderer, H: Helper + Drop, Hi: History> State<'p, 'h, Out, H,
         self.plain
             && (printable <= self.line.len()
                 && (self.line.is_cursor_at_end() && (was_bare && self.is_bare())))
+    }
+
+    /// Shows that so many bytes were killed, with a new hint: what they showed is erased where that
+    /// is enough. From `printable` on the text was printable to its end.
+    fn show_killed(
+        &mut self,
+        count: usize,
+        printable: usize,
+        was_bare: bool,
+    ) -> Result<(), ReadlineError>
+        ensures does { Does (killed_shown count printable was_bare) self.old self.new result }
+    {
+        self.ask_anew()?;
+        if self.stood_at_end(printable, was_bare) {
+            self.show_short_taken(count)
+        } else {
+            let prompt = self.prompt;
+            self.draw(prompt, true)
+        }
     }
 
     /// Kills what a movement names; the ring is told first, the record last. At the end of the line
@@ -60,13 +79,7 @@ impl<'p, 'h, Out: Renderer, H: Helper + Drop, Hi: History> State<'p, 'h, Out, H,
             return Ok(());
         }
         let count = before - self.line.len();
-        self.ask_anew()?;
-        if self.stood_at_end(printable, was_bare) {
-            self.show_short_taken(count)
-        } else {
-            let prompt = self.prompt;
-            self.draw(prompt, true)
-        }
+        self.show_killed(count, printable, was_bare)
     }
 
     /// Puts a text at the cursor, if there is one.

@@ -173,8 +173,7 @@ impl<'p, 'h, Out: Renderer, H: Helper + Drop, Hi: History> State<'p, 'h, Out, H,
             self.old self.new result }
     {
         self.edit_move_home()?;
-        self.edit_move_to_next_word(At::Start, Word::Big, 1)?;
-        Ok(())
+        self.edit_move_to_next_word(At::Start, Word::Big, 1)
     }
 
     /// The same where the text begins with whitespace; else to the row's start alone.

@@ -1,5 +1,5 @@
 //! The history in place of the line.
-ghost use Rattle.std.specs.Prelude.{◌≡◌, ◌≤◌, length, IfErr, OnOk};
+ghost use Rattle.std.specs.Prelude.{◌≡◌, ◌<◌, ◌≤◌, length, IfErr, OnOk, IsCharBoundary};
 ghost use Rattle.line_config.specs.declared.errors.ReadlineError.{ReadlineError};
 
 use crate::renderer::Renderer;
@@ -12,7 +12,7 @@ use line_help::{Helper, History, SearchDirection};
 #[tactic(auto, using(crate::proofs::BegunLemmas::begun_none, crate::proofs::BegunLemmas::begun_refused))]
 impl<'p, 'h, Out: Renderer, H: Helper + Drop, Hi: History> State<'p, 'h, Out, H, Hi> {
     ghost use Rattle.line_editor.specs.States.{value_of, setting_of, Does, Stays};
-    ghost use Rattle.line_editor.specs.Remembering.{saved_now, restored, come_back, previous_entry, next_entry, first_entry, last_line, history_step, history_end, search_from, history_search};
+    ghost use Rattle.line_editor.specs.Remembering.{saved_now, restored, come_back, previous_entry, next_entry, first_entry, last_line, history_step, history_end, entry_shown, recalled_earlier, saved_on_leaving, search_from, history_search};
 
     /// Keeps the line for coming back to it.
     pub fn backup(&mut self) -> Result<(), ReadlineError>
@@ -58,31 +58,62 @@ impl<'p, 'h, Out: Renderer, H: Helper + Drop, Hi: History> State<'p, 'h, Out, H,
         self.refresh()
     }
 
-    fn edit_previous_entry(&mut self) -> Result<(), ReadlineError>
-        ensures does { Does previous_entry self.old self.new result }
+    /// Keeps the line where the history's end is left.
+    fn backup_on_leaving(&mut self) -> Result<(), ReadlineError>
+        ensures value { OnOk result
+            (value_of self.new ≡ saved_on_leaving (setting_of self.old) (value_of self.old)) }
+        ensures out { self.new.out ≡ self.old.out }
+        ensures layout { self.new.layout ≡ self.old.layout }
+        ensures line { self.new.line ≡ self.old.line }
+        ensures place { self.new.ctx.place ≡ self.old.ctx.place }
+        ensures stays { Stays self.old self.new }
+        ensures fault { IfErr result (λ e. e ≡ ReadlineError.Memory) }
     {
-        let history = self.ctx.history();
-        let place = self.ctx.history_index();
-        if place == 0 {
-            return Ok(());
+        if self.ctx.history_index() == self.ctx.history().len() {
+            self.backup()
+        } else {
+            Ok(())
         }
-        let Some(found) = history.get(place - 1, SearchDirection::Reverse) else {
-            return Ok(());
-        };
-        if place == history.len() {
-            self.backup()?;
-        }
-        self.ctx.set_history_index(place - 1);
+    }
+
+    /// Shows an entry in place of the line, as one change, the cursor at a place of it.
+    fn show_entry(&mut self, index: usize, entry: &str, pos: usize) -> Result<(), ReadlineError>
+        requires index { index ≤ length (setting_of self.old).entries }
+        requires boundary { IsCharBoundary entry.now pos }
+        ensures does { Does (entry_shown index entry.now pos) self.old self.new result }
+    {
+        self.ctx.set_history_index(index);
         update_grouped(
             self.alloc,
             &mut self.line,
             &mut self.changes,
             &mut self.plain,
-            found.entry,
-            found.entry.len(),
+            entry,
+            pos,
         )?;
-        self.refresh()?;
-        Ok(())
+        self.refresh()
+    }
+
+    /// Shows an earlier entry, the cursor at its end.
+    fn recall_earlier(&mut self, index: usize, dir: SearchDirection) -> Result<(), ReadlineError>
+        requires { index < length (setting_of self.old).entries }
+        ensures does { Does (recalled_earlier index) self.old self.new result }
+    {
+        let Some(found) = self.ctx.history().get(index, dir) else {
+            return Ok(());
+        };
+        self.backup_on_leaving()?;
+        self.show_entry(index, found.entry, found.entry.len())
+    }
+
+    fn edit_previous_entry(&mut self) -> Result<(), ReadlineError>
+        ensures does { Does previous_entry self.old self.new result }
+    {
+        let place = self.ctx.history_index();
+        if place == 0 {
+            return Ok(());
+        }
+        self.recall_earlier(place - 1, SearchDirection::Reverse)
     }
 
     fn edit_next_entry(&mut self) -> Result<(), ReadlineError>
@@ -99,16 +130,7 @@ impl<'p, 'h, Out: Renderer, H: Helper + Drop, Hi: History> State<'p, 'h, Out, H,
         let Some(found) = history.get(place + 1, SearchDirection::Forward) else {
             return Ok(());
         };
-        self.ctx.set_history_index(place + 1);
-        update_grouped(
-            self.alloc,
-            &mut self.line,
-            &mut self.changes,
-            &mut self.plain,
-            found.entry,
-            found.entry.len(),
-        )?;
-        self.refresh()
+        self.show_entry(place + 1, found.entry, found.entry.len())
     }
 
     /// One entry back, or one on. Leaving the history's end keeps the line, coming back to it
@@ -126,28 +148,11 @@ impl<'p, 'h, Out: Renderer, H: Helper + Drop, Hi: History> State<'p, 'h, Out, H,
     fn edit_first_entry(&mut self) -> Result<(), ReadlineError>
         ensures does { Does first_entry self.old self.new result }
     {
-        let history = self.ctx.history();
         let place = self.ctx.history_index();
         if place == 0 {
             return Ok(());
         }
-        let Some(found) = history.get(0, SearchDirection::Forward) else {
-            return Ok(());
-        };
-        if place == history.len() {
-            self.backup()?;
-        }
-        self.ctx.set_history_index(0);
-        update_grouped(
-            self.alloc,
-            &mut self.line,
-            &mut self.changes,
-            &mut self.plain,
-            found.entry,
-            found.entry.len(),
-        )?;
-        self.refresh()?;
-        Ok(())
+        self.recall_earlier(0, SearchDirection::Forward)
     }
 
     fn edit_last_line(&mut self) -> Result<(), ReadlineError>
@@ -181,17 +186,7 @@ impl<'p, 'h, Out: Renderer, H: Helper + Drop, Hi: History> State<'p, 'h, Out, H,
         let Some(found) = history.starts_with(&self.line.as_str()[..pos], place, dir) else {
             return self.beep();
         };
-        let entry = entry_of(found.entry);
-        self.ctx.set_history_index(found.idx);
-        update_grouped(
-            self.alloc,
-            &mut self.line,
-            &mut self.changes,
-            &mut self.plain,
-            entry,
-            found.pos,
-        )?;
-        self.refresh()
+        self.show_entry(found.idx, entry_of(found.entry), found.pos)
     }
 
     /// The nearest entry before or after the present one that begins with the text before the

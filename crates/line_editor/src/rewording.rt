@@ -22,10 +22,7 @@ impl<'p, 'h, Out: Renderer, H: Helper + Drop, Hi: History> State<'p, 'h, Out, H,
             &mut self.changes,
             &mut self.plain,
         )?;
-        if done {
-            self.refresh()?;
-        }
-        Ok(())
+        if done { self.refresh() } else { Ok(()) }
     }
 
     /// Exchanges words.
@@ -41,9 +38,10 @@ impl<'p, 'h, Out: Renderer, H: Helper + Drop, Hi: History> State<'p, 'h, Out, H,
             n,
         )?;
         if done || self.line.pos() != before {
-            self.refresh()?;
+            self.refresh()
+        } else {
+            Ok(())
         }
-        Ok(())
     }
 
     /// Sets a word's letters in another case.
@@ -57,10 +55,7 @@ impl<'p, 'h, Out: Renderer, H: Helper + Drop, Hi: History> State<'p, 'h, Out, H,
             &mut self.plain,
             action,
         )?;
-        if done {
-            self.refresh()?;
-        }
-        Ok(())
+        if done { self.refresh() } else { Ok(()) }
     }
 
     /// Moves rows in or out.
@@ -95,9 +90,6 @@ impl<'p, 'h, Out: Renderer, H: Helper + Drop, Hi: History> State<'p, 'h, Out, H,
             &mut self.plain,
             n,
         )?;
-        if undone {
-            self.refresh()?;
-        }
-        Ok(())
+        if undone { self.refresh() } else { Ok(()) }
     }
 }

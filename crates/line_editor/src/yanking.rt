@@ -1,14 +1,37 @@
 //! Texts yanked from the ring, and exchanged.
 ghost use Rattle.std.specs.Prelude.{◌≡◌, slice_get};
+ghost use Rattle.line_editor.specs.Yanking.{anchored, steps, behind_yank};
 
 use crate::renderer::Renderer;
 use crate::state::State;
-use line_buffer::{Anchor, RepeatCount};
+use line_buffer::{Anchor, LineBuffer, RepeatCount};
 use line_config::ReadlineError;
 use line_edits::{yank, yank_pop};
 use line_help::{Helper, History};
 use line_keys::{Decides, InputState};
 use line_record::KillRing;
+
+/// Steps over the cluster at the cursor where a text goes after it. Answers whether there is one.
+fn step_on(line: &mut LineBuffer, anchor: Anchor) -> bool
+    ensures line { line.new ≡ anchored anchor line.old }
+    ensures text { line.new.text ≡ line.old.text }
+    ensures stepped { result ≡ steps anchor line.old }
+{
+    match anchor {
+        Anchor::After => line.move_forward(1),
+        Anchor::Before => false,
+    }
+}
+
+/// Steps back onto the last cluster, where Vi's command mode stands on it.
+fn step_back(line: &mut LineBuffer, vi_command: bool)
+    ensures line { line.new ≡ behind_yank vi_command line.old }
+    ensures text { line.new.text ≡ line.old.text }
+{
+    if vi_command {
+        line.move_backward(1);
+    }
+}
 
 #[tactic(auto, using(crate::proofs::BegunLemmas::begun_none, crate::proofs::BegunLemmas::begun_refused))]
 impl<'p, 'h, Out: Renderer, H: Helper + Drop, Hi: History> State<'p, 'h, Out, H, Hi> {
@@ -29,10 +52,7 @@ impl<'p, 'h, Out: Renderer, H: Helper + Drop, Hi: History> State<'p, 'h, Out, H,
             (yank_text (is_vi_command input_state.now.mode input_state.now.input_mode)
             text.now anchor n) self.old self.new result }
     {
-        let stepped = match anchor {
-            Anchor::After => self.line.move_forward(1),
-            Anchor::Before => false,
-        };
+        let stepped = step_on(&mut self.line, anchor);
         let put = yank(
             self.alloc,
             &mut self.line,
@@ -41,13 +61,11 @@ impl<'p, 'h, Out: Renderer, H: Helper + Drop, Hi: History> State<'p, 'h, Out, H,
             text,
             n,
         )?;
-        if put.is_some() && input_state.is_vi_cmd_mode() {
-            self.line.move_backward(1);
+        if put.is_some() {
+            step_back(&mut self.line, input_state.is_vi_cmd_mode());
+            return self.refresh();
         }
-        if put.is_some() || stepped {
-            self.refresh()?;
-        }
-        Ok(())
+        if stepped { self.refresh() } else { Ok(()) }
     }
 
     /// Puts a text in place of the one that was yanked, where so many bytes stand before the
@@ -82,10 +100,10 @@ impl<'p, 'h, Out: Renderer, H: Helper + Drop, Hi: History> State<'p, 'h, Out, H,
             (slice_get ring.old.slots ring.old.place)) self.old self.new result }
         ensures ring { ring.new ≡ yanked ring.old }
     {
-        if let Some(text) = ring.yank() {
-            self.edit_yank(input_state, text, anchor, n)?;
+        match ring.yank() {
+            Some(text) => self.edit_yank(input_state, text, anchor, n),
+            None => Ok(()),
         }
-        Ok(())
     }
 
     /// Puts the turned slot's text in place of the yanked one.
@@ -93,9 +111,9 @@ impl<'p, 'h, Out: Renderer, H: Helper + Drop, Hi: History> State<'p, 'h, Out, H,
         ensures does { Does (pop_lent (exchanged ring.old)) self.old self.new result }
         ensures ring { ring.new ≡ turned ring.old }
     {
-        if let Some((size, text)) = ring.yank_pop() {
-            self.edit_yank_pop(size, text)?;
+        match ring.yank_pop() {
+            Some((size, text)) => self.edit_yank_pop(size, text),
+            None => Ok(()),
         }
-        Ok(())
     }
 }
