@@ -1,16 +1,31 @@
 -- Clusters of printable ASCII: one to a character.
-use Rattle.std.proofs.Common.{◌≡◌, ℕ, ◌+◌, ◌-◌, ◌<◌, ◌≤◌, inl, List, [], ◌∷◌, ◌++◌, length, take, drop, map, reverse, Option, None, Some, refl, sym, ap, ◌∙◌, arith, add-zero}
+use Rattle.std.proofs.Common.{◌≡◌, ℕ, ◌+◌, ◌-◌, ◌<◌, ◌≤◌, inl, Bool, true, List, [], ◌∷◌, ◌++◌, length, take, drop, map, reverse, Option, None, Some, refl, sym, ap, ◌∙◌, arith, add-zero}
 use Rattle.std.specs.Prelude.{option_map}
-use Rattle.std.specs.List.{last_or}
+use Rattle.std.specs.Int.{is_in_range}
+use Rattle.std.specs.List.{last_or, list_all}
 use Rattle.std.proofs.lemmas.List.{reverse-append, map-append, length-drop, length-take}
-use Rattle.std.proofs.lemmas.List.Elements.{All-take, All-drop}
+use Rattle.std.proofs.lemmas.List.Elements.{All-nil, All-cons, All-take, All-drop}
+use Rattle.std.proofs.lemmas.Bool.{and_parts}
+use Rattle.std.proofs.lemmas.Bool.Decides.{nat_tests}
 use Rattle.unicode_segmentation.specs.Segments.{with_offsets}
 use Rattle.line_buffer.specs.Clusters.{IsPlain, IsPlainText, clusters, cluster_ends, cluster_starts_back, nth_or_last, place_forward, place_backward}
 use Rattle.line_buffer.specs.Line.{Line}
 use Rattle.line_buffer.proofs.JoinLemmas.{graphemes-simple}
 
+abbrev pub is_plain : ℕ → Bool
+is_plain = is_in_range 32 126
+
+pub plain_by_test : (text : List ℕ) → list_all is_plain text ≡ true → IsPlainText text
+plain_by_test [] h = All-nil IsPlain
+plain_by_test (c ∷ text) h =
+    let parts = and_parts (is_plain c) (list_all is_plain text) h in
+    All-cons IsPlain c text (from_range c parts.0) (plain_by_test text parts.1)
+  where
+    from_range : (c : ℕ) → is_plain c ≡ true → IsPlain c
+    from_range c e = grind (arith, nat_tests, e)
+
 -- the clusters of such a text, each with its place
-plain_clusters : (text : List ℕ) → IsPlainText text → clusters text ≡ with_offsets 0 (map (λ c. c ∷ []) text)
+pub plain_clusters : (text : List ℕ) → IsPlainText text → clusters text ≡ with_offsets 0 (map (λ c. c ∷ []) text)
 plain_clusters text plain = ap (with_offsets 0) (graphemes-simple text (λ k d inside. inl (plain k d inside)))
 
 last_start : (k : ℕ) (o : Option ℕ) (c : ℕ) (text : List ℕ) → last_or o (map (λ x. x.0) (with_offsets k (map (λ c. c ∷ []) (c ∷ text)))) ≡ Some (k + length text)
