@@ -143,6 +143,20 @@ def goals_that_go_unasked():
     same("checks", [names for _, names in trial.crate.checks], [["neither"], ["one-of-two"], ["one-of-two"]])
 
 
+def answers_that_name_their_goals():
+    small = Small("neither")
+    file, use = "crates/small/proofs/twice/Answers.antt", "use Rattle.small.proofs.twice.Goals as "
+    for stored, name in (("", "unasked"), (f"{use}goal\n", "goal")):
+        small.write(file, stored)
+        crate, room = small.crate({"small/neither": ["returns-clause-one"]}), os.path.join(small.folder.name, "room")
+        wrong_bodies.write(os.path.join(room, "proofs/twice/Answers.antt"), stored)
+        crate.shorten(room, crate.edits, {"small::twice"})
+        text = wrong_bodies.read(os.path.join(room, "proofs/twice/Answers.antt"))
+        same("how often the goals are brought in", text.count(use), 1)
+        same("whether the goal is left as a hole",
+             f"\npub returns-clause-one : {name}.returns-clause-one\nreturns-clause-one = ?\n" in text, True)
+
+
 def goals_that_need_not_be_asked():
     trial = Small("neither").trial()
     note = "note: src/lib.rt:46:1: it is not proved that what the function ensures holds when it returns (`{}`){}\n"
@@ -403,6 +417,7 @@ if __name__ == "__main__":
         a_stored_proof_that_no_longer_fits,
         a_body_that_waits_for_its_callee_is_tried_again,
         a_crate_waits_for_its_libraries,
+        answers_that_name_their_goals,
         goals_that_need_not_be_asked,
         what_the_prover_says,
         goals_that_go_unasked,

@@ -206,9 +206,15 @@ class Crate:
                 text = read(file) if os.path.exists(file) else ""
                 goals = [it for it in edit.unasked if it not in (self.answered(path) or ())]
                 if goals:
-                    text = f"use Rattle.{self.name}.proofs.{'.'.join(path.split('::')[1:])}.Goals as unasked\n{text}"
-                text += "".join(f"\npub {it} : unasked.{it}\n{it} = ?\n" for it in goals)
+                    name, text = self.named_goals(path, text)
+                    text += "".join(f"\npub {it} : {name}.{it}\n{it} = ?\n" for it in goals)
                 write(file, text + UNREAD_ANSWER)
+
+    def named_goals(self, path, text):
+        """The name that a function's answers have for the module of its goals, and their text with a name for it."""
+        use = f"use Rattle.{self.name}.proofs.{'.'.join(path.split('::')[1:])}.Goals as "
+        found = re.search(rf"^{re.escape(use)}(\w+)", text, re.MULTILINE)
+        return (found[1], text) if found else ("unasked", f"{use}unasked\n{text}")
 
     def take_at_its_word(self, room, path):
         """Leaves a hole for a function's proof, in a folder that the crate was written into."""
