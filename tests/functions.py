@@ -43,6 +43,10 @@ class Function:
     def __init__(self, name, module, owner, begun, body):
         self.name, self.module, self.owner, self.begun, self.body = name, module, owner, begun, body
 
+    def may_have_others_beside(self):
+        """Whether functions of other names may stand where it does, as in no impl of a trait."""
+        return self.owner is None or self.owner[0] == "impl" and not self.owner[2]
+
 
 def impl_of(head):
     """What an impl is of: its type and its trait, as one word each."""

@@ -2,9 +2,9 @@
 """Wrong bodies, many at a check: crates/NAME/mutants/*.edit give functions bodies that their contracts must refuse.
 
 Such a file is written as those of must-fail/ are: a line `file: src/lib.rt` and pairs of lines `old: TEXT` and
-`new: TEXT`, each text once in the file. Wrong bodies in different functions share a check of their crate, over the
-libraries that `rt ci` left in crates/*/out. Each other function is taken at its word there, as its contract has it: a
-check proves no right body, since `rt ci` has, and needs nothing that an earlier one kept.
+`new: TEXT`, each text once in the file. Many share a check of their crate, over the libraries that `rt ci` left in
+crates/*/out: each stands beside the right one, as a function of another name. The right one is taken at its word there,
+as its contract has it: a check proves no right body, since `rt ci` has, and needs nothing that an earlier one kept.
 
 A wrong body passes where each function that it changes is refused for its own sake: a goal of it is open, or rattle
 says in another way why. It fails where a function is proved all the same, where it no longer fits or changes nothing,

@@ -53,6 +53,12 @@ pub fn trebled(n: u8) -> u16
     doubled(n)
 }
 
+impl From<Pair> for u16 {
+    fn from(pair: Pair) -> u16 {
+        pair.other // taken from a pair
+    }
+}
+
 pub fn twice(n: u8) -> (u8, u8)
     ensures one { result.0 \u2261 n }
     ensures other { result.1 \u2261 n }
@@ -73,8 +79,11 @@ EDITS = {
     "twice-there": ("doubled(n)", "0"),
     "same-text": ("u16::from(n) + u16::from(n)", "u16::from(n) + u16::from(n)"),
     "clause": ("n + n + n }", "n + n }"),
+    "from-one": ("pair.other //", "pair.one //"),
+    "from-none": ("pair.other //", "0 //"),
+    "from-other": ("doubled(n) + doubled(n)", "u16::from(Pair { one: 0, other: 0 })"),
 }
-DOUBLED = "small::doubled"
+DOUBLED = "small::doubled_added_once"
 
 
 class Small:
@@ -123,11 +132,11 @@ def expect(found, name, well, words):
 def what_the_prover_says():
     small = Small("added-once", "nothing-said", "half-of-it", "other-for-one", "does-not-compile", "same-sum")
     found = tried(small.trial())
-    expect(found, "small/added-once", True, "small::doubled")
-    expect(found, "small/half-of-it", True, "small::fourfold")
-    expect(found, "small/other-for-one", True, "small::Pair::first")
-    expect(found, "small/nothing-said", False, "small::silent is NOT REFUSED")
-    expect(found, "small/same-sum", False, "small::fourfold is NOT REFUSED")
+    expect(found, "small/added-once", True, DOUBLED)
+    expect(found, "small/half-of-it", True, "small::fourfold_half_of_it")
+    expect(found, "small/other-for-one", True, "small::Pair::first_other_for_one")
+    expect(found, "small/nothing-said", False, "small::silent_nothing_said is NOT REFUSED")
+    expect(found, "small/same-sum", False, "small::fourfold_same_sum is NOT REFUSED")
     expect(found, "small/does-not-compile", False, "did not reach the prover")
     same("what is told of", len(found), 6)
 
@@ -137,34 +146,35 @@ def goals_that_go_unasked():
         "small/neither": ["returns-clause-other", "gone"], "small/one-of-two": ["returns-clause-other"],
     })
     found = tried(trial)
-    said = "small::twice: not proved: `search` did not prove `returns-clause-one`"
+    said = "small::twice_neither: not proved: `search` did not prove `returns-clause-one`"
     same("what is said of one that has another goal open", found["small/neither"], (True, said))
     expect(found, "small/one-of-two", True, "returns-clause-other")
-    same("checks", [names for _, names in trial.crate.checks], [["neither"], ["one-of-two"], ["one-of-two"]])
+    same("checks", [names for _, names in trial.crate.checks], [["neither", "one-of-two"], ["one-of-two"]])
 
 
-def answers_that_name_their_goals():
+def answers_of_a_body_beside_the_right_one():
     small = Small("neither")
-    file, use = "crates/small/proofs/twice/Answers.antt", "use Rattle.small.proofs.twice.Goals as "
-    for stored, name in (("", "unasked"), (f"{use}goal\n", "goal")):
-        small.write(file, stored)
-        crate, room = small.crate({"small/neither": ["returns-clause-one"]}), os.path.join(small.folder.name, "room")
-        wrong_bodies.write(os.path.join(room, "proofs/twice/Answers.antt"), stored)
-        crate.shorten(room, crate.edits, {"small::twice"})
-        text = wrong_bodies.read(os.path.join(room, "proofs/twice/Answers.antt"))
-        same("how often the goals are brought in", text.count(use), 1)
+    use = "use Rattle.small.proofs.{}.Goals as "
+    for stored, name in (("", "unasked"), (f"{use.format('twice')}goal\n", "goal")):
+        small.write("crates/small/proofs/twice/Answers.antt", stored)
+        crate, room = small.crate({"small/neither": ["returns-clause-one"]}), os.path.join(small.folder.name, name)
+        crate.furnish(room, crate.edits)
+        crate.shorten(room, crate.edits, {"small::twice_neither"})
+        text = wrong_bodies.read(os.path.join(room, "proofs/twice_neither/Answers.antt"))
+        same("what its answers name its goals", text.startswith(f"{use.format('twice_neither')}{name}\n"), True)
+        same("how often the goals are brought in", text.count("Goals as "), 1)
         same("whether the goal is left as a hole",
              f"\npub returns-clause-one : {name}.returns-clause-one\nreturns-clause-one = ?\n" in text, True)
 
 
 def goals_that_need_not_be_asked():
     trial = Small("neither").trial()
-    note = "note: src/lib.rt:46:1: it is not proved that what the function ensures holds when it returns (`{}`){}\n"
+    note = "note: src/lib.rt:59:1: it is not proved that what the function ensures holds when it returns (`{}`){}\n"
     false = "; the facts known there allow values at which this goal is false"
     said = note.format("returns-clause-one", "") + note.format("returns-clause-other", false)
-    said += "fn small::twice: not proved\n"
+    said += "fn small::twice_neither: not proved\n"
     group = trial.crate.edits
-    trial.take(group, 1, mutants.Said(trial.crate, group, said, {"small::twice"}))
+    trial.take(group, 1, mutants.Said(trial.crate, group, said, {"small::twice_neither"}))
     same("what needs not be asked", trial.spared, {group[0]: ["returns-clause-one"]})
     file = os.path.join(trial.checker.top, "unasked.txt")
     wrong_bodies.write(file, "# Told.\n\nother/one: a, b\nsmall/gone: c\n")
@@ -186,18 +196,18 @@ class Told:
 
 
 def a_body_that_waits_for_its_callee_is_tried_again():
-    small = Small("added-once", "half-of-it")
-    refused = "fn small::doubled: no proof: `search` did not prove `returns`\n"
-    waits = "note: `search` has not tried the goals of `small::fourfold`, which wait for a callee's proof\n"
-    caller = "fn small::fourfold: no proof: it calls `small::doubled`, which is not proved\n"
-    alone = "fn small::fourfold: no proof: `search` did not prove `returns`\n"
-    said = {"added-once half-of-it": refused + waits + caller, "half-of-it": alone}
+    small = Small("from-none", "from-other")
+    refused = "fn small::U16FromPair::from: no proof: `search` did not prove `returns`\n"
+    waits = "note: `search` has not tried the goals of `small::fourfold_from_other`, which wait for a callee's proof\n"
+    caller = "fn small::fourfold_from_other: no proof: it calls `small::U16FromPair::from`, which is not proved\n"
+    alone = "fn small::fourfold_from_other: no proof: `search` did not prove `returns`\n"
+    said = {"from-none from-other": refused + waits + caller, "from-other": alone}
     trial = mutants.Trial(small.crate(), Told(small.folder.name, said), {})
     trial.full, trial.left = {*trial.crate.edits}, [trial.crate.edits]
     found = tried(trial)
-    expect(found, "small/added-once", True, "small::doubled")
-    expect(found, "small/half-of-it", True, "small::fourfold")
-    same("checks", [names for _, names in trial.crate.checks], [["added-once", "half-of-it"], ["half-of-it"]])
+    expect(found, "small/from-none", True, "small::U16FromPair::from")
+    expect(found, "small/from-other", True, "small::fourfold_from_other")
+    same("checks", [names for _, names in trial.crate.checks], [["from-none", "from-other"], ["from-other"]])
 
 
 def heard(lines, ended):
@@ -209,7 +219,7 @@ def heard(lines, ended):
 
 
 def a_crate_waits_for_its_libraries():
-    small = Small("added-once", "nothing-said", "other-for-one", "does-not-compile")
+    small = Small("added-once", "from-none", "from-one")
     made = lambda: mutants.Trial(small.crate(), Told(small.folder.name, {}), {})
     said = ["== low\n", "rt: lower NOT PROVED\n", "rt: low: its tests are proved\n"]
     for lines, ended, ready, faults in (
@@ -226,7 +236,7 @@ def a_crate_waits_for_its_libraries():
     trial = made()
     group = [it for it in trial.crate.edits if it.name == "added-once"]
     trial.left, trial.full = [group], {*group}
-    trial.checker.said = {"added-once": "fn small::doubled: no proof: `search` did not prove `returns`\n"}
+    trial.checker.said = {"added-once": f"fn {DOUBLED}: no proof: `search` did not prove `returns`\n"}
     [ended] = mutants.tried([trial], 2, mutants.Proofs(stream))
     same("what is found", [(well, name) for well, name, _ in ended.found], [(True, "small/added-once")])
 
@@ -248,12 +258,13 @@ def named(groups):
 
 
 def wrong_bodies_that_share_a_check():
-    small = Small("added-once", "nothing-said", "other-for-one", "does-not-compile")
-    same("a function is changed once", named(small.crate().groups()),
-         [["does-not-compile", "added-once", "nothing-said"], ["other-for-one"]])
     small = Small("added-once", "half-of-it", "same-sum", "nothing-said")
-    same("no changed body names a changed function", named(small.crate().groups()),
-         [["half-of-it", "nothing-said"], ["same-sum"], ["added-once"]])
+    same("all that stand beside the right ones", named(small.crate().groups()),
+         [["added-once", "half-of-it", "nothing-said", "same-sum"]])
+    small = Small("from-one", "from-none", "from-other", "nothing-said")
+    same("a body of a trait's impl has the right one's place, and may be called there", named(small.crate().groups()),
+         [["from-none", "nothing-said"], ["from-one"], ["from-other"]])
+    same("groups of one size", wrong_bodies.parts([1, 2, 3, 4, 5], 3), [[1, 3, 5], [2, 4]])
 
 
 def what_is_not_changed_is_taken_at_its_word():
@@ -264,14 +275,18 @@ def what_is_not_changed_is_taken_at_its_word():
     crate, room = small.crate(), os.path.join(small.folder.name, "room")
     crate.furnish(room, crate.edits)
     text = crate.texts(crate.edits)["src/lib.rt"]
-    same("bodies", [it.strip() for it in text.split("\n") if it.strip() in ("u16::from(n)", "4", "{ loop {}")],
-         ["{ loop {}", "u16::from(n)", "{ loop {}", "4", "{ loop {}", "{ loop {}"])
-    same("lines", text.count("\n"), SOURCE.count("\n"))
+    whole = [it.strip() for it in text.split("\n") if "loop" in it or it.strip() in ("u16::from(n)", "4")]
+    same("bodies", whole, [
+        "{ loop {}", "{ loop {}", "u16::from(n)", "{ loop {}", "pub fn silent(n: u8) -> u8 { loop {}", "4", "{ loop {}",
+        "fn from(pair: Pair) -> u16 { loop {}", "{ loop {}",
+    ])
+    beside = "}\n\npub fn doubled_added_once(n: u8) -> u16\n    ensures { result \u2261 n + n }\n{\n    u16::from(n)\n}"
+    same("whether the wrong body has the right one's head and another name", beside in text, True)
     files = {os.path.relpath(os.path.join(at, it), room) for at, _, names in os.walk(room) for it in names}
     same("files", files, {
-        "src/lib.rt", "proofs/Pair/first/Proof.antt", "proofs/doubled/Answers.antt", "proofs/fourfold/Proof.antt",
+        "src/lib.rt", "proofs/Pair/first/Proof.antt", "proofs/doubled/Proof.antt", "proofs/fourfold/Proof.antt",
         "proofs/fourfold/Words.antt", "proofs/silent/Proof.antt", "proofs/four/Proof.antt", "proofs/trebled/Proof.antt",
-        "proofs/twice/Proof.antt",
+        "proofs/twice/Proof.antt", "proofs/U16FromPair/from/Proof.antt", "proofs/doubled_added_once/Answers.antt",
     })
     with open(os.path.join(room, "proofs/Pair/first/Proof.antt"), encoding="utf-8") as it:
         same("a hole", it.read(), "use Rattle.small.proofs.Pair.first.Statement.{statement}\n\n"
@@ -280,8 +295,8 @@ def what_is_not_changed_is_taken_at_its_word():
 
 def a_caller_is_not_blamed_for_its_callee():
     small = Small("added-once")
-    callee = "fn small::doubled: no proof: `search` did not prove `returns`\n"
-    caller = "fn small::fourfold: no proof: it calls `small::doubled`, which is not proved\n"
+    callee = f"fn {DOUBLED}: no proof: `search` did not prove `returns`\n"
+    caller = f"fn small::fourfold: no proof: it calls `{DOUBLED}`, which is not proved\n"
     same("what is told of", [*small.judged(callee + caller)], ["small/added-once"])
     caller = caller.replace("it calls", "`search` did not prove `returns`; it calls")
     expect(small.judged(callee + caller), "small::fourfold", False, "nothing is wrong with it")
@@ -291,11 +306,11 @@ def a_refused_lemma_is_told_of():
     small = Small("added-once")
     for line, told in (
         ("./proofs/fourfold/Proof.antt:3:5: `fourfold_spec` is not admitted: has-holes\n", False),
-        (f"./proofs/doubled/Answers.antt:2:1: error: `{wrong_bodies.UNREAD}`: it is not in scope\n", False),
+        (f"./proofs/doubled_added_once/Answers.antt:2:1: error: `{wrong_bodies.UNREAD}`: it is not in scope\n", False),
         ("./proofs/Sums.antt:2:1: error: `twice` is not in scope\n", True),
         ("./proofs/Sums.antt:2:1: `sums` is not admitted: has-errors\n", True),
     ):
-        found = small.judged(line + "fn small::doubled: no proof: `search` did not prove `returns`\n")
+        found = small.judged(line + f"fn {DOUBLED}: no proof: `search` did not prove `returns`\n")
         expect(found, "small/added-once", True, DOUBLED)
         same("whether the lemma is told of", "small/proofs/Sums.antt" in found, told)
 
@@ -304,12 +319,12 @@ def a_function_told_of_in_brief():
     crate = Small("added-once").crate()
     group = crate.groups()[0]
     refused = f"fn {DOUBLED}: not proved\n"
-    note = "note: src/lib.rt:21:1: it is not proved that what the function ensures holds when it returns (`returns`)\n"
-    answers = "./proofs/doubled/Answers.antt:2:1: error: `"
+    note = "note: src/lib.rt:27:1: it is not proved that what the function ensures holds when it returns (`returns`)\n"
+    answers = "./proofs/doubled_added_once/Answers.antt:2:1: error: `"
     for text, silent in (
         (note + refused, False),
         (refused, True),
-        (note.replace(":21:", ":27:") + refused, True),
+        (note.replace(":27:", ":33:") + refused, True),
         (f"{answers}{wrong_bodies.UNREAD}`: `NoLinesWanted` is not in scope\n{refused}", True),
         (f"{answers}returns`: `c.none` is not in scope\n{refused}", False),
     ):
@@ -323,7 +338,7 @@ def a_function_told_of_in_brief():
 def a_body_joins_the_first_group_that_it_may_stand_in():
     once, half, nothing, other = Small("added-once", "nothing-said", "other-for-one", "half-of-it").crate().edits
     groups = wrong_bodies.joined([[once], [half]], [once, nothing, other])
-    same("groups", named(groups), [["added-once", "nothing-said", "other-for-one"], ["half-of-it"], ["added-once"]])
+    same("groups", named(groups), [["added-once", "nothing-said", "other-for-one"], ["half-of-it", "added-once"]])
 
 
 def attributes_are_lines_of_their_function():
@@ -385,8 +400,8 @@ def a_body_keeps_its_shape():
 def a_stored_proof_that_no_longer_fits():
     small = Small("added-once")
     small.write("crates/small/proofs/doubled/Answers.antt", "pub returns-clause-sum : goal.returns-clause-sum\n")
-    refused = "fn small::doubled: not proved\n"
-    note = "note: src/lib.rt:21:1: it is not proved that what the function ensures holds when it returns (`GOAL`)\n"
+    refused = f"fn {DOUBLED}: not proved\n"
+    note = "note: src/lib.rt:27:1: it is not proved that what the function ensures holds when it returns (`GOAL`)\n"
     false = note.replace("\n", "; the facts known there allow values at which this goal is false\n")
     for said, well in (
         ("", False),
@@ -417,7 +432,7 @@ if __name__ == "__main__":
         a_stored_proof_that_no_longer_fits,
         a_body_that_waits_for_its_callee_is_tried_again,
         a_crate_waits_for_its_libraries,
-        answers_that_name_their_goals,
+        answers_of_a_body_beside_the_right_one,
         goals_that_need_not_be_asked,
         what_the_prover_says,
         goals_that_go_unasked,

@@ -10,7 +10,7 @@ from functions import Sources, blanked, functions, shape
 ATTRIBUTES = re.compile(r"(?:#\[(?:[^][]|\[[^][]*\])*\]\s*)*(?:pub(?:\([^)]*\))?\s+)?(?:(?:const|unsafe)\s+)*\Z")
 # The files of a function's proof, and the proof that is taken at its word.
 PROOF_FILES = ("Proof.antt", "Answers.antt", "Invariants.antt")
-HOLE = """use Rattle.{crate}.proofs.{module}.Statement.{{statement}}
+HOLE = """use {module}.Statement.{{statement}}
 
 pub {name}_spec : {{M : Type 1}} → statement M
 {name}_spec = ?
@@ -28,19 +28,24 @@ class Unfit(Exception):
 class Edit:
     """A wrong body: its name and, by file, the functions that it changes with their new bodies.
 
-    Of its goals some may go unasked, since another one shows that it is refused.
+    In a check it stands beside the right one, as a function of another name with the same head, so that what calls the
+    right one isn't touched by it. A body of a trait's impl, where no other function may stand, has the right one's
+    place. Of its goals some may go unasked, since another one shows that it is refused.
     """
 
     def __init__(self, path, sources, unasked=()):
         self.name, self.unasked = os.path.basename(path).removesuffix(".edit"), unasked
-        self.bodies, self.shapely, self.words = {}, set(), set()
-        texts = changed(read(path), sources)
-        for file, text in texts.items():
-            for old, new in bodies_changed(sources, file, text):
-                self.bodies[file, sources.path(old)] = (old.body, new)
-                self.words.update(re.findall(r"\w+", blanked(new)))
-                if shape(new) == shape(sources.texts[file][slice(*old.body)]):
-                    self.shapely.add(sources.path(old))
+        self.bodies, self.right, self.shapely, self.words = {}, {}, set(), set()
+        changes = [(file, *it) for file, text in changed(read(path), sources).items()
+                   for it in bodies_changed(sources, file, text)]
+        for file, old, new in changes:
+            own = right = sources.path(old)
+            if len(changes) == 1 and old.may_have_others_beside():
+                own = f"{right}_{self.name.replace('-', '_')}"
+            self.bodies[file, own], self.right[own] = (old.body, new), right
+            self.words.update(re.findall(r"\w+", blanked(new)))
+            if shape(new) == shape(sources.texts[file][slice(*old.body)]):
+                self.shapely.add(own)
         if not self.bodies:
             raise Unfit("it changes nothing")
 
@@ -49,15 +54,19 @@ class Edit:
         return path in self.shapely
 
     def paths(self):
+        """The functions that have its bodies in a check."""
         return [path for _, path in self.bodies]
 
+    def replaced(self):
+        """The functions whose right bodies it takes the place of."""
+        return [path for path in self.paths() if self.right[path] == path]
+
     def stands_beside(self, other):
-        """Whether the two may share a check: they change different functions, and neither names one of the other's."""
+        """Whether the two may share a check: neither takes the place of a function that the other changes or names."""
         if {*self.paths()} & {*other.paths()}:
             return False
-        return not any(
-            path.rpartition("::")[2] in one.words for one, its in ((self, other), (other, self)) for path in its.paths()
-        )
+        names = lambda one, its: any(path.rpartition("::")[2] in one.words for path in its.replaced())
+        return not names(self, other) and not names(other, self)
 
 
 def changed(text, sources):
@@ -122,8 +131,24 @@ def joined(groups, edits):
     return groups
 
 
+def parts(group, most):
+    """A group in parts of one size, as few as have so many at most."""
+    count = -(-len(group) // most)
+    return [group[at::count] for at in range(count)]
+
+
+def named_so(text, function, path):
+    """A function's head, from its attributes to its body, under the name that a path ends in."""
+    name = path.rpartition("::")[2]
+    own = re.sub(rf"\Afn(\s+){function.name}\b", rf"fn\g<1>{name}", text[function.begun : function.body[0]])
+    return text[head(text, function)[0] : function.begun] + own
+
+
 class Crate:
     """A crate of the repository with its wrong bodies."""
+
+    # As many share a check at most, for the memory that it takes and for other checks beside it.
+    MOST = 40
 
     def __init__(self, top, name, unasked=None):
         self.name, self.folder = name, os.path.join(top, "crates", name)
@@ -146,42 +171,56 @@ class Crate:
 
     def groups(self):
         """The edits in few groups of which each is tried in one check: those that leave least choice first."""
-        times = Counter(path for edit in self.edits for path in edit.paths())
+        times = Counter(path for edit in self.edits for path in edit.replaced())
         barred = {it: sum(not it.stands_beside(other) for other in self.edits) for it in self.edits}
-        choice = lambda it: (-max(times[path] for path in it.paths()), -barred[it])
-        return sorted(joined([], sorted(self.edits, key=choice)), key=len, reverse=True)
+        choice = lambda it: (-max((times[path] for path in it.replaced()), default=0), -barred[it])
+        groups = joined([], sorted(self.edits, key=choice))
+        return sorted((it for group in groups for it in parts(group, self.MOST)), key=len, reverse=True)
 
     def answers(self, path):
         """Where the files of a function's proof stand."""
         return os.path.join("proofs", *path.split("::")[1:])
 
+    def right_of(self, path):
+        """The path of the right body of a function in a check."""
+        return next((it.right[path] for it in self.edits if path in it.right), path)
+
+    def stored(self, path):
+        """The files of a function's proof, by their names."""
+        folder = os.path.join(self.folder, self.answers(self.right_of(path)))
+        files = {it: os.path.join(folder, it) for it in os.listdir(folder)} if os.path.isdir(folder) else {}
+        return {name: file for name, file in files.items() if name.endswith(".antt") and os.path.isfile(file)}
+
     def brief(self, group):
         """The functions of a group that may have answers, and so one that does not read."""
         paths = {path for edit in group for path in edit.paths()}
-        return {it for it in paths if not os.path.isfile(os.path.join(self.folder, self.answers(it), "Proof.antt"))}
+        return {it for it in paths if PROOF_FILES[0] not in self.stored(it)}
 
     def answered(self, path):
         """The goals that the function's proof files have answers for; None where it has no such file."""
-        folder = os.path.join(self.folder, self.answers(path))
-        files = [os.path.join(folder, it) for it in os.listdir(folder)] if os.path.isdir(folder) else []
-        files = [it for it in files if it.endswith(".antt") and os.path.isfile(it)]
+        files = self.stored(path).values()
         if not files:
             return None
-        found = set()
-        for file in files:
-            found.update(re.findall(r"\bgoal\.([\w-]+)", read(file)))
-        return found
+        return {goal for file in files for goal in re.findall(r"\bgoal\.([\w-]+)", read(file))}
 
     def texts(self, group):
-        """The crate's files with a group's bodies, and stand-ins for all others."""
-        bodies = {(file, old): new for edit in group for (file, _), (old, new) in edit.bodies.items()}
+        """The crate's files with a group's bodies, and stand-ins for all right ones."""
+        bodies = {}
+        for edit in group:
+            for (file, path), (old, new) in edit.bodies.items():
+                bodies.setdefault((file, old), []).append((path, new))
         made = {}
         for file, text in self.sources.texts.items():
             for it in sorted(self.sources.found[file], key=lambda it: it.body, reverse=True):
                 body = text[slice(*it.body)]
                 # (a constant's value may be what a `const fn` answers)
                 own = body if "const" in head(text, it)[1].split() else stand_in(body)
-                text = text[: it.body[0]] + bodies.get((file, it.body), own) + text[it.body[1] :]
+                for path, new in bodies.get((file, it.body), ()):
+                    if path == self.sources.path(it):
+                        own = new
+                    else:
+                        own += f"\n\n{named_so(text, it, path)}{new}"
+                text = text[: it.body[0]] + own + text[it.body[1] :]
             made[file] = text
         return made
 
@@ -192,11 +231,27 @@ class Crate:
                 shutil.copytree(os.path.join(self.folder, part), os.path.join(room, part))
         for file, text in self.texts(group).items():
             write(os.path.join(room, file), text)
-        meant = {path for edit in group for path in edit.paths()}
+        paths = {path for edit in group for path in edit.paths()}
         for it in (it for found in self.sources.found.values() for it in found):
-            path = self.sources.path(it)
-            if path not in meant:
-                self.take_at_its_word(room, path)
+            if self.sources.path(it) not in paths:
+                self.take_at_its_word(room, self.sources.path(it))
+        for path in paths:
+            self.prove_as_the_right_one(room, path)
+
+    def prove_as_the_right_one(self, room, path):
+        """Gives a body that stands beside the right one its proof, under its own name."""
+        right = self.right_of(path)
+        if path == right:
+            return
+        old, new = self.module(right), self.module(path)
+        for name, file in self.stored(path).items():
+            text = re.sub(rf"\b{re.escape(old)}\.", f"{new}.", read(file))
+            text = re.sub(rf"\b{right.rpartition('::')[2]}_spec\b", f"{path.rpartition('::')[2]}_spec", text)
+            write(os.path.join(room, self.answers(path), name), text)
+
+    def module(self, path):
+        """The module of proofs that is a function's."""
+        return f"Rattle.{self.name}.proofs.{'.'.join(path.split('::')[1:])}"
 
     def shorten(self, room, group, brief):
         """Has rattle say little of some functions of a group, and ask no goal that need not be, in a folder with it."""
@@ -212,7 +267,7 @@ class Crate:
 
     def named_goals(self, path, text):
         """The name that a function's answers have for the module of its goals, and their text with a name for it."""
-        use = f"use Rattle.{self.name}.proofs.{'.'.join(path.split('::')[1:])}.Goals as "
+        use = f"use {self.module(path)}.Goals as "
         found = re.search(rf"^{re.escape(use)}(\w+)", text, re.MULTILINE)
         return (found[1], text) if found else ("unasked", f"{use}unasked\n{text}")
 
@@ -222,8 +277,7 @@ class Crate:
         for name in PROOF_FILES:
             if os.path.exists(os.path.join(folder, name)):
                 os.remove(os.path.join(folder, name))
-        words = path.split("::")[1:]
-        hole = HOLE.format(crate=self.name, module=".".join(words), name=words[-1])
+        hole = HOLE.format(module=self.module(path), name=path.rpartition("::")[2])
         write(os.path.join(folder, PROOF_FILES[0]), hole)
 
 
