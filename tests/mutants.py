@@ -391,8 +391,7 @@ def main(words):
         return finished(len(known) - len(unfit), failed + len(unfit))
     checker = Checker(TOP, uses)
     trials = [Trial(it, checker, by_hand) for it in sorted(crates, key=Crate.weight, reverse=True)]
-    sys.stdin.reconfigure(errors="replace")
-    proofs = Proofs(sys.stdin if "--beside" in words else None)
+    proofs = Proofs(open(0, encoding="utf-8", errors="replace") if "--beside" in words else None)
     for trial in tried(trials, processors(), proofs):
         tell(trial)
         passed += sum(well for well, _, _ in trial.found)

@@ -53,8 +53,8 @@ pub fn trebled(n: u8) -> u16
     doubled(n)
 }
 
-impl From<Pair> for u16 {
-    fn from(pair: Pair) -> u16 {
+impl From<&Pair> for u16 {
+    fn from(pair: &Pair) -> u16 {
         pair.other // taken from a pair
     }
 }
@@ -81,7 +81,7 @@ EDITS = {
     "clause": ("n + n + n }", "n + n }"),
     "from-one": ("pair.other //", "pair.one //"),
     "from-none": ("pair.other //", "0 //"),
-    "from-other": ("doubled(n) + doubled(n)", "u16::from(Pair { one: 0, other: 0 })"),
+    "from-other": ("doubled(n) + doubled(n)", "u16::from(&Pair { one: 0, other: 0 })"),
 }
 DOUBLED = "small::doubled_added_once"
 
@@ -197,15 +197,15 @@ class Told:
 
 def a_body_that_waits_for_its_callee_is_tried_again():
     small = Small("from-none", "from-other")
-    refused = "fn small::U16FromPair::from: no proof: `search` did not prove `returns`\n"
+    refused = "fn small::U16FromRefPair::from: no proof: `search` did not prove `returns`\n"
     waits = "note: `search` has not tried the goals of `small::fourfold_from_other`, which wait for a callee's proof\n"
-    caller = "fn small::fourfold_from_other: no proof: it calls `small::U16FromPair::from`, which is not proved\n"
+    caller = "fn small::fourfold_from_other: no proof: it calls `small::U16FromRefPair::from`, which is not proved\n"
     alone = "fn small::fourfold_from_other: no proof: `search` did not prove `returns`\n"
     said = {"from-none from-other": refused + waits + caller, "from-other": alone}
     trial = mutants.Trial(small.crate(), Told(small.folder.name, said), {})
     trial.full, trial.left = {*trial.crate.edits}, [trial.crate.edits]
     found = tried(trial)
-    expect(found, "small/from-none", True, "small::U16FromPair::from")
+    expect(found, "small/from-none", True, "small::U16FromRefPair::from")
     expect(found, "small/from-other", True, "small::fourfold_from_other")
     same("checks", [names for _, names in trial.crate.checks], [["from-none", "from-other"], ["from-other"]])
 
@@ -278,7 +278,7 @@ def what_is_not_changed_is_taken_at_its_word():
     whole = [it.strip() for it in text.split("\n") if "loop" in it or it.strip() in ("u16::from(n)", "4")]
     same("bodies", whole, [
         "{ loop {}", "{ loop {}", "u16::from(n)", "{ loop {}", "pub fn silent(n: u8) -> u8 { loop {}", "4", "{ loop {}",
-        "fn from(pair: Pair) -> u16 { loop {}", "{ loop {}",
+        "fn from(pair: &Pair) -> u16 { loop {}", "{ loop {}",
     ])
     beside = "}\n\npub fn doubled_added_once(n: u8) -> u16\n    ensures { result \u2261 n + n }\n{\n    u16::from(n)\n}"
     same("whether the wrong body has the right one's head and another name", beside in text, True)
@@ -286,7 +286,7 @@ def what_is_not_changed_is_taken_at_its_word():
     same("files", files, {
         "src/lib.rt", "proofs/Pair/first/Proof.antt", "proofs/doubled/Proof.antt", "proofs/fourfold/Proof.antt",
         "proofs/fourfold/Words.antt", "proofs/silent/Proof.antt", "proofs/four/Proof.antt", "proofs/trebled/Proof.antt",
-        "proofs/twice/Proof.antt", "proofs/U16FromPair/from/Proof.antt", "proofs/doubled_added_once/Answers.antt",
+        "proofs/twice/Proof.antt", "proofs/U16FromRefPair/from/Proof.antt", "proofs/doubled_added_once/Answers.antt",
     })
     with open(os.path.join(room, "proofs/Pair/first/Proof.antt"), encoding="utf-8") as it:
         same("a hole", it.read(), "use Rattle.small.proofs.Pair.first.Statement.{statement}\n\n"
