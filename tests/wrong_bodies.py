@@ -148,7 +148,7 @@ class Crate:
     """A crate of the repository with its wrong bodies."""
 
     # As many share a check at most, for the memory that it takes and for other checks beside it.
-    MOST = 40
+    MOST = 60
 
     def __init__(self, top, name, unasked=None):
         self.name, self.folder = name, os.path.join(top, "crates", name)
