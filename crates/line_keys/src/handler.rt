@@ -87,7 +87,8 @@ pub trait ConditionalEventHandler: Drop {
     ghost meaning: { Self → Meaning };
 
     /// The command for the event `evt`, or `None` for what the key does unbound. `n` is the count
-    /// that was typed, 1 where none was, and 0 for a key in Vi's insert mode; `positive` is its sign.
+    /// that was typed, 1 where none was and 0 for a key in Vi's insert mode, and `positive` its
+    /// sign.
     ///
     /// The answer may depend on nothing but the arguments, though `Memory` may come at any call.
     fn handle(
