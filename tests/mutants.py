@@ -16,7 +16,8 @@ refused though nothing is wrong with it fails too.
     tests/mutants.py --fit [CRATE..]    says in a second which wrong bodies no longer fit, and tries none
     tests/mutants.py --all-goals ..     asks every goal, and writes tests/mutants-unasked.txt anew for these crates
     rt ci | tests/mutants.py --beside   begins with a crate as soon as what `rt ci` says shows that it has proved the
-                                        libraries below it, one check at a time until `rt ci` has ended
+                                        libraries below it, one check at a time until `rt ci` has ended; tries no more
+                                        where that was broken off, so that its last line doesn't count
 
 Where a wrong body leaves several goals open, one is enough to refuse it, and each takes seconds. So those of which
 tests/mutants-unasked.txt tells are left as holes; where no other one is open, the body is tried again with them.
@@ -26,6 +27,7 @@ What a check said stands in build/mutants/ after it.
 import os
 import re
 import shutil
+import signal
 import subprocess
 import sys
 import tempfile
@@ -102,18 +104,28 @@ class Proofs:
     """What `rt ci` has proved so far, as the lines that it writes say; all crates, where it isn't heard."""
 
     PROVED = re.compile(r"rt: (\w+) proved\n")
+    COUNT = re.compile(r"\d+ passed, \d+ failed\n")
 
     def __init__(self, lines=None):
         self.is_heard, self.ended, self.names = lines is not None, lines is None, set()
+        self.was_broken_off = False
+        self.hearing = Thread(target=self.hear, args=[lines or ()], daemon=True)
         if self.is_heard:
-            Thread(target=self.hear, args=[lines], daemon=True).start()
+            self.hearing.start()
 
     def hear(self, lines):
+        last = ""
         try:
-            for line in lines:
-                self.names.update(self.PROVED.findall(line))
+            for last in lines:
+                self.names.update(self.PROVED.findall(last))
         finally:
+            self.was_broken_off = not self.COUNT.fullmatch(last)
             self.ended = True
+
+    def hear_out(self):
+        """Waits until `rt ci` has ended, so that it has someone to write to."""
+        if self.is_heard:
+            self.hearing.join()
 
     def has(self, name):
         return not self.is_heard or name in self.names
@@ -311,14 +323,18 @@ class Trial:
 def tried(trials, lanes, proofs):
     """Tries the wrong bodies of crates, so many checks side by side, and yields each trial as it ends.
 
-    While `rt ci` is at work there is one check at a time, and a crate whose libraries it hasn't proved waits.
+    While `rt ci` is at work there is one check at a time, where the memory for it is free, and a crate whose libraries
+    it hasn't proved waits.
     """
     running, ready, left = {}, [], list(trials)
     with ThreadPoolExecutor(lanes) as pool:
         while left:
             is_alone = proofs.ended
+            if proofs.was_broken_off:
+                sys.exit("rt ci was broken off, so no more wrong bodies are tried")
             ready += [(trial, group) for trial in left for group in trial.ready(proofs)]
-            for trial, group in ready[: (lanes if is_alone else 1) - len(running)]:
+            room = lanes if is_alone else min(1, free() // NEED)
+            for trial, group in ready[: max(0, room - len(running))]:
                 ready.remove((trial, group))
                 running[pool.submit(trial.check, group)] = trial, group
             for ended in [it for it in left if not it.running and (is_alone or not it.left)]:
@@ -364,11 +380,15 @@ def note_unasked(path, trials):
     write(path, "\n".join([*comment, "", *(f"{name}: {told[name]}" for name in sorted(told)), ""]))
 
 
+def free():
+    """The memory that is free, in bytes."""
+    with open("/proc/meminfo", encoding="ascii") as it:
+        return 1024 * int(re.search(r"MemAvailable:\s+(\d+)", it.read())[1])
+
+
 def processors():
     """How many checks fit side by side: a processor each, and the memory."""
-    with open("/proc/meminfo", encoding="ascii") as it:
-        free = 1024 * int(re.search(r"MemAvailable:\s+(\d+)", it.read())[1])
-    return max(1, min(len(os.sched_getaffinity(0)), free // NEED))
+    return max(1, min(len(os.sched_getaffinity(0)), free() // NEED))
 
 
 def main(words):
@@ -396,6 +416,7 @@ def main(words):
         tell(trial)
         passed += sum(well for well, _, _ in trial.found)
         failed += sum(not well for well, _, _ in trial.found)
+    proofs.hear_out()
     if "--all-goals" in words:
         note_unasked(UNASKED, trials)
     return finished(passed, failed)
@@ -419,4 +440,6 @@ def finished(passed, failed):
 
 
 if __name__ == "__main__":
+    # (ended so, the folders of its checks go with it)
+    signal.signal(signal.SIGTERM, lambda *_: sys.exit(143))
     sys.exit(main(sys.argv[1:]))

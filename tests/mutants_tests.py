@@ -2,6 +2,8 @@
 """What tests/mutants.py says of wrong bodies, and of what is none, in a small crate of its own."""
 import os
 import tempfile
+import time
+from threading import Barrier, Event
 
 import mutants
 import wrong_bodies
@@ -232,13 +234,62 @@ def a_crate_waits_for_its_libraries():
         same("the first checks", len(trial.ready(heard(lines, ended))), ready)
         same("what is left for later", bool(trial.left), not faults)
         same("what fails", [why for _, _, why in trial.found], faults)
-    stream = iter(["rt: low proved\n"])
+    stream = iter(["rt: low proved\n", "1 passed, 0 failed\n"])
     trial = made()
     group = [it for it in trial.crate.edits if it.name == "added-once"]
     trial.left, trial.full = [group], {*group}
     trial.checker.said = {"added-once": f"fn {DOUBLED}: no proof: `search` did not prove `returns`\n"}
     [ended] = mutants.tried([trial], 2, mutants.Proofs(stream))
     same("what is found", [(well, name) for well, name, _ in ended.found], [(True, "small/added-once")])
+
+
+class Paced(Told):
+    """A checker with which `rt ci` ends once its first check has; the two after it wait for one another."""
+
+    def __init__(self, top, said):
+        super().__init__(top, said)
+        self.first, self.others, self.running, self.beside = Event(), Barrier(2), 0, []
+
+    def lines(self):
+        yield "rt: low proved\n"
+        self.first.wait()
+        yield "1 passed, 0 failed\n"
+
+    def check(self, *of):
+        self.running += 1
+        self.beside.append(self.running)
+        if len(self.beside) == 1:
+            # (the others have time enough to begin where they shouldn't)
+            time.sleep(3)
+            self.first.set()
+        else:
+            self.others.wait(30)
+        self.running -= 1
+        return super().check(*of)
+
+
+def one_check_at_a_time_beside_the_proofs():
+    small = Small("added-once")
+    paced = Paced(small.folder.name, {"added-once": f"fn {DOUBLED}: no proof: `search` did not prove `returns`\n"})
+    trials = [mutants.Trial(small.crate(), paced, {}) for _ in range(3)]
+    for it in trials:
+        it.full = {*it.crate.edits}
+    ended = [*mutants.tried(trials, 2, mutants.Proofs(paced.lines()))]
+    same("checks beside one another", paced.beside, [1, 1, 2])
+    same("what is found", [well for it in ended for well, _, _ in it.found], [True] * 3)
+
+
+def nothing_is_tried_once_the_proofs_are_broken_off():
+    small = Small("added-once")
+    trial = mutants.Trial(small.crate(), Told(small.folder.name, {}), {})
+    proofs = mutants.Proofs(iter(["rt: low proved\n"]))
+    proofs.hear_out()
+    try:
+        [*mutants.tried([trial], 1, proofs)]
+        said = "nothing"
+    except SystemExit as why:
+        said = str(why)
+    same("what is said", said, "rt ci was broken off, so no more wrong bodies are tried")
 
 
 def edits_that_no_longer_fit():
@@ -432,6 +483,8 @@ if __name__ == "__main__":
         a_stored_proof_that_no_longer_fits,
         a_body_that_waits_for_its_callee_is_tried_again,
         a_crate_waits_for_its_libraries,
+        one_check_at_a_time_beside_the_proofs,
+        nothing_is_tried_once_the_proofs_are_broken_off,
         answers_of_a_body_beside_the_right_one,
         goals_that_need_not_be_asked,
         what_the_prover_says,

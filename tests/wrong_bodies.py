@@ -30,7 +30,8 @@ class Edit:
 
     In a check it stands beside the right one, as a function of another name with the same head, so that what calls the
     right one isn't touched by it. A body of a trait's impl, where no other function may stand, has the right one's
-    place. Of its goals some may go unasked, since another one shows that it is refused.
+    place, and so have those of an edit that changes several functions. Of its goals some may go unasked, since another
+    one shows that it is refused.
     """
 
     def __init__(self, path, sources, unasked=()):
@@ -63,7 +64,8 @@ class Edit:
 
     def stands_beside(self, other):
         """Whether the two may share a check: neither takes the place of a function that the other changes or names."""
-        if {*self.paths()} & {*other.paths()}:
+        changed = lambda it: {*it.right.values()}
+        if {*self.replaced()} & changed(other) or {*other.replaced()} & changed(self) or {*self.paths()} & {*other.paths()}:
             return False
         names = lambda one, its: any(path.rpartition("::")[2] in one.words for path in its.replaced())
         return not names(self, other) and not names(other, self)
