@@ -64,8 +64,8 @@ class Edit:
 
     def stands_beside(self, other):
         """Whether the two may share a check: neither takes the place of a function that the other changes or names."""
-        changed = lambda it: {*it.right.values()}
-        if {*self.replaced()} & changed(other) or {*other.replaced()} & changed(self) or {*self.paths()} & {*other.paths()}:
+        clash = lambda one, its: {*one.replaced()} & {*its.right.values()}
+        if {*self.paths()} & {*other.paths()} or clash(self, other) or clash(other, self):
             return False
         names = lambda one, its: any(path.rpartition("::")[2] in one.words for path in its.replaced())
         return not names(self, other) and not names(other, self)
