@@ -5,5 +5,10 @@ use Rattle.line_editor.specs.Calls.{Ruler}
 use Rattle.line_screen.specs.Measure.{measure_of}
 
 -- of so many columns, with colours or without
-abbrev pub ruler_of : ℕ → Bool → Ruler
-ruler_of columns colours = record { measure = λ text from. measure_of Unicode columns text from; columns = columns; colours = colours; mode = Unicode }
+abbrev pub ruler_with : ℕ → Bool → Ruler
+ruler_with columns colours = record {
+  measure = λ text from. measure_of Unicode columns text from;
+  columns = columns;
+  colours = colours;
+  mode = Unicode;
+}

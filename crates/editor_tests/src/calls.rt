@@ -29,7 +29,7 @@ pub struct CallList {
 }
 
 impl CallList {
-    ghost use Rattle.editor_tests.specs.Rulers.{ruler_of};
+    ghost use Rattle.editor_tests.specs.Rulers.{ruler_with};
 
     /// A display of so many columns, and of at least 2 and at most 1,000.
     pub fn new(alloc: Global, columns: Unit, colours: bool) -> Self {
@@ -50,16 +50,16 @@ impl CallList {
 
     /// Forgets the calls that were made.
     pub fn forget(&mut self)
-        ensures { ruler_of self.new.columns self.new.colours
-            ≡ ruler_of self.old.columns self.old.colours }
+        ensures { ruler_with self.new.columns self.new.colours
+            ≡ ruler_with self.old.columns self.old.colours }
     {
         self.calls = String::new(self.alloc);
     }
 
     /// Sets how many more calls are made, if not all.
     pub fn answer(&mut self, answered: Option<u32>)
-        ensures { ruler_of self.new.columns self.new.colours
-            ≡ ruler_of self.old.columns self.old.colours }
+        ensures { ruler_with self.new.columns self.new.colours
+            ≡ ruler_with self.old.columns self.old.colours }
     {
         self.answered = answered;
         self.failed = false;
@@ -67,8 +67,8 @@ impl CallList {
 
     // Whether one more call is made.
     fn answers(&mut self) -> bool
-        ensures { ruler_of self.new.columns self.new.colours
-            ≡ ruler_of self.old.columns self.old.colours }
+        ensures { ruler_with self.new.columns self.new.colours
+            ≡ ruler_with self.old.columns self.old.colours }
     {
         match self.answered {
             None => !self.failed,
@@ -81,8 +81,8 @@ impl CallList {
     }
 
     fn keep(&mut self, call: &str) -> Result<(), AllocError>
-        ensures { ruler_of self.new.columns self.new.colours
-            ≡ ruler_of self.old.columns self.old.colours }
+        ensures { ruler_with self.new.columns self.new.colours
+            ≡ ruler_with self.old.columns self.old.colours }
     {
         if !self.calls.is_empty() {
             self.calls.push_str("; ")?;
@@ -94,8 +94,8 @@ impl CallList {
     fn note(&mut self, call: Result<String, AllocError>) -> Result<(), ReadlineError>
         ensures fault { IfErr result (λ e. e ≡ Display) }
         ensures failed { OnErr result (IsTrue self.new.failed) }
-        ensures ruler { ruler_of self.new.columns self.new.colours
-            ≡ ruler_of self.old.columns self.old.colours }
+        ensures ruler { ruler_with self.new.columns self.new.colours
+            ≡ ruler_with self.old.columns self.old.colours }
     {
         if self.answers()
             && let Ok(call) = call
@@ -148,10 +148,12 @@ fn drawing(
 
 impl Renderer for CallList {
     ghost use Rattle.std.specs.Prelude.{⊤};
-    ghost use Rattle.editor_tests.specs.Rulers.{ruler_of};
+    ghost use Rattle.editor_tests.specs.Rulers.{ruler_with};
 
     // its calls are text: no clause says more of them than that they were made
-    ghost canvas = { record { made = λ _ _ _. ⊤; refused = λ _ _ _. ⊤; failed = λ list. list.failed; ruler = λ list. ruler_of list.columns list.colours } };
+    ghost canvas = { record { made = λ _ _ _. ⊤; refused = λ _ _ _. ⊤;
+        failed = λ list. list.failed;
+        ruler = λ list. ruler_with list.columns list.colours } };
 
     fn move_cursor(&mut self, old: Position, new: Position) -> Result<(), ReadlineError> {
         self.note(format!(in self.alloc; "move {},{} to {},{}", old.row, old.col, new.row, new.col))

@@ -158,7 +158,7 @@ fn settings_text_told(alloc: Global, history: &mut FileHistory) -> Result<String
 fn loaded_under(alloc: Global, settings: &str) -> Result<String, AllocError> {
     let (size, ignored) = word_and_rest(settings);
     let mut history = FileHistory::new(alloc);
-    history.set_max_len(size.parse().unwrap_or(usize::MAX));
+    history.set_max_len(size.parse().unwrap_or(0));
     history.ignore_space(ignored.contains("spaces"));
     history.ignore_dups(ignored.contains("repeated"));
     settings_text_told(alloc, &mut history)
@@ -223,7 +223,7 @@ fn added<H: History>(
 // Sets what is kept and what ignored; there is nothing to tell then.
 fn set<H: History>(history: &mut H, call: &str, text: &str) -> &'static str {
     match call {
-        "max_len" => history.set_max_len(text.parse().unwrap_or(usize::MAX)),
+        "max_len" => history.set_max_len(text.parse().unwrap_or(0)),
         "ignore_dups" => history.ignore_dups(text == "yes"),
         "ignore_space" => history.ignore_space(text == "yes"),
         "clear" => history.clear(),
@@ -378,7 +378,7 @@ impl Memory {
 
     fn answer(&mut self, alloc: Global, call: &str, text: &str) -> Result<String, ReadlineError> {
         match call {
-            "lines" => Ok(self.told(alloc, text.parse().unwrap_or(usize::MAX))?),
+            "lines" => Ok(self.told(alloc, text.parse().unwrap_or(0))?),
             _ => answered(alloc, &mut self.history, call, text),
         }
     }
@@ -510,7 +510,7 @@ struct Hinted {
 }
 
 impl Hinted {
-    // The hint from the history, and where no hinter has one, that.
+    // The hint from the history; where there is one without a hinter, that, which no row wants.
     fn told(&self, alloc: Global, line: &str, pos: usize) -> Result<String, AllocError> {
         if pos > line.len() {
             return String::from_str(alloc, "a cursor beyond the line");
@@ -518,7 +518,7 @@ impl Hinted {
         let context = Context::new(&self.history);
         let other = hint_told(alloc, ().hint(alloc, line, pos, &context))?;
         if other.as_str() != "none" {
-            return Ok(other);
+            return format!(in alloc; "without a hinter {other}");
         }
         hint_told(alloc, HistoryHinter::new().hint(alloc, line, pos, &context))
     }

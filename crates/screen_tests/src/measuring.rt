@@ -56,37 +56,39 @@ enum Ask {
 impl Player for Ask {
     fn play(&mut self, alloc: Global, call: &str) -> Result<String, Fail> {
         let (first, rest) = word_and_rest(call);
-        let place = match self {
+        let said = match self {
             Ask::End => end_measured(alloc, first, rest),
             Ask::Insertion => after_insertion(alloc, first, rest),
             Ask::Kill => after_kill(alloc, first, rest),
         };
-        Ok(position_told(alloc, place?)?)
+        Ok(said?)
     }
 }
 
 // Where a row's text ends on so many columns.
-fn end_measured(alloc: Global, columns: &str, call: &str) -> Result<Option<Position>, AllocError> {
+fn end_measured(alloc: Global, columns: &str, call: &str) -> Result<String, AllocError> {
     let (mode, call) = word_and_rest(call);
     let (from, text) = word_and_rest(call);
     let columns: u16 = columns.parse().unwrap_or(0);
     let columns = columns.max(2).min(1000);
     let text = meant(alloc, text)?;
     let end = measure(text.as_str(), position_of(from), columns, mode_of(mode));
-    Ok(Some(end))
+    position_told(alloc, Some(end))
 }
 
 // Where the line ends after a typed character, where its byte is enough.
-fn after_insertion(alloc: Global, end: &str, text: &str) -> Result<Option<Position>, AllocError> {
+fn after_insertion(alloc: Global, end: &str, text: &str) -> Result<String, AllocError> {
     let text = meant(alloc, text)?;
-    let c = text.as_str().chars().next().unwrap_or('\0');
-    Ok(short_insertion(position_of(end), c, 80))
+    match text.as_str().chars().next() {
+        Some(c) => position_told(alloc, short_insertion(position_of(end), c, 80)),
+        None => String::from_str(alloc, "no character"),
+    }
 }
 
 // Where the cursor goes after a kill, where an erasure is enough.
-fn after_kill(alloc: Global, end: &str, text: &str) -> Result<Option<Position>, AllocError> {
+fn after_kill(alloc: Global, end: &str, text: &str) -> Result<String, AllocError> {
     let text = meant(alloc, text)?;
-    Ok(short_kill(position_of(end), text.as_str()))
+    position_told(alloc, short_kill(position_of(end), text.as_str()))
 }
 
 #[test]
