@@ -321,7 +321,7 @@ class Trial:
 
 
 def tried(trials, lanes, proofs):
-    """Tries the wrong bodies of crates, so many checks side by side, and yields each trial as it ends.
+    """Tries the wrong bodies of crates, the dearest first, so many checks side by side, and yields each trial as it ends.
 
     While `rt ci` is at work there is one check at a time, where the memory for it is free, and a crate whose libraries
     it hasn't proved waits.
@@ -333,6 +333,7 @@ def tried(trials, lanes, proofs):
             if proofs.was_broken_off:
                 sys.exit("rt ci was broken off, so no more wrong bodies are tried")
             ready += [(trial, group) for trial in left for group in trial.ready(proofs)]
+            ready.sort(key=lambda it: it[0].crate.weight(), reverse=True)
             room = lanes if is_alone else min(1, free() // NEED)
             for trial, group in ready[: max(0, room - len(running))]:
                 ready.remove((trial, group))
