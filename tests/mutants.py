@@ -321,7 +321,7 @@ class Trial:
 
 
 def tried(trials, lanes, proofs):
-    """Tries the wrong bodies of crates, the dearest first, so many checks side by side, and yields each trial as it ends.
+    """Tries the wrong bodies of crates, the dearest first, so many checks side by side; yields each trial as it ends.
 
     While `rt ci` is at work there is one check at a time, where the memory for it is free, and a crate whose libraries
     it hasn't proved waits.
