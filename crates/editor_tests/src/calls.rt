@@ -151,9 +151,12 @@ impl Renderer for CallList {
     ghost use Rattle.editor_tests.specs.Rulers.{ruler_with};
 
     // its calls are text: no clause says more of them than that they were made
-    ghost canvas = { record { made = λ _ _ _. ⊤; refused = λ _ _ _. ⊤;
-        failed = λ list. list.failed;
-        ruler = λ list. ruler_with list.columns list.colours } };
+    ghost canvas = { record {
+      made = λ _ _ _. ⊤;
+      refused = λ _ _ _. ⊤;
+      failed = λ list. list.failed;
+      ruler = λ list. ruler_with list.columns list.colours;
+    } };
 
     fn move_cursor(&mut self, old: Position, new: Position) -> Result<(), ReadlineError> {
         self.note(format!(in self.alloc; "move {},{} to {},{}", old.row, old.col, new.row, new.col))

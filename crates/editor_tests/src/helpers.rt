@@ -178,11 +178,13 @@ impl Validator for Adviser {
     ghost use Rattle.line_help.specs.declared.validate.ValidationResult.TheVariants as results;
     ghost use Rattle.editor_tests.specs.declared.helpers.Verdict.TheVariants.{Incomplete, Invalid, InvalidTold, Valid, ValidTold};
 
-    ghost verdict_of = { λ self text. elim self.verdict [ Incomplete ↦ results.Incomplete
-        | Invalid ↦ results.Invalid None
-        | InvalidTold ↦ results.Invalid (Some self.message.now)
-        | Valid ↦ results.Valid None
-        | ValidTold ↦ results.Valid (Some self.message.now) ] };
+    ghost verdict_of = { λ self text. elim self.verdict [
+      | Incomplete ↦ results.Incomplete
+      | Invalid ↦ results.Invalid None
+      | InvalidTold ↦ results.Invalid (Some self.message.now)
+      | Valid ↦ results.Valid None
+      | ValidTold ↦ results.Valid (Some self.message.now)
+    ] };
 
     ghost validating_fails = { λ self text. nat_le self.verdict_fails_at (length text) };
 
