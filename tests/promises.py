@@ -12,7 +12,7 @@ TOP = os.path.dirname(os.path.dirname(os.path.realpath(__file__)))
 OWNER = re.compile(r"(?:pub(?:\([^)]*\))? )?(?:trait (\w+)|impl(?:<.*?>)? (?:(.+?) for )?(.+?) ?(?:where\b.*)?\{?\Z)")
 CALL = re.compile(r"\s*(?:pub(?:\([^)]*\))? )?(?:const )?fn (\w+)")
 CLAUSE = re.compile(r"\s*(?:requires|ensures)\*?(?: (\w+))? \{")
-NAMED = re.compile(r"(?:abbrev |unfoldable )*(?:pub )?(?:abbrev |unfoldable )?(?:pub )?(?:data |record )?(\S+)(?: :| \(| \{)")
+DEFINED = re.compile(r"^(  |)((?:abbrev |unfoldable )?)pub ((?:data |record )?)(\S+)(?= :| \(| \{)", re.M)
 WORD = re.compile(r"`([^`]+)`|[()]")
 
 
@@ -32,19 +32,25 @@ def last_word(name):
     return name.split("::")[-1].strip()
 
 
+def definitions(text):
+    """The public definitions of a file of specs/, and not the fields of its records, in their order."""
+    found = {}
+    for indent, way, kind, name in DEFINED.findall(text):
+        if way or kind or re.search(rf"^{indent}{re.escape(name)}(?: .*)? =", text, re.M):
+            found[name] = True
+    return list(found)
+
+
 class Crate:
     """The calls of a crate with the names of their clauses, its laws, its types, and the definitions in its specs/."""
 
     def __init__(self, name):
-        self.calls, self.laws, self.types, self.words, self.specs = {}, set(), set(), set(), set()
+        self.calls, self.laws, self.types, self.specs = {}, set(), set(), {}
         for file in files_under(f"crates/{name}/src", ".rt"):
             self.read_source(file, file.endswith("/laws.rt"))
         for file in files_under(f"crates/{name}/specs", ".antt"):
             if not file.endswith("/Lib.antt"):
-                self.specs.add("specs/" + os.path.basename(file).removesuffix(".antt"))
-                self.words.update(found[1] for found in map(NAMED.match, lines_of(file)) if found)
-                inner = r"^  (?:abbrev |unfoldable )?(?:pub )?(?:record |data )?(\w+)(?= [:({])"
-                self.words.update(re.findall(inner, "\n".join(lines_of(file)), re.M))
+                self.specs["specs/" + os.path.basename(file).removesuffix(".antt")] = definitions("\n".join(lines_of(file)))
 
     def read_source(self, file, is_laws):
         owners, clauses = [], set()
@@ -144,7 +150,7 @@ def check_crates(checks):
 
 
 def check_definitions(checks, crates):
-    """docs/DEFINITIONS.md: each definition and each contract that it names, and each file of definitions by a row."""
+    """docs/DEFINITIONS.md: a row for each file of definitions, that names each of them and none besides, and contracts that are there."""
     lines = lines_of("docs", "DEFINITIONS.md")
     for name, crate in crates.items():
         if name not in LIBRARIES or not crate.specs:
@@ -153,11 +159,14 @@ def check_definitions(checks, crates):
         if head not in lines:
             checks.expect(False, f"DEFINITIONS: no section for {name}")
             continue
-        left = set(crate.specs)
-        for standard, definitions, contracts in tables(section(lines, head)):
-            for word in re.findall(r"`([^`]+)`", definitions):
-                left.discard(word)
-                checks.expect(word in crate.specs or word in crate.words, f"DEFINITIONS: {name} defines no {word}")
+        left = {file: set(defined) for file, defined in crate.specs.items()}
+        for standard, words, contracts in tables(section(lines, head)):
+            file, *named = re.findall(r"`([^`]+)`", words)
+            defined = left.pop(file, set())
+            for word in named:
+                checks.expect(word in defined, f"DEFINITIONS: {file} of {name} defines no {word}")
+            lacking = sorted(defined.difference(named))
+            checks.expect(not lacking, f"DEFINITIONS: the row of {file} of {name} lacks {', '.join(lacking)}")
             for _, call, clauses in places(contracts):
                 lacking = crate.lacks(call, clauses)
                 checks.expect(not lacking, f"DEFINITIONS: not in {name}: {', '.join(lacking)}")

@@ -70,7 +70,7 @@ layouts_tell s own (r ∷ rs) l x h fits = layouts_tell s own rs (one (ruler_of 
 
 -- ---- the byte
 
-may_type_it : (v w : Value) (c : ℕ) → is_printable c ≡ true → list_all is_simple v.line.text ≡ true → v.line.place ≡ length v.line.text → is_bare v ≡ true → is_bare w ≡ true → may_be_typed c 1 v w ≡ true
+may_type_it : (v w : Value) (c : ℕ) → is_printable c ≡ true → list_all is_simple v.line.text ≡ true → v.line.place ≡ length v.line.text → is_bare v ≡ true → is_bare w ≡ true → may_be_typed c 1 (v.line.place == length v.line.text) (list_all is_simple v.line.text) (is_bare v) (is_bare w) ≡ true
 may_type_it v w c printable plain end before after =
     and_from (v.line.place == length v.line.text) (list_all is_simple v.line.text && (is_printable c && (is_bare v && is_bare w))) (eq-eqb v.line.place (length v.line.text) end)
     (and_from (list_all is_simple v.line.text) (is_printable c && (is_bare v && is_bare w)) plain (and_from (is_printable c) (is_bare v && is_bare w) printable (and_from (is_bare v) (is_bare w) before after)))

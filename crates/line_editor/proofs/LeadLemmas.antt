@@ -27,7 +27,7 @@ use Rattle.line_keys.specs.declared.command.CmdKind.{CmdKind}
 use Rattle.line_keys.specs.declared.command.CmdKind.TheVariants.{MoveCursor}
 use Rattle.line_record.specs.Held.{Held}
 use Rattle.line_editor.specs.Drawing.{drawn, asked_anew, refreshed, told, cursor_moved, beeped, cleared_and_drawn}
-use Rattle.line_editor.specs.Inserting.{may_be_typed, show_typed, insert_char, insert_text}
+use Rattle.line_editor.specs.Inserting.{is_bare, may_be_typed, show_typed, insert_char, insert_text}
 use Rattle.line_editor.specs.Killing.{may_be_taken, show_taken, kill, insert_text_if, replace}
 use Rattle.line_editor.specs.Leads.{Leads}
 use Rattle.line_editor.specs.Moving.{cursor_moved_if, to_found, to_place, move_home, move_to_next_word, move_to_first_print, move_by}
@@ -148,7 +148,10 @@ put_at_end text place added e =
     ∙ ap (λ xs. text ++ (added ++ xs)) (drop_all place text (omega arith))
     ∙ ap (λ xs. text ++ xs) (append-nil added)
 
-typed_by : (s : Setting) (c n : ℕ) (v w : Value) (b : Bool) → may_be_typed c n v w ≡ b → (may_be_typed c n v w ≡ true → w.line ≡ put_at_cursor (encode_utf8 c) v.line)
+abbrev typed_alone : ℕ → ℕ → Value → Value → Bool
+typed_alone c n v w = may_be_typed c n (v.line.place == length v.line.text) (is_plain v.line.text) (is_bare v) (is_bare w)
+
+typed_by : (s : Setting) (c n : ℕ) (v w : Value) (b : Bool) → typed_alone c n v w ≡ b → (typed_alone c n v w ≡ true → w.line ≡ put_at_cursor (encode_utf8 c) v.line)
     → Leads s v (record { value = w; redraws = (if b then Typed s.prompt c w.line.text w.line.place else drawn s w) ∷ [] })
 typed_by s c n v w false e put info = record { fits = ((λ x. refl), tt); leads = refl }
 typed_by s c n v w true e put info =
@@ -204,7 +207,7 @@ pub insertion_leads : (c n : ℕ) (s : Setting) (v : Value) → Leads s v (inser
 insertion_leads c n s v =
     let w = rewritten (char_typed c n) v in
     either s v (is_some (insertion c n v.line).answer) (show_typed c n v s w) (unchanged s w)
-    (λ some. typed_by s c n v (asked_anew s w) (may_be_typed c n v (asked_anew s w)) refl (λ h. one_typed c n v.line (n == 1) (and_parts (n == 1) _ h).0 some))
+    (λ some. typed_by s c n v (asked_anew s w) (typed_alone c n v (asked_anew s w)) refl (λ h. one_typed c n v.line (n == 1) (and_parts (n == 1) _ h).0 some))
     (λ none. rest_leads s v w (no_typing c n v.line (n == 1) none))
 
 pub text_leads : (text : List ℕ) (s : Setting) (v : Value) → Leads s v (insert_text text s v)
@@ -212,7 +215,10 @@ text_leads text s v = either s v (length text == 0) _ _ (λ e. rest_leads s v v 
 
 -- ---- a kill
 
-taken_by : (s : Setting) (v w : Value) (from upto : ℕ) (b : Bool) → may_be_taken v w ≡ b → (is_plain v.line.text ≡ true → Low v.line.text from upto)
+abbrev taken_alone : Value → Value → Bool
+taken_alone v w = may_be_taken (list_all is_printable (drop (length w.line.text) v.line.text)) (is_bare v) w
+
+taken_by : (s : Setting) (v w : Value) (from upto : ℕ) (b : Bool) → taken_alone v w ≡ b → (is_plain v.line.text ≡ true → Low v.line.text from upto)
     → w.line.text ≡ replace_range v.line.text from upto [] → w.line.place ≡ from
     → Leads s v (record { value = w; redraws = (if b then Taken s.prompt (length v.line.text - length w.line.text) w.line.text w.line.place else drawn s w) ∷ [] })
 taken_by s v w from upto false e low text place info = record { fits = ((λ x. refl), tt); leads = refl }
@@ -253,7 +259,7 @@ killed_by : (s : Setting) (v : Value) (held : List Held) (o : Option Span) → (
 killed_by s v held None h = rest_leads s v (record v { held = held }) refl
 killed_by s v held (Some span) h =
     let w : Value = record v { line = cut_out span.from span.upto v.line; held = held } in
-    taken_by s v (asked_anew s w) span.from span.upto (may_be_taken v (asked_anew s w)) refl h refl refl
+    taken_by s v (asked_anew s w) span.from span.upto (taken_alone v (asked_anew s w)) refl h refl refl
 
 pub kill_leads : (m : Movement) (s : Setting) (v : Value) → Leads s v (kill m s v)
 kill_leads m s v = killed_by s v (rewritten (range_killed m) v).held (range_of m v.line) (λ plain. range_low v.line plain m)

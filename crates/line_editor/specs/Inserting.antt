@@ -6,7 +6,6 @@ use Rattle.line_edits.specs.Edits.{char_typed, put_behind, chars_replaced, overw
 use Rattle.line_buffer.specs.Short.{is_printable}
 use Rattle.line_edits.specs.Plain.{is_plain}
 use Rattle.line_editor.specs.Drawing.{drawn, asked_anew, refreshed}
-use Rattle.line_editor.specs.Redraws.{Redraw}
 use Rattle.line_editor.specs.Redraws.Redraw.{Typed}
 use Rattle.line_editor.specs.Values.{Value, Setting, Transition, unchanged, rewritten}
 
@@ -14,35 +13,28 @@ use Rattle.line_editor.specs.Values.{Value, Setting, Transition, unchanged, rewr
 abbrev pub is_bare : Value → Bool
 is_bare v = not (is_some v.hint) && not v.marked
 
--- a printable character at the end of a plain line, with nothing to show but itself, before and
--- after it
-abbrev pub may_be_typed : ℕ → ℕ → Value → Value → Bool
-may_be_typed c n before v =
-    (n == 1)
-    && ((before.line.place == length before.line.text)
-    && (is_plain before.line.text && (is_printable c && (is_bare before && is_bare v))))
+-- whether a character's byte alone shows it: one printable character at the end of a plain line,
+-- with nothing to show but itself, before and after it
+abbrev pub may_be_typed : ℕ → ℕ → Bool → Bool → Bool → Bool → Bool
+may_be_typed c n at_end plain was_bare bare =
+    (n == 1) && (at_end && (plain && (is_printable c && (was_bare && bare))))
 
-abbrev pub typed_redraw : ℕ → ℕ → Setting → Value → Value → Redraw
-typed_redraw c n s before v =
-    if may_be_typed c n before v then Typed s.prompt c v.line.text v.line.place else drawn s v
-
--- a drawing of what was typed
-abbrev pub show_typed : ℕ → ℕ → Value → Transition
-show_typed c n before s v = record {
-  value = asked_anew s v;
-  redraws = typed_redraw c n s before (asked_anew s v) ∷ [];
-}
-
--- the same, of a character that was put in so many times, at the end or not, into a plain line or
+-- a drawing of a character that was put in so many times, at the end or not, into a plain line or
 -- not, with nothing to show before it or something
 abbrev pub inserted_shown : ℕ → ℕ → Bool → Bool → Bool → Transition
 inserted_shown c n at_end plain was_bare s v = record {
   value = asked_anew s v;
   redraws =
-      (if (n == 1) && (at_end && (plain && (is_printable c && (was_bare && is_bare (asked_anew s v)))))
+      (if may_be_typed c n at_end plain was_bare (is_bare (asked_anew s v))
       then Typed s.prompt c v.line.text v.line.place else drawn s (asked_anew s v))
       ∷ [];
 }
+
+-- the same, of a character that was put into a value
+abbrev pub show_typed : ℕ → ℕ → Value → Transition
+show_typed c n before =
+    inserted_shown c n (before.line.place == length before.line.text)
+    (is_plain before.line.text) (is_bare before)
 
 abbrev pub insert_char : ℕ → ℕ → Transition
 insert_char c n s v =

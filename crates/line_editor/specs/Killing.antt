@@ -1,5 +1,5 @@
 -- What is killed, and what is copied into the ring.
-use Rattle.std.specs.Prelude.{ℕ, ◌-◌, ◌==◌, ◌&&◌, nat_le, if◌then◌else◌, Bool, List, [], ◌∷◌, length, drop, Option, Some, None, is_some, option_map}
+use Rattle.std.specs.Prelude.{ℕ, ◌-◌, ◌==◌, ◌&&◌, if◌then◌else◌, Bool, List, [], ◌∷◌, length, drop, Option, Some, None, is_some, option_map}
 use Rattle.std.specs.List.{list_all}
 use Rattle.line_buffer.specs.Range.{range_of, copied_range, span_text, kill_events}
 use Rattle.line_buffer.specs.declared.types.Mode.TheVariants.{Append}
@@ -10,38 +10,32 @@ use Rattle.line_buffer.specs.Short.{is_printable}
 use Rattle.line_edits.specs.Plain.{is_plain}
 use Rattle.line_editor.specs.Drawing.{drawn, asked_anew}
 use Rattle.line_editor.specs.Inserting.{is_bare, insert_text}
-use Rattle.line_editor.specs.Redraws.{Redraw}
 use Rattle.line_editor.specs.Redraws.Redraw.{Taken}
 use Rattle.line_editor.specs.Values.{Value, Setting, Transition, unchanged, then_do, rewritten}
 
--- printable characters from the end of a plain line, with nothing to show, before and after it
-abbrev pub may_be_taken : Value → Value → Bool
-may_be_taken before v =
-    is_plain v.line.text && (list_all is_printable (drop (length v.line.text) before.line.text)
-    && ((v.line.place == length v.line.text) && (is_bare before && is_bare v)))
+-- whether an erased rest of the row shows what was killed: printable characters from the end of a
+-- line that is plain now, with nothing to show, before and after it
+abbrev pub may_be_taken : Bool → Bool → Value → Bool
+may_be_taken printable was_bare v =
+    is_plain v.line.text
+    && (printable && ((v.line.place == length v.line.text) && (was_bare && is_bare v)))
 
-abbrev pub taken_redraw : Setting → Value → Value → Redraw
-taken_redraw s before v =
-    if may_be_taken before v
-    then Taken s.prompt (length before.line.text - length v.line.text) v.line.text v.line.place
-    else drawn s v
-
-abbrev pub show_taken : Value → Transition
-show_taken before s v = record {
-  value = asked_anew s v;
-  redraws = taken_redraw s before (asked_anew s v) ∷ [];
-}
-
--- the same, of a line that was printable from a place on, with nothing to show or something
-abbrev pub killed_shown : ℕ → ℕ → Bool → Transition
+-- a drawing of what so many bytes were taken from, printable ones or not, with nothing to show
+-- before it or something
+abbrev pub killed_shown : ℕ → Bool → Bool → Transition
 killed_shown count printable was_bare s v = record {
   value = asked_anew s v;
   redraws =
-      (if is_plain v.line.text && (nat_le printable (length v.line.text)
-      && ((v.line.place == length v.line.text) && (was_bare && is_bare (asked_anew s v))))
+      (if may_be_taken printable was_bare (asked_anew s v)
       then Taken s.prompt count v.line.text v.line.place else drawn s (asked_anew s v))
       ∷ [];
 }
+
+-- the same, of what was taken from a value
+abbrev pub show_taken : Value → Transition
+show_taken before s v =
+    killed_shown (length before.line.text - length v.line.text)
+    (list_all is_printable (drop (length v.line.text) before.line.text)) (is_bare before) s v
 
 abbrev pub kill : Movement → Transition
 kill movement s v =

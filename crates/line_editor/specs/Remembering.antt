@@ -24,14 +24,14 @@ recalled entry place v = rewritten (update_in_group entry place) v
 abbrev pub saved_on_leaving : Setting → Value → Value
 saved_on_leaving s v = if v.history == length s.entries then saved_now v else v
 
--- an entry in place of the line, the cursor at its end
-abbrev pub recall : ℕ → Option Hit → Transition
-recall place None s v = unchanged s v
-recall place (Some hit) s v = refreshed s (recalled hit.entry (length hit.entry) (at_place place v))
-
--- an entry shown in place of the line, the cursor at a place of it
+-- an entry in place of the line, the cursor at a place of it
 abbrev pub entry_shown : ℕ → List ℕ → ℕ → Transition
 entry_shown index entry place s v = refreshed s (recalled entry place (at_place index v))
+
+-- the cursor at its end
+abbrev pub recall : ℕ → Option Hit → Transition
+recall index None s v = unchanged s v
+recall index (Some hit) s v = entry_shown index hit.entry (length hit.entry) s v
 
 abbrev pub come_back : Transition
 come_back s v = refreshed s (restored (at_place (length s.entries) v))
@@ -41,8 +41,8 @@ abbrev pub recalled_earlier : ℕ → Transition
 recalled_earlier index s v = recall index (entry_at index s.entries) s (saved_on_leaving s v)
 
 abbrev pub previous_entry : Transition
-previous_entry s v = if v.history == 0 then unchanged s v
-    else recall (v.history - 1) (entry_at (v.history - 1) s.entries) s (saved_on_leaving s v)
+previous_entry s v =
+    if v.history == 0 then unchanged s v else recalled_earlier (v.history - 1) s v
 
 abbrev pub next_entry : Transition
 next_entry s v = if v.history == length s.entries then unchanged s v
@@ -50,9 +50,7 @@ next_entry s v = if v.history == length s.entries then unchanged s v
     else recall (v.history + 1) (entry_at (v.history + 1) s.entries) s v
 
 abbrev pub first_entry : Transition
-first_entry s v =
-    if v.history == 0 then unchanged s v
-    else recall 0 (entry_at 0 s.entries) s (saved_on_leaving s v)
+first_entry s v = if v.history == 0 then unchanged s v else recalled_earlier 0 s v
 
 abbrev pub last_line : Transition
 last_line s v = if v.history == length s.entries then unchanged s v else come_back s v
@@ -69,7 +67,7 @@ history_end false = last_line
 
 abbrev pub hit_shown : Option Hit → Transition
 hit_shown None s v = beeped s v
-hit_shown (Some hit) s v = refreshed s (recalled hit.entry hit.pos (at_place hit.idx v))
+hit_shown (Some hit) s v = entry_shown hit.idx hit.entry hit.pos s v
 
 -- the place moves also where nothing is found
 abbrev pub search_from : SearchDirection → ℕ → Transition

@@ -1,13 +1,13 @@
 //! What a state draws.
-ghost use Rattle.std.specs.Prelude.{◌≡◌, ◌+◌, ◌<◌, ◌≤◌, ◌&&◌, not, nat_lt, Some, None, false, if◌then◌else◌, IfOk, IfErr, IsTrue, OnOk, option_map, option_copied};
+ghost use Rattle.std.specs.Prelude.{◌≡◌, ◌+◌, ◌<◌, ◌≤◌, Some, None, false, if◌then◌else◌, IfOk, IfErr, IsTrue, OnOk, option_map, option_copied};
 ghost use Rattle.line_buffer.specs.Cells.{origin};
 ghost use Rattle.line_editor.specs.Calls.{Makes};
 ghost use Rattle.line_editor.specs.Calls.Call.{Draw};
-ghost use Rattle.line_editor.specs.Redraws.{layout_of, info_text, may_take};
+ghost use Rattle.line_editor.specs.Redraws.{layout_of, info_text, may_type, may_take};
 
 use crate::renderer::{RefreshKind, Renderer};
 use crate::state::State;
-use line_buffer::{Layout, LineBuffer, Position, Unit};
+use line_buffer::{Layout, LineBuffer, Position};
 use line_config::{HookFault, ReadlineError};
 use line_help::{Helper, Highlighter, Hint, Hinter, History};
 use line_keys::CmdKind;
@@ -30,11 +30,12 @@ pub(crate) fn highlighter_of<H>(helper: &Option<H>, colours: bool) -> Option<&H>
 }
 
 /// Whether nothing stands after the line, and a character after the cursor doesn't fill the row.
-fn has_room(layout: &Layout, columns: Unit) -> bool
-    ensures value { result
-        ≡ (not layout.now.has_info && nat_lt (layout.now.cursor.col + 1) columns) }
-    ensures room { IsTrue result → layout.now.cursor.col + 1 < columns }
+fn may_type<Out: Renderer>(out: &Out, layout: &Layout) -> bool
+    ensures value { result ≡ may_type (Out.canvas.ruler out.now) layout.now }
+    ensures room { IsTrue result
+        → layout.now.cursor.col + 1 < (Out.canvas.ruler out.now).columns }
 {
+    let columns = out.get_columns();
     let col = layout.cursor.col;
     !layout.has_info && col < columns && col + 1 < columns
 }
@@ -302,7 +303,7 @@ impl<'p, 'h, Out: Renderer, H: Helper + Drop, Hi: History> State<'p, 'h, Out, H,
         ensures does { Does (λ s v. redrawn (Typed s.prompt ch v.line.text v.line.place) s v)
             self.old self.new result }
     {
-        if has_room(&self.layout, self.out.get_columns()) {
+        if may_type(&self.out, &self.layout) {
             let mut bytes = [0u8; 4];
             self.out.write_and_flush(ch.encode_utf8(&mut bytes))?;
             self.layout.cursor.col += 1;

@@ -1,6 +1,6 @@
 //! Characters and texts put in.
-ghost use Rattle.std.specs.Prelude.{◌≡◌, ◌==◌, ◌&&◌};
-ghost use Rattle.line_buffer.specs.Short.{is_printable};
+ghost use Rattle.std.specs.Prelude.{◌≡◌};
+ghost use Rattle.line_editor.specs.Inserting.{may_be_typed};
 
 use crate::renderer::Renderer;
 use crate::state::State;
@@ -11,18 +11,17 @@ use line_help::{Helper, History};
 
 /// Whether what was typed is all that is to be drawn: a printable character at the end of a
 /// plain line, with neither hint nor highlighted character, before and after it.
-fn stands_alone(
+fn may_be_typed(
     ch: char,
     n: RepeatCount,
     at_end: bool,
     plain: bool,
     was_bare: bool,
-    is_bare: bool,
+    bare: bool,
 ) -> bool
-    ensures { result
-        ≡ ((n == 1) && (at_end && (plain && (is_printable ch && (was_bare && is_bare))))) }
+    ensures { result ≡ may_be_typed ch n at_end plain was_bare bare }
 {
-    n == 1 && (at_end && (plain && (is_printable(ch) && (was_bare && is_bare))))
+    n == 1 && (at_end && (plain && (is_printable(ch) && (was_bare && bare))))
 }
 
 #[tactic(auto, using(crate::proofs::BegunLemmas::begun_none, crate::proofs::BegunLemmas::begun_refused))]
@@ -49,7 +48,7 @@ impl<'p, 'h, Out: Renderer, H: Helper + Drop, Hi: History> State<'p, 'h, Out, H,
         ensures does { Does (inserted_shown ch n at_end plain was_bare) self.old self.new result }
     {
         self.ask_anew()?;
-        if stands_alone(ch, n, at_end, plain, was_bare, self.is_bare()) {
+        if may_be_typed(ch, n, at_end, plain, was_bare, self.is_bare()) {
             self.show_short_typed(ch)
         } else {
             let prompt = self.prompt;

@@ -1,5 +1,5 @@
 //! What is killed, and what is copied into the ring.
-ghost use Rattle.std.specs.Prelude.{◌≡◌, ◌⊎◌, ◌==◌, ◌&&◌, nat_le, length, OnOk, IfErr};
+ghost use Rattle.std.specs.Prelude.{◌≡◌, ◌⊎◌, OnOk, IfErr};
 ghost use Rattle.line_config.specs.declared.errors.ReadlineError.{ReadlineError};
 
 use crate::renderer::Renderer;
@@ -14,35 +14,28 @@ use line_record::KillRing;
 #[tactic(auto, using(crate::proofs::BegunLemmas::begun_none, crate::proofs::BegunLemmas::begun_refused))]
 impl<'p, 'h, Out: Renderer, H: Helper + Drop, Hi: History> State<'p, 'h, Out, H, Hi> {
     ghost use Rattle.line_editor.specs.States.{value_of, setting_of, Does, Stays};
-    ghost use Rattle.line_edits.specs.Plain.{is_plain};
-    ghost use Rattle.line_editor.specs.Inserting.{is_bare};
-    ghost use Rattle.line_editor.specs.Killing.{killed_shown, kill, insert_text_if, replace, killed_into, copied_into};
+    ghost use Rattle.line_editor.specs.Killing.{may_be_taken, killed_shown, kill, insert_text_if, replace, killed_into, copied_into};
 
     /// Whether what was taken is all that is to be erased: printable characters from the end of a
     /// plain line, with neither hint nor highlighted character, before and after it.
-    fn stood_at_end(&self, printable: usize, was_bare: bool) -> bool
-        ensures { result ≡ (is_plain self.now.line.text &&
-            (nat_le printable (length self.now.line.text) &&
-            ((self.now.line.place == length self.now.line.text) &&
-            (was_bare && is_bare (value_of self.now))))) }
+    fn may_be_taken(&self, printable: bool, was_bare: bool) -> bool
+        ensures { result ≡ may_be_taken printable was_bare (value_of self.now) }
     {
-        self.plain
-            && (printable <= self.line.len()
-                && (self.line.is_cursor_at_end() && (was_bare && self.is_bare())))
+        self.plain && (printable && (self.line.is_cursor_at_end() && (was_bare && self.is_bare())))
     }
 
-    /// Shows that so many bytes were killed, with a new hint: what they showed is erased where that
-    /// is enough. From `printable` on the text was printable to its end.
+    /// Shows that so many bytes were killed, printable ones or not, with a new hint: what they
+    /// showed is erased where that is enough.
     fn show_killed(
         &mut self,
         count: usize,
-        printable: usize,
+        printable: bool,
         was_bare: bool,
     ) -> Result<(), ReadlineError>
         ensures does { Does (killed_shown count printable was_bare) self.old self.new result }
     {
         self.ask_anew()?;
-        if self.stood_at_end(printable, was_bare) {
+        if self.may_be_taken(printable, was_bare) {
             self.show_short_taken(count)
         } else {
             let prompt = self.prompt;
@@ -66,7 +59,7 @@ impl<'p, 'h, Out: Renderer, H: Helper + Drop, Hi: History> State<'p, 'h, Out, H,
     {
         let was_bare = self.is_bare();
         let before = self.line.len();
-        let printable = printable_from(self.line.as_str());
+        let printable_start = printable_from(self.line.as_str());
         let killed = kill(
             self.alloc,
             &mut self.line,
@@ -79,6 +72,7 @@ impl<'p, 'h, Out: Renderer, H: Helper + Drop, Hi: History> State<'p, 'h, Out, H,
             return Ok(());
         }
         let count = before - self.line.len();
+        let printable = printable_start <= self.line.len();
         self.show_killed(count, printable, was_bare)
     }
 
