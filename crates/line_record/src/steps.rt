@@ -240,7 +240,8 @@ impl Steps {
         ensures line { OnOk result (L.value line.new
             ≡ lines_back (changes_of (slice_index_or self.now index Open)) (L.value line.old)) }
         ensures part { OnErr result ((j : ℕ) × (L.value line.new
-            ≡ lines_back (drop j (changes_of (slice_index_or self.now index Open))) (L.value line.old))) }
+            ≡ lines_back (drop j (changes_of (slice_index_or self.now index Open)))
+            (L.value line.old))) }
     {
         let step = self.steps[index];
         self.log.take_back(alloc, step.first, step.last, line)
@@ -255,11 +256,13 @@ impl Steps {
         line: &mut L,
     ) -> Result<(), OutOfMemory>
         requires inside { index < length self.now }
-        requires fit { AllFitIn (changes_of (slice_index_or self.now index Open)) (L.value line.old).text }
+        requires fit { AllFitIn (changes_of (slice_index_or self.now index Open))
+            (L.value line.old).text }
         ensures line { OnOk result (L.value line.new
             ≡ lines_ahead (changes_of (slice_index_or self.now index Open)) (L.value line.old)) }
         ensures part { OnErr result ((j : ℕ) × (L.value line.new
-            ≡ lines_ahead (take j (changes_of (slice_index_or self.now index Open))) (L.value line.old))) }
+            ≡ lines_ahead (take j (changes_of (slice_index_or self.now index Open)))
+            (L.value line.old))) }
     {
         let step = self.steps[index];
         self.log.make_anew(alloc, step.first, step.last, line)

@@ -16,7 +16,8 @@ hint_or_kill most s =
     else Ok (Some (Kill (BackwardChar s.count)))
 
 abbrev pub one_way : OneWay → Meaning
-one_way Count s = if s.positive then Ok (Some (Undo s.count)) else Ok (Some (TransposeWords s.count))
+one_way Count s =
+    if s.positive then Ok (Some (Undo s.count)) else Ok (Some (TransposeWords s.count))
 one_way Nothing s = Ok None
 one_way Fails s = Err Failed
 one_way WantsMemory s = Err Memory

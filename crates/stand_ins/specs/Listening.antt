@@ -5,4 +5,10 @@ use Rattle.line_keys.specs.Feeds.{KeyFeed}
 use Rattle.stand_ins.specs.declared.listener.Listener.{Listener}
 
 abbrev pub listener_feed : Listener → KeyFeed
-listener_feed r = record { told = false; steady = false; coming = Ends End; bound = r.left; reason = λ e. ⊤ }
+listener_feed r = record {
+  told = false;
+  steady = false;
+  coming = Ends End;
+  bound = r.left;
+  reason = λ e. ⊤;
+}

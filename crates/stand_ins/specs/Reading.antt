@@ -34,11 +34,19 @@ request_made DoingInsert = ask.DoingInsert
 request_made DoneInserting = ask.DoneInserting
 
 abbrev pub shown_of : PlainLine → Shown
-shown_of l = record { line = l.text; place = l.pos; hinted = is_some l.hint; completion = l.hint; last_insert = l.inserted }
+shown_of l = record {
+  line = l.text;
+  place = l.pos;
+  hinted = is_some l.hint;
+  completion = l.hint;
+  last_insert = l.inserted;
+}
 
 -- one more request is kept
 abbrev pub MakesRequest : PlainLine → Ask → PlainLine → Type 0
-MakesRequest before a after = map request_made after.requests.items ≡ map request_made before.requests.items ++ (a ∷ [])
+MakesRequest before a after =
+    map request_made after.requests.items
+    ≡ map request_made before.requests.items ++ (a ∷ [])
 
 -- a message takes the hint's place
 abbrev pub shown_after : Shown → Ask → Shown
@@ -62,6 +70,8 @@ HasReason l Handler = ⊥
 abbrev pub plain_line_display : Displays PlainLine
 plain_line_display = record {
   shown = shown_of;
-  asked = λ before a after. MakesRequest before a after × (shown_of after ≡ shown_after (shown_of before) a);
+  asked =
+      λ before a after.
+        MakesRequest before a after × (shown_of after ≡ shown_after (shown_of before) a);
   refused = λ before a e after. HasReason after e;
 }

@@ -20,7 +20,8 @@ keys_then (Key k ∷ rest) tail = Pressed k (keys_then rest tail)
 keys_then (Paste t ∷ rest) tail = Pasted t (keys_then rest tail)
 
 abbrev pub coming_after : List Typed → Bool → After → Coming
-coming_after typed cut last = keys_then typed (if cut then CutOff (last_item last) else Ends (last_item last))
+coming_after typed cut last =
+    keys_then typed (if cut then CutOff (last_item last) else Ends (last_item last))
 
 abbrev pub coming_unless : Option ReadlineError → Coming → Coming
 coming_unless None c = c

@@ -54,6 +54,7 @@ pub fn tell_call<R: RawReader>(
         "char" => tell_char(reader, said),
         "paste" => tell_paste(alloc, reader, said),
         "wait" | "wait+" => tell_wait(reader, single, said),
-        _ => tell_key(reader, single, said),
+        "key" | "key+" => tell_key(reader, single, said),
+        _ => Ok(said.push_str("no such call")?),
     }
 }

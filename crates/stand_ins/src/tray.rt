@@ -74,7 +74,8 @@ impl Tray {
 
     // Takes as many of the bytes as there is room for, and no more than `most`.
     fn put(&mut self, bytes: &[u8], most: usize) -> usize
-        ensures held { take self.new.len self.new.bytes ≡ take self.old.len self.old.bytes ++ take result bytes.now }
+        ensures held { take self.new.len self.new.bytes
+            ≡ take self.old.len self.old.bytes ++ take result bytes.now }
         ensures bound { result ≤ length bytes.now }
     {
         let end = self.len;
