@@ -50,10 +50,9 @@ pub fn edit<F: Source + Drop, S: Source + Drop, D: Sink + Drop, L: Sink + Drop, 
     requires display { D.has_failed display ≡ false }
     requires lines { L.has_failed lines ≡ false }
     requires text { T.has_failed text ≡ false }
-    ensures edits {
-        let known = known_by S.feed D.told D.held D.has_failed L.told L.held L.has_failed in
-        IfOk result (EditsByOptions known T.told T.held T.has_failed options.now (F.feed history)
-        source display lines text) }
+    ensures edits { IfOk result (EditsByOptions
+        (known_by S.feed D.told D.held D.has_failed L.told L.held L.has_failed) T.told T.held
+        T.has_failed options.now (F.feed history) source display lines text) }
     ensures fault { IfErr result (LoadFault (config_of options.now) (F.feed history)) }
 {
     let session = Session::open(

@@ -72,6 +72,6 @@ plain_line_display = record {
   shown = shown_of;
   asked =
       λ before a after.
-        MakesRequest before a after × (shown_of after ≡ shown_after (shown_of before) a);
+      MakesRequest before a after × (shown_of after ≡ shown_after (shown_of before) a);
   refused = λ before a e after. HasReason after e;
 }

@@ -35,8 +35,13 @@ impl PlainLine {
     ghost use Rattle.stand_ins.specs.Reading.{shown_of, MakesRequest, request_made, HasReason};
 
     pub fn new(alloc: Global, text: Text) -> Self
-        ensures { shown_of result ≡ record { line = text; place = length text; hinted = false;
-            completion = None; last_insert = None } }
+        ensures { shown_of result ≡ record {
+          line = text;
+          place = length text;
+          hinted = false;
+          completion = None;
+          last_insert = None;
+        } }
     {
         let pos = text.as_str().len();
         PlainLine {
