@@ -9,6 +9,7 @@ use Rattle.line_help.specs.History.{Filed, all_saved}
 use Rattle.line_help.specs.HistoryText.{text_to_save}
 use Rattle.line_keys.specs.Answers.{HandlerFails}
 use Rattle.line_keys.specs.Coming.{Coming, made_of, left_by}
+use Rattle.keyline.specs.Calls.{TakesSome}
 use Rattle.keyline.specs.Deeds.{SessionDeed, Draws, Hears, Keeps, Writes, bytes_drawn, left_of_deeds, lines_kept, lines_written}
 use Rattle.keyline.specs.Sessions.{Given, Report, remembered, history_after, line_text, lines_text, display_bytes}
 
@@ -135,12 +136,14 @@ module _ {D L : Type 0} (shows : D → Bool) (shown : D → List ℕ) (show_fail
 
 -- ---- the end
 
--- the history was saved, so that nothing in it is new; or the sink of its text has failed
+-- the history was saved, so that nothing in it is new; or the sink of its text has failed, and has
+-- taken a beginning of the text
 pub record Saves {T : Type 0} (told : T → Bool) (held : T → List ℕ) (failed : T → Bool)
     (kept history' : Filed) (text text' : T) (saved : Bool) : Type 0 where
   pub done : saved ≡ true → (history' ≡ all_saved kept)
       × Takes told held text text' (text_to_save kept)
   pub refused : saved ≡ false → (history' ≡ kept) × IsTrue (failed text')
+      × TakesSome told held text text' (text_to_save kept)
 
 -- a fault comes before that of the history's text
 abbrev pub ending_after : ReadlineError → Bool → ReadlineError

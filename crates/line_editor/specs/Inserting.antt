@@ -7,7 +7,7 @@ use Rattle.line_buffer.specs.Short.{is_printable}
 use Rattle.line_edits.specs.Plain.{is_plain}
 use Rattle.line_editor.specs.Drawing.{drawn, asked_anew, refreshed}
 use Rattle.line_editor.specs.Redraws.Redraw.{Typed}
-use Rattle.line_editor.specs.Values.{Value, Setting, Transition, unchanged, rewritten}
+use Rattle.line_editor.specs.Values.{Value, Transition, unchanged, rewritten}
 
 -- neither hint nor highlighted character
 abbrev pub is_bare : Value → Bool

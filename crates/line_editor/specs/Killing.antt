@@ -11,7 +11,7 @@ use Rattle.line_edits.specs.Plain.{is_plain}
 use Rattle.line_editor.specs.Drawing.{drawn, asked_anew}
 use Rattle.line_editor.specs.Inserting.{is_bare, insert_text}
 use Rattle.line_editor.specs.Redraws.Redraw.{Taken}
-use Rattle.line_editor.specs.Values.{Value, Setting, Transition, unchanged, then_do, rewritten}
+use Rattle.line_editor.specs.Values.{Value, Transition, unchanged, then_do, rewritten}
 
 -- whether an erased rest of the row shows what was killed: printable characters from the end of a
 -- line that is plain now, with nothing to show, before and after it

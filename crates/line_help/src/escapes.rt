@@ -1,7 +1,8 @@
 //! Escapes in a saved history: a newline stands as `\n`, a backslash as two.
-ghost use Rattle.std.specs.Prelude.{◌≡◌, ◌++◌, is_err, IsTrue, IfOk, IfErr, OnOk, option_map, string_bytes};
+ghost use Rattle.std.specs.Prelude.{◌≡◌, ◌++◌, is_err, IsTrue, IfOk, IfErr, OnOk, OnErr, option_map, string_bytes};
+ghost use Rattle.line_config.specs.Sending.{AppendsSome};
 ghost use Rattle.line_config.specs.declared.errors.ReadlineError.TheVariants.{HistoryText};
-ghost use Rattle.line_help.specs.HistoryText.{row_of, unescaped_row, entry_of};
+ghost use Rattle.line_help.specs.HistoryText.{escaped_byte, row_of, unescaped_row, entry_of};
 
 use line_config::{ReadlineError, Sink};
 use std::alloc::{AllocError, Global};
@@ -10,6 +11,8 @@ use std::alloc::{AllocError, Global};
 pub(crate) fn put<S: Sink>(sink: &mut S, bytes: &[u8]) -> Result<(), ReadlineError>
     ensures text { IsTrue (S.told sink.old)
         → OnOk result (S.held sink.new ≡ S.held sink.old ++ bytes.now) }
+    ensures begins { IsTrue (S.told sink.old)
+        → OnErr result (AppendsSome (S.held sink.old) bytes.now (S.held sink.new)) }
     ensures told { IsTrue (S.told sink.old) → IsTrue (S.told sink.new) }
     ensures error { IfErr result (λ e. e ≡ HistoryText) }
     ensures failure { S.has_failed sink.new ≡ is_err result }
@@ -17,24 +20,38 @@ pub(crate) fn put<S: Sink>(sink: &mut S, bytes: &[u8]) -> Result<(), ReadlineErr
     sink.write(bytes).map_err(|_| ReadlineError::HistoryText)
 }
 
+/// Writes a byte of an entry.
+fn put_escaped<S: Sink>(sink: &mut S, byte: u8) -> Result<(), ReadlineError>
+    ensures text { IsTrue (S.told sink.old)
+        → OnOk result (S.held sink.new ≡ S.held sink.old ++ escaped_byte byte) }
+    ensures begins { IsTrue (S.told sink.old)
+        → OnErr result (AppendsSome (S.held sink.old) (escaped_byte byte) (S.held sink.new)) }
+    ensures told { IsTrue (S.told sink.old) → IsTrue (S.told sink.new) }
+    ensures error { IfErr result (λ e. e ≡ HistoryText) }
+    ensures failure { S.has_failed sink.new ≡ is_err result }
+{
+    match byte {
+        b'\n' => put(sink, b"\\n"),
+        b'\\' => put(sink, b"\\\\"),
+        plain => put(sink, &[plain]),
+    }
+}
+
 /// Writes an entry as a row, which a newline closes.
 pub(crate) fn write_row<S: Sink>(sink: &mut S, entry: &str) -> Result<(), ReadlineError>
     ensures text { IsTrue (S.told sink.old)
         → OnOk result (S.held sink.new ≡ S.held sink.old ++ row_of entry.now) }
+    ensures begins { IsTrue (S.told sink.old)
+        → OnErr result (AppendsSome (S.held sink.old) (row_of entry.now) (S.held sink.new)) }
     ensures told { IsTrue (S.told sink.old) → IsTrue (S.told sink.new) }
     ensures error { IfErr result (λ e. e ≡ HistoryText) }
     ensures failure { S.has_failed sink.new ≡ is_err result }
 {
     let bytes = entry.as_bytes();
     for byte in bytes {
-        match *byte {
-            b'\n' => put(sink, b"\\n")?,
-            b'\\' => put(sink, b"\\\\")?,
-            plain => put(sink, &[plain])?,
-        }
+        put_escaped(sink, *byte)?;
     }
-    put(sink, b"\n")?;
-    Ok(())
+    put(sink, b"\n")
 }
 
 /// The text that a row with escapes stands for. There is none where a backslash stands before

@@ -73,6 +73,7 @@ impl FileHistory {
 impl FileHistory {
     ghost use Rattle.std.specs.Prelude.{◌≡◌, ◌++◌, ◌≤◌, length, drop, is_err, IsTrue, IfErr, OnOk, OnErr};
     ghost use Rattle.line_config.specs.declared.errors.ReadlineError.TheVariants.{HistoryText};
+    ghost use Rattle.line_config.specs.Sending.{AppendsSome};
     ghost use Rattle.line_help.specs.History.{all_saved};
     ghost use Rattle.line_help.specs.HistoryText.{rows_text, text_to_save, text_to_append};
 
@@ -81,6 +82,9 @@ impl FileHistory {
         ensures text { IsTrue (S.told sink.old)
             → OnOk result (S.held sink.new
             ≡ S.held sink.old ++ rows_text (drop first self.now.kept.entries)) }
+        ensures begins { IsTrue (S.told sink.old)
+            → OnErr result (AppendsSome (S.held sink.old)
+            (rows_text (drop first self.now.kept.entries)) (S.held sink.new)) }
         ensures told { IsTrue (S.told sink.old) → IsTrue (S.told sink.new) }
         ensures error { IfErr result (λ e. e ≡ HistoryText) }
         ensures failure { S.has_failed sink.new ≡ is_err result }
@@ -92,10 +96,13 @@ impl FileHistory {
     }
 
     /// Writes the whole text of the history, where an entry is new. Then none is new. Where the
-    /// sink fails nothing changes: what it took of the text is then unknown.
+    /// sink fails nothing changes, and it has taken a beginning of the text.
     pub fn save_to<S: Sink>(&mut self, sink: &mut S) -> Result<(), ReadlineError>
         ensures text { IsTrue (S.told sink.old)
             → OnOk result (S.held sink.new ≡ S.held sink.old ++ text_to_save self.old) }
+        ensures begins { IsTrue (S.told sink.old)
+            → OnErr result (AppendsSome (S.held sink.old) (text_to_save self.old)
+            (S.held sink.new)) }
         ensures told { IsTrue (S.told sink.old) → IsTrue (S.told sink.new) }
         ensures saved { OnOk result (self.new ≡ all_saved self.old) }
         ensures kept { OnErr result (self.new ≡ self.old) }
@@ -113,11 +120,14 @@ impl FileHistory {
     }
 
     /// Writes the rows of the new entries, where there are any, to go after a text that was saved
-    /// before. Then none is new. Where the sink fails nothing changes: what it took of the text is
-    /// then unknown.
+    /// before. Then none is new. Where the sink fails nothing changes, and it has taken a beginning
+    /// of the rows.
     pub fn append_to<S: Sink>(&mut self, sink: &mut S) -> Result<(), ReadlineError>
         ensures text { IsTrue (S.told sink.old)
             → OnOk result (S.held sink.new ≡ S.held sink.old ++ text_to_append self.old) }
+        ensures begins { IsTrue (S.told sink.old)
+            → OnErr result (AppendsSome (S.held sink.old) (text_to_append self.old)
+            (S.held sink.new)) }
         ensures told { IsTrue (S.told sink.old) → IsTrue (S.told sink.new) }
         ensures saved { OnOk result (self.new ≡ all_saved self.old) }
         ensures kept { OnErr result (self.new ≡ self.old) }
