@@ -32,9 +32,9 @@ pub fn columns()
     ensures { ColumnsAreFree }
 {}
 
-/// What a session does, deed after deed, comes to its report: the bytes drawn, what is left to come,
-/// the lines kept and the lines written. Any first deeds of it have written the first lines, and
-/// kept those and at most the next one.
+/// What a session does, deed after deed, comes to its report: the bytes drawn, what is left to
+/// come, the lines kept and the lines written. Any first deeds of it have written the first lines,
+/// and kept those and at most the next one.
 pub fn deeds()
     ensures { DeedsTell }
 {}

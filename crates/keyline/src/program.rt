@@ -32,9 +32,9 @@ fn helper_of(options: &Options) -> Option<BracketHelper>
     }
 }
 
-/// Opens a session by options and runs it. The history's text is loaded from `history`, and saved to
-/// `text` where an entry is new. A refusal is why no session was opened: the history's text isn't
-/// UTF-8 or its source failed, or memory was wanting.
+/// Opens a session by options and runs it. The history's text is loaded from `history`, and saved
+/// to `text` where an entry is new. A refusal is why no session was opened: the history's text
+/// isn't UTF-8 or its source failed, or memory was wanting.
 pub fn edit<F: Source + Drop, S: Source + Drop, D: Sink + Drop, L: Sink + Drop, T: Sink + Drop>(
     alloc: Global,
     options: &Options,

@@ -23,8 +23,8 @@ use std::alloc::Global;
 /// The slots of a session's kill ring.
 const KILL_RING_SIZE: usize = 60;
 
-/// A session that is open: it reads keys from a source, draws on a display, writes accepted lines to
-/// a sink, and keeps them in a history whose text goes to another.
+/// A session that is open: it reads keys from a source, draws on a display, writes accepted lines
+/// to a sink, and keeps them in a history whose text goes to another.
 #[derive(Drop)]
 pub struct Session<S: Source, H, D: Sink, L: Sink, T: Sink> {
     alloc: Global,

@@ -178,7 +178,8 @@ fn begins_with_parting_letter(text: &str) -> bool
 }
 
 /// The columns of a text up to a place, by those of the whole text, where the cluster before the
-/// place begins with a letter that parts the text: what follows on it changes its own columns alone.
+/// place begins with a letter that parts the text: what follows on it changes its own columns
+/// alone.
 fn columns_by_letter(
     mode: GraphemeClusterMode,
     text: &str,

@@ -36,7 +36,8 @@ impl<'p, 'h, Out: Renderer, H: Helper + Drop, Hi: History> State<'p, 'h, Out, H,
         self.hint.is_none() && !self.highlight_char
     }
 
-    /// Shows a character that was inserted, with a new hint: by its byte alone where that is enough.
+    /// Shows a character that was inserted, with a new hint: by its byte alone where that is
+    /// enough.
     fn show_inserted(
         &mut self,
         ch: char,
