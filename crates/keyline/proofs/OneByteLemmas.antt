@@ -1,7 +1,7 @@
 -- The count of one byte.
-use Rattle.std.proofs.Common.{◌≡◌, ℕ, ◌+◌, ◌<◌, ◌==◌, ◌&&◌, not, nat_lt, nat_le, Bool, true, false, List, [], ◌∷◌, ◌++◌, take, length, None, is_some, encode_utf8, Result, Ok, refl, sym, ap, ◌∙◌, append-nil, arith, if◌then◌else◌}
+use Rattle.std.proofs.Common.{◌≡◌, ℕ, ◌+◌, ◌<◌, ◌==◌, ◌&&◌, not, nat_lt, nat_le, Bool, true, false, List, [], ◌∷◌, ◌++◌, take, length, None, is_some, encode_utf8, Result, Ok, refl, ap, ◌∙◌, append-nil, arith, if◌then◌else◌}
 use Rattle.std.specs.List.{list_all, flat_map}
-use Rattle.std.proofs.lemmas.Bool.{and_parts, and_from, eq-eqb, lt-ltb, ltb-true}
+use Rattle.std.proofs.lemmas.Bool.{and_parts, and_from, not-true, eq-eqb, lt-ltb, ltb-true}
 use Rattle.std.proofs.lemmas.Str.{encode_ascii}
 use Rattle.line_buffer.specs.CellOrder.{same_cell}
 use Rattle.line_buffer.specs.Insertions.{insert as insertion}
@@ -24,10 +24,6 @@ use Rattle.line_screen.specs.Chain.{is_simple}
 use Rattle.keyline.specs.OneByte.{TellsSight, LayoutsTell, TypedAtEnd, OneByte}
 use Rattle.keyline.specs.Shows.{bytes_for}
 
-not_true : (b : Bool) → not b ≡ true → b ≡ false
-not_true true h = sym h
-not_true false h = refl
-
 small : (c : ℕ) → is_printable c ≡ true → c < 128
 small c h = let parts = and_parts (nat_le 32 c) (nat_lt c 127) h in let k = ltb-true c 127 parts.1 in omega arith
 
@@ -46,12 +42,12 @@ one_tells s own l x (Moved text at) h fits =
 one_tells s own l x (Typed prompt c text at) h fits = by_test (may_type (ruler_of s) l) refl
   where
     by_test : (b : Bool) → may_type (ruler_of s) l ≡ b → TellsSight (if b then typed_short l c else full (ruler_of s) l prompt true text at None).layout (sight x (Typed prompt c text at))
-    by_test true e = record { info_is = not_true l.has_info (and_parts (not l.has_info) _ e).0; given_is = h.given_is ∙ fits.0 }
+    by_test true e = record { info_is = not-true l.has_info (and_parts (not l.has_info) _ e).0; given_is = h.given_is ∙ fits.0 }
     by_test false e = record { info_is = refl; given_is = refl }
 one_tells s own l x (Taken prompt count text at) h fits = by_test (may_take l count) refl
   where
     by_test : (b : Bool) → may_take l count ≡ b → TellsSight (if b then taken_short l count else full (ruler_of s) l prompt true text at None).layout (sight x (Taken prompt count text at))
-    by_test true e = record { info_is = not_true l.has_info (and_parts (not l.has_info) _ e).0; given_is = h.given_is ∙ fits.0 }
+    by_test true e = record { info_is = not-true l.has_info (and_parts (not l.has_info) _ e).0; given_is = h.given_is ∙ fits.0 }
     by_test false e = record { info_is = refl; given_is = refl }
 one_tells s own l x (Bared prompt text at) h fits = by_test l.default_prompt (h.given_is ∙ fits)
   where

@@ -1,7 +1,7 @@
 -- A redraw leads from what is shown before it to what is to be shown after it.
 use Rattle.std.proofs.Common.{◌≡◌, ◌≢◌, ℕ, ◌+◌, ◌==◌, ◌&&◌, not, ◌^◌, ◌<◌, ◌≤◌, inl, inr, nat_lt, nat_le, Bool, true, false, List, [], ◌∷◌, ◌++◌, take, length, length-append, Option, Some, None, is_some, encode_utf8, refl, sym, ap, ◌∙◌, subst, append_assoc, append-nil, arith, if◌then◌else◌}
 use Rattle.std.specs.List.{list_all, filter, flat_map, FoldsTo}
-use Rattle.std.proofs.lemmas.Bool.{and_parts, and_from, eqb-true, lt-ltb, ltb-true}
+use Rattle.std.proofs.lemmas.Bool.{and_parts, and_from, not-true, eqb-true, lt-ltb, ltb-true}
 use Rattle.std.proofs.lemmas.Bool.Decides.{nat_tests}
 use Rattle.std.proofs.lemmas.Str.{encode_ascii}
 use Rattle.line_buffer.specs.CellOrder.{same_cell}
@@ -45,10 +45,6 @@ same_if : (a b : Position) → same_cell a b ≡ true → a ≡ b
 same_if a b h =
     let parts = and_parts (a.col == b.col) (a.row == b.row) h in
     ap (λ c. let p : Position = record { col = c; row = a.row } in p) (eqb-true a.col b.col parts.0) ∙ ap (λ r. let p : Position = record { col = b.col; row = r } in p) (eqb-true a.row b.row parts.1)
-
-not_true : (b : Bool) → not b ≡ true → b ≡ false
-not_true true h = sym h
-not_true false h = refl
 
 no_text : (info : Option (List ℕ)) → is_some info ≡ false → info_text info ≡ []
 no_text None h = refl
@@ -223,7 +219,7 @@ module _ (s : Screen) (low : 2 ≤ s.columns) (high : s.columns ≤ 1000) where
   typed_if bytes over top l x prompt c text at true h given unended t rows e =
       let w = view_in s top x in
       let parts = and_parts (not l.has_info) (nat_lt (l.cursor.col + 1) s.columns) e in
-      let none : info_text x.info ≡ [] = no_text x.info (sym h.info_is ∙ not_true l.has_info parts.0) in
+      let none : info_text x.info ≡ [] = no_text x.info (sym h.info_is ∙ not-true l.has_info parts.0) in
       let room : nat_lt (w.place.col + 1) s.columns ≡ true = subst (λ p. nat_lt (p.col + 1) s.columns ≡ true) h.cursor parts.1 in
       let behind = ap (λ b. if b then Some (right 1 w.place) else None) (and_from (is_printable c) (nat_lt (w.place.col + 1) s.columns) t.printable room) in
       let y = sight_as x.prompt (x.line ++ c ∷ []) (x.place + 1) None in
@@ -241,7 +237,7 @@ module _ (s : Screen) (low : 2 ≤ s.columns) (high : s.columns ≤ 1000) where
         cursor = cursor_is;
         finish = cursor_is ∙ sym (end_is_cursor (picture y) refl end);
         prompt_size = h.prompt_size;
-        info_is = not_true l.has_info parts.0;
+        info_is = not-true l.has_info parts.0;
         given_is = h.given_is ∙ given;
       } in
       subst (Holds s new over top (typed_short l c).layout) (sym (typed_is x prompt c text at t)) done
@@ -276,7 +272,7 @@ module _ (s : Screen) (low : 2 ≤ s.columns) (high : s.columns ≤ 1000) where
       let w = view_in s top x in
       let parts = and_parts (not l.has_info) ((l.cursor.row == l.end.row) && nat_le count l.end.col) e in
       let both = and_parts (l.cursor.row == l.end.row) (nat_le count l.end.col) parts.1 in
-      let none : info_text x.info ≡ [] = no_text x.info (sym h.info_is ∙ not_true l.has_info parts.0) in
+      let none : info_text x.info ≡ [] = no_text x.info (sym h.info_is ∙ not-true l.has_info parts.0) in
       let finish = finish_of s.columns (widths s) (picture x) in
       let n = length t.killed in
       let row : w.place.row ≡ finish.row = ap (λ p. p.row) (sym h.cursor) ∙ eqb-true l.cursor.row l.end.row both.0 ∙ ap (λ p. p.row) h.finish in
@@ -298,7 +294,7 @@ module _ (s : Screen) (low : 2 ≤ s.columns) (high : s.columns ≤ 1000) where
         cursor = cursor_is;
         finish = cursor_is ∙ sym (end_is_cursor (picture y) refl refl);
         prompt_size = h.prompt_size;
-        info_is = not_true l.has_info parts.0;
+        info_is = not-true l.has_info parts.0;
         given_is = h.given_is ∙ given;
       } in
       subst (Holds s new over top (taken_short l count).layout) (sym (taken_is x prompt count text at t)) done

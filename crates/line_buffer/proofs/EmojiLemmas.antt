@@ -6,7 +6,7 @@ use Rattle.std.specs.Char.{IsScalar}
 use Rattle.std.proofs.lemmas.Str.{IsUtf8-past_char, IsUtf8-encode, chars-append, chars-nil, chars_past_char}
 use Rattle.unicode_segmentation.proofs.TextLemmas.{IsUtf8-before, chars-encode_utf8}
 use Rattle.std.specs.List.{last_or, onto_first}
-use Rattle.std.proofs.lemmas.Bool.{and_parts, or_cases}
+use Rattle.std.proofs.lemmas.Bool.{and_parts, or_cases, or_parts, not-true}
 use borrow.Author.Tests.{eq-eqb, eqb-true, ne_eqb}
 use Rattle.ucd_table.specs.Rows.{Range, in_ranges}
 use Rattle.ucd_table.proofs.StepsLemmas.{rises_from}
@@ -179,30 +179,22 @@ emoji_width c e = by (kind c) e
     by kinds.Emoji e = refl
     by _ e = cc
 
-not_true : (b : Bool) → not b ≡ true → b ≡ false
-not_true true e = sym e
-not_true false e = refl
-
 implied : (a b : Bool) → a ≡ true → (not a || b) ≡ true → b ≡ true
 implied true b e h = h
 implied false b e h = cc
-
-or_false : (a b : Bool) → (a || b) ≡ false → (a ≡ false) × (b ≡ false)
-or_false true b e = cc
-or_false false b e = (refl, e)
 
 facts : (c : ℕ) → is_own_emoji c ≡ true → Facts c
 unfolding holds in_ranges tails span
 facts c h =
     let own = and_parts (is_emoji_presentation c) (not (is_in_range 0x1F1E6 0x1F1FF c || is_in_range 0x1F3FB 0x1F3FF c)) h in
-    let no_tails = or_false (is_in_range 0x1F1E6 0x1F1FF c) (is_in_range 0x1F3FB 0x1F3FF c) (not_true _ own.1) in
+    let no_tails = or_parts (is_in_range 0x1F1E6 0x1F1FF c) (is_in_range 0x1F3FB 0x1F3FF c) (not-true _ own.1) in
     let table = implied (is_emoji_presentation c && not (in_ranges tails c)) (is_emoji (kind c) && (not (is_ligature_transparent c) && in_ranges span c)) (ap (λ b. is_emoji_presentation c && not b) (sym (in_ranges-some (0x1F1E6, 0x1F1FF) ((0x1F3FB, 0x1F3FF) ∷ []) c)) ∙ h) (all_hold c) in
     let first = and_parts (is_emoji (kind c)) (not (is_ligature_transparent c) && in_ranges span c) table in
     let second = and_parts (not (is_ligature_transparent c)) (in_ranges span c) first.1 in
     let inside : in_ranges span c ≡ true = second.1 in
     record {
       emoji = first.0;
-      opaque = not_true _ second.0;
+      opaque = not-true _ second.0;
       wide = emoji_width c first.0;
       no_lf = apart (in_ranges span) c 0x0A inside refl;
       no_emoji_selector = apart (in_ranges span) c 0xFE0F inside refl;

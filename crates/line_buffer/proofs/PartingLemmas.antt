@@ -8,7 +8,7 @@ use Rattle.std.proofs.lemmas.Str.{IsUtf8-encode, chars-append}
 use Rattle.unicode_segmentation.proofs.TextLemmas.{IsUtf8-before, chars-encode_utf8}
 use Rattle.std.specs.List.{onto_first, list_all}
 use Rattle.std.proofs.lemmas.List.Sums.{sum_by-cons, sum_by-append}
-use Rattle.std.proofs.lemmas.Bool.{and_from, and_parts, cases_lt}
+use Rattle.std.proofs.lemmas.Bool.{and_from, and_parts, or_parts, not-true, cases_lt}
 use Rattle.std.proofs.lemmas.Bool.Decides.{nat_tests}
 use borrow.Author.Tests.{eqb-true}
 use Rattle.ucd_table.specs.Rows.{Range, in_ranges}
@@ -94,10 +94,6 @@ record Facts (c : ℕ) : Type 0 where
   no_modified : is_emoji_modifier_base c ≡ false
   inside : is_parting_letter c ≡ true
 
-not_true : (b : Bool) → not b ≡ true → b ≡ false
-not_true true e = sym e
-not_true false e = refl
-
 implied : (a b : Bool) → a ≡ true → (not a || b) ≡ true → b ≡ true
 implied true b e h = h
 implied false b e h = cc
@@ -105,10 +101,6 @@ implied false b e h = cc
 or_second : (a b : Bool) → a ≡ false → (a || b) ≡ true → b ≡ true
 or_second true b e h = cc
 or_second false b e h = h
-
-or_false : (a b : Bool) → (a || b) ≡ false → (a ≡ false) × (b ≡ false)
-or_false true b e = cc
-or_false false b e = (refl, e)
 
 kind_wide : (c : ℕ) (lam : Bool) → fits (kind c) lam ≡ true → ((alone false c).0 == 0) ≡ false
 unfolding alone
@@ -144,8 +136,8 @@ listed_facts c h other =
     let fitting = fits (kind c) (is_lam c) && no_emoji c in
     let both = and_parts (fits (kind c) (is_lam c)) (no_emoji c)
     (or_second (in_ranges lamed c) fitting other (implied (in_ranges letters c) (in_ranges lamed c || fitting) (sym (letters_listed c) ∙ h) (all_hold c))) in
-    let clear = or_false (is_ligature_transparent c) (is_emoji_variation_base c || is_emoji_modifier_base c) (not_true _ both.1) in
-    let no_emoji = or_false (is_emoji_variation_base c) (is_emoji_modifier_base c) clear.1 in
+    let clear = or_parts (is_ligature_transparent c) (is_emoji_variation_base c || is_emoji_modifier_base c) (not-true _ both.1) in
+    let no_emoji = or_parts (is_emoji_variation_base c) (is_emoji_modifier_base c) clear.1 in
     record {
       wide = kind_wide c (is_lam c) both.0;
       dull = kind_dull (kind c) (is_lam c) both.0;
