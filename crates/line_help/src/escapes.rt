@@ -20,7 +20,7 @@ pub(crate) fn put<S: Sink>(sink: &mut S, bytes: &[u8]) -> Result<(), ReadlineErr
     sink.write(bytes).map_err(|_| ReadlineError::HistoryText)
 }
 
-/// Writes a byte of an entry.
+/// Writes a byte of an entry: a newline and a backslash as two.
 fn put_escaped<S: Sink>(sink: &mut S, byte: u8) -> Result<(), ReadlineError>
     ensures text { IsTrue (S.told sink.old)
         → OnOk result (S.held sink.new ≡ S.held sink.old ++ escaped_byte byte) }

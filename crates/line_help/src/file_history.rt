@@ -96,7 +96,7 @@ impl FileHistory {
     }
 
     /// Writes the whole text of the history, where an entry is new. Then none is new. Where the
-    /// sink fails nothing changes, and it has taken a beginning of the text.
+    /// sink fails the history stays as it is, and the sink has taken a beginning of the text.
     pub fn save_to<S: Sink>(&mut self, sink: &mut S) -> Result<(), ReadlineError>
         ensures text { IsTrue (S.told sink.old)
             → OnOk result (S.held sink.new ≡ S.held sink.old ++ text_to_save self.old) }
@@ -120,8 +120,8 @@ impl FileHistory {
     }
 
     /// Writes the rows of the new entries, where there are any, to go after a text that was saved
-    /// before. Then none is new. Where the sink fails nothing changes, and it has taken a beginning
-    /// of the rows.
+    /// before. Then none is new. Where the sink fails the history stays as it is, and the sink has
+    /// taken a beginning of the rows.
     pub fn append_to<S: Sink>(&mut self, sink: &mut S) -> Result<(), ReadlineError>
         ensures text { IsTrue (S.told sink.old)
             → OnOk result (S.held sink.new ≡ S.held sink.old ++ text_to_append self.old) }
