@@ -1,18 +1,18 @@
 -- The end of a line: an exit for each fault, and the one where all went well.
-use Rattle.std.proofs.Common.{◌≡◌, ℕ, Bool, true, false, List, [], ◌∷◌, inl, inr, refl, sym, ap, ◌∙◌, subst, append-nil, IsTrue, Result, Ok, Err, IfErr}
+use Rattle.std.proofs.Common.{◌≡◌, ℕ, Bool, true, false, List, [], ◌∷◌, ◌++◌, inl, inr, refl, sym, ap, ◌∙◌, subst, append-nil, IsTrue, Result, Ok, Err, IfErr}
 use Rattle.line_config.specs.declared.errors.ReadlineError.{ReadlineError}
 use Rattle.line_config.specs.declared.errors.ReadlineError.TheVariants.{Display, Lines, Memory}
-use Rattle.line_config.specs.Sending.{Takes}
+use Rattle.line_config.specs.Sending.{Takes, TakesSome}
+use Rattle.line_config.proofs.Taking.{takes_none, taken_of}
 use Rattle.line_editor.specs.Courses.{breaks_after}
 use Rattle.line_help.specs.History.{Filed}
 use Rattle.line_keys.specs.Coming.{made_of}
 use Rattle.line_screen.specs.Drawing.{row_break, break_if}
 use Rattle.keyline.specs.Closing.{Closes, CloseReason, WritesLine, work}
-use Rattle.keyline.specs.Deeds.{Draws, Keeps, Writes, close_deeds}
+use Rattle.keyline.specs.Deeds.{Draws, Keeps, Writes, accept_deeds}
 use Rattle.keyline.specs.Playing.{Work, CutsBy}
-use Rattle.keyline.specs.Sessions.{remembered, line_text}
-use Rattle.keyline.proofs.DeedLemmas.{cut_first, remembered_none}
-use Rattle.keyline.proofs.Told.{Takes-none}
+use Rattle.keyline.specs.Sessions.{breaks, remembered, line_text}
+use Rattle.keyline.proofs.DeedLemmas.{cut_drawing, remembered_none}
 
 display_not_lines : Display ≡ Lines → ⊥
 display_not_lines is = absurd (cc)
@@ -42,16 +42,21 @@ module _ {D L : Type 0} (shows : D → Bool) (shown : D → List ℕ) (show_fail
   stays_not (Ok text) old new result p = tt
   stays_not (Err e) old new result p = λ other. absurd (true_not_false (breaks_after e) p other)
 
+  new_row : (outcome : Result (List ℕ) ReadlineError) → Breaks outcome → row_break ≡ break_if (breaks outcome)
+  new_row (Ok text) p = refl
+  new_row (Err e) p = sym (ap break_if p)
+
   -- the display failed
   pub closes_undrawn : (adds : Bool) (outcome : Result (List ℕ) ReadlineError) (d d' : D) (l : L) (h : Filed) (result : Result (Unit {0}) ReadlineError) (e : ReadlineError)
-      → Breaks outcome → result ≡ Err e → e ≡ Display → IsTrue (show_failed d') → Ends adds outcome (work d l h) (work d' l h) result
-  closes_undrawn adds outcome d d' l h result e breaks is display failed =
+      → Breaks outcome → result ≡ Err e → e ≡ Display → IsTrue (show_failed d') → TakesSome shows shown d d' row_break → Ends adds outcome (work d l h) (work d' l h) result
+  closes_undrawn adds outcome d d' l h result e breaks is display failed some =
       let now : result ≡ Err Display = is ∙ ap (λ e. Err e) display in
       record {
         goes = inr (λ coming. record {
           fault = Display;
           result_is = now;
-          goes = cut_first shows shown show_failed writes written_in adds (close_deeds outcome) coming (work d l h) (work d' l h) Display tt display_not_lines (inr failed) refl refl;
+          goes = cut_drawing shows shown show_failed writes written_in adds _ (accept_deeds outcome) coming (work d l h) (work d' l h) Display tt display_not_lines failed
+              (subst (TakesSome shows shown d d') (new_row outcome breaks) some) refl refl;
         });
         stays = stays_not outcome (work d l h) (work d' l h) result breaks;
         reason = let P : Result (Unit {0}) ReadlineError → Type 0 = λ r. IfErr r (CloseReason outcome (show_failed d) (show_failed d') (write_failed l)) in
@@ -72,10 +77,11 @@ module _ {D L : Type 0} (shows : D → Bool) (shown : D → List ℕ) (show_fail
             done = Draws row_break ∷ [];
             next = Keeps text ∷ Writes text ∷ [];
             first = refl;
-            drawn = inl (subst (Takes shows shown d d') (sym (append-nil row_break)) drawn);
+            begun = [];
             torn = [];
-            stops = inl (memory_not_lines, refl, refl);
-            wrote = Takes-none writes written_in l l refl;
+            stops = inl (memory_not_lines, refl, refl, refl);
+            drawn = subst (Takes shows shown d d') (sym (append-nil (row_break ++ []) ∙ append-nil row_break)) drawn;
+            wrote = takes_none writes written_in l l refl;
             history_is = kept ∙ sym (remembered_none adds h);
           };
         });
@@ -100,7 +106,7 @@ module _ {D L : Type 0} (shows : D → Bool) (shown : D → List ℕ) (show_fail
     reason = tt;
   }
   closes_written adds text d d' l l' h h' (Err e) drawn kept wrote =
-      let torn = wrote.torn in
+      let torn = taken_of writes written_in l l' (line_text text) wrote.torn in
       record {
         goes = inr (λ coming. record {
           fault = e;
@@ -110,9 +116,10 @@ module _ {D L : Type 0} (shows : D → Bool) (shown : D → List ℕ) (show_fail
             done = Draws row_break ∷ Keeps text ∷ [];
             next = Writes text ∷ [];
             first = refl;
-            drawn = inl (subst (Takes shows shown d d') (sym (append-nil row_break)) drawn);
+            begun = [];
             torn = torn.0;
-            stops = inr (inl (wrote.fault.0, refl, (torn.1, torn.2)));
+            stops = inr (inr (inl (wrote.fault.0, refl, refl, (torn.1, torn.2))));
+            drawn = subst (Takes shows shown d d') (sym (append-nil (row_break ++ []) ∙ append-nil row_break)) drawn;
             wrote = torn.3;
             history_is = kept;
           };
@@ -130,7 +137,7 @@ module _ {D L : Type 0} (shows : D → Bool) (shown : D → List ℕ) (show_fail
       result_is = refl;
       history_is = refl;
       drawn = drawn;
-      wrote = Takes-none writes written_in l l refl;
+      wrote = takes_none writes written_in l l refl;
     });
     stays = λ other. (ap (λ d. work d l h) (still other), refl);
     reason = inl (refl, works);

@@ -5,7 +5,8 @@ use Rattle.std.proofs.lemmas.Grind.{flat_map-append}
 use Rattle.line_buffer.specs.declared.layout.Layout.{Layout}
 use Rattle.line_config.specs.declared.errors.ReadlineError.{ReadlineError}
 use Rattle.line_config.specs.declared.errors.ReadlineError.TheVariants.{Lines, Memory}
-use Rattle.line_config.specs.Sending.{Takes}
+use Rattle.line_config.specs.Sending.{Takes, TakesSome}
+use Rattle.line_config.proofs.Taking.{takes_none, takes_then, taken_of}
 use Rattle.line_help.specs.History.{Filed, filed_with, filed_with_all}
 use Rattle.line_keys.specs.Answers.{Custom}
 use Rattle.line_keys.specs.Coming.{Coming, left_by}
@@ -29,10 +30,9 @@ use Rattle.line_screen.specs.declared.renderer.ScreenRenderer.{ScreenRenderer}
 use Rattle.line_screen.proofs.CallLemmas.{sent_in_all}
 use Rattle.keyline.specs.Closing.{work}
 use Rattle.keyline.specs.Deeds.{SessionDeed, Draws, Hears, Keeps, Writes, bytes_drawn, left_of_deeds, lines_kept, lines_written, call_deeds, act_deeds, close_deeds, acts_in, line_deeds}
-use Rattle.keyline.specs.Playing.{Work, LineWhole, Cut, CutsBy, Stops, Tears, IsHeard, accepted_of}
+use Rattle.keyline.specs.Playing.{Work, LineWhole, Cut, CutsBy, Stops, DrawsSome, WritesSome, IsHeard, accepted_of}
 use Rattle.keyline.specs.Sessions.{Given, SessionState, breaks, calls_of, history_after, line_bytes, line_in, line_text, lines_text, remembered, setting_in}
 use Rattle.keyline.specs.Shows.{drawn_by}
-use Rattle.keyline.proofs.Told.{Takes-none, Takes-then}
 
 -- ---- what deeds come to, some after others
 
@@ -236,12 +236,19 @@ remembered_none false h = refl
 
 -- ---- a fault's stop, with more to come after it
 
-tears_more : (torn : List ℕ) (xs ys : List SessionDeed) → Tears torn xs → Tears torn (xs ++ ys)
-tears_more torn [] ys p = absurd p
-tears_more torn (Draws bytes ∷ xs) ys p = absurd p
-tears_more torn (Hears rest ∷ xs) ys p = absurd p
-tears_more torn (Keeps line ∷ xs) ys p = absurd p
-tears_more torn (Writes line ∷ xs) ys p = p
+writes_more : (torn : List ℕ) (xs ys : List SessionDeed) → WritesSome torn xs → WritesSome torn (xs ++ ys)
+writes_more torn [] ys p = absurd p
+writes_more torn (Draws bytes ∷ xs) ys p = absurd p
+writes_more torn (Hears rest ∷ xs) ys p = absurd p
+writes_more torn (Keeps line ∷ xs) ys p = absurd p
+writes_more torn (Writes line ∷ xs) ys p = p
+
+draws_more : (begun : List ℕ) (xs ys : List SessionDeed) → DrawsSome begun xs → DrawsSome begun (xs ++ ys)
+draws_more begun [] ys p = absurd p
+draws_more begun (Draws bytes ∷ xs) ys p = p
+draws_more begun (Hears rest ∷ xs) ys p = absurd p
+draws_more begun (Keeps line ∷ xs) ys p = absurd p
+draws_more begun (Writes line ∷ xs) ys p = absurd p
 
 heard_more : (xs ys : List SessionDeed) → IsHeard xs → IsHeard (xs ++ ys)
 heard_more [] ys p = absurd p
@@ -250,10 +257,12 @@ heard_more (Hears rest ∷ xs) ys p = p
 heard_more (Keeps line ∷ xs) ys p = absurd p
 heard_more (Writes line ∷ xs) ys p = absurd p
 
-stops_more : (why : ReadlineError) (c : Coming) (xs ys : List SessionDeed) (left : Coming) (torn : List ℕ) → Stops why c xs left torn → Stops why c (xs ++ ys) left torn
-stops_more why c xs ys left torn (inl p) = inl p
-stops_more why c xs ys left torn (inr (inl p)) = inr (inl (p.0, p.1, tears_more torn xs ys p.2))
-stops_more why c xs ys left torn (inr (inr p)) = inr (inr (p.0, p.1, p.2, heard_more xs ys p.3))
+stops_more : (why : ReadlineError) (display : Bool) (c : Coming) (xs ys : List SessionDeed) (left : Coming) (begun torn : List ℕ)
+    → Stops why display c xs left begun torn → Stops why display c (xs ++ ys) left begun torn
+stops_more why display c xs ys left begun torn (inl p) = inl p
+stops_more why display c xs ys left begun torn (inr (inl p)) = inr (inl (p.0, p.1, (p.2.0, draws_more begun xs ys p.2.1), p.3))
+stops_more why display c xs ys left begun torn (inr (inr (inl p))) = inr (inr (inl (p.0, p.1, p.2, writes_more torn xs ys p.3)))
+stops_more why display c xs ys left begun torn (inr (inr (inr p))) = inr (inr (inr (p.0, p.1, p.2, p.3, heard_more xs ys p.4)))
 
 -- ---- deeds that were done, and deeds that were cut
 
@@ -272,13 +281,6 @@ module _ {D L : Type 0} (shows : D → Bool) (shown : D → List ℕ) (show_fail
   abbrev CutAt : List SessionDeed → Coming → Work D L → Work D L → Coming → ReadlineError → Type 0
   CutAt deeds coming old new left why = Cut shows shown show_failed writes written_in adds deeds coming old new left why
 
-  abbrev Shown : Work D L → Work D L → List ℕ → Type 0
-  Shown old new bytes = Takes shows shown old.display new.display bytes ⊎ IsTrue (show_failed new.display)
-
-  shown_then : (old mid new : Work D L) (xs ys : List ℕ) → Takes shows shown old.display mid.display xs → Shown mid new ys → Shown old new (xs ++ ys)
-  shown_then old mid new xs ys first (inl more) = inl (Takes-then shows shown old.display mid.display new.display xs ys first more)
-  shown_then old mid new xs ys first (inr failed) = inr failed
-
   -- more are to come after those that were cut
   pub cut_more : (xs ys : List SessionDeed) (c : Coming) (old new : Work D L) (left : Coming) (why : ReadlineError) → CutAt xs c old new left why → CutAt (xs ++ ys) c old new left why
   cut_more xs ys c old new left why r = record {
@@ -286,9 +288,10 @@ module _ {D L : Type 0} (shows : D → Bool) (shown : D → List ℕ) (show_fail
     done = r.done;
     next = r.next ++ ys;
     first = ap (λ zs. zs ++ ys) r.first ∙ append_assoc r.done r.next ys;
-    drawn = r.drawn;
+    begun = r.begun;
     torn = r.torn;
-    stops = stops_more why (left_of_deeds c r.done) r.next ys left r.torn r.stops;
+    stops = stops_more why (show_failed new.display) (left_of_deeds c r.done) r.next ys left r.begun r.torn r.stops;
+    drawn = r.drawn;
     wrote = r.wrote;
     history_is = r.history_is;
   }
@@ -298,41 +301,64 @@ module _ {D L : Type 0} (shows : D → Bool) (shown : D → List ℕ) (show_fail
       → CutAt (xs ++ ys) c old new left why
   cut_after xs ys c c' old mid new left why d r =
       let lines = lines_written r.done in
-      let S : Coming → Type 0 = λ here. Stops why here r.next left r.torn in
-      let B : List ℕ → Type 0 = Shown old new in
+      let S : Coming → Type 0 = λ here. Stops why (show_failed new.display) here r.next left r.begun r.torn in
+      let B : List ℕ → Type 0 = Takes shows shown old.display new.display in
       let W : List ℕ → Type 0 = Takes writes written_in old.lines new.lines in
       record {
         cut = r.cut;
         done = xs ++ r.done;
         next = r.next;
         first = ap (λ zs. xs ++ zs) r.first ∙ sym (append_assoc xs r.done r.next);
-        drawn = subst B (sym (drawn_both xs r.done)) (shown_then old mid new (bytes_drawn xs) (bytes_drawn r.done) d.drawn r.drawn);
+        begun = r.begun;
         torn = r.torn;
         stops = subst S (ap (λ here. left_of_deeds here r.done) d.left_is ∙ sym (left_both c xs r.done)) r.stops;
+        drawn =
+            subst B (sym (append_assoc (bytes_drawn xs) (bytes_drawn r.done) r.begun) ∙ ap (λ bytes. bytes ++ r.begun) (sym (drawn_both xs r.done)))
+            (takes_then shows shown old.display mid.display new.display (bytes_drawn xs) (bytes_drawn r.done ++ r.begun) d.drawn r.drawn);
         wrote =
             subst W (sym (append_assoc (lines_text (lines_written xs)) (lines_text lines) r.torn)
             ∙ ap (λ bytes. bytes ++ r.torn) (sym (flat_map-append line_text (lines_written xs) lines) ∙ ap lines_text (sym (written_both xs r.done))))
-            (Takes-then writes written_in old.lines mid.lines new.lines (lines_text (lines_written xs)) (lines_text lines ++ r.torn) d.wrote r.wrote);
+            (takes_then writes written_in old.lines mid.lines new.lines (lines_text (lines_written xs)) (lines_text lines ++ r.torn) d.wrote r.wrote);
         history_is =
             r.history_is ∙ (ap (λ h. remembered adds (lines_kept r.done) h) d.history_is
             ∙ (sym (remembered_both adds (lines_kept xs) (lines_kept r.done) old.history)
             ∙ ap (λ lines. remembered adds lines old.history) (sym (kept_both xs r.done))));
       }
 
-  -- none of them was done, and none was to be torn
+  -- none of them was done, nor begun
   pub cut_first : (deeds : List SessionDeed) (c : Coming) (old new : Work D L) (why : ReadlineError) → CutsBy why → (why ≡ Lines → ⊥)
-      → Shown old new [] → new.lines ≡ old.lines → new.history ≡ old.history → CutAt deeds c old new c why
-  cut_first deeds c old new why cut other shown' lines history = record {
+      → new.display ≡ old.display → new.lines ≡ old.lines → new.history ≡ old.history → CutAt deeds c old new c why
+  cut_first deeds c old new why cut other display lines history = record {
     cut = cut;
     done = [];
     next = deeds;
     first = refl;
-    drawn = shown';
+    begun = [];
     torn = [];
-    stops = inl (other, refl, refl);
-    wrote = Takes-none writes written_in old.lines new.lines lines;
+    stops = inl (other, refl, refl, refl);
+    drawn = takes_none shows shown old.display new.display display;
+    wrote = takes_none writes written_in old.lines new.lines lines;
     history_is = history ∙ sym (remembered_none adds old.history);
   }
+
+  -- the display failed at the first of them
+  pub cut_drawing : (bytes : List ℕ) (deeds : List SessionDeed) (c : Coming) (old new : Work D L) (why : ReadlineError) → CutsBy why → (why ≡ Lines → ⊥)
+      → IsTrue (show_failed new.display) → TakesSome shows shown old.display new.display bytes → new.lines ≡ old.lines → new.history ≡ old.history
+      → CutAt (Draws bytes ∷ deeds) c old new c why
+  cut_drawing bytes deeds c old new why cut other failed some lines history =
+      let begun = taken_of shows shown old.display new.display bytes some in
+      record {
+        cut = cut;
+        done = [];
+        next = Draws bytes ∷ deeds;
+        first = refl;
+        begun = begun.0;
+        torn = [];
+        stops = inr (inl (other, refl, (failed, (begun.1, begun.2)), refl));
+        drawn = begun.3;
+        wrote = takes_none writes written_in old.lines new.lines lines;
+        history_is = history ∙ sym (remembered_none adds old.history);
+      }
 
   -- a line that was drawn, kept and written is its deeds
   pub done_line : (n : ℕ) (g : Given) (x : SessionState) (t : Told) (old mid : Work D L) (result : Result (Unit {0}) ReadlineError) → line_in n g x ≡ t
@@ -365,7 +391,7 @@ module _ {D L : Type 0} (shows : D → Bool) (shown : D → List ℕ) (show_fail
         let W : List (List ℕ) → Type 0 = λ these. Takes writes written_in lines lines (lines_text these) in
         record {
           drawn = subst B is took;
-          wrote = subst W (sym written) (Takes-none writes written_in lines lines refl);
+          wrote = subst W (sym written) (takes_none writes written_in lines lines refl);
           history_is = sym (ap (λ these. remembered adds these history) kept ∙ remembered_none adds history);
           left_is = left;
         }
@@ -383,7 +409,7 @@ module _ {D L : Type 0} (shows : D → Bool) (shown : D → List ℕ) (show_fail
       Made calls a b = FoldsTo (canvas_of shows shown show_failed).made a calls b
 
       stay : (deeds : List SessionDeed) (c : Coming) (a b : ScreenRenderer D) → b ≡ a → CutAt deeds c (on a) (on b) c why
-      stay deeds c a b same = cut_first deeds c (on a) (on b) why cut other (inl (Takes-none shows shown (sink_of a) (sink_of b) (ap sink_of same))) refl refl
+      stay deeds c a b same = cut_first deeds c (on a) (on b) why cut other (ap sink_of same) refl refl
 
       done_calls : (calls : List Call) (c : Coming) (a b : ScreenRenderer D) → screen_of a ≡ s → Made calls a b → AllDone (call_deeds s calls) c (on a) (on b) c
       done_calls calls c a b is made =
@@ -399,7 +425,9 @@ module _ {D L : Type 0} (shows : D → Bool) (shown : D → List ℕ) (show_fail
       unfolding Begun
       cut_calls [] c a b is h = stay [] c a b h
       cut_calls (call ∷ calls) c a b is (inl h) = stay (call_deeds s (call ∷ calls)) c a b h
-      cut_calls (call ∷ calls) c a b is (inr (inl h)) = cut_first (call_deeds s (call ∷ calls)) c (on a) (on b) why cut other (inr h.fails) refl refl
+      cut_calls (call ∷ calls) c a b is (inr (inl h)) =
+          let P : Screen → Type 0 = λ s. TakesSome shows shown (sink_of a) (sink_of b) (bytes_of s call) in
+          cut_drawing (bytes_of s call) (call_deeds s calls) c (on a) (on b) why cut other h.fails (subst P is h.begins) refl refl
       cut_calls (call ∷ calls) c a b is (inr (inr h)) =
           let P : Screen → Type 0 = λ s. Takes shows shown (sink_of a) (sink_of h.0) (bytes_of s call) in
           let first = untouched (Draws (bytes_of s call) ∷ []) c c a h.0 _ (subst P is h.1.takes) (sym (append-nil (bytes_of s call))) refl refl refl in
@@ -407,7 +435,7 @@ module _ {D L : Type 0} (shows : D → Bool) (shown : D → List ℕ) (show_fail
 
       cut_heard : (rest : Coming) (deeds : List SessionDeed) (c left : Coming) (a b : ScreenRenderer D) → CutAt deeds rest (on a) (on b) left why → CutAt (Hears rest ∷ deeds) c (on a) (on b) left why
       cut_heard rest deeds c left a b r =
-          let first = untouched (Hears rest ∷ []) c rest a a [] (Takes-none shows shown (sink_of a) (sink_of a) refl) refl refl refl refl in
+          let first = untouched (Hears rest ∷ []) c rest a a [] (takes_none shows shown (sink_of a) (sink_of a) refl) refl refl refl refl in
           cut_after (Hears rest ∷ []) deeds c rest (on a) (on a) (on b) left why first r
 
       -- a paste that found no memory
@@ -418,10 +446,11 @@ module _ {D L : Type 0} (shows : D → Bool) (shown : D → List ℕ) (show_fail
         done = [];
         next = Hears rest ∷ deeds;
         first = refl;
-        drawn = inl (Takes-none shows shown (sink_of a) (sink_of b) (ap sink_of same));
+        begun = [];
         torn = [];
-        stops = inr (inr (is, lost, refl, tt));
-        wrote = Takes-none writes written_in lines lines refl;
+        stops = inr (inr (inr (is, lost, refl, refl, tt)));
+        drawn = takes_none shows shown (sink_of a) (sink_of b) (ap sink_of same);
+        wrote = takes_none writes written_in lines lines refl;
         history_is = sym (remembered_none adds history);
       }
 

@@ -34,7 +34,7 @@ use Rattle.keyline.specs.Playing.{Work, Cut, LineWhole, LineCut, CutsBy, Session
 use Rattle.keyline.specs.Sessions.{Given, given_by, breaks, line_in, history_after}
 use Rattle.keyline.specs.declared.desk.Desk.{Desk}
 use Rattle.keyline.proofs.DeedLemmas.{cut_acts, cut_after, cut_more, done_acts}
-use Rattle.keyline.proofs.Told.{Takes-then}
+use Rattle.line_config.proofs.Taking.{takes_then}
 
 -- ---- faults
 
@@ -110,7 +110,7 @@ module _ {D L : Type 0} (shows : D → Bool) (shown : D → List ℕ) (show_fail
   whole_then adds first second outcome d d1 d2 l l2 h h2 result drawn c = record {
     result_is = c.result_is;
     history_is = c.history_is;
-    drawn = Takes-then shows shown d d1 d2 first second drawn c.drawn;
+    drawn = takes_then shows shown d d1 d2 first second drawn c.drawn;
     wrote = c.wrote;
   }
 

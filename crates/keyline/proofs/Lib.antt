@@ -13,4 +13,3 @@ pub mod SessionSteps
 pub mod ShowCourse
 mod ShowRows
 pub mod ShowSteps
-pub mod Told

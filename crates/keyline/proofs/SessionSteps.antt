@@ -16,7 +16,7 @@ use Rattle.keyline.specs.Sessions.{Given, SessionState, Report, line_in, after_l
 use Rattle.keyline.specs.declared.desk.Desk.{Desk}
 use Rattle.keyline.proofs.DeedLemmas.{Done, cut_after, cut_more, done_line, remembered_none}
 use Rattle.keyline.proofs.HeardSteps.{heard_before}
-use Rattle.keyline.proofs.Told.{Takes-then}
+use Rattle.line_config.proofs.Taking.{takes_then}
 
 pub session_step : (n : ℕ) (g : Given) (x : SessionState)
     → session (suc n) g x ≡ line_reported (line_in (suc n) g x) (line_in (suc n) g x).outcome (session n g (after_line g (line_in (suc n) g x) x))
@@ -64,10 +64,10 @@ module _ {D L : Type 0} (shows : D → Bool) (shown : D → List ℕ) (show_fail
     why_is = r.why_is;
     rest_is = r.rest_is;
     history_is = r.history_is ∙ (ap (λ h. remembered adds later.accepted h) w.history_is ∙ remembered_more adds text later.accepted old.history);
-    drawn = Takes-then shows shown old.display mid.display new.display (line_bytes g.screen t) (display_bytes g.screen later) w.drawn r.drawn;
+    drawn = takes_then shows shown old.display mid.display new.display (line_bytes g.screen t) (display_bytes g.screen later) w.drawn r.drawn;
     wrote =
         let P : List ℕ → Type 0 = λ line. Takes writes written_in old.lines new.lines (line ++ lines_text later.accepted) in
-        subst P (append-nil (line_text text)) (Takes-then writes written_in old.lines mid.lines new.lines (lines_text (text ∷ [])) (lines_text later.accepted) w.wrote r.wrote);
+        subst P (append-nil (line_text text)) (takes_then writes written_in old.lines mid.lines new.lines (lines_text (text ∷ [])) (lines_text later.accepted) w.wrote r.wrote);
   })
   then_reads t (Ok text) later deeds more c c' old mid new left why w d (inr r) =
       inr (cut_after shows shown show_failed writes written_in adds deeds more c c' old mid new left why d r)

@@ -2,12 +2,11 @@
 use Rattle.std.specs.Prelude.{◌≡◌, ◌⊎◌, ℕ, Bool, false, List, Result, Err, IsTrue, IfErr, OnOk, OnErr}
 use Rattle.line_config.specs.declared.errors.ReadlineError.{ReadlineError}
 use Rattle.line_config.specs.declared.errors.ReadlineError.TheVariants.{Display, Lines, Memory}
-use Rattle.line_config.specs.Sending.{Takes}
+use Rattle.line_config.specs.Sending.{Takes, TakesSome}
 use Rattle.line_editor.specs.Courses.{breaks_after}
 use Rattle.line_help.specs.History.{Filed}
 use Rattle.line_keys.specs.Coming.{Coming}
 use Rattle.line_screen.specs.Drawing.{break_if}
-use Rattle.keyline.specs.Calls.{TakesSome}
 use Rattle.keyline.specs.Deeds.{close_deeds}
 use Rattle.keyline.specs.Playing.{Work, LineWhole, LineCut}
 use Rattle.keyline.specs.Sessions.{breaks}

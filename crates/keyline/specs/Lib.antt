@@ -1,4 +1,3 @@
-pub mod Calls
 pub mod Closing
 pub mod Deeds
 pub mod Desks

@@ -3,13 +3,12 @@
 use Rattle.std.specs.Prelude.{◌≡◌, ◌⊎◌, ⊤, ℕ, Bool, true, false, List, [], ◌∷◌, ◌++◌, Result, Ok, Err, IsTrue}
 use Rattle.line_config.specs.declared.errors.ReadlineError.{ReadlineError}
 use Rattle.line_config.specs.declared.errors.ReadlineError.TheVariants.{Eof, Interrupted, NotUtf8, PasteOutOfPlace, Reader, Display, Lines, HistoryText, Helper, Handler, Memory}
-use Rattle.line_config.specs.Sending.{Takes}
+use Rattle.line_config.specs.Sending.{Takes, TakesSome}
 use Rattle.line_editor.specs.Running.{HelperFails}
 use Rattle.line_help.specs.History.{Filed, all_saved}
 use Rattle.line_help.specs.HistoryText.{text_to_save}
 use Rattle.line_keys.specs.Answers.{HandlerFails}
 use Rattle.line_keys.specs.Coming.{Coming, made_of, left_by}
-use Rattle.keyline.specs.Calls.{TakesSome}
 use Rattle.keyline.specs.Deeds.{SessionDeed, Draws, Hears, Keeps, Writes, bytes_drawn, left_of_deeds, lines_kept, lines_written}
 use Rattle.keyline.specs.Sessions.{Given, Report, remembered, history_after, line_text, lines_text, display_bytes}
 
@@ -55,13 +54,21 @@ accepted_of (Err e) = []
 
 -- ---- where a fault stops deeds
 
+-- the next one is to draw, and this is a beginning of its bytes
+abbrev pub DrawsSome : List ℕ → List SessionDeed → Type 0
+DrawsSome begun [] = ⊥
+DrawsSome begun (Draws bytes ∷ more) = (later : List ℕ) × (bytes ≡ begun ++ later)
+DrawsSome begun (Hears rest ∷ more) = ⊥
+DrawsSome begun (Keeps line ∷ more) = ⊥
+DrawsSome begun (Writes line ∷ more) = ⊥
+
 -- the next one is to write a line, and this is a beginning of it
-abbrev pub Tears : List ℕ → List SessionDeed → Type 0
-Tears torn [] = ⊥
-Tears torn (Draws bytes ∷ more) = ⊥
-Tears torn (Hears rest ∷ more) = ⊥
-Tears torn (Keeps line ∷ more) = ⊥
-Tears torn (Writes line ∷ more) = (later : List ℕ) × (line_text line ≡ torn ++ later)
+abbrev pub WritesSome : List ℕ → List SessionDeed → Type 0
+WritesSome torn [] = ⊥
+WritesSome torn (Draws bytes ∷ more) = ⊥
+WritesSome torn (Hears rest ∷ more) = ⊥
+WritesSome torn (Keeps line ∷ more) = ⊥
+WritesSome torn (Writes line ∷ more) = (later : List ℕ) × (line_text line ≡ torn ++ later)
 
 -- the next one is to read
 abbrev pub IsHeard : List SessionDeed → Type 0
@@ -71,29 +78,32 @@ IsHeard (Hears rest ∷ more) = ⊤
 IsHeard (Keeps line ∷ more) = ⊥
 IsHeard (Writes line ∷ more) = ⊥
 
--- nothing was done of the next one; or the sink of lines failed at its line, and has taken a
--- beginning of it; or a paste found no memory, and every read is refused from there on
-abbrev pub Stops : ReadlineError → Coming → List SessionDeed → Coming → List ℕ → Type 0
-Stops why coming next left torn =
-    ((why ≡ Lines → ⊥) × (left ≡ coming) × (torn ≡ []))
-    ⊎ (((why ≡ Lines) × (left ≡ coming) × Tears torn next)
-    ⊎ ((why ≡ Memory) × (left ≡ left_by Memory) × (torn ≡ []) × IsHeard next))
+-- nothing was done of the next one; or the display failed at it, and has taken a beginning of its
+-- bytes; or the sink of lines failed at its line, and has taken a beginning of it; or a paste found
+-- no memory, and every read is refused from there on
+abbrev pub Stops : ReadlineError → Bool → Coming → List SessionDeed → Coming → List ℕ → List ℕ
+    → Type 0
+Stops why display coming next left begun torn =
+    ((why ≡ Lines → ⊥) × (left ≡ coming) × (begun ≡ []) × (torn ≡ []))
+    ⊎ (((why ≡ Lines → ⊥) × (left ≡ coming) × (IsTrue display × DrawsSome begun next) × (torn ≡ []))
+    ⊎ (((why ≡ Lines) × (left ≡ coming) × (begun ≡ []) × WritesSome torn next)
+    ⊎ ((why ≡ Memory) × (left ≡ left_by Memory) × (begun ≡ []) × (torn ≡ []) × IsHeard next)))
 
 module _ {D L : Type 0} (shows : D → Bool) (shown : D → List ℕ) (show_failed : D → Bool)
     (writes : L → Bool) (written_in : L → List ℕ) where
   -- of these deeds the first were done, in order, and a fault stopped the next one: the display has
-  -- the bytes drawn, unless it has failed; the source has left what comes after what was heard; the
-  -- sink of lines has the lines written; and the history has those kept
+  -- the bytes drawn, the source has left what comes after what was heard, the sink of lines has the
+  -- lines written, and the history has those kept
   pub record Cut (adds : Bool) (deeds : List SessionDeed) (coming : Coming) (old new : Work D L)
       (left : Coming) (why : ReadlineError) : Type 0 where
     pub cut : CutsBy why
     pub done : List SessionDeed
     pub next : List SessionDeed
     pub first : deeds ≡ done ++ next
-    pub drawn : Takes shows shown old.display new.display (bytes_drawn done)
-        ⊎ IsTrue (show_failed new.display)
+    pub begun : List ℕ
     pub torn : List ℕ
-    pub stops : Stops why (left_of_deeds coming done) next left torn
+    pub stops : Stops why (show_failed new.display) (left_of_deeds coming done) next left begun torn
+    pub drawn : Takes shows shown old.display new.display (bytes_drawn done ++ begun)
     pub wrote : Takes writes written_in old.lines new.lines
         (lines_text (lines_written done) ++ torn)
     pub history_is : new.history ≡ remembered adds (lines_kept done) old.history

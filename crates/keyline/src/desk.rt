@@ -6,7 +6,6 @@ ghost use Rattle.line_config.specs.Sending.{Sends};
 ghost use Rattle.line_editor.specs.Courses.{breaks_after};
 ghost use Rattle.line_keys.specs.Coming.{made_of};
 ghost use Rattle.line_screen.specs.Calls.{screen_of, sink_of};
-ghost use Rattle.keyline.specs.Calls.{TakesSome};
 ghost use Rattle.keyline.specs.Closing.{Closes, WritesLine, work};
 ghost use Rattle.keyline.specs.Sessions.{given_by, line_text, remembered};
 
@@ -20,10 +19,8 @@ use std::alloc::Global;
 
 /// A text and a newline, flushed.
 fn send_line<L: Sink>(lines: &mut L, text: &str) -> Result<(), DeviceFailed>
-    ensures sends { Sends L.told L.held L.has_failed (text.now ++ 0x0A ∷ []) lines.old
-        lines.new result }
-    ensures torn { OnErr result
-        (TakesSome L.told L.held lines.old lines.new (text.now ++ 0x0A ∷ [])) }
+    ensures { Sends L.told L.held L.has_failed (text.now ++ 0x0A ∷ []) lines.old lines.new
+        result }
 {
     lines.write(text.as_bytes())?;
     lines.write(b"\n")?;

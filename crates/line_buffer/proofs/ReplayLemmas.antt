@@ -1,6 +1,7 @@
 -- Calls of several events: what they make of a listener and of a text, and what is left where one is refused.
 use Rattle.std.proofs.Common.{◌≡◌, Bool, true, false, ℕ, ◌+◌, ◌-◌, arith, take, drop, List, [], ◌∷◌, ◌++◌, ◌⊎◌, inl, refl, sym, subst, ap, ◌∙◌, append_assoc}
 use Rattle.std.specs.Prelude.{if◌then◌else◌, Result, Ok, Err, OnErr, IsUtf8, IsCharBoundary}
+use Rattle.std.proofs.lemmas.Result.{on_err_weaker}
 use Rattle.std.specs.List.{replace_range, insert_slice}
 use Rattle.line_buffer.specs.Event.{Event}
 use Rattle.line_buffer.specs.Event.Event.{StartKilling, StopKilling}
@@ -121,17 +122,13 @@ stops_before {S} {takes} {refuses} {closing} {es} more {s} {t} {a} {b} x = recor
   closed = x.closed;
 }
 
-on_err : {T E : Type 0} (r : Result T E) (P Q : Type 0) → (P → Q) → OnErr r P → OnErr r Q
-on_err (Ok x) P Q f h = tt
-on_err (Err x) P Q f h = f h
-
 -- a refused kill is closed as one that was made
 pub stops_killing : {S T E : Type 0} (r : Result T E) (takes refuses : S → Event → S → Type 0) (es : List Event) (plain : Bool) (s begun left t : S) (a b : List ℕ) → plain ≡ false
     → takes s StartKilling begun → OnErr r (StopsAmong takes refuses [] es begun left a b) → takes left StopKilling t
     → OnErr r (StopsAmong takes refuses (if plain then [] else StopKilling ∷ []) (if plain then es else StartKilling ∷ (es ++ (StopKilling ∷ []))) s t a b)
 stops_killing {S} {T} {E} r takes refuses es plain s begun left t a b e start stopped stop =
     subst (λ v. OnErr r (StopsAmong takes refuses (if v then [] else StopKilling ∷ []) (if v then es else StartKilling ∷ (es ++ (StopKilling ∷ []))) s t a b)) (sym e)
-    (on_err r _ _ (λ x. stops_closed (stops_later (reports_one takes StartKilling s begun a a start refl) (stops_before (StopKilling ∷ []) x)) (reports_one takes StopKilling left t b b stop refl)) stopped)
+    (on_err_weaker r (λ x. stops_closed (stops_later (reports_one takes StartKilling s begun a a start refl) (stops_before (StopKilling ∷ []) x)) (reports_one takes StopKilling left t b b stop refl)) stopped)
 
 -- a deletion by clusters stands between no marks
 pub stops_unmarked : {S T E : Type 0} (r : Result T E) (takes refuses : S → Event → S → Type 0) (es : List Event) (plain : Bool) (s t : S) (a b : List ℕ) → plain ≡ true

@@ -2,3 +2,4 @@ pub mod BufferLemmas
 pub mod FeedLemmas
 pub mod KnownLemmas
 pub mod Lent
+pub mod Taking

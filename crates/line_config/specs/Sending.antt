@@ -14,11 +14,17 @@ pub record AppendsSome (before bytes after : List ℕ) : Type 0 where
   pub split : bytes ≡ taken ++ rest
   pub held : after ≡ before ++ taken
 
+-- a told sink stays told, and has taken a beginning of these bytes
+abbrev pub TakesSome : {D : Type 0} → (D → Bool) → (D → List ℕ) → D → D → List ℕ → Type 0
+TakesSome told held old new bytes = IsTrue (told old) → IsTrue (told new)
+    × AppendsSome (held old) bytes (held new)
+
 -- a call that is answered has sent these bytes, and the sink works as before; one that is refused
--- says so because the sink has failed
+-- says so because the sink has failed, and has sent a beginning of them
 pub record Sends {D A : Type 0} (told : D → Bool) (held : D → List ℕ) (failed : D → Bool)
     (bytes : List ℕ)
     (old new : D) (result : Result A DeviceFailed) : Type 0 where
   pub sent : OnOk result (Takes told held old new bytes)
   pub works : OnOk result (failed new ≡ failed old)
   pub err : OnErr result (IsTrue (failed new))
+  pub begins : OnErr result (TakesSome told held old new bytes)

@@ -1,6 +1,6 @@
 -- Loading: one row after the other.
 use Rattle.std.proofs.Common.{◌≡◌, ℕ, ◌<◌, Bool, true, false, List, [], ◌∷◌, ◌++◌, length, refl, sym, ◌∙◌, ap, arith, append_assoc}
-use Rattle.std.specs.Prelude.{Result, if◌then◌else◌, ◌&&◌, not, IsUtf8, Ok, Err, OnErr, IsOk, bytes_eq}
+use Rattle.std.specs.Prelude.{Result, if◌then◌else◌, ◌&&◌, not, IsUtf8, Ok, Err, IsOk, bytes_eq}
 use Rattle.std.specs.Result.{is_ok, MatchResult}
 use Rattle.std.specs.Str.{is_utf8, chars}
 use Rattle.std.proofs.lemmas.Str.{IsUtf8-from_is_utf8, is_utf8-from_IsUtf8, IsUtf8-nil}
@@ -221,9 +221,5 @@ pub adds_behind_first : (h middle after : Filed) (row : List ℕ) (rows : List (
     → AddsSome (entries_of escapes (good_rows rows)) middle after → AddsSome (texts_of (good_rows (row ∷ rows))) h after
 adds_behind_first h middle after row rows escapes e b m r =
     rw (good_more row rows e) (behind_first h after row (good_rows rows) (bytes_eq row header) (rw (b, m) at r))
-
-pub on_err : (r : Result Bool ReadlineError) {P : Type 0} → P → OnErr r P
-on_err (Ok b) p = tt
-on_err (Err e) p = p
 
 pub ruleset load_steps = (loaded_answer, loaded_leaves)

@@ -1,10 +1,13 @@
 -- Calls of a screen one after the other.
-use Rattle.std.proofs.Common.{◌≡◌, ◌≤◌, ℕ, Bool, List, [], ◌∷◌, ◌++◌, inl, inr, refl, sym, ap, ◌∙◌, subst, append-nil}
+use Rattle.std.proofs.Common.{◌≡◌, ◌≤◌, ℕ, Bool, List, [], ◌∷◌, ◌++◌, inl, inr, refl, sym, ap, ◌∙◌, subst, append-nil, Result, Ok, Err}
 use Rattle.std.specs.List.{FoldsTo, flat_map}
-use Rattle.line_editor.specs.Calls.{Call, Begun}
-use Rattle.line_screen.specs.Calls.{Sent, canvas_of, bytes_of, screen_of, sink_of}
+use Rattle.line_config.specs.declared.device.DeviceFailed.{DeviceFailed}
+use Rattle.line_config.specs.declared.errors.ReadlineError.{ReadlineError}
+use Rattle.line_config.specs.Sending.{Takes, TakesSome, Sends}
+use Rattle.line_editor.specs.Calls.{Call, Begun, Makes}
+use Rattle.line_screen.specs.Calls.{Sent, canvas_of, bytes_of, screen_of, sink_of, display_answer}
 use Rattle.line_screen.specs.declared.renderer.ScreenRenderer.{ScreenRenderer}
-use Rattle.line_screen.proofs.Runs.{takes_then}
+use Rattle.line_config.proofs.Taking.{takes_then}
 
 module _ {D : Type 0} (told : D → Bool) (held : D → List ℕ) (failed : D → Bool) where
   pub sent_nothing : (a : ScreenRenderer D) → Sent told held failed [] a a
@@ -33,6 +36,29 @@ module _ {D : Type 0} (told : D → Bool) (held : D → List ℕ) (failed : D �
   begun_stays (call ∷ calls) a b (inl h) = ap screen_of h
   begun_stays (call ∷ calls) a b (inr (inl h)) = h.screen
   begun_stays (call ∷ calls) a b (inr (inr h)) = begun_stays calls h.0 b h.2 ∙ h.1.screen
+
+  -- a call sends its bytes to the sink, and its answer is the display's
+  pub makes_call : (call : Call) (old : ScreenRenderer D) (d : D) (bytes : List ℕ) (sent : Result (Unit {0}) DeviceFailed) (result : Result (Unit {0}) ReadlineError)
+      → bytes ≡ bytes_of (screen_of old) call → Sends told held failed bytes (sink_of old) d sent → result ≡ display_answer sent
+      → Makes (canvas_of told held failed) call old (record old { sink = d }) result
+  makes_call call old d bytes (Ok u) result same sends is =
+      let P : Result (Unit {0}) ReadlineError → Type 0 = λ r. Makes (canvas_of told held failed) call old (record old { sink = d }) r in
+      subst P (sym is) (record {
+        made = record { takes = subst (Takes told held (sink_of old) d) same sends.sent; works = sends.works; screen = refl };
+        refused = tt;
+        fault = tt;
+        failed = tt;
+        ruler = refl;
+      })
+  makes_call call old d bytes (Err e) result same sends is =
+      let P : Result (Unit {0}) ReadlineError → Type 0 = λ r. Makes (canvas_of told held failed) call old (record old { sink = d }) r in
+      subst P (sym is) (record {
+        made = tt;
+        refused = record { begins = subst (TakesSome told held (sink_of old) d) same sends.begins; fails = sends.err; screen = refl };
+        fault = refl;
+        failed = sends.err;
+        ruler = refl;
+      })
 
 -- the columns of a screen
 pub columns_in : {D : Type 0} (r : ScreenRenderer D) → (2 ≤ (screen_of r).columns) × ((screen_of r).columns ≤ 1000)

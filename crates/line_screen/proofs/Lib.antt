@@ -26,6 +26,7 @@ mod Rows
 pub mod RowsLeft
 pub mod Runs
 pub mod Saturating
+pub mod Sendings
 pub mod SequenceLemmas
 pub mod SequenceSteps
 pub mod Shift

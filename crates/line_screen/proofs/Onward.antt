@@ -19,7 +19,7 @@ use Rattle.line_screen.specs.Reader.{feed_in, left_in, reads}
 use Rattle.line_screen.specs.Reading.{Cut, IsCut, IsKeyRefusal, ReadsChar, PeeksByte, unread}
 use Rattle.line_screen.proofs.EncodedChars.{char_read}
 use Rattle.line_screen.proofs.ReadChars.{chars_are_encoded}
-use Rattle.line_screen.proofs.Runs.{if_ok}
+use Rattle.std.proofs.lemmas.Result.{IfOk-weaker}
 
 -- whatever follows what was read, it reads on by the second definition
 pub record Leads {R : Type 0} (d d' : List ℕ → Last → R) (before after : List ℕ) : Type 0 where
@@ -174,7 +174,7 @@ module _ {S : Type 0} (feed : S → Feed) (d : List ℕ → Last → Readings) w
         λ t. leads_is d d' (left_in feed a) (left_in feed m) (feed_in feed a).last (on.leads t) ∙ ap (d' (left_in feed m)) (sym on.last) in
         let met : MetBy (feed_in feed a).steady r → MetBy (feed_in feed m).steady r = λ h. subst (λ s. MetBy s r) (sym on.steady) h in
         record {
-          ok = λ t. if_ok r _ _ (λ x h. same t ∙ h) (reads.ok (on.told t));
+          ok = λ t. IfOk-weaker r _ _ (λ x h. same t ∙ h) (reads.ok (on.told t));
           answer = λ t h. reads.answer (on.told t) (met h) ∙ ap answer_of (sym (same t));
           left = λ t h. ap left_after (same t) ∙ reads.left (on.told t) (met h);
           spent = λ t h. reads.spent (on.told t) h;

@@ -1,9 +1,13 @@
 -- The bytes of a run of printable ASCII, and the bytes of items one part after the other.
-use Rattle.std.proofs.Common.{◌≡◌, ℕ, ◌+◌, ◌<◌, ◌≤◌, ◌==◌, Bool, true, false, List, [], ◌∷◌, ◌++◌, map, length, Result, Ok, Err, OnOk, IfOk, refl, sym, ap, ◌∙◌, subst, append_assoc, append-nil, arith, if◌then◌else◌}
+use Rattle.std.proofs.Common.{◌≡◌, ℕ, ◌+◌, ◌<◌, ◌≤◌, ◌==◌, Bool, true, false, List, [], ◌∷◌, ◌++◌, map, length, Result, Ok, Err, IsTrue, refl, sym, ap, ◌∙◌, subst, append_assoc, append-nil, arith, if◌then◌else◌}
 use Rattle.std.proofs.lemmas.Bool.{ne_eqb, eqb-true, eqb-false}
 use Rattle.line_screen.specs.Drawing.{DrawnItem, break_if, left_col, sent_one, col_after_one, sent, col_after}
 use Rattle.line_screen.specs.Drawing.DrawnItem.{Letter}
-use Rattle.line_config.specs.Sending.{Takes}
+use Rattle.std.specs.Result.{IsErrAnd}
+use Rattle.line_config.specs.declared.device.DeviceFailed.{DeviceFailed}
+use Rattle.line_config.specs.Sending.{Takes, TakesSome}
+use Rattle.line_config.proofs.Taking.{some_of_more, some_then}
+use Rattle.line_screen.specs.Sending.{SendsItems}
 
 pub sent-append : (columns : ℕ) (xs ys : List DrawnItem) (col : ℕ) → sent columns (xs ++ ys) col ≡ sent columns xs col ++ sent columns ys (col_after columns xs col)
 sent-append columns [] ys col = refl
@@ -105,16 +109,24 @@ module _ {D : Type 0} (told : D → Bool) (held : D → List ℕ) (failed : D �
   so_far_step all left before item old new newer col next h split sent_more works next_is inside =
       so_far_steps all (item ∷ []) left before old new newer col next h split (subst (Takes told held new newer) (sym (append-nil (sent_one columns item col))) sent_more) works next_is inside
 
-pub takes_then : {D : Type 0} (told : D → Bool) (held : D → List ℕ) (a b c : D) (xs ys : List ℕ) → Takes told held a b xs → Takes told held b c ys → Takes told held a c (xs ++ ys)
-takes_then told held a b c xs ys first second = λ t.
-    let one = first t in
-    let two = second one.0 in
-    (two.0, two.1 ∙ ap (λ bs. bs ++ ys) one.1 ∙ append_assoc (held a) xs ys)
-
-pub on_ok : {A E : Type 0} (r : Result A E) (P Q : Type 0) → (P → Q) → OnOk r P → OnOk r Q
-on_ok (Ok x) P Q f h = f h
-on_ok (Err e) P Q f h = h
-
-pub if_ok : {A E : Type 0} (r : Result A E) (P Q : A → Type 0) → ((x : A) → P x → Q x) → IfOk r P → IfOk r Q
-if_ok (Ok x) P Q f h = f x h
-if_ok (Err e) P Q f h = h
+  -- some of these items were sent
+  pub so_far_cut : (Q : DeviceFailed → Type 0) (all items left before : List DrawnItem) (old new newer : D) (col : ℕ) (r : Result ℕ DeviceFailed)
+      → SoFar told held failed columns start all before old new col → before ≡ items ++ left
+      → IsErrAnd r Q → IsTrue (failed newer) → TakesSome told held new newer (sent columns items col)
+      → SendsItems all start columns told held failed old newer r
+  so_far_cut Q all items left before old new newer col (Ok x) h split refused fails some = absurd refused
+  so_far_cut Q all items left before old new newer col (Err e) h split refused fails some =
+      let more = sent columns left (col_after columns items col) in
+      let whole : h.bytes ++ (sent columns items col ++ more) ≡ sent columns all start =
+      ap (λ bs. h.bytes ++ bs) (sym (sent-append columns items left col) ∙ ap (λ is. sent columns is col) (sym split)) ∙ h.rest in
+      record {
+        sends = record {
+          sent = tt;
+          works = tt;
+          err = fails;
+          begins = subst (TakesSome told held old newer) whole
+              (some_then told held old new newer h.bytes (sent columns items col ++ more) h.taken (some_of_more told held new newer (sent columns items col) more some));
+        };
+        next = tt;
+        inside = tt;
+      }

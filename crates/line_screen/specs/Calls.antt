@@ -5,7 +5,7 @@ use Rattle.line_buffer.specs.declared.layout.Position.{Position}
 use Rattle.line_config.specs.declared.device.DeviceFailed.{DeviceFailed}
 use Rattle.line_config.specs.declared.errors.ReadlineError.{ReadlineError}
 use Rattle.line_config.specs.declared.errors.ReadlineError.TheVariants as Refusal
-use Rattle.line_config.specs.Sending.{Takes}
+use Rattle.line_config.specs.Sending.{Takes, TakesSome}
 use Rattle.line_config.specs.declared.settings.BellStyle.{BellStyle}
 use Rattle.line_config.specs.declared.settings.BellStyle.TheVariants.{Audible}
 use Rattle.line_editor.specs.Calls.{Call, Canvas, Ruler}
@@ -71,8 +71,10 @@ pub record Sent {D : Type 0} (told : D → Bool) (held : D → List ℕ) (failed
   pub works : failed (sink_of new) ≡ failed (sink_of old)
   pub screen : screen_of new ≡ screen_of old
 
--- the sink has failed, and what it took isn't known; the screen stays as it is
-pub record Unsent {D : Type 0} (failed : D → Bool) (old new : ScreenRenderer D) : Type 0 where
+-- the sink has failed, and has taken a beginning of these bytes; the screen stays as it is
+pub record Unsent {D : Type 0} (told : D → Bool) (held : D → List ℕ) (failed : D → Bool)
+    (bytes : List ℕ) (old new : ScreenRenderer D) : Type 0 where
+  pub begins : TakesSome told held (sink_of old) (sink_of new) bytes
   pub fails : IsTrue (failed (sink_of new))
   pub screen : screen_of new ≡ screen_of old
 
@@ -81,7 +83,7 @@ abbrev pub canvas_of : {D : Type 0} → (D → Bool) → (D → List ℕ) → (D
     → Canvas (ScreenRenderer D)
 canvas_of told held failed = record {
   made = λ old call new. Sent told held failed (bytes_of (screen_of old) call) old new;
-  refused = λ old call new. Unsent failed old new;
+  refused = λ old call new. Unsent told held failed (bytes_of (screen_of old) call) old new;
   failed = λ r. failed (sink_of r);
   ruler = λ r. ruler_of (screen_of r);
 }

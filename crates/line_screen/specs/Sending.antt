@@ -1,19 +1,16 @@
 -- What a call that draws a text does to its sink, and the column after the text.
-use Rattle.std.specs.Prelude.{◌≡◌, ℕ, ◌<◌, Bool, List, IsTrue, Result, IfOk, OnOk, OnErr}
+use Rattle.std.specs.Prelude.{◌≡◌, ℕ, ◌<◌, Bool, List, Result, IfOk}
 use Rattle.line_config.specs.declared.device.DeviceFailed.{DeviceFailed}
-use Rattle.line_config.specs.Sending.{Takes}
+use Rattle.line_config.specs.Sending.{Sends}
 use Rattle.line_screen.specs.Drawing.{DrawnItem, sent, col_after}
 
--- a call that is answered has sent these bytes, the sink works as before, and the answer is the
--- column after them, one of the row; a call that is refused says so because the sink has failed
+-- a call sends these bytes, and answers the column after them, one of the row
 pub record SendsTo {D : Type 0} (bytes : List ℕ) (column columns : ℕ) (told : D → Bool)
-    (held : D → List ℕ)
-    (failed : D → Bool) (old new : D) (result : Result ℕ DeviceFailed) : Type 0 where
-  pub sent : OnOk result (Takes told held old new bytes)
-  pub works : OnOk result (failed new ≡ failed old)
-  pub err : OnErr result (IsTrue (failed new))
-  pub next : IfOk result (λ c. c ≡ column)
-  pub inside : IfOk result (λ c. c < columns)
+    (held : D → List ℕ) (failed : D → Bool) (old new : D) (result : Result ℕ DeviceFailed) : Type 0
+  where
+    pub sends : Sends told held failed bytes old new result
+    pub next : IfOk result (λ c. c ≡ column)
+    pub inside : IfOk result (λ c. c < columns)
 
 -- the same with the bytes of items, from a column on
 abbrev pub SendsItems : {D : Type 0} → List DrawnItem → ℕ → ℕ → (D → Bool) → (D → List ℕ)

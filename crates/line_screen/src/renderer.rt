@@ -15,8 +15,8 @@ use line_help::Highlighter;
 /// Draws a line on rows of so many columns by writing to a sink.
 ///
 /// A call writes its bytes piece by piece, keeps none of them and takes no memory. One that writes
-/// flushes the sink at its end. It answers `Display` where the sink failed, and nowhere else; what
-/// the sink then took is not known.
+/// flushes the sink at its end. It answers `Display` where the sink failed, and nowhere else; the
+/// sink has then taken a beginning of the call's bytes.
 #[derive(Drop)]
 pub struct ScreenRenderer<D> {
     sink: D,

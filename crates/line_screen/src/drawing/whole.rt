@@ -1,7 +1,7 @@
 //! Whole drawings: prompt, line, and the hint or message after it.
 
 ghost use Rattle.std.specs.Prelude.{◌≡◌, ◌<◌, ◌++◌, [], IsTrue, OnOk, OnErr, IfOk};
-ghost use Rattle.line_screen.specs.Drawing.{no_style, sent, col_after, text_items, shown_text, drawing};
+ghost use Rattle.line_screen.specs.Drawing.{no_style, sent, col_after, text_items, shown_text, drawing, full_drawing};
 ghost use Rattle.line_screen.specs.Calls.{drawing_bytes};
 ghost use Rattle.line_screen.specs.Measure.{cluster_width};
 ghost use Rattle.line_config.specs.Sending.{Sends};
@@ -69,6 +69,41 @@ pub(crate) fn send_drawing<D: Sink>(
     send_move(sink, end, cursor)
 }
 
+/// A drawing from the cursor on, passed on.
+fn draw_new<D: Sink>(
+    sink: &mut D,
+    grid: Grid,
+    texts: Texts,
+    end: Position,
+    cursor: Position,
+) -> Result<(), DeviceFailed>
+    ensures { Sends D.told D.held D.has_failed
+        (drawing grid.columns (cluster_width grid.mode grid.columns)
+        texts.entry.prompt.now texts.entry.line.now texts.entry.info.now end cursor)
+        sink.old sink.new result }
+{
+    send_drawing(sink, grid, texts, end, cursor)?;
+    flush(sink)
+}
+
+/// The same in the place of a drawing whose cursor stands in its row `row`.
+fn draw_over<D: Sink>(
+    sink: &mut D,
+    grid: Grid,
+    row: Unit,
+    texts: Texts,
+    end: Position,
+    cursor: Position,
+) -> Result<(), DeviceFailed>
+    ensures { Sends D.told D.held D.has_failed
+        (full_drawing grid.columns (cluster_width grid.mode grid.columns) row
+        texts.entry.prompt.now texts.entry.line.now texts.entry.info.now end cursor)
+        sink.old sink.new result }
+{
+    send_cleared(sink, row)?;
+    draw_new(sink, grid, texts, end, cursor)
+}
+
 /// A whole drawing, passed on: in the place of one whose cursor stands in its row `old_row`, or
 /// from the cursor on.
 pub(crate) fn draw<D: Sink>(
@@ -84,9 +119,8 @@ pub(crate) fn draw<D: Sink>(
         texts.entry.prompt.now texts.entry.line.now texts.entry.info.now end cursor)
         sink.old sink.new result }
 {
-    if let Some(row) = old_row {
-        send_cleared(sink, row)?;
+    match old_row {
+        Some(row) => draw_over(sink, grid, row, texts, end, cursor),
+        None => draw_new(sink, grid, texts, end, cursor),
     }
-    send_drawing(sink, grid, texts, end, cursor)?;
-    flush(sink)
 }

@@ -8,7 +8,7 @@ pub returns-in_err-write_and_flush-clause-closes : goal.returns-in_err-write_and
 returns-in_err-write_and_flush-clause-closes g c =
     let p = err_from_is_err_and c.from_residual.result c.from_residual.ensures.1 in
     closes_undrawn g.D.Sink.told g.D.Sink.held g.D.Sink.has_failed g.L.Sink.told g.L.Sink.held g.L.Sink.has_failed
-    c.args.adds _ _ _ _ _ c.from_residual.result p.0 tt p.1 (p.2 ∙ c.in_err-write_and_flush.ensures.fault) c.in_err-write_and_flush.ensures.failed
+    c.args.adds _ _ _ _ _ c.from_residual.result p.0 tt p.1 (p.2 ∙ c.in_err-write_and_flush.ensures.fault) c.in_err-write_and_flush.ensures.failed c.in_err-write_and_flush.ensures.refused.begins
 
 pub returns-in_err-remember-clause-closes : goal.returns-in_err-remember-clause-closes
 returns-in_err-remember-clause-closes g c =

@@ -1,31 +1,48 @@
--- Each write that fails leaves a beginning of the line written.
-use Rattle.std.proofs.Common.{[], ◌∷◌, ◌++◌, refl}
-use Rattle.keyline.proofs.Told.{on_err, Takes-then, Takes-write, Takes-flush, TakesSome-torn, TakesSome-more, TakesSome-all, TakesSome-then}
+-- Each call that fails leaves a beginning of the line written.
+use Rattle.std.proofs.Common.{[], ◌∷◌, ◌++◌, refl, rules}
+use Rattle.line_config.proofs.Taking.{on_err, takes_then, takes_write, takes_flush, some_of_write, some_of_more, some_of_all, some_then}
 use Rattle.keyline.proofs.desk.send_line.Goals as goal
 
-pub returns-in_err-write-clause-torn : goal.returns-in_err-write-clause-torn
-returns-in_err-write-clause-torn g c =
+pub returns-in_err-write : goal.returns-in_err-write
+returns-in_err-write g c =
     let told = g.L.Sink.told in
     let held = g.L.Sink.held in
-    on_err _
-    (TakesSome-more told held _ _ c.args.text.now (0x0A ∷ [])
-    (TakesSome-torn told held _ _ _ _ c.as_bytes.ensures.value c.in_err-write.ensures.told c.in_err-write.ensures.begins))
+    record {
+      sent = search rules;
+      works = search rules;
+      err = search rules;
+      begins =
+          on_err _
+          (some_of_more told held _ _ c.args.text.now (0x0A ∷ [])
+          (some_of_write told held _ _ _ _ c.as_bytes.ensures.value c.in_err-write.ensures.told c.in_err-write.ensures.begins));
+    }
 
-pub returns-in_err-write-2-clause-torn : goal.returns-in_err-write-2-clause-torn
-returns-in_err-write-2-clause-torn g c =
+pub returns-in_err-write-2 : goal.returns-in_err-write-2
+returns-in_err-write-2 g c =
     let told = g.L.Sink.told in
     let held = g.L.Sink.held in
-    let text = Takes-write told held _ _ _ _ c.as_bytes.ensures.value c.in_ok-write.ensures.told c.in_ok-write.ensures.ok in
-    on_err _
-    (TakesSome-then told held _ _ _ c.args.text.now (0x0A ∷ []) text
-    (TakesSome-torn told held _ _ _ _ refl c.in_err-write-2.ensures.told c.in_err-write-2.ensures.begins))
+    let text = takes_write told held _ _ _ _ c.as_bytes.ensures.value c.in_ok-write.ensures.told c.in_ok-write.ensures.ok in
+    record {
+      sent = search rules;
+      works = search rules;
+      err = search rules;
+      begins =
+          on_err _
+          (some_then told held _ _ _ c.args.text.now (0x0A ∷ []) text
+          (some_of_write told held _ _ _ _ refl c.in_err-write-2.ensures.told c.in_err-write-2.ensures.begins));
+    }
 
-pub returns-in_err-flush-clause-torn : goal.returns-in_err-flush-clause-torn
-returns-in_err-flush-clause-torn g c =
+pub returns-in_err-flush : goal.returns-in_err-flush
+returns-in_err-flush g c =
     let told = g.L.Sink.told in
     let held = g.L.Sink.held in
-    let text = Takes-write told held _ _ _ _ c.as_bytes.ensures.value c.in_ok-write.ensures.told c.in_ok-write.ensures.ok in
-    let newline = Takes-write told held _ _ _ (0x0A ∷ []) refl c.in_ok-write-2.ensures.told c.in_ok-write-2.ensures.ok in
-    let line = Takes-then told held _ _ _ c.args.text.now (0x0A ∷ []) text newline in
-    on_err _ (TakesSome-all told held _ _ (c.args.text.now ++ 0x0A ∷ [])
-    (Takes-flush told held _ _ _ (c.args.text.now ++ 0x0A ∷ []) line c.in_err-flush.ensures.told c.in_err-flush.ensures.held))
+    let text = takes_write told held _ _ _ _ c.as_bytes.ensures.value c.in_ok-write.ensures.told c.in_ok-write.ensures.ok in
+    let newline = takes_write told held _ _ _ (0x0A ∷ []) refl c.in_ok-write-2.ensures.told c.in_ok-write-2.ensures.ok in
+    let line = takes_then told held _ _ _ c.args.text.now (0x0A ∷ []) text newline in
+    record {
+      sent = search rules;
+      works = search rules;
+      err = search rules;
+      begins = on_err _ (some_of_all told held _ _ (c.args.text.now ++ 0x0A ∷ [])
+          (takes_flush told held _ _ _ (c.args.text.now ++ 0x0A ∷ []) line c.in_err-flush.ensures.told c.in_err-flush.ensures.held));
+    }

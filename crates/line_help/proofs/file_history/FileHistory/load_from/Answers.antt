@@ -1,5 +1,6 @@
 use Rattle.line_help.specs.HistoryText.{text_rows}
-use Rattle.line_help.proofs.LoadLemmas.{adds_behind_first, on_err}
+use Rattle.line_config.proofs.Taking.{on_err}
+use Rattle.line_help.proofs.LoadLemmas.{adds_behind_first}
 use Rattle.line_help.proofs.file_history.FileHistory.load_from.Goals as goal
 
 pub returns-in_err-whole-clause-part : goal.returns-in_err-whole-clause-part

@@ -2,7 +2,8 @@
 use Rattle.std.proofs.Common.{◌≡◌, ◌<◌, length, drop, get_or, rules}
 use Rattle.std.specs.Prelude.{string_bytes}
 use Rattle.line_help.specs.HistoryText.{row_of, rows_text}
-use Rattle.line_help.proofs.SavingLemmas.{refused_at, on_err}
+use Rattle.line_config.proofs.Taking.{on_err}
+use Rattle.line_help.proofs.SavingLemmas.{refused_at}
 use Rattle.line_help.proofs.file_history.FileHistory.write_rows.Goals as goal
 
 pub returns-in_err-write_row-clause-begins : goal.returns-in_err-write_row-clause-begins

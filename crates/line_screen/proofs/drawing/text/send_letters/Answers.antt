@@ -1,7 +1,7 @@
 use Rattle.std.proofs.Common.{map, ap, ◌∙◌}
 use Rattle.std.proofs.lemmas.List.{map-append}
 use Rattle.line_screen.specs.Drawing.DrawnItem.{Letter}
-use Rattle.line_screen.proofs.Runs.{so_far_steps}
+use Rattle.line_screen.proofs.Runs.{so_far_steps, so_far_cut}
 use Rattle.line_screen.proofs.drawing.text.send_letters.Goals as goal
 
 pub loop-rest-preserved : goal.loop-rest-preserved
@@ -12,4 +12,14 @@ loop-rest-preserved g c =
     (map Letter c.args.letters.now) (map Letter front) (map Letter back) (map Letter c.loop-rest.rest.now)
     c.args.sink.now c.loop-rest.sink c.send_run.new.sink c.loop-rest.col c.in_ok-col.col
     c.loop-rest.invariant (ap (map Letter) c.split_at.ensures.by_index.0 ∙ map-append Letter front back)
-    c.in_ok-col.ensures.sent c.in_ok-col.ensures.works c.in_ok-col.ensures.next c.in_ok-col.ensures.inside
+    c.in_ok-col.ensures.sends.sent c.in_ok-col.ensures.sends.works c.in_ok-col.ensures.next c.in_ok-col.ensures.inside
+
+pub returns-in_err-col : goal.returns-in_err-col
+returns-in_err-col g c =
+    let front = c.split_at.result.0.now in
+    let back = c.split_at.result.1.now in
+    so_far_cut g.D.Sink.told g.D.Sink.held g.D.Sink.has_failed c.args.grid.columns c.args.start _
+    (map Letter c.args.letters.now) (map Letter front) (map Letter back) (map Letter c.loop-rest.rest.now)
+    c.args.sink.now c.loop-rest.sink c.send_run.new.sink c.loop-rest.col c.from_residual.result
+    c.loop-rest.invariant (ap (map Letter) c.split_at.ensures.by_index.0 ∙ map-append Letter front back)
+    c.from_residual.ensures.1 c.in_err-col.ensures.sends.err c.in_err-col.ensures.sends.begins

@@ -1,0 +1,78 @@
+-- What calls of a sink take, one after the other, and where one of them is refused.
+use Rattle.std.proofs.Common.{◌≡◌, ℕ, Bool, true, false, List, [], ◌++◌, Result, Ok, Err, IsTrue, refl, sym, ap, ◌∙◌, subst, append-nil, append_assoc}
+use Rattle.std.specs.Result.{OnErr}
+use Rattle.line_config.specs.Sending.{Takes, TakesSome, AppendsSome}
+
+pub takes_none : {D : Type 0} (told : D → Bool) (held : D → List ℕ) (a b : D) → b ≡ a → Takes told held a b []
+takes_none told held a b same t = (rw same t, ap held same ∙ sym (append-nil (held a)))
+
+pub takes_then : {D : Type 0} (told : D → Bool) (held : D → List ℕ) (a b c : D) (xs ys : List ℕ)
+    → Takes told held a b xs → Takes told held b c ys → Takes told held a c (xs ++ ys)
+takes_then told held a b c xs ys first second t =
+    let one = first t in
+    let two = second one.0 in
+    (two.0, two.1 ∙ ap (λ zs. zs ++ ys) one.1 ∙ append_assoc (held a) xs ys)
+
+-- a write that succeeded, and a flush after what was taken
+pub takes_write : {D : Type 0} (told : D → Bool) (held : D → List ℕ) (a b : D) (bytes xs : List ℕ) → bytes ≡ xs
+    → (IsTrue (told a) → IsTrue (told b)) → (IsTrue (told a) → held b ≡ held a ++ bytes) → Takes told held a b xs
+takes_write told held a b bytes xs same stays ok t = (stays t, ok t ∙ ap (λ zs. held a ++ zs) same)
+
+pub takes_flush : {D : Type 0} (told : D → Bool) (held : D → List ℕ) (a b c : D) (xs : List ℕ) → Takes told held a b xs
+    → (IsTrue (told b) → IsTrue (told c)) → (IsTrue (told b) → held c ≡ held b) → Takes told held a c xs
+takes_flush told held a b c xs taken stays kept t = let one = taken t in (stays one.0, kept one.0 ∙ one.1)
+
+-- ---- a beginning of some bytes
+
+-- some of them are some of more
+pub begins_more : (before xs ys after : List ℕ) → AppendsSome before xs after → AppendsSome before (xs ++ ys) after
+begins_more before xs ys after some = record {
+  taken = some.taken;
+  rest = some.rest ++ ys;
+  split = ap (λ zs. zs ++ ys) some.split ∙ append_assoc some.taken some.rest ys;
+  held = some.held;
+}
+
+-- all of some, and then some of others
+pub begins_behind : (before xs ys between after : List ℕ) → between ≡ before ++ xs → AppendsSome between ys after → AppendsSome before (xs ++ ys) after
+begins_behind before xs ys between after is some = record {
+  taken = xs ++ some.taken;
+  rest = some.rest;
+  split = ap (λ zs. xs ++ zs) some.split ∙ sym (append_assoc xs some.taken some.rest);
+  held = some.held ∙ ap (λ zs. zs ++ some.taken) is ∙ append_assoc before xs some.taken;
+}
+
+-- ---- a sink that took a beginning
+
+pub some_of_write : {D : Type 0} (told : D → Bool) (held : D → List ℕ) (a b : D) (bytes xs : List ℕ) → bytes ≡ xs
+    → (IsTrue (told a) → IsTrue (told b)) → (IsTrue (told a) → AppendsSome (held a) bytes (held b)) → TakesSome told held a b xs
+some_of_write told held a b bytes xs same stays some t = (stays t, subst (λ zs. AppendsSome (held a) zs (held b)) same (some t))
+
+pub some_of_more : {D : Type 0} (told : D → Bool) (held : D → List ℕ) (a b : D) (xs ys : List ℕ)
+    → TakesSome told held a b xs → TakesSome told held a b (xs ++ ys)
+some_of_more told held a b xs ys some t = let s = some t in (s.0, begins_more (held a) xs ys (held b) s.1)
+
+pub some_of_all : {D : Type 0} (told : D → Bool) (held : D → List ℕ) (a b : D) (xs : List ℕ)
+    → Takes told held a b xs → TakesSome told held a b xs
+some_of_all told held a b xs taken t =
+    let all = taken t in (all.0, record { taken = xs; rest = []; split = sym (append-nil xs); held = all.1 })
+
+pub some_then : {D : Type 0} (told : D → Bool) (held : D → List ℕ) (a b c : D) (xs ys : List ℕ)
+    → Takes told held a b xs → TakesSome told held b c ys → TakesSome told held a c (xs ++ ys)
+some_then told held a b c xs ys taken some t =
+    let one = taken t in let two = some one.0 in (two.0, begins_behind (held a) xs ys (held b) (held c) one.1 two.1)
+
+-- what it took, also where that isn't told
+split_some : (t u : Bool) (before bytes after : List ℕ) → (IsTrue t → IsTrue u × AppendsSome before bytes after)
+    → (taken : List ℕ) × (rest : List ℕ) × (bytes ≡ taken ++ rest) × (IsTrue t → IsTrue u × (after ≡ before ++ taken))
+split_some true u before bytes after some =
+    let s = some refl in (s.1.taken, s.1.rest, s.1.split, λ t. (s.0, s.1.held))
+split_some false u before bytes after some = ([], bytes, refl, λ t. absurd (cc))
+
+pub taken_of : {D : Type 0} (told : D → Bool) (held : D → List ℕ) (a b : D) (bytes : List ℕ) → TakesSome told held a b bytes
+    → (taken : List ℕ) × (rest : List ℕ) × (bytes ≡ taken ++ rest) × Takes told held a b taken
+taken_of told held a b bytes some = split_some (told a) (told b) (held a) bytes (held b) some
+
+pub on_err : {T E P : Type 0} (r : Result T E) → P → OnErr r P
+on_err (Ok x) p = tt
+on_err (Err e) p = p

@@ -1,0 +1,13 @@
+-- What was sent is passed on.
+use Rattle.line_screen.specs.Drawing.{drawing}
+use Rattle.line_screen.specs.Measure.{cluster_width}
+use Rattle.line_screen.proofs.Sendings.{sends_flushed}
+use Rattle.line_screen.proofs.drawing.whole.draw_new.Goals as goal
+
+pub returns : goal.returns
+returns g c =
+    let columns = c.args.grid.columns in
+    let wide = cluster_width c.args.grid.mode columns in
+    let texts = c.args.texts in
+    let drawn = drawing columns wide texts.prompt.now texts.line.now texts.info.now c.args.end c.args.cursor in
+    sends_flushed g.D.Sink.told g.D.Sink.held g.D.Sink.has_failed drawn c.in_ok-send_drawing.ensures.sent c.in_ok-send_drawing.ensures.works c.flush.ensures

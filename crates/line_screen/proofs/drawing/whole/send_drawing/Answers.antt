@@ -1,0 +1,21 @@
+-- What is shown, and then the way to the cursor.
+use Rattle.line_screen.specs.Drawing.{shown_text, move_bytes}
+use Rattle.line_screen.specs.Measure.{cluster_width}
+use Rattle.line_screen.proofs.Sendings.{sends_then, sends_cut}
+use Rattle.line_screen.proofs.drawing.whole.send_drawing.Goals as goal
+
+pub returns-in_err-send_shown : goal.returns-in_err-send_shown
+returns-in_err-send_shown g c =
+    let columns = c.args.grid.columns in
+    let texts = c.args.texts in
+    sends_cut g.D.Sink.told g.D.Sink.held g.D.Sink.has_failed _
+    (shown_text columns (cluster_width c.args.grid.mode columns) texts.prompt.now texts.line.now texts.info.now) (move_bytes c.args.end c.args.cursor)
+    c.from_residual.ensures.1 c.in_err-send_shown.ensures.err c.in_err-send_shown.ensures.begins
+
+pub returns : goal.returns
+returns g c =
+    let columns = c.args.grid.columns in
+    let texts = c.args.texts in
+    sends_then g.D.Sink.told g.D.Sink.held g.D.Sink.has_failed
+    (shown_text columns (cluster_width c.args.grid.mode columns) texts.prompt.now texts.line.now texts.info.now) (move_bytes c.args.end c.args.cursor)
+    c.in_ok-send_shown.ensures.sent c.in_ok-send_shown.ensures.works c.send_move.ensures
