@@ -2,13 +2,13 @@
 use Rattle.std.proofs.Common.{◌≡◌, ℕ, Bool, true, false, List, [], ◌∷◌, ◌++◌, inl, inr, refl, sym, ap, ◌∙◌, subst, append-nil, IsTrue, Result, Ok, Err, IfErr}
 use Rattle.line_config.specs.declared.errors.ReadlineError.{ReadlineError}
 use Rattle.line_config.specs.declared.errors.ReadlineError.TheVariants.{Display, Lines, Memory}
-use Rattle.line_config.specs.Sending.{Takes, TakesSome}
+use Rattle.line_config.specs.Sending.{Takes, TakesSome, Sends}
 use Rattle.line_config.proofs.Taking.{takes_none, taken_of}
 use Rattle.line_editor.specs.Courses.{breaks_after}
 use Rattle.line_help.specs.History.{Filed}
 use Rattle.line_keys.specs.Coming.{made_of}
 use Rattle.line_screen.specs.Drawing.{row_break, break_if}
-use Rattle.keyline.specs.Closing.{Closes, CloseReason, WritesLine, work}
+use Rattle.keyline.specs.Closing.{Closes, CloseReason, work}
 use Rattle.keyline.specs.Deeds.{Draws, Keeps, Writes, accept_deeds}
 use Rattle.keyline.specs.Playing.{Work, CutsBy}
 use Rattle.keyline.specs.Sessions.{breaks, remembered, line_text}
@@ -93,9 +93,9 @@ module _ {D L : Type 0} (shows : D → Bool) (shown : D → List ℕ) (show_fail
   -- the line's text and newline were written, or torn
   pub closes_written : (adds : Bool) (text : List ℕ) (d d' : D) (l l' : L) (h h' : Filed) (result : Result (Unit {0}) ReadlineError)
       → Takes shows shown d d' row_break → h' ≡ remembered adds (text ∷ []) h
-      → WritesLine writes written_in write_failed (line_text text) l l' result
+      → Sends writes written_in write_failed (line_text text) l l' result → IfErr result (λ e. e ≡ Lines)
       → Ends adds (Ok text) (work d l h) (work d' l' h') result
-  closes_written adds text d d' l l' h h' (Ok u) drawn kept wrote = record {
+  closes_written adds text d d' l l' h h' (Ok u) drawn kept wrote named = record {
     goes = inl (record {
       result_is = refl;
       history_is = kept;
@@ -105,27 +105,27 @@ module _ {D L : Type 0} (shows : D → Bool) (shown : D → List ℕ) (show_fail
     stays = tt;
     reason = tt;
   }
-  closes_written adds text d d' l l' h h' (Err e) drawn kept wrote =
-      let torn = taken_of writes written_in l l' (line_text text) wrote.torn in
+  closes_written adds text d d' l l' h h' (Err e) drawn kept wrote named =
+      let torn = taken_of writes written_in l l' (line_text text) wrote.begins in
       record {
         goes = inr (λ coming. record {
           fault = e;
           result_is = refl;
           goes = record {
-            cut = let P : ReadlineError → Type 0 = CutsBy in subst P (sym wrote.fault.0) tt;
+            cut = let P : ReadlineError → Type 0 = CutsBy in subst P (sym named) tt;
             done = Draws row_break ∷ Keeps text ∷ [];
             next = Writes text ∷ [];
             first = refl;
             begun = [];
             torn = torn.0;
-            stops = inr (inr (inl (wrote.fault.0, refl, refl, (torn.1, torn.2))));
+            stops = inr (inr (inl (named, refl, refl, (torn.1, torn.2))));
             drawn = subst (Takes shows shown d d') (sym (append-nil (row_break ++ []) ∙ append-nil row_break)) drawn;
             wrote = torn.3;
             history_is = kept;
           };
         });
         stays = tt;
-        reason = inr (inr (inl (wrote.fault.0, wrote.fault.1)));
+        reason = inr (inr (inl (named, wrote.err)));
       }
 
   -- no line was accepted

@@ -1,8 +1,7 @@
 -- What the end of a line makes of a session's devices and history.
-use Rattle.std.specs.Prelude.{◌≡◌, ◌⊎◌, ℕ, Bool, false, List, Result, Err, IsTrue, IfErr, OnOk, OnErr}
+use Rattle.std.specs.Prelude.{◌≡◌, ◌⊎◌, ℕ, Bool, false, List, Result, Err, IsTrue, IfErr}
 use Rattle.line_config.specs.declared.errors.ReadlineError.{ReadlineError}
 use Rattle.line_config.specs.declared.errors.ReadlineError.TheVariants.{Display, Lines, Memory}
-use Rattle.line_config.specs.Sending.{Takes, TakesSome}
 use Rattle.line_editor.specs.Courses.{breaks_after}
 use Rattle.line_help.specs.History.{Filed}
 use Rattle.line_keys.specs.Coming.{Coming}
@@ -13,13 +12,6 @@ use Rattle.keyline.specs.Sessions.{breaks}
 
 abbrev pub work : {D L : Type 0} → D → L → Filed → Work D L
 work display lines history = record { display = display; lines = lines; history = history }
-
--- a line's text was written; or the sink has failed, and has taken a beginning of it
-pub record WritesLine {L A : Type 0} (told : L → Bool) (held : L → List ℕ) (failed : L → Bool)
-    (bytes : List ℕ) (old new : L) (result : Result A ReadlineError) : Type 0 where
-  pub sent : OnOk result (Takes told held old new bytes)
-  pub torn : OnErr result (TakesSome told held old new bytes)
-  pub fault : IfErr result (λ e. (e ≡ Lines) × IsTrue (failed new))
 
 -- why the end of a line is refused: as the line was, or by a device that has failed
 abbrev pub CloseReason : {A : Type 0} → Result A ReadlineError → Bool → Bool → Bool

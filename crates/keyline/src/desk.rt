@@ -1,12 +1,12 @@
 //! Lines, one after the other: read, drawn, kept and written.
 
 ghost use Rattle.std.specs.Prelude.{◌≡◌, ◌++◌, ◌∷◌, [], IfErr, OnOk, OnErr, string_bytes, Ok};
-ghost use Rattle.line_config.specs.declared.errors.ReadlineError.TheVariants.{Memory};
+ghost use Rattle.line_config.specs.declared.errors.ReadlineError.TheVariants.{Lines, Memory};
 ghost use Rattle.line_config.specs.Sending.{Sends};
 ghost use Rattle.line_editor.specs.Courses.{breaks_after};
 ghost use Rattle.line_keys.specs.Coming.{made_of};
 ghost use Rattle.line_screen.specs.Calls.{screen_of, sink_of};
-ghost use Rattle.keyline.specs.Closing.{Closes, WritesLine, work};
+ghost use Rattle.keyline.specs.Closing.{Closes, work};
 ghost use Rattle.keyline.specs.Sessions.{given_by, line_text, remembered};
 
 use line_config::{Config, DeviceFailed, ReadlineError, Sink, Source};
@@ -30,8 +30,9 @@ fn send_line<L: Sink>(lines: &mut L, text: &str) -> Result<(), DeviceFailed>
 
 /// The same, with the refusal of lines.
 fn write_line<L: Sink>(lines: &mut L, text: &str) -> Result<(), ReadlineError>
-    ensures { WritesLine L.told L.held L.has_failed (line_text text.now) lines.old lines.new
+    ensures sends { Sends L.told L.held L.has_failed (line_text text.now) lines.old lines.new
         result }
+    ensures fault { IfErr result (λ e. e ≡ Lines) }
 {
     match send_line(lines, text) {
         Ok(()) => Ok(()),

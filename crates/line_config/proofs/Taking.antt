@@ -1,7 +1,7 @@
 -- What calls of a sink take, one after the other, and where one of them is refused.
 use Rattle.std.proofs.Common.{◌≡◌, ℕ, Bool, true, false, List, [], ◌++◌, Result, Ok, Err, IsTrue, refl, sym, ap, ◌∙◌, subst, append-nil, append_assoc}
-use Rattle.std.specs.Result.{OnErr}
-use Rattle.line_config.specs.Sending.{Takes, TakesSome, AppendsSome}
+use Rattle.std.specs.Result.{OnErr, IsErrAnd}
+use Rattle.line_config.specs.Sending.{Takes, TakesSome, AppendsSome, Sends}
 
 pub takes_none : {D : Type 0} (told : D → Bool) (held : D → List ℕ) (a b : D) → b ≡ a → Takes told held a b []
 takes_none told held a b same t = (rw same t, ap held same ∙ sym (append-nil (held a)))
@@ -76,3 +76,52 @@ taken_of told held a b bytes some = split_some (told a) (told b) (held a) bytes 
 pub on_err : {T E P : Type 0} (r : Result T E) → P → OnErr r P
 on_err (Ok x) p = tt
 on_err (Err e) p = p
+
+-- ---- calls that make others
+
+module _ {D : Type 0} (told : D → Bool) (held : D → List ℕ) (failed : D → Bool) where
+  -- a call was answered, and the next one sends what is left
+  pub sends_then : {A E : Type 0} (xs ys : List ℕ) {a b c : D} {r : Result A E}
+      → Takes told held a b xs → failed b ≡ failed a → Sends told held failed ys b c r → Sends told held failed (xs ++ ys) a c r
+  sends_then xs ys {a = a} {b = b} {c = c} {r = Ok x} took works s = record { sent = takes_then told held a b c xs ys took s.sent; works = s.works ∙ works; err = tt; begins = tt }
+  sends_then xs ys {a = a} {b = b} {c = c} {r = Err e} took works s = record { sent = tt; works = tt; err = s.err; begins = some_then told held a b c xs ys took s.begins }
+
+  -- a call was refused, and that is the end
+  pub sends_refused : {A E : Type 0} (Q : E → Type 0) (bytes : List ℕ) {a b : D} {r : Result A E}
+      → IsErrAnd r Q → IsTrue (failed b) → TakesSome told held a b bytes → Sends told held failed bytes a b r
+  sends_refused Q bytes {a = a} {b = b} {r = Ok x} refused fails some = absurd refused
+  sends_refused Q bytes {a = a} {b = b} {r = Err e} refused fails some = record { sent = tt; works = tt; err = fails; begins = some }
+
+  pub sends_cut : {A E : Type 0} (Q : E → Type 0) (xs ys : List ℕ) {a b : D} {r : Result A E}
+      → IsErrAnd r Q → IsTrue (failed b) → TakesSome told held a b xs → Sends told held failed (xs ++ ys) a b r
+  sends_cut Q xs ys {a = a} {b = b} refused fails some = sends_refused Q (xs ++ ys) refused fails (some_of_more told held a b xs ys some)
+
+  -- what was sent is passed on
+  pub sends_flushed : {A E : Type 0} (xs : List ℕ) {a b c : D} {r : Result A E}
+      → Takes told held a b xs → failed b ≡ failed a → Sends told held failed [] b c r → Sends told held failed xs a c r
+  sends_flushed xs {a = a} {b = b} {c = c} {r = r} took works s = subst (λ bytes. Sends told held failed bytes a c r) (append-nil xs) (sends_then xs [] took works s)
+
+  -- ---- piece after piece: of all of it this is still to be sent
+  pub record Underway (all rest : List ℕ) (old new : D) : Type 0 where
+    pub done : List ℕ
+    pub split : all ≡ done ++ rest
+    pub taken : Takes told held old new done
+    pub works : failed new ≡ failed old
+
+  pub underway_start : (all : List ℕ) (a : D) → Underway all all a a
+  underway_start all a = record { done = []; split = refl; taken = takes_none told held a a refl; works = refl }
+
+  pub underway_on : (all piece rest : List ℕ) {a b c : D} → Underway all (piece ++ rest) a b → Takes told held b c piece → failed c ≡ failed b → Underway all rest a c
+  underway_on all piece rest {a = a} {b = b} {c = c} u took works = record {
+    done = u.done ++ piece;
+    split = u.split ∙ sym (append_assoc u.done piece rest);
+    taken = takes_then told held a b c u.done piece u.taken took;
+    works = works ∙ u.works;
+  }
+
+  pub underway_some : (all piece rest : List ℕ) {a b c : D} → Underway all (piece ++ rest) a b → TakesSome told held b c piece → TakesSome told held a c all
+  underway_some all piece rest {a = a} {b = b} {c = c} u some =
+      subst (TakesSome told held a c) (sym u.split) (some_then told held a b c u.done (piece ++ rest) u.taken (some_of_more told held b c piece rest some))
+
+  pub underway_end : (all : List ℕ) {a b : D} → Underway all [] a b → Takes told held a b all
+  underway_end all {a = a} {b = b} u = subst (Takes told held a b) (sym (u.split ∙ append-nil u.done)) u.taken

@@ -1,6 +1,5 @@
 -- What calls do to a sink.
 use Rattle.std.specs.Prelude.{◌≡◌, ℕ, Bool, List, ◌++◌, IsTrue, Result, OnOk, OnErr}
-use Rattle.line_config.specs.declared.device.DeviceFailed.{DeviceFailed}
 
 -- a told sink stays told, and has taken these bytes after what it held
 abbrev pub Takes : {D : Type 0} → (D → Bool) → (D → List ℕ) → D → D → List ℕ → Type 0
@@ -19,11 +18,10 @@ abbrev pub TakesSome : {D : Type 0} → (D → Bool) → (D → List ℕ) → D 
 TakesSome told held old new bytes = IsTrue (told old) → IsTrue (told new)
     × AppendsSome (held old) bytes (held new)
 
--- a call that is answered has sent these bytes, and the sink works as before; one that is refused
--- says so because the sink has failed, and has sent a beginning of them
-pub record Sends {D A : Type 0} (told : D → Bool) (held : D → List ℕ) (failed : D → Bool)
-    (bytes : List ℕ)
-    (old new : D) (result : Result A DeviceFailed) : Type 0 where
+-- a call that is answered has sent these bytes, and the sink works as before; one that is refused,
+-- by whatever name, is so because the sink has failed, and has sent a beginning of them
+pub record Sends {D A E : Type 0} (told : D → Bool) (held : D → List ℕ) (failed : D → Bool)
+    (bytes : List ℕ) (old new : D) (result : Result A E) : Type 0 where
   pub sent : OnOk result (Takes told held old new bytes)
   pub works : OnOk result (failed new ≡ failed old)
   pub err : OnErr result (IsTrue (failed new))

@@ -1,6 +1,6 @@
 //! Escapes in a saved history: a newline stands as `\n`, a backslash as two.
-ghost use Rattle.std.specs.Prelude.{◌≡◌, ◌++◌, is_err, IsTrue, IfOk, IfErr, OnOk, OnErr, option_map, string_bytes};
-ghost use Rattle.line_config.specs.Sending.{AppendsSome};
+ghost use Rattle.std.specs.Prelude.{◌≡◌, [], IfOk, IfErr, option_map, string_bytes};
+ghost use Rattle.line_config.specs.Sending.{Sends};
 ghost use Rattle.line_config.specs.declared.errors.ReadlineError.TheVariants.{HistoryText};
 ghost use Rattle.line_help.specs.HistoryText.{escaped_byte, row_of, unescaped_row, entry_of};
 
@@ -9,26 +9,24 @@ use std::alloc::{AllocError, Global};
 
 /// Writes some bytes of a history's text.
 pub(crate) fn put<S: Sink>(sink: &mut S, bytes: &[u8]) -> Result<(), ReadlineError>
-    ensures text { IsTrue (S.told sink.old)
-        → OnOk result (S.held sink.new ≡ S.held sink.old ++ bytes.now) }
-    ensures begins { IsTrue (S.told sink.old)
-        → OnErr result (AppendsSome (S.held sink.old) bytes.now (S.held sink.new)) }
-    ensures told { IsTrue (S.told sink.old) → IsTrue (S.told sink.new) }
-    ensures error { IfErr result (λ e. e ≡ HistoryText) }
-    ensures failure { S.has_failed sink.new ≡ is_err result }
+    ensures sends { Sends S.told S.held S.has_failed bytes.now sink.old sink.new result }
+    ensures fault { IfErr result (λ e. e ≡ HistoryText) }
 {
     sink.write(bytes).map_err(|_| ReadlineError::HistoryText)
 }
 
+/// Passes on what was written.
+pub(crate) fn pass_on<S: Sink>(sink: &mut S) -> Result<(), ReadlineError>
+    ensures sends { Sends S.told S.held S.has_failed [] sink.old sink.new result }
+    ensures fault { IfErr result (λ e. e ≡ HistoryText) }
+{
+    sink.flush().map_err(|_| ReadlineError::HistoryText)
+}
+
 /// Writes a byte of an entry: a newline and a backslash as two.
 fn put_escaped<S: Sink>(sink: &mut S, byte: u8) -> Result<(), ReadlineError>
-    ensures text { IsTrue (S.told sink.old)
-        → OnOk result (S.held sink.new ≡ S.held sink.old ++ escaped_byte byte) }
-    ensures begins { IsTrue (S.told sink.old)
-        → OnErr result (AppendsSome (S.held sink.old) (escaped_byte byte) (S.held sink.new)) }
-    ensures told { IsTrue (S.told sink.old) → IsTrue (S.told sink.new) }
-    ensures error { IfErr result (λ e. e ≡ HistoryText) }
-    ensures failure { S.has_failed sink.new ≡ is_err result }
+    ensures sends { Sends S.told S.held S.has_failed (escaped_byte byte) sink.old sink.new result }
+    ensures fault { IfErr result (λ e. e ≡ HistoryText) }
 {
     match byte {
         b'\n' => put(sink, b"\\n"),
@@ -39,13 +37,8 @@ fn put_escaped<S: Sink>(sink: &mut S, byte: u8) -> Result<(), ReadlineError>
 
 /// Writes an entry as a row, which a newline closes.
 pub(crate) fn write_row<S: Sink>(sink: &mut S, entry: &str) -> Result<(), ReadlineError>
-    ensures text { IsTrue (S.told sink.old)
-        → OnOk result (S.held sink.new ≡ S.held sink.old ++ row_of entry.now) }
-    ensures begins { IsTrue (S.told sink.old)
-        → OnErr result (AppendsSome (S.held sink.old) (row_of entry.now) (S.held sink.new)) }
-    ensures told { IsTrue (S.told sink.old) → IsTrue (S.told sink.new) }
-    ensures error { IfErr result (λ e. e ≡ HistoryText) }
-    ensures failure { S.has_failed sink.new ≡ is_err result }
+    ensures sends { Sends S.told S.held S.has_failed (row_of entry.now) sink.old sink.new result }
+    ensures fault { IfErr result (λ e. e ≡ HistoryText) }
 {
     let bytes = entry.as_bytes();
     for byte in bytes {

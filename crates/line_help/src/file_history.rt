@@ -1,6 +1,6 @@
 //! A history that is loaded and saved.
 
-use crate::escapes::{entry_of, put, write_row};
+use crate::escapes::{entry_of, pass_on, put, write_row};
 use crate::history::History;
 use crate::history_iter::HistoryIter;
 use crate::memory_history::MemHistory;
@@ -71,44 +71,32 @@ impl FileHistory {
 
 // Saving.
 impl FileHistory {
-    ghost use Rattle.std.specs.Prelude.{◌≡◌, ◌++◌, ◌≤◌, length, drop, is_err, IsTrue, IfErr, OnOk, OnErr};
+    ghost use Rattle.std.specs.Prelude.{◌≡◌, drop, IfErr, OnOk, OnErr};
     ghost use Rattle.line_config.specs.declared.errors.ReadlineError.TheVariants.{HistoryText};
-    ghost use Rattle.line_config.specs.Sending.{AppendsSome};
+    ghost use Rattle.line_config.specs.Sending.{Sends};
     ghost use Rattle.line_help.specs.History.{all_saved};
     ghost use Rattle.line_help.specs.HistoryText.{rows_text, text_to_save, text_to_append};
 
     /// Writes the rows of the entries from the first one on, and passes on what was written.
     fn write_rows<S: Sink>(&self, sink: &mut S, first: usize) -> Result<(), ReadlineError>
-        ensures text { IsTrue (S.told sink.old)
-            → OnOk result (S.held sink.new
-            ≡ S.held sink.old ++ rows_text (drop first self.now.kept.entries)) }
-        ensures begins { IsTrue (S.told sink.old)
-            → OnErr result (AppendsSome (S.held sink.old)
-            (rows_text (drop first self.now.kept.entries)) (S.held sink.new)) }
-        ensures told { IsTrue (S.told sink.old) → IsTrue (S.told sink.new) }
-        ensures error { IfErr result (λ e. e ≡ HistoryText) }
-        ensures failure { S.has_failed sink.new ≡ is_err result }
+        ensures sends { Sends S.told S.held S.has_failed
+            (rows_text (drop first self.now.kept.entries)) sink.old sink.new result }
+        ensures fault { IfErr result (λ e. e ≡ HistoryText) }
     {
         for index in first..self.memory.len() {
             write_row(sink, self.memory[index].as_str())?;
         }
-        sink.flush().map_err(|_| ReadlineError::HistoryText)
+        pass_on(sink)
     }
 
     /// Writes the whole text of the history, where an entry is new. Then none is new. Where the
     /// sink fails the history stays as it is, and the sink has taken a beginning of the text.
     pub fn save_to<S: Sink>(&mut self, sink: &mut S) -> Result<(), ReadlineError>
-        ensures text { IsTrue (S.told sink.old)
-            → OnOk result (S.held sink.new ≡ S.held sink.old ++ text_to_save self.old) }
-        ensures begins { IsTrue (S.told sink.old)
-            → OnErr result (AppendsSome (S.held sink.old) (text_to_save self.old)
-            (S.held sink.new)) }
-        ensures told { IsTrue (S.told sink.old) → IsTrue (S.told sink.new) }
+        ensures sends { Sends S.told S.held S.has_failed (text_to_save self.old) sink.old sink.new
+            result }
         ensures saved { OnOk result (self.new ≡ all_saved self.old) }
         ensures kept { OnErr result (self.new ≡ self.old) }
-        ensures error { IfErr result (λ e. (e ≡ HistoryText) × IsTrue (S.has_failed sink.new)) }
-        ensures fine { OnOk result
-            (IsTrue (S.has_failed sink.new) → IsTrue (S.has_failed sink.old)) }
+        ensures fault { IfErr result (λ e. e ≡ HistoryText) }
     {
         if self.unsaved == 0 {
             return Ok(());
@@ -123,17 +111,11 @@ impl FileHistory {
     /// before. Then none is new. Where the sink fails the history stays as it is, and the sink has
     /// taken a beginning of the rows.
     pub fn append_to<S: Sink>(&mut self, sink: &mut S) -> Result<(), ReadlineError>
-        ensures text { IsTrue (S.told sink.old)
-            → OnOk result (S.held sink.new ≡ S.held sink.old ++ text_to_append self.old) }
-        ensures begins { IsTrue (S.told sink.old)
-            → OnErr result (AppendsSome (S.held sink.old) (text_to_append self.old)
-            (S.held sink.new)) }
-        ensures told { IsTrue (S.told sink.old) → IsTrue (S.told sink.new) }
+        ensures sends { Sends S.told S.held S.has_failed (text_to_append self.old) sink.old sink.new
+            result }
         ensures saved { OnOk result (self.new ≡ all_saved self.old) }
         ensures kept { OnErr result (self.new ≡ self.old) }
-        ensures error { IfErr result (λ e. (e ≡ HistoryText) × IsTrue (S.has_failed sink.new)) }
-        ensures fine { OnOk result
-            (IsTrue (S.has_failed sink.new) → IsTrue (S.has_failed sink.old)) }
+        ensures fault { IfErr result (λ e. e ≡ HistoryText) }
     {
         let count = self.unsaved;
         if count == 0 {
@@ -163,7 +145,7 @@ impl History for FileHistory {
             ≡ not (ignored self.old.kept.settings self.old.kept.entries line.now)) }
         ensures added { OnOk result (self.new ≡ filed_with self.old line.now) }
         ensures kept { OnErr result (self.new ≡ self.old) }
-        ensures error { IfErr result (λ e. e ≡ Memory) }
+        ensures fault { IfErr result (λ e. e ≡ Memory) }
     {
         let added = self.memory.add(alloc, line)?;
         if added {
@@ -177,7 +159,7 @@ impl History for FileHistory {
             ≡ not (ignored self.old.kept.settings self.old.kept.entries (string_bytes line))) }
         ensures added { OnOk result (self.new ≡ filed_with self.old (string_bytes line)) }
         ensures kept { OnErr result (self.new ≡ self.old) }
-        ensures error { IfErr result (λ e. e ≡ Memory) }
+        ensures fault { IfErr result (λ e. e ≡ Memory) }
     {
         let added = self.memory.add_owned(alloc, line)?;
         if added {
@@ -288,7 +270,7 @@ impl FileHistory {
         ensures text { OnOk result (is_utf8 row.now ≡ true) }
         ensures bad { result ≡ Err HistoryText → is_utf8 row.now ≡ false }
         ensures kept { OnErr result (self.new ≡ self.old) }
-        ensures error { IfErr result (λ e. (e ≡ Memory) ⊎ (e ≡ HistoryText)) }
+        ensures fault { IfErr result (λ e. (e ≡ Memory) ⊎ (e ≡ HistoryText)) }
     {
         if row.is_empty() {
             return Ok(true);
@@ -306,7 +288,7 @@ impl FileHistory {
         ensures text { OnOk result (is_utf8 row.now ≡ true) }
         ensures bad { result ≡ Err HistoryText → is_utf8 row.now ≡ false }
         ensures kept { OnErr result (self.new ≡ self.old) }
-        ensures error { IfErr result (λ e. (e ≡ Memory) ⊎ (e ≡ HistoryText)) }
+        ensures fault { IfErr result (λ e. (e ≡ Memory) ⊎ (e ≡ HistoryText)) }
     {
         if row == b"#V2".as_slice() {
             return Ok(true);
@@ -337,7 +319,7 @@ impl FileHistory {
             → AddsSome (entries_of escapes
             (good_rows (text_rows (S.feed source.old).last (S.feed source.old).coming))) self.old
             self.new }
-        ensures error { IfErr result (λ e. (e ≡ Memory) ⊎ ((e ≡ HistoryText) ⊎ (e ≡ Reader))) }
+        ensures fault { IfErr result (λ e. (e ≡ Memory) ⊎ ((e ≡ HistoryText) ⊎ (e ≡ Reader))) }
         ensures failure { (S.feed source.new).failed ≡ says_reader result }
         ensures told { IsTrue (S.feed source.old).told → IsTrue (S.feed source.new).told }
         ensures steady { (S.feed source.new).steady ≡ (S.feed source.old).steady }
@@ -375,7 +357,7 @@ impl FileHistory {
             → OnErr result (AddsSome (texts_of
             (good_rows (text_rows (S.feed source.old).last (S.feed source.old).coming))) self.old
             self.new) }
-        ensures error { IfErr result (λ e. (e ≡ Memory) ⊎ ((e ≡ HistoryText) ⊎ (e ≡ Reader))) }
+        ensures fault { IfErr result (λ e. (e ≡ Memory) ⊎ ((e ≡ HistoryText) ⊎ (e ≡ Reader))) }
         ensures failure { (S.feed source.new).failed ≡ says_reader result }
         ensures told { IsTrue (S.feed source.old).told → IsTrue (S.feed source.new).told }
         ensures steady { (S.feed source.new).steady ≡ (S.feed source.old).steady }

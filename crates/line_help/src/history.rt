@@ -30,7 +30,7 @@ pub trait History: Drop {
             ≡ added (settings self.old) (entries self.old) line.now) }
         ensures kept { OnErr result (entries self.new ≡ entries self.old) }
         ensures settings { settings self.new ≡ settings self.old }
-        ensures error { IfErr result (λ e. e ≡ Memory) };
+        ensures fault { IfErr result (λ e. e ≡ Memory) };
 
     /// The same for a line that is handed over, whose text isn't copied.
     fn add_owned(&mut self, alloc: Global, line: String) -> Result<bool, ReadlineError>
@@ -40,7 +40,7 @@ pub trait History: Drop {
             ≡ added (settings self.old) (entries self.old) (string_bytes line)) }
         ensures kept { OnErr result (entries self.new ≡ entries self.old) }
         ensures settings { settings self.new ≡ settings self.old }
-        ensures error { IfErr result (λ e. e ≡ Memory) };
+        ensures fault { IfErr result (λ e. e ≡ Memory) };
 
     /// How many entries there are.
     fn len(&self) -> usize

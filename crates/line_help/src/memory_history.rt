@@ -97,7 +97,7 @@ impl MemHistory {
         requires { 0 < self.old.settings.max_len }
         ensures entries { OnOk result (self.new ≡ entries_with self.old entry) }
         ensures kept { OnErr result (self.new ≡ self.old) }
-        ensures error { IfErr result (λ e. e ≡ Memory) }
+        ensures fault { IfErr result (λ e. e ≡ Memory) }
     {
         self.entries.push_back(entry)?;
         if self.entries.len() > self.max_len {

@@ -26,7 +26,7 @@ fn next_byte<S: Source>(source: &mut S) -> Result<Option<u8>, ReadlineError>
     ensures cut { IsTrue (S.feed source.old).told → IsTrue (S.feed source.old).steady
         → result ≡ Err Reader
         → ((S.feed source.old).coming ≡ []) × ((S.feed source.old).last ≡ Failed) }
-    ensures error { IfErr result (λ e. e ≡ Reader) }
+    ensures fault { IfErr result (λ e. e ≡ Reader) }
     ensures failure { (S.feed source.new).failed ≡ is_err result }
     ensures told { IsTrue (S.feed source.old).told → IsTrue (S.feed source.new).told }
     ensures steady { (S.feed source.new).steady ≡ (S.feed source.old).steady }
@@ -52,7 +52,7 @@ pub(crate) fn read_row<S: Source>(source: &mut S, row: &mut Vec<u8>) -> Result<b
         → result ≡ Err Reader
         → ((S.feed source.old).last ≡ Failed)
         × (text_rows (S.feed source.old).last (S.feed source.old).coming ≡ []) }
-    ensures error { IfErr result (λ e. (e ≡ Memory) ⊎ (e ≡ Reader)) }
+    ensures fault { IfErr result (λ e. (e ≡ Memory) ⊎ (e ≡ Reader)) }
     ensures failure { (S.feed source.new).failed ≡ says_reader result }
     ensures told { IsTrue (S.feed source.old).told → IsTrue (S.feed source.new).told }
     ensures steady { (S.feed source.new).steady ≡ (S.feed source.old).steady }

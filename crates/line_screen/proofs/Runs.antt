@@ -6,7 +6,7 @@ use Rattle.line_screen.specs.Drawing.DrawnItem.{Letter}
 use Rattle.std.specs.Result.{IsErrAnd}
 use Rattle.line_config.specs.declared.device.DeviceFailed.{DeviceFailed}
 use Rattle.line_config.specs.Sending.{Takes, TakesSome}
-use Rattle.line_config.proofs.Taking.{some_of_more, some_then}
+use Rattle.line_config.proofs.Taking.{Underway, underway_start, underway_on, underway_some, underway_end, sends_refused}
 use Rattle.line_screen.specs.Sending.{SendsItems}
 
 pub sent-append : (columns : ℕ) (xs ys : List DrawnItem) (col : ℕ) → sent columns (xs ++ ys) col ≡ sent columns xs col ++ sent columns ys (col_after columns xs col)
@@ -66,39 +66,34 @@ col_after_run columns letters col low room = (run_of columns letters col low roo
 -- ---- a loop that sends items: what is sent, and what is left
 
 pub record SoFar {D : Type 0} (told : D → Bool) (held : D → List ℕ) (failed : D → Bool) (columns start : ℕ) (all left : List DrawnItem) (old new : D) (col : ℕ) : Type 0 where
-  pub bytes : List ℕ
-  pub taken : Takes told held old new bytes
-  pub works : failed new ≡ failed old
-  pub rest : bytes ++ sent columns left col ≡ sent columns all start
+  pub sending : Underway told held failed (sent columns all start) (sent columns left col) old new
   pub column : col_after columns left col ≡ col_after columns all start
   pub inside : col < columns
 
 module _ {D : Type 0} (told : D → Bool) (held : D → List ℕ) (failed : D → Bool) (columns start : ℕ) where
   pub so_far_start : (all : List DrawnItem) (s : D) → start < columns → SoFar told held failed columns start all all s s start
-  so_far_start all s h = record { bytes = []; taken = λ t. (t, sym (append-nil (held s))); works = refl; rest = refl; column = refl; inside = h }
+  so_far_start all s h = record { sending = underway_start told held failed (sent columns all start) s; column = refl; inside = h }
+
+  -- these items are next, and the others are left then
+  next_items : (all items left before : List DrawnItem) (old new : D) (col next : ℕ) → SoFar told held failed columns start all before old new col → before ≡ items ++ left → next ≡ col_after columns items col
+      → Underway told held failed (sent columns all start) (sent columns items col ++ sent columns left next) old new
+  next_items all items left before old new col next h split next_is =
+      let Rest : List ℕ → Type 0 = λ rest. Underway told held failed (sent columns all start) rest old new in
+      subst Rest (ap (λ is. sent columns is col) split ∙ sent-append columns items left col ∙ ap (λ n. sent columns items col ++ sent columns left n) (sym next_is)) h.sending
 
   pub so_far_steps : (all items left before : List DrawnItem) (old new newer : D) (col next : ℕ) → SoFar told held failed columns start all before old new col → before ≡ items ++ left
       → Takes told held new newer (sent columns items col) → failed newer ≡ failed new → next ≡ col_after columns items col → next < columns
       → SoFar told held failed columns start all left old newer next
-  so_far_steps all items left before old new newer col next h split sent_more works next_is inside =
-      record {
-        bytes = h.bytes ++ sent columns items col;
-        taken = λ t. let first = h.taken t in let second = sent_more first.0 in
-            (second.0, second.1 ∙ ap (λ bs. bs ++ sent columns items col) first.1 ∙ append_assoc (held old) h.bytes (sent columns items col));
-        works = works ∙ h.works;
-        rest = ap (λ n. (h.bytes ++ sent columns items col) ++ sent columns left n) next_is
-            ∙ append_assoc h.bytes (sent columns items col) (sent columns left (col_after columns items col))
-            ∙ ap (λ bs. h.bytes ++ bs) (sym (sent-append columns items left col) ∙ ap (λ is. sent columns is col) (sym split))
-            ∙ h.rest;
-        column = ap (col_after columns left) next_is ∙ sym (col_after-append columns items left col) ∙ ap (λ is. col_after columns is col) (sym split) ∙ h.column;
-        inside = inside;
-      }
+  so_far_steps all items left before old new newer col next h split sent_more works next_is inside = record {
+    sending = underway_on told held failed (sent columns all start) (sent columns items col) (sent columns left next) (next_items all items left before old new col next h split next_is) sent_more works;
+    column = ap (col_after columns left) next_is ∙ sym (col_after-append columns items left col) ∙ ap (λ is. col_after columns is col) (sym split) ∙ h.column;
+    inside = inside;
+  }
 
   pub so_far_end : (all left : List DrawnItem) (old new : D) (col : ℕ) → SoFar told held failed columns start all left old new col → left ≡ [] → Takes told held old new (sent columns all start)
-  so_far_end all left old new col h none t =
-      let end = h.taken t in
-      let whole : h.bytes ≡ sent columns all start = sym (append-nil h.bytes) ∙ ap (λ is. h.bytes ++ sent columns is col) (sym none) ∙ h.rest in
-      (end.0, end.1 ∙ ap (λ bs. held old ++ bs) whole)
+  so_far_end all left old new col h none =
+      let Left : List DrawnItem → Type 0 = λ is. Underway told held failed (sent columns all start) (sent columns is col) old new in
+      underway_end told held failed (sent columns all start) (subst Left none h.sending)
 
   pub so_far_column : (all left : List DrawnItem) (old new : D) (col : ℕ) → SoFar told held failed columns start all left old new col → left ≡ [] → col ≡ col_after columns all start
   so_far_column all left old new col h none = ap (λ is. col_after columns is col) (sym none) ∙ h.column
@@ -116,17 +111,10 @@ module _ {D : Type 0} (told : D → Bool) (held : D → List ℕ) (failed : D �
       → SendsItems all start columns told held failed old newer r
   so_far_cut Q all items left before old new newer col (Ok x) h split refused fails some = absurd refused
   so_far_cut Q all items left before old new newer col (Err e) h split refused fails some =
-      let more = sent columns left (col_after columns items col) in
-      let whole : h.bytes ++ (sent columns items col ++ more) ≡ sent columns all start =
-      ap (λ bs. h.bytes ++ bs) (sym (sent-append columns items left col) ∙ ap (λ is. sent columns is col) (sym split)) ∙ h.rest in
+      let next = col_after columns items col in
       record {
-        sends = record {
-          sent = tt;
-          works = tt;
-          err = fails;
-          begins = subst (TakesSome told held old newer) whole
-              (some_then told held old new newer h.bytes (sent columns items col ++ more) h.taken (some_of_more told held new newer (sent columns items col) more some));
-        };
+        sends = sends_refused told held failed Q (sent columns all start) {r = Err e} refused fails
+            (underway_some told held failed (sent columns all start) (sent columns items col) (sent columns left next) (next_items all items left before old new col next h split refl) some);
         next = tt;
         inside = tt;
       }

@@ -5,28 +5,11 @@ use Rattle.std.specs.Result.{IsErrAnd}
 use Rattle.std.proofs.lemmas.Bool.{ne_eqb}
 use Rattle.line_config.specs.declared.device.DeviceFailed.{DeviceFailed}
 use Rattle.line_config.specs.Sending.{Takes, TakesSome, Sends}
-use Rattle.line_config.proofs.Taking.{takes_then, some_of_more, some_then}
+use Rattle.line_config.proofs.Taking.{sends_then, sends_cut}
 use Rattle.line_screen.specs.Drawing.{control_sequence, no_style}
 use Rattle.line_screen.specs.Sending.{SendsTo}
 
 module _ {D : Type 0} (told : D → Bool) (held : D → List ℕ) (failed : D → Bool) where
-  -- a call was answered, and the next one sends what is left
-  pub sends_then : {A : Type 0} (xs ys : List ℕ) {a b c : D} {r : Result A DeviceFailed}
-      → Takes told held a b xs → failed b ≡ failed a → Sends told held failed ys b c r → Sends told held failed (xs ++ ys) a c r
-  sends_then xs ys {a = a} {b = b} {c = c} {r = Ok x} took works s = record { sent = takes_then told held a b c xs ys took s.sent; works = s.works ∙ works; err = tt; begins = tt }
-  sends_then xs ys {a = a} {b = b} {c = c} {r = Err e} took works s = record { sent = tt; works = tt; err = s.err; begins = some_then told held a b c xs ys took s.begins }
-
-  -- a call was refused, and that is the end
-  pub sends_cut : {A : Type 0} (Q : DeviceFailed → Type 0) (xs ys : List ℕ) {a b : D} {r : Result A DeviceFailed}
-      → IsErrAnd r Q → IsTrue (failed b) → TakesSome told held a b xs → Sends told held failed (xs ++ ys) a b r
-  sends_cut Q xs ys {a = a} {b = b} {r = Ok x} refused fails some = absurd refused
-  sends_cut Q xs ys {a = a} {b = b} {r = Err e} refused fails some = record { sent = tt; works = tt; err = fails; begins = some_of_more told held a b xs ys some }
-
-  -- what was sent is passed on
-  pub sends_flushed : {A : Type 0} (xs : List ℕ) {a b c : D} {r : Result A DeviceFailed}
-      → Takes told held a b xs → failed b ≡ failed a → Sends told held failed [] b c r → Sends told held failed xs a c r
-  sends_flushed xs {a = a} {b = b} {c = c} {r = r} took works s = subst (λ bytes. Sends told held failed bytes a c r) (append-nil xs) (sends_then xs [] took works s)
-
   -- a sequence whose number isn't 0
   pub sends_control : {A : Type 0} (count final : ℕ) {a b : D} {r : Result A DeviceFailed}
       → (count ≡ 0 → ⊥) → Sends told held failed (0x1B ∷ 0x5B ∷ (decimal count ++ final ∷ [])) a b r → Sends told held failed (control_sequence count final) a b r
@@ -37,12 +20,12 @@ module _ {D : Type 0} (told : D → Bool) (held : D → List ℕ) (failed : D �
   -- the same, where a column is answered
   pub sends_to_then : (column columns : ℕ) (xs ys : List ℕ) {a b c : D} {r : Result ℕ DeviceFailed}
       → Takes told held a b xs → failed b ≡ failed a → SendsTo ys column columns told held failed b c r → SendsTo (xs ++ ys) column columns told held failed a c r
-  sends_to_then column columns xs ys took works s = record { sends = sends_then xs ys took works s.sends; next = s.next; inside = s.inside }
+  sends_to_then column columns xs ys took works s = record { sends = sends_then told held failed xs ys took works s.sends; next = s.next; inside = s.inside }
 
   pub sends_to_cut : (Q : DeviceFailed → Type 0) (column columns : ℕ) (xs ys : List ℕ) {a b : D} {r : Result ℕ DeviceFailed}
       → IsErrAnd r Q → IsTrue (failed b) → TakesSome told held a b xs → SendsTo (xs ++ ys) column columns told held failed a b r
   sends_to_cut Q column columns xs ys {a = a} {b = b} {r = Ok x} refused fails some = absurd refused
-  sends_to_cut Q column columns xs ys {a = a} {b = b} {r = Err e} refused fails some = record { sends = sends_cut Q xs ys {a = a} {b = b} {r = Err e} refused fails some; next = tt; inside = tt }
+  sends_to_cut Q column columns xs ys {a = a} {b = b} {r = Err e} refused fails some = record { sends = sends_cut told held failed Q xs ys {a = a} {b = b} {r = Err e} refused fails some; next = tt; inside = tt }
 
 -- parts that each begin without style, and the end
 pub shown_parts : (prompt line info : List ℕ)

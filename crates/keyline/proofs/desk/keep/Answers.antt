@@ -20,4 +20,4 @@ pub returns-clause-closes : goal.returns-clause-closes
 returns-clause-closes g c =
     closes_written g.D.Sink.told g.D.Sink.held g.D.Sink.has_failed g.L.Sink.told g.L.Sink.held g.L.Sink.has_failed
     c.args.adds c.args.text.now _ _ _ _ _ _ c.write_line.result
-    c.in_ok-write_and_flush.ensures.made.takes c.in_ok-remember.ensures.added c.write_line.ensures
+    c.in_ok-write_and_flush.ensures.made.takes c.in_ok-remember.ensures.added c.write_line.ensures.sends c.write_line.ensures.fault

@@ -1,27 +1,38 @@
--- Where a byte is refused, or the newline behind them, a beginning of the row was sent.
-use Rattle.std.proofs.Common.{◌∷◌, [], subst}
-use Rattle.std.specs.Result.{OnErr}
-use Rattle.std.proofs.lemmas.Result.{on_err_weaker}
-use Rattle.line_config.specs.Sending.{AppendsSome}
-use Rattle.line_config.proofs.Taking.{begins_more, begins_behind, on_err}
+-- The bytes of an entry, and then a newline.
+use Rattle.std.proofs.Common.{◌∷◌, List, ℕ, [], subst}
+use Rattle.line_config.specs.Sending.{Sends}
+use Rattle.line_config.proofs.Taking.{underway_start, sends_then, sends_cut}
 use Rattle.line_help.specs.HistoryText.{escaped_byte, escaped_entry, row_of}
-use Rattle.line_help.proofs.SavingLemmas.{refused_at, all_sent}
+use Rattle.line_help.proofs.SavingLemmas.{piece_sent, piece_refused, pieces_sent}
 use Rattle.line_help.proofs.escapes.write_row.Goals as goal
 
-pub returns-in_err-put_escaped-clause-begins : goal.returns-in_err-put_escaped-clause-begins
-returns-in_err-put_escaped-clause-begins g c told =
-    let bytes = c.as_bytes-bytes.result.now in
-    let held = g.S.Sink.held in
-    let some = refused_at escaped_byte bytes c.loop-byte.byte-index 0 (held c.args.sink.now) (escaped_entry bytes) (held c.loop-byte.sink) (held c.put_escaped.new.sink) c.loop-byte-test.true (c.loop-byte.invariant.begun told) (c.in_err-put_escaped.ensures.begins (c.loop-byte.invariant.told told)) in
-    on_err c.from_residual.result
-    (subst (λ entry. AppendsSome (held c.args.sink.now) (row_of entry) (held c.put_escaped.new.sink)) c.as_bytes-bytes.ensures.value
-    (begins_more (held c.args.sink.now) (escaped_entry bytes) (10 ∷ []) (held c.put_escaped.new.sink) some))
+pub loop-byte-init : goal.loop-byte-init
+loop-byte-init g c = underway_start g.S.Sink.told g.S.Sink.held g.S.Sink.has_failed (escaped_entry c.as_bytes-bytes.result.now) c.args.sink.now
 
-pub returns-clause-begins : goal.returns-clause-begins
-returns-clause-begins g c told =
+pub loop-byte-preserved : goal.loop-byte-preserved
+loop-byte-preserved g c =
     let bytes = c.as_bytes-bytes.result.now in
+    piece_sent g.S.Sink.told g.S.Sink.held g.S.Sink.has_failed escaped_byte bytes (escaped_entry bytes) c.loop-byte.byte-index 0
+    c.loop-byte-test.true c.loop-byte.invariant c.in_ok-put_escaped.ensures.sends.sent c.in_ok-put_escaped.ensures.sends.works
+
+pub returns-in_err-put_escaped-clause-sends : goal.returns-in_err-put_escaped-clause-sends
+returns-in_err-put_escaped-clause-sends g c =
+    let told = g.S.Sink.told in
     let held = g.S.Sink.held in
-    let whole = all_sent escaped_byte bytes c.loop-byte.byte-index (held c.args.sink.now) (escaped_entry bytes) (held c.loop-byte.sink) c.loop-byte-test.false (c.loop-byte.invariant.begun told) in
-    subst (λ entry. OnErr c.put.result (AppendsSome (held c.args.sink.now) (row_of entry) (held c.put.new.sink))) c.as_bytes-bytes.ensures.value
-    (on_err_weaker c.put.result (begins_behind (held c.args.sink.now) (escaped_entry bytes) (10 ∷ []) (held c.loop-byte.sink) (held c.put.new.sink) whole)
-    (c.put.ensures.begins (c.loop-byte.invariant.told told)))
+    let failed = g.S.Sink.has_failed in
+    let bytes = c.as_bytes-bytes.result.now in
+    let Row : List ℕ → Type 0 = λ entry. Sends told held failed (row_of entry) c.args.sink.now c.put_escaped.new.sink c.from_residual.result in
+    subst Row c.as_bytes-bytes.ensures.value
+    (sends_cut told held failed _ (escaped_entry bytes) (10 ∷ []) c.from_residual.ensures.1 c.in_err-put_escaped.ensures.sends.err
+    (piece_refused told held failed escaped_byte bytes (escaped_entry bytes) c.loop-byte.byte-index 0 c.loop-byte-test.true c.loop-byte.invariant c.in_err-put_escaped.ensures.sends.begins))
+
+pub returns-clause-sends : goal.returns-clause-sends
+returns-clause-sends g c =
+    let told = g.S.Sink.told in
+    let held = g.S.Sink.held in
+    let failed = g.S.Sink.has_failed in
+    let bytes = c.as_bytes-bytes.result.now in
+    let Row : List ℕ → Type 0 = λ entry. Sends told held failed (row_of entry) c.args.sink.now c.put.new.sink c.put.result in
+    subst Row c.as_bytes-bytes.ensures.value
+    (sends_then told held failed (escaped_entry bytes) (10 ∷ [])
+    (pieces_sent told held failed escaped_byte bytes (escaped_entry bytes) c.loop-byte.byte-index c.loop-byte-test.false c.loop-byte.invariant) c.loop-byte.invariant.works c.put.ensures.sends)

@@ -5,7 +5,7 @@ use Rattle.line_help.proofs.rows.read_row.Goals as goal
 
 pub returns-in_err-byte-clause-cut : goal.returns-in_err-byte-clause-cut
 returns-in_err-byte-clause-cut g c told steady h =
-    let k = c.in_err-byte.ensures.cut (c.loop-byte.invariant.told told) (rw c.loop-byte.invariant.steady steady) (ap (λ x. Err x) c.in_err-byte.ensures.error) in
+    let k = c.in_err-byte.ensures.cut (c.loop-byte.invariant.told told) (rw c.loop-byte.invariant.steady steady) (ap (λ x. Err x) c.in_err-byte.ensures.fault) in
     let last = sym c.loop-byte.invariant.last ∙ k.1 in
     (last, rw (last, c.loop-byte.invariant.split told, k.0, append-nil) (cut_off c.loop-byte.row.items c.loop-byte.invariant.inside))
 

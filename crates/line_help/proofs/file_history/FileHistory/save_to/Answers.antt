@@ -1,16 +1,30 @@
--- Where the header is refused, a beginning of the text was sent.
-use Rattle.std.proofs.Common.{◌≡◌, ◌==◌, ◌∷◌, [], sym, false, rules, subst}
+-- The header, and then the rows.
+use Rattle.std.proofs.Common.{◌≡◌, ◌==◌, ◌∷◌, Bool, [], sym, false, rules, subst}
 use Rattle.std.specs.Prelude.{if◌then◌else◌}
-use Rattle.line_config.specs.Sending.{AppendsSome}
+use Rattle.line_config.specs.Sending.{Sends}
+use Rattle.line_config.proofs.Taking.{sends_then, sends_cut, sends_refused}
 use Rattle.line_help.specs.HistoryText.{rows_text, saved_text}
-use Rattle.line_config.proofs.Taking.{begins_more, on_err}
 use Rattle.line_help.proofs.file_history.FileHistory.save_to.Goals as goal
 
-pub returns-in_err-put-clause-begins : goal.returns-in_err-put-clause-begins
-returns-in_err-put-clause-begins g c told =
+pub returns-in_err-put-clause-sends : goal.returns-in_err-put-clause-sends
+returns-in_err-put-clause-sends g c =
+    let told = g.S.Sink.told in
     let held = g.S.Sink.held in
+    let failed = g.S.Sink.has_failed in
     let entries = c.args.self.now.kept.entries in
     let is_new : (c.args.self.now.unsaved == 0) ≡ false = search rules in
-    on_err c.from_residual.result
-    (subst (λ b. AppendsSome (held c.args.sink.now) (if b then [] else saved_text entries) (held c.put.new.sink)) (sym is_new)
-    (begins_more (held c.args.sink.now) (35 ∷ (86 ∷ (50 ∷ (10 ∷ [])))) (rows_text entries) (held c.put.new.sink) (c.in_err-put.ensures.begins told)))
+    let Saved : Bool → Type 0 = λ none. Sends told held failed (if none then [] else saved_text entries) c.args.sink.now c.put.new.sink c.from_residual.result in
+    subst Saved (sym is_new)
+    (sends_cut told held failed _ (35 ∷ 86 ∷ 50 ∷ 10 ∷ []) (rows_text entries) c.from_residual.ensures.1 c.in_err-put.ensures.sends.err c.in_err-put.ensures.sends.begins)
+
+pub returns-in_err-write_rows-clause-sends : goal.returns-in_err-write_rows-clause-sends
+returns-in_err-write_rows-clause-sends g c =
+    let told = g.S.Sink.told in
+    let held = g.S.Sink.held in
+    let failed = g.S.Sink.has_failed in
+    let entries = c.args.self.now.kept.entries in
+    let is_new : (c.args.self.now.unsaved == 0) ≡ false = search rules in
+    let Saved : Bool → Type 0 = λ none. Sends told held failed (if none then [] else saved_text entries) c.args.sink.now c.write_rows.new.sink c.from_residual-in_err-write_rows.result in
+    subst Saved (sym is_new)
+    (sends_then told held failed (35 ∷ 86 ∷ 50 ∷ 10 ∷ []) (rows_text entries) c.in_ok-put.ensures.sends.sent c.in_ok-put.ensures.sends.works
+    (sends_refused told held failed _ (rows_text entries) c.from_residual-in_err-write_rows.ensures.1 c.in_err-write_rows.ensures.sends.err c.in_err-write_rows.ensures.sends.begins))

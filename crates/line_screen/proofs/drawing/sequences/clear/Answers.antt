@@ -1,6 +1,6 @@
 -- What was sent is passed on.
 use Rattle.line_screen.specs.Drawing.{clearing_bytes}
-use Rattle.line_screen.proofs.Sendings.{sends_flushed}
+use Rattle.line_config.proofs.Taking.{sends_flushed}
 use Rattle.line_screen.proofs.drawing.sequences.clear.Goals as goal
 
 pub returns : goal.returns

@@ -1,7 +1,7 @@
 -- Up to the first row, and then all erased.
 use Rattle.std.proofs.Common.{◌∷◌}
 use Rattle.line_screen.specs.Drawing.{control_sequence, erase_to_end}
-use Rattle.line_screen.proofs.Sendings.{sends_then, sends_cut}
+use Rattle.line_config.proofs.Taking.{sends_then, sends_cut}
 use Rattle.line_screen.proofs.drawing.sequences.send_cleared.Goals as goal
 
 pub returns-in_err-send_control : goal.returns-in_err-send_control

@@ -2,7 +2,8 @@
 use Rattle.std.proofs.Common.{[], ◌∷◌, ◌++◌, ◌∙◌, subst}
 use Rattle.std.specs.Prelude.{decimal}
 use Rattle.line_config.specs.Sending.{Takes, TakesSome}
-use Rattle.line_screen.proofs.Sendings.{sends_then, sends_cut, sends_control}
+use Rattle.line_config.proofs.Taking.{sends_then, sends_cut}
+use Rattle.line_screen.proofs.Sendings.{sends_control}
 use Rattle.line_screen.proofs.drawing.sequences.send_control.Goals as goal
 
 pub returns-in_err-send : goal.returns-in_err-send

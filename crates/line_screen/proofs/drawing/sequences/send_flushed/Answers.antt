@@ -1,5 +1,5 @@
 -- What was sent is passed on.
-use Rattle.line_screen.proofs.Sendings.{sends_flushed}
+use Rattle.line_config.proofs.Taking.{sends_flushed}
 use Rattle.line_screen.proofs.drawing.sequences.send_flushed.Goals as goal
 
 pub returns : goal.returns

@@ -1,6 +1,6 @@
 -- Over rows, and then over columns.
 use Rattle.line_screen.specs.Drawing.{row_move, col_move}
-use Rattle.line_screen.proofs.Sendings.{sends_then, sends_cut}
+use Rattle.line_config.proofs.Taking.{sends_then, sends_cut}
 use Rattle.line_screen.proofs.drawing.sequences.send_move.Goals as goal
 
 pub returns-in_err-send_row_move : goal.returns-in_err-send_row_move

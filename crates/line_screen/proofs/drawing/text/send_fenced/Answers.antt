@@ -2,7 +2,7 @@
 use Rattle.std.proofs.Common.{◌++◌, subst}
 use Rattle.line_config.specs.Sending.{Takes, TakesSome}
 use Rattle.line_screen.specs.Drawing.{no_style}
-use Rattle.line_screen.proofs.Sendings.{sends_then, sends_cut}
+use Rattle.line_config.proofs.Taking.{sends_then, sends_cut}
 use Rattle.line_screen.proofs.drawing.text.send_fenced.Goals as goal
 
 pub returns-in_err-send : goal.returns-in_err-send

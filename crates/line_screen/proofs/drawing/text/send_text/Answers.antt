@@ -52,7 +52,7 @@ returns g c =
         sent =
             so_far_end g.D.Sink.told g.D.Sink.held g.D.Sink.has_failed c.args.grid.columns c.args.start
             (text_items wide text) left c.args.sink.now c.loop-row.sink c.loop-row.col c.loop-row.invariant none;
-        works = c.loop-row.invariant.works;
+        works = c.loop-row.invariant.sending.works;
         err = tt;
         begins = tt;
       };

@@ -1,7 +1,7 @@
 -- What was sent is passed on.
 use Rattle.line_screen.specs.Drawing.{drawing}
 use Rattle.line_screen.specs.Measure.{cluster_width}
-use Rattle.line_screen.proofs.Sendings.{sends_flushed}
+use Rattle.line_config.proofs.Taking.{sends_flushed}
 use Rattle.line_screen.proofs.drawing.whole.draw_new.Goals as goal
 
 pub returns : goal.returns

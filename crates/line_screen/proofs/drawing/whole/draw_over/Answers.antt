@@ -1,7 +1,7 @@
 -- The old drawing cleared, and then the new one.
 use Rattle.line_screen.specs.Drawing.{clearing_bytes, drawing}
 use Rattle.line_screen.specs.Measure.{cluster_width}
-use Rattle.line_screen.proofs.Sendings.{sends_then, sends_cut}
+use Rattle.line_config.proofs.Taking.{sends_then, sends_cut}
 use Rattle.line_screen.proofs.drawing.whole.draw_over.Goals as goal
 
 pub returns-in_err-send_cleared : goal.returns-in_err-send_cleared

@@ -1,7 +1,7 @@
 -- What is shown, and then the way to the cursor.
 use Rattle.line_screen.specs.Drawing.{shown_text, move_bytes}
 use Rattle.line_screen.specs.Measure.{cluster_width}
-use Rattle.line_screen.proofs.Sendings.{sends_then, sends_cut}
+use Rattle.line_config.proofs.Taking.{sends_then, sends_cut}
 use Rattle.line_screen.proofs.drawing.whole.send_drawing.Goals as goal
 
 pub returns-in_err-send_shown : goal.returns-in_err-send_shown

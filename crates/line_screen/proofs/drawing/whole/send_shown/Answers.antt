@@ -3,7 +3,8 @@ use Rattle.std.proofs.Common.{ℕ, List, ◌++◌, ◌∙◌, ap, subst}
 use Rattle.line_config.specs.Sending.{Takes, TakesSome, Sends}
 use Rattle.line_screen.specs.Drawing.{no_style, sent, col_after, text_items}
 use Rattle.line_screen.specs.Measure.{cluster_width}
-use Rattle.line_screen.proofs.Sendings.{sends_then, sends_cut, shown_parts}
+use Rattle.line_config.proofs.Taking.{sends_then, sends_cut}
+use Rattle.line_screen.proofs.Sendings.{shown_parts}
 use Rattle.line_screen.proofs.drawing.whole.send_shown.Goals as goal
 
 pub returns-in_err-prompt_end : goal.returns-in_err-prompt_end
