@@ -1,12 +1,13 @@
 -- What a call sends that makes others, one after the other.
-use Rattle.std.proofs.Common.{◌≡◌, ℕ, Bool, List, [], ◌∷◌, ◌++◌, ◌∙◌, sym, ap, Result, Ok, Err, IsTrue, if◌then◌else◌, subst, append-nil, append_assoc}
+use Rattle.std.proofs.Common.{◌≡◌, ℕ, ◌+◌, ◌==◌, nat_le, Bool, List, [], ◌∷◌, ◌++◌, ◌∙◌, sym, ap, Result, Ok, Err, IsTrue, if◌then◌else◌, subst, append_assoc}
 use Rattle.std.specs.Prelude.{decimal}
 use Rattle.std.specs.Result.{IsErrAnd}
 use Rattle.std.proofs.lemmas.Bool.{ne_eqb}
 use Rattle.line_config.specs.declared.device.DeviceFailed.{DeviceFailed}
 use Rattle.line_config.specs.Sending.{Takes, TakesSome, Sends}
-use Rattle.line_config.proofs.Taking.{sends_then, sends_cut}
-use Rattle.line_screen.specs.Drawing.{control_sequence, no_style}
+use Rattle.line_config.proofs.Taking.{takes_then, some_of_more, some_then, sends_then, sends_cut}
+use Rattle.line_screen.specs.Drawing.{control_sequence, no_style, break_if, break_unless, fitted_col, fenced, sent_one, col_after_one}
+use Rattle.line_screen.specs.Drawing.DrawnItem.{Cluster}
 use Rattle.line_screen.specs.Sending.{SendsTo}
 
 module _ {D : Type 0} (told : D → Bool) (held : D → List ℕ) (failed : D → Bool) where
@@ -26,6 +27,33 @@ module _ {D : Type 0} (told : D → Bool) (held : D → List ℕ) (failed : D �
       → IsErrAnd r Q → IsTrue (failed b) → TakesSome told held a b xs → SendsTo (xs ++ ys) column columns told held failed a b r
   sends_to_cut Q column columns xs ys {a = a} {b = b} {r = Ok x} refused fails some = absurd refused
   sends_to_cut Q column columns xs ys {a = a} {b = b} {r = Err e} refused fails some = record { sends = sends_cut told held failed Q xs ys {a = a} {b = b} {r = Err e} refused fails some; next = tt; inside = tt }
+
+  -- ---- a cluster: room for it, its text, and the end of a full row
+  module _ (columns width col : ℕ) (cluster : List ℕ) where
+    abbrev room : List ℕ
+    room = break_unless (nat_le (col + width) columns)
+
+    abbrev full : List ℕ
+    full = break_if (fitted_col columns width col + width == columns)
+
+    abbrev next : ℕ
+    next = col_after_one columns (Cluster cluster width) col
+
+    abbrev SendsCluster : D → D → Result ℕ DeviceFailed → Type 0
+    SendsCluster a b r = SendsTo (sent_one columns (Cluster cluster width) col) next columns told held failed a b r
+
+    pub roomless : (Q : DeviceFailed → Type 0) {a b : D} {r : Result ℕ DeviceFailed} → IsErrAnd r Q → IsTrue (failed b) → TakesSome told held a b room → SendsCluster a b r
+    roomless Q {a = a} {b = b} refused fails some = sends_to_cut Q next columns (room ++ fenced cluster) full refused fails (some_of_more told held a b room (fenced cluster) some)
+
+    pub textless : (Q : DeviceFailed → Type 0) {a b c : D} {r : Result ℕ DeviceFailed} → IsErrAnd r Q
+        → Takes told held a b room → IsTrue (failed c) → TakesSome told held b c (fenced cluster) → SendsCluster a c r
+    textless Q {a = a} {b = b} {c = c} refused took fails some =
+        sends_to_cut Q next columns (room ++ fenced cluster) full refused fails (some_then told held a b c room (fenced cluster) took some)
+
+    pub whole : {a b c d : D} {r : Result ℕ DeviceFailed} → Takes told held a b room → failed b ≡ failed a → Takes told held b c (fenced cluster) → failed c ≡ failed b
+        → SendsTo full next columns told held failed c d r → SendsCluster a d r
+    whole {a = a} {b = b} {c = c} took works took_text works_on s =
+        sends_to_then next columns (room ++ fenced cluster) full (takes_then told held a b c room (fenced cluster) took took_text) (works_on ∙ works) s
 
 -- parts that each begin without style, and the end
 pub shown_parts : (prompt line info : List ℕ)

@@ -4,7 +4,7 @@ ghost use Rattle.std.specs.Prelude.{◌≡◌, ◌≤◌, ◌++◌, ◌∷◌, [
 ghost use Rattle.line_screen.specs.Calls.{Screen, screen_of, sink_of, canvas_of, display_answer};
 
 use crate::drawing::sequences::{clear, go, send_flushed};
-use crate::drawing::whole::{Texts, draw};
+use crate::drawing::whole::{Shown, draw};
 use crate::grid::Grid;
 use crate::measuring::measure;
 use line_buffer::{GraphemeClusterMode, Layout, LineBuffer, Position, Unit};
@@ -83,19 +83,14 @@ impl<D: Sink + Drop> Renderer for ScreenRenderer<D> {
     ) -> Result<(), ReadlineError> {
         let row = old_layout.map(|layout| layout.cursor.row);
         let grid = self.grid;
-        let texts = Texts {
+        let shown = Shown {
             prompt,
             line: line.as_str(),
             info: hint.unwrap_or(""),
+            end: new_layout.end,
+            cursor: new_layout.cursor,
         };
-        answer(draw(
-            &mut self.sink,
-            grid,
-            row,
-            texts,
-            new_layout.end,
-            new_layout.cursor,
-        ))
+        answer(draw(&mut self.sink, grid, row, shown))
     }
 
     fn write_and_flush(&mut self, text: &str) -> Result<(), ReadlineError> {

@@ -13,12 +13,15 @@ use crate::grid::Grid;
 use line_buffer::{Position, Unit};
 use line_config::{DeviceFailed, Sink};
 
-/// What a drawing shows: prompt, line, and the hint or message after it.
+/// What a drawing shows: prompt, line, and the hint or message after it; and the cells where they
+/// end and where the cursor goes.
 #[derive(Clone, Copy)]
-pub(crate) struct Texts<'a> {
+pub(crate) struct Shown<'a> {
     pub(crate) prompt: &'a str,
     pub(crate) line: &'a str,
     pub(crate) info: &'a str,
+    pub(crate) end: Position,
+    pub(crate) cursor: Position,
 }
 
 /// One of the texts, from a column on. Answers the column after it.
@@ -40,68 +43,52 @@ fn send_part<D: Sink>(
 }
 
 /// The three texts, each from where the one before ends.
-fn send_shown<D: Sink>(sink: &mut D, grid: Grid, texts: Texts) -> Result<(), DeviceFailed>
+fn send_texts<D: Sink>(sink: &mut D, grid: Grid, shown: Shown) -> Result<(), DeviceFailed>
     ensures { Sends D.told D.held D.has_failed
         (shown_text grid.columns (cluster_width grid.mode grid.columns)
-        texts.entry.prompt.now texts.entry.line.now texts.entry.info.now)
+        shown.entry.prompt.now shown.entry.line.now shown.entry.info.now)
         sink.old sink.new result }
 {
-    let prompt_end = send_part(sink, grid, 0, texts.prompt)?;
-    let line_end = send_part(sink, grid, prompt_end, texts.line)?;
-    send_part(sink, grid, line_end, texts.info)?;
+    let prompt_end = send_part(sink, grid, 0, shown.prompt)?;
+    let line_end = send_part(sink, grid, prompt_end, shown.line)?;
+    send_part(sink, grid, line_end, shown.info)?;
     send(sink, b"\x1B[m")
 }
 
 /// The three texts, then the way from where they end to the cursor.
-pub(crate) fn send_drawing<D: Sink>(
-    sink: &mut D,
-    grid: Grid,
-    texts: Texts,
-    end: Position,
-    cursor: Position,
-) -> Result<(), DeviceFailed>
+fn send_drawing<D: Sink>(sink: &mut D, grid: Grid, shown: Shown) -> Result<(), DeviceFailed>
     ensures { Sends D.told D.held D.has_failed
         (drawing grid.columns (cluster_width grid.mode grid.columns)
-        texts.entry.prompt.now texts.entry.line.now texts.entry.info.now end cursor)
+        shown.entry.prompt.now shown.entry.line.now shown.entry.info.now
+        shown.entry.end shown.entry.cursor)
         sink.old sink.new result }
 {
-    send_shown(sink, grid, texts)?;
-    send_move(sink, end, cursor)
+    send_texts(sink, grid, shown)?;
+    send_move(sink, shown.end, shown.cursor)
 }
 
 /// A drawing from the cursor on, passed on.
-fn draw_new<D: Sink>(
-    sink: &mut D,
-    grid: Grid,
-    texts: Texts,
-    end: Position,
-    cursor: Position,
-) -> Result<(), DeviceFailed>
+fn draw_new<D: Sink>(sink: &mut D, grid: Grid, shown: Shown) -> Result<(), DeviceFailed>
     ensures { Sends D.told D.held D.has_failed
         (drawing grid.columns (cluster_width grid.mode grid.columns)
-        texts.entry.prompt.now texts.entry.line.now texts.entry.info.now end cursor)
+        shown.entry.prompt.now shown.entry.line.now shown.entry.info.now
+        shown.entry.end shown.entry.cursor)
         sink.old sink.new result }
 {
-    send_drawing(sink, grid, texts, end, cursor)?;
+    send_drawing(sink, grid, shown)?;
     flush(sink)
 }
 
 /// The same in the place of a drawing whose cursor stands in its row `row`.
-fn draw_over<D: Sink>(
-    sink: &mut D,
-    grid: Grid,
-    row: Unit,
-    texts: Texts,
-    end: Position,
-    cursor: Position,
-) -> Result<(), DeviceFailed>
+fn draw_over<D: Sink>(sink: &mut D, grid: Grid, row: Unit, shown: Shown) -> Result<(), DeviceFailed>
     ensures { Sends D.told D.held D.has_failed
         (full_drawing grid.columns (cluster_width grid.mode grid.columns) row
-        texts.entry.prompt.now texts.entry.line.now texts.entry.info.now end cursor)
+        shown.entry.prompt.now shown.entry.line.now shown.entry.info.now
+        shown.entry.end shown.entry.cursor)
         sink.old sink.new result }
 {
     send_cleared(sink, row)?;
-    draw_new(sink, grid, texts, end, cursor)
+    draw_new(sink, grid, shown)
 }
 
 /// A whole drawing, passed on: in the place of one whose cursor stands in its row `old_row`, or
@@ -110,17 +97,16 @@ pub(crate) fn draw<D: Sink>(
     sink: &mut D,
     grid: Grid,
     old_row: Option<Unit>,
-    texts: Texts,
-    end: Position,
-    cursor: Position,
+    shown: Shown,
 ) -> Result<(), DeviceFailed>
     ensures { Sends D.told D.held D.has_failed
         (drawing_bytes grid.columns (cluster_width grid.mode grid.columns) old_row
-        texts.entry.prompt.now texts.entry.line.now texts.entry.info.now end cursor)
+        shown.entry.prompt.now shown.entry.line.now shown.entry.info.now
+        shown.entry.end shown.entry.cursor)
         sink.old sink.new result }
 {
     match old_row {
-        Some(row) => draw_over(sink, grid, row, texts, end, cursor),
-        None => draw_new(sink, grid, texts, end, cursor),
+        Some(row) => draw_over(sink, grid, row, shown),
+        None => draw_new(sink, grid, shown),
     }
 }

@@ -8,6 +8,6 @@ pub returns : goal.returns
 returns g c =
     let columns = c.args.grid.columns in
     let wide = cluster_width c.args.grid.mode columns in
-    let texts = c.args.texts in
-    let drawn = drawing columns wide texts.prompt.now texts.line.now texts.info.now c.args.end c.args.cursor in
+    let shown = c.args.shown in
+    let drawn = drawing columns wide shown.prompt.now shown.line.now shown.info.now shown.end shown.cursor in
     sends_flushed g.D.Sink.told g.D.Sink.held g.D.Sink.has_failed drawn c.in_ok-send_drawing.ensures.sent c.in_ok-send_drawing.ensures.works c.flush.ensures

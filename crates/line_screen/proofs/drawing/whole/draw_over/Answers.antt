@@ -8,8 +8,8 @@ pub returns-in_err-send_cleared : goal.returns-in_err-send_cleared
 returns-in_err-send_cleared g c =
     let columns = c.args.grid.columns in
     let wide = cluster_width c.args.grid.mode columns in
-    let texts = c.args.texts in
-    let drawn = drawing columns wide texts.prompt.now texts.line.now texts.info.now c.args.end c.args.cursor in
+    let shown = c.args.shown in
+    let drawn = drawing columns wide shown.prompt.now shown.line.now shown.info.now shown.end shown.cursor in
     sends_cut g.D.Sink.told g.D.Sink.held g.D.Sink.has_failed _ (clearing_bytes c.args.row) drawn
     c.from_residual.ensures.1 c.in_err-send_cleared.ensures.err c.in_err-send_cleared.ensures.begins
 
@@ -17,7 +17,7 @@ pub returns : goal.returns
 returns g c =
     let columns = c.args.grid.columns in
     let wide = cluster_width c.args.grid.mode columns in
-    let texts = c.args.texts in
-    let drawn = drawing columns wide texts.prompt.now texts.line.now texts.info.now c.args.end c.args.cursor in
+    let shown = c.args.shown in
+    let drawn = drawing columns wide shown.prompt.now shown.line.now shown.info.now shown.end shown.cursor in
     sends_then g.D.Sink.told g.D.Sink.held g.D.Sink.has_failed (clearing_bytes c.args.row) drawn
     c.in_ok-send_cleared.ensures.sent c.in_ok-send_cleared.ensures.works c.draw_new.ensures

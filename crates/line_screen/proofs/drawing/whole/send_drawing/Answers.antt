@@ -4,18 +4,18 @@ use Rattle.line_screen.specs.Measure.{cluster_width}
 use Rattle.line_config.proofs.Taking.{sends_then, sends_cut}
 use Rattle.line_screen.proofs.drawing.whole.send_drawing.Goals as goal
 
-pub returns-in_err-send_shown : goal.returns-in_err-send_shown
-returns-in_err-send_shown g c =
+pub returns-in_err-send_texts : goal.returns-in_err-send_texts
+returns-in_err-send_texts g c =
     let columns = c.args.grid.columns in
-    let texts = c.args.texts in
+    let shown = c.args.shown in
     sends_cut g.D.Sink.told g.D.Sink.held g.D.Sink.has_failed _
-    (shown_text columns (cluster_width c.args.grid.mode columns) texts.prompt.now texts.line.now texts.info.now) (move_bytes c.args.end c.args.cursor)
-    c.from_residual.ensures.1 c.in_err-send_shown.ensures.err c.in_err-send_shown.ensures.begins
+    (shown_text columns (cluster_width c.args.grid.mode columns) shown.prompt.now shown.line.now shown.info.now) (move_bytes shown.end shown.cursor)
+    c.from_residual.ensures.1 c.in_err-send_texts.ensures.err c.in_err-send_texts.ensures.begins
 
 pub returns : goal.returns
 returns g c =
     let columns = c.args.grid.columns in
-    let texts = c.args.texts in
+    let shown = c.args.shown in
     sends_then g.D.Sink.told g.D.Sink.held g.D.Sink.has_failed
-    (shown_text columns (cluster_width c.args.grid.mode columns) texts.prompt.now texts.line.now texts.info.now) (move_bytes c.args.end c.args.cursor)
-    c.in_ok-send_shown.ensures.sent c.in_ok-send_shown.ensures.works c.send_move.ensures
+    (shown_text columns (cluster_width c.args.grid.mode columns) shown.prompt.now shown.line.now shown.info.now) (move_bytes shown.end shown.cursor)
+    c.in_ok-send_texts.ensures.sent c.in_ok-send_texts.ensures.works c.send_move.ensures

@@ -5,7 +5,7 @@ use Rattle.line_screen.specs.Drawing.{no_style, sent, col_after, text_items}
 use Rattle.line_screen.specs.Measure.{cluster_width}
 use Rattle.line_config.proofs.Taking.{sends_then, sends_cut}
 use Rattle.line_screen.proofs.Sendings.{shown_parts}
-use Rattle.line_screen.proofs.drawing.whole.send_shown.Goals as goal
+use Rattle.line_screen.proofs.drawing.whole.send_texts.Goals as goal
 
 pub returns-in_err-prompt_end : goal.returns-in_err-prompt_end
 returns-in_err-prompt_end g c =
@@ -14,9 +14,9 @@ returns-in_err-prompt_end g c =
     let failed = g.D.Sink.has_failed in
     let columns = c.args.grid.columns in
     let wide = cluster_width c.args.grid.mode columns in
-    let prompt = text_items wide c.args.texts.prompt.now in
-    let line = text_items wide c.args.texts.line.now in
-    let info = text_items wide c.args.texts.info.now in
+    let prompt = text_items wide c.args.shown.prompt.now in
+    let line = text_items wide c.args.shown.line.now in
+    let info = text_items wide c.args.shown.info.now in
     let line_at = col_after columns prompt 0 in
     let first = no_style ++ sent columns prompt 0 in
     let second = no_style ++ sent columns line line_at in
@@ -33,9 +33,9 @@ returns-in_err-line_end g c =
     let failed = g.D.Sink.has_failed in
     let columns = c.args.grid.columns in
     let wide = cluster_width c.args.grid.mode columns in
-    let prompt = text_items wide c.args.texts.prompt.now in
-    let line = text_items wide c.args.texts.line.now in
-    let info = text_items wide c.args.texts.info.now in
+    let prompt = text_items wide c.args.shown.prompt.now in
+    let line = text_items wide c.args.shown.line.now in
+    let info = text_items wide c.args.shown.info.now in
     let line_at = col_after columns prompt 0 in
     let first = no_style ++ sent columns prompt 0 in
     let second = no_style ++ sent columns line line_at in
@@ -55,9 +55,9 @@ returns-in_err-send_part g c =
     let failed = g.D.Sink.has_failed in
     let columns = c.args.grid.columns in
     let wide = cluster_width c.args.grid.mode columns in
-    let prompt = text_items wide c.args.texts.prompt.now in
-    let line = text_items wide c.args.texts.line.now in
-    let info = text_items wide c.args.texts.info.now in
+    let prompt = text_items wide c.args.shown.prompt.now in
+    let line = text_items wide c.args.shown.line.now in
+    let info = text_items wide c.args.shown.info.now in
     let line_at = col_after columns prompt 0 in
     let first = no_style ++ sent columns prompt 0 in
     let second = no_style ++ sent columns line line_at in
@@ -80,9 +80,9 @@ returns g c =
     let failed = g.D.Sink.has_failed in
     let columns = c.args.grid.columns in
     let wide = cluster_width c.args.grid.mode columns in
-    let prompt = text_items wide c.args.texts.prompt.now in
-    let line = text_items wide c.args.texts.line.now in
-    let info = text_items wide c.args.texts.info.now in
+    let prompt = text_items wide c.args.shown.prompt.now in
+    let line = text_items wide c.args.shown.line.now in
+    let info = text_items wide c.args.shown.info.now in
     let line_at = col_after columns prompt 0 in
     let first = no_style ++ sent columns prompt 0 in
     let second = no_style ++ sent columns line line_at in
