@@ -135,6 +135,22 @@ fn end_of<H: Helper + Drop>(
     })
 }
 
+// Types a row's keys on a desk.
+fn typed_on<H: Helper + Drop>(
+    alloc: Global,
+    stage: &Stage,
+    desk: &mut Desk<'_, H>,
+    bindings: &Bindings,
+    keys: &Input,
+) -> Result<Ended, Fail> {
+    let config = Config::builder().edit_mode(stage.mode).build();
+    let mut input = InputState::new(alloc, &config, bindings)?;
+    let mut ring = KillRing::new(alloc, 60)?;
+    let mut reader = KeyList::new(&keys.typed, false, keys.after);
+    let answer = line(desk, &mut input, &mut reader, &mut ring, &config);
+    Ok(end_of(alloc, desk, &mut ring, answer)?)
+}
+
 // Types a row's keys, over a helper.
 fn typed_over<H: Helper + Drop>(
     alloc: Global,
@@ -144,15 +160,10 @@ fn typed_over<H: Helper + Drop>(
     keys: &Input,
 ) -> Result<Ended, Fail> {
     let history = history_of(alloc, stage.history.as_str())?;
-    let config = Config::builder().edit_mode(stage.mode).build();
-    let mut input = InputState::new(alloc, &config, bindings)?;
-    let mut ring = KillRing::new(alloc, 60)?;
-    let mut reader = KeyList::new(&keys.typed, false, keys.after);
     let mut desk = empty_desk(alloc, stage, &history)?;
     desk.helper = helper;
     desk.out.answer(stage.answered);
-    let answer = line(&mut desk, &mut input, &mut reader, &mut ring, &config);
-    Ok(end_of(alloc, &desk, &mut ring, answer)?)
+    typed_on(alloc, stage, &mut desk, bindings, keys)
 }
 
 // What `run` leaves of the same line: its text, or why there is none, all calls, and what a yank would give.
