@@ -10,15 +10,9 @@ use Rattle.line_keys.specs.Coming.{made_of}
 use Rattle.line_screen.specs.Drawing.{row_break, break_if}
 use Rattle.keyline.specs.Closing.{Closes, CloseReason, work}
 use Rattle.keyline.specs.Deeds.{Draws, Keeps, Writes, accept_deeds}
-use Rattle.keyline.specs.Playing.{Work, CutsBy}
+use Rattle.keyline.specs.Playing.{Work, Stops}
 use Rattle.keyline.specs.Sessions.{breaks, remembered, line_text}
 use Rattle.keyline.proofs.DeedLemmas.{cut_drawing, remembered_none}
-
-display_not_lines : Display ≡ Lines → ⊥
-display_not_lines is = absurd (cc)
-
-memory_not_lines : Memory ≡ Lines → ⊥
-memory_not_lines is = absurd (cc)
 
 true_not_false : (b : Bool) → b ≡ true → b ≡ false → ⊥
 true_not_false b one other = absurd (cc)
@@ -55,7 +49,7 @@ module _ {D L : Type 0} (shows : D → Bool) (shown : D → List ℕ) (show_fail
         goes = inr (λ coming. record {
           fault = Display;
           result_is = now;
-          goes = cut_drawing shows shown show_failed writes written_in adds _ (accept_deeds outcome) coming (work d l h) (work d' l h) Display tt display_not_lines failed
+          goes = cut_drawing shows shown writes written_in adds _ (accept_deeds outcome) coming (work d l h) (work d' l h)
               (subst (TakesSome shows shown d d') (new_row outcome breaks) some) refl refl;
         });
         stays = stays_not outcome (work d l h) (work d' l h) result breaks;
@@ -73,13 +67,12 @@ module _ {D L : Type 0} (shows : D → Bool) (shown : D → List ℕ) (show_fail
           fault = Memory;
           result_is = now;
           goes = record {
-            cut = tt;
             done = Draws row_break ∷ [];
             next = Keeps text ∷ Writes text ∷ [];
             first = refl;
             begun = [];
             torn = [];
-            stops = inl (memory_not_lines, refl, refl, refl);
+            stops = (inl refl, refl, refl);
             drawn = subst (Takes shows shown d d') (sym (append-nil (row_break ++ []) ∙ append-nil row_break)) drawn;
             wrote = takes_none writes written_in l l refl;
             history_is = kept ∙ sym (remembered_none adds h);
@@ -112,13 +105,12 @@ module _ {D L : Type 0} (shows : D → Bool) (shown : D → List ℕ) (show_fail
           fault = e;
           result_is = refl;
           goes = record {
-            cut = let P : ReadlineError → Type 0 = CutsBy in subst P (sym named) tt;
             done = Draws row_break ∷ Keeps text ∷ [];
             next = Writes text ∷ [];
             first = refl;
             begun = [];
             torn = torn.0;
-            stops = inr (inr (inl (named, refl, refl, (torn.1, torn.2))));
+            stops = let P : ReadlineError → Type 0 = λ e. Stops e coming (Writes text ∷ []) coming [] torn.0 in subst P (sym named) (refl, refl, (torn.1, torn.2));
             drawn = subst (Takes shows shown d d') (sym (append-nil (row_break ++ []) ∙ append-nil row_break)) drawn;
             wrote = torn.3;
             history_is = kept;

@@ -1,10 +1,10 @@
 -- Deeds one after the other, done and cut.
-use Rattle.std.proofs.Common.{◌≡◌, ◌⊎◌, ℕ, zero, suc, Bool, true, false, List, [], ◌∷◌, ◌++◌, inl, inr, refl, sym, ap, ◌∙◌, subst, append-nil, append_assoc, IsTrue, Option, None, Result, Ok, Err}
+use Rattle.std.proofs.Common.{◌≡◌, ℕ, zero, suc, Bool, true, false, List, [], ◌∷◌, ◌++◌, inl, inr, refl, sym, ap, ◌∙◌, subst, append-nil, append_assoc, Option, None, Result, Ok, Err}
 use Rattle.std.specs.List.{FoldsTo, flat_map}
 use Rattle.std.proofs.lemmas.Grind.{flat_map-append}
 use Rattle.line_buffer.specs.declared.layout.Layout.{Layout}
 use Rattle.line_config.specs.declared.errors.ReadlineError.{ReadlineError}
-use Rattle.line_config.specs.declared.errors.ReadlineError.TheVariants.{Lines, Memory}
+use Rattle.line_config.specs.declared.errors.ReadlineError.TheVariants.{Display, Lines, Helper, Memory}
 use Rattle.line_config.specs.Sending.{Takes, TakesSome}
 use Rattle.line_config.proofs.Taking.{takes_none, takes_then, taken_of}
 use Rattle.line_help.specs.History.{Filed, filed_with, filed_with_all}
@@ -14,7 +14,7 @@ use Rattle.line_keys.specs.Phrases.{Input}
 use Rattle.line_keys.specs.InputStates.{new_input}
 use Rattle.line_record.specs.Ring.{Ring}
 use Rattle.line_editor.specs.Acts.{Act, Sees, Gets, Obeys, Stage, stage, CutIn, acts_after, acts_from, acts_of, turn_acts}
-use Rattle.line_editor.specs.Calls.{Call, Begun}
+use Rattle.line_editor.specs.Calls.{Call, ComesBetween, Begun}
 use Rattle.line_editor.specs.Drawing.{refreshed}
 use Rattle.line_editor.specs.Lines.{Told, Turned, turn_of, after_turn, line_from, line_of}
 use Rattle.line_editor.specs.Redraws.{Redraw, Asked, asked, fresh}
@@ -24,13 +24,14 @@ use Rattle.line_editor.specs.Values.{Value, Setting, Effect}
 use Rattle.line_editor.specs.declared.commands.Status.{Status}
 use Rattle.line_editor.specs.declared.commands.Status.TheVariants.{Proceed, Submit}
 use Rattle.line_editor.proofs.ActsLemmas.{asked_of, asked_same, rest_of, turn_rest, whole_redraws}
+use Rattle.line_editor.proofs.BegunLemmas.{between_memory}
 use Rattle.line_screen.specs.Calls.{Screen, bytes_of, canvas_of, ruler_of, screen_of, sink_of}
 use Rattle.line_screen.specs.Drawing.{break_if}
 use Rattle.line_screen.specs.declared.renderer.ScreenRenderer.{ScreenRenderer}
 use Rattle.line_screen.proofs.CallLemmas.{sent_in_all}
 use Rattle.keyline.specs.Closing.{work}
 use Rattle.keyline.specs.Deeds.{SessionDeed, Draws, Hears, Keeps, Writes, bytes_drawn, left_of_deeds, lines_kept, lines_written, call_deeds, act_deeds, close_deeds, acts_in, line_deeds}
-use Rattle.keyline.specs.Playing.{Work, LineWhole, Cut, CutsBy, Stops, DrawsSome, WritesSome, IsHeard, accepted_of}
+use Rattle.keyline.specs.Playing.{Work, LineWhole, Cut, Stops, DrawsSome, WritesSome, IsHeard, accepted_of}
 use Rattle.keyline.specs.Sessions.{Given, SessionState, breaks, calls_of, history_after, line_bytes, line_in, line_text, lines_text, remembered, setting_in}
 use Rattle.keyline.specs.Shows.{drawn_by}
 
@@ -237,32 +238,30 @@ remembered_none false h = refl
 -- ---- a fault's stop, with more to come after it
 
 writes_more : (torn : List ℕ) (xs ys : List SessionDeed) → WritesSome torn xs → WritesSome torn (xs ++ ys)
-writes_more torn [] ys p = absurd p
-writes_more torn (Draws bytes ∷ xs) ys p = absurd p
-writes_more torn (Hears rest ∷ xs) ys p = absurd p
-writes_more torn (Keeps line ∷ xs) ys p = absurd p
 writes_more torn (Writes line ∷ xs) ys p = p
+writes_more torn _ ys p = absurd p
 
 draws_more : (begun : List ℕ) (xs ys : List SessionDeed) → DrawsSome begun xs → DrawsSome begun (xs ++ ys)
-draws_more begun [] ys p = absurd p
 draws_more begun (Draws bytes ∷ xs) ys p = p
-draws_more begun (Hears rest ∷ xs) ys p = absurd p
-draws_more begun (Keeps line ∷ xs) ys p = absurd p
-draws_more begun (Writes line ∷ xs) ys p = absurd p
+draws_more begun _ ys p = absurd p
 
 heard_more : (xs ys : List SessionDeed) → IsHeard xs → IsHeard (xs ++ ys)
-heard_more [] ys p = absurd p
-heard_more (Draws bytes ∷ xs) ys p = absurd p
 heard_more (Hears rest ∷ xs) ys p = p
-heard_more (Keeps line ∷ xs) ys p = absurd p
-heard_more (Writes line ∷ xs) ys p = absurd p
+heard_more _ ys p = absurd p
 
-stops_more : (why : ReadlineError) (display : Bool) (c : Coming) (xs ys : List SessionDeed) (left : Coming) (begun torn : List ℕ)
-    → Stops why display c xs left begun torn → Stops why display c (xs ++ ys) left begun torn
-stops_more why display c xs ys left begun torn (inl p) = inl p
-stops_more why display c xs ys left begun torn (inr (inl p)) = inr (inl (p.0, p.1, (p.2.0, draws_more begun xs ys p.2.1), p.3))
-stops_more why display c xs ys left begun torn (inr (inr (inl p))) = inr (inr (inl (p.0, p.1, p.2, writes_more torn xs ys p.3)))
-stops_more why display c xs ys left begun torn (inr (inr (inr p))) = inr (inr (inr (p.0, p.1, p.2, p.3, heard_more xs ys p.4)))
+stops_more : (why : ReadlineError) (c : Coming) (xs ys : List SessionDeed) (left : Coming) (begun torn : List ℕ) → Stops why c xs left begun torn → Stops why c (xs ++ ys) left begun torn
+stops_more Display c xs ys left begun torn p = (p.0, draws_more begun xs ys p.1, p.2)
+stops_more Lines c xs ys left begun torn p = (p.0, p.1, writes_more torn xs ys p.2)
+stops_more Helper c xs ys left begun torn p = p
+stops_more Memory c xs ys left begun torn (inl same, undrawn, unwritten) = (inl same, undrawn, unwritten)
+stops_more Memory c xs ys left begun torn (inr lost, undrawn, unwritten) = (inr (lost.0, heard_more xs ys lost.1), undrawn, unwritten)
+stops_more _ c xs ys left begun torn p = absurd p
+
+-- before the first of them
+stops_between : (why : ReadlineError) (c : Coming) (deeds : List SessionDeed) → ComesBetween why → Stops why c deeds c [] []
+stops_between Helper c deeds p = (refl, refl, refl)
+stops_between Memory c deeds p = (inl refl, refl, refl)
+stops_between _ c deeds p = absurd p
 
 -- ---- deeds that were done, and deeds that were cut
 
@@ -274,23 +273,22 @@ pub record Done {D L : Type 0} (shows : D → Bool) (shown : D → List ℕ) (wr
   pub history_is : new.history ≡ remembered adds (lines_kept deeds) old.history
   pub left_is : left ≡ left_of_deeds coming deeds
 
-module _ {D L : Type 0} (shows : D → Bool) (shown : D → List ℕ) (show_failed : D → Bool) (writes : L → Bool) (written_in : L → List ℕ) (adds : Bool) where
+module _ {D L : Type 0} (shows : D → Bool) (shown : D → List ℕ) (writes : L → Bool) (written_in : L → List ℕ) (adds : Bool) where
   abbrev AllDone : List SessionDeed → Coming → Work D L → Work D L → Coming → Type 0
   AllDone deeds coming old new left = Done shows shown writes written_in adds deeds coming old new left
 
   abbrev CutAt : List SessionDeed → Coming → Work D L → Work D L → Coming → ReadlineError → Type 0
-  CutAt deeds coming old new left why = Cut shows shown show_failed writes written_in adds deeds coming old new left why
+  CutAt deeds coming old new left why = Cut shows shown writes written_in adds deeds coming old new left why
 
   -- more are to come after those that were cut
   pub cut_more : (xs ys : List SessionDeed) (c : Coming) (old new : Work D L) (left : Coming) (why : ReadlineError) → CutAt xs c old new left why → CutAt (xs ++ ys) c old new left why
   cut_more xs ys c old new left why r = record {
-    cut = r.cut;
     done = r.done;
     next = r.next ++ ys;
     first = ap (λ zs. zs ++ ys) r.first ∙ append_assoc r.done r.next ys;
     begun = r.begun;
     torn = r.torn;
-    stops = stops_more why (show_failed new.display) (left_of_deeds c r.done) r.next ys left r.begun r.torn r.stops;
+    stops = stops_more why (left_of_deeds c r.done) r.next ys left r.begun r.torn r.stops;
     drawn = r.drawn;
     wrote = r.wrote;
     history_is = r.history_is;
@@ -301,11 +299,10 @@ module _ {D L : Type 0} (shows : D → Bool) (shown : D → List ℕ) (show_fail
       → CutAt (xs ++ ys) c old new left why
   cut_after xs ys c c' old mid new left why d r =
       let lines = lines_written r.done in
-      let S : Coming → Type 0 = λ here. Stops why (show_failed new.display) here r.next left r.begun r.torn in
+      let S : Coming → Type 0 = λ here. Stops why here r.next left r.begun r.torn in
       let B : List ℕ → Type 0 = Takes shows shown old.display new.display in
       let W : List ℕ → Type 0 = Takes writes written_in old.lines new.lines in
       record {
-        cut = r.cut;
         done = xs ++ r.done;
         next = r.next;
         first = ap (λ zs. xs ++ zs) r.first ∙ sym (append_assoc xs r.done r.next);
@@ -326,35 +323,32 @@ module _ {D L : Type 0} (shows : D → Bool) (shown : D → List ℕ) (show_fail
       }
 
   -- none of them was done, nor begun
-  pub cut_first : (deeds : List SessionDeed) (c : Coming) (old new : Work D L) (why : ReadlineError) → CutsBy why → (why ≡ Lines → ⊥)
+  pub cut_first : (deeds : List SessionDeed) (c : Coming) (old new : Work D L) (why : ReadlineError) → ComesBetween why
       → new.display ≡ old.display → new.lines ≡ old.lines → new.history ≡ old.history → CutAt deeds c old new c why
-  cut_first deeds c old new why cut other display lines history = record {
-    cut = cut;
+  cut_first deeds c old new why between display lines history = record {
     done = [];
     next = deeds;
     first = refl;
     begun = [];
     torn = [];
-    stops = inl (other, refl, refl, refl);
+    stops = stops_between why c deeds between;
     drawn = takes_none shows shown old.display new.display display;
     wrote = takes_none writes written_in old.lines new.lines lines;
     history_is = history ∙ sym (remembered_none adds old.history);
   }
 
   -- the display failed at the first of them
-  pub cut_drawing : (bytes : List ℕ) (deeds : List SessionDeed) (c : Coming) (old new : Work D L) (why : ReadlineError) → CutsBy why → (why ≡ Lines → ⊥)
-      → IsTrue (show_failed new.display) → TakesSome shows shown old.display new.display bytes → new.lines ≡ old.lines → new.history ≡ old.history
-      → CutAt (Draws bytes ∷ deeds) c old new c why
-  cut_drawing bytes deeds c old new why cut other failed some lines history =
+  pub cut_drawing : (bytes : List ℕ) (deeds : List SessionDeed) (c : Coming) (old new : Work D L)
+      → TakesSome shows shown old.display new.display bytes → new.lines ≡ old.lines → new.history ≡ old.history → CutAt (Draws bytes ∷ deeds) c old new c Display
+  cut_drawing bytes deeds c old new some lines history =
       let begun = taken_of shows shown old.display new.display bytes some in
       record {
-        cut = cut;
         done = [];
         next = Draws bytes ∷ deeds;
         first = refl;
         begun = begun.0;
         torn = [];
-        stops = inr (inl (other, refl, (failed, (begun.1, begun.2)), refl));
+        stops = (refl, (begun.1, begun.2), refl);
         drawn = begun.3;
         wrote = takes_none writes written_in old.lines new.lines lines;
         history_is = history ∙ sym (remembered_none adds old.history);
@@ -362,7 +356,7 @@ module _ {D L : Type 0} (shows : D → Bool) (shown : D → List ℕ) (show_fail
 
   -- a line that was drawn, kept and written is its deeds
   pub done_line : (n : ℕ) (g : Given) (x : SessionState) (t : Told) (old mid : Work D L) (result : Result (Unit {0}) ReadlineError) → line_in n g x ≡ t
-      → LineWhole shows shown show_failed writes written_in adds (line_bytes g.screen t) t.outcome old mid result → AllDone (line_deeds n g x) x.coming old mid t.rest
+      → LineWhole shows shown writes written_in adds (line_bytes g.screen t) t.outcome old mid result → AllDone (line_deeds n g x) x.coming old mid t.rest
   done_line n g x t old mid result is w =
       let B : List ℕ → Type 0 = Takes shows shown old.display mid.display in
       let W : List (List ℕ) → Type 0 = λ lines. Takes writes written_in old.lines mid.lines (lines_text lines) in
@@ -404,12 +398,12 @@ module _ {D L : Type 0} (shows : D → Bool) (shown : D → List ℕ) (show_fail
         untouched (act_deeds g.screen l (acts_in n g x)) x.coming left a b _ took (sym (line_drawn n g x)) (acts_kept g.screen l (acts_in n g x)) (acts_written g.screen l (acts_in n g x))
         (is ∙ sym (line_left n g x))
 
-    module _ (s : Screen) (why : ReadlineError) (cut : CutsBy why) (other : why ≡ Lines → ⊥) where
+    module _ (show_failed : D → Bool) (s : Screen) (why : ReadlineError) where
       abbrev Made : List Call → ScreenRenderer D → ScreenRenderer D → Type 0
       Made calls a b = FoldsTo (canvas_of shows shown show_failed).made a calls b
 
-      stay : (deeds : List SessionDeed) (c : Coming) (a b : ScreenRenderer D) → b ≡ a → CutAt deeds c (on a) (on b) c why
-      stay deeds c a b same = cut_first deeds c (on a) (on b) why cut other (ap sink_of same) refl refl
+      stay : ComesBetween why → (deeds : List SessionDeed) (c : Coming) (a b : ScreenRenderer D) → b ≡ a → CutAt deeds c (on a) (on b) c why
+      stay between deeds c a b same = cut_first deeds c (on a) (on b) why between (ap sink_of same) refl refl
 
       done_calls : (calls : List Call) (c : Coming) (a b : ScreenRenderer D) → screen_of a ≡ s → Made calls a b → AllDone (call_deeds s calls) c (on a) (on b) c
       done_calls calls c a b is made =
@@ -420,14 +414,15 @@ module _ {D L : Type 0} (shows : D → Bool) (shown : D → List ℕ) (show_fail
       screen_kept : (calls : List Call) (a b : ScreenRenderer D) → screen_of a ≡ s → Made calls a b → screen_of b ≡ s
       screen_kept calls a b is made = (sent_in_all shows shown show_failed calls a b made).screen ∙ is
 
-      cut_calls : (calls : List Call) (c : Coming) (a b : ScreenRenderer D) → screen_of a ≡ s → Begun (canvas_of shows shown show_failed) calls a b
+      cut_calls : (calls : List Call) (c : Coming) (a b : ScreenRenderer D) → screen_of a ≡ s → Begun (canvas_of shows shown show_failed) why calls a b
           → CutAt (call_deeds s calls) c (on a) (on b) c why
       unfolding Begun
-      cut_calls [] c a b is h = stay [] c a b h
-      cut_calls (call ∷ calls) c a b is (inl h) = stay (call_deeds s (call ∷ calls)) c a b h
+      cut_calls [] c a b is h = stay h.0 [] c a b h.1
+      cut_calls (call ∷ calls) c a b is (inl h) = stay h.0 (call_deeds s (call ∷ calls)) c a b h.1
       cut_calls (call ∷ calls) c a b is (inr (inl h)) =
           let P : Screen → Type 0 = λ s. TakesSome shows shown (sink_of a) (sink_of b) (bytes_of s call) in
-          cut_drawing (bytes_of s call) (call_deeds s calls) c (on a) (on b) why cut other h.fails (subst P is h.begins) refl refl
+          let Q : ReadlineError → Type 0 = λ why. CutAt (call_deeds s (call ∷ calls)) c (on a) (on b) c why in
+          subst Q (sym h.0) (cut_drawing (bytes_of s call) (call_deeds s calls) c (on a) (on b) (subst P is h.1.begins) refl refl)
       cut_calls (call ∷ calls) c a b is (inr (inr h)) =
           let P : Screen → Type 0 = λ s. Takes shows shown (sink_of a) (sink_of h.0) (bytes_of s call) in
           let first = untouched (Draws (bytes_of s call) ∷ []) c c a h.0 _ (subst P is h.1.takes) (sym (append-nil (bytes_of s call))) refl refl refl in
@@ -442,13 +437,12 @@ module _ {D L : Type 0} (shows : D → Bool) (shown : D → List ℕ) (show_fail
       cut_unheard : (rest : Coming) (deeds : List SessionDeed) (c left : Coming) (a b : ScreenRenderer D) → why ≡ Memory → left ≡ left_by Memory → b ≡ a
           → CutAt (Hears rest ∷ deeds) c (on a) (on b) left why
       cut_unheard rest deeds c left a b is lost same = record {
-        cut = cut;
         done = [];
         next = Hears rest ∷ deeds;
         first = refl;
         begun = [];
         torn = [];
-        stops = inr (inr (inr (is, lost, refl, refl, tt)));
+        stops = let P : ReadlineError → Type 0 = λ why. Stops why c (Hears rest ∷ deeds) left [] [] in subst P (sym is) (inr (lost, tt), refl, refl);
         drawn = takes_none shows shown (sink_of a) (sink_of b) (ap sink_of same);
         wrote = takes_none writes written_in lines lines refl;
         history_is = sym (remembered_none adds history);
@@ -461,7 +455,8 @@ module _ {D L : Type 0} (shows : D → Bool) (shown : D → List ℕ) (show_fail
           → CutIn (canvas_of shows shown show_failed) (ruler_of s) why acts l old new
           → CutAt (act_deeds s l acts) old.coming (on old.out) (on new.out) new.coming why
       unfolding CutIn
-      cut_acts [] l old new is h = here [] old.coming new.coming old.out new.out (ap (λ x. x.coming) h) (stay [] old.coming old.out new.out (ap (λ x. x.out) h))
+      cut_acts [] l old new is h =
+          here [] old.coming new.coming old.out new.out (ap (λ x. x.coming) h.1) (stay (between_memory why h.0) [] old.coming old.out new.out (ap (λ x. x.out) h.1))
       cut_acts (Sees redraws ∷ more) l old new is (inl h) =
           let a = drawn_by s l redraws in
           here (act_deeds s l (Sees redraws ∷ more)) old.coming new.coming old.out new.out (ap (λ x. x.coming) h.1)
@@ -470,16 +465,16 @@ module _ {D L : Type 0} (shows : D → Bool) (shown : D → List ℕ) (show_fail
           let a = drawn_by s l redraws in
           cut_after (call_deeds s a.calls) (act_deeds s a.layout more) old.coming old.coming (on old.out) (on out) (on new.out) new.coming why
           (done_calls a.calls old.coming old.out out is made) (cut_acts more a.layout (stage out old.coming old.ring) new (screen_kept a.calls old.out out is made) h)
-      cut_acts (Gets rest ∷ more) l old new is (inl h) =
+      cut_acts (Gets rest ∷ more) l old new is (inl (memory, inl same)) =
           let deeds = Hears rest ∷ act_deeds s l more in
-          here deeds old.coming new.coming old.out new.out (ap (λ x. x.coming) h) (stay deeds old.coming old.out new.out (ap (λ x. x.out) h))
-      cut_acts (Gets rest ∷ more) l old new is (inr (inl h)) =
-          cut_unheard rest (act_deeds s l more) old.coming new.coming old.out new.out h.0 (ap (λ x. x.coming) h.1) (ap (λ x. x.out) h.1)
-      cut_acts (Gets rest ∷ more) l old new is (inr (inr h)) =
+          here deeds old.coming new.coming old.out new.out (ap (λ x. x.coming) same) (stay (between_memory why memory) deeds old.coming old.out new.out (ap (λ x. x.out) same))
+      cut_acts (Gets rest ∷ more) l old new is (inl (memory, inr lost)) =
+          cut_unheard rest (act_deeds s l more) old.coming new.coming old.out new.out memory (ap (λ x. x.coming) lost) (ap (λ x. x.out) lost)
+      cut_acts (Gets rest ∷ more) l old new is (inr h) =
           cut_heard rest (act_deeds s l more) old.coming new.coming old.out new.out (cut_acts more l (stage old.out rest old.ring) new is h)
       cut_acts (Obeys kills ring redraws ∷ more) l old new is (inl h) =
           let deeds = act_deeds s l (Obeys kills ring redraws ∷ more) in
-          here deeds old.coming new.coming old.out new.out (ap (λ x. x.coming) h) (stay deeds old.coming old.out new.out (ap (λ x. x.out) h))
+          here deeds old.coming new.coming old.out new.out (ap (λ x. x.coming) h.1) (stay (between_memory why h.0) deeds old.coming old.out new.out (ap (λ x. x.out) h.1))
       cut_acts (Obeys kills ring redraws ∷ more) l old new is (inr (inl h)) =
           let a = drawn_by s l redraws in
           here (act_deeds s l (Obeys kills ring redraws ∷ more)) old.coming new.coming old.out new.out h.1

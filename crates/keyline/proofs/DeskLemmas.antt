@@ -30,7 +30,7 @@ use Rattle.line_screen.proofs.CallLemmas.{sent_in_all, begun_stays}
 use Rattle.keyline.specs.Closing.{Closes, CloseReason, work}
 use Rattle.keyline.specs.Deeds.{SessionDeed, act_deeds, acts_in, close_deeds, line_deeds}
 use Rattle.keyline.specs.Desks.{Known, Lined, TakesLine, DeskReason, feed_of, hearing, work_of}
-use Rattle.keyline.specs.Playing.{Work, Cut, LineWhole, LineCut, CutsBy, SessionReason}
+use Rattle.keyline.specs.Playing.{Work, Cut, LineWhole, LineCut, SessionReason}
 use Rattle.keyline.specs.Sessions.{Given, given_by, breaks, line_in, history_after}
 use Rattle.keyline.specs.declared.desk.Desk.{Desk}
 use Rattle.keyline.proofs.DeedLemmas.{cut_acts, cut_after, cut_more, done_acts}
@@ -38,36 +38,12 @@ use Rattle.line_config.proofs.Taking.{takes_then}
 
 -- ---- faults
 
--- a fault of a line is one that no input gives
-cuts_of : (failed : Bool) (hook : Type 0) (e : ReadlineError) → reason_of failed hook e → CutsBy e
-cuts_of failed hook Display r = tt
-cuts_of failed hook Helper r = tt
-cuts_of failed hook Memory r = tt
-cuts_of failed hook Eof r = absurd r
-cuts_of failed hook Interrupted r = absurd r
-cuts_of failed hook NotUtf8 r = absurd r
-cuts_of failed hook PasteOutOfPlace r = absurd r
-cuts_of failed hook Reader r = absurd r
-cuts_of failed hook Lines r = absurd r
-cuts_of failed hook HistoryText r = absurd r
-cuts_of failed hook Handler r = absurd r
-
-not_lines : (failed : Bool) (hook : Type 0) (e : ReadlineError) → reason_of failed hook e → e ≡ Lines → ⊥
-not_lines failed hook e r is = let P : ReadlineError → Type 0 = λ e. reason_of failed hook e in subst P is r
-
--- and after it no new row is drawn
+-- after a fault of a line no new row is drawn
 unbroken : (failed : Bool) (hook : Type 0) (e : ReadlineError) → reason_of failed hook e → breaks_after e ≡ false
 unbroken failed hook Display r = refl
 unbroken failed hook Helper r = refl
 unbroken failed hook Memory r = refl
-unbroken failed hook Eof r = absurd r
-unbroken failed hook Interrupted r = absurd r
-unbroken failed hook NotUtf8 r = absurd r
-unbroken failed hook PasteOutOfPlace r = absurd r
-unbroken failed hook Reader r = absurd r
-unbroken failed hook Lines r = absurd r
-unbroken failed hook HistoryText r = absurd r
-unbroken failed hook Handler r = absurd r
+unbroken failed hook _ r = absurd r
 
 -- the reasons of a line are those of a desk
 reason_by : (told : Bool) (g : Given) (source display lines : Bool) (feed : KeyFeed) (hook : Type 0) (e : ReadlineError)
@@ -102,11 +78,11 @@ ok_of_cut : (result : Result (Unit {0}) ReadlineError) (e : ReadlineError) (P : 
 ok_of_cut (Ok u) e P is = absurd (cc)
 ok_of_cut (Err d) e P is = tt
 
-module _ {D L : Type 0} (shows : D → Bool) (shown : D → List ℕ) (show_failed : D → Bool) (writes : L → Bool) (written_in : L → List ℕ) where
+module _ {D L : Type 0} (shows : D → Bool) (shown : D → List ℕ) (writes : L → Bool) (written_in : L → List ℕ) where
   -- the line's drawings, and then its end
   whole_then : (adds : Bool) (first second : List ℕ) (outcome : Result (List ℕ) ReadlineError) (d d1 d2 : D) (l l2 : L) (h h2 : Filed) (result : Result (Unit {0}) ReadlineError)
-      → Takes shows shown d d1 first → LineWhole shows shown show_failed writes written_in adds second outcome (work d1 l h) (work d2 l2 h2) result
-      → LineWhole shows shown show_failed writes written_in adds (first ++ second) outcome (work d l h) (work d2 l2 h2) result
+      → Takes shows shown d d1 first → LineWhole shows shown writes written_in adds second outcome (work d1 l h) (work d2 l2 h2) result
+      → LineWhole shows shown writes written_in adds (first ++ second) outcome (work d l h) (work d2 l2 h2) result
   whole_then adds first second outcome d d1 d2 l l2 h h2 result drawn c = record {
     result_is = c.result_is;
     history_is = c.history_is;
@@ -146,7 +122,7 @@ module _ {S H D L K T : Type 0} (k : Known S D L) (helps : Option H → Helping)
   screen_by n heard (inr w) =
       let begun = begun_of_line (canvas_of k.shows k.shown k.show_failed) (ruler_of (screen_of old.out)) w.fault n setting custom config.indent_size
       (new_input config.edit_mode) old.ring heard (fresh (ruler_of (screen_of old.out)).mode) (stage old.out heard old.ring) (stage ran.out (items_of k.feed reader).coming ring) w.done in
-      begun_stays k.shows k.shown k.show_failed (line_calls (ruler_of (screen_of old.out)) (line_meant n setting custom config old.ring heard).turns) old.out ran.out begun
+      begun_stays k.shows k.shown k.show_failed w.fault (line_calls (ruler_of (screen_of old.out)) (line_meant n setting custom config old.ring heard).turns) old.out ran.out begun
 
   screen_stays : RunsAt → IsTrue (feed_of k old).told → screen_of ran.out ≡ screen_of old.out
   screen_stays runs t =
@@ -173,20 +149,20 @@ module _ {S H D L K T : Type 0} (k : Known S D L) (helps : Option H → Helping)
     left = (items_of k.feed reader).coming
 
     abbrev EndedWhole : Result (List ℕ) ReadlineError → Type 0
-    EndedWhole outcome = LineWhole k.shows k.shown k.show_failed k.writes k.written_in config.auto_add_history (break_if (breaks outcome)) outcome at_end (work_of k new) result
+    EndedWhole outcome = LineWhole k.shows k.shown k.writes k.written_in config.auto_add_history (break_if (breaks outcome)) outcome at_end (work_of k new) result
 
     abbrev EndedCut : Result (List ℕ) ReadlineError → Type 0
-    EndedCut outcome = LineCut k.shows k.shown k.show_failed k.writes k.written_in config.auto_add_history (close_deeds outcome) left at_end (work_of k new) left result
+    EndedCut outcome = LineCut k.shows k.shown k.writes k.written_in config.auto_add_history (close_deeds outcome) left at_end (work_of k new) left result
 
     abbrev EndedAs : Result (List ℕ) ReadlineError → Type 0
-    EndedAs outcome = EndedWhole outcome ⊎ ((coming : Coming) → LineCut k.shows k.shown k.show_failed k.writes k.written_in config.auto_add_history (close_deeds outcome)
+    EndedAs outcome = EndedWhole outcome ⊎ ((coming : Coming) → LineCut k.shows k.shown k.writes k.written_in config.auto_add_history (close_deeds outcome)
         coming at_end (work_of k new) coming result)
 
     abbrev StaysAs : Result (List ℕ) ReadlineError → Type 0
     StaysAs outcome = IfErr outcome (λ e. breaks_after e ≡ false → (work_of k new ≡ at_end) × (result ≡ Err e))
 
     abbrev CutAs : List SessionDeed → Coming → Type 0
-    CutAs deeds heard = LineCut k.shows k.shown k.show_failed k.writes k.written_in config.auto_add_history deeds heard (work_of k old) (work_of k new) left result
+    CutAs deeds heard = LineCut k.shows k.shown k.writes k.written_in config.auto_add_history deeds heard (work_of k old) (work_of k new) left result
 
     after_whole : (n : ℕ) (heard : Coming) → let x = hearing k old heard in WentWhole (line_in n given x) → EndedAs (line_in n given x).outcome
         → Lined k given (line_in n given x) (line_deeds n given x) heard old new result
@@ -194,7 +170,7 @@ module _ {S H D L K T : Type 0} (k : Known S D L) (helps : Option H → Helping)
         let t = line_in n given (hearing k old heard) in
         let sent = sent_in_all k.shows k.shown k.show_failed (line_calls (ruler_of (screen_of old.out)) t.turns) old.out ran.out w.calls in
         inl (
-          whole_then k.shows k.shown k.show_failed k.writes k.written_in config.auto_add_history _ (break_if (breaks t.outcome)) t.outcome
+          whole_then k.shows k.shown k.writes k.written_in config.auto_add_history _ (break_if (breaks t.outcome)) t.outcome
               (sink_of old.out) (sink_of ran.out) (sink_of out) old.lines lines old.history history result sent.takes c,
           ap (λ r. record { ring = r; history = history; coming = left }) w.ring_is
               ∙ (ap (λ h. record { ring = t.ring; history = h; coming = left }) c.history_is
@@ -208,9 +184,9 @@ module _ {S H D L K T : Type 0} (k : Known S D L) (helps : Option H → Helping)
         inr (record {
           fault = end.fault;
           result_is = end.result_is;
-          goes = cut_after k.shows k.shown k.show_failed k.writes k.written_in config.auto_add_history
+          goes = cut_after k.shows k.shown k.writes k.written_in config.auto_add_history
               (act_deeds given.screen (fresh given.screen.mode) (acts_in n given x)) (close_deeds t.outcome) heard left (work_of k old) at_end (work_of k new) left end.fault
-              (done_acts k.shows k.shown k.show_failed k.writes k.written_in config.auto_add_history old.lines old.history n given x old.out ran.out left sent.takes w.rest_is) end.goes;
+              (done_acts k.shows k.shown k.writes k.written_in config.auto_add_history old.lines old.history n given x old.out ran.out left sent.takes w.rest_is) end.goes;
         })
 
     after_cut : (n : ℕ) (heard : Coming) → (w : WentCut n heard) → StaysAs (Err w.fault) → CutAs (line_deeds n given (hearing k old heard)) heard
@@ -219,13 +195,13 @@ module _ {S H D L K T : Type 0} (k : Known S D L) (helps : Option H → Helping)
         let s = screen_of old.out in
         let same = stays (unbroken _ _ w.fault w.cause) in
         let acts = acts_in n given x in
-        let W : Work D L → Type 0 = λ after. Cut k.shows k.shown k.show_failed k.writes k.written_in config.auto_add_history (act_deeds s (fresh s.mode) acts) heard (work_of k old) after left w.fault in
-        let so = cut_acts k.shows k.shown k.show_failed k.writes k.written_in config.auto_add_history old.lines old.history s w.fault (cuts_of _ _ w.fault w.cause) (not_lines _ _ w.fault w.cause)
+        let W : Work D L → Type 0 = λ after. Cut k.shows k.shown k.writes k.written_in config.auto_add_history (act_deeds s (fresh s.mode) acts) heard (work_of k old) after left w.fault in
+        let so = cut_acts k.shows k.shown k.writes k.written_in config.auto_add_history old.lines old.history k.show_failed s w.fault
         acts (fresh s.mode) (stage old.out heard old.ring) (stage ran.out left ring) refl w.done in
         record {
           fault = w.fault;
           result_is = same.1;
-          goes = cut_more k.shows k.shown k.show_failed k.writes k.written_in config.auto_add_history (act_deeds s (fresh s.mode) acts) (close_deeds (line_in n given x).outcome)
+          goes = cut_more k.shows k.shown k.writes k.written_in config.auto_add_history (act_deeds s (fresh s.mode) acts) (close_deeds (line_in n given x).outcome)
               heard (work_of k old) (work_of k new) left w.fault (subst W (sym same.0) so);
         }
 

@@ -27,7 +27,7 @@ plays {S} {H} {D} {L} {T} k told held failed g desk end why history text text' s
   saved = saved;
   goes = λ t n b.
       let went = lines.goes t n b in
-      let P : D → Type 0 = λ display. Reads k.shows k.shown k.show_failed k.writes k.written_in g (session n g (hearing k desk went.0)) (session_deeds n g (hearing k desk went.0)) went.0 (work_of k desk)
+      let P : D → Type 0 = λ display. Reads k.shows k.shown k.writes k.written_in g (session n g (hearing k desk went.0)) (session_deeds n g (hearing k desk went.0)) went.0 (work_of k desk)
       (record { display = display; lines = end.lines; history = end.history }) (coming_in k.feed end.reader) why in
       (went.0, went.1, subst P (sym display_is) went.2);
   saves = saves;

@@ -46,15 +46,15 @@ fault_by r e d one other = cc
 ok_not_err : (u : Unit {0}) (e : ReadlineError) → Ok u ≡ Err e → ⊥
 ok_not_err u e same = absurd (cc)
 
-module _ {D L : Type 0} (shows : D → Bool) (shown : D → List ℕ) (show_failed : D → Bool) (writes : L → Bool) (written_in : L → List ℕ) (g : Given) where
+module _ {D L : Type 0} (shows : D → Bool) (shown : D → List ℕ) (writes : L → Bool) (written_in : L → List ℕ) (g : Given) where
   abbrev adds : Bool
   adds = g.config.auto_add_history
 
   abbrev Whole : Told → Result (List ℕ) ReadlineError → Work D L → Work D L → Result (Unit {0}) ReadlineError → Type 0
-  Whole t o old new result = LineWhole shows shown show_failed writes written_in adds (line_bytes g.screen t) o old new result
+  Whole t o old new result = LineWhole shows shown writes written_in adds (line_bytes g.screen t) o old new result
 
   abbrev All : Report → List SessionDeed → Coming → Work D L → Work D L → Coming → ReadlineError → Type 0
-  All report deeds coming old new left why = Reads shows shown show_failed writes written_in g report deeds coming old new left why
+  All report deeds coming old new left why = Reads shows shown writes written_in g report deeds coming old new left why
 
   -- an accepted line, and then a session
   then_reads : (t : Told) (o : Result (List ℕ) ReadlineError) (later : Report) (deeds more : List SessionDeed) (c c' : Coming) (old mid new : Work D L) (left : Coming) (why : ReadlineError)
@@ -70,7 +70,7 @@ module _ {D L : Type 0} (shows : D → Bool) (shown : D → List ℕ) (show_fail
         subst P (append-nil (line_text text)) (takes_then writes written_in old.lines mid.lines new.lines (lines_text (text ∷ [])) (lines_text later.accepted) w.wrote r.wrote);
   })
   then_reads t (Ok text) later deeds more c c' old mid new left why w d (inr r) =
-      inr (cut_after shows shown show_failed writes written_in adds deeds more c c' old mid new left why d r)
+      inr (cut_after shows shown writes written_in adds deeds more c c' old mid new left why d r)
   then_reads t (Err e) later deeds more c c' old mid new left why w d r = absurd (ok_not_err (tt {0}) e w.result_is)
 
   -- the line that ends the session
@@ -87,11 +87,11 @@ module _ {D L : Type 0} (shows : D → Bool) (shown : D → List ℕ) (show_fail
 
   -- a line that a fault cut off
   cut_reads : (report : Report) (deeds more : List SessionDeed) (c : Coming) (old new : Work D L) (left : Coming) (e : ReadlineError)
-      → LineCut shows shown show_failed writes written_in adds deeds c old new left (Err e) → All report (deeds ++ more) c old new left e
+      → LineCut shows shown writes written_in adds deeds c old new left (Err e) → All report (deeds ++ more) c old new left e
   cut_reads report deeds more c old new left e r =
       let same : e ≡ r.fault = fault_by (Err e) e r.fault refl r.result_is in
-      let P : ReadlineError → Type 0 = Cut shows shown show_failed writes written_in adds (deeds ++ more) c old new left in
-      inr (subst P (sym same) (cut_more shows shown show_failed writes written_in adds deeds more c old new left r.fault r.goes))
+      let P : ReadlineError → Type 0 = Cut shows shown writes written_in adds (deeds ++ more) c old new left in
+      inr (subst P (sym same) (cut_more shows shown writes written_in adds deeds more c old new left r.fault r.goes))
 
 lower : (a b m : ℕ) → a < b → b < suc m → a < m
 lower a b m less below = search arith
@@ -103,7 +103,7 @@ module _ {S H D L : Type 0} (k : Known S D L) where
   abbrev pub Onwards : Given → ℕ → Desk S H D L → Work D L → Coming → ReadlineError → Type 0
   Onwards g n d end left why =
       (heard : Coming) × HeardAt k d heard
-      × Reads k.shows k.shown k.show_failed k.writes k.written_in g (session n g (hearing k d heard)) (session_deeds n g (hearing k d heard)) heard (work_of k d) end left why
+      × Reads k.shows k.shown k.writes k.written_in g (session n g (hearing k d heard)) (session_deeds n g (hearing k d heard)) heard (work_of k d) end left why
 
 -- lines were taken: what is read, drawn, kept and written from here on is, with them, what is so from the first desk on
 pub record Onward {S H D L : Type 0} (k : Known S D L) (g g' : Given) (first now : Desk S H D L) : Type 0 where
@@ -131,20 +131,20 @@ module _ {S H D L : Type 0} (k : Known S D L) where
 
   -- a line that was accepted, and a session after it
   line_then : (g : Given) (n : ℕ) (now next : Desk S H D L) (heard later : Coming) (t : Told) → line_in (suc n) g (hearing k now heard) ≡ t
-      → LineWhole k.shows k.shown k.show_failed k.writes k.written_in g.config.auto_add_history (line_bytes g.screen t) t.outcome (work_of k now) (work_of k next) (Ok (tt {0}))
+      → LineWhole k.shows k.shown k.writes k.written_in g.config.auto_add_history (line_bytes g.screen t) t.outcome (work_of k now) (work_of k next) (Ok (tt {0}))
       → hearing k next later ≡ after_line g t (hearing k now heard) → (end : Work D L) (left : Coming) (why : ReadlineError)
-      → Reads k.shows k.shown k.show_failed k.writes k.written_in g (session n g (hearing k next later)) (session_deeds n g (hearing k next later)) later (work_of k next) end left why
-      → Reads k.shows k.shown k.show_failed k.writes k.written_in g (session (suc n) g (hearing k now heard)) (session_deeds (suc n) g (hearing k now heard)) heard (work_of k now) end left why
+      → Reads k.shows k.shown k.writes k.written_in g (session n g (hearing k next later)) (session_deeds n g (hearing k next later)) later (work_of k next) end left why
+      → Reads k.shows k.shown k.writes k.written_in g (session (suc n) g (hearing k now heard)) (session_deeds (suc n) g (hearing k now heard)) heard (work_of k now) end left why
   line_then g n now next heard later t is whole after end left why r =
       let x = hearing k now heard in
       let y = after_line g t x in
-      let X : SessionState → Type 0 = λ x. Reads k.shows k.shown k.show_failed k.writes k.written_in g (session n g x) (session_deeds n g x) x.coming (work_of k next) end left why in
-      let Q : Report → Type 0 = λ report. Reads k.shows k.shown k.show_failed k.writes k.written_in g report (session_deeds (suc n) g x) heard (work_of k now) end left why in
-      let R : List SessionDeed → Type 0 = λ deeds. Reads k.shows k.shown k.show_failed k.writes k.written_in g (line_reported t t.outcome (session n g y)) deeds heard (work_of k now) end left why in
+      let X : SessionState → Type 0 = λ x. Reads k.shows k.shown k.writes k.written_in g (session n g x) (session_deeds n g x) x.coming (work_of k next) end left why in
+      let Q : Report → Type 0 = λ report. Reads k.shows k.shown k.writes k.written_in g report (session_deeds (suc n) g x) heard (work_of k now) end left why in
+      let R : List SessionDeed → Type 0 = λ deeds. Reads k.shows k.shown k.writes k.written_in g (line_reported t t.outcome (session n g y)) deeds heard (work_of k now) end left why in
       subst Q (sym (session_by n g x t is)) (subst R (sym (deeds_by n g x t is))
-      (then_reads k.shows k.shown k.show_failed k.writes k.written_in g t t.outcome (session n g y) (line_deeds (suc n) g x) (session_deeds n g y) heard y.coming
+      (then_reads k.shows k.shown k.writes k.written_in g t t.outcome (session n g y) (line_deeds (suc n) g x) (session_deeds n g y) heard y.coming
       (work_of k now) (work_of k next) end left why whole
-      (done_line k.shows k.shown k.show_failed k.writes k.written_in g.config.auto_add_history (suc n) g x t (work_of k now) (work_of k next) (Ok (tt {0})) is whole) (subst X after r)))
+      (done_line k.shows k.shown k.writes k.written_in g.config.auto_add_history (suc n) g x t (work_of k now) (work_of k next) (Ok (tt {0})) is whole) (subst X after r)))
 
   line_on : (g : Given) (n : ℕ) (now next : Desk S H D L) → (feed_of k next).steady ≡ (feed_of k now).steady → LinedAt g (suc n) now next (Ok (tt {0}))
       → (end : Work D L) (left : Coming) (why : ReadlineError) → Onwards k g n next end left why → Onwards k g (suc n) now end left why
@@ -166,18 +166,18 @@ module _ {S H D L : Type 0} (k : Known S D L) where
       let x = hearing k now heard in
       let t = line_in (suc n) g x in
       let later = session n g (after_line g t x) in
-      let Q : Report → Type 0 = λ report. Reads k.shows k.shown k.show_failed k.writes k.written_in g report (session_deeds (suc n) g x) heard (work_of k now) (work_of k next) (feed_of k next).coming e in
-      let R : List SessionDeed → Type 0 = λ deeds. Reads k.shows k.shown k.show_failed k.writes k.written_in g (line_reported t t.outcome later) deeds heard (work_of k now) (work_of k next) (feed_of k next).coming e in
+      let Q : Report → Type 0 = λ report. Reads k.shows k.shown k.writes k.written_in g report (session_deeds (suc n) g x) heard (work_of k now) (work_of k next) (feed_of k next).coming e in
+      let R : List SessionDeed → Type 0 = λ deeds. Reads k.shows k.shown k.writes k.written_in g (line_reported t t.outcome later) deeds heard (work_of k now) (work_of k next) (feed_of k next).coming e in
       (heard, is, subst Q (sym (session_step n g x)) (subst R (sym (deeds_step n g x)) (by_cases x t lined)))
     where
       by_cases : (x : SessionState) (t : Told) → Lined k g t (line_deeds (suc n) g x) heard now next (Err e)
-          → Reads k.shows k.shown k.show_failed k.writes k.written_in g (line_reported t t.outcome (session n g (after_line g t x)))
+          → Reads k.shows k.shown k.writes k.written_in g (line_reported t t.outcome (session n g (after_line g t x)))
           (line_deeds (suc n) g x ++ deeds_after t.outcome (session_deeds n g (after_line g t x))) heard (work_of k now) (work_of k next) (feed_of k next).coming e
       by_cases x t (inl w) =
-          ends_reads k.shows k.shown k.show_failed k.writes k.written_in g t t.outcome (session n g (after_line g t x)) (line_deeds (suc n) g x ++ deeds_after t.outcome (session_deeds n g (after_line g t x)))
+          ends_reads k.shows k.shown k.writes k.written_in g t t.outcome (session n g (after_line g t x)) (line_deeds (suc n) g x ++ deeds_after t.outcome (session_deeds n g (after_line g t x)))
           heard (work_of k now) (work_of k next) (feed_of k next).coming e w.0 (ap (λ (x : SessionState). x.coming) w.1)
       by_cases x t (inr c) =
-          cut_reads k.shows k.shown k.show_failed k.writes k.written_in g (line_reported t t.outcome (session n g (after_line g t x))) (line_deeds (suc n) g x)
+          cut_reads k.shows k.shown k.writes k.written_in g (line_reported t t.outcome (session n g (after_line g t x))) (line_deeds (suc n) g x)
           (deeds_after t.outcome (session_deeds n g (after_line g t x))) heard (work_of k now) (work_of k next) (feed_of k next).coming e c
 
   pub onward_line : (g g' g'' : Given) (first now next : Desk S H D L) → Onward k g g' first now

@@ -26,10 +26,10 @@ pub record Closes {D L : Type 0} (shows : D → Bool) (shown : D → List ℕ) (
     (writes : L → Bool) (written_in : L → List ℕ) (write_failed : L → Bool) (adds : Bool)
     (outcome : Result (List ℕ) ReadlineError) (old new : Work D L)
     (result : Result (Unit {0}) ReadlineError) : Type 0 where
-  pub goes : LineWhole shows shown show_failed writes written_in adds
+  pub goes : LineWhole shows shown writes written_in adds
       (break_if (breaks outcome)) outcome old new
       result
-      ⊎ ((coming : Coming) → LineCut shows shown show_failed writes written_in adds
+      ⊎ ((coming : Coming) → LineCut shows shown writes written_in adds
       (close_deeds outcome) coming old new coming result)
   pub stays : IfErr outcome (λ e. breaks_after e ≡ false → (new ≡ old) × (result ≡ Err e))
   pub reason : IfErr result (CloseReason outcome (show_failed old.display)

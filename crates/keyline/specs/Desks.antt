@@ -61,10 +61,10 @@ module _ {S H D L : Type 0} (k : Known S D L) where
   abbrev pub Lined : Given → Told → List SessionDeed → Coming → Desk S H D L → Desk S H D L
       → Result (Unit {0}) ReadlineError → Type 0
   Lined g t deeds heard old new result =
-      (LineWhole k.shows k.shown k.show_failed k.writes k.written_in g.config.auto_add_history
+      (LineWhole k.shows k.shown k.writes k.written_in g.config.auto_add_history
       (line_bytes g.screen t) t.outcome (work_of old) (work_of new) result
       × (session_state_of new ≡ after_line g t (session_state_of old)))
-      ⊎ LineCut k.shows k.shown k.show_failed k.writes k.written_in g.config.auto_add_history deeds
+      ⊎ LineCut k.shows k.shown k.writes k.written_in g.config.auto_add_history deeds
       heard (work_of old) (work_of new) (feed_of new).coming result
 
   -- THE relation of a line
@@ -85,7 +85,7 @@ module _ {S H D L : Type 0} (k : Known S D L) where
   pub record TakesLines (g : Given) (old new : Desk S H D L) (why : ReadlineError) : Type 0 where
     pub goes : IsTrue (feed_of old).told → (n : ℕ) → (feed_of old).bound < n
         → (heard : Coming) × HeardAt old heard
-        × Reads k.shows k.shown k.show_failed k.writes k.written_in g
+        × Reads k.shows k.shown k.writes k.written_in g
         (session n g (hearing old heard)) (session_deeds n g (hearing old heard)) heard
         (work_of old) (work_of new) (feed_of new).coming why
     pub reason : DeskReason (feed_of old).told g new why

@@ -9,22 +9,8 @@ use Rattle.line_help.specs.History.{Filed, all_saved}
 use Rattle.line_help.specs.HistoryText.{text_to_save}
 use Rattle.line_keys.specs.Answers.{HandlerFails}
 use Rattle.line_keys.specs.Coming.{Coming, made_of, left_by}
-use Rattle.keyline.specs.Deeds.{SessionDeed, Draws, Hears, Keeps, Writes, bytes_drawn, left_of_deeds, lines_kept, lines_written}
+use Rattle.keyline.specs.Deeds.{SessionDeed, Draws, Hears, Writes, bytes_drawn, left_of_deeds, lines_kept, lines_written}
 use Rattle.keyline.specs.Sessions.{Given, Report, remembered, history_after, line_text, lines_text, display_bytes}
-
--- the faults that no input gives
-abbrev pub CutsBy : ReadlineError → Type 0
-CutsBy Eof = ⊥
-CutsBy Interrupted = ⊥
-CutsBy NotUtf8 = ⊥
-CutsBy PasteOutOfPlace = ⊥
-CutsBy Reader = ⊥
-CutsBy Display = ⊤
-CutsBy Lines = ⊤
-CutsBy HistoryText = ⊥
-CutsBy Helper = ⊤
-CutsBy Handler = ⊥
-CutsBy Memory = ⊤
 
 -- why lines are read no further: what was given, or a device that has failed
 abbrev pub SessionReason : Bool → Given → Bool → Bool → Bool → ReadlineError → Type 0
@@ -56,53 +42,43 @@ accepted_of (Err e) = []
 
 -- the next one is to draw, and this is a beginning of its bytes
 abbrev pub DrawsSome : List ℕ → List SessionDeed → Type 0
-DrawsSome begun [] = ⊥
 DrawsSome begun (Draws bytes ∷ more) = (later : List ℕ) × (bytes ≡ begun ++ later)
-DrawsSome begun (Hears rest ∷ more) = ⊥
-DrawsSome begun (Keeps line ∷ more) = ⊥
-DrawsSome begun (Writes line ∷ more) = ⊥
+DrawsSome begun _ = ⊥
 
 -- the next one is to write a line, and this is a beginning of it
 abbrev pub WritesSome : List ℕ → List SessionDeed → Type 0
-WritesSome torn [] = ⊥
-WritesSome torn (Draws bytes ∷ more) = ⊥
-WritesSome torn (Hears rest ∷ more) = ⊥
-WritesSome torn (Keeps line ∷ more) = ⊥
 WritesSome torn (Writes line ∷ more) = (later : List ℕ) × (line_text line ≡ torn ++ later)
+WritesSome torn _ = ⊥
 
 -- the next one is to read
 abbrev pub IsHeard : List SessionDeed → Type 0
-IsHeard [] = ⊥
-IsHeard (Draws bytes ∷ more) = ⊥
 IsHeard (Hears rest ∷ more) = ⊤
-IsHeard (Keeps line ∷ more) = ⊥
-IsHeard (Writes line ∷ more) = ⊥
+IsHeard _ = ⊥
 
--- nothing was done of the next one; or the display failed at it, and has taken a beginning of its
--- bytes; or the sink of lines failed at its line, and has taken a beginning of it; or a paste found
--- no memory, and every read is refused from there on
-abbrev pub Stops : ReadlineError → Bool → Coming → List SessionDeed → Coming → List ℕ → List ℕ
-    → Type 0
-Stops why display coming next left begun torn =
-    ((why ≡ Lines → ⊥) × (left ≡ coming) × (begun ≡ []) × (torn ≡ []))
-    ⊎ (((why ≡ Lines → ⊥) × (left ≡ coming) × (IsTrue display × DrawsSome begun next) × (torn ≡ []))
-    ⊎ (((why ≡ Lines) × (left ≡ coming) × (begun ≡ []) × WritesSome torn next)
-    ⊎ ((why ≡ Memory) × (left ≡ left_by Memory) × (begun ≡ []) × (torn ≡ []) × IsHeard next)))
+-- the display fails at a drawing, and has taken a beginning of its bytes; the sink of lines fails at
+-- a line, and has taken a beginning of it; a helper fails between deeds, and memory is wanting
+-- there, or for a paste, and then every read is refused from there on. No other fault stops deeds
+abbrev pub Stops : ReadlineError → Coming → List SessionDeed → Coming → List ℕ → List ℕ → Type 0
+Stops Display coming next left begun torn = (left ≡ coming) × DrawsSome begun next × (torn ≡ [])
+Stops Lines coming next left begun torn = (left ≡ coming) × (begun ≡ []) × WritesSome torn next
+Stops Helper coming next left begun torn = (left ≡ coming) × (begun ≡ []) × (torn ≡ [])
+Stops Memory coming next left begun torn =
+    ((left ≡ coming) ⊎ ((left ≡ left_by Memory) × IsHeard next)) × (begun ≡ []) × (torn ≡ [])
+Stops _ coming next left begun torn = ⊥
 
-module _ {D L : Type 0} (shows : D → Bool) (shown : D → List ℕ) (show_failed : D → Bool)
-    (writes : L → Bool) (written_in : L → List ℕ) where
+module _ {D L : Type 0} (shows : D → Bool) (shown : D → List ℕ) (writes : L → Bool)
+    (written_in : L → List ℕ) where
   -- of these deeds the first were done, in order, and a fault stopped the next one: the display has
   -- the bytes drawn, the source has left what comes after what was heard, the sink of lines has the
   -- lines written, and the history has those kept
   pub record Cut (adds : Bool) (deeds : List SessionDeed) (coming : Coming) (old new : Work D L)
       (left : Coming) (why : ReadlineError) : Type 0 where
-    pub cut : CutsBy why
     pub done : List SessionDeed
     pub next : List SessionDeed
     pub first : deeds ≡ done ++ next
     pub begun : List ℕ
     pub torn : List ℕ
-    pub stops : Stops why (show_failed new.display) (left_of_deeds coming done) next left begun torn
+    pub stops : Stops why (left_of_deeds coming done) next left begun torn
     pub drawn : Takes shows shown old.display new.display (bytes_drawn done ++ begun)
     pub wrote : Takes writes written_in old.lines new.lines
         (lines_text (lines_written done) ++ torn)
@@ -157,15 +133,8 @@ pub record Saves {T : Type 0} (told : T → Bool) (held : T → List ℕ) (faile
 
 -- a fault comes before that of the history's text
 abbrev pub ending_after : ReadlineError → Bool → ReadlineError
-ending_after why true = why
 ending_after Eof false = HistoryText
 ending_after Interrupted false = HistoryText
 ending_after NotUtf8 false = HistoryText
 ending_after PasteOutOfPlace false = HistoryText
-ending_after Reader false = Reader
-ending_after Display false = Display
-ending_after Lines false = Lines
-ending_after HistoryText false = HistoryText
-ending_after Helper false = Helper
-ending_after Handler false = Handler
-ending_after Memory false = Memory
+ending_after why saved = why

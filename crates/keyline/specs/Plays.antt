@@ -3,7 +3,7 @@ use Rattle.std.specs.Prelude.{◌≡◌, ℕ, ◌<◌, ⊤, Bool, List, Option, 
 use Rattle.line_config.specs.Feed.{Feed}
 use Rattle.line_config.specs.declared.config.Config.{Config}
 use Rattle.line_config.specs.declared.errors.ReadlineError.{ReadlineError}
-use Rattle.line_config.specs.declared.errors.ReadlineError.TheVariants.{Eof, Interrupted, NotUtf8, PasteOutOfPlace, Reader, Display, Lines, HistoryText, Helper, Handler, Memory}
+use Rattle.line_config.specs.declared.errors.ReadlineError.TheVariants.{Reader, HistoryText, Memory}
 use Rattle.line_help.specs.History.{Filed, settings_of, nothing_filed}
 use Rattle.line_help.specs.HistoryText.{text_rows, load_answer, load_leaves}
 use Rattle.line_keys.specs.Coming.{Coming}
@@ -36,14 +36,7 @@ LoadFault config text HistoryText = IsTrue text.told → loads config text ≡ E
 LoadFault config text Reader =
     IsTrue text.told → IsTrue text.steady → loads config text ≡ Err Reader
 LoadFault config text Memory = ⊤
-LoadFault config text Eof = ⊥
-LoadFault config text Interrupted = ⊥
-LoadFault config text NotUtf8 = ⊥
-LoadFault config text PasteOutOfPlace = ⊥
-LoadFault config text Display = ⊥
-LoadFault config text Lines = ⊥
-LoadFault config text Helper = ⊥
-LoadFault config text Handler = ⊥
+LoadFault config text _ = ⊥
 
 -- a history that was loaded
 pub record Loaded (config : Config) (text : Feed) (history : Filed) : Type 0 where
@@ -83,7 +76,7 @@ pub record Plays {S H D L T : Type 0} (k : Known S D L) (told : T → Bool) (hel
   -- with more fuel than the source has keys and pastes
   pub goes : IsTrue (feed_of k desk).told → (n : ℕ) → (feed_of k desk).bound < n
       → (heard : Coming) × HeardAt k desk heard
-      × Reads k.shows k.shown k.show_failed k.writes k.written_in g
+      × Reads k.shows k.shown k.writes k.written_in g
       (session n g (hearing k desk heard)) (session_deeds n g (hearing k desk heard)) heard
       (work_of k desk)
       (record { display = ended.display; lines = ended.lines; history = kept })

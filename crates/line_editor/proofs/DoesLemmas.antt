@@ -1,6 +1,7 @@
 -- One edit, then another.
 use Rattle.std.proofs.Common.{◌≡◌, Bool, List, [], ◌∷◌, ◌++◌, refl, sym, ap, subst, ◌∙◌, append_assoc, if◌then◌else◌, Option, None, option_map}
-use Rattle.std.specs.Prelude.{ℕ, Result, Ok, Err, OnOk, OnErr, IsErrAnd}
+use Rattle.std.specs.Prelude.{ℕ, Result, Ok, Err, OnOk, IfErr, IsErrAnd}
+use Rattle.std.proofs.lemmas.Result.{on_ok_weaker, IfErr-weaker}
 use Rattle.line_buffer.specs.Cells.{origin}
 use Rattle.line_help.specs.Hints.{Hinted, Answers}
 use Rattle.line_help.specs.declared.validate.ValidationResult.{ValidationResult}
@@ -28,14 +29,6 @@ asked_joined a b c = ap (λ calls. record { calls = calls; layout = c.layout }) 
 pub asked_both : (r : Ruler) (l : Layout) (xs ys : List Redraw) → asked r l (xs ++ ys) ≡ then_asked (asked r l xs) (asked r (asked r l xs).layout ys)
 asked_both r l [] ys = refl
 asked_both r l (x ∷ xs) ys = ap (then_asked (one r l x)) (asked_both r (one r l x).layout xs ys) ∙ asked_joined (one r l x) (asked r (one r l x).layout xs) _
-
-ok_map : {A E : Type 0} {P Q : Type 0} (result : Result A E) → (P → Q) → OnOk result P → OnOk result Q
-ok_map (Ok x) f h = f h
-ok_map (Err e) f h = tt
-
-err_map : {A E : Type 0} {P Q : Type 0} (result : Result A E) → (P → Q) → OnErr result P → OnErr result Q
-err_map (Ok x) f h = tt
-err_map (Err e) f h = f h
 
 pub is_err : {A E : Type 0} (e : E) (result : Result A E) → IsErrAnd result (λ x. x ≡ e) → result ≡ Err e
 is_err e (Ok x) h = elim h [ ]
@@ -105,13 +98,13 @@ module _ {Out H Hi K T : Type 0} {renderer : renderers.Renderer.Ghosts Out} {com
       let is : asked (renderer.canvas.ruler m.out) m.layout (second (setting_of m) (value_of m)).redraws ≡ b = asked_is first second s m x h in
       record {
         value = subst (λ y. OnOk result (value_of t ≡ y.value)) (second_is first second s m x h) k.value;
-        calls = ok_map result (λ c. subst (λ y. FoldsTo renderer.canvas.made s.out y.calls t.out) (sym whole)
+        calls = on_ok_weaker result (λ c. subst (λ y. FoldsTo renderer.canvas.made s.out y.calls t.out) (sym whole)
             (folds_both renderer.canvas.made a.calls b.calls s.out m.out t.out h.calls (subst (λ y. FoldsTo renderer.canvas.made m.out y.calls t.out) is c))) k.calls;
-        layout = ok_map result (λ c. c ∙ ap (λ y. y.layout) is ∙ ap (λ y. y.layout) (sym whole)) k.layout;
+        layout = on_ok_weaker result (λ c. c ∙ ap (λ y. y.layout) is ∙ ap (λ y. y.layout) (sym whole)) k.layout;
         stays = stays_both s m t h.stays k.stays;
         reason = k.reason;
-        begun = err_map result (λ c. subst (λ y. Begun renderer.canvas y.calls s.out t.out) (sym whole)
-            (begun_behind renderer.canvas a.calls b.calls s.out m.out t.out h.calls (subst (λ y. Begun renderer.canvas y.calls m.out t.out) is c))) k.begun;
+        begun = IfErr-weaker result _ _ (λ fault c. subst (λ y. Begun renderer.canvas fault y.calls s.out t.out) (sym whole)
+            (begun_behind renderer.canvas fault a.calls b.calls s.out m.out t.out h.calls (subst (λ y. Begun renderer.canvas fault y.calls m.out t.out) is c))) k.begun;
       }
 
   -- the first one was refused
@@ -126,8 +119,8 @@ module _ {Out H Hi K T : Type 0} {renderer : renderers.Renderer.Ghosts Out} {com
         layout = tt;
         stays = h.stays;
         reason = h.reason;
-        begun = subst (λ a. Begun renderer.canvas a.calls s.out t.out) (sym (asked_both (renderer.canvas.ruler s.out) s.layout x.redraws y.redraws))
-            (begun_before renderer.canvas (asked (renderer.canvas.ruler s.out) s.layout x.redraws).calls
+        begun = subst (λ a. Begun renderer.canvas e a.calls s.out t.out) (sym (asked_both (renderer.canvas.ruler s.out) s.layout x.redraws y.redraws))
+            (begun_before renderer.canvas e (asked (renderer.canvas.ruler s.out) s.layout x.redraws).calls
             (asked (renderer.canvas.ruler s.out) (asked (renderer.canvas.ruler s.out) s.layout x.redraws).layout y.redraws).calls s.out t.out h.begun);
       }
 
@@ -151,5 +144,5 @@ module _ {Out H Hi K T : Type 0} {renderer : renderers.Renderer.Ghosts Out} {com
     layout = subst (λ x. OnOk result (t.layout ≡ (asked (renderer.canvas.ruler s.out) s.layout x.redraws).layout)) is h.layout;
     stays = h.stays;
     reason = h.reason;
-    begun = subst (λ x. OnErr result (Begun renderer.canvas (asked (renderer.canvas.ruler s.out) s.layout x.redraws).calls s.out t.out)) is h.begun;
+    begun = subst (λ x. IfErr result (λ fault. Begun renderer.canvas fault (asked (renderer.canvas.ruler s.out) s.layout x.redraws).calls s.out t.out)) is h.begun;
   }

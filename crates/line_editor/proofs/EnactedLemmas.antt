@@ -147,15 +147,15 @@ module _ {Out H Hi K T : Type 0} {renderer : renderers.Renderer.Ghosts Out} {com
     done = cut_seeing renderer.canvas (renderer.canvas.ruler s.out) e (first (setting_of s) (value_of s)).redraws (acts (setting_of s) (value_of s)) s.layout s.out t.out c r refused.begun;
   }
 
-  -- nothing was done
-  cut_still : {A : Type 0} (acts : Doing) (s t : State Out H Hi K T renderer completer candidate hinter hint highlighter validator history) (c c' : Coming) (r : Ring) (e : ReadlineError) (q : Result A ReadlineError)
-      → q ≡ Err e → t ≡ s → c' ≡ c → Reason s e → Cut acts s t c c' r r q
-  cut_still {A} acts s t c c' r e q is same kept why = subst (λ x. Cut {A = A} acts s x c c' r r q) (sym same) (record {
-    fault = e;
+  -- nothing was done for want of memory
+  cut_still : {A : Type 0} (acts : Doing) (s t : State Out H Hi K T renderer completer candidate hinter hint highlighter validator history) (c c' : Coming) (r : Ring) (q : Result A ReadlineError)
+      → q ≡ Err Memory → t ≡ s → c' ≡ c → Cut acts s t c c' r r q
+  cut_still {A} acts s t c c' r q is same kept = subst (λ x. Cut {A = A} acts s x c c' r r q) (sym same) (record {
+    fault = Memory;
     result_is = is;
-    cause = why;
+    cause = tt;
     stays = stays_same s;
-    done = cut_none renderer.canvas (renderer.canvas.ruler s.out) e (acts (setting_of s) (value_of s)) s.layout (stage s.out c r) (stage s.out c' r) (ap (λ x. stage s.out x r) kept);
+    done = cut_none renderer.canvas (renderer.canvas.ruler s.out) Memory (acts (setting_of s) (value_of s)) s.layout (stage s.out c r) (stage s.out c' r) refl (ap (λ x. stage s.out x r) kept);
   })
 
   -- a read was refused
@@ -230,7 +230,7 @@ module _ {Out H Hi K T : Type 0} {renderer : renderers.Renderer.Ghosts Out} {com
     rest_is = is.3;
   })
   goes_enacts (Needs later) s t i i' c c' k r (inl goes) = goes_enacts later s t i i' c c' k r goes
-  goes_enacts (Needs later) s t i i' c c' k r (inr cut) = inr (cut_still (λ a v. script_acts a later v) s t c c' k Memory r cut.0 cut.1 cut.3 tt)
+  goes_enacts (Needs later) s t i i' c c' k r (inr cut) = inr (cut_still (λ a v. script_acts a later v) s t c c' k r cut.0 cut.1 cut.3)
   goes_enacts (Asks ask later) s t i i' c c' k r (inl (m, made, goes)) =
       asked_before ask later i c k s m t i' c' r made (goes_enacts (later (shown_in (value_of m))) m t i i' c c' k r goes)
   goes_enacts {X} (Asks ask later) s t i i' c c' k r (inr (e, is, refused, cut, kept, rest)) =

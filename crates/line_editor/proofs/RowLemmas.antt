@@ -37,8 +37,8 @@ module _ {Out H Hi K T : Type 0} {renderer : renderers.Renderer.Ghosts Out} {com
     layout = tt;
     stays = h.stays;
     reason = h.reason;
-    begun = begun_none renderer.canvas (asked (renderer.canvas.ruler s.out) s.layout (other (setting_of s) (value_of s)).redraws).calls s.out t.out
-        (subst (λ (xs : List Redraw). Begun renderer.canvas (asked (renderer.canvas.ruler s.out) s.layout xs).calls s.out t.out) none h.begun);
+    begun = let nothing = subst (λ (xs : List Redraw). Begun renderer.canvas e (asked (renderer.canvas.ruler s.out) s.layout xs).calls s.out t.out) none h.begun in
+        begun_none renderer.canvas e (asked (renderer.canvas.ruler s.out) s.layout (other (setting_of s) (value_of s)).redraws).calls s.out t.out nothing.0 nothing.1;
   }
 
   either_cut : {A B : Type 0} (b : Bool) (edit other : Transition) (s t : State Out H Hi K T renderer completer candidate hinter hint highlighter validator history) (e : ReadlineError)

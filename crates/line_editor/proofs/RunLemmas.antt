@@ -48,7 +48,7 @@ not_begun canvas helps custom prompt helper entries config out ring feed = recor
       outcome_is = refl;
       cause = tt;
       done = cut_none canvas (canvas.ruler out) Memory (acts_meant n (setting_by (canvas.ruler out) prompt (helps helper) entries) custom config ring feed.coming) (fresh (canvas.ruler out).mode)
-          (stage out feed.coming ring) (stage out feed.coming ring) refl;
+          (stage out feed.coming ring) (stage out feed.coming ring) refl refl;
     }),
   );
   told = λ told. told;

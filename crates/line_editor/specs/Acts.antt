@@ -85,27 +85,29 @@ abbrev pub stage : {R : Type 0} → R → Coming → Ring → Stage R
 stage out coming ring = record { out = out; coming = coming; ring = ring }
 
 module _ {R : Type 0} (canvas : Canvas R) (r : Ruler) where
-  -- of these redraws the first calls were made, and perhaps the next one was refused
-  abbrev pub BegunOf : List Redraw → Layout → R → R → Type 0
-  BegunOf redraws l old new = Begun canvas (asked r l redraws).calls old new
+  -- of the calls of these redraws the first ones were made, and then the fault came
+  abbrev pub BegunOf : ReadlineError → List Redraw → Layout → R → R → Type 0
+  BegunOf fault redraws l old new = Begun canvas fault (asked r l redraws).calls old new
 
   abbrev pub MadeOf : List Redraw → Layout → R → R → Type 0
   MadeOf redraws l old new = FoldsTo canvas.made old (asked r l redraws).calls new
 
-  -- the first of these acts were done in full, and then the fault came, before the next one or in
-  -- it. A read that finds no memory for its text is refused for good; a command that is refused has
-  -- changed the ring, and where it kills and memory is wanting, nothing is known of the ring
+  -- the first of these acts were done in full, and then the fault came: in what is to be seen, or
+  -- for want of memory before a read or a command, in a read or after all. A read that finds no
+  -- memory for its text is refused for good; a command that is refused has changed the ring, and
+  -- where it kills and memory is wanting, nothing is known of the ring
   unfoldable pub CutIn : ReadlineError → List Act → Layout → Stage R → Stage R → Type 0
-  CutIn fault [] l old new = new ≡ old
+  CutIn fault [] l old new = (fault ≡ Memory) × (new ≡ old)
   CutIn fault (Sees redraws ∷ more) l old new =
-      (BegunOf redraws l old.out new.out × (new ≡ stage new.out old.coming old.ring))
+      (BegunOf fault redraws l old.out new.out × (new ≡ stage new.out old.coming old.ring))
       ⊎ ((out : R) × MadeOf redraws l old.out out
       × CutIn fault more (asked r l redraws).layout (stage out old.coming old.ring) new)
   CutIn fault (Gets rest ∷ more) l old new =
-      (new ≡ old) ⊎ (((fault ≡ Memory) × (new ≡ stage old.out (left_by Memory) old.ring))
-      ⊎ CutIn fault more l (stage old.out rest old.ring) new)
+      ((fault ≡ Memory) × ((new ≡ old) ⊎ (new ≡ stage old.out (left_by Memory) old.ring)))
+      ⊎ CutIn fault more l (stage old.out rest old.ring) new
   CutIn fault (Obeys is_killing ring redraws ∷ more) l old new =
-      (new ≡ old) ⊎ ((BegunOf redraws l old.out new.out × (new.coming ≡ old.coming)
+      ((fault ≡ Memory) × (new ≡ old))
+      ⊎ ((BegunOf fault redraws l old.out new.out × (new.coming ≡ old.coming)
       × ((new.ring ≡ ring) ⊎ ((fault ≡ Memory) × IsTrue is_killing)))
       ⊎ ((out : R) × MadeOf redraws l old.out out
       × CutIn fault more (asked r l redraws).layout (stage out old.coming ring) new))

@@ -1,10 +1,10 @@
 -- The calls of a renderer, what is known of one, and what a call makes of it.
-use Rattle.std.specs.Prelude.{◌≡◌, ◌⊎◌, ℕ, Bool, List, [], ◌∷◌, Option, option_map, Result, OnOk, OnErr, IfErr, IsTrue}
+use Rattle.std.specs.Prelude.{◌≡◌, ◌⊎◌, ⊤, ℕ, Bool, List, [], ◌∷◌, Option, option_map, Result, OnOk, OnErr, IfErr, IsTrue}
 use Rattle.line_buffer.specs.declared.layout.GraphemeClusterMode.{GraphemeClusterMode}
 use Rattle.line_buffer.specs.declared.layout.Layout.{Layout}
 use Rattle.line_buffer.specs.declared.layout.Position.{Position}
 use Rattle.line_config.specs.declared.errors.ReadlineError.{ReadlineError}
-use Rattle.line_config.specs.declared.errors.ReadlineError.TheVariants.{Display}
+use Rattle.line_config.specs.declared.errors.ReadlineError.TheVariants.{Display, Helper, Memory}
 
 pub data Call : Type 0 where
   -- prompt, line and information drawn whole; without the row of an older drawing's cursor only
@@ -47,13 +47,20 @@ pub record Makes {R A : Type 0} (canvas : Canvas R) (call : Call) (old new : R)
   pub failed : OnErr result (IsTrue (canvas.failed new))
   pub ruler : canvas.ruler new ≡ canvas.ruler old
 
--- of these calls the first ones were made, and perhaps the next one was refused
-unfoldable pub Begun : {R : Type 0} → Canvas R → List Call → R → R → Type 0
-Begun canvas [] old new = new ≡ old
-Begun {R} canvas (call ∷ calls) old new =
-    (new ≡ old)
-    ⊎ (canvas.refused old call new
-    ⊎ ((between : R) × canvas.made old call between × Begun canvas calls between new))
+-- the faults that come between calls: a display's comes at one
+abbrev pub ComesBetween : ReadlineError → Type 0
+ComesBetween Helper = ⊤
+ComesBetween Memory = ⊤
+ComesBetween _ = ⊥
+
+-- of these calls the first ones were made, and then the fault came: a display's at the next one,
+-- which was refused, and any other before it, or after them all
+unfoldable pub Begun : {R : Type 0} → Canvas R → ReadlineError → List Call → R → R → Type 0
+Begun canvas fault [] old new = ComesBetween fault × (new ≡ old)
+Begun {R} canvas fault (call ∷ calls) old new =
+    (ComesBetween fault × (new ≡ old))
+    ⊎ (((fault ≡ Display) × canvas.refused old call new)
+    ⊎ ((between : R) × canvas.made old call between × Begun canvas fault calls between new))
 
 -- a call that draws nothing
 pub record Idles {R A : Type 0} (canvas : Canvas R) (old new : R)

@@ -1,5 +1,5 @@
 -- What a state holds, as a value; what was handed in for it; and what an edit makes of it.
-use Rattle.std.specs.Prelude.{◌≡◌, ◌⊎◌, ⊤, Bool, if◌then◌else◌, None, option_map, Result, string_bytes, IsTrue, IsSomeAnd, IfErr, OnOk, OnErr}
+use Rattle.std.specs.Prelude.{◌≡◌, ◌⊎◌, ⊤, Bool, if◌then◌else◌, None, option_map, Result, string_bytes, IsTrue, IsSomeAnd, IfErr, OnOk}
 use Rattle.std.specs.List.{FoldsTo}
 use Rattle.line_buffer.specs.Cells.{origin}
 use Rattle.line_config.specs.declared.errors.ReadlineError.{ReadlineError}
@@ -108,7 +108,6 @@ module _ {Out H Hi K T : Type 0} {renderer : renderers.Renderer.Ghosts Out}
         (edit (setting_of s) (value_of s)).redraws).layout)
     pub stays : Stays s t
     pub reason : IfErr result (Reason t)
-    pub begun : OnErr result
-        (Begun renderer.canvas
+    pub begun : IfErr result (λ fault. Begun renderer.canvas fault
         (asked (renderer.canvas.ruler s.out) s.layout
         (edit (setting_of s) (value_of s)).redraws).calls s.out t.out)

@@ -7,7 +7,7 @@ use line_config::{HookFault, ReadlineError};
 use line_help::{Helper, History, ValidationContext, ValidationResult, Validator};
 use line_keys::{CmdKind, Text};
 
-#[tactic(auto, using(crate::proofs::BegunLemmas::begun_none, crate::proofs::BegunLemmas::begun_refused))]
+#[tactic(auto, using(crate::proofs::BegunLemmas::begun_none, crate::proofs::BegunLemmas::begun_asking, crate::proofs::BegunLemmas::begun_refused))]
 impl<'p, 'h, Out: Renderer, H: Helper + Drop, Hi: History> State<'p, 'h, Out, H, Hi> {
     ghost use Rattle.line_editor.specs.States.{value_of, setting_of, Does, Stays, reason_of, HookFails};
     ghost use Rattle.line_editor.specs.Accepting.{bare, verdict, told_if, verdict_told, closed_and_told, validate, accepts_found, newline, accept, accepts, newline_if, accept_or_insert, submitted};

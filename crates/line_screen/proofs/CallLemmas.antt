@@ -30,12 +30,12 @@ module _ {D : Type 0} (told : D → Bool) (held : D → List ℕ) (failed : D �
       sent_then (bytes_of (screen_of a) call) more a h.0 b h.1 rest
 
   -- calls that were begun leave the screen as it is
-  pub begun_stays : (calls : List Call) (a b : ScreenRenderer D) → Begun (canvas_of told held failed) calls a b → screen_of b ≡ screen_of a
+  pub begun_stays : (fault : ReadlineError) (calls : List Call) (a b : ScreenRenderer D) → Begun (canvas_of told held failed) fault calls a b → screen_of b ≡ screen_of a
   unfolding Begun
-  begun_stays [] a b h = ap screen_of h
-  begun_stays (call ∷ calls) a b (inl h) = ap screen_of h
-  begun_stays (call ∷ calls) a b (inr (inl h)) = h.screen
-  begun_stays (call ∷ calls) a b (inr (inr h)) = begun_stays calls h.0 b h.2 ∙ h.1.screen
+  begun_stays fault [] a b h = ap screen_of h.1
+  begun_stays fault (call ∷ calls) a b (inl h) = ap screen_of h.1
+  begun_stays fault (call ∷ calls) a b (inr (inl h)) = h.1.screen
+  begun_stays fault (call ∷ calls) a b (inr (inr h)) = begun_stays fault calls h.0 b h.2 ∙ h.1.screen
 
   -- a call sends its bytes to the sink, and its answer is the display's
   pub makes_call : (call : Call) (old : ScreenRenderer D) (d : D) (bytes : List ℕ) (sent : Result (Unit {0}) DeviceFailed) (result : Result (Unit {0}) ReadlineError)

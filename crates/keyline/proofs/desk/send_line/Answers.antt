@@ -1,36 +1,22 @@
 -- Each call that fails leaves a beginning of the line written.
-use Rattle.std.proofs.Common.{[], ◌∷◌, ◌++◌, refl, rules}
-use Rattle.line_config.proofs.Taking.{on_err, takes_then, takes_write, takes_flush, some_of_write, some_of_more, some_of_all, some_then}
+use Rattle.std.proofs.Common.{[], ◌∷◌, ◌++◌, refl}
+use Rattle.line_config.proofs.Taking.{takes_then, takes_write, takes_flush, some_of_write, some_of_all, some_then, sends_cut, sends_refused}
 use Rattle.keyline.proofs.desk.send_line.Goals as goal
 
 pub returns-in_err-write : goal.returns-in_err-write
 returns-in_err-write g c =
     let told = g.L.Sink.told in
     let held = g.L.Sink.held in
-    record {
-      sent = search rules;
-      works = search rules;
-      err = search rules;
-      begins =
-          on_err _
-          (some_of_more told held _ _ c.args.text.now (0x0A ∷ [])
-          (some_of_write told held _ _ _ _ c.as_bytes.ensures.value c.in_err-write.ensures.told c.in_err-write.ensures.begins));
-    }
+    sends_cut told held g.L.Sink.has_failed _ c.args.text.now (0x0A ∷ []) c.from_residual.ensures.1 c.in_err-write.ensures.failure
+    (some_of_write told held _ _ _ _ c.as_bytes.ensures.value c.in_err-write.ensures.told c.in_err-write.ensures.begins)
 
 pub returns-in_err-write-2 : goal.returns-in_err-write-2
 returns-in_err-write-2 g c =
     let told = g.L.Sink.told in
     let held = g.L.Sink.held in
     let text = takes_write told held _ _ _ _ c.as_bytes.ensures.value c.in_ok-write.ensures.told c.in_ok-write.ensures.ok in
-    record {
-      sent = search rules;
-      works = search rules;
-      err = search rules;
-      begins =
-          on_err _
-          (some_then told held _ _ _ c.args.text.now (0x0A ∷ []) text
-          (some_of_write told held _ _ _ _ refl c.in_err-write-2.ensures.told c.in_err-write-2.ensures.begins));
-    }
+    sends_refused told held g.L.Sink.has_failed _ (c.args.text.now ++ 0x0A ∷ []) c.from_residual-in_err-write-2.ensures.1 c.in_err-write-2.ensures.failure
+    (some_then told held _ _ _ c.args.text.now (0x0A ∷ []) text (some_of_write told held _ _ _ _ refl c.in_err-write-2.ensures.told c.in_err-write-2.ensures.begins))
 
 pub returns-in_err-flush : goal.returns-in_err-flush
 returns-in_err-flush g c =
@@ -39,10 +25,6 @@ returns-in_err-flush g c =
     let text = takes_write told held _ _ _ _ c.as_bytes.ensures.value c.in_ok-write.ensures.told c.in_ok-write.ensures.ok in
     let newline = takes_write told held _ _ _ (0x0A ∷ []) refl c.in_ok-write-2.ensures.told c.in_ok-write-2.ensures.ok in
     let line = takes_then told held _ _ _ c.args.text.now (0x0A ∷ []) text newline in
-    record {
-      sent = search rules;
-      works = search rules;
-      err = search rules;
-      begins = on_err _ (some_of_all told held _ _ (c.args.text.now ++ 0x0A ∷ [])
-          (takes_flush told held _ _ _ (c.args.text.now ++ 0x0A ∷ []) line c.in_err-flush.ensures.told c.in_err-flush.ensures.held));
-    }
+    sends_refused told held g.L.Sink.has_failed _ (c.args.text.now ++ 0x0A ∷ []) c.from_residual-in_err-flush.ensures.1 c.in_err-flush.ensures.failure
+    (some_of_all told held _ _ (c.args.text.now ++ 0x0A ∷ [])
+    (takes_flush told held _ _ _ (c.args.text.now ++ 0x0A ∷ []) line c.in_err-flush.ensures.told c.in_err-flush.ensures.held))
