@@ -84,7 +84,7 @@ ordered_acts s l (Sees redraws ∷ acts) more is =
     let a = drawn_by s l redraws in
     subst (λ deeds. Ordered [] deeds) (sym (append_assoc (call_deeds s a.calls) (act_deeds s a.layout acts) more)) (ordered_calls s a.calls _ (ordered_acts s a.layout acts more is))
 ordered_acts s l (Gets rest ∷ acts) more is = ordered_acts s l acts more is
-ordered_acts s l (Obeys kills ring redraws ∷ acts) more is =
+ordered_acts s l (Obeys textless ring redraws ∷ acts) more is =
     let a = drawn_by s l redraws in
     subst (λ deeds. Ordered [] deeds) (sym (append_assoc (call_deeds s a.calls) (act_deeds s a.layout acts) more)) (ordered_calls s a.calls _ (ordered_acts s a.layout acts more is))
 

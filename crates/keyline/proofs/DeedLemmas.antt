@@ -40,30 +40,22 @@ use Rattle.keyline.specs.Shows.{drawn_by}
 pub drawn_both : (xs ys : List SessionDeed) → bytes_drawn (xs ++ ys) ≡ bytes_drawn xs ++ bytes_drawn ys
 drawn_both [] ys = refl
 drawn_both (Draws bytes ∷ xs) ys = ap (λ zs. bytes ++ zs) (drawn_both xs ys) ∙ sym (append_assoc bytes (bytes_drawn xs) (bytes_drawn ys))
-drawn_both (Hears rest ∷ xs) ys = drawn_both xs ys
-drawn_both (Keeps line ∷ xs) ys = drawn_both xs ys
-drawn_both (Writes line ∷ xs) ys = drawn_both xs ys
+drawn_both (_ ∷ xs) ys = drawn_both xs ys
 
 pub left_both : (c : Coming) (xs ys : List SessionDeed) → left_of_deeds c (xs ++ ys) ≡ left_of_deeds (left_of_deeds c xs) ys
 left_both c [] ys = refl
-left_both c (Draws bytes ∷ xs) ys = left_both c xs ys
 left_both c (Hears rest ∷ xs) ys = left_both rest xs ys
-left_both c (Keeps line ∷ xs) ys = left_both c xs ys
-left_both c (Writes line ∷ xs) ys = left_both c xs ys
+left_both c (_ ∷ xs) ys = left_both c xs ys
 
 pub kept_both : (xs ys : List SessionDeed) → lines_kept (xs ++ ys) ≡ lines_kept xs ++ lines_kept ys
 kept_both [] ys = refl
-kept_both (Draws bytes ∷ xs) ys = kept_both xs ys
-kept_both (Hears rest ∷ xs) ys = kept_both xs ys
 kept_both (Keeps line ∷ xs) ys = ap (λ lines. line ∷ lines) (kept_both xs ys)
-kept_both (Writes line ∷ xs) ys = kept_both xs ys
+kept_both (_ ∷ xs) ys = kept_both xs ys
 
 pub written_both : (xs ys : List SessionDeed) → lines_written (xs ++ ys) ≡ lines_written xs ++ lines_written ys
 written_both [] ys = refl
-written_both (Draws bytes ∷ xs) ys = written_both xs ys
-written_both (Hears rest ∷ xs) ys = written_both xs ys
-written_both (Keeps line ∷ xs) ys = written_both xs ys
 written_both (Writes line ∷ xs) ys = ap (λ lines. line ∷ lines) (written_both xs ys)
+written_both (_ ∷ xs) ys = written_both xs ys
 
 -- ---- calls
 
@@ -100,7 +92,7 @@ module _ (s : Screen) where
   acts_drawn l [] = refl
   acts_drawn l (Sees redraws ∷ more) = let l' = (drawn_by s l redraws).layout in drawn_then l redraws (act_deeds s l' more) _ (acts_drawn l' more)
   acts_drawn l (Gets rest ∷ more) = acts_drawn l more
-  acts_drawn l (Obeys kills ring redraws ∷ more) = let l' = (drawn_by s l redraws).layout in drawn_then l redraws (act_deeds s l' more) _ (acts_drawn l' more)
+  acts_drawn l (Obeys textless ring redraws ∷ more) = let l' = (drawn_by s l redraws).layout in drawn_then l redraws (act_deeds s l' more) _ (acts_drawn l' more)
 
   left_then : (c : Coming) (l : Layout) (redraws : List Redraw) (deeds : List SessionDeed) → left_of_deeds c (asks_of l redraws ++ deeds) ≡ left_of_deeds c deeds
   left_then c l redraws deeds = left_both c (asks_of l redraws) deeds ∙ ap (λ d. left_of_deeds d deeds) (calls_left c (drawn_by s l redraws).calls)
@@ -109,7 +101,7 @@ module _ (s : Screen) where
   acts_left c l [] = refl
   acts_left c l (Sees redraws ∷ more) = left_then c l redraws _ ∙ acts_left c (drawn_by s l redraws).layout more
   acts_left c l (Gets rest ∷ more) = acts_left rest l more
-  acts_left c l (Obeys kills ring redraws ∷ more) = left_then c l redraws _ ∙ acts_left c (drawn_by s l redraws).layout more
+  acts_left c l (Obeys textless ring redraws ∷ more) = left_then c l redraws _ ∙ acts_left c (drawn_by s l redraws).layout more
 
   kept_then : (l : Layout) (redraws : List Redraw) (deeds : List SessionDeed) → lines_kept deeds ≡ [] → lines_kept (asks_of l redraws ++ deeds) ≡ []
   kept_then l redraws deeds none = kept_both (asks_of l redraws) deeds ∙ (ap (λ lines. lines ++ lines_kept deeds) (calls_kept (drawn_by s l redraws).calls) ∙ none)
@@ -118,7 +110,7 @@ module _ (s : Screen) where
   acts_kept l [] = refl
   acts_kept l (Sees redraws ∷ more) = kept_then l redraws _ (acts_kept (drawn_by s l redraws).layout more)
   acts_kept l (Gets rest ∷ more) = acts_kept l more
-  acts_kept l (Obeys kills ring redraws ∷ more) = kept_then l redraws _ (acts_kept (drawn_by s l redraws).layout more)
+  acts_kept l (Obeys textless ring redraws ∷ more) = kept_then l redraws _ (acts_kept (drawn_by s l redraws).layout more)
 
   written_then : (l : Layout) (redraws : List Redraw) (deeds : List SessionDeed) → lines_written deeds ≡ [] → lines_written (asks_of l redraws ++ deeds) ≡ []
   written_then l redraws deeds none = written_both (asks_of l redraws) deeds ∙ (ap (λ lines. lines ++ lines_written deeds) (calls_written (drawn_by s l redraws).calls) ∙ none)
@@ -127,7 +119,7 @@ module _ (s : Screen) where
   acts_written l [] = refl
   acts_written l (Sees redraws ∷ more) = written_then l redraws _ (acts_written (drawn_by s l redraws).layout more)
   acts_written l (Gets rest ∷ more) = acts_written l more
-  acts_written l (Obeys kills ring redraws ∷ more) = written_then l redraws _ (acts_written (drawn_by s l redraws).layout more)
+  acts_written l (Obeys textless ring redraws ∷ more) = written_then l redraws _ (acts_written (drawn_by s l redraws).layout more)
 
 -- ---- what a line's acts leave to come
 
@@ -135,7 +127,7 @@ rest_both : (c : Coming) (acts more : List Act) → rest_of c (acts ++ more) ≡
 rest_both c [] more = refl
 rest_both c (Sees redraws ∷ acts) more = rest_both c acts more
 rest_both c (Gets rest ∷ acts) more = rest_both rest acts more
-rest_both c (Obeys kills ring redraws ∷ acts) more = rest_both c acts more
+rest_both c (Obeys textless ring redraws ∷ acts) more = rest_both c acts more
 
 after_rest : (s : Setting) (info : Option (List ℕ)) (t : Turned) (o : Result Status ReadlineError)
     (next : Input → Ring → Option (List ℕ) → Value → Coming → Told) (acts : Input → Ring → Value → Coming → List Act)
@@ -472,14 +464,14 @@ module _ {D L : Type 0} (shows : D → Bool) (shown : D → List ℕ) (writes : 
           cut_unheard rest (act_deeds s l more) old.coming new.coming old.out new.out memory (ap (λ x. x.coming) lost) (ap (λ x. x.out) lost)
       cut_acts (Gets rest ∷ more) l old new is (inr h) =
           cut_heard rest (act_deeds s l more) old.coming new.coming old.out new.out (cut_acts more l (stage old.out rest old.ring) new is h)
-      cut_acts (Obeys kills ring redraws ∷ more) l old new is (inl h) =
-          let deeds = act_deeds s l (Obeys kills ring redraws ∷ more) in
+      cut_acts (Obeys textless ring redraws ∷ more) l old new is (inl h) =
+          let deeds = act_deeds s l (Obeys textless ring redraws ∷ more) in
           here deeds old.coming new.coming old.out new.out (ap (λ x. x.coming) h.1) (stay (between_memory why h.0) deeds old.coming old.out new.out (ap (λ x. x.out) h.1))
-      cut_acts (Obeys kills ring redraws ∷ more) l old new is (inr (inl h)) =
+      cut_acts (Obeys textless ring redraws ∷ more) l old new is (inr (inl h)) =
           let a = drawn_by s l redraws in
-          here (act_deeds s l (Obeys kills ring redraws ∷ more)) old.coming new.coming old.out new.out h.1
+          here (act_deeds s l (Obeys textless ring redraws ∷ more)) old.coming new.coming old.out new.out h.1
           (cut_more (call_deeds s a.calls) (act_deeds s a.layout more) old.coming (on old.out) (on new.out) old.coming why (cut_calls a.calls old.coming old.out new.out is h.0))
-      cut_acts (Obeys kills ring redraws ∷ more) l old new is (inr (inr (out, made, h))) =
+      cut_acts (Obeys textless ring redraws ∷ more) l old new is (inr (inr (out, made, h))) =
           let a = drawn_by s l redraws in
           cut_after (call_deeds s a.calls) (act_deeds s a.layout more) old.coming old.coming (on old.out) (on out) (on new.out) new.coming why
           (done_calls a.calls old.coming old.out out is made) (cut_acts more a.layout (stage out old.coming ring) new (screen_kept a.calls old.out out is made) h)

@@ -3,7 +3,7 @@ use Rattle.std.proofs.Common.{◌≡◌, ℕ, suc, ◌<◌, Bool, false, List, �
 use Rattle.std.specs.Prelude.{string_bytes}
 use Rattle.line_config.specs.declared.config.Config.{Config}
 use Rattle.line_config.specs.declared.errors.ReadlineError.{ReadlineError}
-use Rattle.line_config.specs.declared.errors.ReadlineError.TheVariants.{Eof, Interrupted, NotUtf8, PasteOutOfPlace, Reader, Display, Lines, HistoryText, Helper, Handler, Memory}
+use Rattle.line_config.specs.declared.errors.ReadlineError.TheVariants.{Reader, Display, Lines, HistoryText, Helper, Handler, Memory}
 use Rattle.line_config.specs.Sending.{Takes}
 use Rattle.line_help.specs.History.{Filed}
 use Rattle.line_keys.specs.Answers.{Custom}
@@ -50,17 +50,13 @@ reason_by : (told : Bool) (g : Given) (source display lines : Bool) (feed : KeyF
     → (feed.reason e → e ≡ Reader → IsTrue source)
     → (hook → IsTrue told → (shown : List (List ℕ)) × HelperFails g.helping shown)
     → cause_of g.custom display hook feed e → SessionReason told g source display lines e
-reason_by told g source display lines feed hook Eof of_source of_hook c = tt
-reason_by told g source display lines feed hook Interrupted of_source of_hook c = tt
-reason_by told g source display lines feed hook NotUtf8 of_source of_hook c = tt
-reason_by told g source display lines feed hook PasteOutOfPlace of_source of_hook c = tt
 reason_by told g source display lines feed hook Reader of_source of_hook c = of_source c refl
 reason_by told g source display lines feed hook Display of_source of_hook c = c
 reason_by told g source display lines feed hook Lines of_source of_hook c = absurd c
 reason_by told g source display lines feed hook HistoryText of_source of_hook c = absurd c
 reason_by told g source display lines feed hook Helper of_source of_hook c = of_hook c
 reason_by told g source display lines feed hook Handler of_source of_hook c = c
-reason_by told g source display lines feed hook Memory of_source of_hook c = tt
+reason_by told g source display lines feed hook _ of_source of_hook c = tt
 
 -- ---- the outcome of a line as that of its end
 

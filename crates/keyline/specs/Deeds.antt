@@ -27,31 +27,23 @@ pub data SessionDeed : Type 0 where
 abbrev pub bytes_drawn : List SessionDeed → List ℕ
 bytes_drawn [] = []
 bytes_drawn (Draws bytes ∷ more) = bytes ++ bytes_drawn more
-bytes_drawn (Hears rest ∷ more) = bytes_drawn more
-bytes_drawn (Keeps line ∷ more) = bytes_drawn more
-bytes_drawn (Writes line ∷ more) = bytes_drawn more
+bytes_drawn (deed ∷ more) = bytes_drawn more
 
 -- what is left to come after them
 abbrev pub left_of_deeds : Coming → List SessionDeed → Coming
 left_of_deeds coming [] = coming
-left_of_deeds coming (Draws bytes ∷ more) = left_of_deeds coming more
 left_of_deeds coming (Hears rest ∷ more) = left_of_deeds rest more
-left_of_deeds coming (Keeps line ∷ more) = left_of_deeds coming more
-left_of_deeds coming (Writes line ∷ more) = left_of_deeds coming more
+left_of_deeds coming (deed ∷ more) = left_of_deeds coming more
 
 abbrev pub lines_kept : List SessionDeed → List (List ℕ)
 lines_kept [] = []
-lines_kept (Draws bytes ∷ more) = lines_kept more
-lines_kept (Hears rest ∷ more) = lines_kept more
 lines_kept (Keeps line ∷ more) = line ∷ lines_kept more
-lines_kept (Writes line ∷ more) = lines_kept more
+lines_kept (deed ∷ more) = lines_kept more
 
 abbrev pub lines_written : List SessionDeed → List (List ℕ)
 lines_written [] = []
-lines_written (Draws bytes ∷ more) = lines_written more
-lines_written (Hears rest ∷ more) = lines_written more
-lines_written (Keeps line ∷ more) = lines_written more
 lines_written (Writes line ∷ more) = line ∷ lines_written more
+lines_written (deed ∷ more) = lines_written more
 
 -- ---- a line's
 
@@ -65,7 +57,7 @@ act_deeds s l [] = []
 act_deeds s l (Sees redraws ∷ more) =
     call_deeds s (drawn_by s l redraws).calls ++ act_deeds s (drawn_by s l redraws).layout more
 act_deeds s l (Gets rest ∷ more) = Hears rest ∷ act_deeds s l more
-act_deeds s l (Obeys kills ring redraws ∷ more) =
+act_deeds s l (Obeys textless ring redraws ∷ more) =
     call_deeds s (drawn_by s l redraws).calls ++ act_deeds s (drawn_by s l redraws).layout more
 
 -- its end: an accepted line is kept, and then written

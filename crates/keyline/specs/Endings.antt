@@ -10,7 +10,7 @@ status_of Eof = 0
 status_of Interrupted = 130
 status_of NotUtf8 = 3
 status_of PasteOutOfPlace = 4
-status_of _ = 1
+status_of ending = 1
 
 abbrev pub ending_text : Ending → List ℕ
 ending_text Eof = codes "EOF"

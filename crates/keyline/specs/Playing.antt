@@ -43,17 +43,17 @@ accepted_of (Err e) = []
 -- the next one is to draw, and this is a beginning of its bytes
 abbrev pub DrawsSome : List ℕ → List SessionDeed → Type 0
 DrawsSome begun (Draws bytes ∷ more) = (later : List ℕ) × (bytes ≡ begun ++ later)
-DrawsSome begun _ = ⊥
+DrawsSome begun deeds = ⊥
 
 -- the next one is to write a line, and this is a beginning of it
 abbrev pub WritesSome : List ℕ → List SessionDeed → Type 0
 WritesSome torn (Writes line ∷ more) = (later : List ℕ) × (line_text line ≡ torn ++ later)
-WritesSome torn _ = ⊥
+WritesSome torn deeds = ⊥
 
 -- the next one is to read
 abbrev pub IsHeard : List SessionDeed → Type 0
 IsHeard (Hears rest ∷ more) = ⊤
-IsHeard _ = ⊥
+IsHeard deeds = ⊥
 
 -- the display fails at a drawing, and has taken a beginning of its bytes; the sink of lines fails at
 -- a line, and has taken a beginning of it; a helper fails between deeds, and memory is wanting
@@ -64,7 +64,7 @@ Stops Lines coming next left begun torn = (left ≡ coming) × (begun ≡ []) ×
 Stops Helper coming next left begun torn = (left ≡ coming) × (begun ≡ []) × (torn ≡ [])
 Stops Memory coming next left begun torn =
     ((left ≡ coming) ⊎ ((left ≡ left_by Memory) × IsHeard next)) × (begun ≡ []) × (torn ≡ [])
-Stops _ coming next left begun torn = ⊥
+Stops why coming next left begun torn = ⊥
 
 module _ {D L : Type 0} (shows : D → Bool) (shown : D → List ℕ) (writes : L → Bool)
     (written_in : L → List ℕ) where

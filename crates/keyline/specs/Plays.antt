@@ -36,7 +36,7 @@ LoadFault config text HistoryText = IsTrue text.told → loads config text ≡ E
 LoadFault config text Reader =
     IsTrue text.told → IsTrue text.steady → loads config text ≡ Err Reader
 LoadFault config text Memory = ⊤
-LoadFault config text _ = ⊥
+LoadFault config text why = ⊥
 
 -- a history that was loaded
 pub record Loaded (config : Config) (text : Feed) (history : Filed) : Type 0 where

@@ -5,7 +5,7 @@ use Rattle.line_buffer.specs.declared.layout.Layout.{Layout}
 use Rattle.line_buffer.specs.declared.layout.Position.{Position}
 use Rattle.line_editor.specs.Courses.{Turn, Open, Accept, Last, TurnsLead}
 use Rattle.line_editor.specs.Redraws.{Redraw, Asked, asked, fresh, info_text}
-use Rattle.line_editor.specs.Redraws.Redraw.{Drawn, Moved, Typed, Taken, Bared, ToEnd, Beeped, Cleared}
+use Rattle.line_editor.specs.Redraws.Redraw.{Cleared}
 use Rattle.line_editor.specs.Sights.{Sight, sight, no_sight}
 use Rattle.line_screen.specs.Calls.{Screen, bytes_of, ruler_of}
 use Rattle.line_screen.specs.Display.{Display, Placed, meaning}
@@ -43,14 +43,8 @@ LowTurns s x (Last redraws breaks ∷ rest) = LowAll s x redraws
 -- ---- tops, and the rows above: a line's top is the row of its prompt's first cell
 
 abbrev pub clears : Redraw → Bool
-clears (Drawn prompt given text place info) = false
-clears (Moved text place) = false
-clears (Typed prompt c text place) = false
-clears (Taken prompt count text place) = false
-clears (Bared prompt text place) = false
-clears ToEnd = false
-clears Beeped = false
 clears Cleared = true
+clears redraw = false
 
 abbrev pub top_by : Redraw → ℕ → ℕ
 top_by r top = if clears r then 0 else top

@@ -25,12 +25,7 @@ is_fault Interrupted = false
 is_fault NotUtf8 = false
 is_fault PasteOutOfPlace = false
 is_fault Reader = false
-is_fault Display = true
-is_fault Lines = true
-is_fault HistoryText = true
-is_fault Helper = true
-is_fault Handler = true
-is_fault Memory = true
+is_fault why = true
 
 abbrev pub IsFault : ReadlineError → Type 0
 IsFault refusal = IsTrue (is_fault refusal)

@@ -1,5 +1,5 @@
 -- Acts of a line: what they come to, done in full, and cut.
-use Rattle.std.proofs.Common.{◌≡◌, ◌⊎◌, IsTrue, List, [], ◌∷◌, ◌++◌, ℕ, zero, suc, Bool, refl, sym, ap, subst, ◌∙◌, inl, inr, append_assoc, append-nil}
+use Rattle.std.proofs.Common.{◌≡◌, ◌⊎◌, List, [], ◌∷◌, ◌++◌, ℕ, zero, suc, refl, sym, ap, subst, ◌∙◌, inl, inr, append_assoc, append-nil}
 use Rattle.std.specs.Prelude.{Option, None, Result, Ok, Err, flat_map}
 use Rattle.std.specs.List.{FoldsTo}
 use Rattle.line_buffer.specs.declared.layout.Layout.{Layout}
@@ -32,50 +32,50 @@ abbrev pub redraws_of : List Act → List Redraw
 redraws_of [] = []
 redraws_of (Sees redraws ∷ more) = redraws ++ redraws_of more
 redraws_of (Gets rest ∷ more) = redraws_of more
-redraws_of (Obeys kills ring redraws ∷ more) = redraws ++ redraws_of more
+redraws_of (Obeys textless ring redraws ∷ more) = redraws ++ redraws_of more
 
 abbrev pub rest_of : Coming → List Act → Coming
 rest_of c [] = c
 rest_of c (Sees redraws ∷ more) = rest_of c more
 rest_of c (Gets rest ∷ more) = rest_of rest more
-rest_of c (Obeys kills ring redraws ∷ more) = rest_of c more
+rest_of c (Obeys textless ring redraws ∷ more) = rest_of c more
 
 abbrev pub ring_of : Ring → List Act → Ring
 ring_of r [] = r
 ring_of r (Sees redraws ∷ more) = ring_of r more
 ring_of r (Gets rest ∷ more) = ring_of r more
-ring_of r (Obeys kills ring redraws ∷ more) = ring_of ring more
+ring_of r (Obeys textless ring redraws ∷ more) = ring_of ring more
 
 -- their calls in order, and the layout after them
 abbrev pub asked_of : Ruler → Layout → List Act → Asked
 asked_of r l [] = nothing_asked l
 asked_of r l (Sees redraws ∷ more) = then_asked (asked r l redraws) (asked_of r (asked r l redraws).layout more)
 asked_of r l (Gets rest ∷ more) = asked_of r l more
-asked_of r l (Obeys kills ring redraws ∷ more) = then_asked (asked r l redraws) (asked_of r (asked r l redraws).layout more)
+asked_of r l (Obeys textless ring redraws ∷ more) = then_asked (asked r l redraws) (asked_of r (asked r l redraws).layout more)
 
 pub asked_same : (r : Ruler) (l : Layout) (acts : List Act) → asked_of r l acts ≡ asked r l (redraws_of acts)
 asked_same r l [] = refl
 asked_same r l (Sees redraws ∷ more) = ap (then_asked (asked r l redraws)) (asked_same r (asked r l redraws).layout more) ∙ sym (asked_both r l redraws (redraws_of more))
 asked_same r l (Gets rest ∷ more) = asked_same r l more
-asked_same r l (Obeys kills ring redraws ∷ more) = ap (then_asked (asked r l redraws)) (asked_same r (asked r l redraws).layout more) ∙ sym (asked_both r l redraws (redraws_of more))
+asked_same r l (Obeys textless ring redraws ∷ more) = ap (then_asked (asked r l redraws)) (asked_same r (asked r l redraws).layout more) ∙ sym (asked_both r l redraws (redraws_of more))
 
 redraws_both : (acts more : List Act) → redraws_of (acts ++ more) ≡ redraws_of acts ++ redraws_of more
 redraws_both [] more = refl
 redraws_both (Sees redraws ∷ acts) more = ap (λ x. redraws ++ x) (redraws_both acts more) ∙ sym (append_assoc redraws (redraws_of acts) (redraws_of more))
 redraws_both (Gets rest ∷ acts) more = redraws_both acts more
-redraws_both (Obeys kills ring redraws ∷ acts) more = ap (λ x. redraws ++ x) (redraws_both acts more) ∙ sym (append_assoc redraws (redraws_of acts) (redraws_of more))
+redraws_both (Obeys textless ring redraws ∷ acts) more = ap (λ x. redraws ++ x) (redraws_both acts more) ∙ sym (append_assoc redraws (redraws_of acts) (redraws_of more))
 
 rest_both : (c : Coming) (acts more : List Act) → rest_of c (acts ++ more) ≡ rest_of (rest_of c acts) more
 rest_both c [] more = refl
 rest_both c (Sees redraws ∷ acts) more = rest_both c acts more
 rest_both c (Gets rest ∷ acts) more = rest_both rest acts more
-rest_both c (Obeys kills ring redraws ∷ acts) more = rest_both c acts more
+rest_both c (Obeys textless ring redraws ∷ acts) more = rest_both c acts more
 
 ring_both : (r : Ring) (acts more : List Act) → ring_of r (acts ++ more) ≡ ring_of (ring_of r acts) more
 ring_both r [] more = refl
 ring_both r (Sees redraws ∷ acts) more = ring_both r acts more
 ring_both r (Gets rest ∷ acts) more = ring_both r acts more
-ring_both r (Obeys kills ring redraws ∷ acts) more = ring_both ring acts more
+ring_both r (Obeys textless ring redraws ∷ acts) more = ring_both ring acts more
 
 -- ---- a script's
 
@@ -179,7 +179,7 @@ module _ {R : Type 0} (canvas : Canvas R) (r : Ruler) (fault : ReadlineError) wh
   cut_here [] l old is = (is, refl)
   cut_here (Sees redraws ∷ more) l old is = inl (begun_none canvas fault (asked r l redraws).calls old.out old.out (between_memory fault is) refl, refl)
   cut_here (Gets rest ∷ more) l old is = inl (is, inl refl)
-  cut_here (Obeys kills ring redraws ∷ more) l old is = inl (is, refl)
+  cut_here (Obeys textless ring redraws ∷ more) l old is = inl (is, refl)
 
   -- before any act
   pub cut_none : (acts : List Act) (l : Layout) (old new : Stage R) → fault ≡ Memory → new ≡ old → CutIn canvas r fault acts l old new
@@ -205,10 +205,10 @@ module _ {R : Type 0} (canvas : Canvas R) (r : Ruler) (fault : ReadlineError) wh
   unfolding CutIn
   cut_got rest more l old new h = inr h
 
-  pub cut_obeying : (kills : Bool) (ring : Ring) (redraws : List Redraw) (more : List Act) (l : Layout) (old new : Stage R) → Begun canvas fault (asked r l redraws).calls old.out new.out
-      → new.coming ≡ old.coming → (new.ring ≡ ring) ⊎ ((fault ≡ Memory) × IsTrue kills) → CutIn canvas r fault (Obeys kills ring redraws ∷ more) l old new
+  pub cut_obeying : (textless ring : Ring) (redraws : List Redraw) (more : List Act) (l : Layout) (old new : Stage R) → Begun canvas fault (asked r l redraws).calls old.out new.out
+      → new.coming ≡ old.coming → (new.ring ≡ ring) ⊎ ((fault ≡ Memory) × (new.ring ≡ textless)) → CutIn canvas r fault (Obeys textless ring redraws ∷ more) l old new
   unfolding CutIn
-  cut_obeying kills ring redraws more l old new h k q = inr (inl (h, k, q))
+  cut_obeying textless ring redraws more l old new h k q = inr (inl (h, k, q))
 
   -- more are to come after them
   pub cut_before : (acts more : List Act) (l : Layout) (old new : Stage R) → CutIn canvas r fault acts l old new → CutIn canvas r fault (acts ++ more) l old new
@@ -218,9 +218,9 @@ module _ {R : Type 0} (canvas : Canvas R) (r : Ruler) (fault : ReadlineError) wh
   cut_before (Sees redraws ∷ acts) more l old new (inr (out, made, h)) = inr (out, made, cut_before acts more (asked r l redraws).layout (stage out old.coming old.ring) new h)
   cut_before (Gets rest ∷ acts) more l old new (inl h) = inl h
   cut_before (Gets rest ∷ acts) more l old new (inr h) = inr (cut_before acts more l (stage old.out rest old.ring) new h)
-  cut_before (Obeys kills ring redraws ∷ acts) more l old new (inl h) = inl h
-  cut_before (Obeys kills ring redraws ∷ acts) more l old new (inr (inl h)) = inr (inl h)
-  cut_before (Obeys kills ring redraws ∷ acts) more l old new (inr (inr (out, made, h))) =
+  cut_before (Obeys textless ring redraws ∷ acts) more l old new (inl h) = inl h
+  cut_before (Obeys textless ring redraws ∷ acts) more l old new (inr (inl h)) = inr (inl h)
+  cut_before (Obeys textless ring redraws ∷ acts) more l old new (inr (inr (out, made, h))) =
       inr (inr (out, made, cut_before acts more (asked r l redraws).layout (stage out old.coming ring) new h))
 
   -- those before them were done in full
@@ -232,7 +232,7 @@ module _ {R : Type 0} (canvas : Canvas R) (r : Ruler) (fault : ReadlineError) wh
       let parts = folds_apart canvas.made (asked r l redraws).calls (asked_of r (asked r l redraws).layout acts).calls old.out out made in
       inr (parts.0, parts.1, cut_behind acts more (asked r l redraws).layout (stage parts.0 old.coming old.ring) new out parts.2 h)
   cut_behind (Gets rest ∷ acts) more l old new out made h = inr (cut_behind acts more l (stage old.out rest old.ring) new out made h)
-  cut_behind (Obeys kills ring redraws ∷ acts) more l old new out made h =
+  cut_behind (Obeys textless ring redraws ∷ acts) more l old new out made h =
       let parts = folds_apart canvas.made (asked r l redraws).calls (asked_of r (asked r l redraws).layout acts).calls old.out out made in
       inr (inr (parts.0, parts.1, cut_behind acts more (asked r l redraws).layout (stage parts.0 old.coming ring) new out parts.2 h))
 
@@ -252,11 +252,11 @@ module _ {R : Type 0} (canvas : Canvas R) (r : Ruler) (fault : ReadlineError) wh
   begun_in (Gets rest ∷ acts) l old new (inl (is, inl same)) = still (asked_of r l acts).calls old.out new.out is (ap (λ x. x.out) same)
   begun_in (Gets rest ∷ acts) l old new (inl (is, inr lost)) = still (asked_of r l acts).calls old.out new.out is (ap (λ x. x.out) lost)
   begun_in (Gets rest ∷ acts) l old new (inr h) = begun_in acts l (stage old.out rest old.ring) new h
-  begun_in (Obeys kills ring redraws ∷ acts) l old new (inl h) =
+  begun_in (Obeys textless ring redraws ∷ acts) l old new (inl h) =
       still ((asked r l redraws).calls ++ (asked_of r (asked r l redraws).layout acts).calls) old.out new.out h.0 (ap (λ x. x.out) h.1)
-  begun_in (Obeys kills ring redraws ∷ acts) l old new (inr (inl h)) =
+  begun_in (Obeys textless ring redraws ∷ acts) l old new (inr (inl h)) =
       begun_before canvas fault (asked r l redraws).calls (asked_of r (asked r l redraws).layout acts).calls old.out new.out h.0
-  begun_in (Obeys kills ring redraws ∷ acts) l old new (inr (inr (out, made, h))) =
+  begun_in (Obeys textless ring redraws ∷ acts) l old new (inr (inr (out, made, h))) =
       begun_behind canvas fault (asked r l redraws).calls (asked_of r (asked r l redraws).layout acts).calls old.out out new.out made
       (begun_in acts (asked r l redraws).layout (stage out old.coming ring) new h)
 

@@ -1,8 +1,8 @@
 -- Calls of which the first ones were made, and a fault.
-use Rattle.std.proofs.Common.{◌≡◌, Bool, true, false, true≢false, List, [], ◌∷◌, ◌++◌, refl, sym, subst, inl, inr}
+use Rattle.std.proofs.Common.{◌≡◌, false, true≢false, List, [], ◌∷◌, ◌++◌, refl, sym, subst, inl, inr}
 use Rattle.std.specs.List.{FoldsTo}
 use Rattle.line_config.specs.declared.errors.ReadlineError.{ReadlineError}
-use Rattle.line_config.specs.declared.errors.ReadlineError.TheVariants.{Eof, Interrupted, NotUtf8, PasteOutOfPlace, Reader, Display, Lines, HistoryText, Helper, Handler, Memory}
+use Rattle.line_config.specs.declared.errors.ReadlineError.TheVariants.{Display, Helper, Memory}
 use Rattle.line_editor.specs.Calls.{Call, Canvas, ComesBetween, Begun}
 use Rattle.line_editor.specs.States.{reason_of}
 
@@ -11,14 +11,7 @@ pub between_of : (hook : Type 0) (fault : ReadlineError) → reason_of false hoo
 between_of hook Helper why = tt
 between_of hook Memory why = tt
 between_of hook Display why = absurd (true≢false (sym why))
-between_of hook Eof why = elim why [ ]
-between_of hook Interrupted why = elim why [ ]
-between_of hook NotUtf8 why = elim why [ ]
-between_of hook PasteOutOfPlace why = elim why [ ]
-between_of hook Reader why = elim why [ ]
-between_of hook Lines why = elim why [ ]
-between_of hook HistoryText why = elim why [ ]
-between_of hook Handler why = elim why [ ]
+between_of hook _ why = absurd why
 
 pub between_memory : (fault : ReadlineError) → fault ≡ Memory → ComesBetween fault
 between_memory fault is = subst ComesBetween (sym is) tt

@@ -16,12 +16,12 @@ use Rattle.line_keys.specs.Follows.{Follows, Because, Goes}
 use Rattle.line_keys.specs.Modes.{is_emacs}
 use Rattle.line_keys.specs.Phrases.{Input, Script}
 use Rattle.line_keys.specs.declared.command.Cmd.{Cmd}
-use Rattle.line_keys.specs.declared.command.Cmd.TheVariants.{Abort, AcceptLine, BeginningOfHistory, CapitalizeWord, ClearScreen, Complete, CompleteBackward, CompleteHint, Dedent, DowncaseWord, EndOfFile, EndOfHistory, ForwardSearchHistory, HistorySearchBackward, HistorySearchForward, Indent, Insert, Interrupt, Kill, Move, NextHistory, Noop, Repaint, Overwrite, PreviousHistory, QuotedInsert, ReplaceChar, Replace, ReverseSearchHistory, SelfInsert, Suspend, TransposeChars, TransposeWords, Undo, Unknown, UpcaseWord, ViYankTo, Yank, YankPop, LineUpOrPreviousHistory, LineDownOrNextHistory, Newline, AcceptOrInsertLine}
+use Rattle.line_keys.specs.declared.command.Cmd.TheVariants.{EndOfFile, AcceptOrInsertLine}
 use Rattle.line_record.specs.Ring.{Ring}
 use Rattle.line_editor.specs.Accepting.{accepts}
 use Rattle.line_editor.specs.Acts.{Act, Obeys, stage, CutIn, script_acts, command_acts, turn_acts}
 use Rattle.line_editor.specs.Asks.{shown_in}
-use Rattle.line_editor.specs.Commands.{Means, means_of, effect, ring_after_command, is_killing, LeavesRing, outcome}
+use Rattle.line_editor.specs.Commands.{Means, means_of, effect, ring_after_command, ring_without_text, LeavesRing, outcome}
 use Rattle.line_editor.specs.Displays.{display_of}
 use Rattle.line_editor.specs.Executing.{Done, Executes}
 use Rattle.line_editor.specs.Lines.{Enacted, enacted, line_phrase, phrase_enacted, Turned, turned_by, turn_of, reset_by}
@@ -106,15 +106,10 @@ module _ {Out H Hi K T : Type 0} {renderer : renderers.Renderer.Ghosts Out} {com
   pub edit_cause : (custom : Custom) (t : State Out H Hi K T renderer completer candidate hinter hint highlighter validator history) (f : KeyFeed) (e : ReadlineError) → Reason t e → Cause custom t f e
   edit_cause custom t f Eof why = tt
   edit_cause custom t f Interrupted why = tt
-  edit_cause custom t f NotUtf8 why = elim why [ ]
-  edit_cause custom t f PasteOutOfPlace why = elim why [ ]
-  edit_cause custom t f Reader why = elim why [ ]
   edit_cause custom t f Display why = why
-  edit_cause custom t f Lines why = elim why [ ]
-  edit_cause custom t f HistoryText why = elim why [ ]
   edit_cause custom t f Helper why = why
-  edit_cause custom t f Handler why = elim why [ ]
   edit_cause custom t f Memory why = tt
+  edit_cause custom t f _ why = absurd why
 
   if_cause : (custom : Custom) (t : State Out H Hi K T renderer completer candidate hinter hint highlighter validator history) (f : KeyFeed) (b : Bool) (x y : Result Status ReadlineError)
       → IfErr x (λ e. Cause custom t f e) → IfErr y (λ e. Cause custom t f e) → IfErr (if b then x else y) (λ e. Cause custom t f e)
@@ -125,47 +120,7 @@ module _ {Out H Hi K T : Type 0} {renderer : renderers.Renderer.Ghosts Out} {com
   end_cause : (custom : Custom) (t : State Out H Hi K T renderer completer candidate hinter hint highlighter validator history) (f : KeyFeed) (m : Means) (s : Setting) (v : Value) (cmd : Cmd) → IfErr (outcome m cmd s v) (λ e. Cause custom t f e)
   end_cause custom t f m s v EndOfFile = if_cause custom t f (length v.line.text == 0) (Err Eof) (if is_emacs m.mode then Ok Proceed else Ok Submit) tt (if_cause custom t f (is_emacs m.mode) (Ok Proceed) (Ok Submit) tt tt)
   end_cause custom t f m s v (AcceptOrInsertLine middle) = if_cause custom t f (accepts middle s v) (Ok Submit) (Ok Proceed) tt tt
-  end_cause custom t f m s v Interrupt = tt
-  end_cause custom t f m s v AcceptLine = tt
-  end_cause custom t f m s v Abort = tt
-  end_cause custom t f m s v BeginningOfHistory = tt
-  end_cause custom t f m s v CapitalizeWord = tt
-  end_cause custom t f m s v ClearScreen = tt
-  end_cause custom t f m s v Complete = tt
-  end_cause custom t f m s v CompleteBackward = tt
-  end_cause custom t f m s v CompleteHint = tt
-  end_cause custom t f m s v (Dedent movement) = tt
-  end_cause custom t f m s v DowncaseWord = tt
-  end_cause custom t f m s v EndOfHistory = tt
-  end_cause custom t f m s v ForwardSearchHistory = tt
-  end_cause custom t f m s v HistorySearchBackward = tt
-  end_cause custom t f m s v HistorySearchForward = tt
-  end_cause custom t f m s v (Indent movement) = tt
-  end_cause custom t f m s v (Insert n text) = tt
-  end_cause custom t f m s v (Kill movement) = tt
-  end_cause custom t f m s v (Move movement) = tt
-  end_cause custom t f m s v NextHistory = tt
-  end_cause custom t f m s v Noop = tt
-  end_cause custom t f m s v Repaint = tt
-  end_cause custom t f m s v (Overwrite c) = tt
-  end_cause custom t f m s v PreviousHistory = tt
-  end_cause custom t f m s v QuotedInsert = tt
-  end_cause custom t f m s v (ReplaceChar n c) = tt
-  end_cause custom t f m s v (Replace movement text) = tt
-  end_cause custom t f m s v ReverseSearchHistory = tt
-  end_cause custom t f m s v (SelfInsert n c) = tt
-  end_cause custom t f m s v Suspend = tt
-  end_cause custom t f m s v TransposeChars = tt
-  end_cause custom t f m s v (TransposeWords n) = tt
-  end_cause custom t f m s v (Undo n) = tt
-  end_cause custom t f m s v Unknown = tt
-  end_cause custom t f m s v UpcaseWord = tt
-  end_cause custom t f m s v (ViYankTo movement) = tt
-  end_cause custom t f m s v (Yank n anchor) = tt
-  end_cause custom t f m s v YankPop = tt
-  end_cause custom t f m s v (LineUpOrPreviousHistory n) = tt
-  end_cause custom t f m s v (LineDownOrNextHistory n) = tt
-  end_cause custom t f m s v Newline = tt
+  end_cause custom t f m s v _ = tt
 
   -- ---- what is known of the phrase
 
@@ -256,7 +211,7 @@ module _ {Out H Hi K T : Type 0} {renderer : renderers.Renderer.Ghosts Out} {com
 
       -- the command's act, as it is done at the state after the phrase
       abbrev obeyed : Doing
-      obeyed a v = Obeys (is_killing cmd) (ring_after_command cmd v q) (effect (means_of i1 indent q) cmd a v).redraws ∷ []
+      obeyed a v = Obeys (ring_without_text cmd v q) (ring_after_command cmd v q) (effect (means_of i1 indent q) cmd a v).redraws ∷ []
 
       abbrev front : List Act
       front = spoken s (setting_of s) (value_of s)
@@ -270,7 +225,7 @@ module _ {Out H Hi K T : Type 0} {renderer : renderers.Renderer.Ghosts Out} {com
       obeyed_same : front ++ obeyed (setting_of s) before.made.value ≡ turn_doing custom indent i r c (setting_of s) (value_of s)
       obeyed_same =
           let v : Value = before.made.value in
-          let act : Input → Ring → List Act = λ x k. Obeys (is_killing cmd) (ring_after_command cmd v k) (effect (means_of x indent k) cmd (setting_of s) v).redraws ∷ [] in
+          let act : Input → Ring → List Act = λ x k. Obeys (ring_without_text cmd v k) (ring_after_command cmd v k) (effect (means_of x indent k) cmd (setting_of s) v).redraws ∷ [] in
           ap (λ k. front ++ act i1 k) reset ∙ ap (λ x. front ++ act x (reset_by cmd r)) h.input_is
           ∙ ap (λ x. front ++ command_acts (setting_of s) indent r before x) h.answer_is
           ∙ acts_same custom indent i r c (setting_of s) (value_of s)
@@ -285,7 +240,7 @@ module _ {Out H Hi K T : Type 0} {renderer : renderers.Renderer.Ghosts Out} {com
         done = subst (λ x. CutIn renderer.canvas (renderer.canvas.ruler s.out) e x s.layout (stage s.out c r) (stage t.out c1 ring')) obeyed_same
             (cut_onward front obeyed (phrased_made custom indent i r c) s m (tt {0}) e c r (stage t.out c1 ring') h.does
             (script_redraws (setting_of s) (line_phrase custom i (shown_in (value_of s)) c) i (value_of s) c)
-            (cut_obeying renderer.canvas (renderer.canvas.ruler m.out) e (is_killing cmd) (ring_after_command cmd (value_of m) q) (effect (means_of i1 indent q) cmd (setting_of m) (value_of m)).redraws [] m.layout
+            (cut_obeying renderer.canvas (renderer.canvas.ruler m.out) e (ring_without_text cmd (value_of m) q) (ring_after_command cmd (value_of m) q) (effect (means_of i1 indent q) cmd (setting_of m) (value_of m)).redraws [] m.layout
             (stage m.out (rest_of c front) (ring_of r front)) (stage t.out c1 ring') k.begun (sym front_rest) left));
       }
 

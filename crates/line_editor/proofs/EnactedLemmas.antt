@@ -2,7 +2,7 @@
 use Rattle.std.proofs.Common.{◌≡◌, ◌⊎◌, inl, inr, Bool, true, true≢false, List, ◌∷◌, ◌++◌, refl, sym, ap, subst, ◌∙◌}
 use Rattle.std.specs.Prelude.{Result, Ok, Err}
 use Rattle.line_config.specs.declared.errors.ReadlineError.{ReadlineError}
-use Rattle.line_config.specs.declared.errors.ReadlineError.TheVariants.{Eof, Interrupted, NotUtf8, PasteOutOfPlace, Reader, Display, Lines, HistoryText, Helper, Handler, Memory}
+use Rattle.line_config.specs.declared.errors.ReadlineError.TheVariants.{Reader, Memory}
 use Rattle.std.specs.List.{FoldsTo}
 use Rattle.line_help.specs.declared.completion as completions
 use Rattle.line_help.specs.declared.hint as hints
@@ -33,29 +33,13 @@ use Rattle.line_editor.proofs.DoesLemmas.{does_both, does_as, setting_stays, sta
 wants_memory : (item : InputItem) (e : ReadlineError) → IsReadFault item true e → e ≡ Memory
 wants_memory item Memory is = refl
 wants_memory item Reader is = absurd (true≢false is)
-wants_memory item Eof is = elim is [ ]
-wants_memory item Interrupted is = elim is [ ]
-wants_memory item NotUtf8 is = elim is [ ]
-wants_memory item PasteOutOfPlace is = elim is [ ]
-wants_memory item Display is = elim is [ ]
-wants_memory item Lines is = elim is [ ]
-wants_memory item HistoryText is = elim is [ ]
-wants_memory item Helper is = elim is [ ]
-wants_memory item Handler is = elim is [ ]
+wants_memory item _ is = absurd is
 
 fault_apart : (item : InputItem) (steady : Bool) (e : ReadlineError) → IsReadFault item steady e → IsReadFault item true e ⊎ (e ≡ Reader)
 fault_apart item steady Reader is = inr refl
 fault_apart Key steady Memory is = inl is
 fault_apart Paste steady Memory is = inl is
-fault_apart item steady Eof is = elim is [ ]
-fault_apart item steady Interrupted is = elim is [ ]
-fault_apart item steady NotUtf8 is = elim is [ ]
-fault_apart item steady PasteOutOfPlace is = elim is [ ]
-fault_apart item steady Display is = elim is [ ]
-fault_apart item steady Lines is = elim is [ ]
-fault_apart item steady HistoryText is = elim is [ ]
-fault_apart item steady Helper is = elim is [ ]
-fault_apart item steady Handler is = elim is [ ]
+fault_apart item steady _ is = absurd is
 
 first_of : {P Q R : Type 0} → P ⊎ R → (P → Q) → Q ⊎ R
 first_of (inl h) go = inl (go h)

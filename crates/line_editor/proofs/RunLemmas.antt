@@ -4,7 +4,7 @@ use Rattle.std.specs.Prelude.{⊤, Option, Some, None, option_map, Result, Ok, E
 use Rattle.std.specs.List.{FoldsTo}
 use Rattle.line_config.specs.declared.config.Config.{Config}
 use Rattle.line_config.specs.declared.errors.ReadlineError.{ReadlineError}
-use Rattle.line_config.specs.declared.errors.ReadlineError.TheVariants.{Eof, Interrupted, NotUtf8, PasteOutOfPlace, Reader, Display, Lines, HistoryText, Helper, Handler, Memory}
+use Rattle.line_config.specs.declared.errors.ReadlineError.TheVariants.{Display, Helper, Memory}
 use Rattle.line_help.specs.Hints.{Hinted, Answers}
 use Rattle.line_help.specs.declared.completion as completions
 use Rattle.line_help.specs.declared.hint as hints
@@ -97,27 +97,12 @@ reason_to : (b c : Bool) (P Q : Type 0) (e : ReadlineError) → b ≡ c → (P �
 reason_to b c P Q Display same go why = subst IsTrue same why
 reason_to b c P Q Helper same go why = go why
 reason_to b c P Q Memory same go why = tt
-reason_to b c P Q Eof same go why = why
-reason_to b c P Q Interrupted same go why = why
-reason_to b c P Q NotUtf8 same go why = why
-reason_to b c P Q PasteOutOfPlace same go why = why
-reason_to b c P Q Reader same go why = why
-reason_to b c P Q Lines same go why = why
-reason_to b c P Q HistoryText same go why = why
-reason_to b c P Q Handler same go why = why
+reason_to b c P Q _ same go why = why
 
 cause_to : (custom : Custom) (b c : Bool) (P Q : Type 0) (feed : KeyFeed) (e : ReadlineError) → b ≡ c → (P → Q) → cause_of custom b P feed e → cause_of custom c Q feed e
 cause_to custom b c P Q feed Display same go why = subst IsTrue same why
 cause_to custom b c P Q feed Helper same go why = go why
-cause_to custom b c P Q feed Memory same go why = why
-cause_to custom b c P Q feed Eof same go why = why
-cause_to custom b c P Q feed Interrupted same go why = why
-cause_to custom b c P Q feed NotUtf8 same go why = why
-cause_to custom b c P Q feed PasteOutOfPlace same go why = why
-cause_to custom b c P Q feed Reader same go why = why
-cause_to custom b c P Q feed Lines same go why = why
-cause_to custom b c P Q feed HistoryText same go why = why
-cause_to custom b c P Q feed Handler same go why = why
+cause_to custom b c P Q feed _ same go why = why
 
 -- ---- the line that is meant
 

@@ -1,5 +1,5 @@
 -- What is done for a line, in order, and where a fault stops it.
-use Rattle.std.specs.Prelude.{◌≡◌, ◌⊎◌, ℕ, zero, suc, ◌++◌, Bool, List, [], ◌∷◌, Result, Ok, Err, IsTrue}
+use Rattle.std.specs.Prelude.{◌≡◌, ◌⊎◌, ℕ, zero, suc, ◌++◌, List, [], ◌∷◌, Result, Ok, Err}
 use Rattle.std.specs.List.{FoldsTo}
 use Rattle.line_buffer.specs.declared.layout.Layout.{Layout}
 use Rattle.line_config.specs.declared.errors.ReadlineError.{ReadlineError}
@@ -12,7 +12,7 @@ use Rattle.line_record.specs.Ring.{Ring}
 use Rattle.line_editor.specs.Accepting.{submitted}
 use Rattle.line_editor.specs.Asks.{shown_in, ask_effect}
 use Rattle.line_editor.specs.Calls.{Canvas, Ruler, Begun}
-use Rattle.line_editor.specs.Commands.{means_of, effect, ring_after_command, is_killing}
+use Rattle.line_editor.specs.Commands.{means_of, effect, ring_after_command, ring_without_text}
 use Rattle.line_editor.specs.Drawing.{refreshed}
 use Rattle.line_editor.specs.Lines.{Enacted, line_phrase, phrase_enacted, reset_by, Turned, turn_of}
 use Rattle.line_editor.specs.Redraws.{Redraw, asked}
@@ -26,8 +26,9 @@ pub data Act : Type 0 where
   Sees : (redraws : List Redraw) → Act
   -- a key or a paste is read, and this is to come after it
   Gets : (rest : Coming) → Act
-  -- a command: the ring becomes this, and this is to be seen
-  Obeys : (kills : Bool) (ring : Ring) (redraws : List Redraw) → Act
+  -- a command: the ring becomes this one, or where it finds no memory for a text that one, and
+  -- this is to be seen
+  Obeys : (textless : Ring) (ring : Ring) (redraws : List Redraw) → Act
 
 -- ---- what a line means, as acts
 
@@ -44,7 +45,7 @@ script_acts s (Becomes kept later) v = script_acts s later v
 abbrev pub command_acts : Setting → ℕ → Ring → Enacted Cmd → Result Cmd ReadlineError → List Act
 command_acts s indent r p (Ok cmd) =
     let kept = reset_by cmd r in
-    Obeys (is_killing cmd) (ring_after_command cmd p.made.value kept)
+    Obeys (ring_without_text cmd p.made.value kept) (ring_after_command cmd p.made.value kept)
     (effect (means_of p.input indent kept) cmd s p.made.value).redraws ∷ []
 command_acts s indent r p (Err e) = []
 
@@ -94,8 +95,8 @@ module _ {R : Type 0} (canvas : Canvas R) (r : Ruler) where
 
   -- the first of these acts were done in full, and then the fault came: in what is to be seen, or
   -- for want of memory before a read or a command, in a read or after all. A read that finds no
-  -- memory for its text is refused for good; a command that is refused has changed the ring, and
-  -- where it kills and memory is wanting, nothing is known of the ring
+  -- memory for its text is refused for good; a command that is refused has changed the ring, but
+  -- where memory is wanting that may be without its text
   unfoldable pub CutIn : ReadlineError → List Act → Layout → Stage R → Stage R → Type 0
   CutIn fault [] l old new = (fault ≡ Memory) × (new ≡ old)
   CutIn fault (Sees redraws ∷ more) l old new =
@@ -105,9 +106,9 @@ module _ {R : Type 0} (canvas : Canvas R) (r : Ruler) where
   CutIn fault (Gets rest ∷ more) l old new =
       ((fault ≡ Memory) × ((new ≡ old) ⊎ (new ≡ stage old.out (left_by Memory) old.ring)))
       ⊎ CutIn fault more l (stage old.out rest old.ring) new
-  CutIn fault (Obeys is_killing ring redraws ∷ more) l old new =
+  CutIn fault (Obeys textless ring redraws ∷ more) l old new =
       ((fault ≡ Memory) × (new ≡ old))
       ⊎ ((BegunOf fault redraws l old.out new.out × (new.coming ≡ old.coming)
-      × ((new.ring ≡ ring) ⊎ ((fault ≡ Memory) × IsTrue is_killing)))
+      × ((new.ring ≡ ring) ⊎ ((fault ≡ Memory) × (new.ring ≡ textless))))
       ⊎ ((out : R) × MadeOf redraws l old.out out
       × CutIn fault more (asked r l redraws).layout (stage out old.coming ring) new))

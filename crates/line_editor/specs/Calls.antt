@@ -51,7 +51,7 @@ pub record Makes {R A : Type 0} (canvas : Canvas R) (call : Call) (old new : R)
 abbrev pub ComesBetween : ReadlineError → Type 0
 ComesBetween Helper = ⊤
 ComesBetween Memory = ⊤
-ComesBetween _ = ⊥
+ComesBetween why = ⊥
 
 -- of these calls the first ones were made, and then the fault came: a display's at the next one,
 -- which was refused, and any other before it, or after them all

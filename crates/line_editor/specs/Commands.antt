@@ -1,5 +1,5 @@
 -- What each command makes of the editor's value and of the ring, and how it ends.
-use Rattle.std.specs.Prelude.{◌≡◌, ◌⊎◌, IsTrue, ℕ, ◌==◌, Bool, true, false, if◌then◌else◌, Result, Ok, Err, slice_get, length, is_some}
+use Rattle.std.specs.Prelude.{◌≡◌, ◌⊎◌, ℕ, ◌==◌, Bool, true, false, if◌then◌else◌, Result, Ok, Err, slice_get, length, is_some}
 use Rattle.line_buffer.specs.Columns.{line_up, line_down}
 use Rattle.line_buffer.specs.declared.types.Anchor.TheVariants.{Before}
 use Rattle.line_buffer.specs.declared.types.WordAction.TheVariants.{Capitalize, Lowercase, Uppercase}
@@ -13,6 +13,7 @@ use Rattle.line_keys.specs.declared.command.Cmd.{Cmd}
 use Rattle.line_keys.specs.declared.command.Cmd.TheVariants.{AcceptLine, BeginningOfHistory, CapitalizeWord, ClearScreen, CompleteHint, Dedent, DowncaseWord, EndOfFile, EndOfHistory, HistorySearchBackward, HistorySearchForward, Indent, Insert, Interrupt, Kill, Move, NextHistory, Repaint, Overwrite, PreviousHistory, ReplaceChar, Replace, SelfInsert, TransposeChars, TransposeWords, Undo, UpcaseWord, ViYankTo, Yank, YankPop, LineUpOrPreviousHistory, LineDownOrNextHistory, Newline, AcceptOrInsertLine}
 use Rattle.line_keys.specs.declared.command.InputMode.{InputMode}
 use Rattle.line_record.specs.Ring.{Ring, yanked, turned, exchanged}
+use Rattle.line_edits.specs.Edits.{unkilled}
 use Rattle.line_editor.specs.Accepting.{bare, newline, accept, accepts, accept_or_insert}
 use Rattle.line_editor.specs.Drawing.{refreshed, cleared_and_drawn, moved_to_end}
 use Rattle.line_editor.specs.Hinting.{complete_hint}
@@ -100,18 +101,19 @@ ring_after_command (Yank n anchor) v r = yanked r
 ring_after_command YankPop v r = turned r
 ring_after_command cmd v r = r
 
--- what takes a text down in the ring
-abbrev pub is_killing : Cmd → Bool
-is_killing (Kill movement) = true
-is_killing (Replace movement text) = true
-is_killing (ViYankTo movement) = true
-is_killing cmd = false
+-- the same where the ring finds no memory for a text
+abbrev pub ring_without_text : Cmd → Value → Ring → Ring
+ring_without_text (Kill movement) v r = unkilled movement r
+ring_without_text (Replace movement text) v r = unkilled movement r
+ring_without_text (ViYankTo movement) v r = r
+ring_without_text cmd v r = ring_after_command cmd v r
 
--- a command that is refused leaves the ring that it makes; only where it kills and memory is
--- wanting isn't the ring known
+-- a command that is refused leaves the ring that it makes, or, where memory is wanting, the one
+-- without its text
 abbrev pub LeavesRing : Cmd → Value → Ring → Ring → ReadlineError → Type 0
 LeavesRing cmd v old new e =
-    (new ≡ ring_after_command cmd v old) ⊎ ((e ≡ Memory) × IsTrue (is_killing cmd))
+    (new ≡ ring_after_command cmd v old)
+    ⊎ ((e ≡ Memory) × (new ≡ ring_without_text cmd v old))
 
 -- an empty line ends the session; in Vi another one is accepted
 abbrev pub end_of_file : Bool → Value → Result Status ReadlineError

@@ -1,7 +1,7 @@
 -- A line as a list of turns, and a session as the turns of its lines.
 use Rattle.std.specs.Prelude.{◌≡◌, ⊤, ℕ, Bool, true, false, List, [], ◌∷◌, Result, Err, IsOk, IsErrAnd}
 use Rattle.line_config.specs.declared.errors.ReadlineError.{ReadlineError}
-use Rattle.line_config.specs.declared.errors.ReadlineError.TheVariants.{Eof, Interrupted, NotUtf8, PasteOutOfPlace, Reader, Display, Lines, HistoryText, Helper, Handler, Memory}
+use Rattle.line_config.specs.declared.errors.ReadlineError.TheVariants.{Eof, Interrupted, Memory}
 use Rattle.line_editor.specs.Redraws.{Redraw}
 use Rattle.line_editor.specs.Sights.{Sight, no_sight, Turns, FitsAll}
 
@@ -17,15 +17,7 @@ pub data Turn : Type 0 where
 abbrev pub breaks_after : ReadlineError → Bool
 breaks_after Eof = true
 breaks_after Interrupted = true
-breaks_after NotUtf8 = false
-breaks_after PasteOutOfPlace = false
-breaks_after Reader = false
-breaks_after Display = false
-breaks_after Lines = false
-breaks_after HistoryText = false
-breaks_after Helper = false
-breaks_after Handler = false
-breaks_after Memory = false
+breaks_after why = false
 
 abbrev pub redraws_in : Turn → List Redraw
 redraws_in (Open redraws value) = redraws

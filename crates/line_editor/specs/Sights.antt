@@ -79,9 +79,7 @@ Fits own x (Typed prompt c text place) =
 Fits own x (Taken prompt count text place) =
     (x.given ≡ true) × (prompt ≡ own) × TakenFits x prompt count text place
 Fits own x (Bared prompt text place) = x.given ≡ true
-Fits own x ToEnd = ⊤
-Fits own x Beeped = ⊤
-Fits own x Cleared = ⊤
+Fits own x redraw = ⊤
 
 abbrev pub sight_all : Sight → List Redraw → Sight
 sight_all x [] = x
@@ -100,13 +98,10 @@ pub record Turns (own : List ℕ) (x : Sight) (rs : List Redraw) (y : Sight) : T
 
 abbrev pub info_one : Option (List ℕ) → Redraw → Option (List ℕ)
 info_one info (Drawn prompt given text place new) = new
-info_one info (Moved text place) = info
 info_one info (Typed prompt c text place) = None
 info_one info (Taken prompt count text place) = None
-info_one info (Bared prompt text place) = info
-info_one info ToEnd = info
-info_one info Beeped = info
 info_one info Cleared = None
+info_one info redraw = info
 
 abbrev pub info_after : List Redraw → Option (List ℕ) → Option (List ℕ)
 info_after [] info = info

@@ -3,7 +3,7 @@ use Rattle.std.specs.Prelude.{◌≡◌, ◌⊎◌, ⊤, Bool, if◌then◌else�
 use Rattle.std.specs.List.{FoldsTo}
 use Rattle.line_buffer.specs.Cells.{origin}
 use Rattle.line_config.specs.declared.errors.ReadlineError.{ReadlineError}
-use Rattle.line_config.specs.declared.errors.ReadlineError.TheVariants.{Eof, Interrupted, NotUtf8, PasteOutOfPlace, Reader, Display, Lines, HistoryText, Helper, Handler, Memory}
+use Rattle.line_config.specs.declared.errors.ReadlineError.TheVariants.{Display, Helper, Memory}
 use Rattle.line_help.specs.declared.completion as completions
 use Rattle.line_help.specs.declared.hint as hints
 use Rattle.line_help.specs.declared.highlight as highlights
@@ -22,14 +22,7 @@ abbrev pub reason_of : Bool → Type 0 → ReadlineError → Type 0
 reason_of failed hook Display = IsTrue failed
 reason_of failed hook Helper = hook
 reason_of failed hook Memory = ⊤
-reason_of failed hook Eof = ⊥
-reason_of failed hook Interrupted = ⊥
-reason_of failed hook NotUtf8 = ⊥
-reason_of failed hook PasteOutOfPlace = ⊥
-reason_of failed hook Reader = ⊥
-reason_of failed hook Lines = ⊥
-reason_of failed hook HistoryText = ⊥
-reason_of failed hook Handler = ⊥
+reason_of failed hook why = ⊥
 
 module _ {Out H Hi K T : Type 0} {renderer : renderers.Renderer.Ghosts Out}
     {completer : completions.Completer.Ghosts H K} {candidate : completions.Candidate.Ghosts K}

@@ -1,6 +1,7 @@
 //! What is killed, and what is copied into the ring.
 ghost use Rattle.std.specs.Prelude.{◌≡◌, ◌⊎◌, OnOk, IfErr};
 ghost use Rattle.line_config.specs.declared.errors.ReadlineError.{ReadlineError};
+ghost use Rattle.line_edits.specs.Edits.{unkilled};
 
 use crate::renderer::Renderer;
 use crate::state::State;
@@ -55,7 +56,7 @@ impl<'p, 'h, Out: Renderer, H: Helper + Drop, Hi: History> State<'p, 'h, Out, H,
             (ring.new ≡ killed_into movement.now (value_of self.old) ring.old) }
         ensures refused_ring { IfErr result
             (λ e. (ring.new ≡ killed_into movement.now (value_of self.old) ring.old)
-            ⊎ (e ≡ ReadlineError.Memory)) }
+            ⊎ ((e ≡ ReadlineError.Memory) × (ring.new ≡ unkilled movement.now ring.old))) }
     {
         let was_bare = self.is_bare();
         let before = self.line.len();
@@ -99,7 +100,7 @@ impl<'p, 'h, Out: Renderer, H: Helper + Drop, Hi: History> State<'p, 'h, Out, H,
             (ring.new ≡ killed_into movement.now (value_of self.old) ring.old) }
         ensures refused_ring { IfErr result
             (λ e. (ring.new ≡ killed_into movement.now (value_of self.old) ring.old)
-            ⊎ (e ≡ ReadlineError.Memory)) }
+            ⊎ ((e ≡ ReadlineError.Memory) × (ring.new ≡ unkilled movement.now ring.old))) }
     {
         self.edit_kill(movement, ring)?;
         self.insert_some(text)?;
@@ -114,7 +115,8 @@ impl<'p, 'h, Out: Renderer, H: Helper + Drop, Hi: History> State<'p, 'h, Out, H,
     ) -> Result<(), ReadlineError>
         ensures ring { OnOk result
             (ring.new ≡ copied_into movement.now (value_of self.now) ring.old) }
-        ensures fault { IfErr result (λ e. e ≡ ReadlineError.Memory) }
+        ensures refused { IfErr result
+            (λ e. (e ≡ ReadlineError.Memory) × (ring.new ≡ ring.old)) }
     {
         if let Some(text) = self.line.copy(self.alloc, movement)? {
             ring.kill(self.alloc, text.as_str(), Mode::Append)?;

@@ -1,3 +1,4 @@
 pub mod PlainLemmas
+pub mod RingLemmas
 pub mod TailLemmas
 pub mod WrittenLemmas

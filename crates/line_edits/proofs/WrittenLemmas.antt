@@ -1,6 +1,6 @@
 -- One event, seen as one of several, and what a call owes that told the record or was refused.
-use Rattle.std.specs.Prelude.{Result, Ok, Err, IfOk, IsErrAnd, IsUtf8}
-use Rattle.std.proofs.Common.{◌≡◌, ℕ, List, [], ◌∷◌, refl, sym, subst, ◌∙◌}
+use Rattle.std.specs.Prelude.{Result, Ok, Err, IsErrAnd, IsUtf8}
+use Rattle.std.proofs.Common.{◌≡◌, ℕ, List, [], ◌∷◌, refl, ◌∙◌}
 use Rattle.line_buffer.specs.Event.{Event}
 use Rattle.line_buffer.specs.Line.{Line}
 use Rattle.line_buffer.specs.Replay.{Reports, StopsAmong}

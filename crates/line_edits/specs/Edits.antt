@@ -1,18 +1,19 @@
 -- What each edit makes of a line and its record.
-use Rattle.std.specs.Prelude.{ℕ, Bool, true, max, if◌then◌else◌, List, [], ◌∷◌, take, drop, length, Option, Some, None, is_some, encode_utf8}
+use Rattle.std.specs.Prelude.{◌≡◌, ◌⊎◌, ℕ, Bool, true, false, max, if◌then◌else◌, List, [], ◌∷◌, take, drop, length, Option, Some, None, is_some, encode_utf8}
 use Rattle.unicode_segmentation.specs.Grapheme.{graphemes}
 use Rattle.line_buffer.specs.Clusters.{place_forward, place_backward}
 use Rattle.line_buffer.specs.Indent.{indent_events, indent_line}
 use Rattle.line_buffer.specs.Insertions.{Insertion, update_events, update_line, insert as insertion, yank as yanked_in, yank_pop as popped_in}
 use Rattle.line_buffer.specs.LetterCase.{edit_word_events, edit_word_line}
 use Rattle.line_buffer.specs.Line.{Line, moved_to, put_in, replaced, text_after}
-use Rattle.line_buffer.specs.Range.{range_of, kill_events, kill_line, deletion_events, deletion_line}
+use Rattle.line_buffer.specs.Range.{range_of, goes_by_clusters, kill_events, kill_line, deletion_events, deletion_line}
 use Rattle.line_buffer.specs.Replay.{insertion as told_insertion, replacement}
 use Rattle.line_buffer.specs.Transpositions.{transpose_chars_events, transpose_chars_line, transpose_words_events, transpose_words_line}
 use Rattle.line_buffer.specs.declared.types.Movement.{Movement}
 use Rattle.line_buffer.specs.declared.types.Movement.TheVariants.{ForwardChar}
 use Rattle.line_buffer.specs.declared.types.WordAction.{WordAction}
 use Rattle.line_record.specs.Held.{line_back}
+use Rattle.line_record.specs.Ring.{Ring, ring_all}
 use Rattle.line_edits.specs.Written.{Written, edited, in_group}
 
 -- ---- texts put in
@@ -50,6 +51,15 @@ pop_in_group size text = in_group (popped size text)
 
 abbrev pub range_killed : Movement → Written → Written
 range_killed movement w = edited (kill_events movement w.line) (kill_line movement w.line) w
+
+-- the ring where a kill's text finds no memory: no kill is open in it
+abbrev pub unkilled : Movement → Ring → Ring
+unkilled movement r = if goes_by_clusters movement then r else record r { killing = false }
+
+-- the ring after a kill that was refused: it has taken the text, or it hasn't
+abbrev pub TookOrNot : Movement → Line → Ring → Ring → Type 0
+TookOrNot movement l old new =
+    (new ≡ ring_all (kill_events movement l) old) ⊎ (new ≡ unkilled movement old)
 
 -- ---- clusters exchanged for characters
 

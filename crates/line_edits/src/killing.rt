@@ -1,10 +1,10 @@
 //! What is killed.
-ghost use Rattle.std.specs.Prelude.{◌≡◌, ◌≤◌, length, is_some, OnOk};
+ghost use Rattle.std.specs.Prelude.{◌≡◌, ◌≤◌, length, is_some, OnOk, OnErr};
 ghost use Rattle.line_buffer.specs.Range.{range_of, kill_events};
 ghost use Rattle.line_record.specs.Items.{ItemsStand};
 ghost use Rattle.line_record.specs.Names.{SameNames};
 ghost use Rattle.line_record.specs.Ring.{ring_all};
-ghost use Rattle.line_edits.specs.Edits.{range_killed};
+ghost use Rattle.line_edits.specs.Edits.{range_killed, TookOrNot};
 ghost use Rattle.line_edits.specs.Written.{Edits, Writes};
 
 use crate::plain::is_plain;
@@ -24,6 +24,8 @@ fn kill_told(
         line.old line.new both.old.second.now both.new.second.now result }
     ensures ring { OnOk result
         (both.new.first.now ≡ ring_all (kill_events movement.now line.old) both.old.first.now) }
+    ensures refused_ring { OnErr result
+        (TookOrNot movement.now line.old both.old.first.now both.new.first.now) }
     ensures names { SameNames both.old.first both.old.second both.new.first both.new.second }
     ensures shrinks { length line.new.text ≤ length line.old.text }
 {
@@ -45,6 +47,7 @@ pub fn kill(
     ensures writes { Edits (range_killed movement.now) (is_some (range_of movement.now line.old))
         line.old line.new changes.old changes.new plain.new result }
     ensures ring { OnOk result (ring.new ≡ ring_all (kill_events movement.now line.old) ring.old) }
+    ensures refused_ring { OnErr result (TookOrNot movement.now line.old ring.old ring.new) }
     ensures shrinks { length line.new.text ≤ length line.old.text }
 {
     let mut both = Joined {

@@ -67,9 +67,7 @@ with_match_shown line bracket = with_bold_byte line (match_to_show line bracket)
 -- the line so, all else as it is
 abbrev pub shown_with_match : Option (ℕ × ℕ) → DisplayPart → List ℕ → List ℕ
 shown_with_match bracket (OfLine place) text = with_match_shown text bracket
-shown_with_match bracket (OfPrompt own) text = text
-shown_with_match bracket OfHint text = text
-shown_with_match bracket (OfCandidate completion) text = text
+shown_with_match bracket part text = text
 
 -- the bracket that is kept for the next drawing: none for a line's last one
 abbrev pub kept_bracket : List ℕ → ℕ → CmdKind → Option (ℕ × ℕ)

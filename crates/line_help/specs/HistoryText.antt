@@ -4,7 +4,7 @@ use Rattle.std.specs.Str.{is_utf8}
 use Rattle.line_config.specs.declared.device.Last.{Last}
 use Rattle.line_config.specs.declared.device.Last.TheVariants.{End, Failed}
 use Rattle.line_config.specs.declared.errors.ReadlineError.{ReadlineError}
-use Rattle.line_config.specs.declared.errors.ReadlineError.TheVariants.{Eof, Interrupted, NotUtf8, PasteOutOfPlace, Reader, Display, Lines, HistoryText, Helper, Handler, Memory}
+use Rattle.line_config.specs.declared.errors.ReadlineError.TheVariants.{Reader, HistoryText}
 use Rattle.line_help.specs.History.{Filed, newest, filed_with_all, takes_all, all_saved}
 
 -- the first row of a saved text: a text without it has no escapes
@@ -144,30 +144,12 @@ abbrev pub follows : Bool → Result Bool ReadlineError → Bool
 follows steady (Ok whole) = true
 follows steady (Err HistoryText) = true
 follows steady (Err Reader) = steady
-follows steady (Err Eof) = false
-follows steady (Err Interrupted) = false
-follows steady (Err NotUtf8) = false
-follows steady (Err PasteOutOfPlace) = false
-follows steady (Err Display) = false
-follows steady (Err Lines) = false
-follows steady (Err Helper) = false
-follows steady (Err Handler) = false
-follows steady (Err Memory) = false
+follows steady (Err why) = false
 
 -- whether a result says that the source failed
 abbrev pub says_reader : Result Bool ReadlineError → Bool
-says_reader (Ok whole) = false
 says_reader (Err Reader) = true
-says_reader (Err HistoryText) = false
-says_reader (Err Eof) = false
-says_reader (Err Interrupted) = false
-says_reader (Err NotUtf8) = false
-says_reader (Err PasteOutOfPlace) = false
-says_reader (Err Display) = false
-says_reader (Err Lines) = false
-says_reader (Err Helper) = false
-says_reader (Err Handler) = false
-says_reader (Err Memory) = false
+says_reader result = false
 
 -- a row without the carriage return at its end
 abbrev pub without_return : List ℕ → List ℕ

@@ -10,11 +10,9 @@ is_valid (Invalid message) = false
 is_valid (Valid message) = true
 
 abbrev pub has_message : ValidationResult → Bool
-has_message Incomplete = false
 has_message (Invalid (Some message)) = true
-has_message (Invalid None) = false
 has_message (Valid (Some message)) = true
-has_message (Valid None) = false
+has_message result = false
 
 -- the messages: an open bracket that another one's closing bracket meets, and a closing bracket
 -- where none is open

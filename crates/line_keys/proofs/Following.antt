@@ -44,25 +44,13 @@ module _ {S : Type 0} (d : KnownDisplay S) (custom : Custom) (w : S) (f : KeyFee
   reader_because PasteOutOfPlace is why = why
   reader_because Reader is why = why
   reader_because Memory is why = tt
-  reader_because Interrupted is why = elim is [ ]
-  reader_because DisplayFault is why = elim is [ ]
-  reader_because Lines is why = elim is [ ]
-  reader_because HistoryText is why = elim is [ ]
-  reader_because Helper is why = elim is [ ]
-  reader_because Handler is why = elim is [ ]
+  reader_because _ is why = absurd is
 
   pub display_because : (e : ReadlineError) → IsDrawFault e → Undrawn d w e → Because d custom w f e
   display_because DisplayFault is why = why
   display_because Helper is why = why
   display_because Memory is why = tt
-  display_because Eof is why = elim is [ ]
-  display_because Interrupted is why = elim is [ ]
-  display_because NotUtf8 is why = elim is [ ]
-  display_because PasteOutOfPlace is why = elim is [ ]
-  display_because Reader is why = elim is [ ]
-  display_because Lines is why = elim is [ ]
-  display_because HistoryText is why = elim is [ ]
-  display_because Handler is why = elim is [ ]
+  display_because _ is why = absurd is
 
   pub memory_because : (e : ReadlineError) → e ≡ Memory → Because d custom w f e
   memory_because e is = subst (λ (x : ReadlineError). Because d custom w f x) (sym is) tt
@@ -70,15 +58,7 @@ module _ {S : Type 0} (d : KnownDisplay S) (custom : Custom) (w : S) (f : KeyFee
   pub binding_because : (e : ReadlineError) → BecauseBound custom e → Because d custom w f e
   binding_because Handler why = why
   binding_because Memory why = tt
-  binding_because Eof why = elim why [ ]
-  binding_because Interrupted why = elim why [ ]
-  binding_because NotUtf8 why = elim why [ ]
-  binding_because PasteOutOfPlace why = elim why [ ]
-  binding_because Reader why = elim why [ ]
-  binding_because DisplayFault why = elim why [ ]
-  binding_because Lines why = elim why [ ]
-  binding_because HistoryText why = elim why [ ]
-  binding_because Helper why = elim why [ ]
+  binding_because _ why = absurd why
 
 silent_because : {S : Type 0} (d : KnownDisplay S) (custom : Custom) (w : S) (f : KeyFeed) (e : ReadlineError) → Because silent custom tt f e → Because d custom w f e
 silent_because d custom w f Eof why = why

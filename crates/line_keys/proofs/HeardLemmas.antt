@@ -2,7 +2,7 @@
 use Rattle.std.proofs.Common.{◌≡◌, ◌⊎◌, inl, inr, Bool, true, false, refl, sym, ap, subst, ◌∙◌}
 use Rattle.std.specs.Prelude.{⊤, Result, Ok, Err, OnOk, IfErr}
 use Rattle.line_config.specs.declared.errors.ReadlineError.{ReadlineError}
-use Rattle.line_config.specs.declared.errors.ReadlineError.TheVariants.{Eof, Interrupted, NotUtf8, PasteOutOfPlace, Reader, Display as DisplayFault, Lines, HistoryText, Helper, Handler, Memory}
+use Rattle.line_config.specs.declared.errors.ReadlineError.TheVariants.{PasteOutOfPlace, Reader, Memory}
 use Rattle.line_keys.specs.Coming.{Coming, Pressed, Pasted, CutOff, Ends as NoMore, Refused, Failed, behind, left_by, refusal_of}
 use Rattle.line_keys.specs.Early.{Early, Heard, Agrees, Alike, Hears, answer_to}
 use Rattle.line_keys.specs.Feeds.{InputItem, Key, Paste, IsReadFault}
@@ -156,17 +156,8 @@ module _ {S X : Type 0} (d : KnownDisplay S) (r : Result X ReadlineError) (w' : 
   fault_went : (item : InputItem) (rest : Coming) (later : Script X) (w : S) (i : Input) (c : Coming) (e : ReadlineError) → IsReadFault item false e
       → Stays (Err e) w i (left_by e) r w' i' c' → Went (Reads item rest later) w i c
   fault_went item rest later w i c Reader is cut = inr (record { heard = stop_of item; early = stop_early item c; goes = stop_by item rest later w i c cut })
-  fault_went Key rest later w i c Memory is cut = elim is [ ]
   fault_went Paste rest later w i c Memory is cut = inl (inr (Memory, tt, cut))
-  fault_went item rest later w i c Eof is cut = elim is [ ]
-  fault_went item rest later w i c Interrupted is cut = elim is [ ]
-  fault_went item rest later w i c NotUtf8 is cut = elim is [ ]
-  fault_went item rest later w i c PasteOutOfPlace is cut = elim is [ ]
-  fault_went item rest later w i c DisplayFault is cut = elim is [ ]
-  fault_went item rest later w i c Lines is cut = elim is [ ]
-  fault_went item rest later w i c HistoryText is cut = elim is [ ]
-  fault_went item rest later w i c Helper is cut = elim is [ ]
-  fault_went item rest later w i c Handler is cut = elim is [ ]
+  fault_went item rest later w i c _ is cut = absurd is
 
   went : (s : Script X) (w : S) (i : Input) (c : Coming) → Alike c s c s → Goes d false s w i c r w' i' c' → Went s w i c
   went (Ends answer) w i c is goes = inl goes

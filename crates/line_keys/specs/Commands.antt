@@ -3,7 +3,7 @@ use Rattle.std.specs.Prelude.{Bool, true, false}
 use Rattle.line_buffer.specs.declared.types.Movement.{Movement}
 use Rattle.line_buffer.specs.declared.types.Movement.TheVariants.{BackwardChar, ForwardChar}
 use Rattle.line_keys.specs.declared.command.Cmd.{Cmd}
-use Rattle.line_keys.specs.declared.command.Cmd.TheVariants.{Abort, AcceptLine, BeginningOfHistory, CapitalizeWord, ClearScreen, Complete, CompleteBackward, CompleteHint, Dedent, DowncaseWord, EndOfFile, EndOfHistory, ForwardSearchHistory, HistorySearchBackward, HistorySearchForward, Indent, Insert, Interrupt, Kill, Move, NextHistory, Noop, Repaint, Overwrite, PreviousHistory, QuotedInsert, ReplaceChar, Replace, ReverseSearchHistory, SelfInsert, Suspend, TransposeChars, TransposeWords, Undo, Unknown, UpcaseWord, ViYankTo, Yank, YankPop, LineUpOrPreviousHistory, LineDownOrNextHistory, Newline, AcceptOrInsertLine}
+use Rattle.line_keys.specs.declared.command.Cmd.TheVariants.{ClearScreen, Dedent, Indent, Insert, Kill, Move, Noop, ReplaceChar, Replace, SelfInsert, Suspend, ViYankTo, Yank, YankPop}
 
 pub record Standing : Type 0 where
   -- the next kill begins a new slot of the ring
@@ -28,46 +28,18 @@ is_by_char m = false
 
 --                                       resets the ring, is a change, repeats
 abbrev pub standing : Cmd → Standing
-standing Abort = marked true false false
-standing AcceptLine = marked true false false
-standing BeginningOfHistory = marked true false false
-standing CapitalizeWord = marked true false false
 standing ClearScreen = marked false false false
-standing Complete = marked true false false
-standing CompleteBackward = marked true false false
-standing CompleteHint = marked true false false
 standing (Dedent m) = marked true true true
-standing DowncaseWord = marked true false false
-standing EndOfFile = marked true false false
-standing EndOfHistory = marked true false false
-standing ForwardSearchHistory = marked true false false
-standing HistorySearchBackward = marked true false false
-standing HistorySearchForward = marked true false false
 standing (Indent m) = marked true true true
 standing (Insert n t) = marked true true true
-standing Interrupt = marked true false false
 standing (Kill m) = marked (is_by_char m) true true
 standing (Move m) = marked true false true
-standing NextHistory = marked true false false
 standing Noop = marked false false false
-standing Repaint = marked true false false
-standing (Overwrite c) = marked true false false
-standing PreviousHistory = marked true false false
-standing QuotedInsert = marked true false false
 standing (ReplaceChar n c) = marked true true true
 standing (Replace m t) = marked false true true
-standing ReverseSearchHistory = marked true false false
 standing (SelfInsert n c) = marked true true true
 standing Suspend = marked false false false
-standing TransposeChars = marked true false false
-standing (TransposeWords n) = marked true false false
-standing (Undo n) = marked true false false
-standing Unknown = marked true false false
-standing UpcaseWord = marked true false false
 standing (ViYankTo m) = marked true true true
 standing (Yank n a) = marked false true true
 standing YankPop = marked false false false
-standing (LineUpOrPreviousHistory n) = marked true false false
-standing (LineDownOrNextHistory n) = marked true false false
-standing Newline = marked true false false
-standing (AcceptOrInsertLine mid) = marked true false false
+standing cmd = marked true false false

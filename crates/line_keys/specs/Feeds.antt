@@ -1,7 +1,7 @@
 -- What is known of a reader of keys, and what each read makes of it.
 use Rattle.std.specs.Prelude.{◌≡◌, ℕ, ◌<◌, ◌≤◌, ◌⊎◌, ⊤, Bool, Result, Err, IsTrue, IsFalse, IfErr, OnOk}
 use Rattle.line_config.specs.declared.errors.ReadlineError.{ReadlineError}
-use Rattle.line_config.specs.declared.errors.ReadlineError.TheVariants.{Eof, Interrupted, NotUtf8, PasteOutOfPlace, Reader, Display, Lines, HistoryText, Helper, Handler, Memory}
+use Rattle.line_config.specs.declared.errors.ReadlineError.TheVariants.{Reader, Memory}
 use Rattle.line_keys.specs.Coming.{Coming, behind, left, left_by}
 use Rattle.line_keys.specs.Faults.{IsReaderRefusal}
 
@@ -25,17 +25,8 @@ pub data InputItem : Type 0 where
 -- and want of memory for a pasted text
 abbrev pub IsReadFault : InputItem → Bool → ReadlineError → Type 0
 IsReadFault item steady Reader = IsFalse steady
-IsReadFault Key steady Memory = ⊥
 IsReadFault Paste steady Memory = ⊤
-IsReadFault item steady Eof = ⊥
-IsReadFault item steady Interrupted = ⊥
-IsReadFault item steady NotUtf8 = ⊥
-IsReadFault item steady PasteOutOfPlace = ⊥
-IsReadFault item steady Display = ⊥
-IsReadFault item steady Lines = ⊥
-IsReadFault item steady HistoryText = ⊥
-IsReadFault item steady Helper = ⊥
-IsReadFault item steady Handler = ⊥
+IsReadFault item steady why = ⊥
 
 -- a read is answered as the input says, or cut by a fault, which is for good
 abbrev pub ReadAs : {X : Type 0} → InputItem → Bool → Result X ReadlineError → Coming

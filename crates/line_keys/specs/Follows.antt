@@ -79,17 +79,9 @@ silent = record {
 
 -- why a binding alone is refused
 abbrev pub BecauseBound : Custom → ReadlineError → Type 0
-BecauseBound custom Eof = ⊥
-BecauseBound custom Interrupted = ⊥
-BecauseBound custom NotUtf8 = ⊥
-BecauseBound custom PasteOutOfPlace = ⊥
-BecauseBound custom Reader = ⊥
-BecauseBound custom DisplayFault = ⊥
-BecauseBound custom Lines = ⊥
-BecauseBound custom HistoryText = ⊥
-BecauseBound custom Helper = ⊥
 BecauseBound custom Handler = HandlerFails custom
 BecauseBound custom Memory = ⊤
+BecauseBound custom why = ⊥
 
 -- a call that neither reads nor asks gives this answer, or had no memory
 pub record Decides {X : Type 0} (custom : Custom)

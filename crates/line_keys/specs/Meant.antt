@@ -47,10 +47,7 @@ motion_meant motion.Back = SeeksBack
 
 abbrev pub changes : Operator → Bool
 changes operator.Change = true
-changes operator.Delete = false
-changes operator.Yank = false
-changes operator.Dedent = false
-changes operator.Indent = false
+changes other = false
 
 abbrev pub command_of : Operator → Movement → Cmd
 command_of operator.Change = λ m. Replace m None

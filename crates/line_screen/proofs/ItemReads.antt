@@ -1,7 +1,7 @@
 -- What a call of the reader makes of its items.
 use Rattle.std.proofs.Common.{◌≡◌, ℕ, Bool, true, false, List, inl, inr, Result, Ok, Err, IfOk, IfErr, refl, sym, ap, ◌∙◌}
 use Rattle.line_config.specs.declared.errors.ReadlineError.{ReadlineError}
-use Rattle.line_config.specs.declared.errors.ReadlineError.TheVariants.{Eof, Interrupted, NotUtf8, PasteOutOfPlace, Reader, Display, Lines, HistoryText, Helper, Handler, Memory}
+use Rattle.line_config.specs.declared.errors.ReadlineError.TheVariants.{Eof, NotUtf8, PasteOutOfPlace, Reader, Memory}
 use Rattle.line_config.specs.Feed.{Feed}
 use Rattle.line_config.specs.Refusals.{MetBy}
 use Rattle.line_keys.specs.declared.key.KeyEvent.{KeyEvent}
@@ -27,12 +27,7 @@ key_as steady c c' (Err Eof) met ok err memory kind = as_given Key steady key_at
 key_as steady c c' (Err NotUtf8) met ok err memory kind = as_given Key steady key_at c c' NotUtf8 err (met (refl, λ h. absurd (cc)))
 key_as steady c c' (Err PasteOutOfPlace) met ok err memory kind = as_given Key steady key_at c c' PasteOutOfPlace err (met (refl, λ h. absurd (cc)))
 key_as steady c c' (Err Memory) met ok err memory kind = as_given Key steady key_at c c' Memory err (sym (ap key_at (memory refl)))
-key_as steady c c' (Err Interrupted) met ok err memory kind = absurd kind
-key_as steady c c' (Err Display) met ok err memory kind = absurd kind
-key_as steady c c' (Err Lines) met ok err memory kind = absurd kind
-key_as steady c c' (Err HistoryText) met ok err memory kind = absurd kind
-key_as steady c c' (Err Helper) met ok err memory kind = absurd kind
-key_as steady c c' (Err Handler) met ok err memory kind = absurd kind
+key_as steady c c' (Err _) met ok err memory kind = absurd kind
 
 text_as : (steady : Bool) (c c' : Coming) (r : Result (List ℕ) ReadlineError) → (MetBy steady r → r ≡ paste_at c)
     → IfOk r (λ t. c ≡ Pasted t c') → IfErr r (λ e. c' ≡ left_by e) → IfErr r IsReaderRefusal
@@ -44,12 +39,7 @@ text_as steady c c' (Err Eof) met ok err kind = as_given Paste steady paste_at c
 text_as steady c c' (Err NotUtf8) met ok err kind = as_given Paste steady paste_at c c' NotUtf8 err (met (refl, λ h. absurd (cc)))
 text_as steady c c' (Err PasteOutOfPlace) met ok err kind = as_given Paste steady paste_at c c' PasteOutOfPlace err (met (refl, λ h. absurd (cc)))
 text_as steady c c' (Err Memory) met ok err kind = inr (Memory, tt, refl, err)
-text_as steady c c' (Err Interrupted) met ok err kind = absurd kind
-text_as steady c c' (Err Display) met ok err kind = absurd kind
-text_as steady c c' (Err Lines) met ok err kind = absurd kind
-text_as steady c c' (Err HistoryText) met ok err kind = absurd kind
-text_as steady c c' (Err Helper) met ok err kind = absurd kind
-text_as steady c c' (Err Handler) met ok err kind = absurd kind
+text_as steady c c' (Err _) met ok err kind = absurd kind
 
 pub key_reads : {S : Type 0} (feed : S → Feed) (old new : KeyReader S) (r : Result KeyEvent ReadlineError)
     → AnswersKey feed old new r → IsMemoryKept feed old r → ReadsBy Key key_at (items_of feed old) (items_of feed new) r

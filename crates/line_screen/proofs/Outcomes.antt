@@ -1,7 +1,7 @@
 -- What a reader's answers are, by what is still to come.
 use Rattle.std.proofs.Common.{◌≡◌, ℕ, Bool, List, [], Err, Result, None, IsTrue, refl, ap}
 use Rattle.line_config.specs.declared.errors.ReadlineError.{ReadlineError}
-use Rattle.line_config.specs.declared.errors.ReadlineError.TheVariants.{Eof, Interrupted, NotUtf8, PasteOutOfPlace, Reader, Display, Lines, HistoryText, Helper, Handler, Memory}
+use Rattle.line_config.specs.declared.errors.ReadlineError.TheVariants.{Eof, NotUtf8, PasteOutOfPlace, Reader, Memory}
 use Rattle.line_config.specs.declared.device.Last.{Last}
 use Rattle.line_config.specs.declared.device.Last.TheVariants.{End}
 use Rattle.line_config.specs.declared.settings.EditMode.{EditMode}
@@ -39,29 +39,15 @@ at_end mode bytes last none end = rw (none, end) refl
 -- an earlier refusal
 pub kept_left : (why : ReadlineError) → IsTrue (is_lasting why) → Refused why ≡ left_by why
 kept_left Eof lasting = absurd (cc)
-kept_left Interrupted lasting = refl
-kept_left NotUtf8 lasting = refl
-kept_left PasteOutOfPlace lasting = refl
-kept_left Reader lasting = refl
-kept_left Display lasting = refl
-kept_left Lines lasting = refl
-kept_left HistoryText lasting = refl
-kept_left Helper lasting = refl
-kept_left Handler lasting = refl
-kept_left Memory lasting = refl
+kept_left _ lasting = refl
 
 pub kept_refused : (why : ReadlineError) → IsTrue (is_lasting why) → IsReaderRefusal why
 kept_refused Eof lasting = tt
-kept_refused Interrupted lasting = absurd (cc)
 kept_refused NotUtf8 lasting = tt
 kept_refused PasteOutOfPlace lasting = tt
 kept_refused Reader lasting = tt
-kept_refused Display lasting = absurd (cc)
-kept_refused Lines lasting = absurd (cc)
-kept_refused HistoryText lasting = absurd (cc)
-kept_refused Helper lasting = absurd (cc)
-kept_refused Handler lasting = absurd (cc)
 kept_refused Memory lasting = tt
+kept_refused _ lasting = absurd (cc)
 
 -- a call that is refused now
 abbrev answer_of : ReadlineError → Result ℕ ReadlineError
@@ -70,27 +56,15 @@ answer_of why = Err why
 pub refused_left : (why : ReadlineError) (failed : Bool) (r : Readings) → IsReaderRefusal why → failed ≡ is_failure (answer_of why)
     → (why ≡ Eof → coming_of r ≡ Ends EndItem) → coming_by failed (kept_refusal why None) r ≡ left_by why
 refused_left Eof failed r kind fails ends = rw fails (ends refl)
-refused_left Interrupted failed r kind fails ends = absurd kind
 refused_left NotUtf8 failed r kind fails ends = rw fails refl
 refused_left PasteOutOfPlace failed r kind fails ends = rw fails refl
 refused_left Reader failed r kind fails ends = rw fails refl
-refused_left Display failed r kind fails ends = absurd kind
-refused_left Lines failed r kind fails ends = absurd kind
-refused_left HistoryText failed r kind fails ends = absurd kind
-refused_left Helper failed r kind fails ends = absurd kind
-refused_left Handler failed r kind fails ends = absurd kind
 refused_left Memory failed r kind fails ends = rw fails refl
+refused_left _ failed r kind fails ends = absurd kind
 
 -- a key's refusal is a reader's
 pub key_refusal : (why : ReadlineError) → IsKeyRefusal why → IsReaderRefusal why
 key_refusal Eof kind = tt
-key_refusal Interrupted kind = kind
 key_refusal NotUtf8 kind = tt
-key_refusal PasteOutOfPlace kind = tt
 key_refusal Reader kind = tt
-key_refusal Display kind = kind
-key_refusal Lines kind = kind
-key_refusal HistoryText kind = kind
-key_refusal Helper kind = kind
-key_refusal Handler kind = kind
-key_refusal Memory kind = absurd kind
+key_refusal _ kind = absurd kind

@@ -45,7 +45,7 @@ drawing_bytes columns wide
 
 abbrev pub bell_bytes : BellStyle → List ℕ
 bell_bytes Audible = 0x07 ∷ []
-bell_bytes _ = []
+bell_bytes style = []
 
 -- each drawing ends in its own cells, so no call leaves the cursor elsewhere than it says
 abbrev pub bytes_of : Screen → Call → List ℕ

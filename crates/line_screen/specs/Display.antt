@@ -196,10 +196,7 @@ read columns wide r (byte ∷ bytes) = read columns wide (step columns wide r by
 
 abbrev pub settled : ℕ → (List ℕ → Option ℕ) → DisplayReading → Option Display
 settled columns wide (Text d run) = put_run columns wide run d
-settled columns wide (Escape d) = None
-settled columns wide (Bracket d) = None
-settled columns wide (Number d count) = None
-settled columns wide Lost = None
+settled columns wide reading = None
 
 abbrev pub start : DisplayReading
 start = Text blank []

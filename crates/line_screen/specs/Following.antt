@@ -3,15 +3,12 @@ use Rattle.std.specs.Prelude.{◌≡◌, ℕ, Bool, true, false, IsTrue, ◌==�
 use Rattle.line_config.specs.declared.device.Last.{Last}
 use Rattle.line_config.specs.declared.device.Last.TheVariants.{End}
 use Rattle.line_config.specs.declared.settings.EditMode.{EditMode}
-use Rattle.line_screen.specs.Input.{Chars, Next, Over, Stop, AtEnd, AtBad, AtFailure, Torn, Inside, chars_of}
+use Rattle.line_screen.specs.Input.{Chars, Next, Over, Stop, AtEnd, chars_of}
 use Rattle.line_screen.specs.KeyGrammar.{Readings, Key, Paste, Cut, Stops, readings}
 
 abbrev pub is_end : Stop → Bool
 is_end AtEnd = true
-is_end AtBad = false
-is_end AtFailure = false
-is_end Torn = false
-is_end Inside = false
+is_end stop = false
 
 -- the bytes are whole characters
 abbrev pub are_whole_chars : Chars → Bool

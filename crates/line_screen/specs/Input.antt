@@ -3,7 +3,7 @@ use Rattle.std.specs.Prelude.{ℕ, ◌+◌, ◌-◌, ◌*◌, Bool, true, false,
 use Rattle.line_config.specs.declared.device.Last.{Last}
 use Rattle.line_config.specs.declared.device.Last.TheVariants.{End, Failed}
 use Rattle.line_config.specs.declared.errors.ReadlineError.{ReadlineError}
-use Rattle.line_config.specs.declared.errors.ReadlineError.TheVariants.{Eof, Interrupted, NotUtf8, PasteOutOfPlace, Reader, Display, Lines, HistoryText, Helper, Handler, Memory}
+use Rattle.line_config.specs.declared.errors.ReadlineError.TheVariants.{Eof, NotUtf8, Reader}
 
 -- what stands after the last character: the end, bytes that are no character, a source that
 -- failed, one that failed inside a character, and the end inside a key
@@ -128,15 +128,5 @@ behind_char (Over stop left) = left
 
 -- whether the refusal is that the source failed
 abbrev pub is_failure : {A : Type 0} → Result A ReadlineError → Bool
-is_failure (Ok x) = false
 is_failure (Err Reader) = true
-is_failure (Err Eof) = false
-is_failure (Err Interrupted) = false
-is_failure (Err NotUtf8) = false
-is_failure (Err PasteOutOfPlace) = false
-is_failure (Err Display) = false
-is_failure (Err Lines) = false
-is_failure (Err HistoryText) = false
-is_failure (Err Helper) = false
-is_failure (Err Handler) = false
-is_failure (Err Memory) = false
+is_failure result = false

@@ -4,7 +4,7 @@ use Rattle.line_config.specs.declared.device.DeviceFailed.{DeviceFailed}
 use Rattle.line_config.specs.declared.device.Last.{Last}
 use Rattle.line_config.specs.declared.device.Last.TheVariants.{End, Failed}
 use Rattle.line_config.specs.declared.errors.ReadlineError.{ReadlineError}
-use Rattle.line_config.specs.declared.errors.ReadlineError.TheVariants.{Eof, Interrupted, NotUtf8, PasteOutOfPlace, Reader, Display, Lines, HistoryText, Helper, Handler, Memory}
+use Rattle.line_config.specs.declared.errors.ReadlineError.TheVariants.{Eof, NotUtf8, Reader}
 use Rattle.line_config.specs.Feed.{Feed}
 use Rattle.line_config.specs.Refusals.{MetBy}
 use Rattle.line_screen.specs.Unread.{with_kept}
@@ -15,16 +15,9 @@ use Rattle.line_screen.specs.Input.{Chars, Next, Continuation, chars_of, in_char
 -- the refusals of a character and of a key that is read: they take no memory
 abbrev pub IsKeyRefusal : ReadlineError → Type 0
 IsKeyRefusal Eof = ⊤
-IsKeyRefusal Interrupted = ⊥
 IsKeyRefusal NotUtf8 = ⊤
-IsKeyRefusal PasteOutOfPlace = ⊥
 IsKeyRefusal Reader = ⊤
-IsKeyRefusal Display = ⊥
-IsKeyRefusal Lines = ⊥
-IsKeyRefusal HistoryText = ⊥
-IsKeyRefusal Helper = ⊥
-IsKeyRefusal Handler = ⊥
-IsKeyRefusal Memory = ⊥
+IsKeyRefusal why = ⊥
 
 -- what was left before is what was read and what is left after, and reading the former with a
 -- failure after it answers Reader

@@ -1,7 +1,7 @@
 -- What the readers and lines of the tests mean.
 use Rattle.std.specs.Prelude.{⊤, ◌≡◌, [], ◌∷◌, ◌++◌, false, true, None, Some, map, is_some, length}
 use Rattle.line_config.specs.declared.errors.ReadlineError.{ReadlineError}
-use Rattle.line_config.specs.declared.errors.ReadlineError.TheVariants.{Eof, Interrupted, NotUtf8, PasteOutOfPlace, Reader, Display, Lines, HistoryText, Helper, Handler, Memory}
+use Rattle.line_config.specs.declared.errors.ReadlineError.TheVariants.{Reader, Display, Memory}
 use Rattle.line_keys.specs.Coming.{Coming}
 use Rattle.line_keys.specs.Feeds.{KeyFeed}
 use Rattle.line_keys.specs.Refreshing.{Shown, Ask, KnownDisplay as Displays}
@@ -57,15 +57,7 @@ shown_after s a = s
 abbrev pub HasReason : PlainLine → ReadlineError → Type 0
 HasReason l Memory = ⊤
 HasReason l Display = l.answered ≡ Some 0
-HasReason l Eof = ⊥
-HasReason l Interrupted = ⊥
-HasReason l NotUtf8 = ⊥
-HasReason l PasteOutOfPlace = ⊥
-HasReason l Reader = ⊥
-HasReason l Lines = ⊥
-HasReason l HistoryText = ⊥
-HasReason l Helper = ⊥
-HasReason l Handler = ⊥
+HasReason l why = ⊥
 
 abbrev pub plain_line_display : Displays PlainLine
 plain_line_display = record {

@@ -1,6 +1,8 @@
 use Rattle.std.proofs.Common.{◌≡◌}
 use Rattle.line_record.specs.Ring.{ring_step}
 use Rattle.line_record.proofs.JoinedLaws.{joined_held, joined_stand, joined_stand_refused}
+use Rattle.line_record.specs.Items.{RecordedIn}
+use Rattle.line_edits.proofs.RingLemmas.{on_refusal, ring_stopped}
 use Rattle.line_edits.proofs.WrittenLemmas.{refused_writes}
 use Rattle.line_edits.proofs.killing.kill_told.Goals as goal
 
@@ -15,3 +17,7 @@ returns-clause-writes c = record {
 pub returns-in_err-kill-clause-writes : goal.returns-in_err-kill-clause-writes
 returns-in_err-kill-clause-writes c =
     refused_writes _ c.from_residual.result c.from_residual.ensures.1 (joined_stand_refused (λ s e t. t ≡ ring_step e s) (λ s e t. t ≡ s) c.requires c.as_str-text.ensures.utf8 c.in_err-kill.ensures.stopped)
+
+pub returns-in_err-kill-clause-refused_ring : goal.returns-in_err-kill-clause-refused_ring
+returns-in_err-kill-clause-refused_ring c =
+    on_refusal _ c.from_residual.result c.from_residual.ensures.1 (ring_stopped RecordedIn (λ s e t. t ≡ s) _ _ c.in_err-kill.ensures.stopped)

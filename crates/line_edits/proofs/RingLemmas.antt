@@ -1,0 +1,101 @@
+-- What a kill that is refused leaves of the ring, of a ring and a record that are told of it.
+use Rattle.std.specs.Prelude.{Bool, true, false, if◌then◌else◌, Option, Some, None, Result, Ok, Err, OnErr, IsErrAnd}
+use Rattle.std.proofs.Common.{◌≡◌, ◌⊎◌, inl, inr, ℕ, List, [], ◌∷◌, ◌++◌, refl, ap, subst, ◌∙◌}
+use Rattle.line_buffer.specs.Event.{Event}
+use Rattle.line_buffer.specs.Event.Event.{StartKilling, StopKilling}
+use Rattle.line_buffer.specs.Line.{Line}
+use Rattle.line_buffer.specs.Range.{range_of, goes_by_clusters, deletion_events, kill_events, kill_closing}
+use Rattle.line_buffer.specs.Replay.{TakesAll, TellsOfChange, StopsAmong, deletion}
+use Rattle.line_buffer.specs.declared.range.Span.{Span}
+use Rattle.line_buffer.specs.declared.types.Movement.{Movement}
+use Rattle.line_record.specs.declared.joined.Joined.{Joined}
+use Rattle.line_record.specs.Ring.{Ring, ring_step, ring_all}
+use Rattle.line_record.specs.Together.{joined_takes, joined_refuses}
+use Rattle.line_edits.specs.Edits.{TookOrNot}
+
+abbrev hears : Ring → Event → Ring → Type 0
+hears r e q = q ≡ ring_step e r
+
+abbrev stays : Ring → Event → Ring → Type 0
+stays r e q = q ≡ r
+
+-- a kill's one event, and its events, by whether it has marks
+abbrev deleted : Span → Line → Event
+deleted span l = deletion span.from span.upto span.direction l.text
+
+abbrev killed_by : Bool → Option Span → Line → List Event
+killed_by b range l = let events = deletion_events range l in if b then events else StartKilling ∷ (events ++ (StopKilling ∷ []))
+
+-- the ring has heard what both were told
+ring_told : {B : Type 0} (second : B → Event → B → Type 0) (es : List Event) (s t : Joined Ring B) → TakesAll (joined_takes hears second) s es t → t.first.now ≡ ring_all es s.first.now
+ring_told second [] s t told = ap (λ (x : Joined Ring _). x.first.now) told
+ring_told second (e ∷ es) s t (u, k, told) = ring_told second es u t told ∙ ap (ring_all es) k.1.0
+
+-- no change is among none, or among marks
+no_split : {P : Type 0} (done never : List Event) (refused : Event) → [] ≡ done ++ refused ∷ never → P
+no_split [] never refused is = absurd (cc)
+no_split (x ∷ done) never refused is = absurd (cc)
+
+no_change : {P : Type 0} (done never : List Event) (refused : Event) → StartKilling ∷ StopKilling ∷ [] ≡ done ++ refused ∷ never → TellsOfChange refused → P
+no_change [] never refused is tells = let mark : refused ≡ StartKilling = cc in absurd (subst TellsOfChange mark tells)
+no_change (x ∷ []) never refused is tells = let mark : refused ≡ StopKilling = cc in absurd (subst TellsOfChange mark tells)
+no_change (x ∷ y ∷ []) never refused is tells = absurd (cc)
+no_change (x ∷ y ∷ z ∷ done) never refused is tells = absurd (cc)
+
+-- the one change of a kill
+module _ (change : Event) where
+  split_alone : {P : Type 0} (done never : List Event) (refused : Event) → change ∷ [] ≡ done ++ refused ∷ never → (done ≡ [] → refused ≡ change → P) → P
+  split_alone [] never refused is go = go refl (cc)
+  split_alone (x ∷ []) never refused is go = absurd (cc)
+  split_alone (x ∷ y ∷ done) never refused is go = absurd (cc)
+
+  split_between : {P : Type 0} (done never : List Event) (refused : Event) → StartKilling ∷ change ∷ StopKilling ∷ [] ≡ done ++ refused ∷ never → TellsOfChange refused
+      → (done ≡ StartKilling ∷ [] → refused ≡ change → P) → P
+  split_between [] never refused is tells go = let mark : refused ≡ StartKilling = cc in absurd (subst TellsOfChange mark tells)
+  split_between (x ∷ []) never refused is tells go = go (cc) (cc)
+  split_between (x ∷ y ∷ []) never refused is tells go = let mark : refused ≡ StopKilling = cc in absurd (subst TellsOfChange mark tells)
+  split_between (x ∷ y ∷ z ∷ []) never refused is tells go = absurd (cc)
+  split_between (x ∷ y ∷ z ∷ w ∷ done) never refused is tells go = absurd (cc)
+
+module _ {B : Type 0} (second second_refuses : B → Event → B → Type 0) where
+  abbrev Refused : Joined Ring B → Event → Joined Ring B → Type 0
+  Refused = joined_refuses hears stays second_refuses
+
+  -- the ring after an event that was refused
+  after_refusal : (e : Event) (u v : Joined Ring B) → (v ≡ u) ⊎ Refused u e v → (v.first.now ≡ u.first.now) ⊎ (v.first.now ≡ ring_step e u.first.now)
+  after_refusal e u v (inl same) = inl (ap (λ (x : Joined Ring B). x.first.now) same)
+  after_refusal e u v (inr (names, inl kept)) = inl kept.0
+  after_refusal e u v (inr (names, inr took)) = inr took.0
+
+  abbrev Stopped : Bool → Option Span → Line → Joined Ring B → Joined Ring B → List ℕ → List ℕ → Type 0
+  Stopped b range l s t before after =
+      StopsAmong (joined_takes hears second) (joined_refuses hears stays second_refuses) (if b then [] else StopKilling ∷ []) (killed_by b range l) s t before after
+
+  ring_by : (b : Bool) (range : Option Span) (l : Line) (s t : Joined Ring B) (before after : List ℕ) → Stopped b range l s t before after
+      → (t.first.now ≡ ring_all (killed_by b range l) s.first.now) ⊎ (t.first.now ≡ (if b then s.first.now else record s.first.now { killing = false }))
+  ring_by true None l s t before after call = no_split call.done call.never call.refused call.split
+  ring_by false None l s t before after call = no_change call.done call.never call.refused call.split call.change
+  ring_by true (Some span) l s t before after call =
+      split_alone (deleted span l) call.done call.never call.refused call.split (λ none is.
+      let between : call.between.first.now ≡ s.first.now = ring_told second call.done s call.between call.reported.told ∙ ap (λ es. ring_all es s.first.now) none in
+      let closed : t.first.now ≡ call.left.first.now = ring_told second [] call.left t call.closed.told in
+      elim (after_refusal call.refused call.between call.left call.stopped) [
+        | inl kept ↦ inr (closed ∙ kept ∙ between)
+        | inr took ↦ inl (closed ∙ took ∙ ap (ring_step call.refused) between ∙ ap (λ e. ring_step e s.first.now) is)
+      ])
+  ring_by false (Some span) l s t before after call =
+      split_between (deleted span l) call.done call.never call.refused call.split call.change (λ one is.
+      let between : call.between.first.now ≡ ring_step StartKilling s.first.now = ring_told second call.done s call.between call.reported.told ∙ ap (λ es. ring_all es s.first.now) one in
+      let closed : t.first.now ≡ ring_step StopKilling call.left.first.now = ring_told second (StopKilling ∷ []) call.left t call.closed.told in
+      elim (after_refusal call.refused call.between call.left call.stopped) [
+        | inl kept ↦ inr (closed ∙ ap (ring_step StopKilling) (kept ∙ between))
+        | inr took ↦ inl (closed ∙ ap (ring_step StopKilling) (took ∙ ap (ring_step call.refused) between ∙ ap (λ e. ring_step e (ring_step StartKilling s.first.now)) is))
+      ])
+
+  pub ring_stopped : (movement : Movement) (l : Line) {s t : Joined Ring B} {before after : List ℕ}
+      → StopsAmong (joined_takes hears second) (joined_refuses hears stays second_refuses) (kill_closing movement) (kill_events movement l) s t before after → TookOrNot movement l s.first.now t.first.now
+  ring_stopped movement l {s} {t} {before} {after} call = ring_by (goes_by_clusters movement) (range_of movement l) l s t before after call
+
+pub on_refusal : {A E P : Type 0} (e : E) (result : Result A E) → IsErrAnd result (λ x. x ≡ e) → P → OnErr result P
+on_refusal e (Ok a) is p = tt
+on_refusal e (Err x) is p = p
