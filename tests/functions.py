@@ -118,13 +118,6 @@ def functions(text, module):
     return found
 
 
-def shape(body):
-    """What a body's goals take their names from: its branches, calls and names, in their order."""
-    parts = r"\b(?:if|while|match)\b[^{]*|\b(?:let|for)\b[^=;{]*|\b(?:else|loop|return|break|continue)\b"
-    parts += r"|[^,{};]*=>|\?|&&|\|\||\b[a-z_]\w*!?\s*(?:::<[^>]*>)?(?=\()|[|][^|]*[|]"
-    return [re.sub(r"\s+", " ", it).strip() for it in re.findall(parts, blanked(body))]
-
-
 def body_of(text, at, end):
     """The brace that opens the item's body, behind its clauses; None where it has no body."""
     while True:

@@ -6,13 +6,16 @@ Such a file is written as those of must-fail/ are: a line `file: src/lib.rt` and
 crates/*/out: each stands beside the right one, as a function of another name. The right one is taken at its word there,
 as its contract has it: a check proves no right body, since `rt ci` has, and needs nothing that an earlier one kept.
 
-A wrong body passes where each function that it changes is refused for its own sake: a goal of it is open, or rattle
-says in another way why. It fails where a function is proved all the same, where it no longer fits or changes nothing,
-and where only a stored proof doesn't fit it any more, which says nothing of the contract: tests/mutants-by-hand.txt
-names those of which it is known otherwise that the contract refuses them. A function or a file of lemmas that is
-refused though nothing is wrong with it fails too.
+A wrong body passes where each function that it changes is refused for its own sake, and rattle knows values at which
+an open goal of it is false, or tests/mutants-by-hand.txt has a case at which a clause is: an open goal alone may be one
+at which the search gave up. It fails where a function is proved all the same, and where it no longer fits or changes
+nothing. A function or a file of lemmas that is refused though nothing is wrong with it fails too.
+
+One that passed is kept on this machine, beside what `rt ci` keeps, by the sums of all that its check read: a later run,
+in any clone, tries only those of which something changed (tests/kept.py).
 
     tests/mutants.py [CRATE..]          all crates, or these
+    tests/mutants.py --anew [CRATE..]   tries those too that are kept
     tests/mutants.py --fit [CRATE..]    says in a second which wrong bodies no longer fit, and tries none
     tests/mutants.py --all-goals ..     asks every goal, and writes tests/mutants-unasked.txt anew for these crates
     rt ci | tests/mutants.py --beside   begins with a crate as soon as what `rt ci` says shows that it has proved the
@@ -35,8 +38,9 @@ import time
 from concurrent.futures import FIRST_COMPLETED, ThreadPoolExecutor, wait
 from threading import Thread
 
-from functions import functions
-from wrong_bodies import UNREAD, Crate, below, crates_of, head, joined, read, write
+from judging import Said, judged
+from kept import Kept, folder_beside
+from wrong_bodies import Crate, below, crates_of, joined, read, write
 
 TOP = os.path.dirname(os.path.dirname(os.path.realpath(__file__)))
 # What a check takes at most of memory, in bytes.
@@ -75,7 +79,8 @@ class Checker:
         return words + [word for path in sorted(paths) for word in ("--only", path.partition("::")[2])]
 
     def check(self, crate, group, brief, kept):
-        """What a check of the functions that a group changes costs, and what rattle says of them, of some in brief.
+        """What a check of the functions that a group changes costs, what rattle says of them, of some in brief, and how
+        it ends.
 
         What the crate's first check keeps, each later one has a copy of: rattle shares no such folder at one time.
         """
@@ -90,20 +95,20 @@ class Checker:
             return self.ran(self.words(crate, own if crate.checks else kept, paths), room)
 
     def ran(self, words, room):
-        """The processor time of a command, and what it says."""
+        """The processor time of a command, what it says, and its status."""
         with tempfile.TemporaryFile("w+", errors="replace") as said:
             how = {"stdin": subprocess.DEVNULL, "stdout": said, "stderr": subprocess.STDOUT}
             with subprocess.Popen(words, cwd=room, **how) as it:
                 _, status, used = os.wait4(it.pid, 0)
                 it.returncode = os.waitstatus_to_exitcode(status)
             said.seek(0)
-            return used.ru_utime + used.ru_stime, said.read()
+            return used.ru_utime + used.ru_stime, said.read(), it.returncode
 
 
 class Proofs:
-    """What `rt ci` has proved so far, as the lines that it writes say; all crates, where it isn't heard."""
+    """What `rt ci` has proved so far or taken as kept, as the lines that it writes say; all, where it isn't heard."""
 
-    PROVED = re.compile(r"rt: (\w+) proved\n")
+    PROVED = re.compile(r"rt: (\w+) (?:proved\n|is kept: )")
     COUNT = re.compile(r"\d+ passed, \d+ failed\n")
 
     def __init__(self, lines=None):
@@ -131,151 +136,25 @@ class Proofs:
         return not self.is_heard or name in self.names
 
 
-class Said:
-    """What a check says of each function."""
-
-    FUNCTION = re.compile(r"(?m)^fn (\S+): (proved|not proved|no proof|could not tell|no holes|depends on a hole)(.*)$")
-    # A call of what is not proved, or a block handed on, is no fault of the function that makes it.
-    CALLS = re.compile(r"\bit (?:calls|passes the block) .*?, which (?:is|are) not proved")
-    UNPROVED = re.compile(r"(?s).*?did not prove (.*?)(?:; it calls.*|\Z)")
-    OPEN = re.compile(r"(?m)^note: (src/\S+?):(\d+):\d+: it is not proved that .*?\(`([^`]+)`\)(.*)$")
-    WAITS = re.compile(r"(?m)^note: `search` has not tried the goals of `([^`]+)`, which wait for a callee's proof")
-    ANTT = re.compile(r"(?m)^(?:\./)?((?:specs|proofs)/[^\s:]+):\d+:\d+: (?:error|`\S+` is not admitted: (?!has-h))")
-    FRONT = re.compile(r"(?m)^(?:\./)?(src/[^\s:]+):(\d+):\d+: error\S* (.*)$")
-
-    def __init__(self, crate, group, said, brief=()):
-        self.crate, self.text, self.brief = crate, said, brief
-        self.unasked = {path: it.unasked for it in group for path in it.paths()}
-        self.lines = {it[1]: (it[2], it[3].strip(": ")) for it in self.FUNCTION.finditer(said)}
-        self.waiting = {*self.WAITS.findall(said)}
-        self.places = {file: spans(crate.sources, file, text) for file, text in crate.texts(group).items()}
-        self.open = {}
-        for file, line, goal, more in self.OPEN.findall(said):
-            self.open.setdefault(self.at(file, int(line)), {})[goal] = "values at which this goal is false" in more
-
-    def at(self, file, line):
-        """The function that a line of the checked text is of."""
-        return next((path for path, first, last in self.places.get(file, ()) if first <= line <= last), None)
-
-    def why(self, path):
-        """Why a function is refused for its own sake; None where it isn't."""
-        kind, why = self.lines[path]
-        own = self.CALLS.sub("", why).strip("; ")
-        if kind == "not proved" or kind == "no proof" and own:
-            return f"{kind}{': ' if own else ''}{own}"
-        return None
-
-    def of(self, path):
-        """The paths of a function and of the closures in it."""
-        return [it for it in self.lines if it == path or it.replace("::fn::", "::", 1).startswith(f"{path}::")]
-
-    def refusals(self, path):
-        """Why a function or a closure in it is refused for its own sake; of one told of in brief, its open goals."""
-        if path in self.brief:
-            goals = [f"`{it}`" for it in self.open.get(path, {})]
-            told = f": `search` did not prove {', '.join(goals)}" if goals else ""
-            return [f"not proved{told}"] * bool(goals or self.misfits(path))
-        return [why for why in map(self.why, self.of(path)) if why]
-
-    def misfits(self, path):
-        """Whether a stored answer of a function's does not fit its body."""
-        folder = re.escape(self.crate.answers(path))
-        own = "|".join([UNREAD, *self.unasked.get(path, ())])
-        return bool(re.search(rf"(?m)^(?:\./)?{folder}/.*: error(?!: `(?:{own})`)", self.text))
-
-    def strays(self, paths):
-        """The files of definitions and lemmas that are refused, but for those of these functions' proofs."""
-        own = tuple(f"{self.crate.answers(path)}/" for path in paths)
-        return sorted({it for it in self.ANTT.findall(self.text) if not it.startswith(own)})
-
-    def silent(self, edit):
-        """Whether what was said in brief of an edit doesn't show that it is refused, so that it is asked again."""
-        brief = [path for path in edit.paths() if path in self.brief]
-        shown = lambda it: self.refusals(it) and (not edit.unasked or self.by_contract(it, edit.keeps_shape(it)))
-        return not all(map(shown, brief))
-
-    def goals(self, path):
-        """The open goals of a function but those of invariants, and whether values are known at which each is false."""
-        unproved = self.UNPROVED.match(self.why(path) or "")
-        found = dict.fromkeys(re.findall(r"`([^`]+)`", unproved[1]) if unproved else [], False)
-        found.update(self.open.get(path, {}))
-        return {it: false for it, false in found.items() if not re.match(r"loop|invariant|decreases|iterator", it)}
-
-    def by_contract(self, path, keeps_shape):
-        """Whether an open goal shows that the function's contract refuses the body, and not just a stored proof.
-
-        Either values are known that make it false; or no stored answer is for its clause; or each stored answer still
-        fits, the goals have the names that they had, and none is for this one. The right body needed no answer there.
-        """
-        return self.crate.answered(path) is None or bool(self.telling(path, keeps_shape))
-
-    def telling(self, path, keeps_shape):
-        """The open goals of which each shows that the function's contract refuses the body, the cheapest ones first."""
-        stored = self.crate.answered(path) or set()
-        clauses = {clause_of(it) for it in stored}
-        fits = keeps_shape and not self.misfits(path)
-        goals = self.goals(path)
-        found = [it for it in goals if goals[it] or clause_of(it) not in clauses or fits and it not in stored]
-        return sorted(found, key=lambda it: not goals[it])
-
-    def to_spare(self, edit):
-        """The open goals of an edit's function that need not be asked, since another one shows that it is refused."""
-        [path, *more] = edit.paths()
-        telling = [] if more or path not in self.lines else self.telling(path, edit.keeps_shape(path))
-        stored = self.crate.answered(path) or set()
-        return [it for it in self.open.get(path, {}) if it not in stored and it != telling[0]] if telling else []
-
-
-def clause_of(goal):
-    """What a goal is of: a clause of the contract, or what a call requires."""
-    at, _, clause = goal.partition("-clause-")
-    return ("returns" if at.startswith("returns") else at), clause
-
-
-def spans(sources, file, text):
-    """The functions of a text of a file, each with its first line, where its attributes begin, and its last."""
-    line = lambda place: text.count("\n", 0, place) + 1
-    found = functions(text, sources.module_of(file))
-    return [(sources.path(it), line(head(text, it)[0]), line(it.body[1])) for it in found]
-
-
-def judged(crate, group, said, by_hand):
-    """Of each wrong body of a group whether it passes, and what to say; then of each other function that is refused."""
-    for edit in group:
-        faults, told = [], []
-        for path in edit.paths():
-            why = said.refusals(path) if path in said.lines else []
-            if path not in said.lines:
-                faults.append(f"rattle names no function {path}")
-            elif said.lines[path][0] == "could not tell":
-                faults.append(f"{path}: could not tell")
-            elif not why:
-                faults.append(f"{path} is NOT REFUSED: it is proved with this body")
-            elif not said.by_contract(path, edit.keeps_shape(path)):
-                told.append(f"{path}: only its stored proof does not fit this body, which says nothing of the contract")
-                if f"{crate.name}/{edit.name}" not in by_hand:
-                    faults.append(told[-1])
-            told += [f"{path}: {it}" for it in why]
-        yield not faults, f"{crate.name}/{edit.name}", "; ".join(faults or told)
-    meant = {it for edit in group for path in edit.paths() for it in said.of(path)}
-    for path in said.lines:
-        if path not in meant and said.why(path):
-            yield False, path, f"refused, though nothing is wrong with it: {said.why(path)}"
-    for file in said.strays(path for edit in group for path in edit.paths()):
-        yield False, f"{crate.name}/{file}", "refused, though nothing is wrong with it"
-
-
 class Trial:
     """A crate's wrong bodies as they are tried: what is found of them, and the groups that are still to be tried.
 
     What its first check keeps serves the others, of which each has a copy, so these begin when that one has ended.
     """
 
-    def __init__(self, crate, checker, by_hand):
-        self.crate, self.checker, self.by_hand = crate, checker, by_hand
-        self.kept = tempfile.TemporaryDirectory(prefix="mutants-kept-")
+    def __init__(self, crate, checker, by_hand, kept):
+        self.crate, self.checker, self.by_hand, self.kept = crate, checker, by_hand, kept
+        self.folder = tempfile.TemporaryDirectory(prefix="mutants-kept-")
         self.found = [(False, f"{crate.name}/{name}", f"it no longer fits: {why}") for name, why in crate.unfit.items()]
-        self.full, self.running, self.left, self.spared = set(), 0, crate.groups(), {}
+        self.sums = {it: kept.name(crate, it, self.has_case(it)) for it in crate.edits}
+        known = {it: why for it in crate.edits for why in [kept.why(self.sums[it])] if why}
+        self.found += [(True, f"{crate.name}/{it.name}", f"is kept: {why}") for it, why in known.items()]
+        self.known, self.full, self.killed, self.running, self.spared = len(known), set(), set(), 0, {}
+        self.left = crate.groups([it for it in crate.edits if it not in known])
+
+    def has_case(self, edit):
+        """Whether a case is written out at which a clause is false of an edit."""
+        return f"{self.crate.name}/{edit.name}" in self.by_hand
 
     def ready(self, proofs):
         """The groups that may be tried now; none ever, where a library that they need is not to come."""
@@ -292,32 +171,62 @@ class Trial:
         return groups
 
     def check(self, group):
-        """Tries a group: what its check cost, and what was said of it."""
+        """Tries a group: what its check cost, what was said of it, and how the check ended."""
         brief = self.crate.brief([it for it in group if it not in self.full])
-        cost, said = self.checker.check(self.crate, group, brief, self.kept.name)
-        return cost, Said(self.crate, group, said, brief)
+        cost, said, status = self.checker.check(self.crate, group, brief, self.folder.name)
+        return cost, Said(self.crate, group, said, brief), status
 
-    def take(self, group, cost, said):
+    def take(self, group, cost, said, status):
         """Takes what was said of a group: what was found of its edits, and those that need another check."""
         self.running -= 1
+        if status < 0 or not said.text:
+            self.take_killed(group, status)
+            return
         self.crate.checks.append((cost, [it.name for it in group]))
         save(self.checker.top, f"{self.crate.name}-{len(self.crate.checks)}.log", said.text)
-        if not said.lines:
-            culprits = refused_unread(said, group)
-            for edit, why in culprits.items():
-                self.found.append((False, f"{self.crate.name}/{edit.name}", f"it did not reach the prover: {why}"))
-            self.left += [[it for it in group if it not in culprits]] * (len(culprits) < len(group))
-            return
+        if said.lines:
+            self.take_told(group, said)
+        else:
+            self.take_unread(group, said)
+
+    def take_killed(self, group, status):
+        """Has a group whose check was killed tried once more; a second time it is named with its status."""
+        if self.killed.issuperset(group):
+            why = f"its check was killed twice, with status {status}"
+            self.found += [(False, f"{self.crate.name}/{it.name}", why) for it in group]
+        else:
+            self.killed.update(group)
+            self.left.append(group)
+
+    def take_unread(self, group, said):
+        """Takes that the front end refused the crate: those edits fail of which it says so, and the others are tried."""
+        culprits = refused_unread(said, group)
+        for edit, why in culprits.items():
+            self.found.append((False, f"{self.crate.name}/{edit.name}", f"it did not reach the prover: {why}"))
+        self.left += [[it for it in group if it not in culprits]] * (len(culprits) < len(group))
+
+    def take_told(self, group, said):
+        """Takes what the prover said of a group."""
         # Where a callee in the same check is refused too, some goals are not tried: such bodies have another.
         waiting = [it for it in group if len(group) > 1 and {*it.paths()} & said.waiting]
         # Where nothing is open, it is asked in full: the body is proved, or refused in another way.
-        silent = [it for it in group if it not in waiting and said.silent(it)]
+        silent = [it for it in group if it not in waiting and said.silent(it, self.has_case(it))]
         self.full.update(silent)
         again = [*waiting, *silent]
         self.left += joined([], again) if len(again) < len(group) else [[it] for it in again]
         self.spared.update({it: said.to_spare(it) for it in group if it not in again})
         names = {f"{self.crate.name}/{it.name}" for it in again}
-        self.found += [it for it in judged(self.crate, group, said, self.by_hand) if it[1] not in names]
+        found = [it for it in judged(self.crate, group, said, self.by_hand) if it[1] not in names]
+        self.found += found
+        self.keep(group, found)
+
+    def keep(self, group, found):
+        """Keeps those of a group that passed, unless the check shows something else that is refused."""
+        sums = {f"{self.crate.name}/{it.name}": self.sums[it] for it in group}
+        if all(name in sums for _, name, _ in found):
+            for well, name, why in found:
+                if well:
+                    self.kept.keep(sums[name], why)
 
 
 def tried(trials, lanes, proofs):
@@ -411,13 +320,16 @@ def main(words):
             print(f"FAILED {name}: it no longer fits: {why}")
         return finished(len(known) - len(unfit), failed + len(unfit))
     checker = Checker(TOP, uses)
-    trials = [Trial(it, checker, by_hand) for it in sorted(crates, key=Crate.weight, reverse=True)]
+    anew = not {"--anew", "--all-goals"}.isdisjoint(words)
+    kept = Kept(TOP, uses, checker.kit, folder_beside(checker.kit), anew)
+    trials = [Trial(it, checker, by_hand, kept) for it in sorted(crates, key=Crate.weight, reverse=True)]
     proofs = Proofs(open(0, encoding="utf-8", errors="replace") if "--beside" in words else None)
     for trial in tried(trials, processors(), proofs):
         tell(trial)
         passed += sum(well for well, _, _ in trial.found)
         failed += sum(not well for well, _, _ in trial.found)
     proofs.hear_out()
+    kept.shrink()
     if "--all-goals" in words:
         note_unasked(UNASKED, trials)
     return finished(passed, failed)
@@ -427,7 +339,8 @@ def tell(trial):
     """Prints what a trial cost and found."""
     crate = trial.crate
     cost = f"checks {len(crate.checks)}, {sum(cost for cost, _ in crate.checks):.0f} s of processor"
-    print(f"-- {crate.name}: wrong bodies {len(crate.edits) + len(crate.unfit)}, {cost}", flush=True)
+    count = f"wrong bodies {len(crate.edits) + len(crate.unfit)}, of them kept {trial.known}"
+    print(f"-- {crate.name}: {count}, {cost}", flush=True)
     for at, (cost, names) in enumerate(crate.checks, 1):
         of = ", ".join(names[:8]) + " .." * (len(names) > 8)
         print(f"   check {at}: {cost:.0f} s, wrong bodies {len(names)}: {of}", flush=True)

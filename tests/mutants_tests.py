@@ -1,14 +1,21 @@
 #!/usr/bin/env python3
-"""What tests/mutants.py says of wrong bodies, and of what is none, in a small crate of its own."""
+"""What tests/mutants.py says of wrong bodies, and of what is none, in a small crate of its own.
+
+    tests/mutants_tests.py             where the prover is a stand-in, in a second
+    tests/mutants_tests.py --prover    where it is rattle itself
+"""
 import os
+import sys
 import tempfile
 import time
 from threading import Barrier, Event
 
+import judging
 import mutants
 import wrong_bodies
 from checks import run_all, same
-from functions import Sources, shape
+from functions import Sources
+from kept import Kept
 
 SOURCE = """//! Numbers, for wrong bodies.
 #![tactic(auto)]
@@ -86,6 +93,11 @@ EDITS = {
     "from-other": ("doubled(n) + doubled(n)", "u16::from(&Pair { one: 0, other: 0 })"),
 }
 DOUBLED = "small::doubled_added_once"
+# What is said of it: a goal that is open, and one that is known to be false.
+OPEN = "note: src/lib.rt:27:1: it is not proved that what the function ensures holds when it returns (`returns`)\n"
+FALSE = OPEN.replace("\n", "; the facts known there allow values at which this goal is false\n")
+REFUSED = f"fn {DOUBLED}: no proof: `search` did not prove `returns`\n"
+CASE = {"small/added-once": "a case"}
 
 
 class Small:
@@ -108,14 +120,22 @@ class Small:
     def crate(self, unasked=None):
         return wrong_bodies.Crate(self.folder.name, "small", unasked)
 
+    def uses(self):
+        return wrong_bodies.crates_of(self.folder.name)
+
     def trial(self, unasked=None):
-        checker = mutants.Checker(self.folder.name, wrong_bodies.crates_of(self.folder.name))
-        return mutants.Trial(self.crate(unasked), checker, {})
+        return self.tried_by(mutants.Checker(self.folder.name, self.uses()), {}, unasked)
+
+    def tried_by(self, checker, by_hand, unasked=None):
+        """A trial that keeps what it finds in the repository's own folder."""
+        kit = mutants.Checker(self.folder.name, self.uses()).kit
+        kept = Kept(self.folder.name, self.uses(), kit, os.path.join(self.folder.name, "kept"))
+        return mutants.Trial(self.crate(unasked), checker, by_hand, kept)
 
     def judged(self, said, by_hand=()):
         crate = self.crate()
-        group = crate.groups()[0]
-        found = mutants.judged(crate, group, mutants.Said(crate, group, said), by_hand)
+        group = crate.groups(crate.edits)[0]
+        found = judging.judged(crate, group, judging.Said(crate, group, said), by_hand)
         return {name: (well, text) for well, name, text in found}
 
 
@@ -176,7 +196,7 @@ def goals_that_need_not_be_asked():
     said = note.format("returns-clause-one", "") + note.format("returns-clause-other", false)
     said += "fn small::twice_neither: not proved\n"
     group = trial.crate.edits
-    trial.take(group, 1, mutants.Said(trial.crate, group, said, {"small::twice_neither"}))
+    trial.take(group, 1, judging.Said(trial.crate, group, said, {"small::twice_neither"}), 0)
     same("what needs not be asked", trial.spared, {group[0]: ["returns-clause-one"]})
     file = os.path.join(trial.checker.top, "unasked.txt")
     wrong_bodies.write(file, "# Told.\n\nother/one: a, b\nsmall/gone: c\n")
@@ -194,7 +214,14 @@ class Told:
         return [] if proofs.has("low") else ["low"]
 
     def check(self, _crate, group, _brief, _kept):
-        return 1, self.said[" ".join(it.name for it in group)]
+        return 1, self.said[" ".join(it.name for it in group)], 1
+
+
+def trial_of(small, said, by_hand=CASE):
+    """A trial of a crate whose edits are all told of in full, by a checker that says this."""
+    trial = small.tried_by(Told(small.folder.name, said), by_hand)
+    trial.full = {*trial.crate.edits}
+    return trial
 
 
 def a_body_that_waits_for_its_callee_is_tried_again():
@@ -204,8 +231,8 @@ def a_body_that_waits_for_its_callee_is_tried_again():
     caller = "fn small::fourfold_from_other: no proof: it calls `small::U16FromRefPair::from`, which is not proved\n"
     alone = "fn small::fourfold_from_other: no proof: `search` did not prove `returns`\n"
     said = {"from-none from-other": refused + waits + caller, "from-other": alone}
-    trial = mutants.Trial(small.crate(), Told(small.folder.name, said), {})
-    trial.full, trial.left = {*trial.crate.edits}, [trial.crate.edits]
+    trial = trial_of(small, said, {"small/from-none": "a case", "small/from-other": "a case"})
+    trial.left = [trial.crate.edits]
     found = tried(trial)
     expect(found, "small/from-none", True, "small::U16FromRefPair::from")
     expect(found, "small/from-other", True, "small::fourfold_from_other")
@@ -222,11 +249,12 @@ def heard(lines, ended):
 
 def a_crate_waits_for_its_libraries():
     small = Small("added-once", "from-none", "from-one")
-    made = lambda: mutants.Trial(small.crate(), Told(small.folder.name, {}), {})
-    said = ["== low\n", "rt: lower NOT PROVED\n", "rt: low: its tests are proved\n"]
+    made = lambda: trial_of(small, {})
+    said = ["== low\n", "rt: lower NOT PROVED\n", "rt: low: its tests are proved\n", "rt: low is keptless\n"]
     for lines, ended, ready, faults in (
         (said, False, 0, []),
         ([*said, "rt: low proved\n"], False, 1, []),
+        ([*said, "rt: low is kept: an earlier run on this machine proved the same\n"], False, 1, []),
         ([*said, "rt: low proved\n"], True, 1, []),
         (said, True, 0, ["no library of low is built: run rt ci first"]),
     ):
@@ -237,8 +265,7 @@ def a_crate_waits_for_its_libraries():
     stream = iter(["rt: low proved\n", "1 passed, 0 failed\n"])
     trial = made()
     group = [it for it in trial.crate.edits if it.name == "added-once"]
-    trial.left, trial.full = [group], {*group}
-    trial.checker.said = {"added-once": f"fn {DOUBLED}: no proof: `search` did not prove `returns`\n"}
+    trial.left, trial.checker.said = [group], {"added-once": REFUSED}
     [ended] = mutants.tried([trial], 2, mutants.Proofs(stream))
     same("what is found", [(well, name) for well, name, _ in ended.found], [(True, "small/added-once")])
 
@@ -270,8 +297,8 @@ class Paced(Told):
 
 def one_check_at_a_time_beside_the_proofs():
     small = Small("added-once")
-    paced = Paced(small.folder.name, {"added-once": f"fn {DOUBLED}: no proof: `search` did not prove `returns`\n"})
-    trials = [mutants.Trial(small.crate(), paced, {}) for _ in range(3)]
+    paced = Paced(small.folder.name, {"added-once": REFUSED})
+    trials = [small.tried_by(paced, CASE) for _ in range(3)]
     for it in trials:
         it.full = {*it.crate.edits}
     ended = [*mutants.tried(trials, 2, mutants.Proofs(paced.lines()))]
@@ -280,8 +307,7 @@ def one_check_at_a_time_beside_the_proofs():
 
 
 def nothing_is_tried_once_the_proofs_are_broken_off():
-    small = Small("added-once")
-    trial = mutants.Trial(small.crate(), Told(small.folder.name, {}), {})
+    trial = trial_of(Small("added-once"), {})
     proofs = mutants.Proofs(iter(["rt: low proved\n"]))
     proofs.hear_out()
     try:
@@ -304,16 +330,20 @@ def edits_that_no_longer_fit():
         same(f"whether `{crate.unfit[name]}` says `{words}`", words in crate.unfit[name], True)
 
 
+def groups_of(crate):
+    return crate.groups(crate.edits)
+
+
 def named(groups):
     return [[it.name for it in group] for group in groups]
 
 
 def wrong_bodies_that_share_a_check():
     small = Small("added-once", "half-of-it", "same-sum", "nothing-said")
-    same("all that stand beside the right ones", named(small.crate().groups()),
+    same("all that stand beside the right ones", named(groups_of(small.crate())),
          [["added-once", "half-of-it", "nothing-said", "same-sum"]])
     small = Small("from-one", "from-none", "from-other", "nothing-said")
-    same("a body of a trait's impl has the right one's place, and may be called there", named(small.crate().groups()),
+    same("a body of a trait's impl has the right one's place, and may be called there", named(groups_of(small.crate())),
          [["from-none", "nothing-said"], ["from-one"], ["from-other"]])
     same("groups of one size", wrong_bodies.parts([1, 2, 3, 4, 5], 3), [[1, 3, 5], [2, 4]])
 
@@ -361,29 +391,28 @@ def a_refused_lemma_is_told_of():
         ("./proofs/Sums.antt:2:1: error: `twice` is not in scope\n", True),
         ("./proofs/Sums.antt:2:1: `sums` is not admitted: has-errors\n", True),
     ):
-        found = small.judged(line + f"fn {DOUBLED}: no proof: `search` did not prove `returns`\n")
+        found = small.judged(line + FALSE + REFUSED)
         expect(found, "small/added-once", True, DOUBLED)
         same("whether the lemma is told of", "small/proofs/Sums.antt" in found, told)
 
 
 def a_function_told_of_in_brief():
     crate = Small("added-once").crate()
-    group = crate.groups()[0]
+    group = crate.groups(crate.edits)[0]
     refused = f"fn {DOUBLED}: not proved\n"
-    note = "note: src/lib.rt:27:1: it is not proved that what the function ensures holds when it returns (`returns`)\n"
     answers = "./proofs/doubled_added_once/Answers.antt:2:1: error: `"
     for text, silent in (
-        (note + refused, False),
+        (OPEN + refused, False),
         (refused, True),
-        (note.replace(":27:", ":33:") + refused, True),
+        (OPEN.replace(":27:", ":33:") + refused, True),
         (f"{answers}{wrong_bodies.UNREAD}`: `NoLinesWanted` is not in scope\n{refused}", True),
         (f"{answers}returns`: `c.none` is not in scope\n{refused}", False),
     ):
-        said = mutants.Said(crate, group, text, crate.brief(group))
-        same("whether nothing of it is open", said.silent(group[0]), silent)
+        said = judging.Said(crate, group, text, crate.brief(group))
+        same("whether nothing of it is open", said.silent(group[0], False), silent)
         same("how often it is refused", len(said.refusals(DOUBLED)), 0 if silent else 1)
     same("whether it is silent where it is told of in full",
-         mutants.Said(crate, group, refused).silent(group[0]), False)
+         judging.Said(crate, group, refused).silent(group[0], False), False)
 
 
 def a_body_joins_the_first_group_that_it_may_stand_in():
@@ -405,7 +434,7 @@ pub(crate) fn other(a: [u8; 2]) -> u8 {
 }
 """)
     sources = Sources(small.crate().folder, "small")
-    same("lines", mutants.spans(sources, "src/at.rt", sources.texts["src/at.rt"]),
+    same("lines", judging.spans(sources, "src/at.rt", sources.texts["src/at.rt"]),
          [("small::at::one", 2, 2), ("small::at::other", 5, 9)])
 
 
@@ -435,58 +464,145 @@ mod inner { fn f() { fn g() {} } }
     ])
 
 
-def a_body_keeps_its_shape():
-    for old, new, keeps in (
-        ("{ if a { f(b) } else { c } }", "{ if a { f(c + 1) } else { c } }", True),
-        ("{ if a { f(b) } else { c } }", "{ if !a { f(b) } else { c } }", False),
-        ("{ let a = f(b)?; a }", "{ let a = f(0)?; a }", True),
-        ("{ let a = f(b)?; a }", "{ let d = f(b)?; d }", False),
-        ("{ match a { Some(x) => x, None => 0 } }", "{ match a { Some(x) => x, None => 1 } }", True),
-        ("{ match a { Some(x) => x, None => 0 } }", "{ match a { Some(_) => 1, None => 0 } }", False),
-        ("{ a && b }", "{ a }", False),
-    ):
-        same(f"whether {new} has the shape of {old}", shape(new) == shape(old), keeps)
-
-
-def a_stored_proof_that_no_longer_fits():
+def an_open_goal_alone_shows_nothing():
     small = Small("added-once")
-    small.write("crates/small/proofs/doubled/Answers.antt", "pub returns-clause-sum : goal.returns-clause-sum\n")
-    refused = f"fn {DOUBLED}: not proved\n"
-    note = "note: src/lib.rt:27:1: it is not proved that what the function ensures holds when it returns (`GOAL`)\n"
-    false = note.replace("\n", "; the facts known there allow values at which this goal is false\n")
-    for said, well in (
-        ("", False),
-        (note.replace("GOAL", "returns-then-n-clause-sum"), False),
-        (note.replace("GOAL", "returns-clause-other"), True),
-        (false.replace("GOAL", "returns-then-n-clause-sum"), True),
-        (false.replace("GOAL", "loop-n-preserved"), False),
+    for stored in ("", "pub returns-clause-sum : goal.returns-clause-sum\n"):
+        if stored:
+            small.write("crates/small/proofs/doubled/Answers.antt", stored)
+        for said, well in (
+            ("", False),
+            (OPEN, False),
+            (OPEN.replace("returns`", "returns-then-n-clause-sum`"), False),
+            (FALSE.replace("returns`", "returns-then-n-clause-sum`"), True),
+            (FALSE.replace("returns`", "loop-n-preserved`"), False),
+        ):
+            refused = f"{said}fn {DOUBLED}: not proved\n"
+            expect(small.judged(refused), "small/added-once", well, "" if well else "no case is written out")
+            expect(small.judged(refused, CASE), "small/added-once", True, DOUBLED)
+
+
+def a_goal_that_is_not_false_is_asked_again_unless_there_is_a_case():
+    crate = Small("neither").crate({"small/neither": ["returns-clause-other"]})
+    said = OPEN.replace(":27:", ":59:").replace("returns`", "returns-clause-one`") + "fn small::twice_neither: not proved\n"
+    told = judging.Said(crate, crate.edits, said, {"small::twice_neither"})
+    same("whether it is asked again", [told.silent(crate.edits[0], case) for case in (False, True)], [True, False])
+
+
+class Killed(Told):
+    """A checker whose first checks are killed, so many of them."""
+
+    def __init__(self, top, said, times):
+        super().__init__(top, said)
+        self.times = times
+
+    def check(self, *of):
+        self.times -= 1
+        return (1, "half a", -9) if self.times >= 0 else super().check(*of)
+
+
+def a_check_that_is_killed_is_tried_once_more():
+    for times, why in ((1, f"{DOUBLED}: no proof: `search` did not prove `returns`"),
+                       (2, "its check was killed twice, with status -9")):
+        small = Small("added-once")
+        trial = small.tried_by(Killed(small.folder.name, {"added-once": REFUSED}, times), CASE)
+        trial.full = {*trial.crate.edits}
+        same("what is found", tried(trial), {"small/added-once": (times == 1, why)})
+
+
+LOW = """//! Numbers, for numbers.
+/// What numbers come from.
+pub trait Origin {
+    fn given(&self) -> u8 {
+        0
+    }
+}
+
+pub const fn none() -> u8 {
+    1 - 1
+}
+
+pub fn one() -> u8
+    ensures { result \u2261 1 }
+{
+    2 - 1
+}
+"""
+
+
+def what_is_refused_is_kept_until_something_that_its_check_read_changes():
+    small = Small("added-once")
+    small.write("crates.txt", "low:\nsmall: low\n")
+    small.write("crates/low/src/lib.rt", LOW)
+    known = lambda: small.tried_by(None, CASE).known
+    same("what is known at first", known(), 0)
+    tried(trial_of(small, {"added-once": REFUSED}))
+    same("what is known then", known(), 1)
+    same("what is known with no case of it", small.tried_by(None, {}).known, 0)
+    kept = trial_of(small, {})
+    same("whether it passes without a check", tried(kept)["small/added-once"][0], True)
+    same("checks", kept.crate.checks, [])
+    for file, old, new, count in (
+        ("small/src/lib.rt", "n // said of nothing", "n + 0", 1),
+        ("small/src/lib.rt", "pair.other // taken", "\n\npair.other // taken", 1),
+        ("small/src/lib.rt", "{ result \u2261 n + n }", "{ result \u2261 n + n + 0 }", 0),
+        ("small/src/lib.rt", "pub other: u16", "pub other: u32", 0),
+        ("small/mutants/added-once.edit", "new: u16", "new: 0 + u16", 0),
+        ("low/src/lib.rt", "2 - 1", "1 + 0", 1),
+        ("low/src/lib.rt", "1 - 1", "0 + 0", 0),
+        ("low/src/lib.rt", "        0", "        1", 0),
+        ("low/src/lib.rt", "result \u2261 1", "result \u2261 1 + 0", 0),
     ):
-        found = small.judged(said + refused)
-        expect(found, "small/added-once", well, DOUBLED)
-        if not well:
-            expect(found, "small/added-once", False, "says nothing of the contract")
-            expect(small.judged(said + refused, {"small/added-once": "a case"}), "small/added-once", True, DOUBLED)
+        path = f"crates/{file}"
+        whole = wrong_bodies.read(os.path.join(small.folder.name, path))
+        same(f"how often {old} stands in {file}", whole.count(old), 1)
+        small.write(path, whole.replace(old, new))
+        same(f"what is known with {new} in {file}", known(), count)
+        small.write(path, whole)
+    for file, count in (
+        ("small/specs/Numbers.antt", 0), ("small/proofs/Sums.antt", 0), ("small/proofs/doubled/Answers.antt", 0),
+        ("small/proofs/fourfold/Answers.antt", 1), ("low/specs/Numbers.antt", 0), ("low/proofs/Sums.antt", 0),
+        ("low/proofs/one/Answers.antt", 1),
+    ):
+        small.write(f"crates/{file}", "-- new\n")
+        same(f"what is known with a new {file}", known(), count)
+        os.remove(os.path.join(small.folder.name, "crates", file))
+    same("what is known in the end", known(), 1)
+
+
+def what_shares_a_check_with_another_fault_is_not_kept():
+    small = Small("added-once")
+    caller = "fn small::fourfold: no proof: `search` did not prove `returns`\n"
+    tried(trial_of(small, {"added-once": REFUSED + caller}))
+    same("what is known", small.tried_by(None, CASE).known, 0)
+
+
+PROVER = [
+    what_the_prover_says,
+    goals_that_go_unasked,
+]
+STAND_INS = [
+    edits_that_no_longer_fit,
+    wrong_bodies_that_share_a_check,
+    what_is_not_changed_is_taken_at_its_word,
+    a_caller_is_not_blamed_for_its_callee,
+    a_refused_lemma_is_told_of,
+    a_function_told_of_in_brief,
+    a_body_joins_the_first_group_that_it_may_stand_in,
+    attributes_are_lines_of_their_function,
+    paths_as_rattle_prints_them,
+    an_open_goal_alone_shows_nothing,
+    a_goal_that_is_not_false_is_asked_again_unless_there_is_a_case,
+    a_check_that_is_killed_is_tried_once_more,
+    what_is_refused_is_kept_until_something_that_its_check_read_changes,
+    what_shares_a_check_with_another_fault_is_not_kept,
+    a_body_that_waits_for_its_callee_is_tried_again,
+    a_crate_waits_for_its_libraries,
+    one_check_at_a_time_beside_the_proofs,
+    nothing_is_tried_once_the_proofs_are_broken_off,
+    answers_of_a_body_beside_the_right_one,
+    goals_that_need_not_be_asked,
+]
 
 
 if __name__ == "__main__":
-    run_all([
-        edits_that_no_longer_fit,
-        wrong_bodies_that_share_a_check,
-        what_is_not_changed_is_taken_at_its_word,
-        a_caller_is_not_blamed_for_its_callee,
-        a_refused_lemma_is_told_of,
-        a_function_told_of_in_brief,
-        a_body_joins_the_first_group_that_it_may_stand_in,
-        attributes_are_lines_of_their_function,
-        paths_as_rattle_prints_them,
-        a_body_keeps_its_shape,
-        a_stored_proof_that_no_longer_fits,
-        a_body_that_waits_for_its_callee_is_tried_again,
-        a_crate_waits_for_its_libraries,
-        one_check_at_a_time_beside_the_proofs,
-        nothing_is_tried_once_the_proofs_are_broken_off,
-        answers_of_a_body_beside_the_right_one,
-        goals_that_need_not_be_asked,
-        what_the_prover_says,
-        goals_that_go_unasked,
-    ])
+    run_all(PROVER if "--prover" in sys.argv else STAND_INS)

@@ -1,11 +1,12 @@
 #!/usr/bin/env python3
-"""What README and docs/ name stands in the crates: each call, clause, law and definition, and each named wrong body.
+"""What README and docs/ name is there: each call, clause, law and definition, each named wrong body, and the kit.
 
 A row's place is written `crate` and then its calls: `Type::call`, `Trait::call`, `call` or `laws::law`, each followed by the
 names of its clauses in parentheses where only some of them carry the promise.
 """
 import os
 import re
+import subprocess
 import sys
 
 TOP = os.path.dirname(os.path.dirname(os.path.realpath(__file__)))
@@ -187,6 +188,13 @@ def check_wrong_bodies(checks):
             checks.expect(f"{crate}/{name}" in named, f"GATE: no rule is named of {file}")
 
 
+def check_kit(checks):
+    """README: the kit that the repository is proved with is the one that is here."""
+    version = subprocess.run(["rt", "version"], capture_output=True, text=True, check=True).stdout.strip()
+    told = [it for line in lines_of("README.md") for it in re.findall(r"`(rattle-kit-[^`]*)`", line)]
+    checks.expect(told == [version], f"README: it names the kit {', '.join(told) or 'nowhere'}, and rt version says {version}")
+
+
 def crates_listed():
     """The crates of crates.txt, each with the libraries that it stands on, and those that stand before the tests."""
     listed, before_tests, tests = {}, [], False
@@ -209,6 +217,7 @@ def main():
     check_crates(checks)
     check_definitions(checks, crates)
     check_wrong_bodies(checks)
+    check_kit(checks)
     print(f"{checks.passed} passed, {checks.failed} failed")
     return checks.failed > 0
 

@@ -1,10 +1,11 @@
 """Wrong bodies: the files of crates/NAME/mutants/, and how those of a crate share checks."""
+import hashlib
 import os
 import re
 import shutil
 from collections import Counter
 
-from functions import Sources, blanked, functions, shape
+from functions import Sources, blanked, functions
 
 # What stands before the word `fn` of a function: attributes, and who may call it.
 ATTRIBUTES = re.compile(r"(?:#\[(?:[^][]|\[[^][]*\])*\]\s*)*(?:pub(?:\([^)]*\))?\s+)?(?:(?:const|unsafe)\s+)*\Z")
@@ -36,7 +37,7 @@ class Edit:
 
     def __init__(self, path, sources, unasked=()):
         self.name, self.unasked = os.path.basename(path).removesuffix(".edit"), unasked
-        self.bodies, self.right, self.shapely, self.words = {}, {}, set(), set()
+        self.bodies, self.right, self.words = {}, {}, set()
         changes = [(file, *it) for file, text in changed(read(path), sources).items()
                    for it in bodies_changed(sources, file, text)]
         for file, old, new in changes:
@@ -45,14 +46,8 @@ class Edit:
                 own = f"{right}_{self.name.replace('-', '_')}"
             self.bodies[file, own], self.right[own] = (old.body, new), right
             self.words.update(re.findall(r"\w+", blanked(new)))
-            if shape(new) == shape(sources.texts[file][slice(*old.body)]):
-                self.shapely.add(own)
         if not self.bodies:
             raise Unfit("it changes nothing")
-
-    def keeps_shape(self, path):
-        """Whether a function's goals have the names that they had, since only values were changed."""
-        return path in self.shapely
 
     def paths(self):
         """The functions that have its bodies in a check."""
@@ -154,7 +149,7 @@ class Crate:
 
     def __init__(self, top, name, unasked=None):
         self.name, self.folder = name, os.path.join(top, "crates", name)
-        self.checks = []
+        self.checks, self.taken = [], []
         self.edits, self.unfit = [], {}
         room = os.path.join(self.folder, "mutants")
         files = sorted(it for it in os.listdir(room) if it.endswith(".edit")) if os.path.isdir(room) else []
@@ -171,12 +166,12 @@ class Crate:
         """What its checks cost, roughly: the lines of its code, and some a wrong body."""
         return sum(it.count("\n") for it in self.sources.texts.values()) + 40 * len(self.edits)
 
-    def groups(self):
-        """The edits in few groups of which each is tried in one check: those that leave least choice first."""
-        times = Counter(path for edit in self.edits for path in edit.replaced())
-        barred = {it: sum(not it.stands_beside(other) for other in self.edits) for it in self.edits}
+    def groups(self, edits):
+        """Edits in few groups of which each is tried in one check: those that leave least choice first."""
+        times = Counter(path for edit in edits for path in edit.replaced())
+        barred = {it: sum(not it.stands_beside(other) for other in edits) for it in edits}
         choice = lambda it: (-max((times[path] for path in it.replaced()), default=0), -barred[it])
-        groups = joined([], sorted(self.edits, key=choice))
+        groups = joined([], sorted(edits, key=choice))
         return sorted((it for group in groups for it in parts(group, self.MOST)), key=len, reverse=True)
 
     def answers(self, path):
@@ -225,6 +220,19 @@ class Crate:
                 text = text[: it.body[0]] + own + text[it.body[1] :]
             made[file] = text
         return made
+
+    def sum_of(self, edit):
+        """A sum of what a check of an edit reads of the crate: all but the right bodies that it takes at their word."""
+        if not self.taken:
+            self.taken = [*texts_under(self.folder, "specs"), *lemmas(self.folder), *self.outlines()]
+        bodies = [(file, path, edit.right[path], new) for (file, path), (_, new) in edit.bodies.items()]
+        stored = [(name, read(file)) for path in edit.paths() for name, file in sorted(self.stored(path).items())]
+        return sum_of(self.name, self.taken, edit.name, bodies, stored, sorted(edit.unasked))
+
+    def outlines(self):
+        """The crate's files with no line of a body that is taken at its word."""
+        for file, text in self.sources.texts.items():
+            yield file, outline(text, self.sources.found[file], lambda it: "const" in head(text, it)[1].split())
 
     def furnish(self, room, group):
         """Writes the crate with a group's bodies into a folder: what the group doesn't change is taken at its word."""
@@ -281,6 +289,41 @@ class Crate:
                 os.remove(os.path.join(folder, name))
         hole = HOLE.format(module=self.module(path), name=path.rpartition("::")[2])
         write(os.path.join(folder, PROOF_FILES[0]), hole)
+
+
+def outline(text, found, keeps):
+    """A file's text less the bodies of its functions, but for those that are to be kept."""
+    for it in sorted(found, key=lambda it: it.body, reverse=True):
+        if not keeps(it):
+            text = f"{text[: it.body[0]]}{{}}{text[it.body[1] :]}"
+    return text
+
+
+def texts_under(folder, part):
+    """The files of a part of a crate, each with its text."""
+    for at, _, names in sorted(os.walk(os.path.join(folder, part))):
+        for file in (os.path.join(at, name) for name in sorted(names) if name.endswith(".antt")):
+            yield os.path.relpath(file, folder), read(file)
+
+
+def lemmas(folder):
+    """The files of a crate's proofs/ that aren't the proof of one function, each with its text."""
+    return [it for it in texts_under(folder, "proofs") if os.path.basename(it[0]) not in PROOF_FILES]
+
+
+def seen_sum(top, name, uses):
+    """A sum of what a crate above a library can see of it: no body but of what is computed or handed down by a trait."""
+    folder = os.path.join(top, "crates", name)
+    sources, texts = Sources(folder, name), [*texts_under(folder, "specs"), *lemmas(folder)]
+    for file, text in sources.texts.items():
+        keeps = lambda it: "const" in head(text, it)[1].split() or it.owner is not None and it.owner[0] == "trait"
+        texts.append((file, outline(text, sources.found[file], keeps)))
+    return sum_of(name, uses[name], texts)
+
+
+def sum_of(*of):
+    """A sum of values that have one text each."""
+    return hashlib.sha256(repr(of).encode()).hexdigest()
 
 
 def read(path):

@@ -1,0 +1,34 @@
+#!/usr/bin/env python3
+"""Whether each file of the crates is in the layout that `rt fmt` writes: `rt ci` proves no crate with one that isn't."""
+import os
+import shutil
+import subprocess
+import sys
+
+from wrong_bodies import crates_of
+
+TOP = os.path.dirname(os.path.dirname(os.path.realpath(__file__)))
+RATTLE = os.path.join(os.path.dirname(os.path.realpath(shutil.which("rt"))), "rattle")
+
+
+def files_of(folder):
+    for part in ("src", "specs", "proofs"):
+        for at, _, names in sorted(os.walk(os.path.join(folder, part))):
+            yield from (os.path.join(at, it) for it in sorted(names) if it.endswith((".rt", ".antt")))
+
+
+def main():
+    crates = [*crates_of(TOP)]
+    failed = 0
+    for name in crates:
+        ran = subprocess.run([RATTLE, "fmt", "--check", *files_of(os.path.join(TOP, "crates", name))],
+                             stdout=subprocess.DEVNULL, stderr=subprocess.PIPE, text=True, errors="replace")
+        if ran.returncode:
+            failed += 1
+            print(f"FAILED {name}: run rt fmt in its folder: {' '.join(ran.stderr.split())}")
+    print(f"{len(crates) - failed} passed, {failed} failed")
+    return failed > 0
+
+
+if __name__ == "__main__":
+    sys.exit(main())

@@ -1,0 +1,122 @@
+"""What counts as a wrong body that a contract refuses: what rattle says of a check, and how it is judged."""
+import re
+
+from functions import functions
+from wrong_bodies import UNREAD, head
+
+
+class Said:
+    """What a check says of each function."""
+
+    FUNCTION = re.compile(r"(?m)^fn (\S+): (proved|not proved|no proof|could not tell|no holes|depends on a hole)(.*)$")
+    # A call of what is not proved, or a block handed on, is no fault of the function that makes it.
+    CALLS = re.compile(r"\bit (?:calls|passes the block) .*?, which (?:is|are) not proved")
+    UNPROVED = re.compile(r"(?s).*?did not prove (.*?)(?:; it calls.*|\Z)")
+    OPEN = re.compile(r"(?m)^note: (src/\S+?):(\d+):\d+: it is not proved that .*?\(`([^`]+)`\)(.*)$")
+    WAITS = re.compile(r"(?m)^note: `search` has not tried the goals of `([^`]+)`, which wait for a callee's proof")
+    ANTT = re.compile(r"(?m)^(?:\./)?((?:specs|proofs)/[^\s:]+):\d+:\d+: (?:error|`\S+` is not admitted: (?!has-h))")
+    FRONT = re.compile(r"(?m)^(?:\./)?(src/[^\s:]+):(\d+):\d+: error\S* (.*)$")
+
+    def __init__(self, crate, group, said, brief=()):
+        self.crate, self.text, self.brief = crate, said, brief
+        self.unasked = {path: it.unasked for it in group for path in it.paths()}
+        self.lines = {it[1]: (it[2], it[3].strip(": ")) for it in self.FUNCTION.finditer(said)}
+        self.waiting = {*self.WAITS.findall(said)}
+        self.places = {file: spans(crate.sources, file, text) for file, text in crate.texts(group).items()}
+        self.open = {}
+        for file, line, goal, more in self.OPEN.findall(said):
+            self.open.setdefault(self.at(file, int(line)), {})[goal] = "values at which this goal is false" in more
+
+    def at(self, file, line):
+        """The function that a line of the checked text is of."""
+        return next((path for path, first, last in self.places.get(file, ()) if first <= line <= last), None)
+
+    def why(self, path):
+        """Why a function is refused for its own sake; None where it isn't."""
+        kind, why = self.lines[path]
+        own = self.CALLS.sub("", why).strip("; ")
+        if kind == "not proved" or kind == "no proof" and own:
+            return f"{kind}{': ' if own else ''}{own}"
+        return None
+
+    def of(self, path):
+        """The paths of a function and of the closures in it."""
+        return [it for it in self.lines if it == path or it.replace("::fn::", "::", 1).startswith(f"{path}::")]
+
+    def refusals(self, path):
+        """Why a function or a closure in it is refused for its own sake; of one told of in brief, its open goals."""
+        if path in self.brief:
+            goals = [f"`{it}`" for it in self.open.get(path, {})]
+            told = f": `search` did not prove {', '.join(goals)}" if goals else ""
+            return [f"not proved{told}"] * bool(goals or self.misfits(path))
+        return [why for why in map(self.why, self.of(path)) if why]
+
+    def misfits(self, path):
+        """Whether a stored answer of a function's does not fit its body."""
+        folder = re.escape(self.crate.answers(path))
+        own = "|".join([UNREAD, *self.unasked.get(path, ())])
+        return bool(re.search(rf"(?m)^(?:\./)?{folder}/.*: error(?!: `(?:{own})`)", self.text))
+
+    def strays(self, paths):
+        """The files of definitions and lemmas that are refused, but for those of these functions' proofs."""
+        own = tuple(f"{self.crate.answers(path)}/" for path in paths)
+        return sorted({it for it in self.ANTT.findall(self.text) if not it.startswith(own)})
+
+    def silent(self, edit, has_case):
+        """Whether what was said in brief of an edit doesn't show that it is refused, so that it is asked again."""
+        brief = [path for path in edit.paths() if path in self.brief]
+        shown = lambda it: self.refusals(it) and (has_case or not edit.unasked or self.is_false(it))
+        return not all(map(shown, brief))
+
+    def goals(self, path):
+        """The open goals of a function but those of invariants, and whether values are known at which each is false."""
+        unproved = self.UNPROVED.match(self.why(path) or "")
+        found = dict.fromkeys(re.findall(r"`([^`]+)`", unproved[1]) if unproved else [], False)
+        found.update(self.open.get(path, {}))
+        return {it: false for it, false in found.items() if not re.match(r"loop|invariant|decreases|iterator", it)}
+
+    def is_false(self, path):
+        """Whether values are known at which an open goal is false: no proof of the body can be written, whatever its form.
+
+        An open goal alone shows nothing, since the search may have given up.
+        """
+        return any(self.goals(path).values())
+
+    def to_spare(self, edit):
+        """The open goals of an edit's function that need not be asked, since one that is enough is asked."""
+        [path, *more] = edit.paths()
+        goals = {} if more or path not in self.lines else self.goals(path)
+        asked = min(goals, key=lambda it: not goals[it], default=None)
+        stored = self.crate.answered(path) or set()
+        return [it for it in self.open.get(path, {}) if it not in stored and it != asked] if goals else []
+
+
+def spans(sources, file, text):
+    """The functions of a text of a file, each with its first line, where its attributes begin, and its last."""
+    line = lambda place: text.count("\n", 0, place) + 1
+    found = functions(text, sources.module_of(file))
+    return [(sources.path(it), line(head(text, it)[0]), line(it.body[1])) for it in found]
+
+
+def judged(crate, group, said, by_hand):
+    """Of each wrong body of a group whether it passes, and what to say; then of each other function that is refused."""
+    for edit in group:
+        faults, told = [], []
+        for path in edit.paths():
+            why = said.refusals(path) if path in said.lines else []
+            if path not in said.lines:
+                faults.append(f"rattle names no function {path}")
+            elif said.lines[path][0] == "could not tell":
+                faults.append(f"{path}: could not tell")
+            elif not why:
+                faults.append(f"{path} is NOT REFUSED: it is proved with this body")
+            elif not said.is_false(path) and f"{crate.name}/{edit.name}" not in by_hand:
+                faults.append(f"{path}: no values are known at which an open goal is false, and no case is written out")
+            told += [f"{path}: {it}" for it in why]
+        yield not faults, f"{crate.name}/{edit.name}", "; ".join(faults or told)
+    meant = {it for edit in group for path in edit.paths() for it in said.of(path)}
+    for path in said.lines:
+        if path not in meant and said.why(path):
+            yield False, path, f"refused, though nothing is wrong with it: {said.why(path)}"
+    for file in said.strays(path for edit in group for path in edit.paths()):
+        yield False, f"{crate.name}/{file}", "refused, though nothing is wrong with it"

@@ -1,0 +1,41 @@
+#!/usr/bin/env python3
+"""Whether every script and C file of the gate reads, so that none fails for that after an hour of proofs."""
+import os
+import subprocess
+import sys
+
+TOP = os.path.dirname(os.path.dirname(os.path.realpath(__file__)))
+SHELL = (".ci/run", "bench/run", "keyline", "test")
+
+
+def python(path):
+    with open(path, encoding="utf-8") as it:
+        compile(it.read(), path, "exec")
+
+
+def shell(path):
+    subprocess.run(["bash", "-n", path], check=True, capture_output=True, text=True)
+
+
+def c(path):
+    subprocess.run(["gcc", "-fsyntax-only", "-Wall", "-Wextra", "-Werror", path], check=True, capture_output=True, text=True)
+
+
+def main():
+    tests = os.path.join(TOP, "tests")
+    files = [os.path.join(tests, it) for it in sorted(os.listdir(tests))]
+    parts = [(python, it) for it in files if it.endswith(".py")] + [(c, it) for it in files if it.endswith(".c")]
+    parts += [(shell, os.path.join(TOP, it)) for it in SHELL]
+    failed = 0
+    for reads, path in parts:
+        try:
+            reads(path)
+        except (SyntaxError, OSError, subprocess.CalledProcessError) as fault:
+            failed += 1
+            print(f"FAILED {os.path.relpath(path, TOP)}: {getattr(fault, 'stderr', None) or fault}")
+    print(f"{len(parts) - failed} passed, {failed} failed")
+    return failed > 0
+
+
+if __name__ == "__main__":
+    sys.exit(main())
