@@ -1,18 +1,28 @@
 #!/usr/bin/env python3
 """The program's arguments and its history file. Run it by ./test, or alone once `rt ci` or ./keyline has built the program."""
+import importlib.util
+import itertools
 import os
 import resource
 import stat
 import subprocess
 import tempfile
 
-from checks import BACKSPACE, CTRL_D, ENTER, HUNG, NEW_ROW, PROGRAM, drawing, run_all, same
+from checks import ANSWERS, BACKSPACE, CTRL_D, ENTER, HUNG, NEW_ROW, PROGRAM, drawing, run_all, same
 
 UP = b"\x1b[A"
 NOT_LOADED = b"keyline: history does not load\n"
 NOT_SAVED = b"keyline: history text failed\n"
 # What a program may take of memory that reads what never ends, in bytes.
 SPACE = 300_000_000
+# Words of each kind, of which every one and every two make a command line.
+WORDS = ["--help", "-h", "-hx", "--help=x", "--mode", "--mode=vi", "--mode=ed", "--columns", "--columns=+07", "--columns=1",
+         "--columns=", "--prompt=--", "--history", "--brackets", "--brackets=on", "--", "-", "", "vi", "7", "-x", "-\u00e9",
+         "--colums", "--hlp=3", "--nothing", "--=x", "---", "--mod\u00e9"]
+# Where a number or a likeness ends.
+EDGES = [["--columns", text] for text in ("2", "1000", "1001", "65538", "0" * 30 + "5", "9" * 5000, "+", "5_0", " 5", "-5", "\u0665")]
+EDGES += [["--mode" + "x" * count] for count in (35, 36, 37)]
+EDGES += [["--columns", "9", "--mode", "vi", "--mode", "vi", *last] for last in ([], ["--nothing"], ["--colums"], ["--help=x"])]
 
 
 def ran(keys, *arguments, **streams):
@@ -60,7 +70,14 @@ class History:
         return os.listdir(self.folder.name)
 
 
+def by_its_name(*words):
+    """A run without keys, by the name that it has in build/, which its usages repeat."""
+    return subprocess.run(["keyline", *words], executable=PROGRAM, stdin=subprocess.DEVNULL, capture_output=True, timeout=HUNG)
+
+
 def help_is_asked_for():
+    with open(os.path.join(ANSWERS, "help.txt"), "rb") as stored:
+        expect(by_its_name("--help"), stored.read(), b"")
     for flag in ("--help", "-h"):
         run = ran(b"ab\r", flag)
         expect(run, display=b"")
@@ -86,6 +103,24 @@ def an_argument_that_is_no_text():
     run = ran(b"ab\r", b"\xff")
     same("status", run.returncode, 2)
     same("lines", run.stdout, b"")
+
+
+def what_is_answered_before_a_build():
+    """./keyline answers by the words alone where nothing is built: as the program does, and wherever the program does."""
+    spec = importlib.util.spec_from_file_location("answers", os.path.join(ANSWERS, "arguments.py"))
+    answers = importlib.util.module_from_spec(spec)
+    spec.loader.exec_module(answers)
+    lines = [*EDGES, *([word] for word in WORDS), *map(list, itertools.product(WORDS, repeat=2))]
+    for words in [*([word.encode() for word in line] for line in lines), [b"\xff"], [b"--mode=\xff", b"--help"]]:
+        run = by_its_name(*words)
+        found = [run.returncode, run.stdout, run.stderr]
+        try:
+            answers.read(words)
+        except answers.Answer as answer:
+            texts = [b"", answer.text.encode()] if answer.status else [answer.text.encode(), b""]
+            same(f"what the program answers to {words}", found, [answer.status, *texts])
+        else:
+            same(f"whether {words} give a session", found[:2] + [found[2][:1]], [0, b"", b"\r"])
 
 
 def no_device_is_touched_before():
@@ -247,6 +282,7 @@ if __name__ == "__main__":
         help_is_asked_for,
         wrong_arguments,
         an_argument_that_is_no_text,
+        what_is_answered_before_a_build,
         no_device_is_touched_before,
         prompts_and_columns,
         vi_mode,

@@ -12,6 +12,8 @@ import traceback
 
 TOP = os.path.dirname(os.path.dirname(os.path.realpath(__file__)))
 SCRIPT = os.path.join(TOP, "keyline")
+# What the script answers by where nothing is built yet.
+ANSWERS = os.path.join(TOP, "answers")
 
 # A run that takes so many seconds hangs. No test is decided by a clock otherwise.
 HUNG = 120

@@ -4,6 +4,10 @@ import re
 from functions import functions
 from wrong_bodies import UNREAD, head
 
+# What a check finds of a wrong body: values are known at which an open goal of it is false, so that no proof can be
+# written, whatever its form; or goals are open, which shows nothing where the search has given up; or neither is so.
+FALSE, OPEN, FAULT = "false", "open", "fault"
+
 
 class Said:
     """What a check says of each function."""
@@ -62,11 +66,9 @@ class Said:
         own = tuple(f"{self.crate.answers(path)}/" for path in paths)
         return sorted({it for it in self.ANTT.findall(self.text) if not it.startswith(own)})
 
-    def silent(self, edit, has_case):
+    def silent(self, edit):
         """Whether what was said in brief of an edit doesn't show that it is refused, so that it is asked again."""
-        brief = [path for path in edit.paths() if path in self.brief]
-        shown = lambda it: self.refusals(it) and (has_case or not edit.unasked or self.is_false(it))
-        return not all(map(shown, brief))
+        return not all(self.refusals(path) for path in edit.paths() if path in self.brief)
 
     def goals(self, path):
         """The open goals of a function but those of invariants, and whether values are known at which each is false."""
@@ -76,10 +78,7 @@ class Said:
         return {it: false for it, false in found.items() if not re.match(r"loop|invariant|decreases|iterator", it)}
 
     def is_false(self, path):
-        """Whether values are known at which an open goal is false: no proof of the body can be written, whatever its form.
-
-        An open goal alone shows nothing, since the search may have given up.
-        """
+        """Whether values are known at which an open goal is false."""
         return any(self.goals(path).values())
 
     def to_spare(self, edit):
@@ -98,25 +97,32 @@ def spans(sources, file, text):
     return [(sources.path(it), line(head(text, it)[0]), line(it.body[1])) for it in found]
 
 
-def judged(crate, group, said, by_hand):
-    """Of each wrong body of a group whether it passes, and what to say; then of each other function that is refused."""
+def found_of(edit, said):
+    """What a check finds of an edit, and what to say of it."""
+    faults, told, known = [], [], []
+    for path in edit.paths():
+        why = said.refusals(path) if path in said.lines else []
+        if path not in said.lines:
+            faults.append(f"rattle names no function {path}")
+        elif said.lines[path][0] == "could not tell":
+            faults.append(f"{path}: could not tell")
+        elif not why:
+            faults.append(f"{path} is NOT REFUSED: it is proved with this body")
+        else:
+            known.append(said.is_false(path))
+        told += [f"{path}: {it}" for it in why]
+    kind = FAULT if faults else FALSE if all(known) else OPEN
+    return kind, "; ".join(faults or told)
+
+
+def judged(crate, group, said):
+    """What is found of each wrong body of a group, with its name and what to say; then the other functions refused."""
     for edit in group:
-        faults, told = [], []
-        for path in edit.paths():
-            why = said.refusals(path) if path in said.lines else []
-            if path not in said.lines:
-                faults.append(f"rattle names no function {path}")
-            elif said.lines[path][0] == "could not tell":
-                faults.append(f"{path}: could not tell")
-            elif not why:
-                faults.append(f"{path} is NOT REFUSED: it is proved with this body")
-            elif not said.is_false(path) and f"{crate.name}/{edit.name}" not in by_hand:
-                faults.append(f"{path}: no values are known at which an open goal is false, and no case is written out")
-            told += [f"{path}: {it}" for it in why]
-        yield not faults, f"{crate.name}/{edit.name}", "; ".join(faults or told)
+        kind, told = found_of(edit, said)
+        yield kind, f"{crate.name}/{edit.name}", told
     meant = {it for edit in group for path in edit.paths() for it in said.of(path)}
     for path in said.lines:
         if path not in meant and said.why(path):
-            yield False, path, f"refused, though nothing is wrong with it: {said.why(path)}"
+            yield FAULT, path, f"refused, though nothing is wrong with it: {said.why(path)}"
     for file in said.strays(path for edit in group for path in edit.paths()):
-        yield False, f"{crate.name}/{file}", "refused, though nothing is wrong with it"
+        yield FAULT, f"{crate.name}/{file}", "refused, though nothing is wrong with it"

@@ -1,4 +1,4 @@
-"""Which wrong bodies earlier runs on this machine found refused, by sums of all that their checks read."""
+"""What earlier runs on this machine found of wrong bodies that were refused, by sums of all that their checks read."""
 import os
 import tempfile
 
@@ -18,34 +18,35 @@ class Kept:
         scripts = [read(os.path.join(os.path.dirname(os.path.realpath(__file__)), it)) for it in SCRIPTS]
         self.tools = sum_of(kit_texts(kit), scripts)
 
-    def name(self, crate, edit, has_case):
+    def name(self, crate, edit):
         """The sum of all that a check of an edit reads, and of how it is judged."""
         libraries = below(self.uses, crate.name)
         for it in libraries:
             if it not in self.seen:
                 self.seen[it] = seen_sum(self.top, it, self.uses)
-        return sum_of(self.tools, self.uses[crate.name], [self.seen[it] for it in libraries], crate.sum_of(edit), has_case)
+        return sum_of(self.tools, self.uses[crate.name], [self.seen[it] for it in libraries], crate.sum_of(edit))
 
-    def why(self, name):
-        """Why the body of that sum was refused; None where no earlier run tried it, or all are to be tried anew."""
+    def found(self, name):
+        """What was found of the body of that sum, and why; None where none tried it, or all are to be tried anew."""
         if self.anew:
             return None
         try:
             path = os.path.join(self.folder, name)
             os.utime(path)
-            return read(path) or None
+            kind, _, why = read(path).partition("\n")
+            return kind, why
         except OSError:
             return None
 
-    def keep(self, name, why):
-        """Keeps that the body of that sum is refused, where the folder can be written."""
+    def keep(self, name, kind, why):
+        """Keeps what was found of the body of that sum, where the folder can be written."""
         try:
             os.makedirs(self.folder, 0o700, exist_ok=True)
             with tempfile.NamedTemporaryFile("w", dir=self.folder, prefix="new-", delete=False, encoding="utf-8") as it:
-                it.write(why)
+                it.write(f"{kind}\n{why}")
             os.replace(it.name, os.path.join(self.folder, name))
         except OSError as fault:
-            print(f"note: a refused body is not kept: {fault}", flush=True)
+            print(f"note: what is found of a wrong body is not kept: {fault}", flush=True)
 
     def shrink(self):
         """Removes what was longest unused, past the most that is kept."""

@@ -11,8 +11,8 @@ an open goal of it is false, or tests/mutants-by-hand.txt has a case at which a 
 at which the search gave up. It fails where a function is proved all the same, and where it no longer fits or changes
 nothing. A function or a file of lemmas that is refused though nothing is wrong with it fails too.
 
-One that passed is kept on this machine, beside what `rt ci` keeps, by the sums of all that its check read: a later run,
-in any clone, tries only those of which something changed (tests/kept.py).
+What was found of one that is refused is kept on this machine, beside what `rt ci` keeps, by the sums of all that its
+check read: a later run, in any clone, tries only those of which something changed (tests/kept.py).
 
     tests/mutants.py [CRATE..]          all crates, or these
     tests/mutants.py --anew [CRATE..]   tries those too that are kept
@@ -38,7 +38,7 @@ import time
 from concurrent.futures import FIRST_COMPLETED, ThreadPoolExecutor, wait
 from threading import Thread
 
-from judging import Said, judged
+from judging import FAULT, OPEN, Said, judged
 from kept import Kept, folder_beside
 from wrong_bodies import Crate, below, crates_of, joined, read, write
 
@@ -146,15 +146,17 @@ class Trial:
         self.crate, self.checker, self.by_hand, self.kept = crate, checker, by_hand, kept
         self.folder = tempfile.TemporaryDirectory(prefix="mutants-kept-")
         self.found = [(False, f"{crate.name}/{name}", f"it no longer fits: {why}") for name, why in crate.unfit.items()]
-        self.sums = {it: kept.name(crate, it, self.has_case(it)) for it in crate.edits}
-        known = {it: why for it in crate.edits for why in [kept.why(self.sums[it])] if why}
-        self.found += [(True, f"{crate.name}/{it.name}", f"is kept: {why}") for it, why in known.items()]
+        self.sums = {it: kept.name(crate, it) for it in crate.edits}
+        known = {it: found for it in crate.edits for found in [kept.found(self.sums[it])] if found}
+        self.found += [self.settled(kind, f"{crate.name}/{it.name}", why) for it, (kind, why) in known.items()]
         self.known, self.full, self.killed, self.running, self.spared = len(known), set(), set(), 0, {}
         self.left = crate.groups([it for it in crate.edits if it not in known])
 
-    def has_case(self, edit):
-        """Whether a case is written out at which a clause is false of an edit."""
-        return f"{self.crate.name}/{edit.name}" in self.by_hand
+    def settled(self, kind, name, why):
+        """Whether a body passes of which this was found, with its name and what to say."""
+        if kind == OPEN and name not in self.by_hand:
+            return False, name, f"no values are known at which an open goal is false, and no case is written out: {why}"
+        return kind != FAULT, name, why
 
     def ready(self, proofs):
         """The groups that may be tried now; none ever, where a library that they need is not to come."""
@@ -210,23 +212,23 @@ class Trial:
         # Where a callee in the same check is refused too, some goals are not tried: such bodies have another.
         waiting = [it for it in group if len(group) > 1 and {*it.paths()} & said.waiting]
         # Where nothing is open, it is asked in full: the body is proved, or refused in another way.
-        silent = [it for it in group if it not in waiting and said.silent(it, self.has_case(it))]
+        silent = [it for it in group if it not in waiting and said.silent(it)]
         self.full.update(silent)
         again = [*waiting, *silent]
         self.left += joined([], again) if len(again) < len(group) else [[it] for it in again]
         self.spared.update({it: said.to_spare(it) for it in group if it not in again})
         names = {f"{self.crate.name}/{it.name}" for it in again}
-        found = [it for it in judged(self.crate, group, said, self.by_hand) if it[1] not in names]
-        self.found += found
+        found = [it for it in judged(self.crate, group, said) if it[1] not in names]
+        self.found += [self.settled(*it) for it in found]
         self.keep(group, found)
 
     def keep(self, group, found):
-        """Keeps those of a group that passed, unless the check shows something else that is refused."""
+        """Keeps what was found of those of a group that are refused, unless the check shows another fault."""
         sums = {f"{self.crate.name}/{it.name}": self.sums[it] for it in group}
         if all(name in sums for _, name, _ in found):
-            for well, name, why in found:
-                if well:
-                    self.kept.keep(sums[name], why)
+            for kind, name, why in found:
+                if kind != FAULT:
+                    self.kept.keep(sums[name], kind, why)
 
 
 def tried(trials, lanes, proofs):

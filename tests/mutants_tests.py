@@ -133,10 +133,10 @@ class Small:
         return mutants.Trial(self.crate(unasked), checker, by_hand, kept)
 
     def judged(self, said, by_hand=()):
-        crate = self.crate()
-        group = crate.groups(crate.edits)[0]
-        found = judging.judged(crate, group, judging.Said(crate, group, said), by_hand)
-        return {name: (well, text) for well, name, text in found}
+        trial = self.tried_by(None, by_hand)
+        [group] = trial.left
+        found = judging.judged(trial.crate, group, judging.Said(trial.crate, group, said))
+        return {name: (well, text) for well, name, text in (trial.settled(*it) for it in found)}
 
 
 def tried(trial):
@@ -409,10 +409,10 @@ def a_function_told_of_in_brief():
         (f"{answers}returns`: `c.none` is not in scope\n{refused}", False),
     ):
         said = judging.Said(crate, group, text, crate.brief(group))
-        same("whether nothing of it is open", said.silent(group[0], False), silent)
+        same("whether nothing of it is open", said.silent(group[0]), silent)
         same("how often it is refused", len(said.refusals(DOUBLED)), 0 if silent else 1)
     same("whether it is silent where it is told of in full",
-         judging.Said(crate, group, refused).silent(group[0], False), False)
+         judging.Said(crate, group, refused).silent(group[0]), False)
 
 
 def a_body_joins_the_first_group_that_it_may_stand_in():
@@ -481,13 +481,6 @@ def an_open_goal_alone_shows_nothing():
             expect(small.judged(refused, CASE), "small/added-once", True, DOUBLED)
 
 
-def a_goal_that_is_not_false_is_asked_again_unless_there_is_a_case():
-    crate = Small("neither").crate({"small/neither": ["returns-clause-other"]})
-    said = OPEN.replace(":27:", ":59:").replace("returns`", "returns-clause-one`") + "fn small::twice_neither: not proved\n"
-    told = judging.Said(crate, crate.edits, said, {"small::twice_neither"})
-    same("whether it is asked again", [told.silent(crate.edits[0], case) for case in (False, True)], [True, False])
-
-
 class Killed(Told):
     """A checker whose first checks are killed, so many of them."""
 
@@ -537,7 +530,7 @@ def what_is_refused_is_kept_until_something_that_its_check_read_changes():
     same("what is known at first", known(), 0)
     tried(trial_of(small, {"added-once": REFUSED}))
     same("what is known then", known(), 1)
-    same("what is known with no case of it", small.tried_by(None, {}).known, 0)
+    same("whether it passes with no case of it", [well for well, _, _ in small.tried_by(None, {}).found], [False])
     kept = trial_of(small, {})
     same("whether it passes without a check", tried(kept)["small/added-once"][0], True)
     same("checks", kept.crate.checks, [])
@@ -591,7 +584,6 @@ STAND_INS = [
     attributes_are_lines_of_their_function,
     paths_as_rattle_prints_them,
     an_open_goal_alone_shows_nothing,
-    a_goal_that_is_not_false_is_asked_again_unless_there_is_a_case,
     a_check_that_is_killed_is_tried_once_more,
     what_is_refused_is_kept_until_something_that_its_check_read_changes,
     what_shares_a_check_with_another_fault_is_not_kept,

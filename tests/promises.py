@@ -188,6 +188,13 @@ def check_wrong_bodies(checks):
             checks.expect(f"{crate}/{name}" in named, f"GATE: no rule is named of {file}")
 
 
+def check_parts(checks):
+    """docs/GATE.md: a row for each part of ./test, in their order."""
+    parts = [it for line in lines_of("test") for it in re.findall(r"^    count '([^']+)'", line)]
+    rows = [cells[0].strip("| ") for cells in tables(section(lines_of("docs", "GATE.md"), "## Its parts"))]
+    checks.expect(rows == [*parts, "all"], "GATE: its table has other parts than ./test, or another order")
+
+
 def check_kit(checks):
     """README: the kit that the repository is proved with is the one that is here."""
     version = subprocess.run(["rt", "version"], capture_output=True, text=True, check=True).stdout.strip()
@@ -217,6 +224,7 @@ def main():
     check_crates(checks)
     check_definitions(checks, crates)
     check_wrong_bodies(checks)
+    check_parts(checks)
     check_kit(checks)
     print(f"{checks.passed} passed, {checks.failed} failed")
     return checks.failed > 0

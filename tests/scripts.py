@@ -5,6 +5,7 @@ import subprocess
 import sys
 
 TOP = os.path.dirname(os.path.dirname(os.path.realpath(__file__)))
+FOLDERS = ("answers", "bench", "tests")
 SHELL = (".ci/run", "bench/run", "keyline", "test")
 
 
@@ -22,8 +23,7 @@ def c(path):
 
 
 def main():
-    tests = os.path.join(TOP, "tests")
-    files = [os.path.join(tests, it) for it in sorted(os.listdir(tests))]
+    files = [os.path.join(TOP, folder, it) for folder in FOLDERS for it in sorted(os.listdir(os.path.join(TOP, folder)))]
     parts = [(python, it) for it in files if it.endswith(".py")] + [(c, it) for it in files if it.endswith(".c")]
     parts += [(shell, os.path.join(TOP, it)) for it in SHELL]
     failed = 0
