@@ -1,6 +1,6 @@
 //! Control sequences and their keys.
 
-use crate::reading::{read_as, read_in_both_modes, read_until_a_failure};
+use crate::screen::reading::{read_as, read_in_both_modes, read_until_a_failure};
 use line_config::EditMode;
 use stand_ins::rows::{Player, rows_hold};
 use stand_ins::tables::{meant_bytes, word_and_rest};

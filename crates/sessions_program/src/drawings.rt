@@ -1,6 +1,4 @@
-//! Draws a line on standard output: the case that the first argument names. A test shows it on a
-//! terminal.
-#![tactic(auto)]
+//! Lines drawn on standard output, each a case with a name. A test shows them on a terminal.
 
 use anyhow::{Result, bail};
 use line_buffer::{GraphemeClusterMode, Layout, LineBuffer, NoListener, Position};
@@ -8,7 +6,6 @@ use line_config::{BellStyle, WriteSink};
 use line_editor::Renderer;
 use line_screen::ScreenRenderer;
 use std::alloc::Global;
-use std::env;
 
 /// A line on so many columns, with the line's text before the cursor, and what stands after the line.
 #[derive(Clone, Copy)]
@@ -78,11 +75,9 @@ fn draw<Out: Renderer>(alloc: Global, screen: &mut Out, case: Case, old: Layout)
     Ok(new)
 }
 
-fn main(rt: HostRuntime) -> Result<()> {
-    let Some(name) = env::args(&rt)?.nth(1) else {
-        bail!("no case is named");
-    };
-    let Some(case) = case_of(name.as_str()) else {
+/// Draws the case of that name.
+pub fn draw_named(rt: &HostRuntime, name: &str) -> Result<()> {
+    let Some(case) = case_of(name) else {
         bail!("no such case");
     };
     let mode = GraphemeClusterMode::Unicode;
@@ -94,7 +89,7 @@ fn main(rt: HostRuntime) -> Result<()> {
         BellStyle::None,
     );
     let layout = draw(rt.alloc(), &mut screen, case, Layout::new(mode))?;
-    if name.as_str() == "shorter" {
+    if name == "shorter" {
         draw(rt.alloc(), &mut screen, at_end(case.columns, "ab"), layout)?;
     }
     Ok(())

@@ -1,6 +1,6 @@
 //! Drawings as they go to a sink, byte by byte.
 
-use crate::sinks::{FailsAfter, Gathers};
+use crate::screen::sinks::{FailsAfter, Gathers};
 use line_buffer::{GraphemeClusterMode, Layout, LineBuffer, Position};
 use line_config::{BellStyle, ReadlineError, Sink, VecSink};
 use line_editor::Renderer;
