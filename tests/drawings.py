@@ -1,5 +1,5 @@
 #!/usr/bin/env python3
-"""Drawings on a terminal: tmux shows what crates/drawings_program draws, its cells and its cursor.
+"""Drawings on a terminal: tmux shows what crates/sessions_program draws, its cells and its cursor.
 
 `rt ci` builds the program first. Texts are those whose widths tmux counts as the editor does.
 """
@@ -13,7 +13,7 @@ import time
 
 from checks import built
 
-PROGRAM = built("drawings_program")
+PROGRAM = built("sessions_program")
 
 # name, columns, the rows shown, the cursor's row and column
 CASES = [

@@ -1,4 +1,5 @@
-//! What `line_editor` promises, at work: tables of text in which each row is a line and what is done to it.
+//! What `line_editor` promises, at work: tables of text in which each row is a line and what is done to it; and in
+//! `screen` what `line_screen` promises.
 #![tactic(auto)]
 
 #[cfg(test)]
@@ -23,5 +24,7 @@ mod moving;
 mod remembering;
 #[cfg(test)]
 mod rewording;
+#[cfg(test)]
+mod screen;
 #[cfg(test)]
 mod yanking;

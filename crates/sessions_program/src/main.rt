@@ -1,10 +1,12 @@
-//! Plays the sessions that stand in the files of `data/`. It tells each session that differs from what its row says, and
-//! how many there were.
+//! With an argument, draws the line that it names. Without one, plays the sessions that stand in the files of `data/`,
+//! tells each session that differs from what its row says, and how many there were, and then draws a line.
 #![tactic(auto)]
+
+mod drawings;
 
 use anyhow::Result;
 use session_rows::play::play;
-use std::fs;
+use std::{env, fs};
 
 const FILES: [&str; 3] = ["rows.txt", "emacs.txt", "vi.txt"];
 
@@ -24,9 +26,12 @@ fn play_file(rt: &HostRuntime, name: &str) -> Result<usize> {
 }
 
 fn main(rt: HostRuntime) -> Result<()> {
+    if let Some(name) = env::args(&rt)?.nth(1) {
+        return drawings::draw_named(&rt, name.as_str());
+    }
     for name in FILES {
         let count = play_file(&rt, name)?;
         println!(rt; "{name}: {count} sessions")?;
     }
-    Ok(())
+    drawings::draw_named(&rt, "shorter")
 }

@@ -1,8 +1,0 @@
-//! What `line_config` promises, at work: its devices over readers and writers that give and take in pieces or fail, and
-//! tables of its settings and texts.
-#![tactic(auto)]
-
-#[cfg(test)]
-mod devices;
-#[cfg(test)]
-mod settings;

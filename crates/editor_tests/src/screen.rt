@@ -1,0 +1,8 @@
+//! Tests of the terminal's two sides, as tables: bytes read as keys and pasted texts, and drawings as bytes.
+
+mod drawing;
+mod measuring;
+mod reading;
+mod sequences;
+mod sinks;
+mod sources;

@@ -1,0 +1,346 @@
+//! Drawings as they go to a sink, byte by byte.
+
+use crate::screen::sinks::{FailsAfter, Gathers};
+use line_buffer::{GraphemeClusterMode, Layout, LineBuffer, Position};
+use line_config::{BellStyle, ReadlineError, Sink, VecSink};
+use line_editor::Renderer;
+use line_screen::{ScreenRenderer, laws};
+use stand_ins::lines::line_of;
+use stand_ins::rows::{Player, rows_hold};
+use stand_ins::tables::{meant, pictured_bytes, word_and_rest};
+use std::alloc::{AllocError, Global};
+use std::test::Fail;
+
+/// A line with its cursor, and what stands around it.
+#[derive(Clone, Copy)]
+struct Shown<'a> {
+    prompt: &'a str,
+    line: &'a LineBuffer,
+    info: Option<&'a str>,
+}
+
+const ORIGIN: Position = Position { col: 0, row: 0 };
+
+fn screen<D: Sink>(sink: D, columns: u16, bell: BellStyle) -> ScreenRenderer<D> {
+    ScreenRenderer::new(
+        sink,
+        columns.max(2).min(1000),
+        GraphemeClusterMode::Unicode,
+        bell,
+    )
+}
+
+fn layout_of<Out: Renderer>(screen: &Out, shown: Shown) -> Layout {
+    let prompt_size = screen.calculate_position(shown.prompt, ORIGIN);
+    screen.compute_layout(prompt_size, true, shown.line, shown.info)
+}
+
+/// Draws in the place of an older drawing, or without one.
+fn draw_over<Out: Renderer>(
+    screen: &mut Out,
+    shown: Shown,
+    old: Option<Layout>,
+    new: &Layout,
+) -> Result<(), ReadlineError> {
+    screen.refresh_line(shown.prompt, shown.line, shown.info, old, new, None::<&()>)
+}
+
+/// Draws over a drawing whose cursor stands in its first row.
+fn draw<Out: Renderer>(screen: &mut Out, shown: Shown) -> Result<(), ReadlineError> {
+    let old = Layout::new(screen.grapheme_cluster_mode());
+    let new = layout_of(screen, shown);
+    draw_over(screen, shown, Some(old), &new)
+}
+
+// Columns, prompt, the line with its cursor, and a hint or message, each but the last without a blank; the bytes.
+const LINES: &str = "
+    80 >␠ |             = ␍␛[J␛[m> ␛[m␛[m␛[m
+    80 >␠ ab|c          = ␍␛[J␛[m> ␛[mabc␛[m␛[m␛[1D
+    4 >␠ ab|            = ␍␛[J␛[m> ␛[mab␍␊␛[m␛[m
+    2 >␠ ab|            = ␍␛[J␛[m> ␍␊␛[mab␍␊␛[m␛[m
+    3 none 漢字|        = ␍␛[J␛[m␛[m␛[m漢␛[m␍␊␛[m字␛[m␛[m␛[m
+    80 >␠ ␉|            = ␍␛[J␛[m> ␛[m␛[m?␛[m␛[m␛[m
+    80 >␠ e\u{301}|     = ␍␛[J␛[m> ␛[m␛[me\u{301}␛[m␛[m␛[m
+    80 >␠ ]| Mismatched brackets: ']' is unpaired = ␍␛[J␛[m> ␛[m]␛[mMismatched brackets: ']' is unpaired␛[m␛[36D
+    80 >␠ h| ello       = ␍␛[J␛[m> ␛[mh␛[mello␛[m␛[4D
+    80 (arg:␠2)␠ |      = ␍␛[J␛[m(arg: 2) ␛[m␛[m␛[m
+    80 >␠ a␊b|          = ␍␛[J␛[m> ␛[ma␍␊b␛[m␛[m
+    80 >␠ a|␊b          = ␍␛[J␛[m> ␛[ma␍␊b␛[m␛[m␛[1A␛[2C
+";
+
+// A wide cluster at the margin, and one that is wider than the row; no width, and control characters past ASCII.
+const MARGINS: &str = "
+    3 >␠ 漢|            = ␍␛[J␛[m> ␛[m␍␊␛[m漢␛[m␛[m␛[m
+    2 none \u{17D8}|    = ␍␛[J␛[m␛[m␛[m?␛[m␛[m␛[m
+    80 none \u{200B}|   = ␍␛[J␛[m␛[m␛[m?␛[m␛[m␛[m
+    80 none a\u{85}␡|   = ␍␛[J␛[m␛[ma␛[m?␛[m␛[m?␛[m␛[m␛[m
+";
+
+/// What the rows of a table ask.
+#[derive(Drop)]
+enum Ask {
+    Drawing,
+    Call,
+    FailedWrite,
+    PassedOn,
+}
+
+impl Player for Ask {
+    fn play(&mut self, alloc: Global, call: &str) -> Result<String, Fail> {
+        let said = match self {
+            Ask::Drawing => drawn(alloc, call),
+            Ask::Call => sent(alloc, call),
+            Ask::FailedWrite => refusals_told(alloc, call),
+            Ask::PassedOn => passed_on(alloc, call),
+        };
+        Ok(said?)
+    }
+}
+
+// The bytes of a drawing on so many columns.
+fn bytes_of(alloc: Global, columns: u16, shown: Shown) -> Result<String, ReadlineError> {
+    let mut screen = screen(VecSink::new(alloc), columns, BellStyle::Audible);
+    draw(&mut screen, shown)?;
+    Ok(pictured_bytes(alloc, screen.into_sink().bytes())?)
+}
+
+// The prompt that a word means.
+fn prompt_of(alloc: Global, word: &str) -> Result<String, AllocError> {
+    match word {
+        "none" => Ok(String::new(alloc)),
+        _ => meant(alloc, word),
+    }
+}
+
+// The bytes of the drawing of a line and what follows it, after a prompt.
+fn drawn_after(
+    alloc: Global,
+    columns: u16,
+    prompt: &str,
+    shown: &str,
+) -> Result<String, ReadlineError> {
+    let (line, info) = word_and_rest(shown);
+    let line = line_of(alloc, line)?;
+    let shown = Shown {
+        prompt,
+        line: &line,
+        info: if info.is_empty() { None } else { Some(info) },
+    };
+    bytes_of(alloc, columns, shown)
+}
+
+// The bytes of a row's drawing.
+fn drawn(alloc: Global, call: &str) -> Result<String, ReadlineError> {
+    let (columns, call) = word_and_rest(call);
+    let (prompt, shown) = word_and_rest(call);
+    let prompt = prompt_of(alloc, prompt)?;
+    drawn_after(alloc, columns.parse().unwrap_or(0), prompt.as_str(), shown)
+}
+
+#[test]
+fn draws_lines(rt: HostRuntime) -> Result<(), Fail> {
+    rows_hold(rt.alloc(), &mut Ask::Drawing, LINES)?;
+    rows_hold(rt.alloc(), &mut Ask::Drawing, MARGINS)
+}
+
+// Draws the longer line over the other, that one without an older drawing, and clears its rows; the bytes.
+fn drawn_over(alloc: Global, shown: Shown, longer: Shown) -> Result<String, ReadlineError> {
+    let mut screen = screen(VecSink::new(alloc), 4, BellStyle::Audible);
+    let layout = layout_of(&screen, shown);
+    draw_over(&mut screen, longer, Some(layout), &layout)?;
+    draw_over(&mut screen, shown, None, &layout)?;
+    screen.clear_rows(&layout)?;
+    Ok(pictured_bytes(alloc, screen.into_sink().bytes())?)
+}
+
+fn after_the_prompt(line: &LineBuffer) -> Shown<'_> {
+    Shown {
+        prompt: "> ",
+        line,
+        info: None,
+    }
+}
+
+fn two_lines_drawn(alloc: Global) -> Result<String, ReadlineError> {
+    let line = line_of(alloc, "ab")?;
+    let longer = line_of(alloc, "abc")?;
+    drawn_over(alloc, after_the_prompt(&line), after_the_prompt(&longer))
+}
+
+#[test]
+fn draws_over_and_without_an_older_drawing(rt: HostRuntime) -> Result<(), Fail> {
+    let said = two_lines_drawn(rt.alloc())?;
+    assert_eq!(rt;
+        said.as_str(),
+        "␛[1A␍␛[J␛[m> ␛[mab␍␊c␛[m␛[m␛[m> ␛[mab␍␊␛[m␛[m␛[1A␍␛[J"
+    );
+    Ok(())
+}
+
+// The bell, and a call: the bytes.
+const CALLS: &str = "
+    audible up          = ␛[2A␛[10D
+    audible stay        = nothing
+    audible down        = ␛[2B␛[10C
+    audible write c     = c
+    audible clear_to_eol = ␛[K
+    audible clear_screen = ␛[H␛[J
+    audible leftmost    = nothing
+    audible begin       = nothing
+    audible end         = nothing
+    audible beep        = ␇
+    none beep           = nothing
+    visible beep        = nothing
+";
+
+const HERE: Position = Position { col: 12, row: 3 };
+
+const THERE: Position = Position { col: 2, row: 1 };
+
+// A layout with the cursor and the end at the origin, or inside the text.
+fn layout_for(call: &str) -> Layout {
+    let mut layout = Layout::new(GraphemeClusterMode::Unicode);
+    if call == "refresh_inside" {
+        (layout.cursor, layout.end) = (THERE, HERE);
+    }
+    layout
+}
+
+// Makes a call that sends bytes.
+fn call_made<Out: Renderer>(
+    screen: &mut Out,
+    call: &str,
+    text: &LineBuffer,
+) -> Result<(), ReadlineError> {
+    let layout = layout_for(call);
+    match call {
+        "up" => screen.move_cursor(HERE, THERE),
+        "stay" => screen.move_cursor(HERE, HERE),
+        "down" => screen.move_cursor(THERE, HERE),
+        "write" => screen.write_and_flush(text.as_str()),
+        "beep" => screen.beep(),
+        "clear_to_eol" => screen.clear_to_eol(),
+        "clear_screen" => screen.clear_screen(),
+        "clear_rows" => screen.clear_rows(&layout),
+        "leftmost" => screen.move_cursor_at_leftmost(),
+        "begin" => screen.begin_synchronized_update(),
+        "end" => screen.end_synchronized_update(),
+        _ => screen.refresh_line("> ", text, None, None, &layout, None::<&()>),
+    }
+}
+
+fn bell_of(word: &str) -> BellStyle {
+    match word {
+        "audible" => BellStyle::Audible,
+        "visible" => BellStyle::Visible,
+        _ => BellStyle::None,
+    }
+}
+
+// The bytes that a row's call sends.
+fn sent(alloc: Global, call: &str) -> Result<String, ReadlineError> {
+    let (bell, call) = word_and_rest(call);
+    let (call, text) = word_and_rest(call);
+    let line = line_of(alloc, text)?;
+    let mut screen = screen(VecSink::new(alloc), 80, bell_of(bell));
+    call_made(&mut screen, call, &line)?;
+    Ok(pictured_bytes(alloc, screen.into_sink().bytes())?)
+}
+
+#[test]
+fn makes_the_other_calls(rt: HostRuntime) -> Result<(), Fail> {
+    rows_hold(rt.alloc(), &mut Ask::Call, CALLS)?;
+    let mut screen = screen(VecSink::new(rt.alloc()), 80, BellStyle::Audible);
+    screen.update_size();
+    assert_eq!(rt; (screen.get_columns(), screen.get_rows()), (80, 65535));
+    assert!(rt; !screen.colors_enabled() && !screen.failed());
+    Ok(())
+}
+
+// What a call that is refused answers, and the calls after it.
+fn refused(screen: &mut ScreenRenderer<FailsAfter>, line: &LineBuffer) -> bool {
+    let shown = Shown {
+        prompt: "> ",
+        line,
+        info: Some("hint"),
+    };
+    let refusal = Err(ReadlineError::Display);
+    draw(screen, shown) == refusal
+        && screen.failed()
+        && screen.beep() == refusal
+        && screen.clear_screen() == refusal
+}
+
+// Whether every call is refused after so many writes.
+fn refusals_told(alloc: Global, writes: &str) -> Result<String, ReadlineError> {
+    let line = line_of(alloc, "|e\\u{301}\\u{6F22}ab")?;
+    let writes = writes.parse().unwrap_or(u32::MAX);
+    let mut screen = screen(FailsAfter::new(writes), 4, BellStyle::Audible);
+    let told = if refused(&mut screen, &line) {
+        "refused"
+    } else {
+        "another"
+    };
+    Ok(String::from_str(alloc, told)?)
+}
+
+// How many writes a sink takes, and what a drawing and the calls after it answer.
+const FAILED_WRITES: &str = "
+    0   = refused
+    1   = refused
+    2   = refused
+    3   = refused
+    4   = refused
+    5   = refused
+    6   = refused
+    7   = refused
+    8   = refused
+    9   = refused
+    10  = refused
+    11  = refused
+";
+
+/// The whole drawing takes more than twelve writes.
+#[test]
+fn answers_each_failed_write(rt: HostRuntime) -> Result<(), Fail> {
+    rows_hold(rt.alloc(), &mut Ask::FailedWrite, FAILED_WRITES)
+}
+
+// Calls, and whether they write anything; nothing waits after them.
+const PASSED_ON: &str = "
+    refresh_line ab     = written
+    refresh_inside ab   = written
+    up                  = written
+    write a             = written
+    beep                = written
+    clear_screen        = written
+    clear_rows          = written
+    clear_to_eol        = written
+    stay                = nothing
+";
+
+// What a row's call leaves waiting.
+fn passed_on(alloc: Global, call: &str) -> Result<String, ReadlineError> {
+    let (call, text) = word_and_rest(call);
+    let line = line_of(alloc, text)?;
+    let mut screen = screen(Gathers::new(), 80, BellStyle::Audible);
+    call_made(&mut screen, call, &line)?;
+    Ok(String::from_str(alloc, screen.into_sink().told())?)
+}
+
+#[test]
+fn passes_on_what_it_wrote(rt: HostRuntime) -> Result<(), Fail> {
+    rows_hold(rt.alloc(), &mut Ask::PassedOn, PASSED_ON)
+}
+
+#[test]
+fn has_laws(_: HostRuntime) {
+    laws::full_drawing();
+    laws::start();
+    laws::calls();
+    laws::short_insertions();
+    laws::short_kills();
+    laws::chains();
+    laws::meaning();
+    laws::cells();
+}

@@ -1,0 +1,161 @@
+//! Widths of texts, and motions up and down by rows. A motion's first number is its count, the second the column where
+//! the prompt ends.
+
+use crate::buffer::table::{layout, plays};
+use line_buffer::{GraphemeClusterMode, Layout, Position};
+use stand_ins::lines::line_of;
+use stand_ins::rows::{Player, rows_hold};
+use stand_ins::tables::meant;
+use std::alloc::Global;
+use std::process::Abort;
+use std::test::Fail;
+
+#[test]
+fn up_by_rows(rt: HostRuntime) -> Result<(), Fail> {
+    plays(
+        rt.alloc(),
+        "
+        'hello␊abc|'    move_to_line_up 1 0 = true 'hel|lo␊abc'
+        'hello␊abc|'    move_to_line_up 1 2 = true 'h|ello␊abc'
+        'hello␊|abc'    move_to_line_up 1 2 = true '|hello␊abc'
+        'hello␊a|bc'    move_to_line_up 1 9 = true '|hello␊abc'
+        'ab␊hello|'     move_to_line_up 1 0 = true 'ab|␊hello'
+        'abc␊␊vwx|yz'   move_to_line_up 1 0 = true 'abc␊|␊vwxyz'
+        'abc␊␊vwx|yz'   move_to_line_up 2 0 = true 'abc|␊␊vwxyz'
+        'abc␊␊vwx|yz'   move_to_line_up 2 1 = true 'ab|c␊␊vwxyz'
+        'abc␊␊vwx|yz'   move_to_line_up 65535 0 = true 'abc|␊␊vwxyz'
+        'ab␍␊cd|'       move_to_line_up 1 0 = true 'ab|␍␊cd'
+        'ab␍␊cdef|'     move_to_line_up 1 0 = true 'ab␍|␊cdef'
+        '漢字␊ab|c'       move_to_line_up 1 0 = true '漢|字␊abc'
+        '漢字␊abcd|'      move_to_line_up 1 0 = true '漢字|␊abcd'
+        '漢字␊abcd|'      move_to_line_up 1 1 = true '漢|字␊abcd'
+        'e\u{301}x␊a|b' move_to_line_up 1 0 = true 'e\u{301}|x␊ab'
+        'e\u{301}x␊ab|' move_to_line_up 1 0 = true 'e\u{301}x|␊ab'
+        '🇩🇪z␊ab|c'      move_to_line_up 1 0 = true '🇩🇪|z␊abc'
+        ",
+    )
+}
+
+#[test]
+fn down_by_rows(rt: HostRuntime) -> Result<(), Fail> {
+    plays(
+        rt.alloc(),
+        "
+        'hell|o␊abc'     move_to_line_down 1 0 = true 'hello␊abc|'
+        'h|ello␊abc'     move_to_line_down 1 2 = true 'hello␊abc|'
+        '|hello␊abc'     move_to_line_down 1 2 = true 'hello␊ab|c'
+        '|hello␊abc'     move_to_line_down 1 0 = true 'hello␊|abc'
+        'ab|c␊␊vwxyz'    move_to_line_down 1 0 = true 'abc␊|␊vwxyz'
+        'ab|c␊␊vwxyz'    move_to_line_down 2 0 = true 'abc␊␊vw|xyz'
+        'ab|c␊␊vwxyz'    move_to_line_down 65535 0 = true 'abc␊␊vw|xyz'
+        'ab|c␊␊vwxyz'    move_to_line_down 2 2 = true 'abc␊␊vwxy|z'
+        'ab|c␊␊'         move_to_line_down 9 0 = true 'abc␊␊|'
+        '漢|字␊abc'        move_to_line_down 1 0 = true '漢字␊ab|c'
+        '漢|字␊abc'        move_to_line_down 1 1 = true '漢字␊abc|'
+        'abc|␊漢字'        move_to_line_down 1 0 = true 'abc␊漢|字'
+        'a|bc␊漢字'        move_to_line_down 1 0 = true 'abc␊|漢字'
+        'a|bc␊e\u{301}x' move_to_line_down 1 0 = true 'abc␊e\u{301}|x'
+        ",
+    )
+}
+
+#[test]
+fn no_row_to_go_to(rt: HostRuntime) -> Result<(), Fail> {
+    plays(
+        rt.alloc(),
+        "
+        '|'      move_to_line_up 1 2 = false '|'
+                 move_to_line_down 1 2 = false '|'
+        'ab|c'   move_to_line_up 1 2 = false 'ab|c'
+                 move_to_line_down 1 2 = false 'ab|c'
+        'abc|␊d' move_to_line_up 1 2 = false 'abc|␊d'
+                 move_to_line_down 0 2 = false 'abc|␊d'
+        'abc␊|d' move_to_line_up 0 2 = false 'abc␊|d'
+                 move_to_line_down 1 2 = false 'abc␊|d'
+        ",
+    )
+}
+
+#[test]
+fn joined_emoji_above(rt: HostRuntime) -> Result<(), Fail> {
+    plays(
+        rt.alloc(),
+        "
+        '👩\u{200D}🔬z␊ab|cdef' move_to_line_up 1 0 Unicode = true '👩\u{200D}🔬|z␊abcdef'
+        '👩\u{200D}🔬z␊abc|def' move_to_line_up 1 0 Unicode = true '👩\u{200D}🔬z|␊abcdef'
+        '👩\u{200D}🔬z␊abc|def' move_to_line_up 1 0 WcWidth = true '|👩\u{200D}🔬z␊abcdef'
+        '👩\u{200D}🔬z␊abcd|ef' move_to_line_up 1 0 WcWidth = true '👩\u{200D}🔬|z␊abcdef'
+        '👩\u{200D}🔬z␊abc|def' move_to_line_up 1 0 NoZwj = true '|👩\u{200D}🔬z␊abcdef'
+        '👩\u{200D}🔬z␊abcde|f' move_to_line_up 1 0 NoZwj = true '👩\u{200D}🔬z|␊abcdef'
+        ",
+    )
+}
+
+/// The columns of each row's text by each mode.
+#[derive(Clone, Copy, Drop)]
+struct Widths;
+
+impl Player for Widths {
+    fn play(&mut self, alloc: Global, text: &str) -> Result<String, Fail> {
+        let text = meant(alloc, text.trim_matches('\''))?;
+        let unicode = Layout::new(GraphemeClusterMode::Unicode).width(text.as_str());
+        let wc_width = Layout::new(GraphemeClusterMode::WcWidth).width(text.as_str());
+        let no_zwj = Layout::new(GraphemeClusterMode::NoZwj).width(text.as_str());
+        Ok(format!(in alloc; "{unicode} {wc_width} {no_zwj}")?)
+    }
+}
+
+/// A text, and its columns by each mode: `Unicode`, `WcWidth` and `NoZwj`.
+#[test]
+fn columns_by_mode(rt: HostRuntime) -> Result<(), Fail> {
+    let rows = "
+        '' = 0 0 0
+        'abc' = 3 3 3
+        '漢字' = 4 4 4
+        'e\u{301}' = 1 1 1
+        '👩\u{200D}🔬' = 2 4 4
+        '👩\u{200D}👩\u{200D}👧' = 2 6 6
+        '👍\u{1F3FD}' = 2 4 2
+        '❤\u{FE0F}' = 2 1 2
+        '🇩🇪' = 2 2 2
+        'a␉b' = 3 2 3
+        'a␍␊b' = 3 2 3
+        ";
+    rows_hold(rt.alloc(), &mut Widths, rows)
+}
+
+fn repeated(alloc: Global, count: usize) -> Result<String, Fail> {
+    let mut text = String::new(alloc);
+    for _ in 0..count {
+        text.push('m')?;
+    }
+    Ok(text)
+}
+
+/// Moves up from the end of a row of 70,000 and one of one character, and down again.
+fn long_rows_crossed(rt: &(impl AllocGlobal + Abort), text: &str) -> Result<(), Fail> {
+    let mut line = line_of(rt.alloc(), text)?;
+    let layout = layout(GraphemeClusterMode::Unicode, 2);
+    assert!(rt; line.move_to_line_up(1, &layout) && line.pos() == 0);
+    assert!(rt; line.move_to_line_down(1, &layout) && line.pos() == 70_002);
+    Ok(())
+}
+
+#[test]
+fn widths_stop_at_the_most(rt: HostRuntime) -> Result<(), Fail> {
+    let mut text = repeated(rt.alloc(), 70_000)?;
+    let unicode = GraphemeClusterMode::Unicode.width(text.as_str());
+    let wc_width = GraphemeClusterMode::WcWidth.width(text.as_str());
+    let no_zwj = GraphemeClusterMode::NoZwj.width(text.as_str());
+    assert_eq!(rt; (unicode, wc_width, no_zwj), (65_535, 65_535, 65_535));
+    text.push_str("\n|m")?;
+    long_rows_crossed(&rt, text.as_str())
+}
+
+#[test]
+fn cells_in_reading_order(rt: HostRuntime) {
+    let early = Position { col: 9, row: 0 };
+    let late = Position { col: 0, row: 1 };
+    assert!(rt; early < late && Position { col: 1, row: 1 } > late);
+    assert_eq!(rt; early.max(late), late);
+}

@@ -1,0 +1,178 @@
+//! What typed keys lead to, in words.
+
+use crate::keys::tables::Desk;
+use crate::keys::typing::{Input, typed};
+use line_config::{Config, ReadlineError};
+use line_keys::{Cmd, InputState, Text};
+use stand_ins::readers::KeyList;
+use stand_ins::refreshers::{PlainLine, Request};
+use stand_ins::tables::line_and_place;
+use std::alloc::{AllocError, Global};
+
+/// A line with its cursor, as a bar marks it.
+pub(crate) fn line_marked(alloc: Global, marked: &str) -> Result<PlainLine, ReadlineError> {
+    let (text, pos) = line_and_place(alloc, marked)?;
+    let mut line = PlainLine::new(alloc, Text::from(text));
+    line.pos = pos;
+    Ok(line)
+}
+
+// The line that stands there when keys are typed.
+fn line_at(desk: &Desk<'_>) -> Result<PlainLine, ReadlineError> {
+    let mut line = line_marked(desk.alloc, desk.line)?;
+    line.answered = desk.answered;
+    put_texts(&mut line, desk)?;
+    Ok(line)
+}
+
+fn put_texts(line: &mut PlainLine, desk: &Desk<'_>) -> Result<(), ReadlineError> {
+    line.hint = copied(desk.alloc, desk.hint)?;
+    line.inserted = copied(desk.alloc, desk.inserted)?;
+    Ok(())
+}
+
+fn copied(alloc: Global, text: Option<&str>) -> Result<Option<Text>, ReadlineError> {
+    match text {
+        Some(text) => Ok(Some(Text::try_from_str(alloc, text)?)),
+        None => Ok(None),
+    }
+}
+
+/// Keys that are typed at a desk.
+#[derive(Drop)]
+struct Typing<'d> {
+    desk: &'d Desk<'d>,
+    first_by_key: bool,
+    state: InputState<'d>,
+    reader: KeyList<'d>,
+}
+
+impl<'d> Typing<'d> {
+    fn new(
+        desk: &'d Desk<'d>,
+        first_by_key: bool,
+        input: &'d Input,
+    ) -> Result<Self, ReadlineError> {
+        let config = Config::builder().edit_mode(desk.mode).build();
+        Ok(Typing {
+            desk,
+            first_by_key,
+            state: InputState::new(desk.alloc, &config, &desk.bindings)?,
+            reader: KeyList::new(&input.typed, input.cut, input.after),
+        })
+    }
+
+    // Tells each phrase.
+    fn tell(&mut self, line: &mut PlainLine, said: &mut String) -> Result<(), ReadlineError> {
+        for _ in 0..100 {
+            if self.tell_phrase(line, said)? {
+                break;
+            }
+        }
+        Ok(())
+    }
+
+    // Tells one phrase, and answers whether it was the last.
+    fn tell_phrase(
+        &mut self,
+        line: &mut PlainLine,
+        said: &mut String,
+    ) -> Result<bool, ReadlineError> {
+        let alloc = self.desk.alloc;
+        let answer = self
+            .state
+            .next_cmd(alloc, &mut self.reader, line, false, self.first_by_key);
+        tell_requests(said, line)?;
+        Ok(self.tell_answer(said, &answer)?)
+    }
+
+    fn tell_answer(
+        &self,
+        said: &mut String,
+        answer: &Result<Cmd, ReadlineError>,
+    ) -> Result<bool, AllocError> {
+        let left = self.reader.left().len();
+        match answer {
+            Ok(cmd) => self.tell_command(said, cmd, left == 0),
+            Err(why) => {
+                write!(said, "{why:?} left {left}")?;
+                Ok(true)
+            }
+        }
+    }
+
+    fn tell_command(&self, said: &mut String, cmd: &Cmd, last: bool) -> Result<bool, AllocError> {
+        let mode = self.mode();
+        let end = if last { "" } else { "; " };
+        write!(said, "{cmd:?}{mode}{end}")?;
+        Ok(last)
+    }
+
+    // The mode that a command leaves, where it is told.
+    fn mode(&self) -> &'static str {
+        if !self.desk.modes {
+            ""
+        } else if self.state.is_emacs_mode() {
+            " in Emacs mode"
+        } else if self.state.is_vi_cmd_mode() {
+            " in command mode"
+        } else {
+            " in insert mode"
+        }
+    }
+}
+
+/// The commands of what is typed, parted by `; `. Before each command stands what was asked of the display for it, as
+/// `<line>`, or `<7>` for the prompt of the count 7. A refusal is the last, with how many keys and pastes it leaves.
+pub(crate) fn told(
+    desk: &Desk<'_>,
+    first_by_key: bool,
+    words: &str,
+) -> Result<String, ReadlineError> {
+    let input = typed(desk.alloc, words)?;
+    let mut said = String::new(desk.alloc);
+    tell_input(desk, first_by_key, &input, &mut said)?;
+    Ok(said)
+}
+
+fn tell_input(
+    desk: &Desk<'_>,
+    first_by_key: bool,
+    input: &Input,
+    said: &mut String,
+) -> Result<(), ReadlineError> {
+    let mut line = line_at(desk)?;
+    let mut typing = Typing::new(desk, first_by_key, input)?;
+    typing.tell(&mut line, said)
+}
+
+// Tells what was asked of the display, and forgets it.
+fn tell_requests(said: &mut String, line: &mut PlainLine) -> Result<(), AllocError> {
+    for request in &line.requests {
+        tell_request(said, request)?;
+    }
+    line.requests.clear();
+    Ok(())
+}
+
+fn tell_request(said: &mut String, request: &Request) -> Result<(), AllocError> {
+    match request {
+        Request::Line => said.push_str("<line> "),
+        Request::Message(..) => said.push_str("<message> "),
+        Request::Prompt(prompt) => tell_prompt(said, prompt.as_str()),
+        Request::DoingInsert => said.push_str("<insert> "),
+        Request::DoneInserting => said.push_str("<done> "),
+    }
+}
+
+// The prompt of a count by the count alone, any other whole.
+fn tell_prompt(said: &mut String, prompt: &str) -> Result<(), AllocError> {
+    match count_in(prompt) {
+        Some(n) => write!(said, "<{n}> "),
+        None => write!(said, "<{prompt:?}> "),
+    }
+}
+
+fn count_in(prompt: &str) -> Option<&str> {
+    prompt.strip_prefix("(arg: ")?.strip_suffix(") ")
+}
