@@ -171,20 +171,6 @@ pub(crate) fn empty_desk<'h, H: Helper + Drop>(
     State::new(alloc, out, "> ", None, Context::new(history))
 }
 
-// A state with the line that a table shows drawn; the helper comes after that.
-fn desk_with<'h, H: Helper + Drop>(
-    alloc: Global,
-    stage: &Stage,
-    helper: Option<H>,
-    history: &'h MemHistory,
-    shown: &str,
-) -> Result<Desk<'h, H>, ReadlineError> {
-    let mut desk = empty_desk(alloc, stage, history)?;
-    set_line(alloc, &mut desk, shown)?;
-    desk.helper = helper;
-    Ok(desk)
-}
-
 /// Makes a command, as a turn of a line does.
 pub(crate) fn make<H: Helper + Drop, D: Decides>(
     desk: &mut Desk<'_, H>,
@@ -202,11 +188,11 @@ pub(crate) fn make<H: Helper + Drop, D: Decides>(
 pub(crate) fn status_of(
     alloc: Global,
     answer: Result<Status, ReadlineError>,
-) -> Result<String, AllocError> {
+) -> Result<String, Fail> {
     match answer {
         Ok(Status::Proceed) => Ok(String::new(alloc)),
-        Ok(Status::Submit) => String::from_str(alloc, "Submit "),
-        Err(refusal) => format!(in alloc; "{refusal:?} "),
+        Ok(Status::Submit) => Ok(String::from_str(alloc, "Submit ")?),
+        Err(refusal) => Ok(format!(in alloc; "{refusal:?} ")?),
     }
 }
 
@@ -242,7 +228,7 @@ fn make_named<H: Helper + Drop>(
     let Some(cmd) = command_named(alloc, words) else {
         return Err(Fail::new(format_args!("no command: {words}")));
     };
-    Ok(status_of(alloc, make(desk, input, ring, config, cmd))?)
+    status_of(alloc, make(desk, input, ring, config, cmd))
 }
 
 // Makes commands one after the other, the calls of the last of them kept; how that one ended.
@@ -273,12 +259,12 @@ fn told<H: Helper + Drop>(
     ring: &mut KillRing,
     config: &Config,
     status: &str,
-) -> Result<String, AllocError> {
+) -> Result<String, Fail> {
     if stage.tells_ring {
         return ring_told(alloc, desk, input, ring, config);
     }
     let line = line_shown(alloc, desk)?;
-    format!(in alloc; "{status}{line} / {}", desk.out.calls())
+    Ok(format!(in alloc; "{status}{line} / {}", desk.out.calls())?)
 }
 
 // The line, what a yank would give, and the line when one change is taken back.
@@ -288,13 +274,13 @@ fn ring_told<H: Helper + Drop>(
     input: &InputState<'_>,
     ring: &mut KillRing,
     config: &Config,
-) -> Result<String, AllocError> {
-    let mut text = line_shown(alloc, desk)?;
-    write!(text, " / {}", lent_by(alloc, ring)?)?;
+) -> Result<String, Fail> {
+    let line = line_shown(alloc, desk)?;
+    let lent = lent_by(alloc, ring)?;
     desk.out.answer(None);
     let _ = make(desk, input, ring, config, Cmd::Undo(1));
-    write!(text, " / {}", line_shown(alloc, desk)?)?;
-    Ok(text)
+    let undone = line_shown(alloc, desk)?;
+    Ok(format!(in alloc; "{line} / {lent} / {undone}")?)
 }
 
 // Makes the commands of a row, and tells what they led to.
@@ -308,7 +294,7 @@ fn led<H: Helper + Drop>(
     commands: &str,
 ) -> Result<String, Fail> {
     let status = make_all(alloc, desk, input, ring, config, stage.answered, commands)?;
-    Ok(told(alloc, stage, desk, input, ring, config, status.as_str())?)
+    told(alloc, stage, desk, input, ring, config, status.as_str())
 }
 
 // Makes the commands of a row on a desk.
@@ -325,6 +311,20 @@ fn led_on<H: Helper + Drop>(
     led(alloc, stage, desk, &input, &mut ring, &config, commands)
 }
 
+// Makes the commands of a row with the line that it shows drawn; the helper comes after that.
+fn led_from<H: Helper + Drop>(
+    alloc: Global,
+    stage: &Stage,
+    desk: &mut Desk<'_, H>,
+    helper: Option<H>,
+    shown: &str,
+    commands: &str,
+) -> Result<String, Fail> {
+    set_line(alloc, desk, shown)?;
+    desk.helper = helper;
+    led_on(alloc, stage, desk, commands)
+}
+
 // Makes the commands of a row, over a helper.
 fn led_over<H: Helper + Drop>(
     alloc: Global,
@@ -334,8 +334,8 @@ fn led_over<H: Helper + Drop>(
     commands: &str,
 ) -> Result<String, Fail> {
     let history = history_of(alloc, stage.history.as_str())?;
-    let mut desk = desk_with(alloc, stage, helper, &history, shown)?;
-    led_on(alloc, stage, &mut desk, commands)
+    let mut desk = empty_desk(alloc, stage, &history)?;
+    led_from(alloc, stage, &mut desk, helper, shown, commands)
 }
 
 impl Player for Stage {

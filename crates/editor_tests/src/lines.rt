@@ -126,7 +126,7 @@ fn end_of<H: Helper + Drop>(
     desk: &Desk<'_, H>,
     ring: &mut KillRing,
     answer: Result<Status, ReadlineError>,
-) -> Result<Ended, AllocError> {
+) -> Result<Ended, Fail> {
     Ok(Ended {
         status: status_of(alloc, answer)?,
         line: line_shown(alloc, desk)?,
@@ -148,7 +148,7 @@ fn typed_on<H: Helper + Drop>(
     let mut ring = KillRing::new(alloc, 60)?;
     let mut reader = KeyList::new(&keys.typed, false, keys.after);
     let answer = line(desk, &mut input, &mut reader, &mut ring, &config);
-    Ok(end_of(alloc, desk, &mut ring, answer)?)
+    end_of(alloc, desk, &mut ring, answer)
 }
 
 // Types a row's keys, over a helper.
@@ -191,7 +191,7 @@ fn run_over<H: Helper + Drop>(
         bindings,
         &mut ring,
     );
-    Ok(left_by(alloc, ran.outcome, ran.out.calls(), &mut ring)?)
+    left_by(alloc, ran.outcome, ran.out.calls(), &mut ring)
 }
 
 // What is left of a line, in words.
@@ -200,10 +200,10 @@ fn left_by(
     outcome: Result<String, ReadlineError>,
     calls: &str,
     ring: &mut KillRing,
-) -> Result<String, AllocError> {
-    let mut text = outcome_shown(alloc, outcome)?;
-    write!(text, " / {calls} / {}", lent_by(alloc, ring)?)?;
-    Ok(text)
+) -> Result<String, Fail> {
+    let text = outcome_shown(alloc, outcome)?;
+    let lent = lent_by(alloc, ring)?;
+    Ok(format!(in alloc; "{text} / {calls} / {lent}")?)
 }
 
 // The text of a line, with pictures, or why there is none.
@@ -228,9 +228,9 @@ impl Ended {
     }
 
     // What is told of this line: the calls, or the ring.
-    fn told(&self, alloc: Global, ring: bool) -> Result<String, AllocError> {
+    fn told(&self, alloc: Global, ring: bool) -> Result<String, Fail> {
         let last = if ring { &self.ring } else { &self.calls };
-        format!(in alloc; "{}{} / {last}", self.status, self.line)
+        Ok(format!(in alloc; "{}{} / {last}", self.status, self.line)?)
     }
 }
 
@@ -252,7 +252,7 @@ impl Typist {
         if whole.as_str() != found.whole(alloc)?.as_str() {
             return Err(Fail::new(format_args!("run leaves of {keys}: {whole}")));
         }
-        Ok(found.told(alloc, stage.tells_ring)?)
+        found.told(alloc, stage.tells_ring)
     }
 }
 
