@@ -9,7 +9,8 @@ import sys
 
 SESSION = 3
 # Each option with its value; a flag has none.
-OPTIONS = {"mode": "<emacs|vi>", "columns": "<2..1000>", "prompt": "<TEXT>", "history": "<FILE>", "brackets": None, "help": None}
+OPTIONS = {"mode": "<emacs|vi>", "columns": "<2..1000>", "prompt": "<TEXT>", "history": "<FILE>", "words": "<FILE>",
+           "brackets": None, "help": None}
 MORE = "For more information, try '--help'.\n"
 # A name is called similar where its similarity is above this.
 SIMILAR = 0.7

@@ -2,12 +2,14 @@
 
 Called by `bench/run session` with the built program. Each case is run at two sizes, the second ten times the first, so
 that a cost that grows with what came before shows. The time is the processor's for the program, in microseconds a key,
-less that of a session without keys, or without those that are counted; of five runs the shortest counts.
+less that of a session without keys, or without those that are counted; of five runs the shortest counts. Then what
+sessions of many lines and of one long line take of memory, at the peak, and of time.
 """
 import os
 import subprocess
 import sys
 import tempfile
+import threading
 
 LEFT, RIGHT, HOME, END = b"\x1b[D", b"\x1b[C", b"\x01", b"\x05"
 BACKSPACE, UNDO, ENTER = b"\x7f", b"\x1f", b"\r"
@@ -74,6 +76,40 @@ def once(program, keys):
     return used.ru_utime + used.ru_stime
 
 
+def peak(process):
+    """The most memory that a process has held so far, in KB."""
+    with open(f"/proc/{process.pid}/status", encoding="ascii") as status:
+        return next(int(line.split()[1]) for line in status if line.startswith("VmHWM"))
+
+
+def whole(program, keys, lines):
+    """The peak of memory of a session over these keys, once its lines are read, and the processor's time for it."""
+    how = {"stdin": subprocess.PIPE, "stdout": subprocess.PIPE, "stderr": subprocess.DEVNULL}
+    with subprocess.Popen([program, "--columns=1000"], **how) as session:
+        typist = threading.Thread(target=lambda: (session.stdin.write(keys), session.stdin.flush()))
+        typist.start()
+        for _ in range(lines):
+            session.stdout.readline()
+        typist.join()
+        held = peak(session)
+        session.stdin.close()
+        _, status, used = os.wait4(session.pid, 0)
+        session.returncode = os.waitstatus_to_exitcode(status)
+    return f"{held} KB, {used.ru_utime + used.ru_stime:.2f} s"
+
+
+# Keys, and how many lines they accept.
+WHOLE = [
+    ("10,000 lines of 40 characters", lines_typed(410_000), 10_000),
+    ("100,000 lines of 40 characters", lines_typed(4_100_000), 100_000),
+    ("100,000 empty lines", ENTER * 100_000, 100_000),
+    ("one line of 100,000 characters, typed", one_line(100_000), 1),
+    ("one line of a million characters, typed", one_line(1_000_000), 1),
+    ("one line of a million characters, pasted", pasted(1_000_000), 1),
+    ("the same, killed and yanked ten times", pasted(1_000_000)[:-1] + b"\x15\x19" * 10 + ENTER, 1),
+]
+
+
 def main(program):
     start = seconds(program, b"")
     for name, made, size, counted in CASES:
@@ -83,6 +119,8 @@ def main(program):
             used = seconds(program, made(keys)) - (start if counted is None else more)
             costs.append(f"{keys}: {1e6 * max(used, 0) / (counted or keys):.2f}")
         print(f"{name}: {', '.join(costs)} microseconds a key", flush=True)
+    for name, keys, lines in WHOLE:
+        print(f"{name}: {whole(program, keys, lines)}", flush=True)
 
 
 main(sys.argv[1])

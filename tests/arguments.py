@@ -1,5 +1,5 @@
 #!/usr/bin/env python3
-"""The program's arguments and its history file. Run it by ./test, or alone once `rt ci` or ./keyline has built the program."""
+"""The program's arguments, its history file and its file of words. Run it by ./test, or alone once `rt ci` or ./keyline has built the program."""
 import importlib.util
 import itertools
 import os
@@ -13,12 +13,16 @@ from checks import ANSWERS, BACKSPACE, CTRL_D, ENTER, HUNG, NEW_ROW, PROGRAM, dr
 UP = b"\x1b[A"
 NOT_LOADED = b"keyline: history does not load\n"
 NOT_SAVED = b"keyline: history text failed\n"
+NO_WORDS = b"keyline: words do not load\n"
+NO_MEMORY = b"keyline: out of memory\n"
+TAB = b"\t"
+BELL = b"\x07"
 # What a program may take of memory that reads what never ends, in bytes.
 SPACE = 300_000_000
 # Words of each kind, of which every one and every two make a command line.
 WORDS = ["--help", "-h", "-hx", "--help=x", "--mode", "--mode=vi", "--mode=ed", "--columns", "--columns=+07", "--columns=1",
-         "--columns=", "--prompt=--", "--history", "--brackets", "--brackets=on", "--", "-", "", "vi", "7", "-x", "-\u00e9",
-         "--colums", "--hlp=3", "--nothing", "--=x", "---", "--mod\u00e9"]
+         "--columns=", "--prompt=--", "--history", "--words", "--brackets", "--brackets=on", "--", "-", "", "vi", "7", "-x", "-\u00e9",
+         "--colums", "--wrods", "--hlp=3", "--nothing", "--=x", "---", "--mod\u00e9"]
 # Where a number or a likeness ends.
 EDGES = [["--columns", text] for text in ("2", "1000", "1001", "65538", "0" * 30 + "5", "9" * 5000, "+", "5_0", " 5", "-5", "\u0665")]
 EDGES += [["--mode" + "x" * count] for count in (35, 36, 37)]
@@ -82,13 +86,13 @@ def help_is_asked_for():
         run = ran(b"ab\r", flag)
         expect(run, display=b"")
         for part in (b"Usage: keyline", b"--mode <emacs|vi>", b"[default: emacs]", b"[default: 80]",
-                     b"--prompt <TEXT>", b"--history <FILE>", b"--brackets", b"Ctrl-Y"):
+                     b"--prompt <TEXT>", b"--history <FILE>", b"--words <FILE>", b"--brackets", b"Ctrl-Y"):
             same(f"{part!r} is there", part in run.stdout, True)
 
 
 def wrong_arguments():
     wrong = [["--columns", "1"], ["--columns", "1001"], ["--columns", "70000"], ["--columns", "x"], ["--columns="],
-             ["--columns"], ["--mode", "ed"], ["--mode"], ["--brackets=on"], ["--nothing"], ["-x"], ["word"], ["-"], ["", ""],
+             ["--columns"], ["--mode", "ed"], ["--mode"], ["--words"], ["--words", "a", "--words", "a"], ["--brackets=on"], ["--nothing"], ["-x"], ["word"], ["-"], ["", ""],
              ["--mode", "vi", "--mode", "vi"]]
     for arguments in wrong:
         with History(b"\xff") as history:
@@ -255,7 +259,85 @@ def a_history_without_end():
     with open(os.devnull, "rb") as keys:
         run = ran(b"", "--history", "/dev/zero", stdin=keys,
                   preexec_fn=lambda: resource.setrlimit(resource.RLIMIT_AS, (SPACE, SPACE)))
-    expect(run, b"", b"keyline: out of memory\n", 1)
+    expect(run, b"", NO_MEMORY, 1)
+
+
+class Words(History):
+    """A folder with a file of words."""
+
+    def __init__(self, *words):
+        super().__init__(b"".join(word + b"\n" for word in words))
+
+    def ran(self, keys, *arguments):
+        return ran(keys, "--words", self.path, *arguments)
+
+
+def words_complete():
+    with Words(b"alpha", b"alpine", b"al bum", "\u00e9t\u00e9".encode()) as words:
+        expect(words.ran(b"al" + TAB + ENTER), b"al\n")
+        expect(words.ran(b"alp" + TAB + ENTER), b"alp\n")
+        expect(words.ran(b"alph" + TAB + ENTER), b"alpha\n")
+        expect(words.ran(b"x alph" + TAB + b"!" + ENTER), b"x alpha!\n")
+        expect(words.ran("\u00e9".encode() + TAB + ENTER), "\u00e9t\u00e9\n".encode())
+        expect(words.ran(b"zz" + TAB + ENTER), b"zz\n")
+        expect(words.ran(b"alph" + TAB + ENTER, "--mode", "vi"), b"alpha\n")
+
+
+def words_are_cut_as_rows():
+    for text in (b"alpha\n\nalpine", b"\n\nalpha\r\n\r\nalpine\r\n", b"alpha\nalpine\n"):
+        with Words() as words:
+            words.write(text)
+            expect(words.ran(b"a" + TAB + ENTER), b"alp\n")
+            expect(words.ran(b"alph" + TAB + ENTER), b"alpha\n")
+            same("the file", words.text(), text)
+
+
+def words_with_brackets():
+    with Words(b"(alpha") as words:
+        expect(words.ran(b"(al" + TAB + ENTER + b")" + ENTER, "--brackets"), b"(alpha\n)\n")
+        expect(words.ran(b"(al" + TAB + ENTER), b"(alpha\n")
+    # A helper that has no words rings; without a helper nothing is sent.
+    rung = ran(b"al" + TAB + ENTER, "--brackets")
+    expect(rung, b"al\n")
+    same("bells", rung.stderr.count(BELL), 1)
+    same("bells without a helper", ran(b"al" + TAB + ENTER).stderr.count(BELL), 0)
+
+
+def words_that_do_not_load():
+    with Words() as words:
+        for text in (b"ab\xff\n", b"alpha\nalpine\n\xc3"):
+            words.write(text)
+            expect(words.ran(b"ab\r"), b"", NO_WORDS, 6)
+            same("the file", words.text(), text)
+        for path in (words.folder.name, words.path + "/under-a-file", words.path + "-missing"):
+            expect(ran(b"ab\r", "--words", path), b"", NO_WORDS, 6)
+        same("the folder", words.names(), ["history"])
+    if os.geteuid() != 0:
+        with Words(b"alpha") as words:
+            os.chmod(words.path, 0)
+            expect(words.ran(b"ab\r"), b"", NO_WORDS, 6)
+
+
+def words_are_read_before_the_history():
+    with History(b"\xff") as history, Words(b"\xff") as words:
+        expect(words.ran(b"ab\r", "--history", history.path), b"", NO_WORDS, 6)
+        words.write(b"alpha\n")
+        expect(words.ran(b"ab\r", "--history", history.path), b"", NOT_LOADED, 5)
+        same("status", words.ran(b"ab\r", "--history", history.path, "--columns", "1").returncode, 2)
+
+
+def words_of_a_device():
+    expect(ran(b"ab\r", "--words", os.devnull), b"ab\n")
+    with open(os.devnull, "rb") as keys:
+        run = ran(b"", "--words", "/dev/zero", stdin=keys,
+                  preexec_fn=lambda: resource.setrlimit(resource.RLIMIT_AS, (SPACE, SPACE)))
+    expect(run, b"", NO_MEMORY, 1)
+
+
+def many_words():
+    with Words(*(b"word%d" % number for number in range(100000))) as words:
+        expect(words.ran(b"word9999" + TAB + TAB + ENTER), b"word9999\n")
+        expect(words.ran(TAB + b"12345" + TAB + ENTER), b"word12345\n")
 
 
 def what_a_crash_left():
@@ -299,6 +381,13 @@ if __name__ == "__main__":
         another_fault_comes_first,
         a_device_is_no_file,
         a_history_without_end,
+        words_complete,
+        words_are_cut_as_rows,
+        words_with_brackets,
+        words_that_do_not_load,
+        words_are_read_before_the_history,
+        words_of_a_device,
+        many_words,
         what_a_crash_left,
         many_entries,
     ])

@@ -44,6 +44,16 @@ def built(crate):
 PROGRAM = built("keyline_program")
 
 
+def shim(name):
+    """A library that is preloaded under a program, made from a C file of this folder."""
+    made = os.path.join(TOP, "build", f"{name}.so")
+    source = os.path.join(TOP, "tests", f"{name}.c")
+    if not os.path.exists(made) or os.path.getmtime(made) < os.path.getmtime(source):
+        os.makedirs(os.path.dirname(made), exist_ok=True)
+        subprocess.run(["gcc", "-shared", "-fPIC", "-O2", "-o", made, source], check=True)
+    return made
+
+
 def placed_script():
     """A copy of ./keyline in a folder of its own, whose build hands out the program that `rt ci` left."""
     folder = tempfile.TemporaryDirectory(prefix="keyline-gate-")
@@ -112,13 +122,12 @@ class Incoming:
 
 
 class Running:
-    """The program with a pipe at each standard stream."""
+    """The program with a pipe at each standard stream, but for those that are given."""
 
-    def __init__(self, command):
-        pipe = subprocess.PIPE
-        self.process = subprocess.Popen(command, stdin=pipe, stdout=pipe, stderr=pipe, bufsize=0)
-        self.lines = Incoming(self.process.stdout.fileno())
-        self.display = Incoming(self.process.stderr.fileno())
+    def __init__(self, command, **streams):
+        given = {**dict.fromkeys(("stdin", "stdout", "stderr"), subprocess.PIPE), **streams}
+        self.process = subprocess.Popen(command, bufsize=0, **given)
+        self.lines, self.display = (it and Incoming(it.fileno()) for it in (self.process.stdout, self.process.stderr))
 
     def type(self, keys):
         self.process.stdin.write(keys)
@@ -129,6 +138,11 @@ class Running:
     def expect_status(self, status):
         same("status", self.process.wait(timeout=HUNG), status)
 
+    def peak(self):
+        """The most memory that the process has held so far, in KB."""
+        with open(f"/proc/{self.process.pid}/status", encoding="ascii") as status:
+            return next(int(line.split()[1]) for line in status if line.startswith("VmHWM"))
+
     def __enter__(self):
         return self
 
@@ -136,7 +150,7 @@ class Running:
         if self.process.poll() is None:
             self.process.kill()
             self.process.wait()
-        for stream in (self.process.stdin, self.process.stdout, self.process.stderr):
+        for stream in filter(None, (self.process.stdin, self.process.stdout, self.process.stderr)):
             try:
                 stream.close()
             except BrokenPipeError:

@@ -20,9 +20,10 @@ MOST = 10000
 
 
 class Session:
-    """The keys that type these lines, and what a whole run on them writes."""
+    """The keys that type these lines, and what a whole run on them writes, with these words to complete."""
 
-    def __init__(self, *lines):
+    def __init__(self, *lines, words=()):
+        self.words = words
         self.keys = b"".join(line + b"\r" for line in lines)
         self.lines = [line + b"\n" for line in lines]
         # The display's parts in order: drawings, characters and row breaks, and which of them end an accepted line.
@@ -60,12 +61,22 @@ class Session:
         if ran.stdout not in [b"".join(self.lines[:count]) for count in range(at_least, at_most + 1)]:
             raise Failed(f"between {at_least} and {at_most} lines are to be written, not {ran.stdout!r}")
 
+    def arguments(self, folder):
+        """Those of the program; the words stand in a file of the folder."""
+        if not self.words:
+            return []
+        path = os.path.join(folder, "words")
+        with open(path, "wb") as file:
+            file.write(b"".join(word + b"\n" for word in self.words))
+        return ["--words", path]
+
     def refuse_each(self):
         with tempfile.TemporaryDirectory() as folder:
             report = os.path.join(folder, "refused")
+            arguments = self.arguments(folder)
             for number in range(1, MOST):
                 told = {"LD_PRELOAD": SHIM, "REFUSE_GROWTH": str(number), "REFUSE_GROWTH_REPORT": report}
-                ran = subprocess.run([PROGRAM], input=self.keys, capture_output=True, timeout=HUNG, env=told)
+                ran = subprocess.run([PROGRAM, *arguments], input=self.keys, capture_output=True, timeout=HUNG, env=told)
                 try:
                     if not os.path.exists(report):
                         self.check_whole(ran)
@@ -100,6 +111,10 @@ def a_line_that_grows_again_and_again():
     Session(b"0123456789" * 7, b"ab").refuse_each()
 
 
+def words_that_are_read():
+    Session(b"ab", words=[b"alpha", b"x" * 40, b"alpine" * 20]).refuse_each()
+
+
 def three_lines_and_an_empty_one():
     Session(b"x" * 20, b"", b"y" * 40, b"z" * 60).refuse_each()
 
@@ -109,5 +124,6 @@ if __name__ == "__main__":
         the_shim_compiles,
         two_short_lines,
         a_line_that_grows_again_and_again,
+        words_that_are_read,
         three_lines_and_an_empty_one,
     ])

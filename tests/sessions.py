@@ -10,10 +10,9 @@ import re
 import subprocess
 import tempfile
 
-from checks import HUNG, PROGRAM, TOP, Failed, run_all, same
+from checks import HUNG, PROGRAM, TOP, Failed, run_all, same, shim
 
 DATA = os.path.join(TOP, "crates", "sessions_program", "data")
-SHIM = os.path.join(TOP, "build", "one_byte.so")
 STATUS = {"Eof": 0, "Interrupted": 130, "NotUtf8": 3, "PasteOutOfPlace": 4}
 NAMED = {
     "nothing": b"", "Enter": b"\r", "Tab": b"\t", "Backspace": b"\x7f", "Esc": b"\x1b", "Left": b"\x1b[D",
@@ -73,11 +72,18 @@ class Row:
 
     def is_played(self):
         """Whether the program has what the row needs: it binds no key and gives no hint."""
-        return "bound" not in self.settings and not ("helped" in self.settings and self.value("loaded:", ""))
+        helped = "helped" in self.settings or self.value("words:", "")
+        return "bound" not in self.settings and not (helped and self.value("loaded:", ""))
 
-    def arguments(self):
+    def arguments(self, folder):
+        """Those of the program; the words that complete stand in a file of the folder."""
         given = ["--mode", "vi" if "vi" in self.settings else "emacs", "--columns", self.value("columns:", "80")]
         given += ["--prompt=" if "bare" in self.settings else "--prompt=> "]
+        if self.value("words:", ""):
+            path = os.path.join(folder, "words")
+            with open(path, "w", encoding="utf-8") as file:
+                file.write(self.value("words:", "").replace(",", "\n"))
+            given += ["--words", path]
         return given + (["--brackets"] if "helped" in self.settings else [])
 
     def play(self, one_byte):
@@ -87,8 +93,8 @@ class Row:
             if loaded:
                 with open(path, "wb") as file:
                     file.write(loaded)
-            environment = dict(os.environ, LD_PRELOAD=SHIM) if one_byte else None
-            ran = subprocess.run([PROGRAM, *self.arguments(), "--history", path], input=self.keys, timeout=HUNG,
+            environment = dict(os.environ, LD_PRELOAD=shim("one_byte")) if one_byte else None
+            ran = subprocess.run([PROGRAM, *self.arguments(folder), "--history", path], input=self.keys, timeout=HUNG,
                                  capture_output=True, env=environment)
             same("lines", ran.stdout, self.lines)
             same("status", ran.returncode, STATUS[self.ends])
@@ -153,7 +159,5 @@ def keys_of_vi_one_byte_a_read():
 
 
 if __name__ == "__main__":
-    os.makedirs(os.path.dirname(SHIM), exist_ok=True)
-    subprocess.run(["gcc", "-shared", "-fPIC", "-O2", "-o", SHIM, os.path.join(TOP, "tests", "one_byte.c")], check=True)
     run_all([worked_rows, worked_rows_one_byte_a_read, keys_of_emacs, keys_of_emacs_one_byte_a_read, keys_of_vi,
              keys_of_vi_one_byte_a_read])

@@ -10,6 +10,7 @@ import resource
 import signal
 import struct
 import subprocess
+import tempfile
 import termios
 import time
 
@@ -23,8 +24,9 @@ def shown(display):
     return display.replace(b"\n", b"\r\n")
 
 
-def lead(slave, reports, orders, arguments):
-    """Leads the session, and never returns. It reports each stop and the end; each order lets the job go on."""
+def lead(slave, reports, orders, arguments, lines):
+    """Leads the session, and never returns. It reports each stop and the end; each order lets the job go on. Where a file
+    is named for the lines, they don't go to the terminal."""
     os.setsid()
     fcntl.ioctl(slave, termios.TIOCSCTTY, 0)
     signal.signal(signal.SIGTTOU, signal.SIG_IGN)
@@ -39,6 +41,8 @@ def lead(slave, reports, orders, arguments):
         resource.setrlimit(resource.RLIMIT_CORE, (0, 0))
         for stream in range(3):
             os.dup2(slave, stream)
+        if lines:
+            os.dup2(os.open(lines, os.O_WRONLY | os.O_CREAT, 0o600), 1)
         os.execv(SCRIPT, [SCRIPT, *arguments])
     os.write(reports, b"%d\n" % job)
     while True:
@@ -57,8 +61,8 @@ def lead(slave, reports, orders, arguments):
 class Terminal:
     """A terminal with ./keyline on it."""
 
-    def __init__(self, columns=80, arguments=()):
-        self.columns, self.arguments = columns, arguments
+    def __init__(self, columns=80, arguments=(), lines=None):
+        self.columns, self.arguments, self.lines = columns, arguments, lines
 
     def __enter__(self):
         self.master, self.slave = os.openpty()
@@ -69,7 +73,7 @@ class Terminal:
         self.leader = os.fork()
         if self.leader == 0:
             try:
-                lead(self.slave, reports, orders, self.arguments)
+                lead(self.slave, reports, orders, self.arguments, self.lines)
             finally:
                 os._exit(127)
         os.close(reports)
@@ -208,6 +212,28 @@ def signals_to_the_job():
         ended_by(lambda terminal: os.killpg(terminal.job, number), 128 + number)
 
 
+def signals_in_mid_line():
+    """The lines before stand, the old history is whole, and nothing is left beside it."""
+    old = b"#V2\nold\n"
+    for number in (signal.SIGTERM, signal.SIGHUP):
+        for send in (os.kill, os.killpg):
+            with tempfile.TemporaryDirectory() as folder:
+                lines, history = (os.path.join(folder, name) for name in ("lines", "history"))
+                with open(history, "wb") as file:
+                    file.write(old)
+                with Terminal(arguments=["--history", history], lines=lines) as terminal:
+                    terminal.expect(drawing(b""))
+                    terminal.type(b"ab\rcd")
+                    terminal.expect(b"ab" + NEW_ROW + drawing(b"") + b"cd")
+                    send(terminal.job, number)
+                    terminal.expect_ended(128 + number)
+                found = {}
+                for name in os.listdir(folder):
+                    with open(os.path.join(folder, name), "rb") as file:
+                        found[name] = file.read()
+                same("files", found, {"lines": b"ab\n", "history": old})
+
+
 def the_program_killed():
     for number in (signal.SIGKILL, signal.SIGTERM, signal.SIGSEGV):
         ended_by(lambda terminal: os.kill(terminal.program(), number), 128 + number)
@@ -249,6 +275,7 @@ if __name__ == "__main__":
         quit_typed,
         signals_to_the_script,
         signals_to_the_job,
+        signals_in_mid_line,
         the_program_killed,
         stopped_and_continued,
         stopped_and_then_ended,

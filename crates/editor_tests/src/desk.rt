@@ -4,11 +4,12 @@
 //! makes; `history: one,two` the entries; `mode: Vi` the keymap; `first:` the commands that each row begins with;
 //! `tells: ring` what is told of a row; `helper: InvalidTold no` a helper with its verdict and its message, which never
 //! fails, and then of that helper `marks: 2` the place at which it highlights, `takes: no` that its hints are only shown,
-//! `hint-fails: 3` and `verdict-fails: 3` the length of the texts from which on it fails, and `wants-memory: yes` that it
-//! does so for want of memory.
+//! `hint-fails: 3`, `verdict-fails: 3` and `completion-fails: 3` the length of the texts from which on it fails,
+//! `update-fails: 3` the length of the words from which on it puts none in, `wants-memory: yes` that it does so for want of
+//! memory, and `offers: 3 alpha alpine` where each word starts and the candidates for it.
 
 use crate::calls::CallList;
-use crate::helpers::{Adviser, Verdict};
+use crate::helpers::{Adviser, Offer, Verdict};
 use line_buffer::Unit;
 use line_config::{Config, EditMode, ReadlineError};
 use line_editor::commands::{Status, execute};
@@ -58,6 +59,29 @@ fn message_named(name: &str) -> &'static str {
         "ok" => "ok",
         "no" => "no",
         _ => "",
+    }
+}
+
+// The words that are offered, by their names.
+fn word_named(name: &str) -> &'static str {
+    match name {
+        "alpha" => "alpha",
+        "alpine" => "alpine",
+        "grün" => "grün",
+        "größe" => "größe",
+        "acute" => "e\u{301}a",
+        "grave" => "e\u{300}a",
+        "long" => "alphabetagammadelta",
+        _ => "",
+    }
+}
+
+// Two words, or one, or none.
+fn offer_of(words: &str) -> Offer {
+    match words.split_once(' ') {
+        Some((word, other)) => Offer::Two(word_named(word), word_named(other)),
+        None if words.is_empty() => Offer::Nothing,
+        None => Offer::One(word_named(words)),
     }
 }
 
@@ -119,6 +143,21 @@ impl Stage {
             "hint-fails:" => self.helper.hint_fails_at = number,
             "verdict-fails:" => self.helper.verdict_fails_at = number,
             "wants-memory:" => self.helper.wants_memory = rest == "yes",
+            _ => return self.sets_completion(word, rest),
+        }
+        true
+    }
+
+    fn sets_completion(&mut self, word: &str, rest: &str) -> bool {
+        let number = rest.parse().unwrap_or(usize::MAX);
+        match word {
+            "completion-fails:" => self.helper.completion_fails_at = number,
+            "offers:" => {
+                let (start, words) = word_and_rest(rest);
+                self.helper.start = start.parse().unwrap_or(0);
+                self.helper.offer = offer_of(words);
+            }
+            "update-fails:" => self.helper.update_fails_at = number,
             _ => return false,
         }
         true
@@ -325,8 +364,8 @@ fn led_from<H: Helper + Drop>(
     led_on(alloc, stage, desk, commands)
 }
 
-// Makes the commands of a row, over a helper.
-fn led_over<H: Helper + Drop>(
+/// Makes the commands of a row, over a helper.
+pub(crate) fn led_over<H: Helper + Drop>(
     alloc: Global,
     stage: &Stage,
     helper: Option<H>,

@@ -1,14 +1,16 @@
 //! A helper that answers as a test wants it to.
 
 ghost use Rattle.std.specs.Prelude.{◌≡◌, ◌==◌, nat_le, option_map, length, Option, Some, None, false, if◌then◌else◌, refl, string_bytes, IfErr};
-ghost use Rattle.line_help.specs.Completion.{nothing_offered};
+ghost use Rattle.line_help.specs.Completion.{text_offered};
 ghost use Rattle.line_help.specs.Hints.{history_hint};
+ghost use Rattle.line_keys.specs.Replies.{gives_at_once, gives_unless};
 ghost use Rattle.line_config.specs.declared.errors.HookFault.TheVariants.{Memory};
 
+use line_buffer::{ChangeListener, LineBuffer};
 use line_config::{CompletionType, HookFault};
 use line_help::{
     Completer, Context, Helper, Highlighter, Hint, Hinter, History, HistoryHinter,
-    ValidationContext, ValidationResult, Validator,
+    ValidationContext, ValidationResult, Validator, update_line,
 };
 use line_keys::{CmdKind, Text};
 use std::alloc::Global;
@@ -22,6 +24,14 @@ pub enum Verdict {
     InvalidTold,
     Valid,
     ValidTold,
+}
+
+/// The candidates for any word.
+#[derive(Clone, Copy)]
+pub enum Offer {
+    Nothing,
+    One(&'static str),
+    Two(&'static str, &'static str),
 }
 
 /// The rest of an entry, which can be taken into the line or only be shown.
@@ -47,8 +57,9 @@ impl Hint for Rest {
     }
 }
 
-/// Hints from the history, and a verdict that is the same for every text. A character is highlighted where the cursor is
-/// at `marked_at`. From a text of so many bytes on hinter and validator fail, or want memory.
+/// Hints from the history, and a verdict and candidates that are the same for every text. A character is highlighted where
+/// the cursor is at `marked_at`. From a text of so many bytes on hinter, validator and completer fail, or want memory; the
+/// completer puts none of so many bytes in.
 #[derive(Clone, Copy, Drop)]
 pub struct Adviser {
     pub verdict: Verdict,
@@ -58,11 +69,16 @@ pub struct Adviser {
     pub completes: bool,
     pub hint_fails_at: usize,
     pub verdict_fails_at: usize,
+    /// Where each word starts.
+    pub start: usize,
+    pub offer: Offer,
+    pub completion_fails_at: usize,
+    pub update_fails_at: usize,
     pub wants_memory: bool,
 }
 
 impl Adviser {
-    /// A helper that finds every text valid, and never fails.
+    /// A helper that finds this of every text, offers nothing, and never fails.
     pub const fn new(verdict: Verdict, message: &'static str) -> Self {
         Adviser {
             verdict,
@@ -71,6 +87,10 @@ impl Adviser {
             completes: true,
             hint_fails_at: usize::MAX,
             verdict_fails_at: usize::MAX,
+            start: 0,
+            offer: Offer::Nothing,
+            completion_fails_at: usize::MAX,
+            update_fails_at: usize::MAX,
             wants_memory: false,
         }
     }
@@ -85,31 +105,65 @@ impl Adviser {
 }
 
 impl Completer for Adviser {
+    ghost use Rattle.std.specs.Prelude.{◌∷◌, []};
+    ghost use Rattle.editor_tests.specs.declared.helpers.Offer.TheVariants.{Nothing, One, Two};
+
     type Candidate = String;
 
-    ghost completion_of = { λ self line pos entries place. nothing_offered };
+    ghost completion_of = { λ self line pos entries place. gives_unless (nat_le self.completion_fails_at (length line))
+        (record {
+          start = self.start;
+          candidates = elim self.offer [
+            | Nothing ↦ []
+            | One a ↦ text_offered a.now ∷ []
+            | Two a b ↦ text_offered a.now ∷ (text_offered b.now ∷ [])
+          ];
+        }) };
 
-    ghost completing_fails = { λ self line pos entries place. false };
-
-    ghost updating_fails = { λ self line start elected. false };
+    ghost update_of = { λ self line start elected. gives_unless (nat_le self.update_fails_at (length elected)) (tt {0}) };
 
     fn complete<Hi: History>(
         &self,
         alloc: Global,
-        _line: &str,
+        line: &str,
         _pos: usize,
         _ctx: &Context<'_, Hi>,
     ) -> Result<(usize, Vec<String>), HookFault> {
-        Ok((0, Vec::new(alloc)))
+        if line.len() >= self.completion_fails_at {
+            return Err(self.fault());
+        }
+        let mut candidates = Vec::new(alloc);
+        match self.offer {
+            Offer::Nothing => {}
+            Offer::One(word) => candidates.push(String::from_str(alloc, word)?)?,
+            Offer::Two(word, other) => {
+                candidates.push(String::from_str(alloc, word)?)?;
+                candidates.push(String::from_str(alloc, other)?)?;
+            }
+        }
+        Ok((self.start, candidates))
+    }
+
+    fn update<L: ChangeListener>(
+        &self,
+        alloc: Global,
+        line: &mut LineBuffer,
+        start: usize,
+        elected: &str,
+        cl: &mut L,
+    ) -> Result<(), HookFault> {
+        if elected.len() >= self.update_fails_at {
+            return Err(self.fault());
+        }
+        update_line(alloc, line, start, elected, cl)
     }
 }
 
 impl Hinter for Adviser {
     type Hint = Rest;
 
-    ghost hint_of = { λ self line pos entries place. option_map (λ t. record { display = t; completion = if self.completes then Some t else None }) (history_hint line pos entries place) };
-
-    ghost fails = { λ self line pos entries place. nat_le self.hint_fails_at (length line) };
+    ghost hint_of = { λ self line pos entries place. gives_unless (nat_le self.hint_fails_at (length line))
+        (option_map (λ t. record { display = t; completion = if self.completes then Some t else None }) (history_hint line pos entries place)) };
 
     fn hint<Hi: History>(
         &self,
@@ -136,7 +190,7 @@ impl Highlighter for Adviser {
 
     ghost kept = { λ before after. after ≡ before };
 
-    ghost shown_as = { λ self part text. Some text };
+    ghost shown_as = { λ self part text. gives_at_once text };
 
     fn highlight<'l>(
         &self,
@@ -178,15 +232,13 @@ impl Validator for Adviser {
     ghost use Rattle.line_help.specs.declared.validate.ValidationResult.TheVariants as results;
     ghost use Rattle.editor_tests.specs.declared.helpers.Verdict.TheVariants.{Incomplete, Invalid, InvalidTold, Valid, ValidTold};
 
-    ghost verdict_of = { λ self text. elim self.verdict [
+    ghost verdict_of = { λ self text. gives_unless (nat_le self.verdict_fails_at (length text)) (elim self.verdict [
       | Incomplete ↦ results.Incomplete
       | Invalid ↦ results.Invalid None
       | InvalidTold ↦ results.Invalid (Some self.message.now)
       | Valid ↦ results.Valid None
       | ValidTold ↦ results.Valid (Some self.message.now)
-    ] };
-
-    ghost validating_fails = { λ self text. nat_le self.verdict_fails_at (length text) };
+    ]) };
 
     ghost while_typing = { λ self. false };
 
@@ -230,17 +282,11 @@ impl Adviser {
 impl Helper for Adviser {
     ghost use Rattle.std.proofs.Common.{ap};
 
-    ghost same_completions = { λ before after kept. refl };
+    ghost same_completions = { λ before after kept. ap ⟦<Adviser as Completer>⟧.completion_of kept };
 
-    ghost same_completing = { λ before after kept. refl };
-
-    ghost same_updating = { λ before after kept. refl };
+    ghost same_updates = { λ before after kept. ap ⟦<Adviser as Completer>⟧.update_of kept };
 
     ghost same_hints = { λ before after kept. ap ⟦<Adviser as Hinter>⟧.hint_of kept };
 
-    ghost same_hinting = { λ before after kept. ap ⟦<Adviser as Hinter>⟧.fails kept };
-
     ghost same_verdicts = { λ before after kept. ap ⟦<Adviser as Validator>⟧.verdict_of kept };
-
-    ghost same_validating = { λ before after kept. ap ⟦<Adviser as Validator>⟧.validating_fails kept };
 }

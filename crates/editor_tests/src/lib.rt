@@ -7,6 +7,10 @@ mod accepting;
 #[cfg(test)]
 mod calls;
 #[cfg(test)]
+mod completing;
+#[cfg(test)]
+mod counting;
+#[cfg(test)]
 mod desk;
 #[cfg(test)]
 mod faults;

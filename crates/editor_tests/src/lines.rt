@@ -20,7 +20,7 @@ use std::test::Fail;
 
 /// What a row types.
 #[derive(Drop)]
-struct Input {
+pub(crate) struct Input {
     typed: Vec<Typed>,
     after: After,
 }
@@ -35,7 +35,8 @@ fn item(alloc: Global, word: &str) -> Result<Typed, Fail> {
     }
 }
 
-fn typed(alloc: Global, words: &str) -> Result<Input, Fail> {
+/// Keys and pasted texts by a row's words.
+pub(crate) fn typed(alloc: Global, words: &str) -> Result<Input, Fail> {
     let mut input = Input {
         typed: Vec::new(alloc),
         after: After::End,
@@ -166,8 +167,8 @@ fn typed_over<H: Helper + Drop>(
     typed_on(alloc, stage, &mut desk, bindings, keys)
 }
 
-// What `run` leaves of the same line: its text, or why there is none, all calls, and what a yank would give.
-fn run_over<H: Helper + Drop>(
+/// What `run` leaves of the same line: its text, or why there is none, all calls, and what a yank would give.
+pub(crate) fn run_over<H: Helper + Drop>(
     alloc: Global,
     stage: &Stage,
     helper: Option<H>,

@@ -3,8 +3,8 @@
 #![tactic(auto)]
 
 use keyline::{
-    Bindings, BracketHelper, Cmd, Config, Ending, Event, EventHandler, KeyEvent, Movement,
-    ReadSource, ReadlineError, Session, SliceSource, WriteSink,
+    Bindings, Cmd, Config, Ending, Event, EventHandler, HelperParts, KeyEvent,
+    MatchingBracketValidator, Movement, ReadSource, ReadlineError, Session, SliceSource, WriteSink,
 };
 use std::alloc::Global;
 use std::io;
@@ -18,6 +18,16 @@ fn bindings(alloc: Global) -> Result<Bindings, ReadlineError> {
     Ok(bindings)
 }
 
+/// Validates brackets, and helps with nothing else.
+fn helper() -> HelperParts<(), (), (), MatchingBracketValidator> {
+    HelperParts {
+        completer: (),
+        hinter: (),
+        highlighter: (),
+        validator: MatchingBracketValidator::new(),
+    }
+}
+
 fn play(rt: &HostRuntime) -> Result<Ending, ReadlineError> {
     let alloc = rt.alloc();
     let session = Session::open(
@@ -25,7 +35,7 @@ fn play(rt: &HostRuntime) -> Result<Ending, ReadlineError> {
         Config::default(),
         bindings(alloc)?,
         SliceSource::new(b""),
-        Some(BracketHelper),
+        Some(helper()),
         "? ",
         ReadSource::new(rt.reader()),
         80,

@@ -2,12 +2,14 @@
 ghost use Rattle.std.specs.Prelude.{◌≡◌, List, ℕ, [], true, false, map, if◌then◌else◌, bytes_eq, IfOk, IfErr};
 ghost use Rattle.line_config.specs.declared.errors.HookFault.TheVariants.{Memory};
 ghost use Rattle.line_help.specs.FileNames.{Named};
+ghost use Rattle.line_keys.specs.Replies.{gives, gives_unless};
 
+use crate::words::completer_of;
 use line_buffer::{LineBuffer, NoListener};
 use line_config::HookFault;
 use line_help::{
-    Candidate, Completer, Context, FilenameCompleter, Listed, Lister, MemHistory, Pair, Quote,
-    escape, extract_word, longest_common_prefix, unescape,
+    Candidate, Completer, Context, FilenameCompleter, HelperParts, Listed, Lister, MemHistory,
+    Pair, Quote, WordCompleter, escape, extract_word, longest_common_prefix, unescape,
 };
 use stand_ins::lines::{line_of, shown_of};
 use stand_ins::rows::{Player, rows_hold, trimmed};
@@ -47,9 +49,7 @@ struct Folder {
 }
 
 impl Lister for Folder {
-    ghost held_in = { λ s dir. if bytes_eq dir s.path.now then map (λ p. record { name = p.0.now; is_dir = p.1 }) s.names.now else [] };
-
-    ghost listing_fails = { λ s dir. false };
+    ghost held_in = { λ s dir. gives (if bytes_eq dir s.path.now then map (λ p. record { name = p.0.now; is_dir = p.1 }) s.names.now else []) };
 
     fn list(&self, alloc: Global, dir: &str) -> Result<Vec<Listed>, HookFault> {
         let mut all = Vec::new(alloc);
@@ -77,16 +77,18 @@ fn listed(alloc: Global, name: &str, is_dir: bool) -> Result<Listed, HookFault>
 struct Broken;
 
 impl Lister for Broken {
-    ghost held_in = { λ s dir. [] };
-
-    ghost listing_fails = { λ s dir. true };
+    ghost held_in = { λ s dir. gives_unless true [] };
 
     fn list(&self, _alloc: Global, _dir: &str) -> Result<Vec<Listed>, HookFault> {
         Err(HookFault::Failed)
     }
 }
 
-// The line with a bar where the completed word begins, and after it each candidate with its replacement.
+/// How many candidates are told.
+const TOLD: usize = 12;
+
+// The line with a bar where the completed word begins, and after it each candidate with its replacement; of many the first ones
+// and their number.
 fn told<C: Candidate>(
     alloc: Global,
     line: &str,
@@ -94,9 +96,13 @@ fn told<C: Candidate>(
     candidates: &[C],
 ) -> Result<String, AllocError> {
     let mut said = marked(alloc, line, start)?;
-    for candidate in candidates {
+    for candidate in candidates.iter().take(TOLD) {
         let (display, replacement) = (candidate.display(), candidate.replacement());
         write!(said, "; {display}→{replacement}")?;
+    }
+    let count = candidates.len();
+    if count > TOLD {
+        write!(said, "; {count} in all")?;
     }
     Ok(said)
 }
@@ -136,6 +142,8 @@ const IN_USR: &str = r#"
     sorted ls /usr/m                = ls |/usr/m; my file→/usr/my\ file
     sorted ls "/usr/m               = ls "|/usr/m; my file→/usr/my file
     sorted ls '/usr/m               = ls '|/usr/m; my file→/usr/my file
+    sorted ls "/usr/my f            = ls "|/usr/my f; my file→/usr/my file
+    sorted ls '/usr/my f            = ls '|/usr/my f; my file→/usr/my file
     sorted ls /usr/my\ f            = ls |/usr/my\ f; my file→/usr/my\ file
     sorted ls "/usr/a               = ls "|/usr/a; a"$b`\'→/usr/a\"\$b\`\\'
     sorted ls '/usr/a               = ls '|/usr/a; a"$b`\'→/usr/a"$b`\'
@@ -218,7 +226,11 @@ fn completed_at<C: Completer>(
 }
 
 // What a completer answers to a line with the cursor.
-fn completed<C: Completer>(alloc: Global, completer: &C, line: &str) -> Result<String, AllocError> {
+pub(crate) fn completed<C: Completer>(
+    alloc: Global,
+    completer: &C,
+    line: &str,
+) -> Result<String, AllocError> {
     let (line, pos) = line_and_place(alloc, line)?;
     completed_at(alloc, completer, line.as_str(), pos)
 }
@@ -288,13 +300,13 @@ const UPDATES: &str = "
     cat [| x : été    = cat été| x
 ";
 
-/// A completer in a box.
+/// Updates lines by a completer.
 #[derive(Drop)]
-struct Updater {
-    completer: Box<()>,
+struct Updater<C> {
+    completer: C,
 }
 
-impl Updater {
+impl<C: Completer> Updater<C> {
     // Replaces the text from a place to the cursor.
     fn update(
         &self,
@@ -324,7 +336,7 @@ impl Updater {
     }
 }
 
-impl Player for Updater {
+impl<C: Completer> Player for Updater<C> {
     fn play(&mut self, alloc: Global, call: &str) -> Result<String, Fail> {
         let (line, elected) = call.split_once(':').unwrap_or((call, ""));
         let start = line.find('[').unwrap_or(0);
@@ -336,7 +348,32 @@ impl Player for Updater {
 #[test]
 fn updates(rt: HostRuntime) -> Result<(), Fail> {
     let completer = Box::new(rt.alloc(), ())?;
-    rows_hold(rt.alloc(), &mut Updater { completer }, UPDATES)
+    rows_hold(rt.alloc(), &mut Updater { completer }, UPDATES)?;
+    let completer = completer_of(rt.alloc(), "log")?;
+    rows_hold(
+        rt.alloc(),
+        &mut Updater {
+            completer: in_parts(Some(completer)),
+        },
+        UPDATES,
+    )?;
+    rows_hold(
+        rt.alloc(),
+        &mut Updater {
+            completer: in_parts(None),
+        },
+        UPDATES,
+    )
+}
+
+// A helper that completes words, where they are there.
+fn in_parts(completer: Option<WordCompleter>) -> HelperParts<Option<WordCompleter>, (), (), ()> {
+    HelperParts {
+        completer,
+        hinter: (),
+        highlighter: (),
+        validator: (),
+    }
 }
 
 // Where the last word of a line begins, and the word; a text escaped, bare or in quotes; and unescaped. The character that

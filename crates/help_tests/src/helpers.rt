@@ -2,15 +2,17 @@
 ghost use Rattle.std.specs.Prelude.{◌≡◌, if◌then◌else◌, None, Some, true, false, IfOk, refl};
 ghost use Rattle.std.proofs.Common.{ap};
 ghost use Rattle.line_help.specs.Completion.{nothing_offered};
+ghost use Rattle.line_keys.specs.Replies.{Replies, gives, gives_at_once, gives_unless, itself};
 ghost use Rattle.line_config.specs.declared.errors.HookFault.{HookFault};
 ghost use Rattle.line_help.specs.declared.validate.ValidationResult.TheVariants.{Valid};
 
+use crate::words::completer_of;
 use line_buffer::{ChangeListener, LineBuffer};
 use line_config::{CompletionType, HookFault};
 use line_help::{
-    Completer, Context, Helper, Highlighter, Hint, Hinter, History, HistoryHinter,
+    Completer, Context, Helper, HelperParts, Highlighter, Hint, Hinter, History, HistoryHinter,
     MatchingBracketHighlighter, MatchingBracketValidator, MemHistory, Prompt, ValidationContext,
-    ValidationResult, Validator,
+    ValidationResult, Validator, WordCompleter,
 };
 use line_keys::CmdKind;
 use stand_ins::rows::{Player, rows_hold};
@@ -19,131 +21,13 @@ use std::alloc::{AllocError, Global};
 use std::borrow::CowStr;
 use std::test::Fail;
 
-/// Hints from the history, brackets shown and validated, and no candidates.
-#[derive(Drop)]
-pub struct Whole {
-    hinter: HistoryHinter,
-    highlighter: MatchingBracketHighlighter,
-    validator: MatchingBracketValidator,
-}
-
-impl Completer for Whole {
-    type Candidate = String;
-
-    ghost completion_of = { λ self line pos entries place. nothing_offered };
-
-    ghost completing_fails = { λ self line pos entries place. false };
-
-    ghost updating_fails = { λ self line start elected. false };
-
-    fn complete<Hi: History>(
-        &self,
-        alloc: Global,
-        _line: &str,
-        _pos: usize,
-        _ctx: &Context<'_, Hi>,
-    ) -> Result<(usize, Vec<String>), HookFault> {
-        Ok((0, Vec::new(alloc)))
-    }
-}
-
-impl Hinter for Whole {
-    type Hint = String;
-
-    ghost hint_of = { λ self. ⟦<HistoryHinter as Hinter>⟧.hint_of self.hinter };
-
-    ghost fails = { λ self. ⟦<HistoryHinter as Hinter>⟧.fails self.hinter };
-
-    fn hint<Hi: History>(
-        &self,
-        alloc: Global,
-        line: &str,
-        pos: usize,
-        ctx: &Context<'_, Hi>,
-    ) -> Result<Option<String>, HookFault> {
-        self.hinter.hint(alloc, line, pos, ctx)
-    }
-}
-
-impl Highlighter for Whole {
-    ghost marks = { λ self. ⟦<MatchingBracketHighlighter as Highlighter>⟧.marks self.highlighter };
-
-    ghost kept = { λ before after. (after.hinter ≡ before.hinter) × (after.validator ≡ before.validator) };
-
-    ghost shown_as = { λ self. ⟦<MatchingBracketHighlighter as Highlighter>⟧.shown_as self.highlighter };
-
-    fn highlight<'l>(
-        &self,
-        alloc: Global,
-        line: &'l str,
-        pos: usize,
-    ) -> Result<CowStr<'l>, HookFault> {
-        self.highlighter.highlight(alloc, line, pos)
-    }
-
-    fn highlight_prompt<'p>(
-        &self,
-        alloc: Global,
-        prompt: &'p str,
-        default: bool,
-    ) -> Result<CowStr<'p>, HookFault> {
-        self.highlighter.highlight_prompt(alloc, prompt, default)
-    }
-
-    fn highlight_hint<'h>(&self, alloc: Global, hint: &'h str) -> Result<CowStr<'h>, HookFault> {
-        self.highlighter.highlight_hint(alloc, hint)
-    }
-
-    fn highlight_candidate<'c>(
-        &self,
-        alloc: Global,
-        candidate: &'c str,
-        completion: CompletionType,
-    ) -> Result<CowStr<'c>, HookFault> {
-        self.highlighter
-            .highlight_candidate(alloc, candidate, completion)
-    }
-
-    fn highlight_char(&mut self, line: &str, pos: usize, kind: CmdKind) -> bool {
-        self.highlighter.highlight_char(line, pos, kind)
-    }
-}
-
-impl Validator for Whole {
-    ghost verdict_of = { λ self. ⟦<MatchingBracketValidator as Validator>⟧.verdict_of self.validator };
-
-    ghost validating_fails = { λ self. ⟦<MatchingBracketValidator as Validator>⟧.validating_fails self.validator };
-
-    ghost while_typing = { λ self. ⟦<MatchingBracketValidator as Validator>⟧.while_typing self.validator };
-
-    fn validate(
-        &self,
-        alloc: Global,
-        ctx: &ValidationContext<'_>,
-    ) -> Result<ValidationResult, HookFault> {
-        self.validator.validate(alloc, ctx)
-    }
-
-    fn validate_while_typing(&self) -> bool {
-        self.validator.validate_while_typing()
-    }
-}
-
-impl Helper for Whole {
-    ghost same_completions = { λ before after kept. refl };
-
-    ghost same_completing = { λ before after kept. refl };
-
-    ghost same_updating = { λ before after kept. refl };
-
-    ghost same_hints = { λ before after kept. ap ⟦<HistoryHinter as Hinter>⟧.hint_of kept.0 };
-
-    ghost same_hinting = { λ before after kept. ap ⟦<HistoryHinter as Hinter>⟧.fails kept.0 };
-
-    ghost same_verdicts = { λ before after kept. ap ⟦<MatchingBracketValidator as Validator>⟧.verdict_of kept.1 };
-
-    ghost same_validating = { λ before after kept. ap ⟦<MatchingBracketValidator as Validator>⟧.validating_fails kept.1 };
-}
+/// Words, hints from the history, and brackets shown and validated.
+type Whole = HelperParts<
+    WordCompleter,
+    HistoryHinter,
+    MatchingBracketHighlighter,
+    MatchingBracketValidator,
+>;
 
 /// Refuses every call that can be refused: as failed, or for want of memory.
 #[derive(Drop)]
@@ -167,11 +51,9 @@ impl Refusing {
 impl Completer for Refusing {
     type Candidate = String;
 
-    ghost completion_of = { λ self line pos entries place. nothing_offered };
+    ghost completion_of = { λ self line pos entries place. gives_unless self.fails nothing_offered };
 
-    ghost completing_fails = { λ self line pos entries place. self.fails };
-
-    ghost updating_fails = { λ self line start elected. self.fails };
+    ghost update_of = { λ self line start elected. gives_unless self.fails (tt {0}) };
 
     fn complete<Hi: History>(
         &self,
@@ -198,9 +80,7 @@ impl Completer for Refusing {
 impl Hinter for Refusing {
     type Hint = String;
 
-    ghost hint_of = { λ self line pos entries place. None };
-
-    ghost fails = { λ self line pos entries place. self.fails };
+    ghost hint_of = { λ self line pos entries place. gives_unless self.fails None };
 
     fn hint<Hi: History>(
         &self,
@@ -218,7 +98,7 @@ impl Highlighter for Refusing {
 
     ghost kept = { λ before after. after ≡ before };
 
-    ghost shown_as = { λ self part text. if self.fails then None else Some text };
+    ghost shown_as = { λ self part text. gives_unless self.fails text };
 
     fn highlight<'l>(
         &self,
@@ -257,9 +137,7 @@ impl Highlighter for Refusing {
 }
 
 impl Validator for Refusing {
-    ghost verdict_of = { λ self text. Valid None };
-
-    ghost validating_fails = { λ self text. self.fails };
+    ghost verdict_of = { λ self text. gives_unless self.fails (Valid None) };
 
     ghost while_typing = { λ self. false };
 
@@ -277,19 +155,13 @@ impl Validator for Refusing {
 }
 
 impl Helper for Refusing {
-    ghost same_completions = { λ before after kept. refl };
+    ghost same_completions = { λ before after kept. ap ⟦<Refusing as Completer>⟧.completion_of kept };
 
-    ghost same_completing = { λ before after kept. ap (λ (r : _) line pos entries place. r.fails) kept };
+    ghost same_updates = { λ before after kept. ap ⟦<Refusing as Completer>⟧.update_of kept };
 
-    ghost same_updating = { λ before after kept. ap (λ (r : _) line start elected. r.fails) kept };
+    ghost same_hints = { λ before after kept. ap ⟦<Refusing as Hinter>⟧.hint_of kept };
 
-    ghost same_hints = { λ before after kept. refl };
-
-    ghost same_hinting = { λ before after kept. ap (λ (r : _) line pos entries place. r.fails) kept };
-
-    ghost same_verdicts = { λ before after kept. refl };
-
-    ghost same_validating = { λ before after kept. ap (λ (r : _) text. r.fails) kept };
+    ghost same_verdicts = { λ before after kept. ap ⟦<Refusing as Validator>⟧.verdict_of kept };
 }
 
 /// What a helper finds of a line after a drawing of it: what it found before.
@@ -298,7 +170,7 @@ fn verdict_after_drawing<H: Helper>(
     helper: &mut H,
     line: &str,
 ) -> Result<ValidationResult, HookFault>
-    ensures { IfOk result (λ found. found ≡ H.verdict_of helper.old line.now) }
+    ensures { Replies (H.verdict_of helper.old line.now) itself result }
 {
     let _marked = helper.highlight_char(line, line.len(), CmdKind::Other);
     helper.validate(alloc, &ValidationContext::new(line))
@@ -320,6 +192,7 @@ fn shown<'t, H: Helper>(
     match call {
         "prompt" => helper.highlight_prompt(alloc, text, true),
         "hint_shown" => helper.highlight_hint(alloc, text),
+        "listed" => helper.highlight_candidate(alloc, text, CompletionType::List),
         _ => helper.highlight(alloc, text, text.len()),
     }
 }
@@ -360,6 +233,10 @@ fn count_told(alloc: Global, answer: Result<usize, HookFault>) -> Result<String,
     }
 }
 
+fn bool_told(alloc: Global, answer: bool) -> Result<String, AllocError> {
+    format!(in alloc; "{answer}")
+}
+
 fn verdict_told(
     alloc: Global,
     answer: Result<ValidationResult, HookFault>,
@@ -382,6 +259,7 @@ fn asked<H: Helper>(
         "verdict" => verdict_told(alloc, verdict_after_drawing(alloc, helper, text)),
         "hint" => hint_told(alloc, helper.hint(alloc, text, text.len(), context)),
         "candidates" => count_told(alloc, candidates(alloc, helper, text, context)),
+        "while_typing" => bool_told(alloc, helper.validate_while_typing()),
         _ => shown_told(alloc, shown(alloc, helper, call, text)),
     }
 }
@@ -415,11 +293,22 @@ fn answers<H: Helper + Drop>(
     rows_hold(alloc, &mut Answering { helper, history }, table)
 }
 
-fn make_helper() -> Whole {
-    Whole {
+fn make_helper(alloc: Global) -> Result<Whole, AllocError> {
+    Ok(HelperParts {
+        completer: completer_of(alloc, "(help) (hello) hello")?,
         hinter: HistoryHinter::new(),
         highlighter: MatchingBracketHighlighter::new(),
         validator: MatchingBracketValidator::new(),
+    })
+}
+
+// Each part in its place: two of them fail, and two want memory.
+fn make_refusing() -> HelperParts<Refusing, Refusing, Refusing, Refusing> {
+    HelperParts {
+        completer: Refusing { fails: true },
+        hinter: Refusing { fails: false },
+        highlighter: Refusing { fails: true },
+        validator: Refusing { fails: false },
     }
 }
 
@@ -427,10 +316,50 @@ const EVERYTHING: &str = r#"
     verdict (a)         = Valid(None)
     highlight (a)       = "␛[1;34m(␛[0ma)"
     prompt >␠           = "> "
+    hint_shown (a)      = "(a)"
+    listed (a)          = "(a)"
     verdict (a          = Incomplete
+    while_typing        = false
     hint (he            = llo)
-    candidates (he      = 0
+    candidates (he      = 2
 "#;
+
+const REFUSED_BY_PARTS: &str = "
+    candidates a        = Failed
+    hint a              = Memory
+    highlight a         = Failed
+    prompt a            = Failed
+    hint_shown a        = Failed
+    listed a            = Failed
+    verdict a           = Memory
+";
+
+const BRACKETS_ALONE: &str = "
+    verdict (a          = Incomplete
+    while_typing        = false
+    candidates (he      = 0
+";
+
+const WORDS_ALONE: &str = "
+    verdict (a          = Valid(None)
+    while_typing        = false
+    candidates he       = 2
+";
+
+/// Words and brackets, each where it is wanted.
+type Wanted = HelperParts<Option<WordCompleter>, (), (), Option<MatchingBracketValidator>>;
+
+fn make_wanted(
+    completer: Option<WordCompleter>,
+    validator: Option<MatchingBracketValidator>,
+) -> Wanted {
+    HelperParts {
+        completer,
+        hinter: (),
+        highlighter: (),
+        validator,
+    }
+}
 
 const NOTHING: &str = "
     verdict (a]         = Valid(None)
@@ -456,10 +385,24 @@ const WANTS_MEMORY: &str = "
 
 #[test]
 fn what_helpers_answer(rt: HostRuntime) -> Result<(), Fail> {
-    answers(rt.alloc(), make_helper(), "(hello)", EVERYTHING)?;
+    let whole = make_helper(rt.alloc())?;
+    answers(rt.alloc(), whole, "(hello)", EVERYTHING)?;
     answers(rt.alloc(), (), "hello", NOTHING)?;
     answers(rt.alloc(), Refusing { fails: true }, "a", FAILED)?;
     answers(rt.alloc(), Refusing { fails: false }, "a", WANTS_MEMORY)
+}
+
+#[test]
+fn helpers_of_parts(rt: HostRuntime) -> Result<(), Fail> {
+    let words = completer_of(rt.alloc(), "help hello")?;
+    answers(rt.alloc(), make_refusing(), "a", REFUSED_BY_PARTS)?;
+    answers(
+        rt.alloc(),
+        make_wanted(None, Some(MatchingBracketValidator::new())),
+        "",
+        BRACKETS_ALONE,
+    )?;
+    answers(rt.alloc(), make_wanted(Some(words), None), "", WORDS_ALONE)
 }
 
 // A prompt in both versions.

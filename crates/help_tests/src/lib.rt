@@ -11,3 +11,5 @@ mod failing;
 mod helpers;
 #[cfg(test)]
 mod history;
+#[cfg(test)]
+mod words;

@@ -59,8 +59,8 @@ module _ {D L : Type 0} (shows : D → Bool) (shown : D → List ℕ) (show_fail
 
   -- the history could take no line
   pub closes_unkept : (adds : Bool) (text : List ℕ) (d d' : D) (l : L) (h h' : Filed) (result : Result (Unit {0}) ReadlineError) (e : ReadlineError)
-      → Takes shows shown d d' row_break → result ≡ Err e → e ≡ Memory → h' ≡ h → Ends adds (Ok text) (work d l h) (work d' l h') result
-  closes_unkept adds text d d' l h h' result e drawn is memory kept =
+      → Takes shows shown d d' row_break → result ≡ Err e → e ≡ Memory → IsTrue adds → h' ≡ h → Ends adds (Ok text) (work d l h) (work d' l h') result
+  closes_unkept adds text d d' l h h' result e drawn is memory adding kept =
       let now : result ≡ Err Memory = is ∙ ap (λ e. Err e) memory in
       record {
         goes = inr (λ coming. record {
@@ -72,8 +72,9 @@ module _ {D L : Type 0} (shows : D → Bool) (shown : D → List ℕ) (show_fail
             first = refl;
             begun = [];
             torn = [];
-            stops = (inl refl, refl, refl);
+            stops = (inl (refl, adding), refl, refl);
             drawn = subst (Takes shows shown d d') (sym (append-nil (row_break ++ []) ∙ append-nil row_break)) drawn;
+            helped = tt;
             wrote = takes_none writes written_in l l refl;
             history_is = kept ∙ sym (remembered_none adds h);
           };
@@ -110,8 +111,9 @@ module _ {D L : Type 0} (shows : D → Bool) (shown : D → List ℕ) (show_fail
             first = refl;
             begun = [];
             torn = torn.0;
-            stops = let P : ReadlineError → Type 0 = λ e. Stops e coming (Writes text ∷ []) coming [] torn.0 in subst P (sym named) (refl, refl, (torn.1, torn.2));
+            stops = let P : ReadlineError → Type 0 = λ e. Stops adds e coming (Writes text ∷ []) coming [] torn.0 in subst P (sym named) (refl, refl, (torn.1, torn.2));
             drawn = subst (Takes shows shown d d') (sym (append-nil (row_break ++ []) ∙ append-nil row_break)) drawn;
+            helped = tt;
             wrote = torn.3;
             history_is = kept;
           };

@@ -5,11 +5,12 @@ use Rattle.line_buffer.specs.declared.layout.Layout.{Layout}
 use Rattle.line_config.specs.declared.errors.ReadlineError.{ReadlineError}
 use Rattle.line_editor.specs.Acts.{Act, Sees, Gets, Obeys}
 use Rattle.line_editor.specs.Calls.{Call}
+use Rattle.line_editor.specs.Calls.Call.{Help}
 use Rattle.line_editor.specs.Lines.{Told}
 use Rattle.line_editor.specs.Redraws.{fresh}
 use Rattle.line_screen.specs.Calls.{Screen}
 use Rattle.line_keys.specs.Coming.{Coming}
-use Rattle.keyline.specs.Deeds.{SessionDeed, Draws, Hears, Keeps, Writes, bytes_drawn, left_of_deeds, lines_kept, lines_written, call_deeds, act_deeds, acts_in, close_deeds, line_deeds, deeds_after, session_deeds, AreFirst, DeedsTell}
+use Rattle.keyline.specs.Deeds.{SessionDeed, Draws, Helped, Hears, Keeps, Writes, bytes_drawn, left_of_deeds, lines_kept, lines_written, call_deeds, act_deeds, acts_in, close_deeds, line_deeds, deeds_after, session_deeds, AreFirst, DeedsTell}
 use Rattle.keyline.specs.Playing.{accepted_of}
 use Rattle.keyline.specs.Sessions.{Given, SessionState, Report, line_in, after_line, line_reported, line_bytes, display_bytes, session}
 use Rattle.keyline.specs.Shows.{drawn_by}
@@ -54,6 +55,7 @@ told (suc n) g x =
 abbrev Ordered : List (List ℕ) → List SessionDeed → Type 0
 Ordered hand [] = ⊤
 Ordered hand (Draws bytes ∷ more) = Ordered hand more
+Ordered hand (Helped fails ∷ more) = Ordered hand more
 Ordered hand (Hears rest ∷ more) = Ordered hand more
 Ordered hand (Keeps line ∷ more) = (hand ≡ []) × Ordered (line ∷ []) more
 Ordered hand (Writes line ∷ more) = (hand ≡ line ∷ []) × Ordered [] more
@@ -66,6 +68,7 @@ record Hand (hand : List (List ℕ)) (done : List SessionDeed) : Type 0 where
 hand_of : (hand : List (List ℕ)) (done next : List SessionDeed) → length hand ≤ 1 → Ordered hand (done ++ next) → Hand hand done
 hand_of hand [] next one is = record { in_hand = hand; one = one; kept = append-nil hand }
 hand_of hand (Draws bytes ∷ done) next one is = let r = hand_of hand done next one is in record { in_hand = r.in_hand; one = r.one; kept = r.kept }
+hand_of hand (Helped fails ∷ done) next one is = let r = hand_of hand done next one is in record { in_hand = r.in_hand; one = r.one; kept = r.kept }
 hand_of hand (Hears rest ∷ done) next one is = let r = hand_of hand done next one is in record { in_hand = r.in_hand; one = r.one; kept = r.kept }
 hand_of hand (Keeps line ∷ done) next one is =
     let r = hand_of (line ∷ []) done next (search arith) is.1 in
@@ -76,7 +79,8 @@ hand_of hand (Writes line ∷ done) next one is =
 
 ordered_calls : (s : Screen) (calls : List Call) (more : List SessionDeed) → Ordered [] more → Ordered [] (call_deeds s calls ++ more)
 ordered_calls s [] more is = is
-ordered_calls s (call ∷ calls) more is = ordered_calls s calls more is
+ordered_calls s (Help fails ∷ calls) more is = ordered_calls s calls more is
+ordered_calls s (_ ∷ calls) more is = ordered_calls s calls more is
 
 ordered_acts : (s : Screen) (l : Layout) (acts : List Act) (more : List SessionDeed) → Ordered [] more → Ordered [] (act_deeds s l acts ++ more)
 ordered_acts s l [] more is = is

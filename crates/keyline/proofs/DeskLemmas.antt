@@ -15,7 +15,7 @@ use Rattle.line_editor.specs.Acts.{stage}
 use Rattle.line_editor.specs.Courses.{breaks_after}
 use Rattle.line_editor.specs.Lines.{Told}
 use Rattle.line_editor.specs.Redraws.{fresh}
-use Rattle.line_editor.specs.Running.{Helping, HelperFails, Runs, WholeLine, CutLine, acts_meant, line_meant, outcome_of, line_calls, setting_by}
+use Rattle.line_editor.specs.Running.{Helping, Runs, WholeLine, CutLine, acts_meant, line_meant, outcome_of, line_calls, setting_by}
 use Rattle.line_editor.specs.States.{reason_of}
 use Rattle.line_editor.specs.Turning.{cause_of}
 use Rattle.line_editor.specs.Values.{Setting}
@@ -31,9 +31,9 @@ use Rattle.keyline.specs.Closing.{Closes, CloseReason, work}
 use Rattle.keyline.specs.Deeds.{SessionDeed, act_deeds, acts_in, close_deeds, line_deeds}
 use Rattle.keyline.specs.Desks.{Known, Lined, TakesLine, DeskReason, feed_of, hearing, work_of}
 use Rattle.keyline.specs.Playing.{Work, Cut, LineWhole, LineCut, SessionReason}
-use Rattle.keyline.specs.Sessions.{Given, given_by, breaks, line_in, history_after}
+use Rattle.keyline.specs.Sessions.{Given, given_by, breaks, calls_of, line_in, history_after}
 use Rattle.keyline.specs.declared.desk.Desk.{Desk}
-use Rattle.keyline.proofs.DeedLemmas.{cut_acts, cut_after, cut_more, done_acts}
+use Rattle.keyline.proofs.DeedLemmas.{Answered, cut_acts, cut_after, deeds_answered, done_acts, made_answered}
 use Rattle.line_config.proofs.Taking.{takes_then}
 
 -- ---- faults
@@ -46,17 +46,14 @@ unbroken failed hook Memory r = refl
 unbroken failed hook _ r = absurd r
 
 -- the reasons of a line are those of a desk
-reason_by : (told : Bool) (g : Given) (source display lines : Bool) (feed : KeyFeed) (hook : Type 0) (e : ReadlineError)
-    → (feed.reason e → e ≡ Reader → IsTrue source)
-    → (hook → IsTrue told → (shown : List (List ℕ)) × HelperFails g.helping shown)
-    → cause_of g.custom display hook feed e → SessionReason told g source display lines e
-reason_by told g source display lines feed hook Reader of_source of_hook c = of_source c refl
-reason_by told g source display lines feed hook Display of_source of_hook c = c
-reason_by told g source display lines feed hook Lines of_source of_hook c = absurd c
-reason_by told g source display lines feed hook HistoryText of_source of_hook c = absurd c
-reason_by told g source display lines feed hook Helper of_source of_hook c = of_hook c
-reason_by told g source display lines feed hook Handler of_source of_hook c = c
-reason_by told g source display lines feed hook _ of_source of_hook c = tt
+reason_by : (g : Given) (source display lines : Bool) (feed : KeyFeed) (hook : Type 0) (e : ReadlineError) → (feed.reason e → e ≡ Reader → IsTrue source)
+    → cause_of g.custom display hook feed e → SessionReason g source display lines e
+reason_by g source display lines feed hook Reader of_source c = of_source c refl
+reason_by g source display lines feed hook Display of_source c = c
+reason_by g source display lines feed hook Lines of_source c = absurd c
+reason_by g source display lines feed hook HistoryText of_source c = absurd c
+reason_by g source display lines feed hook Handler of_source c = c
+reason_by g source display lines feed hook _ of_source c = tt
 
 -- ---- the outcome of a line as that of its end
 
@@ -106,8 +103,7 @@ module _ {S H D L K T : Type 0} (k : Known S D L) (helps : Option H → Helping)
   WentWhole t = WholeLine (canvas_of k.shows k.shown k.show_failed) t old.out ran.out ring (items_of k.feed reader).coming (outcome_of ran)
 
   abbrev WentCut : ℕ → Coming → Type 0
-  WentCut n heard = CutLine (canvas_of k.shows k.shown k.show_failed) (acts_meant n setting custom config old.ring heard)
-      (HelperFails (helps old.helper) old.history.kept.entries) (stage old.out heard old.ring) (stage ran.out (items_of k.feed reader).coming ring) (outcome_of ran)
+  WentCut n heard = CutLine (canvas_of k.shows k.shown k.show_failed) (acts_meant n setting custom config old.ring heard) (stage old.out heard old.ring) (stage ran.out (items_of k.feed reader).coming ring) (outcome_of ran)
 
   abbrev Went : ℕ → Coming → Type 0
   Went n heard = WentWhole (line_meant n setting custom config old.ring heard) ⊎ WentCut n heard
@@ -160,14 +156,21 @@ module _ {S H D L K T : Type 0} (k : Known S D L) (helps : Option H → Helping)
     abbrev CutAs : List SessionDeed → Coming → Type 0
     CutAs deeds heard = LineCut k.shows k.shown k.writes k.written_in config.auto_add_history deeds heard (work_of k old) (work_of k new) left result
 
+    -- the helper gave an answer wherever it was asked
+    answered : (n : ℕ) (heard : Coming) → let t = line_in n given (hearing k old heard) in WentWhole t → Answered (calls_of given.screen t)
+    answered n heard w =
+        let t = line_in n given (hearing k old heard) in made_answered (canvas_of k.shows k.shown k.show_failed) (calls_of given.screen t) old.out ran.out w.calls
+
     after_whole : (n : ℕ) (heard : Coming) → let x = hearing k old heard in WentWhole (line_in n given x) → EndedAs (line_in n given x).outcome
         → Lined k given (line_in n given x) (line_deeds n given x) heard old new result
     after_whole n heard w (inl c) =
-        let t = line_in n given (hearing k old heard) in
+        let x = hearing k old heard in
+        let t = line_in n given x in
         let sent = sent_in_all k.shows k.shown k.show_failed (line_calls (ruler_of (screen_of old.out)) t.turns) old.out ran.out w.calls in
         inl (
           whole_then k.shows k.shown k.writes k.written_in config.auto_add_history _ (break_if (breaks t.outcome)) t.outcome
               (sink_of old.out) (sink_of ran.out) (sink_of out) old.lines lines old.history history result sent.takes c,
+          deeds_answered n given x (answered n heard w),
           ap (λ r. record { ring = r; history = history; coming = left }) w.ring_is
               ∙ (ap (λ h. record { ring = t.ring; history = h; coming = left }) c.history_is
               ∙ ap (λ c'. record { ring = t.ring; history = history_after config.auto_add_history t.outcome old.history; coming = c' }) w.rest_is),
@@ -182,7 +185,7 @@ module _ {S H D L K T : Type 0} (k : Known S D L) (helps : Option H → Helping)
           result_is = end.result_is;
           goes = cut_after k.shows k.shown k.writes k.written_in config.auto_add_history
               (act_deeds given.screen (fresh given.screen.mode) (acts_in n given x)) (close_deeds t.outcome) heard left (work_of k old) at_end (work_of k new) left end.fault
-              (done_acts k.shows k.shown k.writes k.written_in config.auto_add_history old.lines old.history n given x old.out ran.out left sent.takes w.rest_is) end.goes;
+              (done_acts k.shows k.shown k.writes k.written_in config.auto_add_history old.lines old.history n given x old.out ran.out left sent.takes (answered n heard w) w.rest_is) end.goes;
         })
 
     after_cut : (n : ℕ) (heard : Coming) → (w : WentCut n heard) → StaysAs (Err w.fault) → CutAs (line_deeds n given (hearing k old heard)) heard
@@ -190,16 +193,10 @@ module _ {S H D L K T : Type 0} (k : Known S D L) (helps : Option H → Helping)
         let x = hearing k old heard in
         let s = screen_of old.out in
         let same = stays (unbroken _ _ w.fault w.cause) in
-        let acts = acts_in n given x in
-        let W : Work D L → Type 0 = λ after. Cut k.shows k.shown k.writes k.written_in config.auto_add_history (act_deeds s (fresh s.mode) acts) heard (work_of k old) after left w.fault in
+        let W : Work D L → Type 0 = λ after. Cut k.shows k.shown k.writes k.written_in config.auto_add_history (line_deeds n given x) heard (work_of k old) after left w.fault in
         let so = cut_acts k.shows k.shown k.writes k.written_in config.auto_add_history old.lines old.history k.show_failed s w.fault
-        acts (fresh s.mode) (stage old.out heard old.ring) (stage ran.out left ring) refl w.done in
-        record {
-          fault = w.fault;
-          result_is = same.1;
-          goes = cut_more k.shows k.shown k.writes k.written_in config.auto_add_history (act_deeds s (fresh s.mode) acts) (close_deeds (line_in n given x).outcome)
-              heard (work_of k old) (work_of k new) left w.fault (subst W (sym same.0) so);
-        }
+        (acts_in n given x) (close_deeds (line_in n given x).outcome) tt (fresh s.mode) (stage old.out heard old.ring) (stage ran.out left ring) refl w.done in
+        record { fault = w.fault; result_is = same.1; goes = subst W (sym same.0) so }
 
     lined : (n : ℕ) (heard : Coming) → Went n heard → Ends (outcome_of ran) → let x = hearing k old heard in
         Lined k given (line_in n given x) (line_deeds n given x) heard old new result
@@ -216,19 +213,18 @@ module _ {S H D L K T : Type 0} (k : Known S D L) (helps : Option H → Helping)
         ∙ ap (λ h. given_by config custom prompt (screen_of old.out) h) (runs.helper_stays t)
 
     reason_of_close : RunsAt → (e : ReadlineError) → CloseReason (outcome_of ran) (k.show_failed (sink_of ran.out)) (k.show_failed (sink_of out)) (k.write_failed lines) e
-        → DeskReason k (feed_of k old).told given new e
+        → DeskReason k given new e
     reason_of_close runs e (inl p) =
         let cause = err_given ran.outcome string_bytes e _ runs.reason p.0 in
-        let of_line = reason_by (feed_of k old).told given _ (k.show_failed (sink_of ran.out)) (k.write_failed lines) (items_of k.feed reader) _ e (λ r. r)
-        (λ hook t. (hook.0, subst (λ h. HelperFails h hook.0) (runs.helper_stays t) hook.1)) cause in
-        let P : Bool → Type 0 = λ failed. SessionReason (feed_of k old).told given (k.feed reader.bytes.source).failed failed (k.write_failed lines) e in
+        let of_line = reason_by given _ (k.show_failed (sink_of ran.out)) (k.write_failed lines) (items_of k.feed reader) _ e (λ r. r) cause in
+        let P : Bool → Type 0 = λ failed. SessionReason given (k.feed reader.bytes.source).failed failed (k.write_failed lines) e in
         subst P (sym p.1) of_line
     reason_of_close runs e (inr (inl p)) =
-        let P : ReadlineError → Type 0 = DeskReason k (feed_of k old).told given new in subst P (sym p.0) p.1
+        let P : ReadlineError → Type 0 = DeskReason k given new in subst P (sym p.0) p.1
     reason_of_close runs e (inr (inr (inl p))) =
-        let P : ReadlineError → Type 0 = DeskReason k (feed_of k old).told given new in subst P (sym p.0) p.1
+        let P : ReadlineError → Type 0 = DeskReason k given new in subst P (sym p.0) p.1
     reason_of_close runs e (inr (inr (inr p))) =
-        let P : ReadlineError → Type 0 = DeskReason k (feed_of k old).told given new in subst P (sym p) tt
+        let P : ReadlineError → Type 0 = DeskReason k given new in subst P (sym p) tt
 
     pub takes_line : RunsAt → Ends (outcome_of ran) → screen_of out ≡ screen_of ran.out → TakesLine k given given' old new result
     takes_line runs closes screen = record {
@@ -242,6 +238,6 @@ module _ {S H D L K T : Type 0} (k : Known S D L) (helps : Option H → Helping)
     }
       where
         if_err : (r : Result (Unit {0}) ReadlineError) → IfErr r (CloseReason (outcome_of ran) (k.show_failed (sink_of ran.out)) (k.show_failed (sink_of out)) (k.write_failed lines))
-            → IfErr r (DeskReason k (feed_of k old).told given new)
+            → IfErr r (DeskReason k given new)
         if_err (Ok u) p = tt
         if_err (Err e) p = reason_of_close runs e p

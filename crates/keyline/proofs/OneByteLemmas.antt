@@ -1,5 +1,5 @@
 -- The count of one byte.
-use Rattle.std.proofs.Common.{◌≡◌, ℕ, ◌+◌, ◌<◌, ◌==◌, ◌&&◌, not, nat_lt, nat_le, Bool, true, false, List, [], ◌∷◌, ◌++◌, take, length, None, is_some, encode_utf8, Result, Ok, refl, ap, ◌∙◌, append-nil, arith, if◌then◌else◌}
+use Rattle.std.proofs.Common.{◌≡◌, ℕ, ◌+◌, ◌<◌, ◌==◌, ◌&&◌, not, nat_lt, nat_le, Bool, true, false, List, [], ◌∷◌, ◌++◌, take, length, Option, Some, None, is_some, encode_utf8, Result, Ok, refl, ap, ◌∙◌, append-nil, arith, if◌then◌else◌}
 use Rattle.std.specs.List.{list_all, flat_map}
 use Rattle.std.proofs.lemmas.Bool.{and_parts, and_from, not-true, eq-eqb, lt-ltb, ltb-true}
 use Rattle.std.proofs.lemmas.Str.{encode_ascii}
@@ -13,12 +13,13 @@ use Rattle.line_keys.specs.declared.command.Cmd.{Cmd}
 use Rattle.line_keys.specs.declared.command.Cmd.TheVariants.{SelfInsert}
 use Rattle.line_record.specs.Ring.{Ring}
 use Rattle.line_editor.specs.Drawing.{drawn, asked_anew}
+use Rattle.line_keys.specs.Replies.{Reply}
 use Rattle.line_editor.specs.Inserting.{is_bare, may_be_typed, show_typed, insert_char}
 use Rattle.line_editor.specs.Lines.{Enacted, turned_by, phrase_enacted, turn_of}
 use Rattle.line_editor.specs.Redraws.{Redraw, full, nothing_asked, moved_by_call, typed_short, taken_short, may_type, may_take, one}
-use Rattle.line_editor.specs.Redraws.Redraw.{Drawn, Moved, Typed, Taken, Bared, ToEnd, Beeped, Cleared}
+use Rattle.line_editor.specs.Redraws.Redraw.{Drawn, Moved, Typed, Taken, Bared, ToEnd, Beeped, Cleared, Helped}
 use Rattle.line_editor.specs.Sights.{Sight, sight, Fits}
-use Rattle.line_editor.specs.Values.{Value, Setting, Effect, unchanged}
+use Rattle.line_editor.specs.Values.{Value, Setting, Effect, helped, hint_reply, unchanged}
 use Rattle.line_screen.specs.Calls.{Screen, bytes_of, ruler_of}
 use Rattle.line_screen.specs.Chain.{is_simple}
 use Rattle.keyline.specs.OneByte.{TellsSight, LayoutsTell, TypedAtEnd, OneByte}
@@ -58,6 +59,7 @@ one_tells s own l x ToEnd h fits =
     let t = moved_tells l x l.end (same_cell l.cursor l.end) h in
     record { info_is = t.info_is; given_is = t.given_is }
 one_tells s own l x Beeped h fits = h
+one_tells s own l x (Helped fails) h fits = h
 one_tells s own l x Cleared h fits = record { info_is = refl; given_is = refl }
 
 pub layouts_tell : LayoutsTell
@@ -71,16 +73,29 @@ may_type_it v w c printable plain end before after =
     and_from (v.line.place == length v.line.text) (list_all is_simple v.line.text && (is_printable c && (is_bare v && is_bare w))) (eq-eqb v.line.place (length v.line.text) end)
     (and_from (list_all is_simple v.line.text) (is_printable c && (is_bare v && is_bare w)) plain (and_from (is_printable c) (is_bare v && is_bare w) printable (and_from (is_bare v) (is_bare w) before after)))
 
--- its redraw is the short one
+-- its redraw is the short one, behind what the helper is asked
 shown_short : (a : Setting) (v u : Value) (c : ℕ) (b : Bool) → b ≡ true → is_printable c ≡ true → list_all is_simple v.line.text ≡ true → v.line.place ≡ length v.line.text → is_bare v ≡ true
-    → (let e = (if b then show_typed c 1 v a u else unchanged a u) in is_bare e.value ≡ true → e.redraws ≡ Typed a.prompt c e.value.line.text e.value.line.place ∷ [])
+    → (let e = (if b then show_typed c 1 v a u else unchanged a u) in
+    is_bare e.value ≡ true → e.redraws ≡ helped (hint_reply a u) ++ (Typed a.prompt c e.value.line.text e.value.line.place ∷ []))
 shown_short a v u c true room printable plain end before after =
-    let w = asked_anew a u in
-    ap (λ b. (if b then Typed a.prompt c w.line.text w.line.place else drawn a w) ∷ []) (may_type_it v w c printable plain end before after)
+    let w = (asked_anew a u).value in
+    ap (λ b. helped (hint_reply a u) ++ ((if b then Typed a.prompt c w.line.text w.line.place else drawn a w) ∷ [])) (may_type_it v w c printable plain end before after)
 shown_short a v u c false room printable plain end before after = cc
 
-typed_redraws : (a : Setting) (v : Value) (c : ℕ) → TypedAtEnd a v c → (let e = insert_char c 1 a v in e.redraws ≡ Typed a.prompt c e.value.line.text e.value.line.place ∷ [])
-typed_redraws a v c t = shown_short a v _ c (is_some (insertion c 1 v.line).answer) t.room t.printable t.plain t.end t.before t.after
+-- the helper is sent nothing
+help_bytes : {A : Type 0} (s : Screen) (l : Layout) (reply : Option (Reply A)) (redraws : List Redraw) → bytes_for s l (helped reply ++ redraws) ≡ bytes_for s l redraws
+help_bytes s l None redraws = refl
+help_bytes s l (Some reply) redraws = refl
+
+sent_short : (s : Screen) (l : Layout) (a : Setting) (v u : Value) (c : ℕ) (b : Bool) → b ≡ true → is_printable c ≡ true → list_all is_simple v.line.text ≡ true → v.line.place ≡ length v.line.text → is_bare v ≡ true
+    → (let e = (if b then show_typed c 1 v a u else unchanged a u) in is_bare e.value ≡ true → bytes_for s l e.redraws ≡ bytes_for s l (Typed a.prompt c e.value.line.text e.value.line.place ∷ []))
+sent_short s l a v u c b room printable plain end before after =
+    let e = (if b then show_typed c 1 v a u else unchanged a u) in
+    ap (bytes_for s l) (shown_short a v u c b room printable plain end before after) ∙ help_bytes s l (hint_reply a u) (Typed a.prompt c e.value.line.text e.value.line.place ∷ [])
+
+typed_bytes : (s : Screen) (l : Layout) (a : Setting) (v : Value) (c : ℕ) → TypedAtEnd a v c
+    → (let e = insert_char c 1 a v in bytes_for s l e.redraws ≡ bytes_for s l (Typed a.prompt c e.value.line.text e.value.line.place ∷ []))
+typed_bytes s l a v c t = sent_short s l a v _ c (is_some (insertion c 1 v.line).answer) t.room t.printable t.plain t.end t.before t.after
 
 short_bytes : (s : Screen) (l : Layout) (prompt : List ℕ) (c : ℕ) (text : List ℕ) (at : ℕ) → is_printable c ≡ true → l.has_info ≡ false → l.cursor.col + 1 < s.columns → bytes_for s l (Typed prompt c text at ∷ []) ≡ c ∷ []
 short_bytes s l prompt c text at printable none room =
@@ -97,4 +112,4 @@ unfolding turn_of
 one_byte s l a custom indent input r v coming c alone t none room =
     let p = phrase_enacted a custom input v coming in
     let w = (insert_char c 1 a v).value in
-    ap (bytes_for s l) (turned_redraws a indent r v c p p.answer alone.answer alone.made ∙ typed_redraws a v c t) ∙ short_bytes s l a.prompt c w.line.text w.line.place t.printable none room
+    ap (bytes_for s l) (turned_redraws a indent r v c p p.answer alone.answer alone.made) ∙ typed_bytes s l a v c t ∙ short_bytes s l a.prompt c w.line.text w.line.place t.printable none room

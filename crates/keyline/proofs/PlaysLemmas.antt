@@ -33,7 +33,7 @@ plays {S} {H} {D} {L} {T} k told held failed g desk end why history text text' s
   saves = saves;
   ending_is = is;
   reason =
-      let P : D → Type 0 = λ display. SessionReason (feed_of k desk).told g (k.feed source).failed (k.show_failed display) (k.write_failed end.lines) why in
-      let Q : S → Type 0 = λ source. SessionReason (feed_of k desk).told g (k.feed source).failed (k.show_failed (sink_of end.out)) (k.write_failed end.lines) why in
+      let P : D → Type 0 = λ display. SessionReason g (k.feed source).failed (k.show_failed display) (k.write_failed end.lines) why in
+      let Q : S → Type 0 = λ source. SessionReason g (k.feed source).failed (k.show_failed (sink_of end.out)) (k.write_failed end.lines) why in
       subst P (sym display_is) (subst Q (sym source_is) lines.reason);
 }

@@ -1,20 +1,19 @@
 -- Lines one after the other make a session: a line in front of a session, and the line that ends it.
 use Rattle.std.proofs.Common.{◌≡◌, ℕ, zero, suc, ◌<◌, Bool, true, false, List, [], ◌∷◌, ◌++◌, inl, inr, refl, sym, ap, ◌∙◌, subst, append-nil, IsTrue, Result, Ok, Err, arith}
 use Rattle.line_config.specs.declared.errors.ReadlineError.{ReadlineError}
-use Rattle.line_config.specs.declared.errors.ReadlineError.TheVariants.{Eof, Interrupted, NotUtf8, PasteOutOfPlace, Reader, Display, Lines, HistoryText, Helper, Handler, Memory}
+use Rattle.line_config.specs.declared.errors.ReadlineError.TheVariants.{Handler}
 use Rattle.line_config.specs.Sending.{Takes}
 use Rattle.line_editor.specs.Lines.{Told}
-use Rattle.line_editor.specs.Running.{HelperFails}
 use Rattle.line_help.specs.History.{Filed}
 use Rattle.line_keys.specs.Answers.{HandlerFails}
 use Rattle.line_keys.specs.Coming.{Coming}
 use Rattle.line_keys.specs.Early.{Heard}
-use Rattle.keyline.specs.Deeds.{SessionDeed, deeds_after, line_deeds, session_deeds}
+use Rattle.keyline.specs.Deeds.{SessionDeed, HelperAnswers, deeds_after, line_deeds, session_deeds}
 use Rattle.keyline.specs.Desks.{Known, Lined, TakesLine, TakesLines, DeskReason, HeardAt, feed_of, hearing, session_state_of, work_of}
 use Rattle.keyline.specs.Playing.{Work, LineWhole, LineCut, Cut, Reads}
-use Rattle.keyline.specs.Sessions.{Given, SessionState, Report, line_in, after_line, line_reported, line_text, lines_text, line_bytes, display_bytes, remembered, session}
+use Rattle.keyline.specs.Sessions.{Given, SessionState, Report, calls_of, line_in, after_line, line_reported, line_text, lines_text, line_bytes, display_bytes, remembered, session}
 use Rattle.keyline.specs.declared.desk.Desk.{Desk}
-use Rattle.keyline.proofs.DeedLemmas.{Done, cut_after, cut_more, done_line, remembered_none}
+use Rattle.keyline.proofs.DeedLemmas.{Answered, Done, answers_both, cut_after, cut_more, deeds_answered, deeds_ask, done_line, remembered_none}
 use Rattle.keyline.proofs.HeardSteps.{heard_before}
 use Rattle.line_config.proofs.Taking.{takes_then}
 
@@ -60,30 +59,36 @@ module _ {D L : Type 0} (shows : D → Bool) (shown : D → List ℕ) (writes : 
   then_reads : (t : Told) (o : Result (List ℕ) ReadlineError) (later : Report) (deeds more : List SessionDeed) (c c' : Coming) (old mid new : Work D L) (left : Coming) (why : ReadlineError)
       → Whole t o old mid (Ok (tt {0})) → Done shows shown writes written_in adds deeds c old mid c' → All later more c' mid new left why
       → All (line_reported t o later) (deeds ++ deeds_after o more) c old new left why
-  then_reads t (Ok text) later deeds more c c' old mid new left why w d (inl r) = inl (record {
-    why_is = r.why_is;
-    rest_is = r.rest_is;
-    history_is = r.history_is ∙ (ap (λ h. remembered adds later.accepted h) w.history_is ∙ remembered_more adds text later.accepted old.history);
-    drawn = takes_then shows shown old.display mid.display new.display (line_bytes g.screen t) (display_bytes g.screen later) w.drawn r.drawn;
-    wrote =
-        let P : List ℕ → Type 0 = λ line. Takes writes written_in old.lines new.lines (line ++ lines_text later.accepted) in
-        subst P (append-nil (line_text text)) (takes_then writes written_in old.lines mid.lines new.lines (lines_text (text ∷ [])) (lines_text later.accepted) w.wrote r.wrote);
-  })
+  then_reads t (Ok text) later deeds more c c' old mid new left why w d (inl (r, helped)) = inl (
+    record {
+      why_is = r.why_is;
+      rest_is = r.rest_is;
+      history_is = r.history_is ∙ (ap (λ h. remembered adds later.accepted h) w.history_is ∙ remembered_more adds text later.accepted old.history);
+      drawn = takes_then shows shown old.display mid.display new.display (line_bytes g.screen t) (display_bytes g.screen later) w.drawn r.drawn;
+      wrote =
+          let P : List ℕ → Type 0 = λ line. Takes writes written_in old.lines new.lines (line ++ lines_text later.accepted) in
+          subst P (append-nil (line_text text)) (takes_then writes written_in old.lines mid.lines new.lines (lines_text (text ∷ [])) (lines_text later.accepted) w.wrote r.wrote);
+    },
+    answers_both deeds more d.helped helped,
+  )
   then_reads t (Ok text) later deeds more c c' old mid new left why w d (inr r) =
       inr (cut_after shows shown writes written_in adds deeds more c c' old mid new left why d r)
   then_reads t (Err e) later deeds more c c' old mid new left why w d r = absurd (ok_not_err (tt {0}) e w.result_is)
 
   -- the line that ends the session
-  ends_reads : (t : Told) (o : Result (List ℕ) ReadlineError) (later : Report) (deeds : List SessionDeed) (c : Coming) (old new : Work D L) (left : Coming) (e : ReadlineError)
-      → Whole t o old new (Err e) → left ≡ t.rest → All (line_reported t o later) deeds c old new left e
-  ends_reads t (Ok text) later deeds c old new left e w rest = absurd (ok_not_err (tt {0}) e (sym w.result_is))
-  ends_reads t (Err d) later deeds c old new left e w rest = inl (record {
-    why_is = fault_by (Err e) e d refl w.result_is;
-    rest_is = rest;
-    history_is = w.history_is ∙ sym (remembered_none adds old.history);
-    drawn = let P : List ℕ → Type 0 = Takes shows shown old.display new.display in subst P (sym (append-nil (line_bytes g.screen t))) w.drawn;
-    wrote = w.wrote;
-  })
+  ends_reads : (t : Told) (o : Result (List ℕ) ReadlineError) (later : Report) (deeds more : List SessionDeed) (c : Coming) (old new : Work D L) (left : Coming) (e : ReadlineError)
+      → Whole t o old new (Err e) → HelperAnswers deeds → left ≡ t.rest → All (line_reported t o later) (deeds ++ deeds_after o more) c old new left e
+  ends_reads t (Ok text) later deeds more c old new left e w helped rest = absurd (ok_not_err (tt {0}) e (sym w.result_is))
+  ends_reads t (Err d) later deeds more c old new left e w helped rest = inl (
+    record {
+      why_is = fault_by (Err e) e d refl w.result_is;
+      rest_is = rest;
+      history_is = w.history_is ∙ sym (remembered_none adds old.history);
+      drawn = let P : List ℕ → Type 0 = Takes shows shown old.display new.display in subst P (sym (append-nil (line_bytes g.screen t))) w.drawn;
+      wrote = w.wrote;
+    },
+    answers_both deeds [] helped tt,
+  )
 
   -- a line that a fault cut off
   cut_reads : (report : Report) (deeds more : List SessionDeed) (c : Coming) (old new : Work D L) (left : Coming) (e : ReadlineError)
@@ -132,19 +137,20 @@ module _ {S H D L : Type 0} (k : Known S D L) where
   -- a line that was accepted, and a session after it
   line_then : (g : Given) (n : ℕ) (now next : Desk S H D L) (heard later : Coming) (t : Told) → line_in (suc n) g (hearing k now heard) ≡ t
       → LineWhole k.shows k.shown k.writes k.written_in g.config.auto_add_history (line_bytes g.screen t) t.outcome (work_of k now) (work_of k next) (Ok (tt {0}))
-      → hearing k next later ≡ after_line g t (hearing k now heard) → (end : Work D L) (left : Coming) (why : ReadlineError)
+      → Answered (calls_of g.screen t) → hearing k next later ≡ after_line g t (hearing k now heard) → (end : Work D L) (left : Coming) (why : ReadlineError)
       → Reads k.shows k.shown k.writes k.written_in g (session n g (hearing k next later)) (session_deeds n g (hearing k next later)) later (work_of k next) end left why
       → Reads k.shows k.shown k.writes k.written_in g (session (suc n) g (hearing k now heard)) (session_deeds (suc n) g (hearing k now heard)) heard (work_of k now) end left why
-  line_then g n now next heard later t is whole after end left why r =
+  line_then g n now next heard later t is whole answered after end left why r =
       let x = hearing k now heard in
       let y = after_line g t x in
       let X : SessionState → Type 0 = λ x. Reads k.shows k.shown k.writes k.written_in g (session n g x) (session_deeds n g x) x.coming (work_of k next) end left why in
       let Q : Report → Type 0 = λ report. Reads k.shows k.shown k.writes k.written_in g report (session_deeds (suc n) g x) heard (work_of k now) end left why in
       let R : List SessionDeed → Type 0 = λ deeds. Reads k.shows k.shown k.writes k.written_in g (line_reported t t.outcome (session n g y)) deeds heard (work_of k now) end left why in
+      let helped = deeds_answered (suc n) g x (subst (λ (t : Told). Answered (calls_of g.screen t)) (sym is) answered) in
       subst Q (sym (session_by n g x t is)) (subst R (sym (deeds_by n g x t is))
       (then_reads k.shows k.shown k.writes k.written_in g t t.outcome (session n g y) (line_deeds (suc n) g x) (session_deeds n g y) heard y.coming
       (work_of k now) (work_of k next) end left why whole
-      (done_line k.shows k.shown k.writes k.written_in g.config.auto_add_history (suc n) g x t (work_of k now) (work_of k next) (Ok (tt {0})) is whole) (subst X after r)))
+      (done_line k.shows k.shown k.writes k.written_in g.config.auto_add_history (suc n) g x t (work_of k now) (work_of k next) (Ok (tt {0})) is whole helped) (subst X after r)))
 
   line_on : (g : Given) (n : ℕ) (now next : Desk S H D L) → (feed_of k next).steady ≡ (feed_of k now).steady → LinedAt g (suc n) now next (Ok (tt {0}))
       → (end : Work D L) (left : Coming) (why : ReadlineError) → Onwards k g n next end left why → Onwards k g (suc n) now end left why
@@ -153,10 +159,10 @@ module _ {S H D L : Type 0} (k : Known S D L) where
       let steady = (feed_of k now).steady in
       let P : Coming → Type 0 = λ c. Heard steady c later in
       let Q : Bool → Type 0 = λ steady. Heard steady (feed_of k next).coming later in
-      let rest : Heard steady t.rest later = subst P (ap (λ (x : SessionState). x.coming) w.1) (subst Q same later_is) in
+      let rest : Heard steady t.rest later = subst P (ap (λ (x : SessionState). x.coming) w.2) (subst Q same later_is) in
       let first = heard_before (suc n) g (session_state_of k now) steady (feed_of k now).coming heard is t.outcome refl w.0.result_is later rest in
       let over : SessionState → SessionState = λ x. record x { coming = later } in
-      (first.0, first.1, line_then g n now next first.0 later (record t { rest = later }) first.2 w.0 (ap over w.1) end left why r)
+      (first.0, first.1, line_then g n now next first.0 later (record t { rest = later }) first.2 w.0 (deeds_ask (suc n) g (hearing k now heard) w.1) (ap over w.2) end left why r)
   line_on g n now next same (heard, is, inr c) end left why r = absurd (ok_not_err (tt {0}) c.fault c.result_is)
 
   -- a line that wasn't
@@ -174,8 +180,8 @@ module _ {S H D L : Type 0} (k : Known S D L) where
           → Reads k.shows k.shown k.writes k.written_in g (line_reported t t.outcome (session n g (after_line g t x)))
           (line_deeds (suc n) g x ++ deeds_after t.outcome (session_deeds n g (after_line g t x))) heard (work_of k now) (work_of k next) (feed_of k next).coming e
       by_cases x t (inl w) =
-          ends_reads k.shows k.shown k.writes k.written_in g t t.outcome (session n g (after_line g t x)) (line_deeds (suc n) g x ++ deeds_after t.outcome (session_deeds n g (after_line g t x)))
-          heard (work_of k now) (work_of k next) (feed_of k next).coming e w.0 (ap (λ (x : SessionState). x.coming) w.1)
+          ends_reads k.shows k.shown k.writes k.written_in g t t.outcome (session n g (after_line g t x)) (line_deeds (suc n) g x) (session_deeds n g (after_line g t x))
+          heard (work_of k now) (work_of k next) (feed_of k next).coming e w.0 w.1 (ap (λ (x : SessionState). x.coming) w.2)
       by_cases x t (inr c) =
           cut_reads k.shows k.shown k.writes k.written_in g (line_reported t t.outcome (session n g (after_line g t x))) (line_deeds (suc n) g x)
           (deeds_after t.outcome (session_deeds n g (after_line g t x))) heard (work_of k now) (work_of k next) (feed_of k next).coming e c
@@ -216,19 +222,9 @@ module _ {S H D L : Type 0} (k : Known S D L) where
           let P : Given → Type 0 = λ g. LinedAt g (suc m) now next (Err e) in
           so (line_off g m now next e (subst P (before.given t) (line.goes (before.told t) (suc m) b)))
 
-      reason_kept : (e : ReadlineError) → DeskReason k (feed_of k now).told g' next e → DeskReason k (feed_of k first).told g next e
-      reason_kept Eof r = tt
-      reason_kept Interrupted r = tt
-      reason_kept NotUtf8 r = tt
-      reason_kept PasteOutOfPlace r = tt
-      reason_kept Reader r = r
-      reason_kept Display r = r
-      reason_kept Lines r = r
-      reason_kept HistoryText r = r
-      reason_kept Helper r = λ t. let fails = r (before.told t) in
-          let P : Given → Type 0 = λ g. HelperFails g.helping fails.0 in (fails.0, subst P (before.given t) fails.1)
+      reason_kept : (e : ReadlineError) → DeskReason k g' next e → DeskReason k g next e
       reason_kept Handler r = subst HandlerFails before.custom r
-      reason_kept Memory r = tt
+      reason_kept _ r = r
 
   -- the same by what the line answered
   pub onward_ok : (g g' g'' : Given) (first now next : Desk S H D L) (result : Result (Unit {0}) ReadlineError) (u : Unit {0}) → result ≡ Ok u → Onward k g g' first now

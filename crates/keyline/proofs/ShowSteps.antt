@@ -10,9 +10,9 @@ use Rattle.line_buffer.specs.Short.{is_printable}
 use Rattle.line_buffer.specs.declared.layout.Layout.{Layout}
 use Rattle.line_buffer.specs.declared.layout.Position.{Position}
 use Rattle.line_editor.specs.Calls.{Call}
-use Rattle.line_editor.specs.Calls.Call.{Draw, Move, Write, Beep, ClearScreen, ClearToEol}
+use Rattle.line_editor.specs.Calls.Call.{Draw, Move, Write, Beep, ClearScreen, ClearToEol, Help}
 use Rattle.line_editor.specs.Redraws.{Redraw, info_text, fresh, layout_of, full, nothing_asked, moved_by_call, column_on, column_back, typed_short, taken_short, may_type, may_take, one}
-use Rattle.line_editor.specs.Redraws.Redraw.{Drawn, Moved, Typed, Taken, Bared, ToEnd, Beeped, Cleared}
+use Rattle.line_editor.specs.Redraws.Redraw.{Drawn, Moved, Typed, Taken, Bared, ToEnd, Beeped, Cleared, Helped}
 use Rattle.line_editor.specs.Sights.{Sight, sight_with, sight_as, no_sight, sight, ended_sight, TypedFits, TakenFits, Fits}
 use Rattle.line_screen.specs.Calls.{Screen, bytes_of, ruler_of}
 use Rattle.line_screen.specs.Chain.{View, Good, Inside, LeadsView, empty_view, Types}
@@ -307,6 +307,13 @@ module _ (s : Screen) (low : 2 ≤ s.columns) (high : s.columns ≤ 1000) where
       record { good = none_led bytes over (view_in s top x) h.good; cursor = h.cursor; finish = h.finish; prompt_size = h.prompt_size; info_is = h.info_is; given_is = h.given_is }
   bared_if bytes over top l x prompt text at false h e = cc
 
+  -- ---- a call that changes nothing
+
+  same_holds : (bytes : List ℕ) (over : List Placed) (top : ℕ) (l : Layout) (x : Sight) (call : Call) → Holds s bytes over top l x
+      → LeadsView s.columns (widths s) (view_in s top x) call (view_in s top x) → call ≢ ClearScreen → Holds s (bytes ++ flat_map (bytes_of s) (call ∷ [])) over top l x
+  same_holds bytes over top l x call h leads other =
+      record { good = one_led bytes over (view_in s top x) (view_in s top x) call h.good leads refl other; cursor = h.cursor; finish = h.finish; prompt_size = h.prompt_size; info_is = h.info_is; given_is = h.given_is }
+
   -- ---- before anything is drawn
 
   pub fresh_holds : (bytes : List ℕ) (over : List Placed) (top : ℕ) (l : Layout) → Good s.columns (widths s) bytes over (empty_view top) → Holds s bytes over top (fresh l.grapheme_cluster_mode) no_sight
@@ -328,6 +335,6 @@ module _ (s : Screen) (low : 2 ≤ s.columns) (high : s.columns ≤ 1000) where
   step own bytes over top l x (Taken prompt count text at) h fits rows = taken_if bytes over top l x prompt count text at (may_take l count) h fits.0 fits.2 rows refl
   step own bytes over top l x (Bared prompt text at) h fits rows = bared_if bytes over top l x prompt text at l.default_prompt h (h.given_is ∙ fits)
   step own bytes over top l x ToEnd h fits rows = end_if bytes over top l x (same_cell l.cursor l.end) h (record { finish = rows.finish; cursor = rows.cursor }) refl
-  step own bytes over top l x Beeped h fits rows =
-      record { good = one_led bytes over (view_in s top x) (view_in s top x) Beep h.good refl refl (λ e. cc); cursor = h.cursor; finish = h.finish; prompt_size = h.prompt_size; info_is = h.info_is; given_is = h.given_is }
+  step own bytes over top l x Beeped h fits rows = same_holds bytes over top l x Beep h refl (λ e. cc)
   step own bytes over top l x Cleared h fits rows = fresh_holds (bytes ++ flat_map (bytes_of s) (ClearScreen ∷ [])) [] 0 l (cleared_led bytes over (view_in s top x) h.good)
+  step own bytes over top l x (Helped fails) h fits rows = same_holds bytes over top l x (Help fails) h refl (λ e. cc)

@@ -1,9 +1,10 @@
--- What a session does, in order: what it sends, reads, keeps and writes.
-use Rattle.std.specs.Prelude.{◌≡◌, ℕ, zero, suc, ◌≤◌, List, [], ◌∷◌, ◌++◌, length, Result, Ok, Err}
+-- What a session does, in order: what it sends, asks, reads, keeps and writes.
+use Rattle.std.specs.Prelude.{◌≡◌, ⊤, ℕ, zero, suc, ◌≤◌, Bool, IsFalse, List, [], ◌∷◌, ◌++◌, length, Result, Ok, Err}
 use Rattle.line_buffer.specs.declared.layout.Layout.{Layout}
 use Rattle.line_config.specs.declared.errors.ReadlineError.{ReadlineError}
 use Rattle.line_editor.specs.Acts.{Act, Sees, Gets, Obeys}
 use Rattle.line_editor.specs.Calls.{Call}
+use Rattle.line_editor.specs.Calls.Call.{Help}
 use Rattle.line_editor.specs.Redraws.{fresh}
 use Rattle.line_editor.specs.Running.{acts_meant}
 use Rattle.line_keys.specs.Coming.{Coming}
@@ -15,6 +16,8 @@ use Rattle.keyline.specs.Shows.{drawn_by}
 pub data SessionDeed : Type 0 where
   -- the display is sent the bytes of a call
   Draws : (bytes : List ℕ) → SessionDeed
+  -- the helper is asked, and gives an answer or fails
+  Helped : (fails : Bool) → SessionDeed
   -- a key or a paste is read, and this is to come after it
   Hears : (rest : Coming) → SessionDeed
   -- a line is added to the history, where the settings say so
@@ -45,11 +48,21 @@ lines_written [] = []
 lines_written (Writes line ∷ more) = line ∷ lines_written more
 lines_written (deed ∷ more) = lines_written more
 
+-- each time that the helper is asked it gives an answer
+abbrev pub HelperAnswers : List SessionDeed → Type 0
+HelperAnswers [] = ⊤
+HelperAnswers (Helped fails ∷ more) = IsFalse fails × HelperAnswers more
+HelperAnswers (deed ∷ more) = HelperAnswers more
+
 -- ---- a line's
+
+abbrev pub call_deed : Screen → Call → SessionDeed
+call_deed s (Help fails) = Helped fails
+call_deed s call = Draws (bytes_of s call)
 
 abbrev pub call_deeds : Screen → List Call → List SessionDeed
 call_deeds s [] = []
-call_deeds s (call ∷ calls) = Draws (bytes_of s call) ∷ call_deeds s calls
+call_deeds s (call ∷ calls) = call_deed s call ∷ call_deeds s calls
 
 -- its acts, by the calls that they ask where this layout is kept
 abbrev pub act_deeds : Screen → Layout → List Act → List SessionDeed

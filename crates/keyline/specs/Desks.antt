@@ -8,7 +8,7 @@ use Rattle.line_keys.specs.Feeds.{KeyFeed}
 use Rattle.line_editor.specs.Lines.{Told}
 use Rattle.line_screen.specs.Calls.{sink_of}
 use Rattle.line_screen.specs.Reader.{items_of, source_of}
-use Rattle.keyline.specs.Deeds.{SessionDeed, line_deeds, session_deeds}
+use Rattle.keyline.specs.Deeds.{SessionDeed, HelperAnswers, line_deeds, session_deeds}
 use Rattle.keyline.specs.Playing.{Work, SessionReason, LineWhole, LineCut, Reads}
 use Rattle.keyline.specs.Sessions.{Given, SessionState, line_in, after_line, line_bytes, session}
 use Rattle.keyline.specs.declared.desk.Desk.{Desk}
@@ -54,8 +54,8 @@ module _ {S H D L : Type 0} (k : Known S D L) where
   work_of d = record { display = sink_of d.out; lines = d.lines; history = d.history }
 
   -- why no further line is read
-  abbrev pub DeskReason : Bool → Given → Desk S H D L → ReadlineError → Type 0
-  DeskReason told g d e = SessionReason told g (k.feed (source_of d.reader)).failed
+  abbrev pub DeskReason : Given → Desk S H D L → ReadlineError → Type 0
+  DeskReason g d e = SessionReason g (k.feed (source_of d.reader)).failed
       (k.show_failed (sink_of d.out)) (k.write_failed d.lines) e
 
   abbrev pub Lined : Given → Told → List SessionDeed → Coming → Desk S H D L → Desk S H D L
@@ -63,7 +63,7 @@ module _ {S H D L : Type 0} (k : Known S D L) where
   Lined g t deeds heard old new result =
       (LineWhole k.shows k.shown k.writes k.written_in g.config.auto_add_history
       (line_bytes g.screen t) t.outcome (work_of old) (work_of new) result
-      × (session_state_of new ≡ after_line g t (session_state_of old)))
+      × HelperAnswers deeds × (session_state_of new ≡ after_line g t (session_state_of old)))
       ⊎ LineCut k.shows k.shown k.writes k.written_in g.config.auto_add_history deeds
       heard (work_of old) (work_of new) (feed_of new).coming result
 
@@ -79,7 +79,7 @@ module _ {S H D L : Type 0} (k : Known S D L) where
     pub told : IsTrue (feed_of old).told → IsTrue (feed_of new).told
     pub steady : (feed_of new).steady ≡ (feed_of old).steady
     pub falls : OnOk result ((feed_of new).bound < (feed_of old).bound)
-    pub reason : IfErr result (DeskReason (feed_of old).told g new)
+    pub reason : IfErr result (DeskReason g new)
 
   -- THE relation of all lines
   pub record TakesLines (g : Given) (old new : Desk S H D L) (why : ReadlineError) : Type 0 where
@@ -88,4 +88,4 @@ module _ {S H D L : Type 0} (k : Known S D L) where
         × Reads k.shows k.shown k.writes k.written_in g
         (session n g (hearing old heard)) (session_deeds n g (hearing old heard)) heard
         (work_of old) (work_of new) (feed_of new).coming why
-    pub reason : DeskReason (feed_of old).told g new why
+    pub reason : DeskReason g new why

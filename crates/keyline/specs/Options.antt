@@ -27,11 +27,13 @@ abbrev pub flag : Text → Rule
 flag id = record (new_rule id) { long = Some id; action = Some SetTrue }
 
 unfoldable pub command_line : App
-command_line = with_rule (with_rule (with_rule (with_rule (with_rule (new_app (codes "keyline"))
+command_line = with_rule (with_rule (with_rule (with_rule (with_rule (with_rule
+    (new_app (codes "keyline"))
     (defaulted (codes "mode") (codes "emacs")))
     (defaulted (codes "columns") (codes "80")))
     (defaulted (codes "prompt") (codes "> ")))
     (text_option (codes "history")))
+    (text_option (codes "words")))
     (flag (codes "brackets"))
 
 abbrev pub mode_name : EditMode → Text
@@ -53,6 +55,7 @@ pub record Chooses (rows : List Row) (options : Options) : Type 0 where
   pub columns : AreColumns (first_of (codes "columns") rows) options.columns
   pub prompt : first_of (codes "prompt") rows ≡ Some (string_bytes options.prompt)
   pub history : first_of (codes "history") rows ≡ option_map string_bytes options.history
+  pub words : first_of (codes "words") rows ≡ option_map string_bytes options.words
   pub brackets : IsTrue options.brackets ↔ (first_of (codes "brackets") rows ≡ Some (codes "true"))
 
 abbrev pub ChoosesNone : List Row → Type 0

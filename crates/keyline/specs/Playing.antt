@@ -4,28 +4,22 @@ use Rattle.std.specs.Prelude.{◌≡◌, ◌⊎◌, ⊤, ℕ, Bool, true, false,
 use Rattle.line_config.specs.declared.errors.ReadlineError.{ReadlineError}
 use Rattle.line_config.specs.declared.errors.ReadlineError.TheVariants.{Eof, Interrupted, NotUtf8, PasteOutOfPlace, Reader, Display, Lines, HistoryText, Helper, Handler, Memory}
 use Rattle.line_config.specs.Sending.{Takes, TakesSome}
-use Rattle.line_editor.specs.Running.{HelperFails}
 use Rattle.line_help.specs.History.{Filed, all_saved}
 use Rattle.line_help.specs.HistoryText.{text_to_save}
 use Rattle.line_keys.specs.Answers.{HandlerFails}
 use Rattle.line_keys.specs.Coming.{Coming, made_of, left_by}
-use Rattle.keyline.specs.Deeds.{SessionDeed, Draws, Hears, Writes, bytes_drawn, left_of_deeds, lines_kept, lines_written}
+use Rattle.keyline.specs.Deeds.{SessionDeed, Draws, Helped, Hears, Keeps, Writes, HelperAnswers, bytes_drawn, left_of_deeds, lines_kept, lines_written}
 use Rattle.keyline.specs.Sessions.{Given, Report, remembered, history_after, line_text, lines_text, display_bytes}
 
--- why lines are read no further: what was given, or a device that has failed
-abbrev pub SessionReason : Bool → Given → Bool → Bool → Bool → ReadlineError → Type 0
-SessionReason told g source display lines Eof = ⊤
-SessionReason told g source display lines Interrupted = ⊤
-SessionReason told g source display lines NotUtf8 = ⊤
-SessionReason told g source display lines PasteOutOfPlace = ⊤
-SessionReason told g source display lines Reader = IsTrue source
-SessionReason told g source display lines Display = IsTrue display
-SessionReason told g source display lines Lines = IsTrue lines
-SessionReason told g source display lines HistoryText = ⊥
-SessionReason told g source display lines Helper = IsTrue told
-    → (shown : List (List ℕ)) × HelperFails g.helping shown
-SessionReason told g source display lines Handler = HandlerFails g.custom
-SessionReason told g source display lines Memory = ⊤
+-- why lines are read no further, whatever is told: what was given, or a device that has failed.
+-- Where a helper fails the deeds say
+abbrev pub SessionReason : Given → Bool → Bool → Bool → ReadlineError → Type 0
+SessionReason g source display lines Reader = IsTrue source
+SessionReason g source display lines Display = IsTrue display
+SessionReason g source display lines Lines = IsTrue lines
+SessionReason g source display lines HistoryText = ⊥
+SessionReason g source display lines Handler = HandlerFails g.custom
+SessionReason g source display lines why = ⊤
 
 -- what lines are drawn on, written to and kept in
 pub record Work (D L : Type 0) : Type 0 where
@@ -50,27 +44,46 @@ abbrev pub WritesSome : List ℕ → List SessionDeed → Type 0
 WritesSome torn (Writes line ∷ more) = (later : List ℕ) × (line_text line ≡ torn ++ later)
 WritesSome torn deeds = ⊥
 
+-- the next one is to ask the helper, which fails
+abbrev pub FailsToHelp : List SessionDeed → Type 0
+FailsToHelp (Helped fails ∷ more) = IsTrue fails
+FailsToHelp deeds = ⊥
+
 -- the next one is to read
 abbrev pub IsHeard : List SessionDeed → Type 0
 IsHeard (Hears rest ∷ more) = ⊤
 IsHeard deeds = ⊥
 
+-- the next one is one that memory may be wanting for: none is taken to write a line, nor to keep one
+-- where lines aren't added, nor after all of them
+abbrev pub TakesMemory : Bool → List SessionDeed → Type 0
+TakesMemory adds [] = ⊥
+TakesMemory adds (Keeps line ∷ more) = IsTrue adds
+TakesMemory adds (Writes line ∷ more) = ⊥
+TakesMemory adds (deed ∷ more) = ⊤
+
 -- the display fails at a drawing, and has taken a beginning of its bytes; the sink of lines fails at
--- a line, and has taken a beginning of it; a helper fails between deeds, and memory is wanting
--- there, or for a paste, and then every read is refused from there on. No other fault stops deeds
-abbrev pub Stops : ReadlineError → Coming → List SessionDeed → Coming → List ℕ → List ℕ → Type 0
-Stops Display coming next left begun torn = (left ≡ coming) × DrawsSome begun next × (torn ≡ [])
-Stops Lines coming next left begun torn = (left ≡ coming) × (begun ≡ []) × WritesSome torn next
-Stops Helper coming next left begun torn = (left ≡ coming) × (begun ≡ []) × (torn ≡ [])
-Stops Memory coming next left begun torn =
-    ((left ≡ coming) ⊎ ((left ≡ left_by Memory) × IsHeard next)) × (begun ≡ []) × (torn ≡ [])
-Stops why coming next left begun torn = ⊥
+-- a line, and has taken a beginning of it; the helper fails where it is asked; memory is wanting for
+-- the next one, or in it for a paste, and then every read is refused from there on. No other fault
+-- stops deeds
+abbrev pub Stops : Bool → ReadlineError → Coming → List SessionDeed → Coming → List ℕ → List ℕ
+    → Type 0
+Stops adds Display coming next left begun torn =
+    (left ≡ coming) × DrawsSome begun next × (torn ≡ [])
+Stops adds Lines coming next left begun torn =
+    (left ≡ coming) × (begun ≡ []) × WritesSome torn next
+Stops adds Helper coming next left begun torn =
+    (left ≡ coming) × FailsToHelp next × (begun ≡ []) × (torn ≡ [])
+Stops adds Memory coming next left begun torn =
+    (((left ≡ coming) × TakesMemory adds next) ⊎ ((left ≡ left_by Memory) × IsHeard next))
+    × (begun ≡ []) × (torn ≡ [])
+Stops adds why coming next left begun torn = ⊥
 
 module _ {D L : Type 0} (shows : D → Bool) (shown : D → List ℕ) (writes : L → Bool)
     (written_in : L → List ℕ) where
   -- of these deeds the first were done, in order, and a fault stopped the next one: the display has
-  -- the bytes drawn, the source has left what comes after what was heard, the sink of lines has the
-  -- lines written, and the history has those kept
+  -- the bytes drawn, the helper gave an answer wherever it was asked, the source has left what comes
+  -- after what was heard, the sink of lines has the lines written, and the history has those kept
   pub record Cut (adds : Bool) (deeds : List SessionDeed) (coming : Coming) (old new : Work D L)
       (left : Coming) (why : ReadlineError) : Type 0 where
     pub done : List SessionDeed
@@ -78,8 +91,9 @@ module _ {D L : Type 0} (shows : D → Bool) (shown : D → List ℕ) (writes : 
     pub first : deeds ≡ done ++ next
     pub begun : List ℕ
     pub torn : List ℕ
-    pub stops : Stops why (left_of_deeds coming done) next left begun torn
+    pub stops : Stops adds why (left_of_deeds coming done) next left begun torn
     pub drawn : Takes shows shown old.display new.display (bytes_drawn done ++ begun)
+    pub helped : HelperAnswers done
     pub wrote : Takes writes written_in old.lines new.lines
         (lines_text (lines_written done) ++ torn)
     pub history_is : new.history ≡ remembered adds (lines_kept done) old.history
@@ -113,11 +127,11 @@ module _ {D L : Type 0} (shows : D → Bool) (shown : D → List ℕ) (writes : 
     pub drawn : Takes shows shown old.display new.display (display_bytes g.screen report)
     pub wrote : Takes writes written_in old.lines new.lines (lines_text report.accepted)
 
-  -- whole, or a fault cut its deeds
+  -- whole, with a helper that gave an answer wherever it was asked, or a fault cut its deeds
   abbrev pub Reads : Given → Report → List SessionDeed → Coming → Work D L → Work D L → Coming
       → ReadlineError → Type 0
   Reads g report deeds coming old new left why =
-      Whole g report old new left why
+      (Whole g report old new left why × HelperAnswers deeds)
       ⊎ Cut g.config.auto_add_history deeds coming old new left why
 
 -- ---- the end

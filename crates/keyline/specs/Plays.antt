@@ -1,5 +1,5 @@
 -- A session that is opened and run: what it is opened on, and what it gives back.
-use Rattle.std.specs.Prelude.{◌≡◌, ℕ, ◌<◌, ⊤, Bool, List, Option, Result, Err, IsOk, IsTrue}
+use Rattle.std.specs.Prelude.{◌≡◌, ℕ, ◌<◌, Bool, false, List, Option, Result, Err, IsOk, IsTrue, string_bytes}
 use Rattle.line_config.specs.Feed.{Feed}
 use Rattle.line_config.specs.declared.config.Config.{Config}
 use Rattle.line_config.specs.declared.errors.ReadlineError.{ReadlineError}
@@ -17,7 +17,9 @@ use Rattle.keyline.specs.Endings.{ending_of}
 use Rattle.keyline.specs.Playing.{SessionReason, Reads, Saves, ending_after}
 use Rattle.keyline.specs.Sessions.{Given, coming_from, session}
 use Rattle.keyline.specs.declared.desk.Desk.{Desk}
+use Rattle.keyline.specs.declared.session.Beginning.{Beginning}
 use Rattle.keyline.specs.declared.session.Ended.{Ended}
+use Rattle.keyline.specs.declared.session.Unopened.{Unopened}
 
 -- ---- opening
 
@@ -30,18 +32,41 @@ abbrev pub loaded_from : Config → Feed → Filed
 loaded_from config text =
     load_leaves text.last (text_rows text.last text.coming) (nothing_filed (settings_of config))
 
--- why no history is loaded: its text isn't UTF-8, its source fails, or memory is wanting
-abbrev pub LoadFault : Config → Feed → ReadlineError → Type 0
-LoadFault config text HistoryText = IsTrue text.told → loads config text ≡ Err HistoryText
-LoadFault config text Reader =
-    IsTrue text.told → IsTrue text.steady → loads config text ≡ Err Reader
-LoadFault config text Memory = ⊤
-LoadFault config text why = ⊥
+-- why no history is loaded, where this is left of the source of its text: the source has failed,
+-- the text isn't UTF-8, or memory is wanting
+abbrev pub LoadRefused : Config → Feed → Feed → ReadlineError → Type 0
+LoadRefused config text left Reader = IsTrue left.failed
+    × (IsTrue text.told → IsTrue text.steady → loads config text ≡ Err Reader)
+LoadRefused config text left HistoryText = (left.failed ≡ false)
+    × (IsTrue text.told → loads config text ≡ Err HistoryText)
+LoadRefused config text left Memory = left.failed ≡ false
+LoadRefused config text left why = ⊥
+
+-- the same of a source that isn't handed back: one is left
+abbrev pub LoadFault : {F : Type 0} → (F → Feed) → Config → F → ReadlineError → Type 0
+LoadFault {F} feed config source why =
+    (left : F) × LoadRefused config (feed source) (feed left) why
 
 -- a history that was loaded
 pub record Loaded (config : Config) (text : Feed) (history : Filed) : Type 0 where
   pub whole : IsTrue text.told → IsOk (loads config text)
   pub history_is : IsTrue text.told → history ≡ loaded_from config text
+
+-- a session's beginning
+pub record Begins (config : Config) (prompt : List ℕ) (text : Feed) (b : Beginning) : Type 0 where
+  pub history : Loaded config text b.history
+  pub ring : b.ring ≡ new_ring 60
+  pub prompt_is : string_bytes b.prompt ≡ prompt
+
+-- no session was opened, and the devices are as they were handed in
+pub record Unopens {F S D L T : Type 0} (feed : F → Feed) (config : Config) (history : F)
+    (source : S) (display : D) (lines : L) (text : T) (unopened : Unopened S D L T)
+    : Type 0 where
+  pub fault : LoadFault feed config history unopened.why
+  pub source_is : unopened.source ≡ source
+  pub display_is : unopened.display ≡ display
+  pub lines_are : unopened.lines ≡ lines
+  pub text_is : unopened.text ≡ text
 
 -- a session's desk: the devices as they were handed in, nothing read, and nothing drawn
 pub record Opens {S H D L : Type 0} (feed : S → Feed) (config : Config) (text : Feed)
@@ -85,5 +110,5 @@ pub record Plays {S H D L T : Type 0} (k : Known S D L) (told : T → Bool) (hel
   pub ahead_is : ended.ahead ≡ kept_of reader
   pub saves : Saves told held failed kept ended.history text ended.text saved
   pub ending_is : ended.ending ≡ ending_of (ending_after why saved)
-  pub reason : SessionReason (feed_of k desk).told g (k.feed ended.source).failed
-      (k.show_failed ended.display) (k.write_failed ended.lines) why
+  pub reason : SessionReason g (k.feed ended.source).failed (k.show_failed ended.display)
+      (k.write_failed ended.lines) why

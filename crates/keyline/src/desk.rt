@@ -1,6 +1,6 @@
 //! Lines, one after the other: read, drawn, kept and written.
 
-ghost use Rattle.std.specs.Prelude.{◌≡◌, ◌++◌, ◌∷◌, [], IfErr, OnOk, OnErr, string_bytes, Ok};
+ghost use Rattle.std.specs.Prelude.{◌≡◌, ◌++◌, ◌∷◌, [], IfErr, IsTrue, OnOk, OnErr, string_bytes, Ok};
 ghost use Rattle.line_config.specs.declared.errors.ReadlineError.TheVariants.{Lines, Memory};
 ghost use Rattle.line_config.specs.Sending.{Sends};
 ghost use Rattle.line_editor.specs.Courses.{breaks_after};
@@ -56,7 +56,7 @@ fn remember(
 ) -> Result<(), ReadlineError>
     ensures added { OnOk result (history.new ≡ remembered adds (text.now ∷ []) history.old) }
     ensures kept { OnErr result (history.new ≡ history.old) }
-    ensures fault { IfErr result (λ e. e ≡ Memory) }
+    ensures fault { IfErr result (λ e. (e ≡ Memory) × IsTrue adds) }
 {
     if adds {
         history.add(alloc, text)?;
@@ -146,7 +146,7 @@ impl<S: Source + Drop, H: Helper + Drop, D: Sink + Drop, L: Sink + Drop> Desk<S,
         prompt: &str,
     ) -> Lined<S, H, D, L>
         ensures { let custom = custom_of bindings.now B.decides in
-            let helps = helping_by H.hint_of H.fails H.verdict_of H.validating_fails H.marks in
+            let helps = helping_by H.hint_of H.verdict_of H.completion_of H.update_of H.marks in
             let given = given_by config.now custom prompt.now in
             let known = known_by S.feed D.told D.held D.has_failed L.told L.held L.has_failed in
             TakesLine known (given (screen_of self.out) (helps self.helper))
@@ -198,7 +198,7 @@ impl<S: Source + Drop, H: Helper + Drop, D: Sink + Drop, L: Sink + Drop> Desk<S,
         prompt: &str,
     ) -> Stopped<S, H, D, L>
         ensures { let custom = custom_of bindings.now B.decides in
-            let helps = helping_by H.hint_of H.fails H.verdict_of H.validating_fails H.marks in
+            let helps = helping_by H.hint_of H.verdict_of H.completion_of H.update_of H.marks in
             let given = given_by config.now custom prompt.now in
             let known = known_by S.feed D.told D.held D.has_failed L.told L.held L.has_failed in
             TakesLines known (given (screen_of self.out) (helps self.helper))

@@ -15,6 +15,7 @@ Keys in both modes:
   Backspace, Delete       delete before, at the cursor
   Ctrl-W, Ctrl-U          kill the word before the cursor, all before it in its row
   Ctrl-Y                  yanks what was killed
+  Tab                     completes the word before the cursor by those of --words
   Ctrl-T                  swaps two characters
   Ctrl-_                  undoes
 

@@ -7,8 +7,8 @@
 //! by the definitions in `specs/`. All that a call of it needs is handed on here.
 #![tactic(auto)]
 
-pub mod brackets;
 mod desk;
+pub mod edit_helper;
 pub mod ending;
 mod help;
 pub mod laws;
@@ -16,8 +16,9 @@ pub mod options;
 pub mod program;
 pub mod session;
 
-pub use brackets::BracketHelper;
+pub use edit_helper::EditHelper;
 pub use ending::Ending;
+pub use line_buffer::{ChangeListener, LineBuffer};
 pub use line_config::{
     Behavior, BellStyle, Builder, ColorMode, CompletionType, Config, Configurer, DeviceFailed,
     EditMode, HistoryDuplicates, HookFault, Last, ReadSource, ReadlineError, Sink, SliceSource,
@@ -29,9 +30,10 @@ pub use line_editor::{
 };
 pub use line_help::{
     Candidate, Completer, Context, DefaultHistory, FileHistory, FilenameCompleter, Helper,
-    Highlighter, Hint, Hinter, History, HistoryHinter, HistoryIter, Listed, Lister,
+    HelperParts, Highlighter, Hint, Hinter, History, HistoryHinter, HistoryIter, Listed, Lister,
     MatchingBracketHighlighter, MatchingBracketValidator, MemHistory, Pair, Prompt,
-    SearchDirection, SearchResult, ValidationContext, ValidationResult, Validator,
+    SearchDirection, SearchResult, ValidationContext, ValidationResult, Validator, WordCompleter,
+    load_words, update_line,
 };
 pub use line_keys::{
     Bindings, Cmd, CmdKind, ConditionalEventHandler, Event, EventContext, EventHandler, InputMode,
@@ -39,4 +41,4 @@ pub use line_keys::{
 };
 pub use options::{Options, Parsed, parse};
 pub use program::edit;
-pub use session::{Ended, Session};
+pub use session::{Ended, Session, Unopened};

@@ -1,7 +1,7 @@
 //! The program's options, from the words of a command line.
 
 ghost use Rattle.std.specs.Prelude.{◌≡◌, ◌≤◌, ◌↔◌, IfOk, IfSome, IsTrue, MatchOption, Some, codes, map};
-ghost use Rattle.std.specs.Prelude.{false, option_map};
+ghost use Rattle.std.specs.Prelude.{false, option_map, string_bytes};
 ghost use Rattle.clap.specs.Words.{app_of, first_of, found_of, kind_of, new_app};
 ghost use Rattle.clap.specs.Words.{rows_of, rule_of};
 ghost use Rattle.keyline.specs.Options.{ParsesTo, AreColumns, Chooses, ChoosesNone, TakesOptions};
@@ -26,6 +26,8 @@ pub struct Options {
     pub prompt: String,
     /// The path of the file that keeps the history, if any.
     pub history: Option<String>,
+    /// The path of the file of words that complete, if any.
+    pub words: Option<String>,
     /// Whether a line with open brackets goes on.
     pub brackets: bool,
 }
@@ -44,7 +46,8 @@ pub enum Parsed {
 }
 
 /// Reads the words of a command line, of which the first is the program's name:
-/// `[--mode emacs|vi] [--columns 2..1000] [--prompt TEXT] [--history FILE] [--brackets]`.
+/// `[--mode emacs|vi] [--columns 2..1000] [--prompt TEXT] [--history FILE] [--words FILE]
+/// [--brackets]`.
 pub fn parse<S: AsStr>(alloc: Global, words: &[S]) -> Parsed
     ensures answers { ParsesTo (map S.text words.now) result }
     ensures columns { HasColumns result }
@@ -109,10 +112,13 @@ fn command_line<'a>(alloc: Global) -> Result<Command<'a>, AllocError>
             "FILE",
             "File that keeps the lines [default: none]",
         ))?
+        .arg(text_option(alloc, "words", "FILE", WORDS))?
         .arg(flag(alloc, "brackets", BRACKETS))
 }
 
 const COLUMNS: &str = "Columns of a row; ./keyline takes the terminal's";
+
+const WORDS: &str = "File of words that Tab completes, one a row [default: none]";
 
 const BRACKETS: &str = "Lets a line go on while a bracket is open [default: off]";
 
@@ -174,15 +180,12 @@ fn chosen(alloc: Global, matches: &ArgMatches<'_>) -> Result<Option<Options>, Al
     let Some(prompt) = given(matches, "prompt") else {
         return Ok(None);
     };
-    let history = match given(matches, "history") {
-        Some(path) => Some(String::from_str(alloc, path)?),
-        None => None,
-    };
     Ok(Some(Options {
         mode,
         columns,
         prompt: String::from_str(alloc, prompt)?,
-        history,
+        history: owned(alloc, given(matches, "history"))?,
+        words: owned(alloc, given(matches, "words"))?,
         brackets: is_on(given(matches, "brackets")),
     }))
 }
@@ -192,6 +195,17 @@ fn given<'a>(matches: &ArgMatches<'a>, id: &str) -> Option<&'a str>
     ensures { option_map (λ s. s.now) result ≡ first_of id.now (rows_of (found_of matches.now)) }
 {
     matches.get_str(id)
+}
+
+// The text in memory of its own, if there is one.
+fn owned(alloc: Global, text: Option<&str>) -> Result<Option<String>, AllocError>
+    ensures { IfOk result (λ own. option_map string_bytes own
+        ≡ option_map (λ s. s.now) text.entry) }
+{
+    match text {
+        Some(text) => Ok(Some(String::from_str(alloc, text)?)),
+        None => Ok(None),
+    }
 }
 
 fn mode_of(name: Option<&str>) -> Option<EditMode>

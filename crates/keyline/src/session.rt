@@ -7,7 +7,7 @@ ghost use Rattle.line_editor.specs.Running.{helping_by};
 ghost use Rattle.line_screen.specs.Calls.{screen_of};
 ghost use Rattle.keyline.specs.Desks.{known_by, hearing};
 ghost use Rattle.keyline.specs.Playing.{Saves, ending_after};
-ghost use Rattle.keyline.specs.Plays.{LoadFault, Loaded, Opens, Plays};
+ghost use Rattle.keyline.specs.Plays.{Begins, LoadRefused, Loaded, Opens, Plays, Unopens};
 ghost use Rattle.keyline.specs.SessionShows.{Displays};
 ghost use Rattle.keyline.specs.Sessions.{given_by};
 
@@ -19,6 +19,7 @@ use line_keys::{Bindings, Decides, EventHandler};
 use line_record::KillRing;
 use line_screen::{KeyReader, ScreenRenderer};
 use std::alloc::Global;
+use std::fmt;
 
 /// The slots of a session's kill ring.
 const KILL_RING_SIZE: usize = 60;
@@ -33,6 +34,57 @@ pub struct Session<S: Source, H, D: Sink, L: Sink, T: Sink> {
     prompt: String,
     desk: Desk<S, H, D, L>,
     text: T,
+}
+
+/// A session that was not opened, with the devices that were handed in for it: nothing was asked of
+/// them. Of the history's text alone something may have been read.
+#[derive(Drop)]
+pub struct Unopened<S, D, L, T> {
+    /// Why: the history's text isn't UTF-8, its source has failed, or memory was wanting.
+    pub why: ReadlineError,
+    pub source: S,
+    pub display: D,
+    /// The sink of accepted lines.
+    pub lines: L,
+    /// The sink of the history's text.
+    pub text: T,
+}
+
+impl<S, D, L, T> Unopened<S, D, L, T> {
+    fn new(why: ReadlineError, source: S, display: D, lines: L, text: T) -> Self
+        ensures { result ≡ record {
+          why = why;
+          source = source;
+          display = display;
+          lines = lines;
+          text = text;
+        } }
+    {
+        Unopened {
+            why,
+            source,
+            display,
+            lines,
+            text,
+        }
+    }
+}
+
+/// Shown as why.
+impl<S, D, L, T> fmt::Debug for Unopened<S, D, L, T> {
+    fn fmt<W: fmt::Write>(&self, f: &mut fmt::Formatter<W>) -> fmt::Result {
+        fmt::Debug::fmt(&self.why, f)
+    }
+}
+
+impl<S: Drop, D: Drop, L: Drop, T: Drop> From<Unopened<S, D, L, T>> for ReadlineError {
+    ghost use Rattle.std.specs.Prelude.{◌≡◌};
+
+    ghost from_gives = { λ unopened why. why ≡ unopened.why };
+
+    fn from(unopened: Unopened<S, D, L, T>) -> ReadlineError {
+        unopened.why
+    }
 }
 
 /// A session that has ended, with its history and the devices that it was handed.
@@ -61,11 +113,42 @@ fn load<F: Source>(
     source: &mut F,
 ) -> Result<FileHistory, ReadlineError>
     ensures loaded { IfOk result (Loaded config.now (F.feed source.old)) }
-    ensures fault { IfErr result (LoadFault config.now (F.feed source.old)) }
+    ensures fault { IfErr result (LoadRefused config.now (F.feed source.old)
+        (F.feed source.new)) }
 {
     let mut history = FileHistory::with_config(alloc, config);
     history.load_from(alloc, source)?;
     Ok(history)
+}
+
+/// What a session begins with: what of it may be refused.
+pub(crate) struct Beginning {
+    pub(crate) prompt: String,
+    pub(crate) ring: KillRing,
+    pub(crate) history: FileHistory,
+}
+
+/// The prompt, the ring, and last the history, so that a text that was read whole is refused for
+/// itself alone.
+fn begin<F: Source>(
+    alloc: Global,
+    config: &Config,
+    prompt: &str,
+    source: &mut F,
+) -> Result<Beginning, ReadlineError>
+    requires { (F.feed source.old).failed ≡ false }
+    ensures ok { IfOk result (Begins config.now prompt.now (F.feed source.old)) }
+    ensures fault { IfErr result (LoadRefused config.now (F.feed source.old)
+        (F.feed source.new)) }
+{
+    let prompt = String::from_str(alloc, prompt)?;
+    let ring = KillRing::new(alloc, KILL_RING_SIZE)?;
+    let history = load(alloc, config, source)?;
+    Ok(Beginning {
+        prompt,
+        ring,
+        history,
+    })
 }
 
 /// Saves the history, where an entry is new, and answers whether the sink took it.
@@ -101,7 +184,7 @@ where
     T: Drop,
 {
     /// Opens a session: the history is loaded, no key is read, and nothing is drawn yet. Rows of
-    /// the display have `columns` cells.
+    /// the display have `columns` cells. Where it is refused, the devices come back.
     pub fn open<F: Source + Drop>(
         alloc: Global,
         config: Config,
@@ -114,7 +197,7 @@ where
         display: D,
         lines: L,
         text: T,
-    ) -> Result<Self, ReadlineError>
+    ) -> Result<Self, Unopened<S, D, L, T>>
         requires columns { (2 ≤ columns) × (columns ≤ 1000) }
         requires history { (F.feed history).failed ≡ false }
         requires source { (S.feed source).failed ≡ false }
@@ -127,12 +210,17 @@ where
         ensures bindings { IfOk result (λ s. s.bindings ≡ bindings) }
         ensures prompt { IfOk result (λ s. string_bytes s.prompt ≡ prompt.now) }
         ensures text { IfOk result (λ s. s.text ≡ text) }
-        ensures fault { IfErr result (LoadFault config (F.feed history)) }
+        ensures refused { IfErr result (Unopens F.feed config history source display lines text) }
     {
         let mut history = history;
-        let history = load(alloc, &config, &mut history)?;
-        let ring = KillRing::new(alloc, KILL_RING_SIZE)?;
-        let prompt = String::from_str(alloc, prompt)?;
+        let Beginning {
+            prompt,
+            ring,
+            history,
+        } = match begin(alloc, &config, prompt, &mut history) {
+            Ok(beginning) => beginning,
+            Err(why) => return Err(Unopened::new(why, source, display, lines, text)),
+        };
         let mode = config.grapheme_cluster_mode();
         let desk = Desk {
             reader: KeyReader::new(source, config.edit_mode()),
@@ -156,13 +244,13 @@ where
     /// once, after every ending.
     pub fn run(self) -> Ended<S, D, L, T>
         ensures plays { let custom = custom_of self.bindings ⟦<EventHandler as Decides>⟧.decides in
-            let helps = helping_by H.hint_of H.fails H.verdict_of H.validating_fails H.marks in
+            let helps = helping_by H.hint_of H.verdict_of H.completion_of H.update_of H.marks in
             let given = given_by self.config custom (string_bytes self.prompt)
             (screen_of self.desk.out) (helps self.desk.helper) in
             let known = known_by S.feed D.told D.held D.has_failed L.told L.held L.has_failed in
             Plays known T.told T.held T.has_failed given self.desk self.text result }
         ensures shows { let custom = custom_of self.bindings ⟦<EventHandler as Decides>⟧.decides in
-            let helps = helping_by H.hint_of H.fails H.verdict_of H.validating_fails H.marks in
+            let helps = helping_by H.hint_of H.verdict_of H.completion_of H.update_of H.marks in
             let given = given_by self.config custom (string_bytes self.prompt)
             (screen_of self.desk.out) (helps self.desk.helper) in
             let known = known_by S.feed D.told D.held D.has_failed L.told L.held L.has_failed in

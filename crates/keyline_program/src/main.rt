@@ -7,17 +7,20 @@ mod history_file;
 
 use keyline::{
     Ending, Options, Parsed, ReadSource, ReadlineError, Sink, SliceSource, VecSink, WriteSink,
-    edit, parse,
+    edit, load_words, parse,
 };
-use std::env;
 use std::io::ErrorKind;
 use std::process::ExitCode;
+use std::{env, fs};
 
 /// The status where words are no command line.
 const USAGE: u8 = 2;
 
 /// The status where a history doesn't load.
 const NO_HISTORY: u8 = 5;
+
+/// The status where words don't load.
+const NO_WORDS: u8 = 6;
 
 fn main(rt: HostRuntime) -> ExitCode {
     let words: Vec<String> = match env::args(&rt).and_then(|words| Ok(words.collect(rt.alloc())?)) {
@@ -42,10 +45,15 @@ fn main(rt: HostRuntime) -> ExitCode {
     }
 }
 
-/// Loads the history, runs a session, and saves the history.
+/// Loads the words and the history, runs a session, and saves the history.
 fn run(rt: &HostRuntime, options: &Options) -> ExitCode
     requires { (2 ≤ options.now.columns) × (options.now.columns ≤ 1000) }
 {
+    let words = match words_of(rt, options) {
+        Ok(words) => words,
+        Err(ReadlineError::Memory) => return ended(rt, Ending::Memory),
+        Err(_) => return not_loaded(rt, "words do not load", NO_WORDS),
+    };
     let old = match &options.history {
         Some(path) => history_file::load(rt, path.as_str()),
         None => Ok(Vec::new(rt.alloc())),
@@ -53,11 +61,12 @@ fn run(rt: &HostRuntime, options: &Options) -> ExitCode
     let old = match old {
         Ok(old) => old,
         Err(error) if error.kind() == ErrorKind::OutOfMemory => return ended(rt, Ending::Memory),
-        Err(_) => return not_loaded(rt),
+        Err(_) => return not_loaded(rt, "history does not load", NO_HISTORY),
     };
     let played = edit(
         rt.alloc(),
         options,
+        words,
         SliceSource::new(old.as_slice()),
         ReadSource::new(rt.reader()),
         WriteSink::new(rt.stderr()),
@@ -66,8 +75,14 @@ fn run(rt: &HostRuntime, options: &Options) -> ExitCode
     );
     match played {
         Ok(played) => ended(rt, kept(rt, options, played.ending, &played.text)),
-        Err(ReadlineError::HistoryText | ReadlineError::Reader) => not_loaded(rt),
-        Err(refusal) => ended(rt, Ending::from(refusal)),
+        Err(unopened) => match unopened.why {
+            ReadlineError::HistoryText | ReadlineError::Reader => not_loaded(
+                rt,
+                "history does not load",
+                NO_HISTORY,
+            ),
+            why => ended(rt, Ending::from(why)),
+        },
     }
 }
 
@@ -86,9 +101,24 @@ fn kept(rt: &HostRuntime, options: &Options, ending: Ending, text: &VecSink) -> 
     }
 }
 
-fn not_loaded(rt: &HostRuntime) -> ExitCode {
-    let _ = eprintln!(rt; "keyline: history does not load");
-    ExitCode::from(NO_HISTORY)
+/// The words of the file that the options name, if they name one.
+fn words_of(rt: &HostRuntime, options: &Options) -> Result<Option<Vec<String>>, ReadlineError> {
+    let Some(path) = &options.words else {
+        return Ok(None);
+    };
+    let text = match fs::read(rt, path.as_str()) {
+        Ok(text) => text,
+        Err(error) if error.kind() == ErrorKind::OutOfMemory => return Err(ReadlineError::Memory),
+        Err(_) => return Err(ReadlineError::Reader),
+    };
+    let words = load_words(rt.alloc(), &mut SliceSource::new(text.as_slice()))?;
+    Ok(Some(words))
+}
+
+/// Says what does not load, and answers its status.
+fn not_loaded(rt: &HostRuntime, what: &str, status: u8) -> ExitCode {
+    let _ = eprintln!(rt; "keyline: {what}");
+    ExitCode::from(status)
 }
 
 /// Says how the session ended, where that was a fault.

@@ -1,11 +1,11 @@
 -- Calls of several events: what they make of a listener and of a text, and what is left where one is refused.
-use Rattle.std.proofs.Common.{◌≡◌, Bool, true, false, ℕ, ◌+◌, ◌-◌, arith, take, drop, List, [], ◌∷◌, ◌++◌, ◌⊎◌, inl, refl, sym, subst, ap, ◌∙◌, append_assoc}
+use Rattle.std.proofs.Common.{◌≡◌, Bool, true, false, ℕ, ◌+◌, ◌-◌, arith, take, drop, List, [], ◌∷◌, ◌++◌, inl, inr, refl, sym, subst, ap, ◌∙◌, append_assoc}
 use Rattle.std.specs.Prelude.{if◌then◌else◌, Result, Ok, Err, OnErr, IsUtf8, IsCharBoundary}
 use Rattle.std.proofs.lemmas.Result.{on_err_weaker}
 use Rattle.std.specs.List.{replace_range, insert_slice}
 use Rattle.line_buffer.specs.Event.{Event}
 use Rattle.line_buffer.specs.Event.Event.{StartKilling, StopKilling}
-use Rattle.line_buffer.specs.Replay.{Swaps, Replays, ReplaysAll, TakesAll, TellsOfChange, Reports, StopsAmong}
+use Rattle.line_buffer.specs.Replay.{Swaps, Replays, ReplaysAll, TakesAll, TellsOfChange, Reports, StopsAmong, wants_or}
 
 module _ {S : Type 0} (takes : S → Event → S → Type 0) where
   TakesAll-append : (es fs : List Event) (s t u : S) → TakesAll takes s es t → TakesAll takes t fs u → TakesAll takes s (es ++ fs) u
@@ -31,9 +31,9 @@ reports_then {S} {takes} {es} {fs} {s} {t} {u} {a} {b} {c} x y = record {
   replays = ReplaysAll-append es fs a b c x.replays y.replays;
 }
 
--- the first event was refused, or no memory was found for it
+-- the first event was stopped
 pub stops_at_once : {S : Type 0} (takes refuses : S → Event → S → Type 0) (events never : List Event) (e : Event) (s t : S) (a b : List ℕ)
-    → events ≡ e ∷ never → TellsOfChange e → (t ≡ s) ⊎ refuses s e t → b ≡ a → StopsAmong takes refuses [] events s t a b
+    → events ≡ e ∷ never → TellsOfChange e → refuses s e t → b ≡ a → StopsAmong takes refuses [] events s t a b
 stops_at_once takes refuses events never e s t a b split change h same = record {
   done = [];
   refused = e;
@@ -52,8 +52,8 @@ pub on_refusal : {T E : Type 0} (r : Result T E) {P : Type 0} → P → OnErr r 
 on_refusal {T} {E} r {P} h = elim r as (λ r. OnErr r P) [ Ok x ↦ tt | Err x ↦ h ]
 
 -- the refused event, as another equation has it
-pub refused_as : {S : Type 0} (refuses : S → Event → S → Type 0) {e f : Event} {s t : S} → e ≡ f → (t ≡ s) ⊎ refuses s e t → (t ≡ s) ⊎ refuses s f t
-refused_as refuses {e} {f} {s} {t} same h = subst (λ x. (t ≡ s) ⊎ refuses s x t) same h
+pub refused_as : {S : Type 0} (refuses : S → Event → S → Type 0) {e f : Event} {s t : S} → e ≡ f → wants_or refuses s e t → wants_or refuses s f t
+refused_as refuses {e} {f} {s} {t} same h = subst (λ x. wants_or refuses s x t) same h
 
 -- events under a test that holds
 pub if_true : {A : Type 0} (b : Bool) (x y : A) → b ≡ true → (if b then x else y) ≡ x
@@ -61,18 +61,34 @@ if_true b x y e = ap (λ v. if v then x else y) e
 
 -- no memory was found before anything was told
 pub stops_for_memory : {S : Type 0} (takes refuses : S → Event → S → Type 0) (events never : List Event) (e : Event) (s : S) (a b : List ℕ)
-    → events ≡ e ∷ never → TellsOfChange e → b ≡ a → StopsAmong takes refuses [] events s s a b
-stops_for_memory takes refuses events never e s a b split change same = stops_at_once takes refuses events never e s s a b split change (inl refl) same
+    → events ≡ e ∷ never → TellsOfChange e → b ≡ a → StopsAmong takes (wants_or refuses) [] events s s a b
+stops_for_memory takes refuses events never e s a b split change same = stops_at_once takes (wants_or refuses) events never e s s a b split change (inl refl) same
 
 -- the same where the answer is an error that was converted
 pub stops_at_once_on : {S T E : Type 0} (r : Result T E) (takes refuses : S → Event → S → Type 0) (events never : List Event) (e : Event) (s t : S) (a b : List ℕ)
-    → events ≡ e ∷ never → TellsOfChange e → (t ≡ s) ⊎ refuses s e t → b ≡ a → OnErr r (StopsAmong takes refuses [] events s t a b)
+    → events ≡ e ∷ never → TellsOfChange e → refuses s e t → b ≡ a → OnErr r (StopsAmong takes refuses [] events s t a b)
 stops_at_once_on r takes refuses events never e s t a b split change h same =
     elim r as (λ r. OnErr r (StopsAmong takes refuses [] events s t a b)) [ Ok x ↦ tt | Err x ↦ stops_at_once takes refuses events never e s t a b split change h same ]
 
 pub stops_for_memory_on : {S T E : Type 0} (r : Result T E) (takes refuses : S → Event → S → Type 0) (events never : List Event) (e : Event) (s : S) (a b : List ℕ)
-    → events ≡ e ∷ never → TellsOfChange e → b ≡ a → OnErr r (StopsAmong takes refuses [] events s s a b)
-stops_for_memory_on r takes refuses events never e s a b split change same = stops_at_once_on r takes refuses events never e s s a b split change (inl refl) same
+    → events ≡ e ∷ never → TellsOfChange e → b ≡ a → OnErr r (StopsAmong takes (wants_or refuses) [] events s s a b)
+stops_for_memory_on r takes refuses events never e s a b split change same = stops_at_once_on r takes (wants_or refuses) events never e s s a b split change (inl refl) same
+
+-- a call that wants memory too
+pub stops_wanting : {S : Type 0} {takes refuses : S → Event → S → Type 0} {closing es : List Event} {s t : S} {a b : List ℕ} → StopsAmong takes refuses closing es s t a b
+    → StopsAmong takes (wants_or refuses) closing es s t a b
+stops_wanting {S} {takes} {refuses} {closing} {es} {s} {t} {a} {b} x = record {
+  done = x.done;
+  refused = x.refused;
+  never = x.never;
+  split = x.split;
+  change = x.change;
+  between = x.between;
+  reported = x.reported;
+  left = x.left;
+  stopped = inr x.stopped;
+  closed = x.closed;
+}
 
 -- a call was refused after another was made
 pub stops_later : {S : Type 0} {takes refuses : S → Event → S → Type 0} {closing es fs : List Event} {s t u : S} {a b c : List ℕ} → Reports takes es s t a b

@@ -1,5 +1,5 @@
 -- The walk over the rows that are moved: what was told so far, and what is still to come.
-use Rattle.std.proofs.Common.{◌≡◌, ℕ, ◌+◌, ◌-◌, ◌<◌, ◌≤◌, Bool, true, false, List, [], ◌∷◌, ◌++◌, ◌⊎◌, inl, inr, length, get_or, take, drop, refl, sym, ap, ◌∙◌, subst, arith, append_assoc}
+use Rattle.std.proofs.Common.{◌≡◌, ℕ, ◌+◌, ◌-◌, ◌<◌, ◌≤◌, Bool, true, false, List, [], ◌∷◌, ◌++◌, inl, inr, length, get_or, take, drop, refl, sym, ap, ◌∙◌, subst, arith, append_assoc}
 use Rattle.std.specs.Prelude.{Result, Ok, Err, OnErr, IsUtf8, IsCharBoundary, slice_range}
 use Rattle.std.specs.List.{prefix_len}
 use Rattle.std.proofs.lemmas.List.{length-drop, drop-drop, drop-take, take-take, take_all, get_or-take, get_or-drop}
@@ -9,7 +9,7 @@ use Rattle.line_buffer.specs.declared.types.Movement.{Movement}
 use Rattle.line_buffer.specs.Event.{Event}
 use Rattle.line_buffer.specs.Indent.{rows_covered, spaces, indent_events, rows_of, row_event, row_len, row_events}
 use Rattle.line_buffer.specs.Line.{Line}
-use Rattle.line_buffer.specs.Replay.{Replays, Reports, TellsOfChange, StopsAmong}
+use Rattle.line_buffer.specs.Replay.{Replays, Reports, TellsOfChange, StopsAmong, wants_or}
 use Rattle.line_buffer.specs.Replayed.{carried_line, carried_all, LeftAmong}
 use Rattle.line_buffer.specs.Rows.{is_in_row, row_start, row_end}
 use Rattle.line_buffer.specs.Settings.{SameSettings}
@@ -121,15 +121,15 @@ module _ {S : Type 0} (takes refuses : S → Event → S → Type 0) (margin : L
   row_is = take-take width (last - at) (drop at m.text) (omega (arith, short, size)) ∙ ap (λ k. take k (drop at m.text)) (let k : width ≡ end - at = omega (arith, ends) in k)
 
   -- the row was refused, or no memory was found for it
-  pub row_stops : {T E : Type 0} (r : Result T E) (u : S) (n : Line) → (u ≡ t) ⊎ refuses t (row_event margin dedent at row) u → n ≡ m
-      → OnErr r (StopsAmong takes refuses [] all s u l.text n.text)
+  pub row_stops : {T E : Type 0} (r : Result T E) (u : S) (n : Line) → wants_or refuses t (row_event margin dedent at row) u → n ≡ m
+      → OnErr r (StopsAmong takes (wants_or refuses) [] all s u l.text n.text)
   row_stops {T} {E} r u n h same =
       let first = row_events-some margin dedent at rows in
       let here : row_events margin dedent at (rows_of rows) ≡ row_event margin dedent at row ∷ first.0 = first.1 ∙ ap (λ x. row_event margin dedent at x ∷ first.0) row_is in
-      elim r as (λ r. OnErr r (StopsAmong takes refuses [] all s u l.text n.text)) [
+      elim r as (λ r. OnErr r (StopsAmong takes (wants_or refuses) [] all s u l.text n.text)) [
         | Ok x ↦ tt
-        | Err x ↦ subst (λ es. StopsAmong takes refuses [] es s u l.text n.text) (sym w.split)
-            (stops_later w.reported (stops_at_once takes refuses _ first.0 (row_event margin dedent at row) t u m.text n.text here (row_event_tells margin dedent at row) h (ap (λ l. l.text) same)))
+        | Err x ↦ subst (λ es. StopsAmong takes (wants_or refuses) [] es s u l.text n.text) (sym w.split)
+            (stops_later w.reported (stops_at_once takes (wants_or refuses) _ first.0 (row_event margin dedent at row) t u m.text n.text here (row_event_tells margin dedent at row) h (ap (λ l. l.text) same)))
       ]
 
   -- and the line is what those before it made

@@ -46,10 +46,14 @@ TellsOfChange StartKilling = ⊥
 TellsOfChange StopKilling = ⊥
 TellsOfChange e = Unit {0}
 
+-- the line finds no memory for an event, and the listener isn't told of it; or the listener refuses
+abbrev pub wants_or : {S : Type 0} → (S → Event → S → Type 0) → S → Event → S → Type 0
+wants_or refuses s e t = (t ≡ s) ⊎ refuses s e t
+
 -- memory was wanting at one of the events: those before it were done, and led to the text that is
--- left; for that one the line found none, or the listener refused it; those after it never come.
--- What closes the call was told in the end
-pub record StopsAmong {S : Type 0} (takes refuses : S → Event → S → Type 0)
+-- left; that one was stopped, by the listener's refusal or as `wants_or` has it; those after it
+-- never come. What closes the call was told in the end
+pub record StopsAmong {S : Type 0} (takes stops : S → Event → S → Type 0)
     (closing events : List Event)
     (s t : S) (before after : List ℕ) : Type 0 where
   pub done : List Event
@@ -60,7 +64,7 @@ pub record StopsAmong {S : Type 0} (takes refuses : S → Event → S → Type 0
   pub between : S
   pub reported : Reports takes done s between before after
   pub left : S
-  pub stopped : (left ≡ between) ⊎ refuses between refused left
+  pub stopped : stops between refused left
   pub closed : Reports takes closing left t after after
 
 -- the event of each change

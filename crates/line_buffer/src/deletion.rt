@@ -23,7 +23,7 @@ impl LineBuffer {
     ghost use Rattle.std.specs.Prelude.{◌≡◌, ◌≤◌, [], slice_range, IsCharBoundary, length, is_some, option_map, string_bytes, true, IfSome, IfOk, OnOk, OnErr};
     ghost use Rattle.line_buffer.specs.declared.types.Movement.TheVariants.{BeginningOfLine, EndOfLine, BackwardWord, ForwardWord, ViCharSearch, BackwardChar, ForwardChar, BeginningOfBuffer, EndOfBuffer};
     ghost use Rattle.line_buffer.specs.Range.{IsSpanOf, range_of, copied_range, span_text, deletion_events, deletion_line, kill_events, kill_closing, kill_line};
-    ghost use Rattle.line_buffer.specs.Replay.{Reports, StopsAmong};
+    ghost use Rattle.line_buffer.specs.Replay.{Reports, StopsAmong, wants_or};
 
     /// Takes a part out, if there is one.
     fn delete_span<D: DeleteListener>(
@@ -87,7 +87,7 @@ impl LineBuffer {
         ensures line { OnOk result (self.new ≡ deletion_line (range_of (ForwardChar n) self.old)
             self.old) }
         ensures shrinks { length self.new.text ≤ length self.old.text }
-        ensures stopped { OnErr result (StopsAmong D.takes D.refuses []
+        ensures stopped { OnErr result (StopsAmong D.takes (wants_or D.refuses) []
             (deletion_events (range_of (ForwardChar n) self.old) self.old) dl.old dl.new
             self.old.text self.new.text) }
         ensures kept { OnErr result (self.new ≡ self.old) }
@@ -306,8 +306,9 @@ impl LineBuffer {
     /// A text of its own of what a movement names: of a row without its newline, and of the rest of
     /// a row or of what stands before the cursor in it `None` where that is nothing.
     pub fn copy(&self, alloc: Global, movement: &Movement) -> Result<Option<String>, OutOfMemory>
-        ensures { IfOk result (λ t. option_map string_bytes t ≡ option_map
+        ensures text { IfOk result (λ t. option_map string_bytes t ≡ option_map
             (λ s. span_text s self.now) (copied_range movement.now self.now)) }
+        ensures some { OnErr result (is_some (copied_range movement.now self.now) ≡ true) }
     {
         let span = self.copied_range(movement);
         self.copy_span(alloc, span)

@@ -7,10 +7,10 @@ use std::alloc::Global;
 use std::ops::Range;
 
 impl LineBuffer {
-    ghost use Rattle.std.specs.Prelude.{◌≡◌, ◌==◌, ◌≤◌, ◌⊎◌, length, IfOk, OnOk, OnErr, IsCharBoundary};
+    ghost use Rattle.std.specs.Prelude.{◌≡◌, ◌==◌, ◌≤◌, length, IfOk, OnOk, OnErr, IsCharBoundary};
     ghost use Rattle.std.specs.List.{insert_slice};
     ghost use Rattle.line_buffer.specs.Line.{replaced, cut_out, put_in};
-    ghost use Rattle.line_buffer.specs.Replay.{Replays, deletion, insertion, replacement};
+    ghost use Rattle.line_buffer.specs.Replay.{Replays, deletion, insertion, replacement, wants_or};
     ghost use Rattle.line_buffer.specs.declared.types.Direction.TheVariants.{Forward};
 
     /// Puts `text` in place of a range, with the cursor after it. The range, in bytes, begins and
@@ -30,7 +30,7 @@ impl LineBuffer {
         ensures replays { OnOk result (Replays (replacement range.start range.end text.now
             self.old.text) self.old.text self.new.text) }
         ensures line { OnOk result (self.new ≡ replaced range.start range.end text.now self.old) }
-        ensures refused { OnErr result ((cl.new ≡ cl.old) ⊎ C.refuses cl.old
+        ensures refused { OnErr result (wants_or C.refuses cl.old
             (replacement range.start range.end text.now self.old.text) cl.new) }
         ensures kept { OnErr result (self.new ≡ self.old) }
     {
@@ -57,7 +57,7 @@ impl LineBuffer {
         ensures replays { OnOk result (Replays (insertion idx text.now) self.old.text
             self.new.text) }
         ensures line { OnOk result (self.new ≡ put_in idx text.now self.old) }
-        ensures refused { OnErr result ((cl.new ≡ cl.old) ⊎ C.refuses cl.old
+        ensures refused { OnErr result (wants_or C.refuses cl.old
             (insertion idx text.now) cl.new) }
         ensures kept { OnErr result (self.new ≡ self.old) }
     {

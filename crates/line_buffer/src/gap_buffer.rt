@@ -39,9 +39,9 @@ impl<'a> Model for GapBuffer<'a> {
 }
 
 impl<'a> GapBuffer<'a> {
-    ghost use Rattle.std.specs.Prelude.{◌≡◌, ◌+◌, ◌≤◌, ◌⊎◌, length, drop, IfOk, OnOk, OnErr, IsUtf8, IsCharBoundary};
+    ghost use Rattle.std.specs.Prelude.{◌≡◌, ◌+◌, ◌≤◌, length, drop, IfOk, OnOk, OnErr, IsUtf8, IsCharBoundary};
     ghost use Rattle.line_buffer.specs.declared.types.Direction.TheVariants.{Forward};
-    ghost use Rattle.line_buffer.specs.Replay.{Replays, deletion, insertion};
+    ghost use Rattle.line_buffer.specs.Replay.{Replays, deletion, insertion, wants_or};
     ghost use Rattle.line_buffer.specs.Replayed.{carried_line};
 
     /// The gap before a whole line.
@@ -127,7 +127,7 @@ impl<'a> GapBuffer<'a> {
               self.old.0,
           self.old.1 + length text.now,
         )) }
-        ensures refused { OnErr result ((cl.new ≡ cl.old) ⊎ C.refuses cl.old
+        ensures refused { OnErr result (wants_or C.refuses cl.old
             (insertion self.old.1 text.now) cl.new) }
         ensures kept { OnErr result (self.new ≡ self.old) }
     {

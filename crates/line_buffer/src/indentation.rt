@@ -27,10 +27,10 @@ fn leading_len(row: &str, count: usize) -> usize
 }
 
 impl<'a> GapBuffer<'a> {
-    ghost use Rattle.std.specs.Prelude.{◌≡◌, ◌+◌, ◌≤◌, ◌⊎◌, [], length, slice_range, drop, IfOk, OnOk, OnErr, IsCharBoundary};
+    ghost use Rattle.std.specs.Prelude.{◌≡◌, ◌+◌, ◌≤◌, [], length, slice_range, drop, IfOk, OnOk, OnErr, IsCharBoundary};
     ghost use Rattle.line_buffer.specs.Indent.{leading, rows_of, row_event, row_len, row_events};
     ghost use Rattle.line_buffer.specs.Settings.{SameSettings};
-    ghost use Rattle.line_buffer.specs.Replay.{Replays, Reports, StopsAmong};
+    ghost use Rattle.line_buffer.specs.Replay.{Replays, Reports, StopsAmong, wants_or};
     ghost use Rattle.std.specs.List.{prefix_len};
     ghost use Rattle.line_buffer.specs.Rows.{is_in_row};
     ghost use Rattle.line_buffer.specs.Replayed.{carried_line, carried_all, LeftAmong};
@@ -58,7 +58,7 @@ impl<'a> GapBuffer<'a> {
             (slice_range self.old.0.text self.old.1 end)) self.old.0.text self.new.0.text) }
         ensures line { OnOk result (self.new.0 ≡ carried_line (row_event margin.now dedent
             self.old.1 (slice_range self.old.0.text self.old.1 end)) self.old.0) }
-        ensures refused { OnErr result ((cl.new ≡ cl.old) ⊎ C.refuses cl.old
+        ensures refused { OnErr result (wants_or C.refuses cl.old
             (row_event margin.now dedent self.old.1 (slice_range self.old.0.text self.old.1 end))
             cl.new) }
         ensures kept { OnErr result (self.new ≡ self.old) }
@@ -121,7 +121,7 @@ impl<'a> GapBuffer<'a> {
         ensures line { OnOk result (self.new.0 ≡ carried_all
             (row_events margin.now dedent self.old.1
             (rows_of (slice_range self.old.0.text self.old.1 upto))) self.old.0) }
-        ensures stopped { OnErr result (StopsAmong C.takes C.refuses []
+        ensures stopped { OnErr result (StopsAmong C.takes (wants_or C.refuses) []
             (row_events margin.now dedent self.old.1
             (rows_of (slice_range self.old.0.text self.old.1 upto))) cl.old cl.new self.old.0.text
             self.new.0.text) }
@@ -153,7 +153,7 @@ impl LineBuffer {
     ghost use Rattle.std.specs.Prelude.{◌≡◌, ◌≤◌, true, [], slice_range, IfOk, OnOk, OnErr, IsCharBoundary};
     ghost use Rattle.line_buffer.specs.Indent.{rows_covered, rows_of, row_events, indent_events, indent_line};
     ghost use Rattle.line_buffer.specs.Settings.{SameSettings};
-    ghost use Rattle.line_buffer.specs.Replay.{Reports, StopsAmong};
+    ghost use Rattle.line_buffer.specs.Replay.{Reports, StopsAmong, wants_or};
     ghost use Rattle.line_buffer.specs.Rows.{row_start, row_end};
     ghost use Rattle.line_buffer.specs.Replayed.{carried_all, LeftAmong};
 
@@ -175,7 +175,7 @@ impl LineBuffer {
         ensures line { OnOk result (self.new ≡ carried_all
             (row_events margin.now dedent rows.start
             (rows_of (slice_range self.old.text rows.start rows.end))) self.old) }
-        ensures stopped { OnErr result (StopsAmong C.takes C.refuses []
+        ensures stopped { OnErr result (StopsAmong C.takes (wants_or C.refuses) []
             (row_events margin.now dedent rows.start
             (rows_of (slice_range self.old.text rows.start rows.end))) cl.old cl.new self.old.text
             self.new.text) }
@@ -251,7 +251,7 @@ impl LineBuffer {
         ensures told { OnOk result (Reports C.takes (indent_events movement.now amount dedent
             self.old) cl.old cl.new self.old.text self.new.text) }
         ensures line { OnOk result (self.new ≡ indent_line movement.now amount dedent self.old) }
-        ensures stopped { OnErr result (StopsAmong C.takes C.refuses []
+        ensures stopped { OnErr result (StopsAmong C.takes (wants_or C.refuses) []
             (indent_events movement.now amount dedent self.old) cl.old cl.new self.old.text
             self.new.text) }
         ensures carried { OnErr result (LeftAmong (indent_events movement.now amount dedent

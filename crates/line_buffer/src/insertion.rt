@@ -23,13 +23,13 @@ fn last_cut(text: &str, room: usize) -> usize
 
 #[tactic(auto, using(crate::proofs::ReplayLemmas::stops_at_once))]
 impl LineBuffer {
-    ghost use Rattle.std.specs.Prelude.{◌≡◌, ℕ, ◌≤◌, ◌-◌, ◌==◌, ◌⊎◌, true, [], length, min, IsUtf8, IfOk, OnOk, OnErr, IsCharBoundary, encode_utf8};
+    ghost use Rattle.std.specs.Prelude.{◌≡◌, ℕ, ◌≤◌, ◌-◌, ◌==◌, true, [], length, min, IsUtf8, IfOk, OnOk, OnErr, IsCharBoundary, encode_utf8};
     ghost use Rattle.std.specs.List.{repeat};
     ghost use Rattle.line_buffer.specs.declared.types.Direction.TheVariants.{Forward};
     ghost use Rattle.line_buffer.specs.Event.Event.{InsertChar};
     ghost use Rattle.line_buffer.specs.Insertions.{has_room, kept_text, update_events, update_line, put_at_cursor, insertion_by, insertion_of, can_take_before, without_before, insert, yank, yank_pop};
     ghost use Rattle.line_buffer.specs.Settings.{SameSettings};
-    ghost use Rattle.line_buffer.specs.Replay.{Replays, Reports, StopsAmong, deletion, insertion};
+    ghost use Rattle.line_buffer.specs.Replay.{Replays, Reports, StopsAmong, deletion, insertion, wants_or};
     ghost use Rattle.line_buffer.specs.Replayed.{LeftAmong};
 
     /// So many bytes more may be put in by the calls that look at the limit.
@@ -123,7 +123,7 @@ impl LineBuffer {
         ensures told { OnOk result (Reports C.takes (update_events text.now self.old) cl.old cl.new
             self.old.text self.new.text) }
         ensures line { OnOk result (self.new ≡ update_line text.now pos self.old) }
-        ensures stopped { OnErr result (StopsAmong C.takes C.refuses []
+        ensures stopped { OnErr result (StopsAmong C.takes (wants_or C.refuses) []
             (update_events text.now self.old) cl.old cl.new self.old.text self.new.text) }
         ensures carried { OnErr result (LeftAmong (update_events text.now self.old) self.old
             self.new) }
@@ -150,7 +150,7 @@ impl LineBuffer {
         ensures replays { OnOk result (Replays (insertion self.old.place text.now) self.old.text
             self.new.text) }
         ensures line { OnOk result (self.new ≡ put_at_cursor text.now self.old) }
-        ensures refused { OnErr result ((cl.new ≡ cl.old) ⊎ C.refuses cl.old
+        ensures refused { OnErr result (wants_or C.refuses cl.old
             (insertion self.old.place text.now) cl.new) }
         ensures kept { OnErr result (self.new ≡ self.old) }
     {
@@ -175,7 +175,7 @@ impl LineBuffer {
         ensures replays { OnOk result (Replays (InsertChar self.old.place ch) self.old.text
             self.new.text) }
         ensures line { OnOk result (self.new ≡ put_at_cursor (encode_utf8 ch) self.old) }
-        ensures refused { OnErr result ((cl.new ≡ cl.old) ⊎ C.refuses cl.old
+        ensures refused { OnErr result (wants_or C.refuses cl.old
             (InsertChar self.old.place ch) cl.new) }
         ensures kept { OnErr result (self.new ≡ self.old) }
     {
@@ -200,7 +200,7 @@ impl LineBuffer {
             self.old.text self.new.text) }
         ensures line { OnOk result (self.new ≡ (insertion_by (insertion self.old.place text.now)
             text.now self.old).line) }
-        ensures stopped { OnErr result (StopsAmong C.takes C.refuses []
+        ensures stopped { OnErr result (StopsAmong C.takes (wants_or C.refuses) []
             (insertion_by (insertion self.old.place text.now) text.now self.old).events cl.old
             cl.new self.old.text self.new.text) }
         ensures kept { OnErr result (self.new ≡ self.old) }
@@ -224,7 +224,7 @@ impl LineBuffer {
         ensures told { OnOk result (Reports C.takes (insertion_of text.now n self.old).events cl.old
             cl.new self.old.text self.new.text) }
         ensures line { OnOk result (self.new ≡ (insertion_of text.now n self.old).line) }
-        ensures stopped { OnErr result (StopsAmong C.takes C.refuses []
+        ensures stopped { OnErr result (StopsAmong C.takes (wants_or C.refuses) []
             (insertion_of text.now n self.old).events cl.old cl.new self.old.text self.new.text) }
         ensures kept { OnErr result (self.new ≡ self.old) }
     {
@@ -253,7 +253,7 @@ impl LineBuffer {
         ensures told { OnOk result (Reports C.takes (insert ch n self.old).events cl.old cl.new
             self.old.text self.new.text) }
         ensures line { OnOk result (self.new ≡ (insert ch n self.old).line) }
-        ensures stopped { OnErr result (StopsAmong C.takes C.refuses []
+        ensures stopped { OnErr result (StopsAmong C.takes (wants_or C.refuses) []
             (insert ch n self.old).events cl.old cl.new self.old.text self.new.text) }
         ensures kept { OnErr result (self.new ≡ self.old) }
     {
@@ -283,7 +283,7 @@ impl LineBuffer {
         ensures told { OnOk result (Reports C.takes (yank text.now n self.old).events cl.old cl.new
             self.old.text self.new.text) }
         ensures line { OnOk result (self.new ≡ (yank text.now n self.old).line) }
-        ensures stopped { OnErr result (StopsAmong C.takes C.refuses []
+        ensures stopped { OnErr result (StopsAmong C.takes (wants_or C.refuses) []
             (yank text.now n self.old).events cl.old cl.new self.old.text self.new.text) }
         ensures kept { OnErr result (self.new ≡ self.old) }
     {
@@ -319,7 +319,7 @@ impl LineBuffer {
         ensures told { OnOk result (Reports C.takes (yank_pop yank_size text.now self.old).events
             cl.old cl.new self.old.text self.new.text) }
         ensures line { OnOk result (self.new ≡ (yank_pop yank_size text.now self.old).line) }
-        ensures stopped { OnErr result (StopsAmong C.takes C.refuses []
+        ensures stopped { OnErr result (StopsAmong C.takes (wants_or C.refuses) []
             (yank_pop yank_size text.now self.old).events cl.old cl.new
             self.old.text self.new.text) }
         ensures carried { OnErr result (LeftAmong (yank_pop yank_size text.now self.old).events

@@ -58,7 +58,7 @@ fn recased(alloc: Global, action: WordAction, word: &str) -> Result<String, OutO
 impl LineBuffer {
     ghost use Rattle.std.specs.Prelude.{◌≡◌, ◌≤◌, [], is_some, IfSome, IfOk, OnOk, OnErr, IsCharBoundary};
     ghost use Rattle.line_buffer.specs.LetterCase.{word_at_or_after, word_to_edit, edit_word_events, edit_word_line};
-    ghost use Rattle.line_buffer.specs.Replay.{Reports, StopsAmong};
+    ghost use Rattle.line_buffer.specs.Replay.{Reports, StopsAmong, wants_or};
 
     /// The place of the first cluster of a word at the cursor or after it.
     fn word_at_or_after(&self) -> Option<usize>
@@ -104,7 +104,7 @@ impl LineBuffer {
         ensures told { OnOk result (Reports C.takes (edit_word_events action self.old) cl.old cl.new
             self.old.text self.new.text) }
         ensures line { OnOk result (self.new ≡ edit_word_line action self.old) }
-        ensures stopped { OnErr result (StopsAmong C.takes C.refuses []
+        ensures stopped { OnErr result (StopsAmong C.takes (wants_or C.refuses) []
             (edit_word_events action self.old) cl.old cl.new self.old.text self.new.text) }
         ensures kept { OnErr result (self.new ≡ self.old) }
     {

@@ -42,7 +42,7 @@ fn later_first(
 impl LineBuffer {
     ghost use Rattle.std.specs.Prelude.{◌≡◌, ◌≤◌, nat_lt, [], length, IfOk, OnOk, OnErr, IsCharBoundary};
     ghost use Rattle.line_buffer.specs.Settings.{SameSettings};
-    ghost use Rattle.line_buffer.specs.Replay.{Reports, StopsAmong};
+    ghost use Rattle.line_buffer.specs.Replay.{Reports, StopsAmong, wants_or};
     ghost use Rattle.line_buffer.specs.Replayed.{LeftAmong};
     ghost use Rattle.line_buffer.specs.Transpositions.{clusters_around, between_clusters, clusters_at, transposes_chars, transpose_chars_events, transpose_chars_line, after_words, before_words, first_word, words_around, swap_events, swap_line, transposes_words, transpose_words_events, transpose_words_line};
 
@@ -89,7 +89,7 @@ impl LineBuffer {
         ensures told { OnOk result (Reports C.takes (transpose_chars_events self.old) cl.old cl.new
             self.old.text self.new.text) }
         ensures line { OnOk result (self.new ≡ transpose_chars_line self.old) }
-        ensures stopped { OnErr result (StopsAmong C.takes C.refuses []
+        ensures stopped { OnErr result (StopsAmong C.takes (wants_or C.refuses) []
             (transpose_chars_events self.old) cl.old cl.new self.old.text self.new.text) }
         ensures kept { OnErr result (self.new ≡ self.old) }
         ensures length { length self.new.text ≡ length self.old.text }
@@ -165,7 +165,7 @@ impl LineBuffer {
               second_start = second.start;
               second_end = second.end;
             }) self.old) }
-        ensures stopped { OnErr result (StopsAmong C.takes C.refuses []
+        ensures stopped { OnErr result (StopsAmong C.takes (wants_or C.refuses) []
             (swap_events (record {
               first_start = first.start;
               first_end = first.end;
@@ -207,7 +207,7 @@ impl LineBuffer {
         ensures told { OnOk result (Reports C.takes (transpose_words_events n self.old) cl.old
             cl.new self.old.text self.new.text) }
         ensures line { OnOk result (self.new ≡ transpose_words_line n self.old) }
-        ensures stopped { OnErr result (StopsAmong C.takes C.refuses []
+        ensures stopped { OnErr result (StopsAmong C.takes (wants_or C.refuses) []
             (transpose_words_events n self.old) cl.old cl.new self.old.text self.new.text) }
         ensures carried { OnErr result (LeftAmong (transpose_words_events n self.old)
             (after_words 1 (first_word n self.old)) self.new) }

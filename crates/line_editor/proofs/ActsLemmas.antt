@@ -13,7 +13,7 @@ use Rattle.line_record.specs.Ring.{Ring}
 use Rattle.line_editor.specs.Accepting.{submitted}
 use Rattle.line_editor.specs.Acts.{Act, Sees, Gets, Obeys, Stage, stage, CutIn, script_acts, command_acts, turn_acts, acts_after, acts_from, acts_of}
 use Rattle.line_editor.specs.Asks.{shown_in, ask_effect}
-use Rattle.line_editor.specs.Calls.{Call, Canvas, Ruler, Begun}
+use Rattle.line_editor.specs.Calls.{Call, Canvas, Ruler, MadeIn, Begun}
 use Rattle.line_editor.specs.Courses.{redraws_in}
 use Rattle.line_editor.specs.Drawing.{refreshed}
 use Rattle.line_editor.specs.Lines.{Enacted, enacted, line_phrase, phrase_enacted, Told, Turned, turned_by, turn_of, after_turn, line_from, line_of}
@@ -23,7 +23,7 @@ use Rattle.line_editor.specs.Starts.{first_value}
 use Rattle.line_editor.specs.Values.{Value, Setting, Effect}
 use Rattle.line_editor.specs.declared.commands.Status.{Status}
 use Rattle.line_editor.specs.declared.commands.Status.TheVariants.{Proceed, Submit}
-use Rattle.line_editor.proofs.BegunLemmas.{between_memory, begun_none, begun_before, begun_behind, folds_apart}
+use Rattle.line_editor.proofs.BegunLemmas.{begun_none, begun_before, begun_behind, folds_apart}
 use Rattle.line_editor.proofs.DoesLemmas.{asked_both}
 
 -- ---- what acts come to
@@ -177,7 +177,7 @@ module _ {R : Type 0} (canvas : Canvas R) (r : Ruler) (fault : ReadlineError) wh
   cut_here : (acts : List Act) (l : Layout) (old : Stage R) → fault ≡ Memory → CutIn canvas r fault acts l old old
   unfolding CutIn
   cut_here [] l old is = (is, refl)
-  cut_here (Sees redraws ∷ more) l old is = inl (begun_none canvas fault (asked r l redraws).calls old.out old.out (between_memory fault is) refl, refl)
+  cut_here (Sees redraws ∷ more) l old is = inl (begun_none canvas fault (asked r l redraws).calls old.out old.out is refl, refl)
   cut_here (Gets rest ∷ more) l old is = inl (is, inl refl)
   cut_here (Obeys textless ring redraws ∷ more) l old is = inl (is, refl)
 
@@ -191,7 +191,7 @@ module _ {R : Type 0} (canvas : Canvas R) (r : Ruler) (fault : ReadlineError) wh
   unfolding CutIn
   cut_seeing redraws more l old new c k h = inl (h, refl)
 
-  pub cut_seen : (redraws : List Redraw) (more : List Act) (l : Layout) (old new : Stage R) (out : R) → FoldsTo canvas.made old.out (asked r l redraws).calls out
+  pub cut_seen : (redraws : List Redraw) (more : List Act) (l : Layout) (old new : Stage R) (out : R) → FoldsTo (MadeIn canvas) old.out (asked r l redraws).calls out
       → CutIn canvas r fault more (asked r l redraws).layout (stage out old.coming old.ring) new → CutIn canvas r fault (Sees redraws ∷ more) l old new
   unfolding CutIn
   cut_seen redraws more l old new out made h = inr (out, made, h)
@@ -224,21 +224,21 @@ module _ {R : Type 0} (canvas : Canvas R) (r : Ruler) (fault : ReadlineError) wh
       inr (inr (out, made, cut_before acts more (asked r l redraws).layout (stage out old.coming ring) new h))
 
   -- those before them were done in full
-  pub cut_behind : (acts more : List Act) (l : Layout) (old new : Stage R) (out : R) → FoldsTo canvas.made old.out (asked_of r l acts).calls out
+  pub cut_behind : (acts more : List Act) (l : Layout) (old new : Stage R) (out : R) → FoldsTo (MadeIn canvas) old.out (asked_of r l acts).calls out
       → CutIn canvas r fault more (asked_of r l acts).layout (stage out (rest_of old.coming acts) (ring_of old.ring acts)) new → CutIn canvas r fault (acts ++ more) l old new
   unfolding CutIn
   cut_behind [] more l old new out made h = subst (λ x. CutIn canvas r fault more l (stage x old.coming old.ring) new) (sym made) h
   cut_behind (Sees redraws ∷ acts) more l old new out made h =
-      let parts = folds_apart canvas.made (asked r l redraws).calls (asked_of r (asked r l redraws).layout acts).calls old.out out made in
+      let parts = folds_apart (MadeIn canvas) (asked r l redraws).calls (asked_of r (asked r l redraws).layout acts).calls old.out out made in
       inr (parts.0, parts.1, cut_behind acts more (asked r l redraws).layout (stage parts.0 old.coming old.ring) new out parts.2 h)
   cut_behind (Gets rest ∷ acts) more l old new out made h = inr (cut_behind acts more l (stage old.out rest old.ring) new out made h)
   cut_behind (Obeys textless ring redraws ∷ acts) more l old new out made h =
-      let parts = folds_apart canvas.made (asked r l redraws).calls (asked_of r (asked r l redraws).layout acts).calls old.out out made in
+      let parts = folds_apart (MadeIn canvas) (asked r l redraws).calls (asked_of r (asked r l redraws).layout acts).calls old.out out made in
       inr (inr (parts.0, parts.1, cut_behind acts more (asked r l redraws).layout (stage parts.0 old.coming ring) new out parts.2 h))
 
   -- memory was wanting before any call
   still : (calls : List Call) (old new : R) → fault ≡ Memory → new ≡ old → Begun canvas fault calls old new
-  still calls old new is same = begun_none canvas fault calls old new (between_memory fault is) same
+  still calls old new is same = begun_none canvas fault calls old new is same
 
   -- the calls made are the first of all
   begun_in : (acts : List Act) (l : Layout) (old new : Stage R) → CutIn canvas r fault acts l old new → Begun canvas fault (asked_of r l acts).calls old.out new.out

@@ -1,41 +1,65 @@
 -- Calls of which the first ones were made, and a fault.
-use Rattle.std.proofs.Common.{◌≡◌, false, true≢false, List, [], ◌∷◌, ◌++◌, refl, sym, subst, inl, inr}
+use Rattle.std.proofs.Common.{◌≡◌, Bool, true, false, true≢false, List, [], ◌∷◌, ◌++◌, refl, sym, subst, inl, inr, IsTrue}
+use Rattle.std.specs.Prelude.{Option, Some, None, IsFalse}
 use Rattle.std.specs.List.{FoldsTo}
+use Rattle.line_buffer.specs.declared.layout.Layout.{Layout}
 use Rattle.line_config.specs.declared.errors.ReadlineError.{ReadlineError}
 use Rattle.line_config.specs.declared.errors.ReadlineError.TheVariants.{Display, Helper, Memory}
-use Rattle.line_editor.specs.Calls.{Call, Canvas, ComesBetween, Begun}
-use Rattle.line_editor.specs.States.{reason_of}
+use Rattle.line_keys.specs.Replies.{Reply}
+use Rattle.line_editor.specs.Calls.{Call, Canvas, Ruler, MadeIn, RefusedIn, Begun}
+use Rattle.line_editor.specs.Calls.Call.{Help}
+use Rattle.line_editor.specs.Redraws.{asked}
+use Rattle.line_editor.specs.States.{fails_by, IsHelpFault}
+use Rattle.line_editor.specs.Values.{helped}
 
--- a fault for which no display failed comes between calls
-pub between_of : (hook : Type 0) (fault : ReadlineError) → reason_of false hook fault → ComesBetween fault
-between_of hook Helper why = tt
-between_of hook Memory why = tt
-between_of hook Display why = absurd (true≢false (sym why))
-between_of hook _ why = absurd why
+-- what a renderer does
+abbrev pub draws : Call → Bool
+draws (Help fails) = false
+draws call = true
 
-pub between_memory : (fault : ReadlineError) → fault ≡ Memory → ComesBetween fault
-between_memory fault is = subst ComesBetween (sym is) tt
+pub made_by : {R : Type 0} (canvas : Canvas R) (call : Call) (old new : R) → draws call ≡ true → canvas.made old call new → MadeIn canvas old call new
+made_by canvas (Help fails) old new is h = absurd (true≢false (sym is))
+made_by canvas _ old new is h = h
+
+refused_by : {R : Type 0} (canvas : Canvas R) (fault : ReadlineError) (call : Call) (old new : R) → draws call ≡ true → fault ≡ Display → canvas.refused old call new → RefusedIn canvas fault old call new
+refused_by canvas fault (Help fails) old new is why h = absurd (true≢false (sym is))
+refused_by canvas fault _ old new is why h = (why, h)
 
 -- none was made
-pub begun_none : {R : Type 0} (canvas : Canvas R) (fault : ReadlineError) (calls : List Call) (old new : R) → ComesBetween fault → new ≡ old → Begun canvas fault calls old new
+pub begun_none : {R : Type 0} (canvas : Canvas R) (fault : ReadlineError) (calls : List Call) (old new : R) → fault ≡ Memory → new ≡ old → Begun canvas fault calls old new
 unfolding Begun
-begun_none canvas fault [] old new between same = (between, same)
-begun_none canvas fault (call ∷ calls) old new between same = inl (between, same)
-
--- the same, by its reason
-pub begun_asking : {R : Type 0} (canvas : Canvas R) (fault : ReadlineError) (calls : List Call) (old new : R) (hook : Type 0) → reason_of false hook fault → new ≡ old → Begun canvas fault calls old new
-begun_asking canvas fault calls old new hook why same = begun_none canvas fault calls old new (between_of hook fault why) same
+begun_none canvas fault [] old new why same = (why, same)
+begun_none canvas fault (call ∷ calls) old new why same = inl (why, same)
 
 -- the first one was refused
-pub begun_refused : {R : Type 0} (canvas : Canvas R) (fault : ReadlineError) (call : Call) (calls : List Call) (old new : R) → fault ≡ Display → canvas.refused old call new → Begun canvas fault (call ∷ calls) old new
-unfolding Begun
-begun_refused canvas fault call calls old new is h = inr (inl (is, h))
-
--- the first one was made
-pub begun_made : {R : Type 0} (canvas : Canvas R) (fault : ReadlineError) (call : Call) (calls : List Call) (old between new : R) → canvas.made old call between → Begun canvas fault calls between new
+pub begun_refused : {R : Type 0} (canvas : Canvas R) (fault : ReadlineError) (call : Call) (calls : List Call) (old new : R) → draws call ≡ true → fault ≡ Display → canvas.refused old call new
     → Begun canvas fault (call ∷ calls) old new
 unfolding Begun
-begun_made canvas fault call calls old between new h k = inr (inr (between, h, k))
+begun_refused canvas fault call calls old new is why h = inr (inl (refused_by canvas fault call old new is why h))
+
+-- the first one was made
+pub begun_made : {R : Type 0} (canvas : Canvas R) (fault : ReadlineError) (call : Call) (calls : List Call) (old between new : R) → draws call ≡ true → canvas.made old call between
+    → Begun canvas fault calls between new → Begun canvas fault (call ∷ calls) old new
+unfolding Begun
+begun_made canvas fault call calls old between new is h k = inr (inr (between, made_by canvas call old between is h, k))
+
+-- a hook was asked
+pub help_made : {R A : Type 0} (canvas : Canvas R) (r : Ruler) (l : Layout) (reply : Option (Reply A)) (old new : R) → IsFalse (fails_by reply) → new ≡ old
+    → FoldsTo (MadeIn canvas) old (asked r l (helped reply)).calls new
+help_made canvas r l None old new works same = sym same
+help_made canvas r l (Some reply) old new works same = (old, (works, refl), sym same)
+
+pub help_layout : {A : Type 0} (r : Ruler) (l : Layout) (reply : Option (Reply A)) → (asked r l (helped reply)).layout ≡ l
+help_layout r l None = refl
+help_layout r l (Some reply) = refl
+
+pub help_refused : {R A : Type 0} (canvas : Canvas R) (r : Ruler) (l : Layout) (reply : Option (Reply A)) (fault : ReadlineError) (old new : R) → IsHelpFault reply fault → new ≡ old
+    → Begun canvas fault (asked r l (helped reply)).calls old new
+unfolding Begun
+help_refused canvas r l None fault old new why same = absurd why
+help_refused canvas r l (Some reply) Helper old new why same = inr (inl (refl, why, same))
+help_refused canvas r l (Some reply) Memory old new why same = inl (refl, same)
+help_refused canvas r l (Some reply) _ old new why same = absurd why
 
 -- more are asked after them
 pub begun_before : {R : Type 0} (canvas : Canvas R) (fault : ReadlineError) (calls more : List Call) (old new : R) → Begun canvas fault calls old new → Begun canvas fault (calls ++ more) old new
@@ -46,7 +70,7 @@ begun_before canvas fault (call ∷ calls) more old new (inr (inl h)) = inr (inl
 begun_before canvas fault (call ∷ calls) more old new (inr (inr (between, h, k))) = inr (inr (between, h, begun_before canvas fault calls more between new k))
 
 -- those before them were made
-pub begun_behind : {R : Type 0} (canvas : Canvas R) (fault : ReadlineError) (calls more : List Call) (old between new : R) → FoldsTo canvas.made old calls between → Begun canvas fault more between new
+pub begun_behind : {R : Type 0} (canvas : Canvas R) (fault : ReadlineError) (calls more : List Call) (old between new : R) → FoldsTo (MadeIn canvas) old calls between → Begun canvas fault more between new
     → Begun canvas fault (calls ++ more) old new
 unfolding Begun
 begun_behind canvas fault [] more old between new h k = subst (λ x. Begun canvas fault more x new) (sym h) k

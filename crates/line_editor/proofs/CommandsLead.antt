@@ -13,7 +13,9 @@ use Rattle.line_buffer.specs.declared.types.WordAction.{WordAction}
 use Rattle.line_buffer.specs.declared.types.WordAction.TheVariants.{Capitalize, Lowercase, Uppercase}
 use Rattle.line_edits.specs.Edits.{text_yanked, pop_in_group, overwritten, chars_replaced, indented, transpose_chars_in_group, transpose_words_in_group, edit_word_in_group, undone}
 use Rattle.line_edits.specs.Written.{group_opened, group_closed}
+use Rattle.line_help.specs.Completion.{Completion}
 use Rattle.line_help.specs.Hints.{Hinted}
+use Rattle.line_keys.specs.Replies.{Reply}
 use Rattle.line_help.specs.Search.{Hit}
 use Rattle.line_help.specs.Validation.{is_valid, has_message}
 use Rattle.line_help.specs.declared.search.SearchDirection.{SearchDirection}
@@ -26,19 +28,21 @@ use Rattle.line_keys.specs.declared.command.CmdKind.{CmdKind}
 use Rattle.line_keys.specs.declared.command.CmdKind.TheVariants.{ForcedRefresh, Other}
 use Rattle.line_record.specs.Held.{has_step, closes}
 use Rattle.line_record.specs.Ring.{exchanged}
-use Rattle.line_editor.specs.Accepting.{bared, bare, verdict, told_if, verdict_told, validate_by, validate, newline, accept, accepts, newline_if, accept_or_insert}
+use Rattle.line_editor.specs.Accepting.{bared, bare, verdict, told_if, verdict_told, closed_and_told, verdict_given, opened_and_asked, validate_by, validate, newline, accept, accepts, newline_if, accept_or_insert}
 use Rattle.line_editor.specs.Commands.{in_vi_command, line_up_or_previous, line_down_or_next}
+use Rattle.line_editor.specs.Completing.{elected, word_replaced, completed_with, completed, candidates_given, candidates_asked, complete_if}
+use Rattle.line_editor.specs.Drawing.{drawn, asked_anew, refreshed}
 use Rattle.line_editor.specs.Hinting.{at_row_end, completed_by, complete_by}
 use Rattle.line_editor.specs.Inserting.{insert_char}
 use Rattle.line_editor.specs.Leads.{Leads, CommandsLead, SubmittingLeads, AsksLead}
 use Rattle.line_editor.specs.Moving.{move_buffer_end}
-use Rattle.line_editor.specs.Redraws.Redraw.{Drawn, Bared, ToEnd}
+use Rattle.line_editor.specs.Redraws.Redraw.{Drawn, Bared, ToEnd, Beeped}
 use Rattle.line_editor.specs.Remembering.{saved_now, at_place, restored, recalled, saved_on_leaving, recall, history_step, history_end, hit_shown, history_search}
 use Rattle.line_editor.specs.Rewording.{transpose_chars, transpose_words, edit_word, unmarked, undo}
-use Rattle.line_editor.specs.Sights.{sight_as, sight_of, ended_sight, Turns, info_after}
-use Rattle.line_editor.specs.Values.{Value, Setting, rewritten, at_line}
+use Rattle.line_editor.specs.Sights.{sight_as, sight_with, sight_of, ended_sight, Turns, info_after}
+use Rattle.line_editor.specs.Values.{Value, Setting, hint_reply, verdict_reply, completion_reply, update_reply, shown_hint, rewritten, at_line}
 use Rattle.line_editor.specs.Yanking.{anchored, steps, behind_yank, yanked_by, yank_text, yank_lent, pop_lent}
-use Rattle.line_editor.proofs.LeadLemmas.{turns_both, info_both, both_lead, either, refresh_leads, told_leads, rest_leads, beep_leads, clear_leads, refresh_if_leads, step_leads, motion_leads, none_if, insertion_leads, kill_leads, replace_leads}
+use Rattle.line_editor.proofs.LeadLemmas.{turns_both, info_both, both_lead, either, help_turns, help_leads, asking_leads, redrawn_leads, refresh_leads, told_leads, rest_leads, beep_leads, clear_leads, refresh_if_leads, step_leads, motion_leads, none_if, insertion_leads, kill_leads, replace_leads}
 
 or_none : (a b : Bool) → (a || b) ≡ false → (a ≡ false) × (b ≡ false)
 or_none true b h = cc
@@ -167,12 +171,15 @@ verdict_leads Incomplete draws s v w h = rest_leads s v w h
 verdict_leads (Invalid text) draws s v w h = told_if_leads draws text Other s v w h
 verdict_leads (Valid text) draws s v w h = told_if_leads draws text ForcedRefresh s v w h
 
-validate_leads : (judge : Option (List ℕ → ValidationResult)) (s : Setting) (v : Value) → Leads s v (validate_by judge s v)
+validate_leads : (reply : Option (Reply ValidationResult)) (s : Setting) (v : Value) → Leads s v (validate_by reply s v)
 validate_leads None s v = rest_leads s v v refl
-validate_leads (Some judge) s v = verdict_leads (judge v.line.text) (closes v.held || is_some v.hint) s v (rewritten (λ w. group_closed (group_opened w)) v) refl
+validate_leads (Some reply) s v =
+    let found = verdict_given reply.answer in
+    let w = rewritten group_opened v in
+    both_lead s v opened_and_asked (closed_and_told found) (asking_leads (verdict_reply s v) s v w refl) (verdict_leads found (closes w.held || is_some w.hint) s w (rewritten group_closed w) refl)
 
 accept_leads : (s : Setting) (v : Value) → Leads s v (accept s v)
-accept_leads s v = both_lead s v bare validate (bare_leads s v) (validate_leads s.judge s (bare s v).value)
+accept_leads s v = both_lead s v bare validate (bare_leads s v) (validate_leads (verdict_reply s (bare s v).value) s (bare s v).value)
 
 newline_leads : (s : Setting) (v : Value) → Leads s v (newline s v)
 newline_leads s v = both_lead s v bare (insert_char 10 1) (bare_leads s v) (insertion_leads 10 1 s (bare s v).value)
@@ -189,13 +196,28 @@ accept_or_insert_leads middle s v =
 -- ---- hints
 
 completion_leads : (o : Option (List ℕ)) (s : Setting) (v w : Value) → Leads s v (completed_by o s w)
-completion_leads None s v w = λ info. record { fits = (tt, ((λ e. refl), tt)); leads = refl }
+completion_leads None s v w = redrawn_leads Beeped (hint_reply s w) s v (asked_anew s w).value (λ y. tt)
 completion_leads (Some text) s v w =
-    either s v (is_some (yanked_in text 1 w.line).answer) _ _ (λ e. refresh_leads s v (rewritten (text_yanked text 1) w)) (λ e info. record { fits = (tt, ((λ e. refl), tt)); leads = refl })
+    let u = rewritten (text_yanked text 1) w in
+    either s v (is_some (yanked_in text 1 w.line).answer) _ _ (λ e. refresh_leads s v u) (λ e. redrawn_leads Beeped (hint_reply s u) s v (asked_anew s u).value (λ y. tt))
 
 hint_leads : (o : Option Hinted) (s : Setting) (v : Value) → Leads s v (complete_by o s v)
 hint_leads None s v = rest_leads s v v refl
 hint_leads (Some hint) s v = completion_leads hint.completion s v (at_row_end v)
+
+-- ---- completion
+
+elected_leads : (start : ℕ) (o : Option (List ℕ)) (s : Setting) (v : Value) → Leads s v (completed_with start o s v)
+elected_leads start None s v = beep_leads s v v refl
+elected_leads start (Some text) s v =
+    let w = rewritten (word_replaced start text) v in
+    help_leads (update_reply start text s v) s v (refreshed s w) (refresh_leads s v w)
+
+complete_leads : (reply : Option (Reply Completion)) (s : Setting) (v : Value) → Leads s v (complete_if reply s v)
+complete_leads None s v = rest_leads s v v refl
+complete_leads (Some reply) s v =
+    let found = candidates_given (Some reply) in
+    both_lead s v candidates_asked (completed found) (asking_leads (completion_reply s v) s v v refl) (elected_leads found.start (elected found v.line) s v)
 
 -- ---- rows, or the history
 
@@ -213,7 +235,7 @@ commands_lead m AcceptLine s v = accept_leads s v
 commands_lead m BeginningOfHistory s v = end_leads true s v
 commands_lead m CapitalizeWord s v = word_leads Capitalize s v
 commands_lead m ClearScreen s v = clear_leads s v
-commands_lead m Complete s v = rest_leads s v v refl
+commands_lead m Complete s v = complete_leads (completion_reply s v) s v
 commands_lead m CompleteBackward s v = rest_leads s v v refl
 commands_lead m CompleteHint s v = hint_leads v.hint s v
 commands_lead m (Dedent movement) s v = refresh_leads s v (rewritten (indented movement m.indent_size true) v)
@@ -262,8 +284,13 @@ submitting_leads s v info =
     (turns_both s.prompt (sight_of s v info) y (ended_sight y) e.redraws (ToEnd ∷ []) (step_leads ForcedRefresh _ _ s v refl info) end)
 
 pub asks_lead : AsksLead
-asks_lead LineAsked s v x = record { fits = ((λ e. refl), tt); leads = refl }
+asks_lead LineAsked s v x =
+    let w = (asked_anew s v).value in
+    help_turns (hint_reply s v) s.prompt x (sight_of s w (shown_hint w)) (drawn s w ∷ []) (record { fits = ((λ e. refl), tt); leads = refl })
 asks_lead (Message text kind) s v x = record { fits = ((λ e. refl), tt); leads = refl }
-asks_lead (Prompted prompt) s v x = record { fits = ((λ e. cc), tt); leads = refl }
+asks_lead (Prompted prompt) s v x =
+    let w = (asked_anew s v).value in
+    help_turns (hint_reply s v) s.prompt x (sight_with false prompt w.line.text w.line.place (shown_hint w)) (Drawn prompt false w.line.text w.line.place (shown_hint w) ∷ [])
+    (record { fits = ((λ e. cc), tt); leads = refl })
 asks_lead DoingInsert s v x = refl
 asks_lead DoneInserting s v x = refl

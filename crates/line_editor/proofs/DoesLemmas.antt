@@ -3,8 +3,6 @@ use Rattle.std.proofs.Common.{◌≡◌, Bool, List, [], ◌∷◌, ◌++◌, re
 use Rattle.std.specs.Prelude.{ℕ, Result, Ok, Err, OnOk, IfErr, IsErrAnd}
 use Rattle.std.proofs.lemmas.Result.{on_ok_weaker, IfErr-weaker}
 use Rattle.line_buffer.specs.Cells.{origin}
-use Rattle.line_help.specs.Hints.{Hinted, Answers}
-use Rattle.line_help.specs.declared.validate.ValidationResult.{ValidationResult}
 use Rattle.line_keys.specs.declared.command.CmdKind.{CmdKind}
 use Rattle.std.specs.List.{FoldsTo}
 use Rattle.line_buffer.specs.declared.layout.Layout.{Layout}
@@ -14,10 +12,10 @@ use Rattle.line_help.specs.declared.hint as hints
 use Rattle.line_help.specs.declared.highlight as highlights
 use Rattle.line_help.specs.declared.validate as verdicts
 use Rattle.line_help.specs.declared.history as histories
-use Rattle.line_editor.specs.Calls.{Ruler, Begun}
+use Rattle.line_editor.specs.Calls.{Ruler, MadeIn, Begun}
 use Rattle.line_editor.specs.Redraws.{Redraw, Asked, one, asked, then_asked}
-use Rattle.line_editor.specs.States.{value_of, setting_of, Stays, Does}
-use Rattle.line_editor.specs.Values.{Setting, Effect, Transition, then_do}
+use Rattle.line_editor.specs.States.{hooks_of, value_of, setting_of, Stays, Does}
+use Rattle.line_editor.specs.Values.{Setting, Hooks, Effect, Transition, then_do}
 use Rattle.line_editor.specs.declared.renderer as renderers
 use Rattle.line_editor.specs.declared.state.State.{State}
 use Rattle.line_editor.proofs.BegunLemmas.{begun_before, begun_behind, folds_both}
@@ -34,13 +32,12 @@ pub is_err : {A E : Type 0} (e : E) (result : Result A E) → IsErrAnd result (�
 is_err e (Ok x) h = elim h [ ]
 is_err e (Err x) h = ap Err h
 
-abbrev setting_by : Ruler → List ℕ → Option (Answers (Option Hinted)) → Option (List ℕ → ValidationResult) → Option (List ℕ → ℕ → CmdKind → Bool) → List (List ℕ) → Setting
-setting_by r prompt answers judge marks entries = record {
+abbrev setting_by : Ruler → List ℕ → Option Hooks → Option (List ℕ → ℕ → CmdKind → Bool) → List (List ℕ) → Setting
+setting_by r prompt hooks marks entries = record {
   prompt = prompt;
   column = (r.measure prompt origin).col;
   mode = r.mode;
-  hints = answers;
-  judge = judge;
+  hooks = hooks;
   marks = if r.colours then marks else None;
   entries = entries;
 }
@@ -49,22 +46,27 @@ module _ {Out H Hi K T : Type 0} {renderer : renderers.Renderer.Ghosts Out} {com
     {hinter : hints.Hinter.Ghosts H T} {hint : hints.Hint.Ghosts T} {highlighter : highlights.Highlighter.Ghosts H} {validator : verdicts.Validator.Ghosts H} {history : histories.History.Ghosts Hi} where
   pub setting_stays : (s t : State Out H Hi K T renderer completer candidate hinter hint highlighter validator history) → Stays s t → setting_of t ≡ setting_of s
   setting_stays s t h =
-      ap (λ r. setting_by r t.prompt.now (option_map hinter.hint_of t.helper) (option_map validator.verdict_of t.helper) (option_map highlighter.marks t.helper) (history.entries t.ctx.history.now)) h.ruler
-      ∙ ap (λ p. setting_by (renderer.canvas.ruler s.out) p (option_map hinter.hint_of t.helper) (option_map validator.verdict_of t.helper) (option_map highlighter.marks t.helper) (history.entries t.ctx.history.now)) h.prompt
-      ∙ ap (λ a. setting_by (renderer.canvas.ruler s.out) s.prompt.now a (option_map validator.verdict_of t.helper) (option_map highlighter.marks t.helper) (history.entries t.ctx.history.now)) h.hints_are
-      ∙ ap (λ a. setting_by (renderer.canvas.ruler s.out) s.prompt.now (option_map hinter.hint_of s.helper) a (option_map highlighter.marks t.helper) (history.entries t.ctx.history.now)) h.verdicts_are
-      ∙ ap (λ a. setting_by (renderer.canvas.ruler s.out) s.prompt.now (option_map hinter.hint_of s.helper) (option_map validator.verdict_of s.helper) a (history.entries t.ctx.history.now)) h.marks_are
-      ∙ ap (λ x. setting_by (renderer.canvas.ruler s.out) s.prompt.now (option_map hinter.hint_of s.helper) (option_map validator.verdict_of s.helper) (option_map highlighter.marks s.helper) (history.entries x)) h.history_is
+      ap (λ r. setting_by r t.prompt.now (option_map (hooks_of completer hinter validator) t.helper) (option_map highlighter.marks t.helper) (history.entries t.ctx.history.now)) h.ruler
+      ∙ ap (λ p. setting_by (renderer.canvas.ruler s.out) p (option_map (hooks_of completer hinter validator) t.helper) (option_map highlighter.marks t.helper) (history.entries t.ctx.history.now)) h.prompt
+      ∙ ap (λ a. setting_by (renderer.canvas.ruler s.out) s.prompt.now a (option_map highlighter.marks t.helper) (history.entries t.ctx.history.now)) h.hooks_are
+      ∙ ap (λ a. setting_by (renderer.canvas.ruler s.out) s.prompt.now (option_map (hooks_of completer hinter validator) s.helper) a (history.entries t.ctx.history.now)) h.marks_are
+      ∙ ap (λ x. setting_by (renderer.canvas.ruler s.out) s.prompt.now (option_map (hooks_of completer hinter validator) s.helper) (option_map highlighter.marks s.helper) (history.entries x)) h.history_is
+
+  pub stays_same : (s : State Out H Hi K T renderer completer candidate hinter hint highlighter validator history) → Stays s s
+  stays_same s = record {
+    ruler = refl;
+    prompt = refl;
+    history_is = refl;
+    hooks_are = refl;
+    marks_are = refl;
+  }
 
   pub stays_both : (s m t : State Out H Hi K T renderer completer candidate hinter hint highlighter validator history) → Stays s m → Stays m t → Stays s t
   stays_both s m t h k = record {
     ruler = k.ruler ∙ h.ruler;
     prompt = k.prompt ∙ h.prompt;
     history_is = k.history_is ∙ h.history_is;
-    hints_are = k.hints_are ∙ h.hints_are;
-    hinting_is = k.hinting_is ∙ h.hinting_is;
-    verdicts_are = k.verdicts_are ∙ h.verdicts_are;
-    validating_is = k.validating_is ∙ h.validating_is;
+    hooks_are = k.hooks_are ∙ h.hooks_are;
     marks_are = k.marks_are ∙ h.marks_are;
   }
 
@@ -83,7 +85,7 @@ module _ {Out H Hi K T : Type 0} {renderer : renderers.Renderer.Ghosts Out} {com
       ∙ ap (λ l. asked (renderer.canvas.ruler s.out) l (second (setting_of s) (first (setting_of s) (value_of s)).value).redraws) h.layout
 
   -- a refusal says nothing of what would have been answered
-  refused_as : {A B : Type 0} (edit : Transition) (s t : State Out H Hi K T renderer completer candidate hinter hint highlighter validator history) (e : ReadlineError) → Does {A = A} edit s t (Err e) → Does {A = B} edit s t (Err e)
+  pub refused_as : {A B : Type 0} (edit : Transition) (s t : State Out H Hi K T renderer completer candidate hinter hint highlighter validator history) (e : ReadlineError) → Does {A = A} edit s t (Err e) → Does {A = B} edit s t (Err e)
   refused_as edit s t e h = record { value = tt; calls = tt; layout = tt; stays = h.stays; reason = h.reason; begun = h.begun }
 
   -- both were made, or the second was refused
@@ -98,8 +100,8 @@ module _ {Out H Hi K T : Type 0} {renderer : renderers.Renderer.Ghosts Out} {com
       let is : asked (renderer.canvas.ruler m.out) m.layout (second (setting_of m) (value_of m)).redraws ≡ b = asked_is first second s m x h in
       record {
         value = subst (λ y. OnOk result (value_of t ≡ y.value)) (second_is first second s m x h) k.value;
-        calls = on_ok_weaker result (λ c. subst (λ y. FoldsTo renderer.canvas.made s.out y.calls t.out) (sym whole)
-            (folds_both renderer.canvas.made a.calls b.calls s.out m.out t.out h.calls (subst (λ y. FoldsTo renderer.canvas.made m.out y.calls t.out) is c))) k.calls;
+        calls = on_ok_weaker result (λ c. subst (λ y. FoldsTo (MadeIn renderer.canvas) s.out y.calls t.out) (sym whole)
+            (folds_both (MadeIn renderer.canvas) a.calls b.calls s.out m.out t.out h.calls (subst (λ y. FoldsTo (MadeIn renderer.canvas) m.out y.calls t.out) is c))) k.calls;
         layout = on_ok_weaker result (λ c. c ∙ ap (λ y. y.layout) is ∙ ap (λ y. y.layout) (sym whole)) k.layout;
         stays = stays_both s m t h.stays k.stays;
         reason = k.reason;
@@ -140,7 +142,7 @@ module _ {Out H Hi K T : Type 0} {renderer : renderers.Renderer.Ghosts Out} {com
       → edit (setting_of s) (value_of s) ≡ other (setting_of s) (value_of s) → Does edit s t result → Does other s t result
   does_as edit other s t result is h = record {
     value = subst (λ x. OnOk result (value_of t ≡ x.value)) is h.value;
-    calls = subst (λ x. OnOk result (FoldsTo renderer.canvas.made s.out (asked (renderer.canvas.ruler s.out) s.layout x.redraws).calls t.out)) is h.calls;
+    calls = subst (λ x. OnOk result (FoldsTo (MadeIn renderer.canvas) s.out (asked (renderer.canvas.ruler s.out) s.layout x.redraws).calls t.out)) is h.calls;
     layout = subst (λ x. OnOk result (t.layout ≡ (asked (renderer.canvas.ruler s.out) s.layout x.redraws).layout)) is h.layout;
     stays = h.stays;
     reason = h.reason;

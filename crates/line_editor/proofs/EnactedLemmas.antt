@@ -16,7 +16,7 @@ use Rattle.line_keys.specs.Refreshing.{KnownDisplay as Displaying}
 use Rattle.line_keys.specs.Phrases.{Input, Script, Ends, Needs, Asks, Reads, Becomes}
 use Rattle.line_record.specs.Ring.{Ring}
 use Rattle.line_editor.specs.Acts.{Act, Sees, Gets, Stage, stage, CutIn, script_acts}
-use Rattle.line_editor.specs.Calls.{Ruler}
+use Rattle.line_editor.specs.Calls.{Ruler, MadeIn}
 use Rattle.line_editor.specs.Asks.{shown_in, ask_effect}
 use Rattle.line_editor.specs.Displays.{display_of}
 use Rattle.line_editor.specs.Lines.{Enacted, enacted}
@@ -27,7 +27,7 @@ use Rattle.line_editor.specs.Values.{Value, Setting, Effect, Transition, unchang
 use Rattle.line_editor.specs.declared.renderer as renderers
 use Rattle.line_editor.specs.declared.state.State.{State}
 use Rattle.line_editor.proofs.ActsLemmas.{redraws_of, rest_of, ring_of, asked_of, asked_same, cut_behind, cut_none, cut_seen, cut_seeing, cut_got, cut_getting}
-use Rattle.line_editor.proofs.DoesLemmas.{does_both, does_as, setting_stays, stays_both}
+use Rattle.line_editor.proofs.DoesLemmas.{does_both, does_as, setting_stays, stays_same, stays_both}
 
 -- a read that a steady source cuts wants memory
 wants_memory : (item : InputItem) (e : ReadlineError) → IsReadFault item true e → e ≡ Memory
@@ -63,18 +63,6 @@ module _ {S X : Type 0} (d : Displaying S) (steady : Bool) (r : Result X Readlin
 
 module _ {Out H Hi K T : Type 0} {renderer : renderers.Renderer.Ghosts Out} {completer : completions.Completer.Ghosts H K} {candidate : completions.Candidate.Ghosts K}
     {hinter : hints.Hinter.Ghosts H T} {hint : hints.Hint.Ghosts T} {highlighter : highlights.Highlighter.Ghosts H} {validator : verdicts.Validator.Ghosts H} {history : histories.History.Ghosts Hi} where
-  pub stays_same : (s : State Out H Hi K T renderer completer candidate hinter hint highlighter validator history) → Stays s s
-  stays_same s = record {
-    ruler = refl;
-    prompt = refl;
-    history_is = refl;
-    hints_are = refl;
-    hinting_is = refl;
-    verdicts_are = refl;
-    validating_is = refl;
-    marks_are = refl;
-  }
-
   pub nothing_done : (s : State Out H Hi K T renderer completer candidate hinter hint highlighter validator history) → Does {A = Unit {0}} unchanged s s (Ok (tt {0}))
   nothing_done s = record { value = refl; calls = refl; layout = refl; stays = stays_same s; reason = tt; begun = tt }
 
@@ -102,7 +90,7 @@ module _ {Out H Hi K T : Type 0} {renderer : renderers.Renderer.Ghosts Out} {com
       let u : Ruler = renderer.canvas.ruler s.out in
       let same : asked_of u s.layout front ≡ asked u s.layout f.redraws = asked_same u s.layout front ∙ ap (asked u s.layout) is in
       cut_behind renderer.canvas u e front (acts (setting_of s) f.value) s.layout (stage s.out c r) new m.out
-      (subst (λ y. FoldsTo renderer.canvas.made s.out y.calls m.out) (sym same) h.calls)
+      (subst (λ y. FoldsTo (MadeIn renderer.canvas) s.out y.calls m.out) (sym same) h.calls)
       (subst (λ y. CutIn renderer.canvas u e (acts (setting_of s) f.value) y.layout (stage m.out (rest_of c front) (ring_of r front)) new) (sym same)
       (left_after acts first s m x e (stage m.out (rest_of c front) (ring_of r front)) new h k))
 

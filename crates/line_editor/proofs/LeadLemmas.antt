@@ -23,19 +23,20 @@ use Rattle.line_buffer.specs.declared.types.Word.TheVariants.{Big}
 use Rattle.line_edits.specs.Edits.{char_typed, put_behind, range_killed}
 use Rattle.line_edits.specs.Plain.{is_plain}
 use Rattle.line_help.specs.History.{begins_with_space}
+use Rattle.line_keys.specs.Replies.{Reply}
 use Rattle.line_keys.specs.declared.command.CmdKind.{CmdKind}
 use Rattle.line_keys.specs.declared.command.CmdKind.TheVariants.{MoveCursor}
 use Rattle.line_record.specs.Held.{Held}
-use Rattle.line_editor.specs.Drawing.{drawn, asked_anew, refreshed, told, cursor_moved, beeped, cleared_and_drawn}
-use Rattle.line_editor.specs.Inserting.{is_bare, may_be_typed, show_typed, insert_char, insert_text}
-use Rattle.line_editor.specs.Killing.{may_be_taken, show_taken, kill, insert_text_if, replace}
+use Rattle.line_editor.specs.Drawing.{drawn, repainted, asked_anew, refreshed, told, cursor_moved, beeped, cleared_and_drawn}
+use Rattle.line_editor.specs.Inserting.{is_bare, may_be_typed, put_shown, show_typed, insert_char, insert_text}
+use Rattle.line_editor.specs.Killing.{may_be_taken, taken_shown, show_taken, kill, insert_text_if, replace}
 use Rattle.line_editor.specs.Leads.{Leads}
 use Rattle.line_editor.specs.Moving.{cursor_moved_if, to_found, to_place, move_home, move_to_next_word, move_to_first_print, move_by}
 use Rattle.line_editor.specs.Redraws.{Redraw}
-use Rattle.line_editor.specs.Redraws.Redraw.{Drawn, Moved, Typed, Taken}
+use Rattle.line_editor.specs.Redraws.Redraw.{Drawn, Moved, Typed, Taken, Cleared}
 use Rattle.line_editor.specs.Rewording.{refreshed_if}
-use Rattle.line_editor.specs.Sights.{Sight, sight_as, sight, sight_all, FitsAll, Turns, info_one, info_after, sight_of}
-use Rattle.line_editor.specs.Values.{Value, Setting, Effect, Transition, unchanged, then_do, rewritten, at_line, with_mark}
+use Rattle.line_editor.specs.Sights.{Sight, sight_as, sight, sight_all, Fits, FitsAll, Turns, info_one, info_after, sight_of}
+use Rattle.line_editor.specs.Values.{Value, Setting, Effect, Transition, unchanged, then_do, hint_reply, helped, rewritten, at_line, with_mark}
 use Rattle.line_editor.proofs.KillLemmas.{Low, cut_text, range_low}
 
 -- ---- one after the other
@@ -71,10 +72,37 @@ pub either : (s : Setting) (v : Value) (b : Bool) (e f : Effect) → (b ≡ true
 either s v true e f h k = h refl
 either s v false e f h k = k refl
 
+-- ---- a hook asked before
+
+abbrev behind_help : {A : Type 0} → Option (Reply A) → Effect → Effect
+behind_help reply e = record { value = e.value; redraws = helped reply ++ e.redraws }
+
+pub help_turns : {A : Type 0} (reply : Option (Reply A)) (own : List ℕ) (x y : Sight) (rs : List Redraw) → Turns own x rs y → Turns own x (helped reply ++ rs) y
+help_turns None own x y rs h = h
+help_turns (Some reply) own x y rs h = record { fits = (tt, h.fits); leads = h.leads }
+
+pub help_info : {A : Type 0} (reply : Option (Reply A)) (rs : List Redraw) (info : Option (List ℕ)) → info_after (helped reply ++ rs) info ≡ info_after rs info
+help_info None rs info = refl
+help_info (Some reply) rs info = refl
+
+pub help_leads : {A : Type 0} (reply : Option (Reply A)) (s : Setting) (v : Value) (e : Effect) → Leads s v e → Leads s v (behind_help reply e)
+help_leads None s v e h = h
+help_leads (Some reply) s v e h = λ info. record { fits = (tt, (h info).fits); leads = (h info).leads }
+
+pub asking_leads : {A : Type 0} (reply : Option (Reply A)) (s : Setting) (v w : Value) → w.line ≡ v.line → Leads s v (record { value = w; redraws = helped reply })
+asking_leads None s v w h info = record { fits = tt; leads = ap (λ (l : Line). sight_as s.prompt l.text l.place info) (sym h) }
+asking_leads (Some reply) s v w h info = record { fits = (tt, tt); leads = ap (λ (l : Line). sight_as s.prompt l.text l.place info) (sym h) }
+
+-- what is drawn in full hides what was asked before
+pub redrawn_leads : {A : Type 0} (x : Redraw) (reply : Option (Reply A)) (s : Setting) (v w : Value) → ((y : Sight) → Fits s.prompt y x)
+    → Leads s v (record { value = w; redraws = x ∷ (helped reply ++ (drawn s w ∷ [])) })
+redrawn_leads x None s v w h info = record { fits = (h (sight_of s v info), ((λ e. refl), tt)); leads = refl }
+redrawn_leads x (Some reply) s v w h info = record { fits = (h (sight_of s v info), (tt, ((λ e. refl), tt))); leads = refl }
+
 -- ---- drawn in full, or left as it stands
 
 pub refresh_leads : (s : Setting) (v w : Value) → Leads s v (refreshed s w)
-refresh_leads s v w info = record { fits = ((λ e. refl), tt); leads = refl }
+refresh_leads s v w = help_leads (hint_reply s w) s v (repainted s (asked_anew s w).value) (λ info. record { fits = ((λ e. refl), tt); leads = refl })
 
 pub told_leads : (text : Option (List ℕ)) (kind : CmdKind) (s : Setting) (v w : Value) → Leads s v (told text kind s w)
 told_leads text kind s v w info = record { fits = ((λ e. refl), tt); leads = refl }
@@ -86,7 +114,7 @@ pub beep_leads : (s : Setting) (v w : Value) → w.line ≡ v.line → Leads s v
 beep_leads s v w h info = record { fits = (tt, tt); leads = ap (λ (l : Line). sight_as s.prompt l.text l.place info) (sym h) }
 
 pub clear_leads : (s : Setting) (v : Value) → Leads s v (cleared_and_drawn s v)
-clear_leads s v info = record { fits = (tt, ((λ e. refl), tt)); leads = refl }
+clear_leads s v = redrawn_leads Cleared (hint_reply s v) s v (asked_anew s v).value (λ y. tt)
 
 pub refresh_if_leads : (s : Setting) (v w : Value) (b : Bool) → (b ≡ false → w.line ≡ v.line) → Leads s v (refreshed_if b s w)
 refresh_if_leads s v w b h = either s v b (refreshed s w) (unchanged s w) (λ e. refresh_leads s v w) (λ e. rest_leads s v w (h e))
@@ -207,7 +235,8 @@ pub insertion_leads : (c n : ℕ) (s : Setting) (v : Value) → Leads s v (inser
 insertion_leads c n s v =
     let w = rewritten (char_typed c n) v in
     either s v (is_some (insertion c n v.line).answer) (show_typed c n v s w) (unchanged s w)
-    (λ some. typed_by s c n v (asked_anew s w) (typed_alone c n v (asked_anew s w)) refl (λ h. one_typed c n v.line (n == 1) (and_parts (n == 1) _ h).0 some))
+    (λ some. let asked = (asked_anew s w).value in
+    help_leads (hint_reply s w) s v (put_shown c n (v.line.place == length v.line.text) (is_plain v.line.text) (is_bare v) s asked) (typed_by s c n v asked (typed_alone c n v asked) refl (λ h. one_typed c n v.line (n == 1) (and_parts (n == 1) _ h).0 some)))
     (λ none. rest_leads s v w (no_typing c n v.line (n == 1) none))
 
 pub text_leads : (text : List ℕ) (s : Setting) (v : Value) → Leads s v (insert_text text s v)
@@ -259,7 +288,10 @@ killed_by : (s : Setting) (v : Value) (held : List Held) (o : Option Span) → (
 killed_by s v held None h = rest_leads s v (record v { held = held }) refl
 killed_by s v held (Some span) h =
     let w : Value = record v { line = cut_out span.from span.upto v.line; held = held } in
-    taken_by s v (asked_anew s w) span.from span.upto (taken_alone v (asked_anew s w)) refl h refl refl
+    let asked = (asked_anew s w).value in
+    help_leads (hint_reply s w) s v
+    (taken_shown (length v.line.text - length w.line.text) (list_all is_printable (drop (length w.line.text) v.line.text)) (is_bare v) s asked)
+    (taken_by s v asked span.from span.upto (taken_alone v asked) refl h refl refl)
 
 pub kill_leads : (m : Movement) (s : Setting) (v : Value) → Leads s v (kill m s v)
 kill_leads m s v = killed_by s v (rewritten (range_killed m) v).held (range_of m v.line) (λ plain. range_low v.line plain m)

@@ -2,8 +2,10 @@ pub mod AcceptLemmas
 pub mod ActsLemmas
 pub mod BegunLemmas
 pub mod CommandsLead
+pub mod CompleteLemmas
 pub mod DoesLemmas
 pub mod HeardLemmas
+pub mod HelpedLemmas
 pub mod KillLemmas
 pub mod LeadLemmas
 pub mod LineLeads

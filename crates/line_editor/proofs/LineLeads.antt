@@ -1,5 +1,5 @@
 -- What a line wants to be seen leads from turn to turn.
-use Rattle.std.proofs.Common.{◌≡◌, ℕ, zero, suc, Bool, true, false, List, ◌++◌, Option, None, Result, Ok, Err, refl, sym, ap, ◌∙◌, subst, true≢false, if◌then◌else◌}
+use Rattle.std.proofs.Common.{◌≡◌, ℕ, zero, suc, Bool, true, false, List, [], ◌∷◌, ◌++◌, Option, None, Result, Ok, Err, refl, sym, ap, ◌∙◌, subst, true≢false, if◌then◌else◌}
 use Rattle.line_config.specs.declared.errors.ReadlineError.{ReadlineError}
 use Rattle.line_keys.specs.Answers.{Custom}
 use Rattle.line_keys.specs.Coming.{Coming}
@@ -16,16 +16,17 @@ use Rattle.line_editor.specs.Accepting.{submitted}
 use Rattle.line_editor.specs.Asks.{shown_in, ask_effect}
 use Rattle.line_editor.specs.Commands.{Means, means_of, effect, outcome}
 use Rattle.line_editor.specs.Courses.{TurnsLead, EndsLine}
-use Rattle.line_editor.specs.Drawing.{refreshed}
+use Rattle.line_editor.specs.Drawing.{asked_anew, refreshed}
 use Rattle.line_editor.specs.Leads.{Leads, CommandLeads, LinesLead}
 use Rattle.line_editor.specs.Lines.{Enacted, enacted, begins_group, with_group_begun, line_phrase, phrase_enacted, reset_by, Turned, turned_by, turn_of, Told, after_turn, line_from, line_of}
-use Rattle.line_editor.specs.Sights.{Sight, sight_with, sight_of, ended_sight, sight_all, FitsAll, Turns, info_after}
+use Rattle.line_editor.specs.Sights.{Sight, no_sight, sight_with, sight_of, ended_sight, sight_all, FitsAll, Turns, info_after}
 use Rattle.line_editor.specs.Starts.{first_value}
-use Rattle.line_editor.specs.Values.{Value, Setting, Effect}
+use Rattle.line_editor.specs.Redraws.Redraw.{Drawn}
+use Rattle.line_editor.specs.Values.{Value, Setting, Effect, hint_reply, helped, shown_hint}
 use Rattle.line_editor.specs.declared.commands.Status.{Status}
 use Rattle.line_editor.specs.declared.commands.Status.TheVariants.{Proceed, Submit}
-use Rattle.line_editor.proofs.CommandsLead.{commands_lead, submitting_leads}
-use Rattle.line_editor.proofs.LeadLemmas.{fits_both, sight_both, info_both, turns_both}
+use Rattle.line_editor.proofs.CommandsLead.{asks_lead, commands_lead, submitting_leads}
+use Rattle.line_editor.proofs.LeadLemmas.{fits_both, sight_both, info_both, turns_both, help_info}
 
 -- ---- a phrase
 
@@ -36,17 +37,32 @@ record Behind (s : Setting) (v : Value) (info : Option (List ℕ)) (own : Bool) 
   ours : own ≡ true → prompt ≡ s.prompt
 
 ask_fits : (ask : Ask) (s : Setting) (v : Value) (x : Sight) → FitsAll s.prompt x (ask_effect ask s v).redraws
-ask_fits Line s v x = ((λ e. refl), tt)
+ask_fits Line s v x = (asks_lead Line s v x).fits
 ask_fits (Message text kind) s v x = ((λ e. refl), tt)
-ask_fits (Prompted prompt) s v x = ((λ e. cc), tt)
+ask_fits (Prompted prompt) s v x = (asks_lead (Prompted prompt) s v x).fits
 ask_fits DoingInsert s v x = tt
 ask_fits DoneInserting s v x = tt
 
+-- with the hint that was asked for
+hint_stands : (s : Setting) (v : Value) (given : Bool) (prompt : List ℕ) (info : Option (List ℕ)) → (let w = (asked_anew s v).value in
+    info_after (helped (hint_reply s v) ++ (Drawn prompt given w.line.text w.line.place (shown_hint w) ∷ [])) info ≡ shown_hint w)
+hint_stands s v given prompt info =
+    let w = (asked_anew s v).value in
+    help_info (hint_reply s v) (Drawn prompt given w.line.text w.line.place (shown_hint w) ∷ []) info
+
 ask_leads : (ask : Ask) (s : Setting) (v : Value) (info : Option (List ℕ)) (own : Bool) (x : Sight) → Behind s v info own x
     → (let e = ask_effect ask s v in Behind s e.value (info_after e.redraws info) (own_by own ask) (sight_all x e.redraws))
-ask_leads Line s v info own x h = record { prompt = s.prompt; is = refl; ours = λ e. refl }
+ask_leads Line s v info own x h = record {
+  prompt = s.prompt;
+  is = (asks_lead Line s v x).leads ∙ ap (sight_with true s.prompt v.line.text v.line.place) (sym (hint_stands s v true s.prompt info));
+  ours = λ e. refl;
+}
 ask_leads (Message text kind) s v info own x h = record { prompt = s.prompt; is = refl; ours = λ e. refl }
-ask_leads (Prompted prompt) s v info own x h = record { prompt = prompt; is = refl; ours = λ e. cc }
+ask_leads (Prompted prompt) s v info own x h = record {
+  prompt = prompt;
+  is = (asks_lead (Prompted prompt) s v x).leads ∙ ap (sight_with false prompt v.line.text v.line.place) (sym (hint_stands s v false prompt info));
+  ours = λ e. cc;
+}
 ask_leads DoingInsert s v info own x h = record { prompt = h.prompt; is = h.is; ours = h.ours }
 ask_leads DoneInserting s v info own x h = record { prompt = h.prompt; is = h.is; ours = h.ours }
 
@@ -170,4 +186,6 @@ unfolding line_of
 lines_lead n s custom indent input r c =
     let e = refreshed s (first_value s) in
     let rest = line_leads n s custom indent input r (info_after e.redraws None) e.value c in
-    ((record { fits = ((λ x. refl), tt); leads = refl }, refl, rest.0), rest.1)
+    let first = asks_lead Line s (first_value s) no_sight in
+    let seen = first.leads ∙ ap (sight_of s e.value) (sym (hint_stands s (first_value s) true s.prompt None)) in
+    ((record { fits = first.fits; leads = seen }, refl, rest.0), rest.1)

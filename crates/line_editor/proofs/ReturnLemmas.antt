@@ -23,6 +23,8 @@ use Rattle.line_edits.specs.Edits.{text_yanked, transpose_chars_in_group, transp
 use Rattle.line_edits.specs.Written.{group_opened, group_closed}
 use Rattle.line_help.specs.Hints.{Hinted}
 use Rattle.line_help.specs.History.{begins_with_space}
+use Rattle.line_help.specs.Completion.{Completion}
+use Rattle.line_keys.specs.Replies.{Reply}
 use Rattle.line_help.specs.Search.{Hit}
 use Rattle.line_help.specs.Validation.{is_valid, has_message}
 use Rattle.line_help.specs.declared.validate.ValidationResult.{ValidationResult}
@@ -35,9 +37,10 @@ use Rattle.line_keys.specs.declared.command.CmdKind.{CmdKind}
 use Rattle.line_keys.specs.declared.command.CmdKind.TheVariants.{ForcedRefresh, MoveCursor, Other}
 use Rattle.line_record.specs.Held.{has_step, closes}
 use Rattle.line_record.specs.Ring.{exchanged}
-use Rattle.line_editor.specs.Accepting.{told_if, verdict_told, validate_by, verdict, bare, accept, accepts, newline_if}
+use Rattle.line_editor.specs.Accepting.{told_if, verdict_told, verdict_given, validate_by, verdict, bare, accept, accepts, newline_if}
 use Rattle.line_editor.specs.Asks.{ask_effect}
 use Rattle.line_editor.specs.Commands.{Means, in_vi_command, effect}
+use Rattle.line_editor.specs.Completing.{elected, completed_with, candidates_given, complete_if}
 use Rattle.line_editor.specs.Hinting.{at_row_end, completed_by, complete_by}
 use Rattle.line_editor.specs.Inserting.{insert_char}
 use Rattle.line_editor.specs.Killing.{kill, insert_text_if}
@@ -46,7 +49,7 @@ use Rattle.line_editor.specs.Remembering.{saved_now, saved_on_leaving, recall, c
 use Rattle.line_editor.specs.Returns.{ValueStep, value_after, value_after_all, leaving_by, is_search, searches, Away, StaysAway, ComesBack}
 use Rattle.line_editor.specs.Returns.ValueStep.{Done, Asked}
 use Rattle.line_editor.specs.Rewording.{refreshed_if, edit_word}
-use Rattle.line_editor.specs.Values.{Value, Setting, Effect, Saved, then_do, rewritten, at_line}
+use Rattle.line_editor.specs.Values.{Value, Setting, Effect, Saved, then_do, verdict_reply, completion_reply, rewritten, at_line}
 use Rattle.line_editor.specs.Yanking.{anchored, steps, behind_yank, yanked_by, yank_text, yank_lent, pop_lent}
 
 -- ---- what keeps the place and the saved line
@@ -142,15 +145,17 @@ verdict_keeps Incomplete draws s v w h = h
 verdict_keeps (Invalid text) draws s v w h = told_keeps draws text Other s v w h
 verdict_keeps (Valid text) draws s v w h = told_keeps draws text ForcedRefresh s v w h
 
-validate_keeps : (judge : Option (List ℕ → ValidationResult)) (s : Setting) (v : Value) → Keeps v (validate_by judge s v).value
+validate_keeps : (reply : Option (Reply ValidationResult)) (s : Setting) (v : Value) → Keeps v (validate_by reply s v).value
 validate_keeps None s v = same v
-validate_keeps (Some judge) s v = verdict_keeps (judge v.line.text) (closes v.held || is_some v.hint) s v (rewritten (λ w. group_closed (group_opened w)) v) (kept refl refl)
+validate_keeps (Some reply) s v =
+    let w = rewritten group_opened v in
+    verdict_keeps (verdict_given reply.answer) (closes w.held || is_some w.hint) s v (rewritten group_closed w) (kept refl refl)
 
 bare_keeps : (s : Setting) (v : Value) → Keeps v (bare s v).value
 bare_keeps s v = kept refl refl
 
 accept_keeps : (s : Setting) (v : Value) → Keeps v (accept s v).value
-accept_keeps s v = then_keeps v (bare s v).value (accept s v).value (bare_keeps s v) (validate_keeps s.judge s (bare s v).value)
+accept_keeps s v = then_keeps v (bare s v).value (accept s v).value (bare_keeps s v) (validate_keeps (verdict_reply s (bare s v).value) s (bare s v).value)
 
 newline_keeps : (accepted : Bool) (found : ValidationResult) (s : Setting) (v : Value) → Keeps v (newline_if accepted found s v).value
 newline_keeps accepted found s v = either v accepted _ _ (same v) (either v (is_valid found || not (has_message found)) _ _ (insertion_keeps 10 1 s v) (same v))
@@ -158,6 +163,14 @@ newline_keeps accepted found s v = either v accepted _ _ (same v) (either v (is_
 completion_keeps : (o : Option (List ℕ)) (s : Setting) (v w : Value) → Keeps v w → Keeps v (completed_by o s w).value
 completion_keeps None s v w h = kept h.saved h.history
 completion_keeps (Some text) s v w h = either v (is_some (yanked_in text 1 w.line).answer) _ _ (kept h.saved h.history) (kept h.saved h.history)
+
+elected_keeps : (start : ℕ) (o : Option (List ℕ)) (s : Setting) (v : Value) → Keeps v (completed_with start o s v).value
+elected_keeps start None s v = same v
+elected_keeps start (Some text) s v = kept refl refl
+
+complete_keeps : (reply : Option (Reply Completion)) (s : Setting) (v : Value) → Keeps v (complete_if reply s v).value
+complete_keeps None s v = same v
+complete_keeps (Some reply) s v = let found = candidates_given (Some reply) in elected_keeps found.start (elected found v.line) s v
 
 hint_keeps : (o : Option Hinted) (s : Setting) (v : Value) → Keeps v (complete_by o s v).value
 hint_keeps None s v = same v
@@ -261,7 +274,7 @@ command_held m Abort s text at v quiet inside h away = keeps_held s text at v (e
 command_held m AcceptLine s text at v quiet inside h away = keeps_held s text at v (effect m AcceptLine s v).value h away (accept_keeps s v)
 command_held m CapitalizeWord s text at v quiet inside h away = keeps_held s text at v (effect m CapitalizeWord s v).value h away (word_keeps Capitalize s v)
 command_held m ClearScreen s text at v quiet inside h away = keeps_held s text at v (effect m ClearScreen s v).value h away (kept refl refl)
-command_held m Complete s text at v quiet inside h away = keeps_held s text at v (effect m Complete s v).value h away (same v)
+command_held m Complete s text at v quiet inside h away = keeps_held s text at v (effect m Complete s v).value h away (complete_keeps (completion_reply s v) s v)
 command_held m CompleteBackward s text at v quiet inside h away = keeps_held s text at v (effect m CompleteBackward s v).value h away (same v)
 command_held m CompleteHint s text at v quiet inside h away = keeps_held s text at v (effect m CompleteHint s v).value h away (hint_keeps v.hint s v)
 command_held m (Dedent movement) s text at v quiet inside h away = keeps_held s text at v (effect m (Dedent movement) s v).value h away (kept refl refl)

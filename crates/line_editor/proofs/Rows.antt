@@ -12,6 +12,7 @@ use Rattle.line_buffer.specs.declared.layout.Position.{Position}
 use Rattle.line_config.specs.declared.errors.ReadlineError.TheVariants.{Eof}
 use Rattle.line_config.specs.declared.settings.EditMode.TheVariants.{Emacs}
 use Rattle.line_keys.specs.Answers.{Custom}
+use Rattle.line_keys.specs.Replies.{gives_at_once}
 use Rattle.line_keys.specs.Coming.{Coming, Pressed, Ends, End}
 use Rattle.line_keys.specs.Common.{common_deed}
 use Rattle.line_keys.specs.Counts.{counting}
@@ -47,7 +48,7 @@ abbrev own : List ℕ
 own = codes "> "
 
 abbrev with_entries : List (List ℕ) → Setting
-with_entries entries = record { prompt = own; column = 2; mode = Unicode; hints = None; judge = None; marks = None; entries = entries }
+with_entries entries = record { prompt = own; column = 2; mode = Unicode; hooks = None; marks = None; entries = entries }
 
 abbrev typed : ℕ → KeyEvent
 typed c = key_with (Char c) none
@@ -121,7 +122,7 @@ module _ (r : Ring) where
 
   abbrev ctrl_o : Custom
   ctrl_o = record {
-    answers = λ e. if same_event (single (key_with (Char 0x4F) ctrl)) e then Some (λ s. Ok (Some HistorySearchBackward)) else None;
+    answers = λ e. if same_event (single (key_with (Char 0x4F) ctrl)) e then Some (λ s. gives_at_once (Some HistorySearchBackward)) else None;
     begins = λ ks. begins_with ks (single (key_with (Char 0x4F) ctrl));
   }
 

@@ -1,11 +1,12 @@
 -- A whole line.
 use Rattle.std.proofs.Common.{◌≡◌, ◌⊎◌, inl, inr, ℕ, suc, ◌<◌, Bool, List, refl, sym, ap, subst, ◌∙◌, IsTrue, arith, le_refl}
-use Rattle.std.specs.Prelude.{⊤, Option, Some, None, option_map, Result, Ok, Err, length, flat_map, string_bytes, IsSomeAnd, IfErr, OnOk}
+use Rattle.std.specs.Prelude.{⊤, Option, option_map, Result, Ok, Err, length, flat_map, string_bytes, IfErr, OnOk}
 use Rattle.std.specs.List.{FoldsTo}
 use Rattle.line_config.specs.declared.config.Config.{Config}
 use Rattle.line_config.specs.declared.errors.ReadlineError.{ReadlineError}
 use Rattle.line_config.specs.declared.errors.ReadlineError.TheVariants.{Display, Helper, Memory}
 use Rattle.line_help.specs.Hints.{Hinted, Answers}
+use Rattle.line_keys.specs.Replies.{Reply}
 use Rattle.line_help.specs.declared.completion as completions
 use Rattle.line_help.specs.declared.hint as hints
 use Rattle.line_help.specs.declared.highlight as highlights
@@ -21,16 +22,16 @@ use Rattle.line_keys.specs.Phrases.{Input}
 use Rattle.line_keys.specs.declared.command.CmdKind.{CmdKind}
 use Rattle.line_record.specs.Ring.{Ring}
 use Rattle.line_editor.specs.Acts.{Act, acts_of, stage, CutIn}
-use Rattle.line_editor.specs.Calls.{Canvas}
+use Rattle.line_editor.specs.Calls.{Canvas, MadeIn}
 use Rattle.line_editor.specs.Courses.{redraws_in}
 use Rattle.line_editor.specs.Lines.{Told, line_of}
 use Rattle.line_editor.specs.Reading.{Telling, drawn_and_turned, line_doing, text_or, Read, Reading, ReadsLine}
 use Rattle.line_editor.specs.Redraws.{asked, fresh}
-use Rattle.line_editor.specs.Running.{Helping, HelperFails, helping_by, setting_by, line_meant, acts_meant, line_calls, outcome_of, WholeLine, CutLine, Runs}
+use Rattle.line_editor.specs.Running.{Helping, helping_by, setting_by, line_meant, acts_meant, line_calls, outcome_of, WholeLine, CutLine, Runs}
 use Rattle.line_editor.specs.Starts.{empty_at, first_value, Starts}
-use Rattle.line_editor.specs.States.{value_of, setting_of, reason_of, HookFails, Reason, Stays}
+use Rattle.line_editor.specs.States.{hooks_of, value_of, setting_of, reason_of, Reason, Stays}
 use Rattle.line_editor.specs.Turning.{Doing, HeardBy, Cut, cause_of, Cause}
-use Rattle.line_editor.specs.Values.{Setting}
+use Rattle.line_editor.specs.Values.{Setting, Hooks, IsFailing}
 use Rattle.line_editor.specs.declared.ran.Ran.{Ran}
 use Rattle.line_editor.specs.declared.renderer as renderers
 use Rattle.line_editor.specs.declared.state.State.{State}
@@ -106,8 +107,11 @@ cause_to custom b c P Q feed _ same go why = why
 
 -- ---- the line that is meant
 
-abbrev helping : Option (Answers (Option Hinted)) → Option (Answers Bool) → Option (List ℕ → ValidationResult) → Option (List ℕ → Bool) → Option (List ℕ → ℕ → CmdKind → Bool) → Helping
-helping a b c d e = record { hints = a; hinting_fails = b; judge = c; judging_fails = d; marks = e }
+abbrev helping : Option Hooks → Option (List ℕ → ℕ → CmdKind → Bool) → Helping
+helping hooks marks = record { hooks = hooks; marks = marks }
+
+abbrev Failing : Helping → Type 0
+Failing h = IsFailing h.hooks
 
 meant : (custom : Custom) (config : Config) (ring : Ring) (c : Coming) (n : ℕ) (none : ⊤) (s : Setting)
     → drawn_and_turned custom config.indent_size (new_input config.edit_mode) ring c n none s (first_value s) ≡ line_meant n s custom config ring c
@@ -122,24 +126,12 @@ acts_are_meant custom config ring c n s = refl
 module _ {Out H Hi K T : Type 0} {renderer : renderers.Renderer.Ghosts Out} {completer : completions.Completer.Ghosts H K} {candidate : completions.Candidate.Ghosts K}
     {hinter : hints.Hinter.Ghosts H T} {hint : hints.Hint.Ghosts T} {highlighter : highlights.Highlighter.Ghosts H} {validator : verdicts.Validator.Ghosts H} {history : histories.History.Ghosts Hi} where
   abbrev helps : State Out H Hi K T renderer completer candidate hinter hint highlighter validator history → Option H → Helping
-  helps s helper = helping_by hinter.hint_of hinter.fails validator.verdict_of validator.validating_fails highlighter.marks helper
-
-  hook_fails : (s : State Out H Hi K T renderer completer candidate hinter hint highlighter validator history) (helper : Option H) (text : List ℕ) (place : ℕ) (entries : List (List ℕ)) (at : ℕ)
-      → IsSomeAnd helper (λ h. IsTrue (hinter.fails h text place entries at) ⊎ IsTrue (validator.validating_fails h text)) → HelperFails (helps s helper) entries
-  hook_fails s None text place entries at why = elim why [ ]
-  hook_fails s (Some h) text place entries at (inl why) = record { text = text; place = place; history = at; fails = inl why }
-  hook_fails s (Some h) text place entries at (inr why) = record { text = text; place = place; history = at; fails = inr why }
-
-  failing : (t : State Out H Hi K T renderer completer candidate hinter hint highlighter validator history) → HookFails t → HelperFails (helps t t.helper) (history.entries t.ctx.history.now)
-  failing t why = hook_fails t t.helper t.line.text t.line.place (history.entries t.ctx.history.now) t.ctx.place why
+  helps s helper = helping_by hinter.hint_of validator.verdict_of completer.completion_of completer.update_of highlighter.marks helper
 
   helper_same : (s t : State Out H Hi K T renderer completer candidate hinter hint highlighter validator history) → Stays s t → helps s t.helper ≡ helps s s.helper
   helper_same s t h =
-      ap (λ x. helping x (option_map hinter.fails t.helper) (option_map validator.verdict_of t.helper) (option_map validator.validating_fails t.helper) (option_map highlighter.marks t.helper)) h.hints_are
-      ∙ ap (λ x. helping (option_map hinter.hint_of s.helper) x (option_map validator.verdict_of t.helper) (option_map validator.validating_fails t.helper) (option_map highlighter.marks t.helper)) h.hinting_is
-      ∙ ap (λ x. helping (option_map hinter.hint_of s.helper) (option_map hinter.fails s.helper) x (option_map validator.validating_fails t.helper) (option_map highlighter.marks t.helper)) h.verdicts_are
-      ∙ ap (λ x. helping (option_map hinter.hint_of s.helper) (option_map hinter.fails s.helper) (option_map validator.verdict_of s.helper) x (option_map highlighter.marks t.helper)) h.validating_is
-      ∙ ap (λ x. helping (option_map hinter.hint_of s.helper) (option_map hinter.fails s.helper) (option_map validator.verdict_of s.helper) (option_map validator.validating_fails s.helper) x) h.marks_are
+      ap (λ x. helping x (option_map highlighter.marks t.helper)) h.hooks_are
+      ∙ ap (helping (option_map (hooks_of completer hinter validator) s.helper)) h.marks_are
 
   -- bindings that stayed
   pub same_reads : {A : Type 0} (kept custom : Custom) (indent : ℕ) (i : Input) (ring ring' : Ring) (s t : State Out H Hi K T renderer completer candidate hinter hint highlighter validator history) (feed feed' : KeyFeed)
@@ -191,24 +183,21 @@ module _ {Out H Hi K T : Type 0} {renderer : renderers.Renderer.Ghosts Out} {com
       outcome_is = outcome_is ∙ read.outcome_is ∙ ap (λ p. p.outcome) (line_same heard n);
       ring_is = read.ring_is ∙ ap (λ p. p.ring) (line_same heard n);
       rest_is = read.rest_is ∙ ap (λ p. p.rest) (line_same heard n);
-      calls = subst (λ o. FoldsTo renderer.canvas.made out (line_calls (renderer.canvas.ruler out) (as_meant heard n).turns) o) (sym out_is)
-          (subst (λ (p : Told). FoldsTo renderer.canvas.made out (line_calls (renderer.canvas.ruler out) p.turns) t.out) (line_same heard n)
-          (subst (λ l. FoldsTo renderer.canvas.made out (asked (renderer.canvas.ruler out) l (flat_map redraws_in (read_as heard n (setting_of s) (value_of s)).turns)).calls t.out) starts.layout
-          (subst (λ o. FoldsTo renderer.canvas.made o (asked (renderer.canvas.ruler o) s.layout (flat_map redraws_in (read_as heard n (setting_of s) (value_of s)).turns)).calls t.out) starts.out_is read.does.calls)));
+      calls = subst (λ o. FoldsTo (MadeIn renderer.canvas) out (line_calls (renderer.canvas.ruler out) (as_meant heard n).turns) o) (sym out_is)
+          (subst (λ (p : Told). FoldsTo (MadeIn renderer.canvas) out (line_calls (renderer.canvas.ruler out) p.turns) t.out) (line_same heard n)
+          (subst (λ l. FoldsTo (MadeIn renderer.canvas) out (asked (renderer.canvas.ruler out) l (flat_map redraws_in (read_as heard n (setting_of s) (value_of s)).turns)).calls t.out) starts.layout
+          (subst (λ o. FoldsTo (MadeIn renderer.canvas) o (asked (renderer.canvas.ruler o) s.layout (flat_map redraws_in (read_as heard n (setting_of s) (value_of s)).turns)).calls t.out) starts.out_is read.does.calls)));
     }
 
-    why_cut : (e : ReadlineError) → Stays s t → Reason t e → reason_of (renderer.canvas.failed ran.out) (HelperFails (helps s helper) (history.entries hist)) e
-    why_cut e stays why = reason_to (renderer.canvas.failed t.out) (renderer.canvas.failed ran.out) (HookFails t) (HelperFails (helps s helper) (history.entries hist)) e
-        (ap renderer.canvas.failed (sym out_is))
-        (λ fails. subst (λ x. HelperFails (helps s helper) (history.entries x)) (stays.history_is ∙ starts.history_is ∙ shown_is)
-        (subst (λ x. HelperFails x (history.entries t.ctx.history.now)) (helper_same s t stays ∙ ap (helps s) starts.helper_is) (failing t fails))) why
+    why_cut : (e : ReadlineError) → Reason t e → reason_of (renderer.canvas.failed ran.out) ⊤ e
+    why_cut e why = reason_to (renderer.canvas.failed t.out) (renderer.canvas.failed ran.out) (Failing (helps s t.helper)) ⊤ e (ap renderer.canvas.failed (sym out_is)) (λ fails. tt) why
 
     cut_line : (n : ℕ) → Cut (done_as n) s t feed.coming feed'.coming ring ring' result
-        → CutLine renderer.canvas (acts_as_meant n) (HelperFails (helps s helper) (history.entries hist)) (stage out feed.coming ring) (stage ran.out feed'.coming ring') (outcome_of ran)
+        → CutLine renderer.canvas (acts_as_meant n) (stage out feed.coming ring) (stage ran.out feed'.coming ring') (outcome_of ran)
     cut_line n cut = record {
       fault = cut.fault;
       outcome_is = outcome_is ∙ refused_same result t.line.text cut.fault cut.result_is;
-      cause = why_cut cut.fault cut.stays cut.cause;
+      cause = why_cut cut.fault cut.cause;
       done = let u = renderer.canvas.ruler out in
           subst (λ o. CutIn renderer.canvas u cut.fault (acts_as_meant n) (fresh u.mode) (stage out feed.coming ring) (stage o feed'.coming ring')) (sym out_is)
           (subst (λ acts. CutIn renderer.canvas u cut.fault acts (fresh u.mode) (stage out feed.coming ring) (stage t.out feed'.coming ring')) (acts_same n)
@@ -222,7 +211,7 @@ module _ {Out H Hi K T : Type 0} {renderer : renderers.Renderer.Ghosts Out} {com
 
     goes_by : (n : ℕ) → Reading feed.steady (λ heard. read_as heard n) (done_as n) s t feed.coming feed'.coming ring ring' result
         → (heard : Coming) × Heard feed.steady feed.coming heard × (WholeLine renderer.canvas (as_meant heard n) out ran.out ring' feed'.coming (outcome_of ran)
-        ⊎ CutLine renderer.canvas (acts_meant n setting custom config ring heard) (HelperFails (helps s helper) (history.entries hist)) (stage out heard ring) (stage ran.out feed'.coming ring') (outcome_of ran))
+        ⊎ CutLine renderer.canvas (acts_meant n setting custom config ring heard) (stage out heard ring) (stage ran.out feed'.coming ring') (outcome_of ran))
     goes_by n (inl (heard, by, read)) = (heard, heard_as heard by, inl (whole_line heard n read))
     goes_by n (inr cut) = (feed.coming, inl refl, inr (cut_line n cut))
 
@@ -243,8 +232,8 @@ module _ {Out H Hi K T : Type 0} {renderer : renderers.Renderer.Ghosts Out} {com
       helper_stays = λ told. helper_same_as (stays_told told);
       ruler_stays = λ told. ap renderer.canvas.ruler out_is ∙ (stays_told told).ruler ∙ ap renderer.canvas.ruler starts.out_is;
       reason = same_reason string_bytes ran.outcome result t.line.text (Cause custom t feed')
-          (cause_of custom (renderer.canvas.failed ran.out) ((entries : List (List ℕ)) × HelperFails (helps s ran.helper) entries) feed') outcome_is
-          (λ e. cause_to custom (renderer.canvas.failed t.out) (renderer.canvas.failed ran.out) (HookFails t) ((entries : List (List ℕ)) × HelperFails (helps s ran.helper) entries) feed' e
-          (ap renderer.canvas.failed (sym out_is)) (λ fails. (history.entries t.ctx.history.now, subst (λ h. HelperFails (helps s h) (history.entries t.ctx.history.now)) (sym helper_is) (failing t fails))))
+          (cause_of custom (renderer.canvas.failed ran.out) (Failing (helps s ran.helper)) feed') outcome_is
+          (λ e. cause_to custom (renderer.canvas.failed t.out) (renderer.canvas.failed ran.out) (Failing (helps s t.helper)) (Failing (helps s ran.helper)) feed' e
+          (ap renderer.canvas.failed (sym out_is)) (λ fails. subst (λ h. Failing (helps s h)) (sym helper_is) fails))
           reads.reason;
     }

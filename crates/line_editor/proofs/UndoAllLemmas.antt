@@ -1,8 +1,9 @@
 -- Each step leaves a record that reaches the same text.
-use Rattle.std.proofs.Common.{◌≡◌, ℕ, ◌+◌, ◌-◌, ◌==◌, ◌||◌, not, Bool, true, false, List, [], ◌∷◌, length, Option, Some, None, is_some, slice_get, refl, sym, ◌∙◌, subst, if◌then◌else◌}
-use Rattle.std.specs.Prelude.{IsUtf8, IsCharBoundary, IfSome, encode_utf8}
+use Rattle.std.proofs.Common.{◌≡◌, ℕ, ◌+◌, ◌-◌, ◌≤◌, ◌==◌, ◌&&◌, ◌||◌, not, map, Bool, true, false, List, [], ◌∷◌, length, Option, Some, None, is_some, slice_get, refl, sym, ◌∙◌, subst, if◌then◌else◌}
+use Rattle.std.specs.Prelude.{IsUtf8, IsCharBoundary, IfSome, nat_le, encode_utf8}
+use Rattle.std.proofs.lemmas.Bool.{leb-true}
 use Rattle.line_buffer.specs.Columns.{line_up, line_down}
-use Rattle.line_buffer.specs.Insertions.{can_take_before, insert as insertion, yank as yanked_in, yank_pop as popped_in}
+use Rattle.line_buffer.specs.Insertions.{is_inside_char, can_take_before, insert as insertion, yank as yanked_in, yank_pop as popped_in}
 use Rattle.line_buffer.specs.Clusters.{place_forward, place_backward}
 use Rattle.line_buffer.specs.Line.{Line, moved_to, put_in, replaced}
 use Rattle.line_buffer.specs.LetterCase.{word_to_edit, edit_word_events, edit_word_line}
@@ -26,6 +27,8 @@ use Rattle.line_edits.specs.Edits.{put_behind, text_yanked, updated, popped, del
 use Rattle.line_edits.specs.Written.{Written, group_opened, group_closed}
 use Rattle.line_help.specs.Hints.{Hinted}
 use Rattle.line_help.specs.History.{begins_with_space}
+use Rattle.line_help.specs.Completion.{Completion}
+use Rattle.line_keys.specs.Replies.{Reply}
 use Rattle.line_help.specs.Search.{Hit}
 use Rattle.line_help.specs.Validation.{is_valid, has_message}
 use Rattle.line_help.specs.declared.search.SearchDirection.{SearchDirection}
@@ -35,14 +38,15 @@ use Rattle.line_help.specs.declared.validate.ValidationResult.TheVariants.{Incom
 use Rattle.line_keys.specs.Refreshing.{Ask}
 use Rattle.line_keys.specs.Refreshing.Ask.{Line as LineAsked, Message, Prompted, DoingInsert, DoneInserting}
 use Rattle.line_keys.specs.declared.command.Cmd.{Cmd}
-use Rattle.line_keys.specs.declared.command.Cmd.TheVariants.{AcceptLine, BeginningOfHistory, CapitalizeWord, CompleteHint, Dedent, DowncaseWord, EndOfHistory, HistorySearchBackward, HistorySearchForward, Indent, Insert, Kill, Move, NextHistory, Overwrite, PreviousHistory, ReplaceChar, Replace, SelfInsert, TransposeChars, TransposeWords, Undo, UpcaseWord, Yank, YankPop, LineUpOrPreviousHistory, LineDownOrNextHistory, Newline, AcceptOrInsertLine}
+use Rattle.line_keys.specs.declared.command.Cmd.TheVariants.{AcceptLine, BeginningOfHistory, CapitalizeWord, Complete, CompleteHint, Dedent, DowncaseWord, EndOfHistory, HistorySearchBackward, HistorySearchForward, Indent, Insert, Kill, Move, NextHistory, Overwrite, PreviousHistory, ReplaceChar, Replace, SelfInsert, TransposeChars, TransposeWords, Undo, UpcaseWord, Yank, YankPop, LineUpOrPreviousHistory, LineDownOrNextHistory, Newline, AcceptOrInsertLine}
 use Rattle.line_keys.specs.declared.command.CmdKind.{CmdKind}
 use Rattle.line_keys.specs.declared.command.CmdKind.TheVariants.{ForcedRefresh, MoveCursor, Other}
 use Rattle.line_record.specs.Held.{closes}
 use Rattle.line_record.specs.Ring.{exchanged}
-use Rattle.line_editor.specs.Accepting.{told_if, verdict_told, validate_by, verdict, bare, accept, accepts, newline_if}
+use Rattle.line_editor.specs.Accepting.{told_if, verdict_told, verdict_given, validate_by, verdict, bare, accept, accepts, newline_if}
 use Rattle.line_editor.specs.Asks.{ask_effect}
 use Rattle.line_editor.specs.Commands.{Means, in_vi_command, effect}
+use Rattle.line_editor.specs.Completing.{elected_among, elected, word_put, completed_with, candidates_given, complete_if}
 use Rattle.line_editor.specs.Hinting.{at_row_end, completed_by, complete_by}
 use Rattle.line_editor.specs.Inserting.{insert_char, replace_char, overwrite_char}
 use Rattle.line_editor.specs.Killing.{kill, insert_text_if}
@@ -53,7 +57,7 @@ use Rattle.line_editor.specs.Returns.{ValueStep, value_after, value_after_all}
 use Rattle.line_editor.specs.Returns.ValueStep.{Done, Asked}
 use Rattle.line_editor.specs.Rewording.{refreshed_if, edit_word}
 use Rattle.line_editor.specs.UndoAll.{BegunSound, UndoesAll}
-use Rattle.line_editor.specs.Values.{Value, Setting, Effect, then_do, rewritten, written_of, at_line}
+use Rattle.line_editor.specs.Values.{Value, Setting, Effect, then_do, verdict_reply, completion_reply, rewritten, written_of, at_line}
 use Rattle.line_editor.specs.Yanking.{anchored, steps, behind_yank, yanked_by, yank_text, yank_lent, pop_lent}
 use Rattle.line_editor.proofs.ReachLemmas.{ended_reaches, edit_reaches, group_reaches, typing_reaches, yanking_reaches, updating_reaches, indenting_reaches, killing_reaches, transposing_reaches}
 use Rattle.line_editor.proofs.ReplaysLemmas.{transpose_words_replays, edit_word_replays}
@@ -74,6 +78,11 @@ module _ (first : List ℕ) (w : Written) (u : IsUtf8 w.line.text) (b : IsCharBo
 
   overwriting_reaches : (c : ℕ) → Reaches first (overwritten c w).held (overwritten c w).line.text
   overwriting_reaches c = writing_reaches c (place_forward 1 w.line) (place_forward-later w.line u b 1)
+
+  replacing_reaches : (start : ℕ) (text : List ℕ) → start ≤ w.line.place → Reaches first (word_put start text w).held (word_put start text w).line.text
+  replacing_reaches start text below =
+      edit_reaches (replacement start w.line.place text w.line.text ∷ []) (replaced start w.line.place text w.line) w first
+      (sym (replayed_all-one _ w.line.text ∙ replayed_replacement w.line.text start w.line.place text below b.0)) r
 
   popping_reaches : (size : ℕ) (text : List ℕ) → Reaches first (popped size text w).held (popped size text w).line.text
   popping_reaches size text = edit_reaches (popped_in size text w.line).events (popped_in size text w.line).line w first (sym (yank_pop_replayed size text w.line b.0)) r
@@ -187,13 +196,14 @@ verdict_reached Incomplete draws s v first r = r
 verdict_reached (Invalid text) draws s v first r = told_reached draws text Other s v first r
 verdict_reached (Valid text) draws s v first r = told_reached draws text ForcedRefresh s v first r
 
-validate_reached : (judge : Option (List ℕ → ValidationResult)) (s : Setting) (v : Value) (first : List ℕ) → Reached first v → Reached first (validate_by judge s v).value
+validate_reached : (reply : Option (Reply ValidationResult)) (s : Setting) (v : Value) (first : List ℕ) → Reached first v → Reached first (validate_by reply s v).value
 validate_reached None s v first r = r
-validate_reached (Some judge) s v first r =
-    verdict_reached (judge v.line.text) (closes v.held || is_some v.hint) s (rewritten (λ w. group_closed (group_opened w)) v) first (group_reaches (λ w. w) (written_of v) first (λ k. k) r)
+validate_reached (Some reply) s v first r =
+    let w = rewritten group_opened v in
+    verdict_reached (verdict_given reply.answer) (closes w.held || is_some w.hint) s (rewritten group_closed w) first (group_reaches (λ w. w) (written_of v) first (λ k. k) r)
 
 accept_reached : (s : Setting) (v : Value) (first : List ℕ) → Reached first v → Reached first (accept s v).value
-accept_reached s v first r = validate_reached s.judge s (bare s v).value first r
+accept_reached s v first r = validate_reached (verdict_reply s (bare s v).value) s (bare s v).value first r
 
 newline_reached : (accepted : Bool) (found : ValidationResult) (s : Setting) (v : Value) (first : List ℕ) → Reached first v → Reached first (newline_if accepted found s v).value
 newline_reached accepted found s v first r = either first accepted _ _ r (either first (is_valid found || not (has_message found)) _ _ (insertion_reached 10 1 s v first r) r)
@@ -207,6 +217,27 @@ completion_reached (Some text) s v first r =
 hint_reached : (o : Option Hinted) (s : Setting) (v : Value) (first : List ℕ) → Reached first v → Reached first (complete_by o s v).value
 hint_reached None s v first r = r
 hint_reached (Some hint) s v first r = completion_reached hint.completion s (at_row_end v) first r
+
+-- what is elected is for a word that begins before the cursor
+begun_before : (start : ℕ) (l : Line) (inside : Bool) (o : Option (List ℕ)) (text : List ℕ) → (if nat_le start l.place && inside then o else None) ≡ Some text → start ≤ l.place
+begun_before start l inside o text is = by_order (nat_le start l.place) refl is
+  where
+    by_order : (b : Bool) → nat_le start l.place ≡ b → (if b && inside then o else None) ≡ Some text → start ≤ l.place
+    by_order true h k = leb-true start l.place h
+    by_order false h k = cc
+
+elected_reached : (start : ℕ) (o : Option (List ℕ)) (s : Setting) (v : Value) (first : List ℕ) → Sound v → ((text : List ℕ) → o ≡ Some text → start ≤ v.line.place)
+    → Reached first v → Reached first (completed_with start o s v).value
+elected_reached start None s v first ok below r = r
+elected_reached start (Some text) s v first ok below r =
+    group_reaches (word_put start text) (written_of v) first (λ k. replacing_reaches first (group_opened (written_of v)) ok.utf8 ok.boundary k start text (below text refl)) r
+
+complete_reached : (reply : Option (Reply Completion)) (s : Setting) (v : Value) (first : List ℕ) → Sound v → Reached first v → Reached first (complete_if reply s v).value
+complete_reached None s v first ok r = r
+complete_reached (Some reply) s v first ok r =
+    let found = candidates_given (Some reply) in
+    elected_reached found.start (elected found v.line) s v first ok
+    (λ text is. begun_before found.start v.line (not (is_inside_char v.line.text found.start)) (elected_among (v.line.place - found.start) (map (λ o. o.replacement) found.candidates)) text is) r
 
 char_reached : (c n : ℕ) (s : Setting) (v : Value) (first : List ℕ) → Sound v → Reached first v → Reached first (replace_char c n s v).value
 char_reached c n s v first ok r =
@@ -264,6 +295,7 @@ command_reached m (AcceptOrInsertLine middle) s v first ok r = newline_reached (
 command_reached m CapitalizeWord s v first ok r = word_reached Capitalize s v first ok r
 command_reached m DowncaseWord s v first ok r = word_reached Lowercase s v first ok r
 command_reached m UpcaseWord s v first ok r = word_reached Uppercase s v first ok r
+command_reached m Complete s v first ok r = complete_reached (completion_reply s v) s v first ok r
 command_reached m CompleteHint s v first ok r = hint_reached v.hint s v first r
 command_reached m (Indent movement) s v first ok r = indenting_reaches movement m.indent_size false (written_of v) first r
 command_reached m (Dedent movement) s v first ok r = indenting_reaches movement m.indent_size true (written_of v) first r

@@ -4,6 +4,7 @@ use Rattle.std.specs.Char.{is_whitespace}
 use Rattle.std.specs.List.{list_all}
 use Rattle.line_buffer.specs.Line.{Line, text_after}
 use Rattle.line_edits.specs.Written.{group_opened, group_closed}
+use Rattle.line_keys.specs.Replies.{Reply}
 use Rattle.line_help.specs.Validation.{is_valid, has_message}
 use Rattle.line_help.specs.declared.validate.ValidationResult.{ValidationResult}
 use Rattle.line_help.specs.declared.validate.ValidationResult.TheVariants.{Incomplete, Invalid, Valid}
@@ -15,7 +16,7 @@ use Rattle.line_editor.specs.Inserting.{insert_char}
 use Rattle.line_editor.specs.Moving.{move_buffer_end}
 use Rattle.line_editor.specs.Redraws.{Redraw}
 use Rattle.line_editor.specs.Redraws.Redraw.{Drawn, Bared}
-use Rattle.line_editor.specs.Values.{Value, Setting, Transition, unchanged, then_do, rewritten, without_hint, with_mark}
+use Rattle.line_editor.specs.Values.{Value, Setting, Transition, unchanged, then_do, rewritten, verdict_reply, helped, without_hint, with_mark}
 
 -- ---- before a line is accepted: without hint, highlighted character and a count's prompt
 
@@ -33,12 +34,17 @@ bare s v = record { value = bared v s; redraws = bare_redraw s v (bared v s) ∷
 
 -- ---- what the helper finds
 
-abbrev pub verdict_by : Option (List ℕ → ValidationResult) → Value → ValidationResult
-verdict_by None v = Valid None
-verdict_by (Some judge) v = judge v.line.text
+-- a line of which nothing was found isn't whole
+abbrev pub verdict_given : Option ValidationResult → ValidationResult
+verdict_given None = Incomplete
+verdict_given (Some found) = found
+
+abbrev pub verdict_by : Option (Reply ValidationResult) → ValidationResult
+verdict_by None = Valid None
+verdict_by (Some reply) = verdict_given reply.answer
 
 abbrev pub verdict : Setting → Value → ValidationResult
-verdict s v = verdict_by s.judge v
+verdict s v = verdict_by (verdict_reply s v)
 
 abbrev pub told_if : Bool → Option (List ℕ) → CmdKind → Transition
 told_if draws text kind s v = if draws || is_some text then told text kind s v else unchanged s v
@@ -53,15 +59,21 @@ abbrev pub closed_and_told : ValidationResult → Transition
 closed_and_told found s v =
     verdict_told found (closes v.held || is_some v.hint) s (rewritten group_closed v)
 
+-- a group is opened, and the helper asked
+abbrev pub opened_and_asked : Transition
+opened_and_asked s v = record {
+  value = rewritten group_opened v;
+  redraws = helped (verdict_reply s v);
+}
+
 -- groups are closed by the way
-abbrev pub validate_by : Option (List ℕ → ValidationResult) → Transition
-validate_by None s v = unchanged s v
-validate_by (Some judge) s v =
-    verdict_told (judge v.line.text) (closes v.held || is_some v.hint) s
-    (rewritten (λ w. group_closed (group_opened w)) v)
+abbrev pub validate_by : Option (Reply ValidationResult) → Transition
+validate_by None = unchanged
+validate_by (Some reply) =
+    then_do opened_and_asked (closed_and_told (verdict_given reply.answer))
 
 abbrev pub validate : Transition
-validate s v = validate_by s.judge s v
+validate s v = validate_by (verdict_reply s v) s v
 
 -- ---- the commands
 

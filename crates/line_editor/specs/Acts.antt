@@ -11,7 +11,7 @@ use Rattle.line_keys.specs.Phrases.{Input, Script, Ends, Needs, Asks, Reads, Bec
 use Rattle.line_record.specs.Ring.{Ring}
 use Rattle.line_editor.specs.Accepting.{submitted}
 use Rattle.line_editor.specs.Asks.{shown_in, ask_effect}
-use Rattle.line_editor.specs.Calls.{Canvas, Ruler, Begun}
+use Rattle.line_editor.specs.Calls.{Canvas, Ruler, MadeIn, Begun}
 use Rattle.line_editor.specs.Commands.{means_of, effect, ring_after_command, ring_without_text}
 use Rattle.line_editor.specs.Drawing.{refreshed}
 use Rattle.line_editor.specs.Lines.{Enacted, line_phrase, phrase_enacted, reset_by, Turned, turn_of}
@@ -91,7 +91,7 @@ module _ {R : Type 0} (canvas : Canvas R) (r : Ruler) where
   BegunOf fault redraws l old new = Begun canvas fault (asked r l redraws).calls old new
 
   abbrev pub MadeOf : List Redraw → Layout → R → R → Type 0
-  MadeOf redraws l old new = FoldsTo canvas.made old (asked r l redraws).calls new
+  MadeOf redraws l old new = FoldsTo (MadeIn canvas) old (asked r l redraws).calls new
 
   -- the first of these acts were done in full, and then the fault came: in what is to be seen, or
   -- for want of memory before a read or a command, in a read or after all. A read that finds no

@@ -1,5 +1,6 @@
--- The calls of a renderer, what is known of one, and what a call makes of it.
-use Rattle.std.specs.Prelude.{◌≡◌, ◌⊎◌, ⊤, ℕ, Bool, List, [], ◌∷◌, Option, option_map, Result, OnOk, OnErr, IfErr, IsTrue}
+-- The calls of a renderer and of the helper, what is known of a renderer, and what a call makes of
+-- it.
+use Rattle.std.specs.Prelude.{◌≡◌, ◌⊎◌, ℕ, Bool, List, [], ◌∷◌, Option, option_map, Result, OnOk, OnErr, IfErr, IsTrue, IsFalse}
 use Rattle.line_buffer.specs.declared.layout.GraphemeClusterMode.{GraphemeClusterMode}
 use Rattle.line_buffer.specs.declared.layout.Layout.{Layout}
 use Rattle.line_buffer.specs.declared.layout.Position.{Position}
@@ -17,6 +18,8 @@ pub data Call : Type 0 where
   ClearRows : (row : ℕ) → Call
   ClearToEol : Call
   ToLeftmost : Call
+  -- the helper is asked, and gives an answer or fails; nothing is drawn
+  Help : (fails : Bool) → Call
 
 -- what a renderer measures by: where the drawing of a text from a place on ends, the columns of a
 -- row, whether it draws in colours, and how it counts a cluster's columns
@@ -47,20 +50,24 @@ pub record Makes {R A : Type 0} (canvas : Canvas R) (call : Call) (old new : R)
   pub failed : OnErr result (IsTrue (canvas.failed new))
   pub ruler : canvas.ruler new ≡ canvas.ruler old
 
--- the faults that come between calls: a display's comes at one
-abbrev pub ComesBetween : ReadlineError → Type 0
-ComesBetween Helper = ⊤
-ComesBetween Memory = ⊤
-ComesBetween why = ⊥
+-- a call is made: by the renderer, or by a helper that gives an answer
+abbrev pub MadeIn : {R : Type 0} → Canvas R → R → Call → R → Type 0
+MadeIn canvas old (Help fails) new = IsFalse fails × (new ≡ old)
+MadeIn canvas old call new = canvas.made old call new
 
--- of these calls the first ones were made, and then the fault came: a display's at the next one,
--- which was refused, and any other before it, or after them all
+-- a call is refused by this fault: by a helper that fails, or by the display
+abbrev pub RefusedIn : {R : Type 0} → Canvas R → ReadlineError → R → Call → R → Type 0
+RefusedIn canvas fault old (Help fails) new = (fault ≡ Helper) × IsTrue fails × (new ≡ old)
+RefusedIn canvas fault old call new = (fault ≡ Display) × canvas.refused old call new
+
+-- of these calls the first ones were made, and then the fault came: the next one was refused by it,
+-- or memory was wanting
 unfoldable pub Begun : {R : Type 0} → Canvas R → ReadlineError → List Call → R → R → Type 0
-Begun canvas fault [] old new = ComesBetween fault × (new ≡ old)
+Begun canvas fault [] old new = (fault ≡ Memory) × (new ≡ old)
 Begun {R} canvas fault (call ∷ calls) old new =
-    (ComesBetween fault × (new ≡ old))
-    ⊎ (((fault ≡ Display) × canvas.refused old call new)
-    ⊎ ((between : R) × canvas.made old call between × Begun canvas fault calls between new))
+    ((fault ≡ Memory) × (new ≡ old))
+    ⊎ (RefusedIn canvas fault old call new
+    ⊎ ((between : R) × MadeIn canvas old call between × Begun canvas fault calls between new))
 
 -- a call that draws nothing
 pub record Idles {R A : Type 0} (canvas : Canvas R) (old new : R)

@@ -10,11 +10,12 @@ use Rattle.line_help.specs.declared.search.SearchDirection.TheVariants.{Forward,
 use Rattle.line_keys.specs.Phrases.{Input}
 use Rattle.line_keys.specs.Modes.{is_emacs, is_vi_command}
 use Rattle.line_keys.specs.declared.command.Cmd.{Cmd}
-use Rattle.line_keys.specs.declared.command.Cmd.TheVariants.{AcceptLine, BeginningOfHistory, CapitalizeWord, ClearScreen, CompleteHint, Dedent, DowncaseWord, EndOfFile, EndOfHistory, HistorySearchBackward, HistorySearchForward, Indent, Insert, Interrupt, Kill, Move, NextHistory, Repaint, Overwrite, PreviousHistory, ReplaceChar, Replace, SelfInsert, TransposeChars, TransposeWords, Undo, UpcaseWord, ViYankTo, Yank, YankPop, LineUpOrPreviousHistory, LineDownOrNextHistory, Newline, AcceptOrInsertLine}
+use Rattle.line_keys.specs.declared.command.Cmd.TheVariants.{AcceptLine, BeginningOfHistory, CapitalizeWord, ClearScreen, Complete, CompleteHint, Dedent, DowncaseWord, EndOfFile, EndOfHistory, HistorySearchBackward, HistorySearchForward, Indent, Insert, Interrupt, Kill, Move, NextHistory, Repaint, Overwrite, PreviousHistory, ReplaceChar, Replace, SelfInsert, TransposeChars, TransposeWords, Undo, UpcaseWord, ViYankTo, Yank, YankPop, LineUpOrPreviousHistory, LineDownOrNextHistory, Newline, AcceptOrInsertLine}
 use Rattle.line_keys.specs.declared.command.InputMode.{InputMode}
 use Rattle.line_record.specs.Ring.{Ring, yanked, turned, exchanged}
 use Rattle.line_edits.specs.Edits.{unkilled}
 use Rattle.line_editor.specs.Accepting.{bare, newline, accept, accepts, accept_or_insert}
+use Rattle.line_editor.specs.Completing.{complete}
 use Rattle.line_editor.specs.Drawing.{refreshed, cleared_and_drawn, moved_to_end}
 use Rattle.line_editor.specs.Hinting.{complete_hint}
 use Rattle.line_editor.specs.Inserting.{insert_char, replace_char, overwrite_char}
@@ -87,6 +88,7 @@ effect m UpcaseWord = edit_word Uppercase
 effect m (Undo n) = undo n
 effect m (Indent movement) = indent movement m.indent_size false
 effect m (Dedent movement) = indent movement m.indent_size true
+effect m Complete = complete
 effect m CompleteHint = complete_hint
 effect m AcceptLine = accept
 effect m (AcceptOrInsertLine middle) = accept_or_insert middle

@@ -4,7 +4,7 @@ use Rattle.line_keys.specs.declared.command.CmdKind.{CmdKind}
 use Rattle.line_keys.specs.declared.command.CmdKind.TheVariants.{Other}
 use Rattle.line_editor.specs.Redraws.{Redraw}
 use Rattle.line_editor.specs.Redraws.Redraw.{Drawn, Moved, ToEnd, Beeped, Cleared}
-use Rattle.line_editor.specs.Values.{Value, Setting, Transition, then_do, redrawn, with_hint, without_hint, with_mark, shown_hint}
+use Rattle.line_editor.specs.Values.{Value, Setting, Transition, then_do, redrawn, hint_reply, helped, with_hint, without_hint, with_mark, shown_hint}
 
 -- the line with its hint after the session's own prompt
 abbrev pub drawn : Setting → Value → Redraw
@@ -31,20 +31,23 @@ drawn_with info s v = record {
 abbrev pub cursor_shown : Transition
 cursor_shown s v = record { value = v; redraws = Moved v.line.text v.line.place ∷ [] }
 
--- the helper asked anew
-abbrev pub asked_anew : Setting → Value → Value
-asked_anew s v = with_mark Other s (with_hint s v)
+-- the helper asked for a hint; nothing is drawn
+abbrev pub hint_asked : Transition
+hint_asked s v = record { value = with_hint s v; redraws = helped (hint_reply s v) }
+
+-- and of highlighted characters
+abbrev pub asked_anew : Transition
+asked_anew s v = record {
+  value = with_mark Other s (with_hint s v);
+  redraws = helped (hint_reply s v);
+}
 
 abbrev pub refreshed : Transition
-refreshed s v = record { value = asked_anew s v; redraws = drawn s (asked_anew s v) ∷ [] }
+refreshed = then_do asked_anew repainted
 
 -- the same after another prompt
 abbrev pub refreshed_behind : List ℕ → Transition
-refreshed_behind prompt s v =
-    record {
-      value = asked_anew s v;
-      redraws = Drawn prompt false v.line.text v.line.place (shown_hint (asked_anew s v)) ∷ [];
-    }
+refreshed_behind prompt = then_do asked_anew (drawn_behind prompt false)
 
 -- a message, if there is one, in place of the hint
 abbrev pub told : Option (List ℕ) → CmdKind → Transition

@@ -7,7 +7,7 @@ use Rattle.line_buffer.specs.Short.{is_printable}
 use Rattle.line_edits.specs.Plain.{is_plain}
 use Rattle.line_editor.specs.Drawing.{drawn, asked_anew, refreshed}
 use Rattle.line_editor.specs.Redraws.Redraw.{Typed}
-use Rattle.line_editor.specs.Values.{Value, Transition, unchanged, rewritten}
+use Rattle.line_editor.specs.Values.{Value, Transition, unchanged, then_do, rewritten}
 
 -- neither hint nor highlighted character
 abbrev pub is_bare : Value → Bool
@@ -21,14 +21,19 @@ may_be_typed c n at_end plain was_bare bare =
 
 -- a drawing of a character that was put in so many times, at the end or not, into a plain line or
 -- not, with nothing to show before it or something
-abbrev pub inserted_shown : ℕ → ℕ → Bool → Bool → Bool → Transition
-inserted_shown c n at_end plain was_bare s v = record {
-  value = asked_anew s v;
+abbrev pub put_shown : ℕ → ℕ → Bool → Bool → Bool → Transition
+put_shown c n at_end plain was_bare s v = record {
+  value = v;
   redraws =
-      (if may_be_typed c n at_end plain was_bare (is_bare (asked_anew s v))
-      then Typed s.prompt c v.line.text v.line.place else drawn s (asked_anew s v))
+      (if may_be_typed c n at_end plain was_bare (is_bare v)
+      then Typed s.prompt c v.line.text v.line.place else drawn s v)
       ∷ [];
 }
+
+-- with a new hint
+abbrev pub inserted_shown : ℕ → ℕ → Bool → Bool → Bool → Transition
+inserted_shown c n at_end plain was_bare =
+    then_do asked_anew (put_shown c n at_end plain was_bare)
 
 -- the same, of a character that was put into a value
 abbrev pub show_typed : ℕ → ℕ → Value → Transition

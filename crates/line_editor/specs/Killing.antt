@@ -22,14 +22,19 @@ may_be_taken printable was_bare v =
 
 -- a drawing of what so many bytes were taken from, printable ones or not, with nothing to show
 -- before it or something
-abbrev pub killed_shown : ℕ → Bool → Bool → Transition
-killed_shown count printable was_bare s v = record {
-  value = asked_anew s v;
+abbrev pub taken_shown : ℕ → Bool → Bool → Transition
+taken_shown count printable was_bare s v = record {
+  value = v;
   redraws =
-      (if may_be_taken printable was_bare (asked_anew s v)
-      then Taken s.prompt count v.line.text v.line.place else drawn s (asked_anew s v))
+      (if may_be_taken printable was_bare v
+      then Taken s.prompt count v.line.text v.line.place else drawn s v)
       ∷ [];
 }
+
+-- with a new hint
+abbrev pub killed_shown : ℕ → Bool → Bool → Transition
+killed_shown count printable was_bare =
+    then_do asked_anew (taken_shown count printable was_bare)
 
 -- the same, of what was taken from a value
 abbrev pub show_taken : Value → Transition

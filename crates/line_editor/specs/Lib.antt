@@ -3,6 +3,7 @@ pub mod Acts
 pub mod Asks
 pub mod Calls
 pub mod Commands
+pub mod Completing
 pub mod Courses
 pub mod Displays
 pub mod Drawing

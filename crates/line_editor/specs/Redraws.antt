@@ -7,7 +7,7 @@ use Rattle.line_buffer.specs.declared.layout.GraphemeClusterMode.{GraphemeCluste
 use Rattle.line_buffer.specs.declared.layout.Layout.{Layout}
 use Rattle.line_buffer.specs.declared.layout.Position.{Position}
 use Rattle.line_editor.specs.Calls.{Call, Ruler}
-use Rattle.line_editor.specs.Calls.Call.{Draw, Move, Write, Beep, ClearScreen, ClearToEol}
+use Rattle.line_editor.specs.Calls.Call.{Draw, Move, Write, Beep, ClearScreen, ClearToEol, Help}
 
 -- it knows of no columns
 pub data Redraw : Type 0 where
@@ -26,6 +26,8 @@ pub data Redraw : Type 0 where
   ToEnd : Redraw
   Beeped : Redraw
   Cleared : Redraw
+  -- nothing; the helper is asked here, and gives an answer or fails
+  Helped : (fails : Bool) → Redraw
 
 -- calls in order, and the layout after them
 pub record Asked : Type 0 where
@@ -116,6 +118,7 @@ one r l (Bared prompt text place) =
 one r l ToEnd = moved l l.end
 one r l Beeped = record { calls = Beep ∷ []; layout = l }
 one r l Cleared = record { calls = ClearScreen ∷ []; layout = fresh l.grapheme_cluster_mode }
+one r l (Helped fails) = record { calls = Help fails ∷ []; layout = l }
 
 abbrev pub then_asked : Asked → Asked → Asked
 then_asked a b = record { calls = a.calls ++ b.calls; layout = b.layout }

@@ -1,10 +1,13 @@
 -- A whole line: what is handed in for it, what is given back, and what was read and drawn.
-use Rattle.std.specs.Prelude.{◌≡◌, ◌⊎◌, ℕ, ◌<◌, ◌≤◌, Bool, List, Option, None, option_map, Result, Err, string_bytes, flat_map, if◌then◌else◌, IsTrue, IsSomeAnd, IfErr, OnOk}
+use Rattle.std.specs.Prelude.{◌≡◌, ◌⊎◌, ⊤, ℕ, ◌<◌, ◌≤◌, Bool, List, Option, None, option_map, Result, Err, string_bytes, flat_map, if◌then◌else◌, IsTrue, IfErr, OnOk}
 use Rattle.std.specs.List.{FoldsTo}
 use Rattle.line_buffer.specs.Cells.{origin}
+use Rattle.line_buffer.specs.Line.{Line}
 use Rattle.line_config.specs.declared.config.Config.{Config}
 use Rattle.line_config.specs.declared.errors.ReadlineError.{ReadlineError}
+use Rattle.line_help.specs.Completion.{Completion}
 use Rattle.line_help.specs.Hints.{Hinted, Answers}
+use Rattle.line_keys.specs.Replies.{Reply}
 use Rattle.line_help.specs.declared.validate.ValidationResult.{ValidationResult}
 use Rattle.line_keys.specs.Answers.{Custom}
 use Rattle.line_keys.specs.Coming.{Coming, made_of}
@@ -14,30 +17,19 @@ use Rattle.line_keys.specs.InputStates.{new_input}
 use Rattle.line_keys.specs.declared.command.CmdKind.{CmdKind}
 use Rattle.line_record.specs.Ring.{Ring}
 use Rattle.line_editor.specs.Acts.{Act, acts_of, Stage, stage, CutIn}
-use Rattle.line_editor.specs.Calls.{Call, Canvas, Ruler}
+use Rattle.line_editor.specs.Calls.{Call, Canvas, Ruler, MadeIn}
 use Rattle.line_editor.specs.Courses.{Turn, redraws_in}
 use Rattle.line_editor.specs.Lines.{Told, line_of}
 use Rattle.line_editor.specs.Redraws.{asked, fresh}
 use Rattle.line_editor.specs.States.{reason_of}
 use Rattle.line_editor.specs.Turning.{cause_of}
-use Rattle.line_editor.specs.Values.{Setting}
+use Rattle.line_editor.specs.Values.{Setting, Hooks, hooks_by, IsFailing}
 use Rattle.line_editor.specs.declared.ran.Ran.{Ran}
 
--- what a helper answers, if there is one, and where it fails
+-- what a helper's hooks give, if there is one
 pub record Helping : Type 0 where
-  pub hints : Option (Answers (Option Hinted))
-  pub hinting_fails : Option (Answers Bool)
-  pub judge : Option (List ℕ → ValidationResult)
-  pub judging_fails : Option (List ℕ → Bool)
+  pub hooks : Option Hooks
   pub marks : Option (List ℕ → ℕ → CmdKind → Bool)
-
--- it fails at some text and place, and at some place in the history
-pub record HelperFails (helping : Helping) (entries : List (List ℕ)) : Type 0 where
-  pub text : List ℕ
-  pub place : ℕ
-  pub history : ℕ
-  pub fails : IsSomeAnd helping.hinting_fails (λ fails. IsTrue (fails text place entries history))
-      ⊎ IsSomeAnd helping.judging_fails (λ fails. IsTrue (fails text))
 
 -- what is handed in for a line
 abbrev pub setting_by : Ruler → List ℕ → Helping → List (List ℕ) → Setting
@@ -45,8 +37,7 @@ setting_by r prompt helping entries = record {
   prompt = prompt;
   column = (r.measure prompt origin).col;
   mode = r.mode;
-  hints = helping.hints;
-  judge = helping.judge;
+  hooks = helping.hooks;
   marks = if r.colours then helping.marks else None;
   entries = entries;
 }
@@ -71,25 +62,22 @@ pub record WholeLine {R : Type 0} (canvas : Canvas R) (line : Told) (old new : R
   pub outcome_is : outcome ≡ line.outcome
   pub ring_is : ring ≡ line.ring
   pub rest_is : rest ≡ line.rest
-  pub calls : FoldsTo canvas.made old (line_calls (canvas.ruler old) line.turns) new
+  pub calls : FoldsTo (MadeIn canvas) old (line_calls (canvas.ruler old) line.turns) new
 
 -- a fault came that no input gives: the first of these acts were done, and it cut them
-pub record CutLine {R : Type 0} (canvas : Canvas R) (acts : List Act) (hook : Type 0)
+pub record CutLine {R : Type 0} (canvas : Canvas R) (acts : List Act)
     (old new : Stage R) (outcome : Result (List ℕ) ReadlineError) : Type 0 where
   pub fault : ReadlineError
   pub outcome_is : outcome ≡ Err fault
-  pub cause : reason_of (canvas.failed new.out) hook fault
+  pub cause : reason_of (canvas.failed new.out) ⊤ fault
   pub done : let r = canvas.ruler old.out in CutIn canvas r fault acts (fresh r.mode) old new
 
--- a helper, if there is one, by its answers
-abbrev pub helping_by : {H : Type 0} → (H → Answers (Option Hinted)) → (H → Answers Bool)
-    → (H → List ℕ → ValidationResult) → (H → List ℕ → Bool)
-    → (H → List ℕ → ℕ → CmdKind → Bool) → Option H → Helping
-helping_by hint_of hinting_fails verdict_of judging_fails marks helper = record {
-  hints = option_map hint_of helper;
-  hinting_fails = option_map hinting_fails helper;
-  judge = option_map verdict_of helper;
-  judging_fails = option_map judging_fails helper;
+-- a helper, if there is one, by what it gives
+abbrev pub helping_by : {H : Type 0} → (H → Answers (Reply (Option Hinted)))
+    → (H → List ℕ → Reply ValidationResult) → (H → Answers (Reply Completion))
+    → (H → Line → ℕ → List ℕ → Reply ⊤) → (H → List ℕ → ℕ → CmdKind → Bool) → Option H → Helping
+helping_by hint_of verdict_of completion_of update_of marks helper = record {
+  hooks = option_map (hooks_by hint_of verdict_of completion_of update_of) helper;
   marks = option_map marks helper;
 }
 
@@ -104,20 +92,19 @@ pub record Runs {R H K T : Type 0} (canvas : Canvas R) (helps : Option H → Hel
     (feed' : KeyFeed) : Type 0 where
   pub goes : IsTrue feed.told → (n : ℕ) → feed.bound < n →
       let setting = setting_by (canvas.ruler out) prompt (helps helper) entries in
-      let hook = HelperFails (helps helper) entries in
       (heard : Coming) × Heard feed.steady feed.coming heard
       × (WholeLine canvas (line_meant n setting custom config ring heard) out ran.out ring'
       feed'.coming (outcome_of ran)
-      ⊎ CutLine canvas (acts_meant n setting custom config ring heard) hook
+      ⊎ CutLine canvas (acts_meant n setting custom config ring heard)
       (stage out heard ring) (stage ran.out feed'.coming ring') (outcome_of ran))
   pub told : IsTrue feed.told → IsTrue feed'.told
   pub steady : feed'.steady ≡ feed.steady
   pub keeps : feed'.bound ≤ feed.bound
   pub falls : OnOk ran.outcome (feed'.bound < feed.bound)
-  -- the helper's answers and the ruler stay
+  -- what the helper gives and the ruler stay
   pub helper_stays : IsTrue feed.told → helps ran.helper ≡ helps helper
   pub ruler_stays : IsTrue feed.told → canvas.ruler ran.out ≡ canvas.ruler out
   -- why there is no line, whatever is told
   pub reason : IfErr ran.outcome (λ e.
-      let hook = (shown : List (List ℕ)) × HelperFails (helps ran.helper) shown in
+      let hook = IsFailing (helps ran.helper).hooks in
       cause_of custom (canvas.failed ran.out) hook feed' e)

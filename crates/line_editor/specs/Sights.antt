@@ -4,7 +4,7 @@ use Rattle.std.specs.List.{list_all}
 use Rattle.line_buffer.specs.Short.{is_printable}
 use Rattle.line_edits.specs.Plain.{is_plain}
 use Rattle.line_editor.specs.Redraws.{Redraw}
-use Rattle.line_editor.specs.Redraws.Redraw.{Drawn, Moved, Typed, Taken, Bared, ToEnd, Beeped, Cleared}
+use Rattle.line_editor.specs.Redraws.Redraw.{Drawn, Moved, Typed, Taken, Bared, ToEnd, Beeped, Cleared, Helped}
 use Rattle.line_editor.specs.Values.{Value, Setting}
 
 -- prompt, line, place and information as they were last asked for; `given`: the prompt is the
@@ -50,6 +50,7 @@ sight x ToEnd = record {
 }
 sight x Beeped = x
 sight x Cleared = no_sight
+sight x (Helped fails) = x
 
 pub record TypedFits (x : Sight) (prompt : List ℕ) (c : ℕ) (text : List ℕ)
     (place : ℕ) : Type 0 where

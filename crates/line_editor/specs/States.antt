@@ -1,28 +1,50 @@
 -- What a state holds, as a value; what was handed in for it; and what an edit makes of it.
-use Rattle.std.specs.Prelude.{◌≡◌, ◌⊎◌, ⊤, Bool, if◌then◌else◌, None, option_map, Result, string_bytes, IsTrue, IsSomeAnd, IfErr, OnOk}
+use Rattle.std.specs.Prelude.{◌≡◌, ⊤, Bool, false, if◌then◌else◌, Option, None, Some, option_map, Result, string_bytes, IsTrue, IsFalse, IfErr, OnOk}
 use Rattle.std.specs.List.{FoldsTo}
 use Rattle.line_buffer.specs.Cells.{origin}
 use Rattle.line_config.specs.declared.errors.ReadlineError.{ReadlineError}
 use Rattle.line_config.specs.declared.errors.ReadlineError.TheVariants.{Display, Helper, Memory}
+use Rattle.line_keys.specs.Replies.{Reply, fails}
 use Rattle.line_help.specs.declared.completion as completions
 use Rattle.line_help.specs.declared.hint as hints
 use Rattle.line_help.specs.declared.highlight as highlights
 use Rattle.line_help.specs.declared.validate as verdicts
 use Rattle.line_help.specs.declared.history as histories
 use Rattle.line_record.specs.Items.{held_on}
-use Rattle.line_editor.specs.Calls.{Begun}
+use Rattle.line_editor.specs.Calls.{MadeIn, Begun}
 use Rattle.line_editor.specs.Redraws.{asked}
-use Rattle.line_editor.specs.Values.{Value, Setting, Transition}
+use Rattle.line_editor.specs.Values.{Value, Setting, Hooks, hooks_by, Transition, IsFailing}
 use Rattle.line_editor.specs.declared.renderer as renderers
 use Rattle.line_editor.specs.declared.state.State.{State}
 
--- why an edit is refused: the display has failed, a helper fails at what it was shown, or memory is
--- wanting
+-- a call of a hook answers where it doesn't fail, or one of its faults: Helper where it fails, Memory
+-- where it takes memory. Without helper it answers
+abbrev pub fails_by : {A : Type 0} → Option (Reply A) → Bool
+fails_by None = false
+fails_by (Some reply) = fails reply
+
+abbrev pub IsHelpFault : {A : Type 0} → Option (Reply A) → ReadlineError → Type 0
+IsHelpFault (Some reply) Helper = IsTrue (fails reply)
+IsHelpFault (Some reply) Memory = IsTrue reply.takes
+IsHelpFault reply why = ⊥
+
+pub record Helps {A B : Type 0} (reply : Option (Reply A)) (result : Result B ReadlineError)
+    : Type 0 where
+  pub works : OnOk result (IsFalse (fails_by reply))
+  pub fault : IfErr result (IsHelpFault reply)
+
+-- why an edit is refused: the display has failed, a hook fails, or memory is wanting
 abbrev pub reason_of : Bool → Type 0 → ReadlineError → Type 0
 reason_of failed hook Display = IsTrue failed
 reason_of failed hook Helper = hook
 reason_of failed hook Memory = ⊤
 reason_of failed hook why = ⊥
+
+-- what the hooks of a helper give, by its traits
+abbrev pub hooks_of : {H K T : Type 0} → completions.Completer.Ghosts H K
+    → hints.Hinter.Ghosts H T → verdicts.Validator.Ghosts H → H → Hooks
+hooks_of completer hinter validator =
+    hooks_by hinter.hint_of validator.verdict_of completer.completion_of completer.update_of
 
 module _ {Out H Hi K T : Type 0} {renderer : renderers.Renderer.Ghosts Out}
     {completer : completions.Completer.Ghosts H K} {candidate : completions.Candidate.Ghosts K}
@@ -48,8 +70,7 @@ module _ {Out H Hi K T : Type 0} {renderer : renderers.Renderer.Ghosts Out}
     prompt = s.prompt.now;
     column = ((renderer.canvas.ruler s.out).measure s.prompt.now origin).col;
     mode = (renderer.canvas.ruler s.out).mode;
-    hints = option_map hinter.hint_of s.helper;
-    judge = option_map validator.verdict_of s.helper;
+    hooks = option_map (hooks_of completer hinter validator) s.helper;
     marks =
         if (renderer.canvas.ruler s.out).colours then option_map highlighter.marks s.helper
         else None;
@@ -63,27 +84,16 @@ module _ {Out H Hi K T : Type 0} {renderer : renderers.Renderer.Ghosts Out}
     pub ruler : renderer.canvas.ruler t.out ≡ renderer.canvas.ruler s.out
     pub prompt : t.prompt.now ≡ s.prompt.now
     pub history_is : t.ctx.history.now ≡ s.ctx.history.now
-    pub hints_are : option_map hinter.hint_of t.helper ≡ option_map hinter.hint_of s.helper
-    pub hinting_is : option_map hinter.fails t.helper ≡ option_map hinter.fails s.helper
-    pub verdicts_are : option_map validator.verdict_of t.helper
-        ≡ option_map validator.verdict_of s.helper
-    pub validating_is : option_map validator.validating_fails t.helper
-        ≡ option_map validator.validating_fails s.helper
+    pub hooks_are : option_map (hooks_of completer hinter validator) t.helper
+        ≡ option_map (hooks_of completer hinter validator) s.helper
     pub marks_are : option_map highlighter.marks t.helper ≡ option_map highlighter.marks s.helper
-
-  -- the helper fails at what the state shows it now
-  abbrev pub HookFails :
-      State Out H Hi K T renderer completer candidate hinter hint highlighter validator history
-      → Type 0
-  HookFails s = IsSomeAnd s.helper (λ h.
-      IsTrue
-      (hinter.fails h s.line.text s.line.place (history.entries s.ctx.history.now) s.ctx.place)
-      ⊎ IsTrue (validator.validating_fails h s.line.text))
 
   abbrev pub Reason :
       State Out H Hi K T renderer completer candidate hinter hint highlighter validator history
       → ReadlineError → Type 0
-  Reason s e = reason_of (renderer.canvas.failed s.out) (HookFails s) e
+  Reason s e =
+      reason_of (renderer.canvas.failed s.out)
+      (IsFailing (setting_of s).hooks) e
 
   -- an edit was made, with its calls in order; or it was refused for a reason, and the calls made
   -- are the first of them
@@ -92,7 +102,7 @@ module _ {Out H Hi K T : Type 0} {renderer : renderers.Renderer.Ghosts Out}
       history) (result : Result A ReadlineError) : Type 0 where
     pub value : OnOk result (value_of t ≡ (edit (setting_of s) (value_of s)).value)
     pub calls : OnOk result
-        (FoldsTo renderer.canvas.made s.out
+        (FoldsTo (MadeIn renderer.canvas) s.out
         (asked (renderer.canvas.ruler s.out) s.layout
         (edit (setting_of s) (value_of s)).redraws).calls t.out)
     pub layout : OnOk result

@@ -16,8 +16,8 @@ use Rattle.line_keys.specs.Phrases.{Input}
 use Rattle.line_record.specs.Ring.{Ring}
 use Rattle.line_editor.specs.Acts.{Act, turn_acts, stage, CutIn}
 use Rattle.line_editor.specs.Lines.{Turned, turn_of}
-use Rattle.line_editor.specs.States.{value_of, setting_of, Stays, Reason, HookFails, Does}
-use Rattle.line_editor.specs.Values.{Value, Setting}
+use Rattle.line_editor.specs.States.{value_of, setting_of, Stays, Reason, Does}
+use Rattle.line_editor.specs.Values.{Value, Setting, IsFailing}
 use Rattle.line_editor.specs.declared.commands.Status.{Status}
 use Rattle.line_editor.specs.declared.renderer as renderers
 use Rattle.line_editor.specs.declared.state.State.{State}
@@ -73,7 +73,9 @@ module _ {Out H Hi K T : Type 0} {renderer : renderers.Renderer.Ghosts Out}
   abbrev pub Cause : Custom
       → State Out H Hi K T renderer completer candidate hinter hint highlighter validator history
       → KeyFeed → ReadlineError → Type 0
-  Cause custom t feed e = cause_of custom (renderer.canvas.failed t.out) (HookFails t) feed e
+  Cause custom t feed e =
+      cause_of custom (renderer.canvas.failed t.out)
+      (IsFailing (setting_of t).hooks) feed e
 
   -- the turn was made whole, and ends as it says
   pub record Whole (turn : Setting → Value → Turned)

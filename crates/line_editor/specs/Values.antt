@@ -1,13 +1,16 @@
 -- The editor's value, what is handed in for a line, and what an edit makes of the one by the other.
-use Rattle.std.specs.Prelude.{ℕ, Bool, false, List, [], ◌∷◌, ◌++◌, Option, Some, None, length, ◌==◌, if◌then◌else◌, option_map}
+use Rattle.std.specs.Prelude.{◌⊎◌, ⊤, ℕ, Bool, false, List, [], ◌∷◌, ◌++◌, Option, Some, None, length, ◌==◌, if◌then◌else◌, option_map, IsTrue, IsSomeAnd}
 use Rattle.line_buffer.specs.Line.{Line}
 use Rattle.line_buffer.specs.declared.layout.GraphemeClusterMode.{GraphemeClusterMode}
 use Rattle.line_edits.specs.Written.{Written}
+use Rattle.line_help.specs.Completion.{Completion}
 use Rattle.line_help.specs.Hints.{Hinted, Answers}
+use Rattle.line_keys.specs.Replies.{Reply, fails}
 use Rattle.line_help.specs.declared.validate.ValidationResult.{ValidationResult}
 use Rattle.line_keys.specs.declared.command.CmdKind.{CmdKind}
 use Rattle.line_record.specs.Held.{Held}
 use Rattle.line_editor.specs.Redraws.{Redraw}
+use Rattle.line_editor.specs.Redraws.Redraw.{Helped}
 
 -- the line that was left for the history
 pub record Saved : Type 0 where
@@ -24,15 +27,31 @@ pub record Value : Type 0 where
   -- a character was highlighted when this was last asked
   pub marked : Bool
 
+-- what the hooks of a helper give
+pub record Hooks : Type 0 where
+  pub hints : Answers (Reply (Option Hinted))
+  pub judge : List ℕ → Reply ValidationResult
+  pub completes : Answers (Reply Completion)
+  pub updates : Line → ℕ → List ℕ → Reply ⊤
+
+abbrev pub hooks_by : {H : Type 0} → (H → Answers (Reply (Option Hinted)))
+    → (H → List ℕ → Reply ValidationResult) → (H → Answers (Reply Completion))
+    → (H → Line → ℕ → List ℕ → Reply ⊤) → H → Hooks
+hooks_by hint_of verdict_of completion_of update_of helper = record {
+  hints = hint_of helper;
+  judge = verdict_of helper;
+  completes = completion_of helper;
+  updates = update_of helper;
+}
+
 pub record Setting : Type 0 where
   pub prompt : List ℕ
   -- the column at which the prompt ends, and how clusters are counted: what motions up and down see
   -- of the display
   pub column : ℕ
   pub mode : GraphemeClusterMode
-  -- the helper's answers; of highlighted characters only where the display has colours
-  pub hints : Option (Answers (Option Hinted))
-  pub judge : Option (List ℕ → ValidationResult)
+  -- of the helper, if there is one; highlighted characters only where the display has colours
+  pub hooks : Option Hooks
   pub marks : Option (List ℕ → ℕ → CmdKind → Bool)
   -- the history, oldest first
   pub entries : List (List ℕ)
@@ -73,6 +92,40 @@ rewritten edit v = record v { line = (edit (written_of v)).line; held = (edit (w
 abbrev pub at_line : Line → Value → Value
 at_line line v = record v { line = line }
 
+-- ---- the helper's hooks
+
+-- what it gives for a hint, of the line's text, for candidates, and for one that is put in
+abbrev pub hint_reply : Setting → Value → Option (Reply (Option Hinted))
+hint_reply s v = option_map (λ h. h.hints v.line.text v.line.place s.entries v.history) s.hooks
+
+abbrev pub verdict_reply : Setting → Value → Option (Reply ValidationResult)
+verdict_reply s v = option_map (λ h. h.judge v.line.text) s.hooks
+
+abbrev pub completion_reply : Setting → Value → Option (Reply Completion)
+completion_reply s v =
+    option_map (λ h. h.completes v.line.text v.line.place s.entries v.history) s.hooks
+
+abbrev pub update_reply : ℕ → List ℕ → Setting → Value → Option (Reply ⊤)
+update_reply start text s v = option_map (λ h. h.updates v.line start text) s.hooks
+
+-- a hook is asked, if there is a helper
+abbrev pub helped : {A : Type 0} → Option (Reply A) → List Redraw
+helped None = []
+helped (Some reply) = Helped (fails reply) ∷ []
+
+-- a hook fails at something
+pub record IsFailing (hooks : Option Hooks) : Type 0 where
+  pub line : Line
+  pub entries : List (List ℕ)
+  pub history : ℕ
+  pub start : ℕ
+  pub text : List ℕ
+  pub at : IsSomeAnd hooks (λ h.
+      IsTrue (fails (h.hints line.text line.place entries history))
+      ⊎ (IsTrue (fails (h.judge line.text))
+      ⊎ (IsTrue (fails (h.completes line.text line.place entries history))
+      ⊎ IsTrue (fails (h.updates line start text)))))
+
 -- ---- the hint
 
 -- an empty text is no hint
@@ -80,14 +133,17 @@ abbrev pub some_hint : Option Hinted → Option Hinted
 some_hint None = None
 some_hint (Some h) = if length h.display == 0 then None else Some h
 
-abbrev pub hint_by : Option (Answers (Option Hinted)) → List ℕ → ℕ → List (List ℕ) → ℕ
-    → Option Hinted
-hint_by None text place entries history = None
-hint_by (Some hints) text place entries history = some_hint (hints text place entries history)
+abbrev pub hint_given : Option (Option Hinted) → Option Hinted
+hint_given None = None
+hint_given (Some hint) = some_hint hint
+
+abbrev pub hint_by : Option (Reply (Option Hinted)) → Option Hinted
+hint_by None = None
+hint_by (Some reply) = hint_given reply.answer
 
 -- the hint asked anew
 abbrev pub with_hint : Setting → Value → Value
-with_hint s v = record v { hint = hint_by s.hints v.line.text v.line.place s.entries v.history }
+with_hint s v = record v { hint = hint_by (hint_reply s v) }
 
 abbrev pub without_hint : Value → Value
 without_hint v = record v { hint = None }

@@ -1,5 +1,5 @@
 //! Lines that are to be accepted.
-ghost use Rattle.std.specs.Prelude.{◌≡◌, false, IfOk, IfErr, OnOk, option_copied};
+ghost use Rattle.std.specs.Prelude.{◌≡◌, IfOk, OnOk, option_copied};
 
 use crate::renderer::Renderer;
 use crate::state::State;
@@ -7,10 +7,11 @@ use line_config::{HookFault, ReadlineError};
 use line_help::{Helper, History, ValidationContext, ValidationResult, Validator};
 use line_keys::{CmdKind, Text};
 
-#[tactic(auto, using(crate::proofs::BegunLemmas::begun_none, crate::proofs::BegunLemmas::begun_asking, crate::proofs::BegunLemmas::begun_refused))]
+#[tactic(auto, using(crate::proofs::BegunLemmas::begun_none, crate::proofs::BegunLemmas::begun_refused))]
 impl<'p, 'h, Out: Renderer, H: Helper + Drop, Hi: History> State<'p, 'h, Out, H, Hi> {
-    ghost use Rattle.line_editor.specs.States.{value_of, setting_of, Does, Stays, reason_of, HookFails};
-    ghost use Rattle.line_editor.specs.Accepting.{bare, verdict, told_if, verdict_told, closed_and_told, validate, accepts_found, newline, accept, accepts, newline_if, accept_or_insert, submitted};
+    ghost use Rattle.line_editor.specs.States.{value_of, setting_of, Does, Helps, Stays};
+    ghost use Rattle.line_editor.specs.Values.{verdict_reply};
+    ghost use Rattle.line_editor.specs.Accepting.{bare, verdict, told_if, verdict_told, closed_and_told, opened_and_asked, validate, accepts_found, newline, accept, accepts, newline_if, accept_or_insert, submitted};
 
     /// Draws the line as it was typed, without hint and highlighted character, where one stands or
     /// the prompt isn't the session's own.
@@ -31,7 +32,7 @@ impl<'p, 'h, Out: Renderer, H: Helper + Drop, Hi: History> State<'p, 'h, Out, H,
     fn judge(&self) -> Result<ValidationResult, ReadlineError>
         ensures verdict { IfOk result
             (λ found. found ≡ verdict (setting_of self.now) (value_of self.now)) }
-        ensures reason { IfErr result (λ e. reason_of false (HookFails self.now) e) }
+        ensures helps { Helps (verdict_reply (setting_of self.now) (value_of self.now)) result }
     {
         let Some(helper) = &self.helper else {
             return Ok(ValidationResult::Valid(None));
@@ -80,6 +81,17 @@ impl<'p, 'h, Out: Renderer, H: Helper + Drop, Hi: History> State<'p, 'h, Out, H,
         self.tell_verdict(found, draws)
     }
 
+    /// Opens a group, and asks the helper whether the line is whole.
+    fn open_and_ask(&mut self) -> Result<ValidationResult, ReadlineError>
+        ensures does { Does opened_and_asked self.old self.new result }
+        ensures verdict { IfOk result
+            (λ found. found ≡ verdict (setting_of self.old) (value_of self.old)) }
+    {
+        self.changes.begin(self.alloc)?;
+        let found = self.judge()?;
+        Ok(found)
+    }
+
     /// Asks the helper whether the line is whole. Where a message came, or a group was closed or a
     /// hint stands, the line is drawn without hint and with the message. Where the helper refuses,
     /// the group that was opened for it stays open.
@@ -91,8 +103,7 @@ impl<'p, 'h, Out: Renderer, H: Helper + Drop, Hi: History> State<'p, 'h, Out, H,
         if self.helper.is_none() {
             return Ok(ValidationResult::Valid(None));
         }
-        self.changes.begin(self.alloc)?;
-        let found = self.judge()?;
+        let found = self.open_and_ask()?;
         self.close_and_tell(&found)?;
         Ok(found)
     }

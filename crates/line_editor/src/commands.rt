@@ -104,6 +104,7 @@ impl<'p, 'h, Out: Renderer, H: Helper + Drop, Hi: History> State<'p, 'h, Out, H,
             Cmd::Undo(n) => self.edit_undo(*n),
             Cmd::Indent(movement) => self.edit_indent(movement, indent, false),
             Cmd::Dedent(movement) => self.edit_indent(movement, indent, true),
+            Cmd::Complete => self.complete(),
             Cmd::CompleteHint => self.complete_hint(),
             Cmd::AcceptLine
             | Cmd::AcceptOrInsertLine { .. }
@@ -113,7 +114,6 @@ impl<'p, 'h, Out: Renderer, H: Helper + Drop, Hi: History> State<'p, 'h, Out, H,
             | Cmd::Replace(..)
             | Cmd::ViYankTo(_)
             | Cmd::Abort
-            | Cmd::Complete
             | Cmd::CompleteBackward
             | Cmd::ForwardSearchHistory
             | Cmd::Noop

@@ -1,5 +1,5 @@
 //! What a state draws.
-ghost use Rattle.std.specs.Prelude.{◌≡◌, ◌+◌, ◌<◌, ◌≤◌, Some, None, false, if◌then◌else◌, IfOk, IfErr, IsTrue, OnOk, option_map, option_copied};
+ghost use Rattle.std.specs.Prelude.{◌≡◌, ◌+◌, ◌<◌, ◌≤◌, Some, None, if◌then◌else◌, IfOk, IsTrue, option_map, option_copied};
 ghost use Rattle.line_buffer.specs.Cells.{origin};
 ghost use Rattle.line_editor.specs.Calls.{Makes};
 ghost use Rattle.line_editor.specs.Calls.Call.{Draw};
@@ -74,12 +74,12 @@ fn draw_over<Out: Renderer, H: Highlighter>(
     Ok(layout)
 }
 
-#[tactic(auto, using(crate::proofs::BegunLemmas::begun_none, crate::proofs::BegunLemmas::begun_asking, crate::proofs::BegunLemmas::begun_refused, crate::proofs::BegunLemmas::begun_made))]
+#[tactic(auto, using(crate::proofs::BegunLemmas::begun_none, crate::proofs::BegunLemmas::begun_refused, crate::proofs::BegunLemmas::begun_made))]
 impl<'p, 'h, Out: Renderer, H: Helper + Drop, Hi: History> State<'p, 'h, Out, H, Hi> {
-    ghost use Rattle.line_editor.specs.States.{value_of, setting_of, Stays, Does, HookFails, reason_of};
-    ghost use Rattle.line_editor.specs.Values.{with_hint, with_mark};
+    ghost use Rattle.line_editor.specs.States.{value_of, setting_of, Stays, Does, Helps};
+    ghost use Rattle.line_editor.specs.Values.{hint_reply, with_hint, with_mark};
     ghost use Rattle.line_editor.specs.Drawing.{drawn_behind, drawn_with, repainted, refreshed, refreshed_behind, told, cursor_shown, cursor_moved, moved_to_end, beeped, cleared, cleared_and_drawn};
-    ghost use Rattle.line_editor.specs.Drawing.{asked_anew};
+    ghost use Rattle.line_editor.specs.Drawing.{hint_asked, asked_anew};
     ghost use Rattle.line_editor.specs.Values.{redrawn};
     ghost use Rattle.line_editor.specs.Redraws.Redraw.{Typed, Taken, Bared};
     ghost use Rattle.line_editor.specs.Calls.Call.{ToLeftmost};
@@ -89,7 +89,7 @@ impl<'p, 'h, Out: Renderer, H: Helper + Drop, Hi: History> State<'p, 'h, Out, H,
     fn found_hint(&self) -> Result<Option<H::Hint>, ReadlineError>
         ensures value { IfOk result (λ hint. option_map H.Hint.says hint
             ≡ (with_hint (setting_of self.now) (value_of self.now)).hint) }
-        ensures reason { IfErr result (λ e. reason_of false (HookFails self.now) e) }
+        ensures helps { Helps (hint_reply (setting_of self.now) (value_of self.now)) result }
     {
         let Some(helper) = &self.helper else {
             return Ok(None);
@@ -110,12 +110,8 @@ impl<'p, 'h, Out: Renderer, H: Helper + Drop, Hi: History> State<'p, 'h, Out, H,
 
     /// Asks the helper for the hint. Nothing is drawn.
     pub fn hint(&mut self) -> Result<(), ReadlineError>
-        ensures value { OnOk result
-            (value_of self.new ≡ with_hint (setting_of self.old) (value_of self.old)) }
-        ensures out { self.new.out ≡ self.old.out }
-        ensures layout { self.new.layout ≡ self.old.layout }
-        ensures stays { Stays self.old self.new }
-        ensures reason { IfErr result (λ e. reason_of false (HookFails self.new) e) }
+        ensures does { Does hint_asked self.old self.new result }
+        ensures helps { Helps (hint_reply (setting_of self.old) (value_of self.old)) result }
     {
         self.hint = self.found_hint()?;
         Ok(())
@@ -182,12 +178,8 @@ impl<'p, 'h, Out: Renderer, H: Helper + Drop, Hi: History> State<'p, 'h, Out, H,
 
     /// Asks the helper for the hint, and whether a character is highlighted.
     pub(crate) fn ask_anew(&mut self) -> Result<(), ReadlineError>
-        ensures value { OnOk result
-            (value_of self.new ≡ asked_anew (setting_of self.old) (value_of self.old)) }
-        ensures out { self.new.out ≡ self.old.out }
-        ensures layout { self.new.layout ≡ self.old.layout }
-        ensures stays { Stays self.old self.new }
-        ensures reason { IfErr result (λ e. reason_of false (HookFails self.new) e) }
+        ensures does { Does asked_anew self.old self.new result }
+        ensures helps { Helps (hint_reply (setting_of self.old) (value_of self.old)) result }
     {
         self.hint()?;
         self.mark(CmdKind::Other);

@@ -24,7 +24,7 @@ fn may_be_typed(
     n == 1 && (at_end && (plain && (is_printable(ch) && (was_bare && bare))))
 }
 
-#[tactic(auto, using(crate::proofs::BegunLemmas::begun_none, crate::proofs::BegunLemmas::begun_asking, crate::proofs::BegunLemmas::begun_refused))]
+#[tactic(auto, using(crate::proofs::BegunLemmas::begun_none, crate::proofs::BegunLemmas::begun_refused))]
 impl<'p, 'h, Out: Renderer, H: Helper + Drop, Hi: History> State<'p, 'h, Out, H, Hi> {
     ghost use Rattle.line_editor.specs.States.{value_of, setting_of, Does};
     ghost use Rattle.line_editor.specs.Inserting.{is_bare, inserted_shown, insert_char, insert_text, replace_char, overwrite_char};

@@ -12,7 +12,7 @@ use line_help::{Helper, History};
 use line_keys::Text;
 use line_record::KillRing;
 
-#[tactic(auto, using(crate::proofs::BegunLemmas::begun_none, crate::proofs::BegunLemmas::begun_asking, crate::proofs::BegunLemmas::begun_refused))]
+#[tactic(auto, using(crate::proofs::BegunLemmas::begun_none, crate::proofs::BegunLemmas::begun_refused))]
 impl<'p, 'h, Out: Renderer, H: Helper + Drop, Hi: History> State<'p, 'h, Out, H, Hi> {
     ghost use Rattle.line_editor.specs.States.{value_of, setting_of, Does, Stays};
     ghost use Rattle.line_editor.specs.Killing.{may_be_taken, killed_shown, kill, insert_text_if, replace, killed_into, copied_into};

@@ -4,6 +4,7 @@
 
 mod accepting;
 pub mod commands;
+mod completing;
 mod drawing;
 mod hinting;
 mod inserting;

@@ -1,5 +1,6 @@
 //! A line's beginning.
-ghost use Rattle.std.specs.Prelude.{◌≡◌, [], true, false, None, IfOk, if◌then◌else◌, option_copied};
+ghost use Rattle.std.specs.Prelude.{◌≡◌, [], true, false, None, IfOk, IfErr, if◌then◌else◌, option_copied};
+ghost use Rattle.line_config.specs.declared.errors.ReadlineError.TheVariants.{Memory};
 ghost use Rattle.line_record.specs.Items.{no_items};
 
 use crate::drawing::highlighter_of;
@@ -14,7 +15,9 @@ use std::alloc::Global;
 
 /// An empty line that grows as it needs to.
 pub(crate) fn empty_line(alloc: Global) -> Result<LineBuffer, ReadlineError>
-    ensures { IfOk result (λ l. l ≡ record { text = []; place = 0; growth = true; limit = 4096 }) }
+    ensures line { IfOk result
+        (λ l. l ≡ record { text = []; place = 0; growth = true; limit = 4096 }) }
+    ensures reason { IfErr result (λ e. e ≡ Memory) }
 {
     Ok(LineBuffer::with_capacity(alloc, MAX_LINE)?.can_growth(true))
 }
@@ -32,8 +35,9 @@ impl<'p, 'h, Out: Renderer, H: Helper + Drop, Hi: History> State<'p, 'h, Out, H,
         helper: Option<H>,
         ctx: Context<'h, Hi>,
     ) -> Result<Self, ReadlineError>
-        ensures { IfOk result
+        ensures starts { IfOk result
             (λ s. Starts out prompt.now helper ctx.entry.history.now ctx.entry.place s) }
+        ensures reason { IfErr result (λ e. e ≡ Memory) }
     {
         let line = empty_line(alloc)?;
         let changes = Changeset::new(alloc)?;

@@ -1,5 +1,5 @@
 -- What a kill that is refused leaves of the ring, of a ring and a record that are told of it.
-use Rattle.std.specs.Prelude.{Bool, true, false, if◌then◌else◌, Option, Some, None, Result, Ok, Err, OnErr, IsErrAnd}
+use Rattle.std.specs.Prelude.{Bool, true, false, if◌then◌else◌, Option, Some, None, is_some, Result, Ok, Err, OnErr, IsErrAnd}
 use Rattle.std.proofs.Common.{◌≡◌, ◌⊎◌, inl, inr, ℕ, List, [], ◌∷◌, ◌++◌, refl, ap, subst, ◌∙◌}
 use Rattle.line_buffer.specs.Event.{Event}
 use Rattle.line_buffer.specs.Event.Event.{StartKilling, StopKilling}
@@ -9,15 +9,12 @@ use Rattle.line_buffer.specs.Replay.{TakesAll, TellsOfChange, StopsAmong, deleti
 use Rattle.line_buffer.specs.declared.range.Span.{Span}
 use Rattle.line_buffer.specs.declared.types.Movement.{Movement}
 use Rattle.line_record.specs.declared.joined.Joined.{Joined}
-use Rattle.line_record.specs.Ring.{Ring, ring_step, ring_all}
+use Rattle.line_record.specs.Ring.{Ring, ring_step, ring_all, ring_refuses}
 use Rattle.line_record.specs.Together.{joined_takes, joined_refuses}
 use Rattle.line_edits.specs.Edits.{TookOrNot}
 
 abbrev hears : Ring → Event → Ring → Type 0
 hears r e q = q ≡ ring_step e r
-
-abbrev stays : Ring → Event → Ring → Type 0
-stays r e q = q ≡ r
 
 -- a kill's one event, and its events, by whether it has marks
 abbrev deleted : Span → Line → Event
@@ -59,17 +56,16 @@ module _ (change : Event) where
 
 module _ {B : Type 0} (second second_refuses : B → Event → B → Type 0) where
   abbrev Refused : Joined Ring B → Event → Joined Ring B → Type 0
-  Refused = joined_refuses hears stays second_refuses
+  Refused = joined_refuses hears ring_refuses second_refuses
 
   -- the ring after an event that was refused
-  after_refusal : (e : Event) (u v : Joined Ring B) → (v ≡ u) ⊎ Refused u e v → (v.first.now ≡ u.first.now) ⊎ (v.first.now ≡ ring_step e u.first.now)
-  after_refusal e u v (inl same) = inl (ap (λ (x : Joined Ring B). x.first.now) same)
-  after_refusal e u v (inr (names, inl kept)) = inl kept.0
-  after_refusal e u v (inr (names, inr took)) = inr took.0
+  after_refusal : (e : Event) (u v : Joined Ring B) → Refused u e v → (v.first.now ≡ u.first.now) ⊎ (v.first.now ≡ ring_step e u.first.now)
+  after_refusal e u v (names, inl kept) = inl kept.0.0
+  after_refusal e u v (names, inr took) = inr took.0
 
   abbrev Stopped : Bool → Option Span → Line → Joined Ring B → Joined Ring B → List ℕ → List ℕ → Type 0
   Stopped b range l s t before after =
-      StopsAmong (joined_takes hears second) (joined_refuses hears stays second_refuses) (if b then [] else StopKilling ∷ []) (killed_by b range l) s t before after
+      StopsAmong (joined_takes hears second) (joined_refuses hears ring_refuses second_refuses) (if b then [] else StopKilling ∷ []) (killed_by b range l) s t before after
 
   ring_by : (b : Bool) (range : Option Span) (l : Line) (s t : Joined Ring B) (before after : List ℕ) → Stopped b range l s t before after
       → (t.first.now ≡ ring_all (killed_by b range l) s.first.now) ⊎ (t.first.now ≡ (if b then s.first.now else record s.first.now { killing = false }))
@@ -92,8 +88,18 @@ module _ {B : Type 0} (second second_refuses : B → Event → B → Type 0) whe
         | inr took ↦ inl (closed ∙ ap (ring_step StopKilling) (took ∙ ap (ring_step call.refused) between ∙ ap (λ e. ring_step e (ring_step StartKilling s.first.now)) is))
       ])
 
+  some_by : (b : Bool) (range : Option Span) (l : Line) (s t : Joined Ring B) (before after : List ℕ) → Stopped b range l s t before after → is_some range ≡ true
+  some_by true None l s t before after call = no_split call.done call.never call.refused call.split
+  some_by false None l s t before after call = no_change call.done call.never call.refused call.split call.change
+  some_by b (Some span) l s t before after call = refl
+
+  -- a kill that is refused takes something
+  pub some_killed : (movement : Movement) (l : Line) {s t : Joined Ring B} {before after : List ℕ}
+      → StopsAmong (joined_takes hears second) (joined_refuses hears ring_refuses second_refuses) (kill_closing movement) (kill_events movement l) s t before after → is_some (range_of movement l) ≡ true
+  some_killed movement l {s} {t} {before} {after} call = some_by (goes_by_clusters movement) (range_of movement l) l s t before after call
+
   pub ring_stopped : (movement : Movement) (l : Line) {s t : Joined Ring B} {before after : List ℕ}
-      → StopsAmong (joined_takes hears second) (joined_refuses hears stays second_refuses) (kill_closing movement) (kill_events movement l) s t before after → TookOrNot movement l s.first.now t.first.now
+      → StopsAmong (joined_takes hears second) (joined_refuses hears ring_refuses second_refuses) (kill_closing movement) (kill_events movement l) s t before after → TookOrNot movement l s.first.now t.first.now
   ring_stopped movement l {s} {t} {before} {after} call = ring_by (goes_by_clusters movement) (range_of movement l) l s t before after call
 
 pub on_refusal : {A E P : Type 0} (e : E) (result : Result A E) → IsErrAnd result (λ x. x ≡ e) → P → OnErr result P

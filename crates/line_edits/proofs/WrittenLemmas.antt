@@ -1,11 +1,14 @@
 -- One event, seen as one of several, and what a call owes that told the record or was refused.
-use Rattle.std.specs.Prelude.{Result, Ok, Err, IsErrAnd, IsUtf8}
+use Rattle.std.specs.Prelude.{Result, Ok, Err, IsErrAnd, IsUtf8, Bool, true, false, ◌==◌, if◌then◌else◌, length, Some, is_some, encode_utf8}
+use Rattle.std.specs.List.{repeat}
 use Rattle.std.proofs.Common.{◌≡◌, ℕ, List, [], ◌∷◌, refl, ◌∙◌}
 use Rattle.line_buffer.specs.Event.{Event}
+use Rattle.line_buffer.specs.Event.Event.{InsertChar}
+use Rattle.line_buffer.specs.Insertions.{no_insertion, has_room, put_at_cursor, insertion_by, insertion_of, insert as insertion, yank as yanked_in}
 use Rattle.line_buffer.specs.Line.{Line}
-use Rattle.line_buffer.specs.Replay.{Reports, StopsAmong}
+use Rattle.line_buffer.specs.Replay.{Reports, StopsAmong, wants_or, insertion as told_insertion}
 use Rattle.line_record.specs.Held.{Held, recorded_in}
-use Rattle.line_record.specs.Items.{Items, ItemsStand, RecordedIn, held_on}
+use Rattle.line_record.specs.Items.{Items, ItemsStand, RecordedIn, record_refuses, held_on}
 use Rattle.line_record.specs.Runs.{recorded_all}
 use Rattle.line_record.proofs.RunLemmas.{told_stand, told_held, stopped_stand}
 use Rattle.line_edits.specs.Written.{Written, Writes, written}
@@ -28,6 +31,30 @@ refused_writes e (Err x) h stand = record { answers = tt; line = tt; held = tt; 
 
 -- it told the record the first of some events
 pub stopped_writes : {A E : Type 0} {edit : Written → Written} {answer : A} {closing events : List Event} {before after : Line} {old new : Items} (e : E) (result : Result A E)
-    → IsErrAnd result (λ x. x ≡ e) → IsUtf8 before.text → ItemsStand old before.text → StopsAmong RecordedIn (λ x f y. y ≡ x) closing events old new before.text after.text
+    → IsErrAnd result (λ x. x ≡ e) → IsUtf8 before.text → ItemsStand old before.text → StopsAmong RecordedIn (wants_or record_refuses) closing events old new before.text after.text
     → Writes edit answer before after old new result
 stopped_writes e result is utf8 stand stops = refused_writes e result is (stopped_stand stand utf8 stops)
+
+-- where nothing is put in, nothing is told
+by_room : (room : Bool) (told e : Event) (es : List Event) (added : List ℕ) (l : Line)
+    → (if room then record { answer = Some (l.place == length l.text); events = told ∷ []; line = put_at_cursor added l } else no_insertion l).events ≡ e ∷ es
+    → is_some (if room then record { answer = Some (l.place == length l.text); events = told ∷ []; line = put_at_cursor added l } else no_insertion l).answer ≡ true
+by_room true told e es added l split = refl
+by_room false told e es added l split = absurd (cc)
+
+typed_by : (one : Bool) (c n : ℕ) (e : Event) (es : List Event) (l : Line)
+    → (if one then insertion_by (InsertChar l.place c) (encode_utf8 c) l else insertion_of (encode_utf8 c) n l).events ≡ e ∷ es
+    → is_some (if one then insertion_by (InsertChar l.place c) (encode_utf8 c) l else insertion_of (encode_utf8 c) n l).answer ≡ true
+typed_by true c n e es l split = by_room (has_room (length (encode_utf8 c)) l) (InsertChar l.place c) e es (encode_utf8 c) l split
+typed_by false c n e es l split = by_room (has_room (length (repeat n (encode_utf8 c))) l) (told_insertion l.place (repeat n (encode_utf8 c))) e es (repeat n (encode_utf8 c)) l split
+
+yanked_by : (empty : Bool) (text : List ℕ) (n : ℕ) (e : Event) (es : List Event) (l : Line)
+    → (if empty then no_insertion l else insertion_of text n l).events ≡ e ∷ es → is_some (if empty then no_insertion l else insertion_of text n l).answer ≡ true
+yanked_by true text n e es l split = absurd (cc)
+yanked_by false text n e es l split = by_room (has_room (length (repeat n text)) l) (told_insertion l.place (repeat n text)) e es (repeat n text) l split
+
+pub some_typed : (c n : ℕ) (l : Line) (e : Event) (es : List Event) → (insertion c n l).events ≡ e ∷ es → is_some (insertion c n l).answer ≡ true
+some_typed c n l e es split = typed_by (n == 1) c n e es l split
+
+pub some_yanked : (text : List ℕ) (n : ℕ) (l : Line) (e : Event) (es : List Event) → (yanked_in text n l).events ≡ e ∷ es → is_some (yanked_in text n l).answer ≡ true
+some_yanked text n l e es split = yanked_by (length text == 0) text n e es l split

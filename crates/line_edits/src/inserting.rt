@@ -1,5 +1,5 @@
 //! Texts put in.
-ghost use Rattle.std.specs.Prelude.{◌≡◌, ◌≤◌, ◌-◌, true, OnErr, IsCharBoundary};
+ghost use Rattle.std.specs.Prelude.{◌≡◌, ◌≤◌, ◌-◌, true, is_some, OnErr, IsCharBoundary};
 ghost use Rattle.line_buffer.specs.Insertions.{insert as insertion, yank as yanked_in};
 ghost use Rattle.line_record.specs.Items.{ItemsStand};
 ghost use Rattle.line_edits.specs.Edits.{char_typed, text_yanked, popped, put_behind, pop_in_group};
@@ -22,6 +22,7 @@ pub(crate) fn insert_told(
     ensures writes { Writes (char_typed ch n) (insertion ch n line.old).answer
         line.old line.new changes.old changes.new result }
     ensures kept { OnErr result (line.new ≡ line.old) }
+    ensures refused { OnErr result (is_some (insertion ch n line.old).answer ≡ true) }
 {
     let _text = line.as_str();
     Ok(line.insert(alloc, ch, n, changes)?)
@@ -40,8 +41,9 @@ pub fn insert_char(
 ) -> Result<Option<bool>, OutOfMemory>
     requires stand { ItemsStand changes.old line.old.text }
     requires plain { plain.old ≡ is_plain line.old.text }
-    ensures { Edits (char_typed ch n) (insertion ch n line.old).answer
+    ensures writes { Edits (char_typed ch n) (insertion ch n line.old).answer
         line.old line.new changes.old changes.new plain.new result }
+    ensures refused { OnErr result (is_some (insertion ch n line.old).answer ≡ true) }
 {
     let at_end = insert_told(alloc, line, changes, ch, n)?;
     if n == 1 && *plain && is_printable(ch) {
@@ -96,6 +98,7 @@ fn yank_told(
     ensures writes { Writes (text_yanked text.now n) (yanked_in text.now n line.old).answer
         line.old line.new changes.old changes.new result }
     ensures kept { OnErr result (line.new ≡ line.old) }
+    ensures refused { OnErr result (is_some (yanked_in text.now n line.old).answer ≡ true) }
 {
     let _text = line.as_str();
     Ok(line.yank(alloc, text, n, changes)?)
@@ -111,8 +114,9 @@ pub fn yank(
     n: RepeatCount,
 ) -> Result<Option<bool>, OutOfMemory>
     requires { ItemsStand changes.old line.old.text }
-    ensures { Edits (text_yanked text.now n) (yanked_in text.now n line.old).answer
+    ensures writes { Edits (text_yanked text.now n) (yanked_in text.now n line.old).answer
         line.old line.new changes.old changes.new plain.new result }
+    ensures refused { OnErr result (is_some (yanked_in text.now n line.old).answer ≡ true) }
 {
     let done = yank_told(alloc, line, changes, text, n);
     *plain = is_plain(line.as_str());

@@ -1,5 +1,5 @@
 //! What is killed.
-ghost use Rattle.std.specs.Prelude.{◌≡◌, ◌≤◌, length, is_some, OnOk, OnErr};
+ghost use Rattle.std.specs.Prelude.{◌≡◌, ◌≤◌, true, length, is_some, OnOk, OnErr};
 ghost use Rattle.line_buffer.specs.Range.{range_of, kill_events};
 ghost use Rattle.line_record.specs.Items.{ItemsStand};
 ghost use Rattle.line_record.specs.Names.{SameNames};
@@ -24,6 +24,7 @@ fn kill_told(
         line.old line.new both.old.second.now both.new.second.now result }
     ensures ring { OnOk result
         (both.new.first.now ≡ ring_all (kill_events movement.now line.old) both.old.first.now) }
+    ensures refused { OnErr result (is_some (range_of movement.now line.old) ≡ true) }
     ensures refused_ring { OnErr result
         (TookOrNot movement.now line.old both.old.first.now both.new.first.now) }
     ensures names { SameNames both.old.first both.old.second both.new.first both.new.second }
@@ -47,6 +48,7 @@ pub fn kill(
     ensures writes { Edits (range_killed movement.now) (is_some (range_of movement.now line.old))
         line.old line.new changes.old changes.new plain.new result }
     ensures ring { OnOk result (ring.new ≡ ring_all (kill_events movement.now line.old) ring.old) }
+    ensures refused { OnErr result (is_some (range_of movement.now line.old) ≡ true) }
     ensures refused_ring { OnErr result (TookOrNot movement.now line.old ring.old ring.new) }
     ensures shrinks { length line.new.text ≤ length line.old.text }
 {

@@ -6,6 +6,7 @@ use lib.Utf8.{encode}
 use Rattle.line_buffer.specs.Insertions.{last_cut}
 use Rattle.line_help.specs.CommonPrefix.{longest_common_prefix}
 use Rattle.line_help.specs.FileNames.{Named, path_completion, unsorted_completion}
+use Rattle.line_keys.specs.Replies.{Reply, gives, gives_at_once}
 use Rattle.line_help.specs.Quotes.{escaped, unescaped, unclosed_quote}
 use Rattle.line_help.specs.WordBefore.{word_start, is_among, break_characters}
 use Rattle.line_help.specs.declared.quotes.Quote.TheVariants.{Double, Single, None as Unquoted}
@@ -64,17 +65,22 @@ unfolding chars encode
 escape_at_the_end_goes = refl
 
 -- what `/usr/` holds
-abbrev held : List ℕ → List Named
-held folder = cond (bytes_eq folder (codes "/usr/")) (record { name = codes "log"; is_dir = false } ∷ record { name = codes "my file"; is_dir = false } ∷ record { name = codes "local"; is_dir = true } ∷ []) []
+abbrev held : List ℕ → Reply (List Named)
+held folder = gives_at_once (cond (bytes_eq folder (codes "/usr/")) (record { name = codes "log"; is_dir = false } ∷ record { name = codes "my file"; is_dir = false } ∷ record { name = codes "local"; is_dir = true } ∷ []) [])
 
-names_that_begin_alike : path_completion held (codes "ls /usr/lo") ≡ record { start = 3; candidates = record { display = codes "local"; replacement = codes "/usr/local/" } ∷ record { display = codes "log"; replacement = codes "/usr/log" } ∷ [] }
+names_that_begin_alike : path_completion held (codes "ls /usr/lo") ≡ gives (record { start = 3; candidates = record { display = codes "local"; replacement = codes "/usr/local/" } ∷ record { display = codes "log"; replacement = codes "/usr/log" } ∷ [] })
 unfolding chars encode
 names_that_begin_alike = refl
 
-unsorted_as_listed : unsorted_completion held (codes "ls /usr/lo") ≡ record { start = 3; candidates = record { display = codes "log"; replacement = codes "/usr/log" } ∷ record { display = codes "local"; replacement = codes "/usr/local/" } ∷ [] }
+unsorted_as_listed : unsorted_completion held (codes "ls /usr/lo") ≡ gives (record { start = 3; candidates = record { display = codes "log"; replacement = codes "/usr/log" } ∷ record { display = codes "local"; replacement = codes "/usr/local/" } ∷ [] })
 unfolding chars encode
 unsorted_as_listed = refl
 
-name_with_a_space : path_completion held (codes "ls /usr/m") ≡ record { start = 3; candidates = record { display = codes "my file"; replacement = codes "/usr/my" ++ (92 ∷ codes " file") } ∷ [] }
+name_with_a_space : path_completion held (codes "ls /usr/m") ≡ gives (record { start = 3; candidates = record { display = codes "my file"; replacement = codes "/usr/my" ++ (92 ∷ codes " file") } ∷ [] })
 unfolding chars encode
 name_with_a_space = refl
+
+-- `ls '/usr/lo`, where the folder can't be listed: nothing is found, and nothing takes memory
+nothing_where_unlisted : path_completion (λ folder. record { answer = None; takes = false }) (codes "ls " ++ (39 ∷ codes "/usr/lo")) ≡ record { answer = None; takes = false }
+unfolding chars encode
+nothing_where_unlisted = refl

@@ -24,3 +24,4 @@ pub mod SearchLemmas
 pub mod SortLemmas
 pub mod ValidationLemmas
 pub mod WordBeforeLemmas
+pub mod WordLemmas

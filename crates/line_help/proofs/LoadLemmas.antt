@@ -1,6 +1,6 @@
 -- Loading: one row after the other.
 use Rattle.std.proofs.Common.{◌≡◌, ℕ, ◌<◌, Bool, true, false, List, [], ◌∷◌, ◌++◌, length, refl, sym, ◌∙◌, ap, arith, append_assoc}
-use Rattle.std.specs.Prelude.{Result, if◌then◌else◌, ◌&&◌, not, IsUtf8, Ok, Err, IsOk, bytes_eq}
+use Rattle.std.specs.Prelude.{Result, if◌then◌else◌, ◌&&◌, not, IsUtf8, IfErr, Ok, Err, IsOk, bytes_eq}
 use Rattle.std.specs.Result.{is_ok, MatchResult}
 use Rattle.std.specs.Str.{is_utf8, chars}
 use Rattle.std.proofs.lemmas.Str.{IsUtf8-from_is_utf8, is_utf8-from_IsUtf8, IsUtf8-nil}
@@ -9,9 +9,9 @@ use lib.Utf8.{encode}
 use Rattle.line_config.specs.declared.device.Last.{Last}
 use Rattle.line_config.specs.declared.device.Last.TheVariants.{End, Failed}
 use Rattle.line_config.specs.declared.errors.ReadlineError.{ReadlineError}
-use Rattle.line_config.specs.declared.errors.ReadlineError.TheVariants.{HistoryText}
+use Rattle.line_config.specs.declared.errors.ReadlineError.TheVariants.{HistoryText, Memory}
 use Rattle.line_help.specs.History.{Filed, all_saved, filed_with, filed_with_all, takes_all, ignored}
-use Rattle.line_help.specs.HistoryText.{AddsSome, after_first, entries_of, entry_of, texts_behind, good_rows, has_bad_row, header, load_answer, load_leaves, left_at, rows_answer, answer_at, texts_of}
+use Rattle.line_help.specs.HistoryText.{AddsSome, after_first, entries_of, entry_of, texts_behind, good_rows, has_bad_row, header, load_answer, load_leaves, left_at, row_fault, rows_answer, answer_at, texts_of}
 
 pub not_utf8 : (bytes : List ℕ) → ¬ (IsUtf8 bytes) → is_utf8 bytes ≡ false
 not_utf8 bytes never = by_answer (is_utf8 bytes) refl where
@@ -90,6 +90,29 @@ answer_more last whole h escapes row rows e =
     (ap (λ rs. whole && takes_all h (entries_of escapes rs)) (good_more row rows e)
     ∙ ap (λ b. whole && b) (takes_step h escapes row (good_rows rows))
     ∙ and_assoc whole (takes_all h (entries_of escapes (row ∷ []))) (takes_all (filed_with_all h (entries_of escapes (row ∷ []))) (entries_of escapes (good_rows rows))))
+
+good_if_memory : (good : Bool) → (if good then Memory else HistoryText) ≡ Memory → good ≡ true
+good_if_memory true e = refl
+good_if_memory false e = cc
+
+bad_if_not : (good : Bool) → (if good then Memory else HistoryText) ≡ HistoryText → good ≡ false
+bad_if_not true e = cc
+bad_if_not false e = refl
+
+pub good_fault : (row : List ℕ) (result : Result Bool ReadlineError) → is_utf8 row ≡ true → IfErr result (λ e. e ≡ Memory) → IfErr result (λ e. e ≡ row_fault row)
+good_fault row (Ok b) utf8 e = tt
+good_fault row (Err why) utf8 e = rw utf8 e
+
+pub bad_fault : (row : List ℕ) (result : Result Bool ReadlineError) → is_utf8 row ≡ false → IfErr result (λ e. e ≡ HistoryText) → IfErr result (λ e. e ≡ row_fault row)
+bad_fault row (Ok b) bad e = tt
+bad_fault row (Err why) bad e = rw bad e
+
+-- a row for which memory is wanting is UTF-8; one that isn't taken for what it says isn't
+pub memory_row : (row : List ℕ) → row_fault row ≡ Memory → is_utf8 row ≡ true
+memory_row row e = good_if_memory (is_utf8 row) e
+
+pub bad_row : (row : List ℕ) → row_fault row ≡ HistoryText → is_utf8 row ≡ false
+bad_row row e = bad_if_not (is_utf8 row) e
 
 pub left_bad : (h : Filed) (escapes : Bool) (row : List ℕ) (rows : List (List ℕ)) → is_utf8 row ≡ false
     → filed_with_all h (entries_of escapes (good_rows (row ∷ rows))) ≡ h

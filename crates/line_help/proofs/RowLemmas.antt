@@ -1,13 +1,15 @@
 -- Rows of a text: a row up to its newline, the last row, a row that a failure cuts off.
-use Rattle.std.proofs.Common.{◌≡◌, ◌≢◌, ℕ, suc, ◌-◌, ◌<◌, Bool, true, false, List, [], ◌∷◌, ◌++◌, length, take, refl, ap, get_or, arith}
+use Rattle.std.proofs.Common.{◌≡◌, ◌≢◌, ℕ, suc, ◌-◌, ◌<◌, Bool, true, false, List, [], ◌∷◌, ◌++◌, length, take, refl, sym, ap, ◌∙◌, append_assoc, get_or, arith}
 use Rattle.std.specs.Prelude.{if◌then◌else◌, ◌||◌, ◌&&◌, ◌==◌, not, Err}
 use Rattle.std.specs.List.{list_any}
+use Rattle.std.specs.Str.{is_utf8}
+use Rattle.std.proofs.lemmas.List.{append-nil}
 use Rattle.std.proofs.lemmas.Bool.{eq-eqb, ne_eqb}
 use Rattle.line_config.specs.Device.{front_of}
 use Rattle.line_config.specs.declared.device.DeviceFailed.{DeviceFailed}
 use Rattle.line_config.specs.declared.device.Last.{Last}
 use Rattle.line_config.specs.declared.device.Last.TheVariants.{End, Failed}
-use Rattle.line_help.specs.HistoryText.{text_rows, onto, without_return, begins_with_newline}
+use Rattle.line_help.specs.HistoryText.{text_rows, onto, without_return, begins_with_newline, GoodUpTo, ReadsGood}
 
 -- no newline stands among these bytes
 abbrev pub has_newline : List ℕ → Bool
@@ -88,6 +90,37 @@ cut_off (b ∷ xs) none =
     let h = (neither (b == 10) (has_newline xs) none).0 in
     let k = (neither (b == 10) (has_newline xs) none).1 in
     cut_byte b (text_rows Failed xs) (b == 10) (b == 13 && begins_with_newline xs) (cut_off xs k) h
+
+nothing_behind : (xs ys : List ℕ) → [] ≡ xs ++ ys → ys ≡ []
+nothing_behind [] ys e = sym e
+nothing_behind (x ∷ xs) ys e = cc
+
+-- a row that is UTF-8, up to its newline, before what reads on so; a part of a row; the last row
+pub row_reads : (xs coming : List ℕ) → has_newline xs ≡ false → is_utf8 (without_return xs) ≡ true → GoodUpTo (xs ++ (10 ∷ coming)) coming
+row_reads xs coming none utf8 later r = record {
+  read = xs ++ (10 ∷ r.read);
+  split = ap (λ bytes. xs ++ (10 ∷ bytes)) r.split ∙ sym (append_assoc xs (10 ∷ r.read) later);
+  good = rw (cut_row Failed xs r.read none, utf8) r.good;
+}
+
+one_more : (xs : List ℕ) (b : ℕ) → has_newline xs ≡ false → b ≢ 10 → has_newline (xs ++ (b ∷ [])) ≡ false
+one_more [] b none other = rw (ne_eqb b 10 other) refl
+one_more (x ∷ xs) b none other =
+    let both = neither (x == 10) (has_newline xs) none in
+    rw both.0 (one_more xs b both.1 other)
+
+pub part_reads : (xs coming : List ℕ) (b : ℕ) → has_newline xs ≡ false → b ≢ 10 → ReadsGood (xs ++ (b ∷ coming)) coming
+part_reads xs coming b none other = record {
+  read = xs ++ (b ∷ []);
+  split = sym (append_assoc xs (b ∷ []) coming);
+  good = rw (cut_off (xs ++ (b ∷ [])) (one_more xs b none other)) refl;
+}
+
+pub none_read : (coming : List ℕ) → ReadsGood coming coming
+none_read coming = record { read = []; split = refl; good = refl }
+
+pub last_reads : (xs : List ℕ) → has_newline xs ≡ false → GoodUpTo xs []
+last_reads xs none later r = record { read = xs; split = rw (nothing_behind r.read later r.split, append-nil) refl; good = rw (cut_off xs none) refl }
 
 -- a steady source fails where nothing is to come
 pub failed_at : (bytes : List ℕ) (last : Last) (e : DeviceFailed) → Err e ≡ front_of bytes last → (bytes ≡ []) × (last ≡ Failed)

@@ -1,11 +1,12 @@
 -- Names of files and folders for a path that is being typed.
-use Rattle.std.specs.Prelude.{ℕ, ◌+◌, ◌-◌, ◌==◌, Bool, true, false, not, List, [], ◌∷◌, ◌++◌, length, take, drop, map, filter, nat_eq, Option, Some, None}
+use Rattle.std.specs.Prelude.{ℕ, ◌+◌, ◌-◌, ◌==◌, ◌||◌, Bool, true, false, not, List, [], ◌∷◌, ◌++◌, length, take, drop, map, filter, nat_eq, Option, Some, None, is_some, option_map}
 use Rattle.std.specs.List.{starts_with, suffix_len}
 use Rattle.std.specs.Ordering.{is_lt, nat_cmp}
 use Rattle.std.specs.Cmp.Lexicographic.{slice_cmp}
 use Rattle.line_help.specs.Completion.{Offered, Completion}
+use Rattle.line_keys.specs.Replies.{Reply}
 use Rattle.line_help.specs.Sorting.{sorted_by}
-use Rattle.line_help.specs.Quotes.{unescaped, escaped, unclosed_quote}
+use Rattle.line_help.specs.Quotes.{unescaped, escaped, unclosed_quote, escapes_at}
 use Rattle.line_help.specs.WordBefore.{word_start, break_characters, double_quote_characters, is_among}
 use Rattle.line_help.specs.declared.quotes.Quote.{Quote}
 use Rattle.line_help.specs.declared.quotes.Quote.TheVariants.{Double, Single, None as Unquoted}
@@ -79,23 +80,30 @@ abbrev pub offered_names : Quote → List ℕ → List ℕ → List Named → Li
 offered_names quote folder name all =
     map (offered_name quote folder) (filter (name_begins name) all)
 
-abbrev pub offered_for : (List ℕ → List Named) → Typed → List Offered
-offered_for list typed =
-    offered_names typed.quote (folder_of typed.path) (name_of typed.path)
-    (list (folder_of typed.path))
-
-abbrev pub unsorted_completion : (List ℕ → List Named) → List ℕ → Completion
-unsorted_completion list text =
-    record { start = (typed_path text).start; candidates = offered_for list (typed_path text) }
+abbrev pub unsorted_for : Typed → List Named → Completion
+unsorted_for typed all =
+    let offered : List Offered =
+    offered_names typed.quote (folder_of typed.path) (name_of typed.path) all in
+    record { start = typed.start; candidates = offered }
 
 -- by what is displayed; those that display the same keep their order
 abbrev pub displayed_before : Offered → Offered → Bool
 displayed_before x y = is_lt (slice_cmp nat_cmp x.display y.display)
 
-abbrev pub path_completion : (List ℕ → List Named) → List ℕ → Completion
-path_completion list text =
+abbrev pub sorted : Completion → Completion
+sorted found = record found { candidates = sorted_by displayed_before found.candidates }
+
+-- what is found for a text, by a list of what folders hold: nothing where the folder can't be
+-- listed. Memory is taken for a path without its escapes, by the list, and for what it gives
+abbrev pub unsorted_completion : (List ℕ → Reply (List Named)) → List ℕ → Reply Completion
+unsorted_completion list text =
+    let listed : Reply (List Named) = list (folder_of (typed_path text).path) in
     record {
-      start = (typed_path text).start;
-      candidates = sorted_by displayed_before
-          (offered_for list (typed_path text));
+      answer = option_map (unsorted_for (typed_path text)) listed.answer;
+      takes = escapes_at (unclosed_quote text) || (listed.takes || is_some listed.answer);
     }
+
+abbrev pub path_completion : (List ℕ → Reply (List Named)) → List ℕ → Reply Completion
+path_completion list text =
+    let found : Reply Completion = unsorted_completion list text in
+    record found { answer = option_map sorted found.answer }

@@ -1,12 +1,12 @@
 -- Highlighted texts: texts with control sequences between their characters.
-use Rattle.std.specs.Prelude.{◌≡◌, ◌⊎◌, ℕ, ◌+◌, ◌&&◌, nat_le, nat_lt, Bool, true, if◌then◌else◌, List, [], ◌∷◌, ◌++◌, length, take, drop, codes, Option, Some, None, Result, IfOk, IfErr}
+use Rattle.std.specs.Prelude.{◌≡◌, ℕ, ◌+◌, ◌&&◌, nat_le, nat_lt, Bool, true, if◌then◌else◌, List, [], ◌∷◌, ◌++◌, length, take, drop, codes, Option, Some, None, is_some, Result, IfOk}
 use Rattle.std.specs.List.{list_all}
 use Rattle.line_config.specs.declared.errors.HookFault.{HookFault}
-use Rattle.line_config.specs.declared.errors.HookFault.TheVariants.{Failed, Memory}
 use Rattle.line_config.specs.declared.settings.CompletionType.{CompletionType}
 use Rattle.line_keys.specs.declared.command.CmdKind.{CmdKind}
 use Rattle.line_keys.specs.declared.command.CmdKind.TheVariants.{MoveCursor, Other, ForcedRefresh}
 use Rattle.line_help.specs.Matching.{bracket_to_match, match_of}
+use Rattle.line_keys.specs.Replies.{Reply, Replies, gives_at_once}
 
 -- what a parameter of a control sequence is made of: digits and the signs : and ;
 abbrev pub is_style_parameter : ℕ → Bool
@@ -31,13 +31,11 @@ pub data Styled : List ℕ → List ℕ → Type 0 where
   style : (parameters text shown : List ℕ) → list_all is_style_parameter parameters ≡ true
       → Styled text shown → Styled text (style_sequence parameters ++ shown)
 
--- what a call answers of a text that is to be shown as another one, or to fail: that one, which is
--- the text with styles put in; Failed where it is to fail, and besides want of memory
-pub record Highlights {A : Type 0} (bytes : A
-    → List ℕ) (text : List ℕ) (shown : Option (List ℕ)) (result : Result A HookFault) : Type 0 where
-  pub is : IfOk result (λ answer. shown ≡ Some (bytes answer))
+-- a call answers what the text is shown as, and that is the text with styles put in
+pub record Highlights {A : Type 0} (bytes : A → List ℕ) (text : List ℕ) (shown : Reply (List ℕ))
+    (result : Result A HookFault) : Type 0 where
+  pub reply : Replies shown bytes result
   pub styled : IfOk result (λ answer. Styled text (bytes answer))
-  pub fault : IfErr result (λ e. (e ≡ Memory) ⊎ ((e ≡ Failed) × (shown ≡ None)))
 
 -- bold and blue, and as before
 abbrev pub bold_blue : List ℕ
@@ -64,10 +62,13 @@ match_to_show line (Some bracket) =
 abbrev pub with_match_shown : List ℕ → Option (ℕ × ℕ) → List ℕ
 with_match_shown line bracket = with_bold_byte line (match_to_show line bracket)
 
--- the line so, all else as it is
-abbrev pub shown_with_match : Option (ℕ × ℕ) → DisplayPart → List ℕ → List ℕ
-shown_with_match bracket (OfLine place) text = with_match_shown text bracket
-shown_with_match bracket part text = text
+-- the line so, in memory that a match takes; all else as it is
+abbrev pub shown_with_match : Option (ℕ × ℕ) → DisplayPart → List ℕ → Reply (List ℕ)
+shown_with_match bracket (OfLine place) text = record {
+  answer = Some (with_match_shown text bracket);
+  takes = is_some (match_to_show text bracket);
+}
+shown_with_match bracket part text = gives_at_once text
 
 -- the bracket that is kept for the next drawing: none for a line's last one
 abbrev pub kept_bracket : List ℕ → ℕ → CmdKind → Option (ℕ × ℕ)

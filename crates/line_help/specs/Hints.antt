@@ -1,5 +1,6 @@
 -- Hints: what a hinter shows after a line.
-use Rattle.std.specs.Prelude.{ℕ, ◌-◌, ◌==◌, ◌||◌, not, true, if◌then◌else◌, List, length, drop, bytes_eq, Option, Some, None}
+use Rattle.std.specs.Prelude.{ℕ, ◌-◌, ◌==◌, ◌||◌, not, true, if◌then◌else◌, List, length, drop, bytes_eq, Option, Some, None, is_some, option_map}
+use Rattle.line_keys.specs.Replies.{Reply}
 use Rattle.line_help.specs.Search.{Hit, searched}
 use Rattle.line_help.specs.declared.search.SearchDirection.TheVariants.{Reverse}
 
@@ -8,7 +9,7 @@ pub record Hinted : Type 0 where
   pub display : List ℕ
   pub completion : Option (List ℕ)
 
--- a hinter's answer, and whether it fails, by line, place, entries of the history and place in the
+-- what a hinter gives, by line, place, entries of the history and place in the
 -- history
 abbrev pub Answers : Type 0 → Type 0
 Answers A = List ℕ → ℕ → List (List ℕ) → ℕ → A
@@ -30,3 +31,9 @@ rest_behind line (Some hit) =
 abbrev pub history_hint : List ℕ → ℕ → List (List ℕ) → ℕ → Option (List ℕ)
 history_hint line pos entries place = if length line == 0 || not (pos == length line) then None
     else rest_behind line (searched true line (hint_start entries place) Reverse entries)
+
+-- what `HistoryHinter` gives, in memory that a hint takes
+abbrev pub hint_of_history : List ℕ → ℕ → List (List ℕ) → ℕ → Reply (Option Hinted)
+hint_of_history line pos entries place =
+    let rest : Option (List ℕ) = history_hint line pos entries place in
+    record { answer = Some (option_map text_hint rest); takes = is_some rest }

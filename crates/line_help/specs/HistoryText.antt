@@ -4,7 +4,7 @@ use Rattle.std.specs.Str.{is_utf8}
 use Rattle.line_config.specs.declared.device.Last.{Last}
 use Rattle.line_config.specs.declared.device.Last.TheVariants.{End, Failed}
 use Rattle.line_config.specs.declared.errors.ReadlineError.{ReadlineError}
-use Rattle.line_config.specs.declared.errors.ReadlineError.TheVariants.{Reader, HistoryText}
+use Rattle.line_config.specs.declared.errors.ReadlineError.TheVariants.{Reader, HistoryText, Memory}
 use Rattle.line_help.specs.History.{Filed, newest, filed_with_all, takes_all, all_saved}
 
 -- the first row of a saved text: a text without it has no escapes
@@ -74,6 +74,10 @@ abbrev pub good_rows : List (List ℕ) → List (List ℕ)
 good_rows [] = []
 good_rows (row ∷ rows) = if is_utf8 row then row ∷ good_rows rows else []
 
+-- why a row isn't taken: it isn't UTF-8, or else memory is wanting
+abbrev pub row_fault : List ℕ → ReadlineError
+row_fault row = if is_utf8 row then Memory else HistoryText
+
 -- the entries of rows: empty rows give none
 abbrev pub entries_of : Bool → List (List ℕ) → List (List ℕ)
 entries_of escapes [] = []
@@ -107,6 +111,16 @@ loaded_texts last text = texts_of (good_rows (text_rows last text))
 abbrev pub has_bad_row : List (List ℕ) → Bool
 has_bad_row [] = false
 has_bad_row (row ∷ rows) = if is_utf8 row then has_bad_row rows else true
+
+-- each whole row that was read of a text is UTF-8, and this is still to come
+pub record ReadsGood (text coming : List ℕ) : Type 0 where
+  pub read : List ℕ
+  pub split : text ≡ read ++ coming
+  pub good : has_bad_row (text_rows Failed read) ≡ false
+
+-- what reads on so behind this has done so from the text's start
+abbrev pub GoodUpTo : List ℕ → List ℕ → Type 0
+GoodUpTo text coming = (later : List ℕ) → ReadsGood coming later → ReadsGood text later
 
 -- what reading rows answers: a row that isn't UTF-8 is met before the failure of the source
 abbrev pub answer_at : Last → Bool → Result Bool ReadlineError

@@ -19,3 +19,5 @@ pub mod SearchLaws
 pub mod Sorting
 pub mod Validation
 pub mod WordBefore
+pub mod WordCompletion
+pub mod WordList

@@ -55,7 +55,7 @@ impl Highlighter for MatchingBracketHighlighter {
 
     ghost kept = { λ before after. ⊤ };
 
-    ghost shown_as = { λ self part text. Some (shown_with_match self part text) };
+    ghost shown_as = { shown_with_match };
 
     /// The line with the match of the kept bracket in bold and blue, if it has one.
     fn highlight<'l>(

@@ -1,6 +1,7 @@
 //! Validation by brackets.
 ghost use Rattle.std.specs.Prelude.{◌≡◌, ◌++◌, false, IfOk, IfErr, codes, encode_utf8};
 ghost use Rattle.line_config.specs.declared.errors.HookFault.TheVariants.{Memory};
+ghost use Rattle.line_keys.specs.Replies.{gives};
 ghost use Rattle.line_help.specs.Validation.{bracket_verdict};
 
 use crate::brackets::{is_closing, is_opening, partner};
@@ -24,9 +25,7 @@ impl MatchingBracketValidator {
 }
 
 impl Validator for MatchingBracketValidator {
-    ghost verdict_of = { λ self text. bracket_verdict text };
-
-    ghost validating_fails = { λ self text. false };
+    ghost verdict_of = { λ self text. gives (bracket_verdict text) };
 
     ghost while_typing = { λ self. false };
 

@@ -1,9 +1,9 @@
 //! Completion: what may stand in place of the word before the cursor.
-ghost use Rattle.std.specs.Prelude.{◌≡◌, ◌≤◌, ◌⊎◌, ℕ, List, Bool, true, false, IsTrue, IfOk, IfErr, OnOk, OnErr, IsCharBoundary, length, map, box_value};
-ghost use Rattle.line_buffer.specs.Line.{Line, replaced};
-ghost use Rattle.line_buffer.specs.Replay.{Replays, replacement};
-ghost use Rattle.line_config.specs.declared.errors.HookFault.TheVariants.{Failed, Memory};
-ghost use Rattle.line_help.specs.Completion.{Offered, Completion, text_offered, nothing_offered};
+ghost use Rattle.std.specs.Prelude.{◌≡◌, ◌≤◌, ℕ, List, ⊤, IfOk, IfErr, IsCharBoundary, box_value};
+ghost use Rattle.line_buffer.specs.Line.{Line};
+ghost use Rattle.line_config.specs.declared.errors.HookFault.TheVariants.{Memory};
+ghost use Rattle.line_help.specs.Completion.{Offered, Completion, text_offered, nothing_offered, completion_by, Updates};
+ghost use Rattle.line_keys.specs.Replies.{Reply, Replies, gives, gives_at_once, itself};
 
 use crate::context::Context;
 use crate::history::History;
@@ -93,18 +93,14 @@ pub trait Completer {
     /// A candidate of it.
     type Candidate: Candidate;
 
-    // What it answers, by line, place, entries of the history and place in the history.
-    ghost completion_of: { Self → List ℕ → ℕ → List (List ℕ) → ℕ → Completion };
+    // What it gives, by line, place, entries of the history and place in the history.
+    ghost completion_of: { Self → List ℕ → ℕ → List (List ℕ) → ℕ → Reply Completion };
 
-    // Whether it fails to, by the same.
-    ghost completing_fails: { Self → List ℕ → ℕ → List (List ℕ) → ℕ → Bool };
-
-    // Whether it fails to update a line, by the line, the start and the text to be put in.
-    ghost updating_fails: { Self → Line → ℕ → List ℕ → Bool };
+    // Whether it puts a text into a line, by the line, the start and the text.
+    ghost update_of: { Self → Line → ℕ → List ℕ → Reply ⊤ };
 
     /// Where the word before the cursor at `pos` starts, in bytes, and the candidates for it. They
-    /// depend on nothing but line, place, entries and place in the history; want of memory may be
-    /// answered besides.
+    /// depend on nothing but line, place, entries and place in the history.
     fn complete<Hi: History>(
         &self,
         alloc: Global,
@@ -113,17 +109,8 @@ pub trait Completer {
         ctx: &Context<'_, Hi>,
     ) -> Result<(usize, Vec<Self::Candidate>), HookFault>
         requires { IsCharBoundary line.now pos }
-        ensures start { IfOk result (λ found. found.0
-            ≡ (completion_of self.now line.now pos (Hi.entries ctx.now.history.now)
-            ctx.now.place).start) }
-        ensures candidates { IfOk result (λ found. map Self.Candidate.offers found.1.items
-            ≡ (completion_of self.now line.now pos (Hi.entries ctx.now.history.now)
-            ctx.now.place).candidates) }
-        ensures fine { OnOk result (completing_fails self.now line.now pos
-            (Hi.entries ctx.now.history.now) ctx.now.place ≡ false) }
-        ensures fault { IfErr result (λ e. (e ≡ Memory)
-            ⊎ ((e ≡ Failed) × IsTrue (completing_fails self.now line.now pos
-            (Hi.entries ctx.now.history.now) ctx.now.place))) };
+        ensures { Replies (completion_of self.now line.now pos (Hi.entries ctx.now.history.now)
+            ctx.now.place) (completion_by Self.Candidate.offers) result };
 
     /// Puts a candidate's replacement in place of the line from `start` to the cursor.
     fn update<L: ChangeListener>(
@@ -136,34 +123,37 @@ pub trait Completer {
     ) -> Result<(), HookFault>
         requires order { start ≤ line.old.place }
         requires boundary { IsCharBoundary line.old.text start }
-        ensures told { OnOk result (L.takes cl.old
-            (replacement start line.old.place elected.now line.old.text) cl.new) }
-        ensures replays { OnOk result (Replays
-            (replacement start line.old.place elected.now line.old.text) line.old.text
-            line.new.text) }
-        ensures line { OnOk result (line.new ≡ replaced start line.old.place elected.now line.old) }
-        ensures refused { OnErr result ((cl.new ≡ cl.old)
-            ⊎ L.refuses cl.old (replacement start line.old.place elected.now line.old.text)
-            cl.new) }
-        ensures kept { OnErr result (line.new ≡ line.old) }
-        ensures fault { IfErr result (λ e. (e ≡ Memory)
-            ⊎ ((e ≡ Failed) × IsTrue (updating_fails self.now line.old start elected.now))) }
-    {
-        let end = line.pos();
-        line.replace(alloc, start..end, elected, cl)?;
-        Ok(())
-    }
+        ensures line { Updates L.takes L.refuses start elected.now cl.old cl.new line.old line.new
+            result }
+        ensures reply { Replies (update_of self.now line.old start elected.now) itself result };
+}
+
+/// Puts a text in place of the line from `start` to the cursor.
+pub fn update_line<L: ChangeListener>(
+    alloc: Global,
+    line: &mut LineBuffer,
+    start: usize,
+    elected: &str,
+    cl: &mut L,
+) -> Result<(), HookFault>
+    requires order { start ≤ line.old.place }
+    requires boundary { IsCharBoundary line.old.text start }
+    ensures line { Updates L.takes L.refuses start elected.now cl.old cl.new line.old line.new
+        result }
+    ensures fault { IfErr result (λ e. e ≡ Memory) }
+{
+    let end = line.pos();
+    line.replace(alloc, start..end, elected, cl)?;
+    Ok(())
 }
 
 /// No candidates.
 impl Completer for () {
     type Candidate = String;
 
-    ghost completion_of = { λ self line pos entries place. nothing_offered };
+    ghost completion_of = { λ self line pos entries place. gives_at_once nothing_offered };
 
-    ghost completing_fails = { λ self line pos entries place. false };
-
-    ghost updating_fails = { λ self line start elected. false };
+    ghost update_of = { λ self line start elected. gives (tt {0}) };
 
     fn complete<Hi: History>(
         &self,
@@ -174,6 +164,17 @@ impl Completer for () {
     ) -> Result<(usize, Vec<String>), HookFault> {
         Ok((0, Vec::new(alloc)))
     }
+
+    fn update<L: ChangeListener>(
+        &self,
+        alloc: Global,
+        line: &mut LineBuffer,
+        start: usize,
+        elected: &str,
+        cl: &mut L,
+    ) -> Result<(), HookFault> {
+        update_line(alloc, line, start, elected, cl)
+    }
 }
 
 impl<C: Completer, A: Allocator> Completer for Box<C, A> {
@@ -181,9 +182,7 @@ impl<C: Completer, A: Allocator> Completer for Box<C, A> {
 
     ghost completion_of = { λ held. C.completion_of (box_value held) };
 
-    ghost completing_fails = { λ held. C.completing_fails (box_value held) };
-
-    ghost updating_fails = { λ held. C.updating_fails (box_value held) };
+    ghost update_of = { λ held. C.update_of (box_value held) };
 
     fn complete<Hi: History>(
         &self,

@@ -259,7 +259,7 @@ impl FileHistory {
     ghost use Rattle.std.specs.Str.{is_utf8};
     ghost use Rattle.line_config.specs.declared.errors.ReadlineError.TheVariants.{HistoryText, Memory, Reader};
     ghost use Rattle.line_help.specs.History.{filed_with_all, takes_all};
-    ghost use Rattle.line_help.specs.HistoryText.{AddsSome, after_first, entries_of, follows, header, good_rows, load_answer, load_leaves, rows_answer, text_rows, says_reader, texts_of};
+    ghost use Rattle.line_help.specs.HistoryText.{AddsSome, after_first, entries_of, follows, header, good_rows, load_answer, load_leaves, row_fault, rows_answer, text_rows, says_reader, texts_of, ReadsGood};
 
     // Adds the entry of a row, and answers whether it isn't ignored. An empty row has none.
     fn add_row(&mut self, alloc: Global, row: &[u8], escapes: bool) -> Result<bool, ReadlineError>
@@ -268,9 +268,8 @@ impl FileHistory {
         ensures added { OnOk result (self.new
             ≡ filed_with_all self.old (entries_of escapes (row.now ∷ []))) }
         ensures text { OnOk result (is_utf8 row.now ≡ true) }
-        ensures bad { result ≡ Err HistoryText → is_utf8 row.now ≡ false }
         ensures kept { OnErr result (self.new ≡ self.old) }
-        ensures fault { IfErr result (λ e. (e ≡ Memory) ⊎ (e ≡ HistoryText)) }
+        ensures fault { IfErr result (λ e. e ≡ row_fault row.now) }
     {
         if row.is_empty() {
             return Ok(true);
@@ -286,9 +285,8 @@ impl FileHistory {
         ensures answer { IfOk result (λ b. b ≡ bytes_eq row.now header) }
         ensures added { OnOk result (self.new ≡ after_first self.old row.now) }
         ensures text { OnOk result (is_utf8 row.now ≡ true) }
-        ensures bad { result ≡ Err HistoryText → is_utf8 row.now ≡ false }
         ensures kept { OnErr result (self.new ≡ self.old) }
-        ensures fault { IfErr result (λ e. (e ≡ Memory) ⊎ (e ≡ HistoryText)) }
+        ensures fault { IfErr result (λ e. e ≡ row_fault row.now) }
     {
         if row == b"#V2".as_slice() {
             return Ok(true);
@@ -319,6 +317,8 @@ impl FileHistory {
             → AddsSome (entries_of escapes
             (good_rows (text_rows (S.feed source.old).last (S.feed source.old).coming))) self.old
             self.new }
+        ensures memory { IsTrue (S.feed source.old).told → result ≡ Err Memory
+            → ReadsGood (S.feed source.old).coming (S.feed source.new).coming }
         ensures fault { IfErr result (λ e. (e ≡ Memory) ⊎ ((e ≡ HistoryText) ⊎ (e ≡ Reader))) }
         ensures failure { (S.feed source.new).failed ≡ says_reader result }
         ensures told { IsTrue (S.feed source.old).told → IsTrue (S.feed source.new).told }
@@ -338,7 +338,7 @@ impl FileHistory {
     /// of a saved one and none of its rows was ignored. Then no entry is new.
     ///
     /// It goes row by row. Where the source fails (`Reader`), a row isn't UTF-8 (`HistoryText`) or
-    /// memory is refused, the rows before stay, and their entries are new.
+    /// memory is refused (`Memory`), the rows before stay, and their entries are new.
     #[tactic(auto, using(crate::proofs::LoadLemmas::load_steps))]
     pub fn load_from<S: Source>(
         &mut self,
@@ -357,6 +357,8 @@ impl FileHistory {
             → OnErr result (AddsSome (texts_of
             (good_rows (text_rows (S.feed source.old).last (S.feed source.old).coming))) self.old
             self.new) }
+        ensures memory { IsTrue (S.feed source.old).told → result ≡ Err Memory
+            → ReadsGood (S.feed source.old).coming (S.feed source.new).coming }
         ensures fault { IfErr result (λ e. (e ≡ Memory) ⊎ ((e ≡ HistoryText) ⊎ (e ≡ Reader))) }
         ensures failure { (S.feed source.new).failed ≡ says_reader result }
         ensures told { IsTrue (S.feed source.old).told → IsTrue (S.feed source.new).told }

@@ -1,17 +1,19 @@
 //! Completion of file names, over a list of what folders hold.
-ghost use Rattle.std.specs.Prelude.{◌≡◌, ◌++◌, ◌⊎◌, ◌≤◌, ℕ, List, Bool, true, false, length, take, filter, IsTrue, IfOk, IfErr, OnOk, OnErr, IsCharBoundary, string_bytes, Some};
+ghost use Rattle.std.specs.Prelude.{◌≡◌, ◌++◌, ℕ, List, length, take, IsTrue, IfOk, IfErr, IsCharBoundary, string_bytes, vec_items, Some};
 ghost use Rattle.std.specs.Cow.{cow_str_bytes};
-ghost use Rattle.line_config.specs.declared.errors.HookFault.TheVariants.{Failed, Memory};
-ghost use Rattle.line_help.specs.Completion.{Offered, Completion};
-ghost use Rattle.line_help.specs.FileNames.{Named, typed_of, quoted, is_special, typed_path, name_of, folder_of, slash_of, offered_name, offered_names, offered_for, name_begins, unsorted_completion, path_completion, displayed_before};
+ghost use Rattle.line_config.specs.declared.errors.HookFault.TheVariants.{Memory};
+ghost use Rattle.line_help.specs.Completion.{Offered, completion_by};
+ghost use Rattle.line_help.specs.FileNames.{Named, typed_of, quoted, is_special, typed_path, name_of, folder_of, slash_of, offered_name, offered_names, name_begins, unsorted_completion, path_completion, displayed_before};
 ghost use Rattle.std.specs.List.Sorted.{IsSortedBy};
-ghost use Rattle.line_help.specs.Quotes.{escaped};
+ghost use Rattle.line_help.specs.Quotes.{escaped, escapes_in, escapes_at, unclosed_quote};
+ghost use Rattle.line_keys.specs.Replies.{Reply, Replies, gives, itself};
 
-use crate::completion::{Candidate, Completer, Pair};
+use crate::completion::{Candidate, Completer, Pair, update_line};
 use crate::context::Context;
 use crate::history::History;
 use crate::quotes::{Quote, escape, find_unclosed_quote, unescape};
 use crate::word_before::{ends_word, extract_word, is_double_quote_char};
+use line_buffer::{ChangeListener, LineBuffer};
 use line_config::HookFault;
 use std::alloc::Global;
 use std::borrow::CowStr;
@@ -45,19 +47,13 @@ impl Listed {
 
 /// Lists what folders hold.
 pub trait Lister {
-    // What a folder holds, by its path.
-    ghost held_in: { Self → List ℕ → List Named };
-
-    // Whether it can't be listed.
-    ghost listing_fails: { Self → List ℕ → Bool };
+    // What a folder holds, by its path; nothing is given where it can't be listed.
+    ghost held_in: { Self → List ℕ → Reply (List Named) };
 
     /// What the folder `dir` holds, and nothing where there is no such folder. The path ends in a
     /// slash, or is empty where no folder was typed.
     fn list(&self, alloc: Global, dir: &str) -> Result<Vec<Listed>, HookFault>
-        ensures names { IfOk result (λ names. names.items ≡ held_in self.now dir.now) }
-        ensures fine { OnOk result (listing_fails self.now dir.now ≡ false) }
-        ensures fault { IfErr result (λ e. (e ≡ Memory)
-            ⊎ ((e ≡ Failed) × IsTrue (listing_fails self.now dir.now))) };
+        ensures { Replies (held_in self.now dir.now) vec_items result };
 }
 
 /// Completes the names of files and folders.
@@ -87,7 +83,7 @@ fn quoted<'l>(
     requires { IsCharBoundary text.now start }
     ensures typed { IfOk result (λ typed. typed_of typed.start (cow_str_bytes typed.path)
         typed.quote ≡ quoted start quote text.now) }
-    ensures fault { IfErr result (λ e. e ≡ Memory) }
+    ensures fault { IfErr result (λ e. (e ≡ Memory) × IsTrue (escapes_in quote)) }
 {
     let rest = &text[start..];
     let path = match quote {
@@ -102,7 +98,8 @@ fn quoted<'l>(
 fn typed_path<'l>(alloc: Global, text: &'l str) -> Result<TypedPath<'l>, HookFault>
     ensures typed { IfOk result (λ typed. typed_of typed.start (cow_str_bytes typed.path)
         typed.quote ≡ typed_path text.now) }
-    ensures fault { IfErr result (λ e. e ≡ Memory) }
+    ensures fault { IfErr result (λ e. (e ≡ Memory)
+        × IsTrue (escapes_at (unclosed_quote text.now))) }
 {
     match find_unclosed_quote(text) {
         Some((place, quote)) => quoted(alloc, text, place + 1, quote),
@@ -202,16 +199,9 @@ impl<L: Lister> FilenameCompleter<L> {
         pos: usize,
     ) -> Result<(usize, Vec<Pair>), HookFault>
         requires { IsCharBoundary line.now pos }
-        ensures start { IfOk result (λ found. found.0
-            ≡ (path_completion (L.held_in self.now.lister) (take pos line.now)).start) }
-        ensures candidates { IfOk result (λ found. found.1.items
-            ≡ (path_completion (L.held_in self.now.lister) (take pos line.now)).candidates) }
+        ensures reply { Replies (path_completion (L.held_in self.now.lister) (take pos line.now))
+            (completion_by itself) result }
         ensures sorted { IfOk result (λ found. IsSortedBy displayed_before found.1.items) }
-        ensures fine { OnOk result (L.listing_fails self.now.lister
-            (folder_of (typed_path (take pos line.now)).path) ≡ false) }
-        ensures fault { IfErr result (λ e. (e ≡ Memory)
-            ⊎ ((e ≡ Failed) × IsTrue (L.listing_fails self.now.lister
-            (folder_of (typed_path (take pos line.now)).path)))) }
     {
         let (start, mut pairs) = self.complete_path_unsorted(alloc, line, pos)?;
         pairs.sort_by(|one, other| one.display().cmp(other.display()))?;
@@ -226,15 +216,8 @@ impl<L: Lister> FilenameCompleter<L> {
         pos: usize,
     ) -> Result<(usize, Vec<Pair>), HookFault>
         requires { IsCharBoundary line.now pos }
-        ensures start { IfOk result (λ found. found.0
-            ≡ (unsorted_completion (L.held_in self.now.lister) (take pos line.now)).start) }
-        ensures candidates { IfOk result (λ found. found.1.items
-            ≡ (unsorted_completion (L.held_in self.now.lister) (take pos line.now)).candidates) }
-        ensures fine { OnOk result (L.listing_fails self.now.lister
-            (folder_of (typed_path (take pos line.now)).path) ≡ false) }
-        ensures fault { IfErr result (λ e. (e ≡ Memory)
-            ⊎ ((e ≡ Failed) × IsTrue (L.listing_fails self.now.lister
-            (folder_of (typed_path (take pos line.now)).path)))) }
+        ensures { Replies (unsorted_completion (L.held_in self.now.lister) (take pos line.now))
+            (completion_by itself) result }
     {
         let typed = typed_path(alloc, &line[..pos])?;
         let (folder, name) = split_path(typed.path.as_str());
@@ -250,10 +233,7 @@ impl<L: Lister> Completer for FilenameCompleter<L> {
     ghost completion_of = { λ self line pos entries place. path_completion (L.held_in self.lister)
         (take pos line) };
 
-    ghost completing_fails = { λ self line pos entries place. L.listing_fails self.lister
-        (folder_of (typed_path (take pos line)).path) };
-
-    ghost updating_fails = { λ self line start elected. false };
+    ghost update_of = { λ self line start elected. gives (tt {0}) };
 
     fn complete<Hi: History>(
         &self,
@@ -263,5 +243,16 @@ impl<L: Lister> Completer for FilenameCompleter<L> {
         _ctx: &Context<'_, Hi>,
     ) -> Result<(usize, Vec<Pair>), HookFault> {
         self.complete_path(alloc, line, pos)
+    }
+
+    fn update<U: ChangeListener>(
+        &self,
+        alloc: Global,
+        line: &mut LineBuffer,
+        start: usize,
+        elected: &str,
+        cl: &mut U,
+    ) -> Result<(), HookFault> {
+        update_line(alloc, line, start, elected, cl)
     }
 }

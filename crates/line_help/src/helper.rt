@@ -13,38 +13,23 @@ pub trait Helper: Completer + Hinter + Highlighter + Validator {
     ghost same_completions: { (before after : Self) → Self.Highlighter.kept before after
         → Self.Completer.completion_of after ≡ Self.Completer.completion_of before };
 
-    ghost same_completing: { (before after : Self) → Self.Highlighter.kept before after
-        → Self.Completer.completing_fails after ≡ Self.Completer.completing_fails before };
-
-    ghost same_updating: { (before after : Self) → Self.Highlighter.kept before after
-        → Self.Completer.updating_fails after ≡ Self.Completer.updating_fails before };
+    ghost same_updates: { (before after : Self) → Self.Highlighter.kept before after
+        → Self.Completer.update_of after ≡ Self.Completer.update_of before };
 
     ghost same_hints: { (before after : Self) → Self.Highlighter.kept before after
         → Self.Hinter.hint_of after ≡ Self.Hinter.hint_of before };
 
-    ghost same_hinting: { (before after : Self) → Self.Highlighter.kept before after
-        → Self.Hinter.fails after ≡ Self.Hinter.fails before };
-
     ghost same_verdicts: { (before after : Self) → Self.Highlighter.kept before after
         → Self.Validator.verdict_of after ≡ Self.Validator.verdict_of before };
-
-    ghost same_validating: { (before after : Self) → Self.Highlighter.kept before after
-        → Self.Validator.validating_fails after ≡ Self.Validator.validating_fails before };
 }
 
 /// No candidates, no hints, no styles, and every text is valid.
 impl Helper for () {
     ghost same_completions = { λ before after kept. refl };
 
-    ghost same_completing = { λ before after kept. refl };
-
-    ghost same_updating = { λ before after kept. refl };
+    ghost same_updates = { λ before after kept. refl };
 
     ghost same_hints = { λ before after kept. refl };
 
-    ghost same_hinting = { λ before after kept. refl };
-
     ghost same_verdicts = { λ before after kept. refl };
-
-    ghost same_validating = { λ before after kept. refl };
 }

@@ -1,9 +1,10 @@
 //! Highlighting: lines, prompts, hints and candidates with styles.
-ghost use Rattle.std.specs.Prelude.{◌≡◌, ℕ, List, Bool, Option, Some, false, box_value};
+ghost use Rattle.std.specs.Prelude.{◌≡◌, ℕ, List, Bool, false, box_value};
 ghost use Rattle.std.specs.Cow.{cow_str_bytes};
 ghost use Rattle.line_keys.specs.declared.command.CmdKind.{CmdKind};
 ghost use Rattle.line_help.specs.Highlights.{DisplayPart, Highlights};
 ghost use Rattle.line_help.specs.Highlights.DisplayPart.{OfLine, OfPrompt, OfHint, OfCandidate};
+ghost use Rattle.line_keys.specs.Replies.{Reply, gives_at_once};
 
 use line_config::{CompletionType, HookFault};
 use line_keys::CmdKind;
@@ -13,8 +14,7 @@ use std::borrow::CowStr;
 /// What highlights a line and what is shown with it, for a display with colours.
 ///
 /// A highlighted text is the text with control sequences put in that change how characters are
-/// drawn, and so takes up the same columns. Each call answers what `shown_as` says of the text;
-/// want of memory may be answered besides.
+/// drawn, and so takes up the same columns.
 pub trait Highlighter {
     // Whether something in a line is highlighted, by line, place and reason of the drawing.
     ghost marks: { Self → List ℕ → ℕ → CmdKind → Bool };
@@ -22,8 +22,8 @@ pub trait Highlighter {
     // What `highlight_char` leaves of the highlighter.
     ghost kept: { Self → Self → Type 0 };
 
-    // What a text is shown as in a part of the display; none where highlighting it fails.
-    ghost shown_as: { Self → DisplayPart → List ℕ → Option (List ℕ) };
+    // What a text is shown as in a part of the display.
+    ghost shown_as: { Self → DisplayPart → List ℕ → Reply (List ℕ) };
 
     /// The line, with the cursor at `pos`.
     fn highlight<'l>(
@@ -75,7 +75,7 @@ impl Highlighter for () {
 
     ghost kept = { λ before after. before ≡ after };
 
-    ghost shown_as = { λ self part text. Some text };
+    ghost shown_as = { λ self part text. gives_at_once text };
 
     fn highlight<'l>(
         &self,

@@ -1,7 +1,7 @@
 //! Hints: texts that are shown after a line.
-ghost use Rattle.std.specs.Prelude.{◌≡◌, ◌≤◌, ◌⊎◌, ℕ, List, Bool, Option, Some, None, false, IsTrue, IfOk, IfErr, OnOk, option_map, option_copied, length};
-ghost use Rattle.line_config.specs.declared.errors.HookFault.TheVariants.{Failed, Memory};
-ghost use Rattle.line_help.specs.Hints.{Hinted, text_hint, history_hint};
+ghost use Rattle.std.specs.Prelude.{◌≡◌, ◌≤◌, ℕ, List, Option, Some, None, option_map, option_copied, length};
+ghost use Rattle.line_help.specs.Hints.{Hinted, text_hint, hint_of_history};
+ghost use Rattle.line_keys.specs.Replies.{Reply, Replies, gives_at_once};
 
 use crate::context::Context;
 use crate::history::History;
@@ -41,14 +41,11 @@ pub trait Hinter {
     /// A hint of it.
     type Hint: Hint;
 
-    // What it answers, by line, place, entries of the history and place in the history.
-    ghost hint_of: { Self → List ℕ → ℕ → List (List ℕ) → ℕ → Option Hinted };
-
-    // Whether it fails, by the same.
-    ghost fails: { Self → List ℕ → ℕ → List (List ℕ) → ℕ → Bool };
+    // What it gives, by line, place, entries of the history and place in the history.
+    ghost hint_of: { Self → List ℕ → ℕ → List (List ℕ) → ℕ → Reply (Option Hinted) };
 
     /// The hint for a line with the cursor at `pos`, in bytes. It depends on nothing but line,
-    /// place, entries and place in the history; want of memory may be answered besides.
+    /// place, entries and place in the history.
     fn hint<Hi: History>(
         &self,
         alloc: Global,
@@ -57,22 +54,15 @@ pub trait Hinter {
         ctx: &Context<'_, Hi>,
     ) -> Result<Option<Self::Hint>, HookFault>
         requires { pos ≤ length line.now }
-        ensures hint { IfOk result (λ h. option_map Self.Hint.says h
-            ≡ hint_of self.now line.now pos (Hi.entries ctx.now.history.now) ctx.now.place) }
-        ensures fine { OnOk result (fails self.now line.now pos (Hi.entries ctx.now.history.now)
-            ctx.now.place ≡ false) }
-        ensures fault { IfErr result (λ e. (e ≡ Memory)
-            ⊎ ((e ≡ Failed) × IsTrue (fails self.now line.now pos (Hi.entries ctx.now.history.now)
-            ctx.now.place))) };
+        ensures { Replies (hint_of self.now line.now pos (Hi.entries ctx.now.history.now)
+            ctx.now.place) (option_map Self.Hint.says) result };
 }
 
 /// No hints.
 impl Hinter for () {
     type Hint = String;
 
-    ghost hint_of = { λ self line pos entries place. None };
-
-    ghost fails = { λ self line pos entries place. false };
+    ghost hint_of = { λ self line pos entries place. gives_at_once None };
 
     fn hint<Hi: History>(
         &self,
@@ -103,10 +93,7 @@ impl HistoryHinter {
 impl Hinter for HistoryHinter {
     type Hint = String;
 
-    ghost hint_of = { λ self line pos entries place. option_map text_hint
-        (history_hint line pos entries place) };
-
-    ghost fails = { λ self line pos entries place. false };
+    ghost hint_of = { λ self. hint_of_history };
 
     fn hint<Hi: History>(
         &self,

@@ -1,5 +1,5 @@
 //! Escapes and quotes, as a shell reads them.
-ghost use Rattle.std.specs.Prelude.{◌≡◌, ℕ, Bool, true, false, IfOk, IfErr, string_bytes};
+ghost use Rattle.std.specs.Prelude.{◌≡◌, ℕ, Bool, true, false, IfOk, IfErr, IsSome, string_bytes};
 ghost use Rattle.std.specs.Cow.{cow_str_bytes};
 ghost use Rattle.line_config.specs.declared.errors.HookFault.TheVariants.{Memory};
 ghost use Rattle.line_help.specs.Quotes.{Tells, unescaped, escape_in, escaped, escapes_at, quote_after, unclosed_quote};
@@ -28,7 +28,7 @@ pub fn unescape<'s>(
     esc_char: Option<char>,
 ) -> Result<CowStr<'s>, HookFault>
     ensures text { IfOk result (λ text. cow_str_bytes text ≡ unescaped input.now esc_char) }
-    ensures fault { IfErr result (λ e. e ≡ Memory) }
+    ensures fault { IfErr result (λ e. (e ≡ Memory) × IsSome esc_char) }
 {
     let Some(esc) = esc_char else {
         return Ok(CowStr::Borrowed(input));
@@ -72,7 +72,7 @@ pub fn escape<F: Fn(char) -> bool + Drop>(
     ensures text { (breaks : ℕ → Bool) → Tells (F.post is_break_char) breaks
         → IfOk result (λ text. string_bytes text
         ≡ escaped (string_bytes input) esc_char breaks quote) }
-    ensures fault { IfErr result (λ e. e ≡ Memory) }
+    ensures fault { IfErr result (λ e. (e ≡ Memory) × IsSome (escape_in quote esc_char)) }
 {
     let Some(esc) = escape_in(quote, esc_char) else {
         return Ok(input);

@@ -1,8 +1,9 @@
 //! Rows of a text that comes from a source.
 ghost use Rattle.std.specs.Prelude.{◌≡◌, ◌<◌, ◌≤◌, ◌⊎◌, is_err, List, [], ◌∷◌, true, false, if◌then◌else◌, IsTrue, IfOk, IfErr, IfSome, Ok, Err, None, option_to_list, ◌++◌};
+ghost use Rattle.std.specs.Str.{is_utf8};
 ghost use Rattle.line_config.specs.declared.device.Last.TheVariants.{End, Failed};
 ghost use Rattle.line_config.specs.declared.errors.ReadlineError.TheVariants.{Memory, Reader};
-ghost use Rattle.line_help.specs.HistoryText.{text_rows, says_reader, without_return};
+ghost use Rattle.line_help.specs.HistoryText.{text_rows, says_reader, without_return, GoodUpTo, ReadsGood};
 
 use line_config::{ReadlineError, Source};
 
@@ -52,6 +53,11 @@ pub(crate) fn read_row<S: Source>(source: &mut S, row: &mut Vec<u8>) -> Result<b
         → result ≡ Err Reader
         → ((S.feed source.old).last ≡ Failed)
         × (text_rows (S.feed source.old).last (S.feed source.old).coming ≡ []) }
+    ensures good { IsTrue (S.feed source.old).told → result ≡ Ok true
+        → is_utf8 row.new.items ≡ true
+        → GoodUpTo (S.feed source.old).coming (S.feed source.new).coming }
+    ensures memory { IsTrue (S.feed source.old).told → result ≡ Err Memory
+        → ReadsGood (S.feed source.old).coming (S.feed source.new).coming }
     ensures fault { IfErr result (λ e. (e ≡ Memory) ⊎ (e ≡ Reader)) }
     ensures failure { (S.feed source.new).failed ≡ says_reader result }
     ensures told { IsTrue (S.feed source.old).told → IsTrue (S.feed source.new).told }

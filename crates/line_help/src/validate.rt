@@ -1,6 +1,6 @@
 //! Validation: whether a line may be accepted.
-ghost use Rattle.std.specs.Prelude.{◌≡◌, ◌⊎◌, ℕ, List, Bool, None, false, IsTrue, IfOk, IfErr, OnOk};
-ghost use Rattle.line_config.specs.declared.errors.HookFault.TheVariants.{Failed, Memory};
+ghost use Rattle.std.specs.Prelude.{◌≡◌, ℕ, List, Bool, None, false};
+ghost use Rattle.line_keys.specs.Replies.{Reply, Replies, gives_at_once, itself};
 
 use line_config::HookFault;
 use line_keys::Text;
@@ -68,26 +68,19 @@ impl<'i> ValidationContext<'i> {
 pub trait Validator {
     ghost use Rattle.line_help.specs.declared.validate.ValidationResult.{ValidationResult};
 
-    // What it finds of a text.
-    ghost verdict_of: { Self → List ℕ → ValidationResult };
-
-    // Whether it fails at a text.
-    ghost validating_fails: { Self → List ℕ → Bool };
+    // What it gives of a text.
+    ghost verdict_of: { Self → List ℕ → Reply ValidationResult };
 
     // Whether it would be asked while the line is typed.
     ghost while_typing: { Self → Bool };
 
-    /// What it finds of the text, which depends on nothing but the text; want of memory may be
-    /// answered besides.
+    /// What it finds of the text, which depends on nothing but the text.
     fn validate(
         &self,
         alloc: Global,
         ctx: &ValidationContext<'_>,
     ) -> Result<ValidationResult, HookFault>
-        ensures verdict { IfOk result (λ found. found ≡ verdict_of self.now ctx.now.input.now) }
-        ensures fine { OnOk result (validating_fails self.now ctx.now.input.now ≡ false) }
-        ensures fault { IfErr result (λ e. (e ≡ Memory)
-            ⊎ ((e ≡ Failed) × IsTrue (validating_fails self.now ctx.now.input.now))) };
+        ensures { Replies (verdict_of self.now ctx.now.input.now) itself result };
 
     /// Whether it would be asked while the line is typed. Nothing asks it.
     fn validate_while_typing(&self) -> bool
@@ -98,9 +91,7 @@ pub trait Validator {
 impl Validator for () {
     ghost use Rattle.line_help.specs.declared.validate.ValidationResult.TheVariants.{Valid};
 
-    ghost verdict_of = { λ self text. Valid None };
-
-    ghost validating_fails = { λ self text. false };
+    ghost verdict_of = { λ self text. gives_at_once (Valid None) };
 
     ghost while_typing = { λ self. false };
 

@@ -1,15 +1,24 @@
 -- Calls that make the steps of their definitions: one step in front, one part after another, and where a fault cuts them.
 use Rattle.std.proofs.Common.{◌≡◌, ◌⊎◌, inl, inr, Bool, true, false, refl, sym, ap, subst, ◌∙◌, true≢false, IsTrue, le_refl, le_trans}
-use Rattle.std.specs.Prelude.{Result, Ok, Err, IfOk, IfErr}
+use Rattle.std.specs.Prelude.{Option, Some, None, option_map, Result, Ok, Err, IfErr, is_none}
 use Rattle.line_config.specs.declared.errors.ReadlineError.{ReadlineError}
 use Rattle.line_config.specs.declared.errors.ReadlineError.TheVariants.{Eof, Interrupted, NotUtf8, PasteOutOfPlace, Reader, Display as DisplayFault, Lines, HistoryText, Helper, Handler, Memory}
-use Rattle.line_keys.specs.Answers.{Custom}
+use Rattle.line_keys.specs.declared.command.Cmd.{Cmd}
+use Rattle.line_keys.specs.declared.key.KeyEvent.{KeyEvent}
+use Rattle.line_keys.specs.declared.events.Event.{Event}
+use Rattle.line_keys.specs.declared.events.Event.TheVariants.{Any}
+use Rattle.line_keys.specs.Answers.{Custom, Decides, HandlerFails, IsRefusalOf, answer_by}
 use Rattle.line_keys.specs.Coming.{Coming, behind, left}
+use Rattle.line_keys.specs.Commands.{holds_text, Copied}
+use Rattle.line_keys.specs.Custom.{Situation, custom_answer, or_any, shown_for}
+use Rattle.line_keys.specs.Events.{single}
 use Rattle.line_keys.specs.Faults.{IsReaderRefusal}
 use Rattle.line_keys.specs.Feeds.{KeyFeed, InputItem, ReadAs, ReadsBy}
 use Rattle.line_keys.specs.Refreshing.{Shown, Ask, KnownDisplay, Draws, IsDrawFault}
-use Rattle.line_keys.specs.Phrases.{Input, Script, Ends, Needs, Asks, Reads, Becomes, Part, with_read, read_by, asking, answered, deciding, after}
-use Rattle.line_keys.specs.Follows.{Goes, Follows, Because, Undrawn, BecauseBound, Decides, silent}
+use Rattle.line_keys.specs.Handling.{Meaning, Showing}
+use Rattle.line_keys.specs.Phrases.{Input, Script, Ends, Needs, Asks, Reads, Becomes, Part, with_read, read_by, asking, answered, decided_by, deciding, granted, needing, after}
+use Rattle.line_keys.specs.Replies.{Reply, fails, taking}
+use Rattle.line_keys.specs.Follows.{Goes, Follows, Because, Undrawn, silent}
 
 abbrev pub is_ok : {A : Type 0} → Result A ReadlineError → Bool
 is_ok (Ok x) = true
@@ -54,11 +63,6 @@ module _ {S : Type 0} (d : KnownDisplay S) (custom : Custom) (w : S) (f : KeyFee
 
   pub memory_because : (e : ReadlineError) → e ≡ Memory → Because d custom w f e
   memory_because e is = subst (λ (x : ReadlineError). Because d custom w f x) (sym is) tt
-
-  pub binding_because : (e : ReadlineError) → BecauseBound custom e → Because d custom w f e
-  binding_because Handler why = why
-  binding_because Memory why = tt
-  binding_because _ why = absurd why
 
 silent_because : {S : Type 0} (d : KnownDisplay S) (custom : Custom) (w : S) (f : KeyFeed) (e : ReadlineError) → Because silent custom tt f e → Because d custom w f e
 silent_because d custom w f Eof why = why
@@ -158,11 +162,26 @@ module _ {S X : Type 0} (d : KnownDisplay S) (custom : Custom) where
     reason = tt;
   }
 
-  -- an answer that takes memory
-  pub granted_follows : (s : Script X) (w : S) (i : Input) (f : KeyFeed) (x : X) (r : Result X ReadlineError) → IfOk r (λ y. y ≡ x) → IfErr r (λ e. e ≡ Memory)
-      → s ≡ Needs (Ends (Ok x)) → Follows d custom s w i w i f f r
-  granted_follows s w i f x (Ok y) ok err is = subst (λ (t : Script X). Follows d custom t w i w i f f (Ok y)) (sym is) (needs_follow (Ends (Ok x)) w w i i f f (Ok y) (ends_follow (Ends (Ok x)) w i f y (ap (λ (z : X). Ends (Ok z)) (sym ok))))
-  granted_follows s w i f x (Err e) ok err is = subst (λ (t : Script X). Follows d custom t w i w i f f (Err e)) (sym is) (memory_follows (Ends (Ok x)) w i f e err)
+  -- memory that is taken on a condition
+  pub needing_follows : (b : Bool) (s : Script X) (w w' : S) (i i' : Input) (f f' : KeyFeed) (r : Result X ReadlineError) → Follows d custom s w i w' i' f f' r
+      → Follows d custom (needing b s) w i w' i' f f' r
+  needing_follows true s w w' i i' f f' r follows = needs_follow s w w' i i' f f' r follows
+  needing_follows false s w w' i i' f f' r follows = follows
+
+  pub needed_follows : (b : Bool) (s : Script X) (w : S) (i : Input) (f : KeyFeed) (e : ReadlineError) → e ≡ Memory → IsTrue b → Follows d custom (needing b s) w i w i f f (Err e)
+  needed_follows true s w i f e is taken = memory_follows s w i f e is
+  needed_follows false s w i f e is taken = absurd (true≢false (sym taken))
+
+  -- a refusal that is the answer
+  pub err_follows : (w : S) (i : Input) (f : KeyFeed) (e : ReadlineError) → Because d custom w f e → Follows {X = X} d custom (Ends (Err e)) w i w i f f (Err e)
+  err_follows w i f e why = record {
+    goes = λ told. (refl, refl, refl, refl);
+    told = λ told. told;
+    steady = refl;
+    keeps = le_refl _;
+    mode = refl;
+    reason = why;
+  }
 
   pub as_follows : (s t : Script X) (w w' : S) (i i' : Input) (f f' : KeyFeed) (r : Result X ReadlineError) → Follows d custom t w i w' i' f f' r → s ≡ t → Follows d custom s w i w' i' f f' r
   as_follows s t w w' i i' f f' r follows is = subst (λ (u : Script X). Follows d custom u w i w' i' f f' r) (sym is) follows
@@ -277,33 +296,41 @@ module _ {S A Y : Type 0} (d : KnownDisplay S) (custom : Custom) (ask : Ask) (ne
 
 -- ---- what a binding answers
 
-module _ {S X Y : Type 0} (d : KnownDisplay S) (custom : Custom) (next : X → Part Y) where
-  decision_stops : (answer : Result X ReadlineError) (w : S) (i : Input) (f : KeyFeed) (e : ReadlineError) → (err_in X e ≡ answer) ⊎ (err_in X e ≡ Err Memory) → IsTrue f.told
-      → Goes d f.steady (deciding next answer f.coming) w i f.coming (Err e) w i f.coming
-  decision_stops (Ok x) w i f e (inl is) told = ok_not_err x e (sym is)
-  decision_stops (Ok x) w i f e (inr is) told = inr (err_same e Memory is, refl, refl, refl)
-  decision_stops (Err g) w i f e (inl is) told = inl (err_same e g is, refl, refl, refl)
-  decision_stops (Err g) w i f e (inr is) told = inr (err_same e Memory is, refl, refl, refl)
+module _ {S X Y : Type 0} (d : KnownDisplay S) (custom : Custom) (next : X → Part Y) (reply : Reply X) where
+  failing : (o : Option X) (w : S) (i : Input) (f : KeyFeed) → IsTrue (is_none o) → HandlerFails custom → Follows d custom (decided_by next o f.coming) w i w i f f (Err Handler)
+  failing None w i f is why = err_follows d custom w i f Handler why
+  failing (Some x) w i f is why = absurd (true≢false (sym is))
 
-  pub decides_stop : (answer : Result X ReadlineError) (w : S) (i : Input) (f : KeyFeed) (e : ReadlineError) → Decides custom answer (Err e)
-      → Follows d custom (deciding next answer f.coming) w i w i f f (Err e)
-  decides_stop answer w i f e decides = record {
-    goes = decision_stops answer w i f e decides.is;
-    told = λ told. told;
-    steady = refl;
-    keeps = le_refl _;
-    mode = refl;
-    reason = binding_because d custom w f e decides.reason;
-  }
+  pub decides_stop : (w : S) (i : Input) (f : KeyFeed) (e : ReadlineError) → (IsTrue (fails reply) → HandlerFails custom) → IsRefusalOf reply e
+      → Follows d custom (deciding next reply f.coming) w i w i f f (Err e)
+  decides_stop w i f Handler why is =
+      needing_follows d custom reply.takes (decided_by next reply.answer f.coming) w w i i f f (Err Handler) (failing reply.answer w i f is (why is))
+  decides_stop w i f Memory why is = needed_follows d custom reply.takes (decided_by next reply.answer f.coming) w i f Memory refl is
+  decides_stop w i f _ why is = absurd is
 
-  decision_follows : (answer : Result X ReadlineError) (x : X) (w w' : S) (i i' : Input) (f f' : KeyFeed) (r : Result Y ReadlineError) → (ok_in x ≡ answer) ⊎ (ok_in x ≡ Err Memory)
-      → Follows d custom (next x f.coming) w i w' i' f f' r → Follows d custom (deciding next answer f.coming) w i w' i' f f' r
-  decision_follows (Ok y) x w w' i i' f f' r (inl is) later =
-      needs_follow d custom (next y f.coming) w w' i i' f f' r (subst (λ (z : X). Follows d custom (next z f.coming) w i w' i' f f' r) (ap (value_or x) is) later)
-  decision_follows (Ok y) x w w' i i' f f' r (inr is) later = ok_not_err x Memory is
-  decision_follows (Err g) x w w' i i' f f' r (inl is) later = ok_not_err x g is
-  decision_follows (Err g) x w w' i i' f f' r (inr is) later = ok_not_err x Memory is
+  pub decides_follow : (x : X) (w w' : S) (i i' : Input) (f f' : KeyFeed) (r : Result Y ReadlineError) → Decides reply (Ok x)
+      → Follows d custom (next x f.coming) w i w' i' f f' r → Follows d custom (deciding next reply f.coming) w i w' i' f f' r
+  decides_follow x w w' i i' f f' r decides later =
+      needing_follows d custom reply.takes (decided_by next reply.answer f.coming) w w' i i' f f' r
+      (subst (λ (o : Option X). Follows d custom (decided_by next o f.coming) w i w' i' f f' r) (sym decides.answer) later)
 
-  pub decides_follow : (answer : Result X ReadlineError) (x : X) (w w' : S) (i i' : Input) (f f' : KeyFeed) (r : Result Y ReadlineError) → Decides custom answer (Ok x)
-      → Follows d custom (next x f.coming) w i w' i' f f' r → Follows d custom (deciding next answer f.coming) w i w' i' f f' r
-  decides_follow answer x w w' i i' f f' r decides later = decision_follows answer x w w' i i' f f' r decides.is later
+-- whose failure it is: of the key's own binding, or of that of any key
+fails_any : (s : Situation) (k : KeyEvent) (any : Option Meaning) → s.custom.answers Any ≡ any → IsTrue (fails (answer_by (option_map (λ meaning t. taking (meaning t)) any) (shown_for s (single k)))) → HandlerFails s.custom
+fails_any s k (Some meaning) is why = (Any, shown_for s (single k), subst (λ o. IsTrue (fails (answer_by o (shown_for s (single k))))) (sym is) why)
+fails_any s k None is why = absurd (true≢false (sym why))
+
+fails_by : (s : Situation) (k : KeyEvent) (own : Option Meaning) → s.custom.answers (single k) ≡ own → IsTrue (fails (answer_by (or_any s.custom own) (shown_for s (single k)))) → HandlerFails s.custom
+fails_by s k (Some meaning) is why = (single k, shown_for s (single k), subst (λ o. IsTrue (fails (answer_by o (shown_for s (single k))))) (sym is) why)
+fails_by s k None is why = fails_any s k (s.custom.answers Any) refl why
+
+pub key_stops : {S Y : Type 0} (d : KnownDisplay S) (s : Situation) (k : KeyEvent) (next : Option Cmd → Part Y) (w : S) (i : Input) (f : KeyFeed) (e : ReadlineError) → Decides (custom_answer s k) (Err e)
+    → Follows d s.custom (deciding next (custom_answer s k) f.coming) w i w i f f (Err e)
+key_stops d s k next w i f e decides = decides_stop d s.custom next (custom_answer s k) w i f e (fails_by s k (s.custom.answers (single k)) refl) decides.refusal
+
+-- ---- a command that is made of another one
+
+pub granted_follows : {S : Type 0} (d : KnownDisplay S) (custom : Custom) (cmd : Cmd) (w : S) (i : Input) (f : KeyFeed) (r : Result Cmd ReadlineError) → Copied cmd r
+    → Follows d custom (granted cmd f.coming) w i w i f f r
+granted_follows d custom cmd w i f (Ok c) copied =
+    needing_follows d custom (holds_text cmd) (Ends (Ok cmd)) w w i i f f (Ok c) (ends_follow d custom (Ends (Ok cmd)) w i f c (ap (λ (y : Cmd). Ends (Ok y)) (sym copied.ok)))
+granted_follows d custom cmd w i f (Err e) copied = needed_follows d custom (holds_text cmd) (Ends (Ok cmd)) w i f e copied.err.0 copied.err.1

@@ -1,12 +1,15 @@
 -- Parts of a phrase depend on no key that they haven't read: single steps, and one part after another.
 use Rattle.std.proofs.Common.{◌≡◌, Bool, true, false, refl, sym, ap, subst, if◌then◌else◌}
-use Rattle.std.specs.Prelude.{⊤, Result, Ok, Err, OnOk, IfOk, IfErr}
+use Rattle.std.specs.Prelude.{⊤, Option, Some, None, Result, Ok, Err, OnOk, IfOk, IfErr}
 use Rattle.line_config.specs.declared.errors.ReadlineError.{ReadlineError}
 use Rattle.line_keys.specs.Coming.{Coming, Pressed, Pasted, CutOff, Ends as NoMore, Refused, key_at, from_key_at, paste_at, made_of, behind, left_by}
 use Rattle.line_keys.specs.Early.{Agrees, Alike, Hears, answer_to}
+use Rattle.line_keys.specs.Commands.{holds_text}
 use Rattle.line_keys.specs.Feeds.{InputItem, Key, Paste}
-use Rattle.line_keys.specs.Phrases.{Input, Script, Ends, Needs, Asks, Reads, Becomes, Part, answered, granted, with_key, from_key, with_paste, asking, becoming, and_then, read_by, deciding, after}
+use Rattle.line_keys.specs.Phrases.{Input, Script, Ends, Needs, Asks, Reads, Becomes, Part, answered, granted, with_key, from_key, with_paste, asking, becoming, and_then, read_by, decided_by, deciding, needing, after}
 use Rattle.line_keys.specs.Refreshing.{Shown, Ask}
+use Rattle.line_keys.specs.Replies.{Reply}
+use Rattle.line_keys.specs.declared.command.Cmd.{Cmd}
 use Rattle.line_keys.specs.declared.key.KeyEvent.{KeyEvent}
 use Rattle.line_keys.proofs.Following.{value_or, err_same, ok_not_err}
 
@@ -105,8 +108,13 @@ paste_hears next n h c near = read_alike Paste next (paste_at h) (paste_at c) h 
 pub answered_hears : {X : Type 0} (x : X) → Hears (answered x)
 answered_hears x h c near = refl
 
-pub granted_hears : {X : Type 0} (x : X) → Hears (granted x)
-granted_hears x h c near = refl
+-- memory that is taken on a condition
+pub needing_alike : {X : Type 0} (b : Bool) (s t : Script X) (h c : Coming) → Alike h s c t → Alike h (needing b s) c (needing b t)
+needing_alike true s t h c is = is
+needing_alike false s t h c is = is
+
+pub granted_hears : (cmd : Cmd) → Hears (granted cmd)
+granted_hears cmd h c near = needing_alike (holds_text cmd) (Ends (Ok cmd)) (Ends (Ok cmd)) h c refl
 
 pub asking_hears : {X : Type 0} (ask : Ask) (next : Shown → Part X) → ((shown : Shown) → Hears (next shown)) → Hears (asking ask next)
 asking_hears ask next n h c near = (refl, λ shown. n shown h c near)
@@ -114,9 +122,13 @@ asking_hears ask next n h c near = (refl, λ shown. n shown h c near)
 pub becoming_hears : {X : Type 0} (input : Input) (next : Part X) → Hears next → Hears (becoming input next)
 becoming_hears input next n h c near = (refl, n h c near)
 
-pub deciding_hears : {X Y : Type 0} (next : X → Part Y) (r : Result X ReadlineError) → ((x : X) → Hears (next x)) → Hears (deciding next r)
-deciding_hears next (Ok x) n h c near = n x h c near
-deciding_hears next (Err e) n h c near = refl
+decided_hears : {X Y : Type 0} (next : X → Part Y) (o : Option X) → ((x : X) → Hears (next x)) → Hears (decided_by next o)
+decided_hears next (Some x) n h c near = n x h c near
+decided_hears next None n h c near = refl
+
+pub deciding_hears : {X Y : Type 0} (next : X → Part Y) (reply : Reply X) → ((x : X) → Hears (next x)) → Hears (deciding next reply)
+deciding_hears next reply n h c near =
+    needing_alike reply.takes (decided_by next reply.answer h) (decided_by next reply.answer c) h c (decided_hears next reply.answer n h c near)
 
 pub either_hears : {X : Type 0} (b : Bool) (p q : Part X) → Hears p → Hears q → Hears (if b then p else q)
 either_hears true p q one other = one

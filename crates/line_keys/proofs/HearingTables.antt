@@ -15,7 +15,7 @@ use Rattle.line_keys.specs.declared.key.KeyCode.TheVariants.{Char}
 use Rattle.line_keys.specs.declared.key.KeyEvent.{KeyEvent}
 use Rattle.line_keys.specs.Answers.{Custom}
 use Rattle.line_keys.specs.Coming.{Coming, Pressed, Pasted, CutOff, Ends as NoMore, Refused, key_at, behind, refusal_of}
-use Rattle.line_keys.specs.Commands.{standing}
+use Rattle.line_keys.specs.Commands.{holds_text, standing}
 use Rattle.line_keys.specs.Common.{CommonDeed, Pastes, bound_command, bound_or, command_or, common, common_deed, common_done, decided, plain_char, sequence, terminal_command}
 use Rattle.line_keys.specs.Counts.{Counted, begun_by, counted_key, counted_on, counting, counting_by, counting_or, counting_read, how_often, is_plus, prompt_for}
 use Rattle.line_keys.specs.Custom.{Situation, Followed, Bound, Unbound, situation, custom_answer, following, followed, bound_by, in_vain, sequence_answer}
@@ -25,18 +25,18 @@ use Rattle.line_keys.specs.Feeds.{Key}
 use Rattle.line_keys.specs.Keys.{key_with, none}
 use Rattle.line_keys.specs.Modes.{takes_commands}
 use Rattle.line_keys.specs.Phrase.{phrase, phrase_from}
-use Rattle.line_keys.specs.Phrases.{Input, Script, Needs, Asks, Part, answered, granted, with_key, asking, and_then, decided_by, refused}
-use Rattle.line_keys.specs.Redone.{anew_or, redone}
+use Rattle.line_keys.specs.Phrases.{Input, Script, Ends, Needs, Asks, Becomes, Part, answered, with_key, asking, and_then, decided_by, refused}
+use Rattle.line_keys.specs.Redone.{anew, anew_or}
 use Rattle.line_keys.specs.Refreshing.{Shown, Prompted, DoingInsert, DoneInserting}
 use Rattle.line_keys.specs.SameKeys.{same_key}
 use Rattle.line_keys.specs.Tables.{Deed, Gives, Does, done}
-use Rattle.line_keys.specs.Vi.{in_mode, leaving, typed_in, key_replacement, is_new, remembering, operated, operation, move_or, command_done, command_table, insert_done, insert_table, vi_counted, vi_command, vi_insert, changed, typed, entered}
+use Rattle.line_keys.specs.Vi.{in_mode, leaving, typed_in, key_replacement, is_new, remembering, with_last, operated, operation, move_or, command_done, command_table, insert_done, insert_table, vi_counted, vi_command, vi_insert, changed, typed, entered}
 use Rattle.line_keys.specs.ViCounts.{multiplied, typed_count}
 use Rattle.line_keys.specs.ViMotions.{Motion, Goes as GoesTo, Seeks, SeeksAgain, SeeksBack, change, counted_motion, motion_after, motion_done, motion_of, vi_motion}
 use Rattle.line_keys.specs.ViSearches.{found, opposite_of, searching, sought}
 use Rattle.line_keys.specs.ViTables.{CommandDeed, Inserts, Turns, Operates, Searches, SearchesAgain, SearchesBack, Repeats, Replaces, deed_of, InsertDeed, Types, Leaves, Commands, insert_deed}
 use Rattle.line_keys.proofs.Following.{ok_not_err}
-use Rattle.line_keys.proofs.Hearing.{answered_hears, granted_hears, key_hears, from_key_hears, paste_hears, asking_hears, becoming_hears, deciding_hears, either_hears, then_hears, read_alike, refused_alike}
+use Rattle.line_keys.proofs.Hearing.{answered_hears, granted_hears, needing_alike, key_hears, from_key_hears, paste_hears, asking_hears, becoming_hears, deciding_hears, either_hears, then_hears, read_alike, refused_alike}
 use Rattle.line_keys.proofs.Turns.{counted as counted_next, counting_reads, read_next, following_reads, following_over}
 
 -- ---- counts and sequences
@@ -81,11 +81,11 @@ counting_or_hears mode k None = answered_hears (None, k)
 counted_key_hears : (mode : EditMode) (k : KeyEvent) → Hears (counted_key mode k)
 counted_key_hears mode k = counting_or_hears mode k (begun_by mode k)
 
-bound_alike : (more other : Script Followed) (r : Result (Option Cmd) ReadlineError) (h c : Coming) → Alike h more c other
-    → Alike h (decided_by (bound_by more) r h) c (decided_by (bound_by other) r c)
-bound_alike more other (Ok (Some cmd)) h c on = refl
-bound_alike more other (Ok None) h c on = on
-bound_alike more other (Err e) h c on = refl
+bound_alike : (more other : Script Followed) (o : Option (Option Cmd)) (h c : Coming) → Alike h more c other
+    → Alike h (decided_by (bound_by more) o h) c (decided_by (bound_by other) o c)
+bound_alike more other (Some (Some cmd)) h c on = refl
+bound_alike more other (Some None) h c on = on
+bound_alike more other None h c on = refl
 
 module _ (s : Situation) where
   followed_by : (keys : List KeyEvent) (h c : Coming) (b : Bool) → s.custom.begins keys ≡ b
@@ -104,7 +104,7 @@ module _ (s : Situation) where
   following_hears keys (Pressed k rest) (Pressed next left) near =
       followed_by keys (Pressed k rest) (Pressed next left) (s.custom.begins keys) refl
       (ap Ok (sym near.0))
-      (λ x is. bound_alike (following s (keys ++ x ∷ []) rest) (following s (keys ++ x ∷ []) left) (sequence_answer s (keys ++ x ∷ [])) rest left
+      (λ x is. bound_alike (following s (keys ++ x ∷ []) rest) (following s (keys ++ x ∷ []) left) (sequence_answer s (keys ++ x ∷ [])).answer rest left
       (following_hears (keys ++ x ∷ []) rest left near.1))
   following_hears keys (Pasted text rest) (Pasted next left) near =
       followed_by keys (Pasted text rest) (Pasted next left) (s.custom.begins keys) refl tt (λ x is. ok_not_err x PasteOutOfPlace (sym is))
@@ -115,7 +115,7 @@ module _ (s : Situation) where
 
   followed_hears : (k : KeyEvent) → Hears (followed s k)
   unfolding followed
-  followed_hears k h c near = following_hears (k ∷ []) h c near
+  followed_hears k h c near = needing_alike (s.custom.begins (k ∷ [])) (following s (k ∷ []) h) (following s (k ∷ []) c) h c (following_hears (k ∷ []) h c near)
 
 -- ---- both modes
 
@@ -129,9 +129,7 @@ done_hears own other (Some (Does deed)) hears otherwise = hears deed
 done_hears own other None hears otherwise = otherwise
 
 anew_hears : (other cmd : Cmd) (new : Option ℕ) (shown : Shown) → Hears (anew_or other new shown cmd)
-anew_hears other cmd new shown =
-    either_hears (standing cmd).repeats (granted (redone new shown.last_insert cmd)) (answered other)
-    (granted_hears (redone new shown.last_insert cmd)) (answered_hears other)
+anew_hears other cmd new shown = granted_hears (anew other new shown cmd)
 
 sequence_hears : (s : Situation) (k : KeyEvent) → Hears (sequence s k)
 sequence_hears s k =
@@ -227,7 +225,8 @@ unfolding command_table
 table_hears new s k = done_hears (command_done new s k) (common s k) (deed_of s.n k) (command_done_hears new s k) (common_hears s k)
 
 remembering_hears : (is : Bool) (cmd : Cmd) (i : Input) → Hears (remembering is cmd i)
-remembering_hears true cmd i h c near = (refl, refl)
+remembering_hears true cmd i h c near =
+    let kept = Becomes (with_last cmd i) (Ends (Ok cmd)) in needing_alike (holds_text cmd) kept kept h c (refl, refl)
 remembering_hears false cmd i h c near = refl
 
 vi_counted_hears : (custom : Custom) (f : Counted) (i : Input) (w : Shown) → Hears (vi_counted custom f i w)

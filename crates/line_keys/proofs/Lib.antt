@@ -1,4 +1,3 @@
-pub mod Anew
 pub mod Beginnings
 pub mod Deeds
 pub mod Equality

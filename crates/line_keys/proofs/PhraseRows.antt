@@ -3,7 +3,6 @@ use Rattle.std.proofs.Common.{◌≡◌, ℕ, true, false, List, [], ◌∷◌, 
 use Rattle.std.specs.Prelude.{codes, pos, neg_ℤ, Result, Ok, Err, if◌then◌else◌}
 use Rattle.line_buffer.specs.declared.types.CharSearch.TheVariants.{ForwardBefore, Backward}
 use Rattle.line_buffer.specs.declared.types.Movement.TheVariants.{BackwardChar, ForwardChar, BeginningOfLine, ViCharSearch}
-use Rattle.line_config.specs.declared.errors.HookFault.TheVariants.{Failed as HookFailed}
 use Rattle.line_config.specs.declared.errors.ReadlineError.{ReadlineError}
 use Rattle.line_config.specs.declared.errors.ReadlineError.TheVariants.{Eof, Handler, PasteOutOfPlace}
 use Rattle.line_config.specs.declared.settings.EditMode.TheVariants.{Emacs}
@@ -27,6 +26,7 @@ use Rattle.line_keys.specs.Phrase.{phrase}
 use Rattle.line_keys.specs.Phrases.{Input}
 use Rattle.line_keys.specs.Played.{Played, played}
 use Rattle.line_keys.specs.Refreshing.{Shown, Line, Prompted}
+use Rattle.line_keys.specs.Replies.{gives_at_once}
 use Rattle.line_keys.specs.SameEvents.{same_event}
 
 abbrev emacs : Input
@@ -96,7 +96,7 @@ a_count_cut_off = refl
 -- ---- sequences: 58 is X, 45 is E, 55 is U, 7A is `z`, 71 is `q`
 
 abbrev ctrl_x_ctrl_e : Custom
-ctrl_x_ctrl_e = bound_to (KeySeq (with_ctrl 0x58 ∷ with_ctrl 0x45 ∷ [])) (λ s. Ok (Some Abort))
+ctrl_x_ctrl_e = bound_to (KeySeq (with_ctrl 0x58 ∷ with_ctrl 0x45 ∷ [])) (λ s. gives_at_once (Some Abort))
 
 a_sequence_in_vain : made ctrl_x_ctrl_e [] (keys (with_ctrl 0x58 ∷ typed 0x7A ∷ typed 0x71 ∷ [])) ≡ gives (Ok Unknown) (Pressed (typed 0x71) (Ends End))
 unfolding counting followed emacs_deed common_deed
@@ -116,15 +116,15 @@ the_second_key_is_read = refl
 
 -- ---- bindings: 4F is O
 
-bound_and_counted : (made (bound_to (single (with_ctrl 0x4F)) (λ s. Ok (Some (SelfInsert 1 0x78)))) [] (keys (with_alt 0x33 ∷ with_ctrl 0x4F ∷ []))).answer ≡ Ok (SelfInsert 3 0x78)
+bound_and_counted : (made (bound_to (single (with_ctrl 0x4F)) (λ s. gives_at_once (Some (SelfInsert 1 0x78)))) [] (keys (with_alt 0x33 ∷ with_ctrl 0x4F ∷ []))).answer ≡ Ok (SelfInsert 3 0x78)
 unfolding counting followed emacs_deed common_deed
 bound_and_counted = refl
 
-a_handler_fails : made (bound_to (single (with_ctrl 0x4F)) (λ s. Err HookFailed)) [] (keys (with_ctrl 0x4F ∷ [])) ≡ gives (Err Handler) (Ends End)
+a_handler_fails : made (bound_to (single (with_ctrl 0x4F)) (λ s. record { answer = None; takes = false })) [] (keys (with_ctrl 0x4F ∷ [])) ≡ gives (Err Handler) (Ends End)
 unfolding counting followed emacs_deed common_deed
 a_handler_fails = refl
 
-any_key_is_bound : (made (bound_to Any (λ s. Ok (Some Noop))) [] (keys (typed 0x78 ∷ []))).answer ≡ Ok Noop
+any_key_is_bound : (made (bound_to Any (λ s. gives_at_once (Some Noop))) [] (keys (typed 0x78 ∷ []))).answer ≡ Ok Noop
 unfolding counting followed emacs_deed common_deed
 any_key_is_bound = refl
 

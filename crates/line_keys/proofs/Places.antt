@@ -92,6 +92,10 @@ module _ {H : Type 0} (e : Event) (entries : List (Event × H)) where
   pub found_at : (i : ℕ) (d b : Event × H) → position (has_event e) entries ≡ Some i → b ≡ get_or entries i d → Some b.1 ≡ find e entries
   found_at i d b at is = ap (λ (x : Event × H). Some x.1) is ∙ sym (ap (option_map (λ (x : Event × H). x.1)) (first_at (has_event e) entries i d at))
 
+  -- the entry there has the event
+  pub entry_at : (i : ℕ) (d b : Event × H) → position (has_event e) entries ≡ Some i → b ≡ get_or entries i d → b.0 ≡ e
+  entry_at i d b at is = ap (λ (x : Event × H). x.0) is ∙ here i d at
+
   pub found_nowhere : position (has_event e) entries ≡ None → None ≡ find e entries
   found_nowhere at = sym (ap (option_map (λ (x : Event × H). x.1)) (nothing_passes (has_event e) entries at))
 

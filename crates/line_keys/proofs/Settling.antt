@@ -10,7 +10,7 @@ use Rattle.line_keys.specs.declared.command.Cmd.TheVariants.{Insert}
 use Rattle.line_keys.specs.declared.key.KeyEvent.{KeyEvent}
 use Rattle.line_keys.specs.Answers.{Custom}
 use Rattle.line_keys.specs.Coming.{Coming, Pressed, Pasted, CutOff, Ends as NoMore, Refused, behind, key_at, from_key_at, paste_at}
-use Rattle.line_keys.specs.Commands.{standing}
+use Rattle.line_keys.specs.Commands.{holds_text, standing}
 use Rattle.line_keys.specs.Common.{CommonDeed, Pastes, common, common_deed, common_done, command_or, bound_or, decided, plain_char, sequence, terminal_command}
 use Rattle.line_keys.specs.Counts.{Counted, counted_key, counting, counting_or, counting_read, counting_by}
 use Rattle.line_keys.specs.Custom.{Situation, Followed, Bound, Unbound, following, followed, bound_by, sequence_answer}
@@ -20,10 +20,11 @@ use Rattle.line_keys.specs.Tables.{Deed, Gives, Does, done}
 use Rattle.line_keys.specs.Emacs.{EmacsDeed, SeeksChar, LeadsOn, after_first_key, emacs_command, emacs_counted, emacs_decided, emacs_deed, emacs_done, emacs_phrase, move_to_char, second_command}
 use Rattle.line_keys.specs.Feeds.{InputItem, Key, Paste}
 use Rattle.line_keys.specs.Phrase.{phrase, phrase_from}
-use Rattle.line_keys.specs.Phrases.{Input, Script, Ends, Needs, Asks, Reads, Becomes, Part, answered, granted, and_then, read_by, with_read, decided_by, deciding, after}
-use Rattle.line_keys.specs.Redone.{anew_or, redone}
+use Rattle.line_keys.specs.Phrases.{Input, Script, Ends, Needs, Asks, Reads, Becomes, Part, answered, and_then, read_by, with_read, decided_by, deciding, needing, after}
+use Rattle.line_keys.specs.Redone.{anew, anew_or}
 use Rattle.line_keys.specs.Refreshing.{Shown, Ask}
 use Rattle.line_keys.specs.Refreshing.{KnownDisplay}
+use Rattle.line_keys.specs.Replies.{Reply}
 use Rattle.line_keys.specs.Follows.{Goes}
 use Rattle.line_keys.specs.Settled.{own_by, own_after, Settles}
 use Rattle.std.specs.Prelude.{ℤ}
@@ -35,7 +36,7 @@ use Rattle.line_keys.specs.declared.key.KeyCode.TheVariants.{Char}
 use Rattle.line_keys.specs.Keys.{key_with, none}
 use Rattle.line_keys.specs.Modes.{takes_commands}
 use Rattle.line_keys.specs.SameKeys.{same_key}
-use Rattle.line_keys.specs.Vi.{in_mode, key_replacement, is_new, remembering, command_done, command_table, insert_done, insert_table, vi_counted, vi_command, vi_insert, changed, typed, entered}
+use Rattle.line_keys.specs.Vi.{in_mode, key_replacement, is_new, remembering, with_last, command_done, command_table, insert_done, insert_table, vi_counted, vi_command, vi_insert, changed, typed, entered}
 use Rattle.line_keys.specs.ViCounts.{multiplied, typed_count}
 use Rattle.line_keys.specs.ViMotions.{Motion, Goes as GoesTo, Seeks, SeeksAgain, SeeksBack, motion_done, motion_of, motion_after, change, counted_motion, vi_motion}
 use Rattle.line_keys.specs.ViSearches.{found, sought}
@@ -57,9 +58,16 @@ read_settles : {X Y : Type 0} (item : InputItem) (next : X → Part Y) → ((x :
 read_settles item next h (Ok x) rest = h x rest
 read_settles item next h (Err e) rest = tt
 
-decided_settles : {X Y : Type 0} (next : X → Part Y) → ((x : X) (c : Coming) → Settles true (next x c)) → (r : Result X ReadlineError) (c : Coming) → Settles true (deciding next r c)
-decided_settles next h (Ok x) c = h x c
-decided_settles next h (Err e) c = tt
+needing_settles : {X : Type 0} (b own : Bool) (s : Script X) → Settles own s → Settles own (needing b s)
+needing_settles true own s is = is
+needing_settles false own s is = is
+
+answer_settles : {X Y : Type 0} (next : X → Part Y) → ((x : X) (c : Coming) → Settles true (next x c)) → (o : Option X) (c : Coming) → Settles true (decided_by next o c)
+answer_settles next h (Some x) c = h x c
+answer_settles next h None c = tt
+
+decided_settles : {X Y : Type 0} (next : X → Part Y) → ((x : X) (c : Coming) → Settles true (next x c)) → (reply : Reply X) (c : Coming) → Settles true (deciding next reply c)
+decided_settles next h reply c = needing_settles reply.takes true (decided_by next reply.answer c) (answer_settles next h reply.answer c)
 
 either_settles : {X : Type 0} (b : Bool) (p q : Part X) (c : Coming) → Settles true (p c) → Settles true (q c) → Settles true ((if b then p else q) c)
 either_settles true p q c h k = h
@@ -76,7 +84,8 @@ done_settles own other (Some (Does x)) c h k = h x
 done_settles own other None c h k = k
 
 anew_settles : (other cmd : Cmd) (new : Option ℕ) (shown : Shown) (c : Coming) → Settles true (anew_or other new shown cmd c)
-anew_settles other cmd new shown c = either_settles (standing cmd).repeats (granted (redone new shown.last_insert cmd)) (answered other) c refl refl
+anew_settles other cmd new shown c =
+    let made = anew other new shown cmd in needing_settles (holds_text made) true (Ends (Ok made)) refl
 
 -- ---- counts and sequences
 
@@ -102,17 +111,17 @@ count_or_settles mode k None c = refl
 key_counted_settles : (mode : EditMode) (k : KeyEvent) (c : Coming) → Settles true (counted_key mode k c)
 key_counted_settles mode k c = count_or_settles mode k (begun_by mode k) c
 
-bound_settles : (more : Script Followed) (r : Result (Option Cmd) ReadlineError) (rest : Coming) → Settles true more → Settles true (decided_by (bound_by more) r rest)
-bound_settles more (Ok (Some cmd)) rest h = refl
-bound_settles more (Ok None) rest h = h
-bound_settles more (Err e) rest h = tt
+bound_settles : (more : Script Followed) (o : Option (Option Cmd)) (rest : Coming) → Settles true more → Settles true (decided_by (bound_by more) o rest)
+bound_settles more (Some (Some cmd)) rest h = refl
+bound_settles more (Some None) rest h = h
+bound_settles more None rest h = tt
 
 if_settles : {X : Type 0} (b : Bool) (s t : Script X) → Settles true s → Settles true t → Settles true (if b then s else t)
 if_settles true s t h k = h
 if_settles false s t h k = k
 
 following_settles : (s : Situation) (keys : List KeyEvent) (c : Coming) → Settles true (following s keys c)
-following_settles s keys (Pressed k rest) = if_settles (s.custom.begins keys) _ _ (bound_settles (following s (keys ++ k ∷ []) rest) (sequence_answer s (keys ++ k ∷ [])) rest (following_settles s (keys ++ k ∷ []) rest)) refl
+following_settles s keys (Pressed k rest) = if_settles (s.custom.begins keys) _ _ (bound_settles (following s (keys ++ k ∷ []) rest) (sequence_answer s (keys ++ k ∷ [])).answer rest (following_settles s (keys ++ k ∷ []) rest)) refl
 following_settles s keys (Pasted text rest) = if_settles (s.custom.begins keys) _ _ tt refl
 following_settles s keys (CutOff last) = if_settles (s.custom.begins keys) _ _ tt refl
 following_settles s keys (NoMore last) = if_settles (s.custom.begins keys) _ _ tt refl
@@ -120,7 +129,7 @@ following_settles s keys (Refused why) = if_settles (s.custom.begins keys) _ _ t
 
 followed_settles : (s : Situation) (k : KeyEvent) (c : Coming) → Settles true (followed s k c)
 unfolding followed
-followed_settles s k c = following_settles s (k ∷ []) c
+followed_settles s k c = needing_settles (s.custom.begins (k ∷ [])) true (following s (k ∷ []) c) (following_settles s (k ∷ []) c)
 
 -- ---- both modes
 
@@ -214,7 +223,7 @@ unfolding command_table
 table_settles new s k c = done_settles (command_done new s k) (common s k) (deed_of s.n k) c (command_done_settles new s k c) (common_settles s k c)
 
 remembering_settles : (is : Bool) (cmd : Cmd) (i : Input) (c : Coming) → Settles true (remembering is cmd i c)
-remembering_settles true cmd i c = refl
+remembering_settles true cmd i c = needing_settles (holds_text cmd) true (Becomes (with_last cmd i) (Ends (Ok cmd))) refl
 remembering_settles false cmd i c = refl
 
 counted_command_settles : (custom : Custom) (f : Counted) (i : Input) (w : Shown) (c : Coming) → Settles true (vi_counted custom f i w c)

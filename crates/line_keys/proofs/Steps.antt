@@ -1,10 +1,10 @@
 -- The lemmas that each shape of a body goes by.
-use Rattle.line_keys.proofs.Anew.{anew_follows}
 use Rattle.line_keys.proofs.Deeds.{change_first, common_first, common_second, emacs_first, emacs_second, emacs_third, first_table, fourth_table, motion_then, second_table, third_table}
 use Rattle.line_keys.proofs.Equality.{events_both_ways, events_hash_alike, keys_both_ways, keys_hash_alike}
-use Rattle.line_keys.proofs.Following.{as_follows, ask_follows, ask_stops, becomes_follows, decides_follow, decides_stop, ends_follow, memory_follows, needs_follow, read_follows, read_stops, silent_follows, then_follows, then_stops, whole_read}
+use Rattle.line_keys.proofs.Following.{as_follows, ask_follows, ask_stops, becomes_follows, decides_follow, ends_follow, granted_follows, memory_follows, read_follows, read_stops, silent_follows, then_follows, then_stops, whole_read}
+use Rattle.line_keys.proofs.Places.{entry_at, found_at, found_nowhere}
 use Rattle.line_keys.proofs.Remembering.{remember_follows}
-use Rattle.line_keys.proofs.Turns.{count_ends, count_goes_on, count_stops, count_unasked, count_undrawn, sequence_bound, sequence_no_memory, sequence_on, sequence_over, sequence_refused, sequence_stops}
+use Rattle.line_keys.proofs.Turns.{count_ends, count_goes_on, count_stops, count_unasked, count_undrawn, sequence_bound, sequence_no_memory, sequence_begun, sequence_on, sequence_over, sequence_refused, sequence_stops, sequence_unbegun, sequence_unkept}
 
 pub ruleset answer = (as_follows, ends_follow)
 
@@ -12,11 +12,13 @@ pub ruleset common_tables = (common_first, common_second)
 
 pub ruleset counts = (memory_follows, count_unasked, count_stops, count_goes_on, count_ends, count_undrawn)
 
-pub ruleset decision = (decides_stop, decides_follow, anew_follows, ends_follow, as_follows)
+pub ruleset decision = (decides_follow, ends_follow, as_follows)
 
-pub ruleset deed = (ask_stops, ask_follows, becomes_follows, then_stops, then_follows, silent_follows, whole_read, ends_follow, as_follows, anew_follows)
+pub ruleset deed = (ask_stops, ask_follows, becomes_follows, then_stops, then_follows, silent_follows, whole_read, ends_follow, as_follows, granted_follows)
 
 pub ruleset emacs_tables = (emacs_first, emacs_second, emacs_third)
+
+pub ruleset entry = (entry_at, found_at, found_nowhere)
 
 pub ruleset event_equality = (events_both_ways, events_hash_alike)
 
@@ -46,6 +48,6 @@ pub ruleset read_answered = (read_stops, read_follows, ends_follow, as_follows)
 
 pub ruleset search = (read_stops, read_follows, becomes_follows, ends_follow)
 
-pub ruleset turns = (memory_follows, needs_follow, sequence_over, sequence_stops, sequence_no_memory, sequence_refused, sequence_bound, sequence_on)
+pub ruleset turns = (sequence_unbegun, sequence_unkept, sequence_begun, sequence_over, sequence_stops, sequence_no_memory, sequence_refused, sequence_bound, sequence_on)
 
 pub ruleset tables = (first_table, second_table, third_table, fourth_table)

@@ -5,15 +5,16 @@ use Rattle.line_config.specs.declared.errors.ReadlineError.{ReadlineError}
 use Rattle.line_config.specs.declared.errors.ReadlineError.TheVariants.{Memory}
 use Rattle.line_keys.specs.declared.command.Cmd.{Cmd}
 use Rattle.line_keys.specs.declared.key.KeyEvent.{KeyEvent}
-use Rattle.line_keys.specs.Answers.{Custom}
+use Rattle.line_keys.specs.declared.events.Event.TheVariants.{KeySeq}
+use Rattle.line_keys.specs.Answers.{Custom, Decides}
 use Rattle.line_keys.specs.Coming.{Coming, Pressed, Pasted, CutOff, Ends as NoMore, Refused, key_at}
 use Rattle.line_keys.specs.Counts.{Counted, counting, counting_read, counting_by, prompt_for}
-use Rattle.line_keys.specs.Custom.{Situation, Followed, Bound, Unbound, following, bound_by, in_vain, sequence_answer}
+use Rattle.line_keys.specs.Custom.{Situation, Followed, Bound, Unbound, following, followed, bound_by, in_vain, sequence_answer, shown_for}
 use Rattle.line_keys.specs.Feeds.{KeyFeed, Key, ReadsBy}
-use Rattle.line_keys.specs.Follows.{Decides, Follows}
+use Rattle.line_keys.specs.Follows.{Follows}
 use Rattle.line_keys.specs.Refreshing.{Line, Prompted, KnownDisplay, Draws}
 use Rattle.line_keys.specs.Phrases.{Input, Script, Needs, Part, Ends, answered, asking, decided_by, deciding, with_key}
-use Rattle.line_keys.proofs.Following.{as_follows, ask_follows, ask_stops, read_follows, read_stops, ends_follow, memory_follows, needs_follow, decides_stop, decides_follow}
+use Rattle.line_keys.proofs.Following.{as_follows, ask_follows, ask_stops, read_follows, read_stops, ends_follow, memory_follows, needs_follow, needing_follows, needed_follows, decides_stop, decides_follow}
 
 module _ (on : ℤ → KeyEvent → Option ℤ) (c : ℤ) where
   abbrev pub counted : KeyEvent → Part Counted
@@ -90,10 +91,10 @@ module _ (s : Situation) (keys : List KeyEvent) where
   following_over (NoMore last) over = rw over refl
   following_over (Refused why) over = rw over refl
 
-  read_is : (k : KeyEvent) (answer : Result (Option Cmd) ReadlineError) (rest : Coming)
+  read_is : (k : KeyEvent) (answer : Option (Option Cmd)) (rest : Coming)
       → decided_by (bound_by (following s (keys ++ k ∷ []) rest)) answer rest ≡ decided_by (on_next k) answer rest
-  read_is k (Ok o) rest = refl
-  read_is k (Err e) rest = refl
+  read_is k (Some o) rest = refl
+  read_is k None rest = refl
 
   module _ {S : Type 0} (d : KnownDisplay S) (w : S) (i : Input) (f : KeyFeed) where
     pub sequence_over : (second : Option KeyEvent) → s.custom.begins keys ≡ false → second ≡ slice_get keys 1 → Follows d s.custom (following s keys f.coming) w i w i f f (Ok (Unbound second))
@@ -110,18 +111,35 @@ module _ (s : Situation) (keys : List KeyEvent) where
         decided : (f2 : KeyFeed) (r : Result Followed ReadlineError) → Follows d s.custom (deciding (on_next k) (sequence_answer s (keys ++ k ∷ [])) f1.coming) w i w i f1 f2 r
             → Follows d s.custom (following s keys f.coming) w i w i f f2 r
         decided f2 r later = on_read f2 r (as_follows d s.custom (read_next k f1.coming) (deciding (on_next k) (sequence_answer s (keys ++ k ∷ [])) f1.coming) w w i i f1 f2 r later
-            (ap (λ (t : Script Followed). Needs t) (read_is k (sequence_answer s (keys ++ k ∷ [])) f1.coming)))
+            (ap (λ (t : Script Followed). Needs t) (read_is k (sequence_answer s (keys ++ k ∷ [])).answer f1.coming)))
 
         pub sequence_no_memory : (e : ReadlineError) → e ≡ Memory → Follows d s.custom (following s keys f.coming) w i w i f f1 (Err e)
-        sequence_no_memory e is = on_read f1 (Err e) (memory_follows d s.custom (decided_by (bound_by (following s (keys ++ k ∷ []) f1.coming)) (sequence_answer s (keys ++ k ∷ [])) f1.coming) w i f1 e is)
+        sequence_no_memory e is = on_read f1 (Err e) (memory_follows d s.custom (decided_by (bound_by (following s (keys ++ k ∷ []) f1.coming)) (sequence_answer s (keys ++ k ∷ [])).answer f1.coming) w i f1 e is)
 
-        pub sequence_refused : (e : ReadlineError) → Decides s.custom (sequence_answer s (keys ++ k ∷ [])) (Err e) → Follows d s.custom (following s keys f.coming) w i w i f f1 (Err e)
-        sequence_refused e decides = decided f1 (Err e) (decides_stop d s.custom (on_next k) (sequence_answer s (keys ++ k ∷ [])) w i f1 e decides)
+        pub sequence_refused : (e : ReadlineError) → Decides (sequence_answer s (keys ++ k ∷ [])) (Err e) → Follows d s.custom (following s keys f.coming) w i w i f f1 (Err e)
+        sequence_refused e decides = decided f1 (Err e) (decides_stop d s.custom (on_next k) (sequence_answer s (keys ++ k ∷ [])) w i f1 e
+            (λ fails. (KeySeq (keys ++ k ∷ []), shown_for s (KeySeq (keys ++ k ∷ [])), fails)) decides.refusal)
 
-        pub sequence_bound : (cmd : Cmd) → Decides s.custom (sequence_answer s (keys ++ k ∷ [])) (Ok (Some cmd)) → Follows d s.custom (following s keys f.coming) w i w i f f1 (Ok (Bound cmd))
+        pub sequence_bound : (cmd : Cmd) → Decides (sequence_answer s (keys ++ k ∷ [])) (Ok (Some cmd)) → Follows d s.custom (following s keys f.coming) w i w i f f1 (Ok (Bound cmd))
         sequence_bound cmd decides = decided f1 (Ok (Bound cmd)) (decides_follow d s.custom (on_next k) (sequence_answer s (keys ++ k ∷ [])) (Some cmd) w w i i f1 f1 (Ok (Bound cmd)) decides
             (ends_follow d s.custom (on_next k (Some cmd) f1.coming) w i f1 (Bound cmd) refl))
 
-        pub sequence_on : (f2 : KeyFeed) (r : Result Followed ReadlineError) → Decides s.custom (sequence_answer s (keys ++ k ∷ [])) (Ok None)
+        pub sequence_on : (f2 : KeyFeed) (r : Result Followed ReadlineError) → Decides (sequence_answer s (keys ++ k ∷ [])) (Ok None)
             → Follows d s.custom (following s (keys ++ k ∷ []) f1.coming) w i w i f1 f2 r → Follows d s.custom (following s keys f.coming) w i w i f f2 r
         sequence_on f2 r decides later = decided f2 r (decides_follow d s.custom (on_next k) (sequence_answer s (keys ++ k ∷ [])) None w w i i f1 f2 r decides later)
+
+-- ---- the whole sequence, whose keys are kept where a bound one begins so
+
+module _ {S : Type 0} (d : KnownDisplay S) (s : Situation) (k : KeyEvent) (w : S) (i : Input) (f : KeyFeed) where
+  pub sequence_unbegun : s.custom.begins (k ∷ []) ≡ false → Follows d s.custom (followed s k f.coming) w i w i f f (Ok (Unbound None))
+  unfolding followed
+  sequence_unbegun over =
+      needing_follows d s.custom (s.custom.begins (k ∷ [])) (following s (k ∷ []) f.coming) w w i i f f (Ok (Unbound None)) (sequence_over s (k ∷ []) d w i f None over refl)
+
+  pub sequence_unkept : (e : ReadlineError) → s.custom.begins (k ∷ []) ≡ true → e ≡ Memory → Follows d s.custom (followed s k f.coming) w i w i f f (Err e)
+  unfolding followed
+  sequence_unkept e begun is = needed_follows d s.custom (s.custom.begins (k ∷ [])) (following s (k ∷ []) f.coming) w i f e is begun
+
+  pub sequence_begun : (f' : KeyFeed) (r : Result Followed ReadlineError) → Follows d s.custom (following s (k ∷ []) f.coming) w i w i f f' r → Follows d s.custom (followed s k f.coming) w i w i f f' r
+  unfolding followed
+  sequence_begun f' r later = needing_follows d s.custom (s.custom.begins (k ∷ [])) (following s (k ∷ []) f.coming) w w i i f f' r later

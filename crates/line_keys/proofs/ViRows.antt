@@ -8,18 +8,19 @@ use Rattle.line_buffer.specs.declared.types.Movement.TheVariants.{BackwardChar, 
 use Rattle.line_buffer.specs.declared.types.Word.TheVariants.{Vi as ViWord}
 use Rattle.line_config.specs.declared.settings.EditMode.TheVariants.{Vi}
 use Rattle.line_keys.specs.declared.command.Cmd.{Cmd}
-use Rattle.line_keys.specs.declared.command.Cmd.TheVariants.{Kill, Move, Noop, Replace, SelfInsert, Unknown}
+use Rattle.line_keys.specs.declared.command.Cmd.TheVariants.{Insert as InsertText, Kill, Move, Noop, Replace, SelfInsert, Unknown}
 use Rattle.line_keys.specs.declared.command.InputMode.{InputMode}
 use Rattle.line_keys.specs.declared.command.InputMode.TheVariants.{Command, Insert, Replace as Overwriting}
-use Rattle.line_keys.specs.declared.key.KeyCode.TheVariants.{Char}
-use Rattle.line_keys.specs.Coming.{Coming, Pressed, Ends, End}
+use Rattle.line_keys.specs.declared.key.KeyCode.TheVariants.{BracketedPasteStart, Char}
+use Rattle.line_keys.specs.Coming.{Coming, Pressed, Pasted, Ends, End}
 use Rattle.line_keys.specs.Answers.{Custom}
 use Rattle.line_keys.specs.Common.{common_deed}
 use Rattle.line_keys.specs.Counts.{counting}
 use Rattle.line_keys.specs.Custom.{followed}
 use Rattle.line_keys.specs.Keys.{key_with, none, alt}
 use Rattle.line_keys.specs.Phrase.{phrase}
-use Rattle.line_keys.specs.Phrases.{Input}
+use Rattle.line_keys.specs.Feeds.{Key, Paste}
+use Rattle.line_keys.specs.Phrases.{Input, Ends as Ends_with, Needs, Reads, Becomes}
 use Rattle.line_keys.specs.Played.{Played, played}
 use Rattle.line_keys.specs.Vi.{vi_command, vi_counted, command_table, vi_insert, insert_table}
 use Rattle.line_keys.specs.ViMotions.{motion_of}
@@ -131,6 +132,20 @@ replaced_once_more text long = rw long refl
 the_last_change_with_a_count : (read_by (commanded (codes "x")).input None (typed (codes "4."))).answer ≡ Ok (Kill (ForwardChar 4))
 unfolding counting followed vi_command vi_counted command_table vi_insert insert_table insert_deed common_deed deed_of motion_of
 the_last_change_with_a_count = refl
+
+-- ---- what takes memory
+
+-- a change is kept without memory, but for one that holds a text
+a_deletion_takes_none : phrase nothing_bound (in_mode Command) (empty_line None) (typed (codes "x"))
+    ≡ Reads Key (Ends End) (Becomes (record (in_mode Command) { last = Kill (ForwardChar 1) }) (Ends_with (Ok (Kill (ForwardChar 1)))))
+unfolding counting followed vi_command vi_counted command_table vi_insert insert_table insert_deed common_deed deed_of motion_of
+a_deletion_takes_none = refl
+
+a_pasted_text_takes_some : phrase nothing_bound (in_mode Command) (empty_line None) (Pressed (key_with BracketedPasteStart none) (Pasted (codes "a") (Ends End)))
+    ≡ Reads Key (Pasted (codes "a") (Ends End)) (Reads Paste (Ends End)
+    (Needs (Becomes (record (in_mode Command) { last = InsertText 1 (codes "a") }) (Ends_with (Ok (InsertText 1 (codes "a")))))))
+unfolding counting followed vi_command vi_counted command_table vi_insert insert_table insert_deed common_deed deed_of motion_of
+a_pasted_text_takes_some = refl
 
 -- ---- insert mode
 

@@ -1,5 +1,7 @@
--- What each command is to the kill ring, and to Vi's repetition.
-use Rattle.std.specs.Prelude.{Bool, true, false}
+-- What each command is to the kill ring, to Vi's repetition, and to memory.
+use Rattle.std.specs.Prelude.{◌≡◌, Bool, true, false, is_some, Result, IfOk, IfErr, IsTrue}
+use Rattle.line_config.specs.declared.errors.ReadlineError.{ReadlineError}
+use Rattle.line_config.specs.declared.errors.ReadlineError.TheVariants.{Memory}
 use Rattle.line_buffer.specs.declared.types.Movement.{Movement}
 use Rattle.line_buffer.specs.declared.types.Movement.TheVariants.{BackwardChar, ForwardChar}
 use Rattle.line_keys.specs.declared.command.Cmd.{Cmd}
@@ -43,3 +45,14 @@ standing (ViYankTo m) = marked true true true
 standing (Yank n a) = marked false true true
 standing YankPop = marked false false false
 standing cmd = marked true false false
+
+-- it holds a text, for which each copy of it takes memory
+abbrev pub holds_text : Cmd → Bool
+holds_text (Insert n t) = true
+holds_text (Replace m t) = is_some t
+holds_text cmd = false
+
+-- a call that makes a copy of this command: memory is wanted for its text alone
+pub record Copied (cmd : Cmd) (result : Result Cmd ReadlineError) : Type 0 where
+  pub ok : IfOk result (λ c. c ≡ cmd)
+  pub err : IfErr result (λ e. (e ≡ Memory) × IsTrue (holds_text cmd))

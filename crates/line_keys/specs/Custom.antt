@@ -1,7 +1,6 @@
 -- What custom bindings make of keys: of one, and of the sequence that it begins.
 use Rattle.std.specs.Prelude.{ℕ, Bool, List, [], ◌∷◌, ◌++◌, slice_get, if◌then◌else◌}
-use Rattle.std.specs.Prelude.{Option, Some, None, Result, Ok}
-use Rattle.line_config.specs.declared.errors.ReadlineError.{ReadlineError}
+use Rattle.std.specs.Prelude.{Option, Some, None, Ok, option_map}
 use Rattle.line_config.specs.declared.errors.ReadlineError.TheVariants.{PasteOutOfPlace}
 use Rattle.line_keys.specs.declared.command.Cmd.{Cmd}
 use Rattle.line_keys.specs.declared.events.Event.{Event}
@@ -12,8 +11,9 @@ use Rattle.line_keys.specs.Coming.{Pressed, Pasted, CutOff, Ends as NoMore, Refu
 use Rattle.line_keys.specs.Events.{single}
 use Rattle.line_keys.specs.Feeds.{Key}
 use Rattle.line_keys.specs.Handling.{Meaning, Showing}
-use Rattle.line_keys.specs.Phrases.{Input, Script, Ends, Needs, Reads, Part, answered, deciding, refused}
+use Rattle.line_keys.specs.Phrases.{Input, Script, Ends, Reads, Part, answered, deciding, needing, refused}
 use Rattle.line_keys.specs.Refreshing.{Shown}
+use Rattle.line_keys.specs.Replies.{Reply, taking}
 use Rattle.line_keys.specs.Showing.{seen_of}
 
 -- all by which a key after its count is decided
@@ -42,18 +42,19 @@ shown_for s e = record {
   seen = seen_of s.input.mode s.input.input_mode s.shown;
 }
 
--- the binding of one key, else that of any
+-- the binding of one key, else that of any, for which the key's event is made in memory
 abbrev pub or_any : Custom → Option Meaning → Option Meaning
 or_any custom (Some meaning) = Some meaning
-or_any custom None = custom.answers Any
+or_any custom None = option_map (λ meaning s. taking (meaning s)) (custom.answers Any)
 
-abbrev pub custom_answer : Situation → KeyEvent → Result (Option Cmd) ReadlineError
+abbrev pub custom_answer : Situation → KeyEvent → Reply (Option Cmd)
 custom_answer s k =
     answer_by (or_any s.custom (s.custom.answers (single k))) (shown_for s (single k))
 
--- what a sequence of keys is bound to answers
-abbrev pub sequence_answer : Situation → List KeyEvent → Result (Option Cmd) ReadlineError
-sequence_answer s keys = answer_by (s.custom.answers (KeySeq keys)) (shown_for s (KeySeq keys))
+-- what a sequence of keys is bound to answers; the sequence is made in memory
+abbrev pub sequence_answer : Situation → List KeyEvent → Reply (Option Cmd)
+sequence_answer s keys =
+    taking (answer_by (s.custom.answers (KeySeq keys)) (shown_for s (KeySeq keys)))
 
 -- ---- sequences: while the keys so far begin a bound one, or are it, one more is read
 
@@ -89,6 +90,6 @@ following s keys (NoMore last) =
 following s keys (Refused why) =
     if s.custom.begins keys then refused why else in_vain keys (Refused why)
 
--- the sequence that begins with this key, which is kept in memory
+-- the sequence that begins with this key, which is kept in memory where a bound one begins so
 unfoldable pub followed : Situation → KeyEvent → Part Followed
-followed s k c = Needs (following s (k ∷ []) c)
+followed s k c = needing (s.custom.begins (k ∷ [])) (following s (k ∷ []) c)

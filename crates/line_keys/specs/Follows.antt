@@ -76,15 +76,3 @@ silent = record {
   asked = λ s a t. ⊥;
   refused = λ s a e t. ⊥;
 }
-
--- why a binding alone is refused
-abbrev pub BecauseBound : Custom → ReadlineError → Type 0
-BecauseBound custom Handler = HandlerFails custom
-BecauseBound custom Memory = ⊤
-BecauseBound custom why = ⊥
-
--- a call that neither reads nor asks gives this answer, or had no memory
-pub record Decides {X : Type 0} (custom : Custom)
-    (answer result : Result X ReadlineError) : Type 0 where
-  pub is : (result ≡ answer) ⊎ (result ≡ Err Memory)
-  pub reason : IfErr result (λ e. BecauseBound custom e)

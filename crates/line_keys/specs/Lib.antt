@@ -22,6 +22,7 @@ pub mod Phrases
 pub mod Played
 pub mod Redone
 pub mod Refreshing
+pub mod Replies
 pub mod SameEvents
 pub mod SameKeys
 pub mod Settled

@@ -1,15 +1,18 @@
 -- Phrases: what one command takes of the input, asks of the display and keeps, step by step, and
 -- its answer.
-use Rattle.std.specs.Prelude.{ℕ, List, Option, Result, Ok, Err}
+use Rattle.std.specs.Prelude.{ℕ, Bool, true, false, List, Option, Some, None, Result, Ok, Err}
 use Rattle.line_buffer.specs.declared.types.CharSearch.{CharSearch}
 use Rattle.line_config.specs.declared.settings.EditMode.{EditMode}
 use Rattle.line_config.specs.declared.errors.ReadlineError.{ReadlineError}
+use Rattle.line_config.specs.declared.errors.ReadlineError.TheVariants.{Handler}
 use Rattle.line_keys.specs.declared.command.Cmd.{Cmd}
 use Rattle.line_keys.specs.declared.command.InputMode.{InputMode}
 use Rattle.line_keys.specs.declared.key.KeyEvent.{KeyEvent}
 use Rattle.line_keys.specs.Coming.{Coming, behind, key_at, from_key_at, paste_at, left_by}
+use Rattle.line_keys.specs.Commands.{holds_text}
 use Rattle.line_keys.specs.Feeds.{InputItem, Key, Paste}
 use Rattle.line_keys.specs.Refreshing.{Shown, Ask}
+use Rattle.line_keys.specs.Replies.{Reply}
 
 -- what is kept from one command to the next
 pub record Input : Type 0 where
@@ -46,9 +49,14 @@ at_once r c = Ends r
 abbrev pub answered : {X : Type 0} → X → Part X
 answered x c = Ends (Ok x)
 
--- an answer that takes memory
-abbrev pub granted : {X : Type 0} → X → Part X
-granted x c = Needs (Ends (Ok x))
+-- memory is taken only where this is so
+abbrev pub needing : {X : Type 0} → Bool → Script X → Script X
+needing true later = Needs later
+needing false later = later
+
+-- a command that is made of another one, with a copy of its text
+abbrev pub granted : Cmd → Part Cmd
+granted cmd c = needing (holds_text cmd) (Ends (Ok cmd))
 
 abbrev pub read_by : {X Y : Type 0} → InputItem → (X → Part Y) → Result X ReadlineError → Coming
     → Script Y
@@ -81,13 +89,13 @@ asking ask next c = Asks ask (λ shown. next shown c)
 abbrev pub becoming : {X : Type 0} → Input → Part X → Part X
 becoming input next c = Becomes input (next c)
 
-abbrev pub decided_by : {X Y : Type 0} → (X → Part Y) → Result X ReadlineError → Part Y
-decided_by next (Ok x) = next x
-decided_by next (Err e) = at_once (Err e)
+-- what a binding gives leads on, and its failure is the answer
+abbrev pub decided_by : {X Y : Type 0} → (X → Part Y) → Option X → Part Y
+decided_by next (Some x) = next x
+decided_by next None = at_once (Err Handler)
 
--- what a binding answers, for which memory is taken, leads on
-abbrev pub deciding : {X Y : Type 0} → (X → Part Y) → Result X ReadlineError → Part Y
-deciding next r c = Needs (decided_by next r c)
+abbrev pub deciding : {X Y : Type 0} → (X → Part Y) → Reply X → Part Y
+deciding next reply c = needing reply.takes (decided_by next reply.answer c)
 
 abbrev pub after_by : {X Y : Type 0} → (X → Input → Shown → Part Y) → Input → Shown → Coming
     → Result X ReadlineError → Script Y

@@ -1,15 +1,13 @@
 -- Commands made anew: row by row, with a new count, if there is one, and the text that was inserted
 -- last.
-use Rattle.std.specs.Prelude.{◌≡◌, ℕ, ◌==◌, List, [], length, min, Option, Some, None, Result, IsTrue, IfOk, IfErr, unwrap_or, if◌then◌else◌}
-use Rattle.line_config.specs.declared.errors.ReadlineError.{ReadlineError}
-use Rattle.line_config.specs.declared.errors.ReadlineError.TheVariants.{Memory}
+use Rattle.std.specs.Prelude.{ℕ, ◌==◌, List, [], length, min, Option, Some, None, unwrap_or, if◌then◌else◌}
 use Rattle.line_buffer.specs.declared.types.Movement.{Movement}
 use Rattle.line_buffer.specs.declared.types.Movement.TheVariants.{ForwardChar}
 use Rattle.line_keys.specs.declared.command.Cmd.{Cmd}
 use Rattle.line_keys.specs.declared.command.Cmd.TheVariants.{Dedent, Indent, Insert, Kill, Move, ReplaceChar, Replace, SelfInsert, ViYankTo, Yank}
 use Rattle.line_keys.specs.Commands.{standing}
 use Rattle.line_keys.specs.Movements.{recounted}
-use Rattle.line_keys.specs.Phrases.{Part, answered, granted}
+use Rattle.line_keys.specs.Phrases.{Part, granted}
 use Rattle.line_keys.specs.Refreshing.{Shown}
 
 -- a typed character stands for all that was inserted with it
@@ -38,15 +36,10 @@ redone new last (ViYankTo m) = ViYankTo (recounted new m)
 redone new last (Yank n anchor) = Yank (unwrap_or new n) anchor
 redone new last c = c
 
--- a command made anew, for which memory is taken; where it can't be, the other one
-abbrev pub anew_or : Cmd → Option ℕ → Shown → Cmd → Part Cmd
-anew_or other new shown cmd =
-    if (standing cmd).repeats then granted (redone new shown.last_insert cmd) else answered other
+-- a command made anew; where it can't be, the other one
+abbrev pub anew : Cmd → Option ℕ → Shown → Cmd → Cmd
+anew other new shown cmd =
+    if (standing cmd).repeats then redone new shown.last_insert cmd else other
 
--- a call that makes a command anew, or gives the other one where it can't be made anew: memory is
--- wanted only where it is taken
-pub record Anew (other cmd : Cmd) (new : Option ℕ) (shown : Shown)
-    (result : Result Cmd ReadlineError) : Type 0 where
-  pub ok : IfOk result
-      (λ c. c ≡ (if (standing cmd).repeats then redone new shown.last_insert cmd else other))
-  pub err : IfErr result (λ e. (e ≡ Memory) × IsTrue (standing cmd).repeats)
+abbrev pub anew_or : Cmd → Option ℕ → Shown → Cmd → Part Cmd
+anew_or other new shown cmd = granted (anew other new shown cmd)

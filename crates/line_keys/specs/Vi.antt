@@ -11,13 +11,13 @@ use Rattle.line_keys.specs.declared.command.InputMode.TheVariants.{Command, Inse
 use Rattle.line_keys.specs.declared.key.KeyCode.TheVariants.{Char}
 use Rattle.line_keys.specs.declared.key.KeyEvent.{KeyEvent}
 use Rattle.line_keys.specs.Answers.{Custom}
-use Rattle.line_keys.specs.Commands.{standing}
+use Rattle.line_keys.specs.Commands.{holds_text, standing}
 use Rattle.line_keys.specs.Common.{common, decided}
 use Rattle.line_keys.specs.Counts.{Counted, counted_key, how_often}
 use Rattle.line_keys.specs.Custom.{Situation, situation}
 use Rattle.line_keys.specs.Keys.{key_with, none}
 use Rattle.line_keys.specs.Modes.{takes_commands}
-use Rattle.line_keys.specs.Phrases.{Input, Ends, Needs, Becomes, Part, answered, asking, becoming, from_key, and_then}
+use Rattle.line_keys.specs.Phrases.{Input, Ends, Becomes, Part, answered, asking, becoming, from_key, needing, and_then}
 use Rattle.line_keys.specs.Redone.{anew_or}
 use Rattle.line_keys.specs.Refreshing.{Shown, DoingInsert, DoneInserting}
 use Rattle.line_keys.specs.Tables.{look, done}
@@ -35,16 +35,18 @@ in_mode mode input = record input { input_mode = mode }
 abbrev pub with_last : Cmd → Input → Input
 with_last cmd input = record input { last = cmd }
 
--- a command is remembered, which takes memory
+-- a copy of a command is remembered
 abbrev pub remembering : Bool → Cmd → Input → Part Cmd
-remembering true cmd input = λ c. Needs (Becomes (with_last cmd input) (Ends (Ok cmd)))
+remembering true cmd input =
+    λ c. needing (holds_text cmd) (Becomes (with_last cmd input) (Ends (Ok cmd)))
 remembering false cmd input = answered cmd
 
 -- a call that remembers a command, or does nothing
 pub record Remembers (is : Bool) (cmd : Cmd) (input input' : Input)
     (result : Result Cmd ReadlineError) : Type 0 where
   pub ok : IfOk result (λ c. (c ≡ cmd) × (input' ≡ (if is then with_last cmd input else input)))
-  pub err : IfErr result (λ e. (e ≡ Memory) × IsTrue is × (input' ≡ input))
+  pub err : IfErr result
+      (λ e. (e ≡ Memory) × IsTrue is × IsTrue (holds_text cmd) × (input' ≡ input))
 
 -- in command mode each change is the last one
 abbrev pub changed : Cmd → Input → Shown → Part Cmd

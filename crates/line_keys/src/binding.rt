@@ -1,12 +1,12 @@
 //! Events and what is bound to them.
 
-ghost use Rattle.std.specs.Prelude.{◌≡◌, ◌↔◌, ◌++◌, List, IsTrue, IsSome, IfOk, IfErr, OnOk, OnErr, MatchResult, [], option_copied, position};
+ghost use Rattle.std.specs.Prelude.{◌≡◌, ◌↔◌, ◌++◌, List, IsTrue, IsSome, IfOk, IfErr, IfSome, OnOk, OnErr, MatchResult, [], option_copied, option_map, position};
 ghost use Rattle.line_config.specs.declared.errors.ReadlineError.{ReadlineError};
 ghost use Rattle.line_keys.specs.declared.key.KeyEvent.{KeyEvent};
 ghost use Rattle.line_keys.specs.declared.events.Event.{Event};
 ghost use Rattle.line_keys.specs.declared.events.Event.TheVariants.{KeySeq};
 ghost use Rattle.line_keys.specs.Bound.{find, has_event, begins, put_at, less_at, IsMap, IsNormal};
-ghost use Rattle.line_keys.specs.Events.{normal_event};
+ghost use Rattle.line_keys.specs.Events.{normal_event, single};
 
 use crate::events::Event;
 use crate::handler::EventHandler;
@@ -84,6 +84,18 @@ impl<H: Drop> EventMap<H> {
         }
     }
 
+    /// What one key is bound to, with its event, which needn't be made to find it.
+    #[tactic(auto, using(crate::proofs::Steps::entry))]
+    pub(crate) fn entry_of(&self, key: KeyEvent) -> Option<&(Event, H)>
+        ensures found { option_map (λ b. b.1) (option_copied result) ≡ find (single key) self.now }
+        ensures event { IfSome (option_copied result) (λ b. b.0 ≡ single key) }
+    {
+        match place_of_key(self.entries.as_slice(), key) {
+            Some(i) => Some(&self.entries[i]),
+            None => None,
+        }
+    }
+
     /// Whether a bound sequence begins with these keys, or is these.
     pub fn begins(&self, keys: &[KeyEvent]) -> bool
         ensures value { result ≡ begins keys.now self.now }
@@ -106,6 +118,13 @@ fn place<H>(entries: &[(Event, H)], event: &Event) -> Option<usize>
     ensures { result ≡ position (has_event event.now) entries.now }
 {
     entries.iter().position(|b| b.0 == *event)
+}
+
+// The place of a key's event.
+fn place_of_key<H>(entries: &[(Event, H)], key: KeyEvent) -> Option<usize>
+    ensures { result ≡ position (has_event (single key)) entries.now }
+{
+    entries.iter().position(|b| b.0.is_key(key))
 }
 
 // Binds an event, and gives back what it was bound to.

@@ -1,6 +1,6 @@
 //! What the editor can be told to do.
 
-ghost use Rattle.std.specs.Prelude.{◌≡◌, IfOk, IfErr};
+ghost use Rattle.std.specs.Prelude.{◌≡◌, IfOk, IfErr, IsSome};
 ghost use Rattle.line_config.specs.declared.errors.ReadlineError.{ReadlineError};
 ghost use Rattle.line_keys.specs.Movements.{recounted};
 
@@ -106,12 +106,11 @@ pub enum Cmd {
 }
 
 impl Cmd {
-    ghost use Rattle.line_keys.specs.Commands.{standing};
+    ghost use Rattle.line_keys.specs.Commands.{standing, Copied};
 
-    /// A copy of the command.
+    /// A copy of the command. Memory is wanted for its text alone.
     pub fn try_clone(&self, alloc: Global) -> Result<Self, ReadlineError>
-        ensures ok { IfOk result (λ c. c ≡ self.now) }
-        ensures err { IfErr result (λ e. e ≡ ReadlineError.Memory) }
+        ensures { Copied self.now result }
     {
         let copy = match self {
             Cmd::Abort => Cmd::Abort,
@@ -217,7 +216,7 @@ impl Cmd {
 /// A copy of a text, if there is one.
 fn copied(alloc: Global, text: &Option<Text>) -> Result<Option<Text>, ReadlineError>
     ensures ok { IfOk result (λ t. t ≡ text.now) }
-    ensures err { IfErr result (λ e. e ≡ ReadlineError.Memory) }
+    ensures err { IfErr result (λ e. (e ≡ ReadlineError.Memory) × IsSome text.now) }
 {
     match text {
         Some(text) => Ok(Some(text.try_clone(alloc)?)),

@@ -131,6 +131,7 @@ pub enum Event {
 
 impl Event {
     ghost use Rattle.line_keys.specs.Events.{begins_with, key_number, normal_event, single};
+    ghost use Rattle.line_keys.specs.SameEvents.{same_event};
 
     /// The event of one key.
     pub fn from_key(alloc: Global, key: KeyEvent) -> Result<Self, ReadlineError>
@@ -160,6 +161,16 @@ impl Event {
         match self {
             Event::KeySeq(keys) => keys.as_slice().get(i),
             _ => None,
+        }
+    }
+
+    /// Whether the event is that of one key, which is this.
+    pub(crate) fn is_key(&self, key: KeyEvent) -> bool
+        ensures { result ≡ same_event self.now (single key) }
+    {
+        match self {
+            Event::KeySeq(keys) => keys.as_slice() == [key].as_slice(),
+            _ => false,
         }
     }
 

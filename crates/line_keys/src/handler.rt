@@ -1,8 +1,8 @@
 //! What a binding does.
 
-ghost use Rattle.std.specs.Prelude.{◌≡◌, IsSome, option_copied};
-ghost use Rattle.line_keys.specs.Faults.{HadMemory, NotMemory};
+ghost use Rattle.std.specs.Prelude.{◌≡◌, option_copied};
 ghost use Rattle.line_keys.specs.Handling.{Meaning};
+ghost use Rattle.line_keys.specs.Replies.{Replies, itself};
 
 use crate::command::{Cmd, InputMode};
 use crate::events::Event;
@@ -90,7 +90,8 @@ pub trait ConditionalEventHandler: Drop {
     /// that was typed, 1 where none was and 0 for a key in Vi's insert mode, and `positive` its
     /// sign.
     ///
-    /// The answer may depend on nothing but the arguments, though `Memory` may come at any call.
+    /// The answer depends on nothing but the arguments, and so does whether it fails. Memory is
+    /// wanted only where the meaning takes some.
     fn handle(
         &self,
         alloc: Global,
@@ -99,8 +100,7 @@ pub trait ConditionalEventHandler: Drop {
         positive: bool,
         ctx: &EventContext<'_>,
     ) -> Result<Option<Cmd>, HookFault>
-        ensures { NotMemory result
-            → result ≡ meaning self.now (showing evt.now n positive ctx.now) };
+        ensures { Replies (meaning self.now (showing evt.now n positive ctx.now)) itself result };
 }
 
 /// What is bound to an event.
@@ -114,7 +114,7 @@ pub enum EventHandler {
 
 /// What decides on a command: an `EventHandler`, or a type that stands for one.
 pub trait Decides: Drop {
-    ghost use Rattle.line_keys.specs.Answers.{command_by};
+    ghost use Rattle.line_keys.specs.Answers.{Decides as Decision};
     ghost use Rattle.line_keys.specs.Showing.{showing};
 
     ghost decides: { Self → Meaning };
@@ -129,8 +129,7 @@ pub trait Decides: Drop {
         positive: bool,
         ctx: &EventContext<'_>,
     ) -> Result<Option<Cmd>, ReadlineError>
-        ensures { HadMemory result
-            → result ≡ command_by (decides self.now (showing evt.now n positive ctx.now)) };
+        ensures { Decision (decides self.now (showing evt.now n positive ctx.now)) result };
 }
 
 impl Decides for EventHandler {

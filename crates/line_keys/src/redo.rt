@@ -1,9 +1,9 @@
 //! Commands made anew, as by Vi's `.`.
 
-ghost use Rattle.std.specs.Prelude.{◌≡◌, IfOk, IfErr, length, min, unwrap_or, []};
-ghost use Rattle.line_config.specs.declared.errors.ReadlineError.{ReadlineError};
+ghost use Rattle.std.specs.Prelude.{◌≡◌, length, min, unwrap_or, []};
 ghost use Rattle.line_keys.specs.declared.command.Cmd.TheVariants.{Noop, Replace};
-ghost use Rattle.line_keys.specs.Redone.{Anew, redone, typed_anew, covered};
+ghost use Rattle.line_keys.specs.Commands.{Copied};
+ghost use Rattle.line_keys.specs.Redone.{anew, redone, typed_anew, covered};
 
 use crate::command::{Cmd, recounted};
 use crate::refresh::Refresher;
@@ -21,7 +21,7 @@ impl Cmd {
         wrt: &W,
         new: Option<RepeatCount>,
     ) -> Result<Self, ReadlineError>
-        ensures { Anew self self new (W.display.shown wrt.now) result }
+        ensures { Copied (anew self new (W.display.shown wrt.now) self) result }
     {
         if self.is_repeatable() {
             self.redo(alloc, new, wrt)
@@ -38,7 +38,7 @@ impl Cmd {
         wrt: &W,
         new: Option<RepeatCount>,
     ) -> Result<Self, ReadlineError>
-        ensures { Anew Noop self.now new (W.display.shown wrt.now) result }
+        ensures { Copied (anew Noop new (W.display.shown wrt.now) self.now) result }
     {
         if self.is_repeatable() {
             self.redo(alloc, new, wrt)
@@ -51,16 +51,16 @@ impl Cmd {
     ///
     /// What was typed is typed anew as the text that was inserted last. A replacement whose text
     /// wasn't known takes that text, and where it covered no characters yet, as many as the text
-    /// has bytes, at most 65,535. A command that can't be made anew stays as it is.
+    /// has bytes, at most 65,535. A command that can't be made anew stays as it is. Memory is
+    /// wanted for the text of what is made alone.
     pub fn redo<W: Refresher>(
         &self,
         alloc: Global,
         new: Option<RepeatCount>,
         wrt: &W,
     ) -> Result<Self, ReadlineError>
-        ensures ok { let last = (W.display.shown wrt.now).last_insert in
-            IfOk result (λ c. c ≡ redone new last self.now) }
-        ensures err { IfErr result (λ e. e ≡ ReadlineError.Memory) }
+        ensures { let last = (W.display.shown wrt.now).last_insert in
+            Copied (redone new last self.now) result }
     {
         let anew = match self {
             Cmd::Dedent(movement) => Cmd::Dedent(recounted(movement, new)),

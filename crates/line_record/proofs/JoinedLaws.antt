@@ -1,10 +1,11 @@
 -- Two listeners, the last of which is a record.
-use Rattle.std.proofs.Common.{◌≡◌, List, refl, sym, ap, subst, ◌∙◌, inl, inr}
+use Rattle.std.proofs.Common.{◌≡◌, List, refl, ap, ◌∙◌, inl, inr}
 use Rattle.std.specs.Prelude.{ℕ, IsUtf8}
 use Rattle.line_buffer.specs.Event.{Event}
 use Rattle.line_buffer.specs.Replay.{Reports, StopsAmong}
+use Rattle.line_buffer.proofs.ReplayLemmas.{stops_wanting}
 use Rattle.line_record.specs.declared.joined.Joined.{Joined}
-use Rattle.line_record.specs.Items.{Items, ItemsStand, RecordedIn, held_on}
+use Rattle.line_record.specs.Items.{Items, ItemsStand, RecordedIn, record_refuses, held_on}
 use Rattle.line_record.specs.Names.{SameNames}
 use Rattle.line_record.specs.Runs.{recorded_all}
 use Rattle.line_record.specs.Together.{joined_takes, joined_refuses, RefusalsLeaveNoUnmadeChange}
@@ -13,9 +14,9 @@ use Rattle.line_record.proofs.RunLemmas.{part_told, part_stopped, kept_by_all}
 pub refusals_leave_no_unmade_change : {A : Type 0} (first first_refuses : A → Event → A → Type 0) → RefusalsLeaveNoUnmadeChange first first_refuses
 refusals_leave_no_unmade_change {A} first first_refuses closing events s t before after h u call =
     let part : Joined A Items → Items = λ j. j.second.now in
-    let same : (x : Joined A Items) (e : Event) (y : Joined A Items) → joined_refuses first first_refuses (λ p q r. r ≡ p) x e y → part y ≡ part x =
-    λ x e y r. elim r.1 [ inl k ↦ k.1 | inr k ↦ k.1 ] in
-    let both = part_stopped (joined_takes first RecordedIn) part (λ x e y k. k.1.1) (joined_refuses first first_refuses (λ p q r. r ≡ p)) same h u call in
+    let same : (x : Joined A Items) (e : Event) (y : Joined A Items) → joined_refuses first first_refuses record_refuses x e y → part y ≡ part x =
+    λ x e y r. elim r.1 [ inl k ↦ k.1 | inr k ↦ k.1.0 ] in
+    let both = part_stopped (joined_takes first RecordedIn) part (λ x e y k. k.1.1) (joined_refuses first first_refuses record_refuses) same h u call in
     record {
       stand = both.0.stand;
       held = both.0.held ∙ ap (recorded_all closing after) both.1.held;
@@ -33,8 +34,9 @@ joined_held first h u r = (part_told (joined_takes first RecordedIn) (λ j. j.se
 
 pub joined_stand_refused : {A : Type 0} (first first_refuses : A → Event → A → Type 0) {closing events : List Event} {s t : Joined A Items} {before after : List ℕ}
     → ItemsStand s.second.now before → IsUtf8 before
-    → StopsAmong (joined_takes first RecordedIn) (joined_refuses first first_refuses (λ x e y. y ≡ x)) closing events s t before after → ItemsStand t.second.now after
-joined_stand_refused first first_refuses {closing} {events} {s} {t} {before} {after} h u call = (refusals_leave_no_unmade_change first first_refuses closing events s t before after h u call).stand
+    → StopsAmong (joined_takes first RecordedIn) (joined_refuses first first_refuses record_refuses) closing events s t before after → ItemsStand t.second.now after
+joined_stand_refused first first_refuses {closing} {events} {s} {t} {before} {after} h u call =
+    (refusals_leave_no_unmade_change first first_refuses closing events s t before after h u (stops_wanting call)).stand
 
 -- they stay the same two
 module _ {A B : Type 0} (first first_refuses : A → Event → A → Type 0) (second second_refuses : B → Event → B → Type 0) where
@@ -57,7 +59,4 @@ module _ {A B : Type 0} (first first_refuses : A → Event → A → Type 0) (se
   pub joined_names_refused : {closing events : List Event} {s t : Joined A B} {before after : List ℕ}
       → StopsAmong (joined_takes first second) (joined_refuses first first_refuses second_refuses) closing events s t before after → SameNames s.first s.second t.first t.second
   unfolding Same
-  joined_names_refused {closing} {events} {s} {t} call =
-      let stopped : Same call.between call.left =
-      elim call.stopped [ inl k ↦ subst (Same call.between) (sym k) (same call.between) | inr k ↦ k.0 ] in
-      chained s call.between t (joined_names call.reported) (chained call.between call.left t stopped (joined_names call.closed))
+  joined_names_refused {closing} {events} {s} {t} call = chained s call.between t (joined_names call.reported) (chained call.between call.left t call.stopped.0 (joined_names call.closed))

@@ -4,9 +4,9 @@ use Rattle.std.specs.Prelude.{IsUtf8}
 use Rattle.line_buffer.specs.Event.{Event}
 use Rattle.line_buffer.specs.Event.Event.{StartKilling, StopKilling, Delete, InsertChar, InsertStr, Replace}
 use Rattle.line_buffer.specs.Replayed.{replayed, replayed_all}
-use Rattle.line_buffer.specs.Replay.{Swaps, Replays, ReplaysAll, TakesAll, Reports, StopsAmong}
+use Rattle.line_buffer.specs.Replay.{Swaps, Replays, ReplaysAll, TakesAll, Reports, StopsAmong, wants_or}
 use Rattle.line_record.specs.Held.{Held, recorded_in}
-use Rattle.line_record.specs.Items.{Items, ItemsStand, held_on, RecordedIn}
+use Rattle.line_record.specs.Items.{Items, ItemsStand, held_on, RecordedIn, record_refuses}
 use Rattle.line_record.specs.Runs.{recorded_all}
 use Rattle.line_record.proofs.Exchange.{exchanged}
 
@@ -82,7 +82,7 @@ module _ {S : Type 0} (takes : S → Event → S → Type 0) (part : S → Items
 
   -- after a refusal the record is that of the events that the line made, and of what closed the call
   pub part_stopped : {closing events : List Event} {s t : S} {before after : List ℕ} → (refuses : S → Event → S → Type 0) → ((x : S) (e : Event) (y : S) → refuses x e y → part y ≡ part x)
-      → ItemsStand (part s) before → IsUtf8 before → (p : StopsAmong takes refuses closing events s t before after)
+      → ItemsStand (part s) before → IsUtf8 before → (p : StopsAmong takes (wants_or refuses) closing events s t before after)
       → RecordedAll closing (part p.between) (part t) after after × RecordedAll p.done (part s) (part p.between) before after
   part_stopped {closing} {events} {s} {t} {before} {after} refuses refuses_part h u p =
       let done = part_told h u p.reported in
@@ -99,8 +99,8 @@ pub told_held : {events : List Event} {s t : Items} {before after : List ℕ} �
 told_held h u r = (part_told RecordedIn (λ x. x) (λ s e t k. k) h u r).held
 
 pub stopped_stand : {closing events : List Event} {s t : Items} {before after : List ℕ} → ItemsStand s before → IsUtf8 before
-    → StopsAmong RecordedIn (λ x e y. y ≡ x) closing events s t before after → ItemsStand t after
-stopped_stand h u p = (part_stopped RecordedIn (λ x. x) (λ s e t k. k) (λ x e y. y ≡ x) (λ x e y k. k) h u p).0.stand
+    → StopsAmong RecordedIn (wants_or record_refuses) closing events s t before after → ItemsStand t after
+stopped_stand h u p = (part_stopped RecordedIn (λ x. x) (λ s e t k. k) record_refuses (λ x e y k. k.0) h u p).0.stand
 
 -- what each event keeps, a run keeps
 pub kept_by_all : {S : Type 0} (takes : S → Event → S → Type 0) (Kept : S → S → Type 0) → ((s : S) → Kept s s) → ((s t u : S) → Kept s t → Kept t u → Kept s u)

@@ -1,6 +1,6 @@
 -- The record's value: the changes done and undone, each side nearest first, and the texts that they
 -- hold on a line's text.
-use Rattle.std.specs.Prelude.{◌≡◌, ℕ, ◌||◌, Bool, true, false, List, [], ◌∷◌, ◌++◌, zero, suc, take, drop, length, ◌-◌, Option, Some, None, IsUtf8}
+use Rattle.std.specs.Prelude.{◌≡◌, ℕ, ◌||◌, Bool, true, false, List, [], ◌∷◌, ◌++◌, zero, suc, take, drop, length, ◌-◌, Option, Some, None, is_some, IsUtf8}
 use Rattle.line_buffer.specs.Event.{Event}
 use Rattle.line_buffer.specs.Event.Event.{StartKilling, StopKilling, Delete, InsertChar, InsertStr, Replace}
 use Rattle.line_buffer.specs.Line.{Line}
@@ -194,6 +194,10 @@ record_after (Delete at text direction) s = told_of (Delete at text direction) s
 record_after (InsertChar at c) s = told_of (InsertChar at c) s
 record_after (InsertStr at text) s = told_of (InsertStr at text) s
 record_after (Replace at before after) s = told_of (Replace at before after) s
+
+-- a change that isn't empty may be refused, and the record stays as it was
+abbrev pub record_refuses : Items → Event → Items → Type 0
+record_refuses s e t = (t ≡ s) × (is_some (change_of e) ≡ true)
 
 abbrev pub ahead_after : Event → List Undone → List Undone
 ahead_after StartKilling ahead = ahead

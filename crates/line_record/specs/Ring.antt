@@ -108,5 +108,14 @@ ring_step (InsertChar at c) r = r
 ring_step (InsertStr at text) r = r
 ring_step (Replace at removed added) r = r
 
+-- a ring that has slots keeps what is deleted between the two marks
+abbrev pub Keeps : Event → Ring → Type 0
+Keeps (Delete at text direction) r = (r.killing ≡ true) × (0 < r.size)
+Keeps e r = ⊥
+
+-- it refuses only what it would keep, and stays as it was
+abbrev pub ring_refuses : Ring → Event → Ring → Type 0
+ring_refuses r e q = (q ≡ r) × Keeps e r
+
 abbrev pub ring_all : List Event → Ring → Ring
 ring_all events r = fold (λ s e. ring_step e s) r events

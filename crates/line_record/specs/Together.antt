@@ -2,9 +2,9 @@
 -- them.
 use Rattle.std.specs.Prelude.{◌≡◌, ◌⊎◌, ℕ, List, IsUtf8}
 use Rattle.line_buffer.specs.Event.{Event}
-use Rattle.line_buffer.specs.Replay.{StopsAmong}
+use Rattle.line_buffer.specs.Replay.{StopsAmong, wants_or}
 use Rattle.line_record.specs.declared.joined.Joined.{Joined}
-use Rattle.line_record.specs.Items.{Items, ItemsStand, RecordedIn, held_on}
+use Rattle.line_record.specs.Items.{Items, ItemsStand, RecordedIn, record_refuses, held_on}
 use Rattle.line_record.specs.Names.{SameNames}
 use Rattle.line_record.specs.Runs.{recorded_all}
 
@@ -39,5 +39,5 @@ RefusalsLeaveNoUnmadeChange {A} first first_refuses =
     (closing events : List Event) (s t : Joined A Items) (before after : List ℕ)
     → ItemsStand s.second.now before → IsUtf8 before
     → (call : StopsAmong (joined_takes first RecordedIn)
-    (joined_refuses first first_refuses (λ x e y. y ≡ x)) closing events s t before after)
+    (wants_or (joined_refuses first first_refuses record_refuses)) closing events s t before after)
     → HoldsWhatWasMade (λ j. j.second.now) call

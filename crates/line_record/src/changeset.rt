@@ -29,17 +29,17 @@ impl Model for Changeset {
 }
 
 impl Changeset {
-    ghost use Rattle.std.specs.Prelude.{◌≡◌, ◌-◌, ℕ, [], List, length, drop, IfOk, OnOk, OnErr, option_map, option_copied, string_bytes};
+    ghost use Rattle.std.specs.Prelude.{◌≡◌, ◌-◌, ℕ, [], List, length, drop, IfOk, IsOkAnd, OnOk, OnErr, option_map, option_copied, string_bytes};
     ghost use Rattle.line_buffer.specs.Event.Event.{InsertChar, InsertStr, Delete, Replace};
     ghost use Rattle.line_buffer.specs.declared.types.Direction.TheVariants.{Forward};
     ghost use Rattle.line_record.specs.Held.{ended, closes, last_inserted, first_held, text_kept};
-    ghost use Rattle.line_record.specs.Items.{no_items, opened, truncated, told_of, ItemsStand, RecordedIn, held_on};
+    ghost use Rattle.line_record.specs.Items.{no_items, opened, truncated, told_of, ItemsStand, RecordedIn, record_refuses, held_on};
     ghost use Rattle.line_record.specs.Stored.{event_of};
 
     /// A record in which nothing stands. It takes no memory yet, and never refuses: the answer has
     /// the form of rustyline's calls that make a part of the editor, all of which may want memory.
     pub fn new(alloc: Global) -> Result<Self, OutOfMemory>
-        ensures { IfOk result (λ c. c ≡ no_items) }
+        ensures { IsOkAnd result (λ c. c ≡ no_items) }
     {
         Ok(Changeset {
             steps: Steps::new(alloc),
@@ -74,14 +74,13 @@ impl Changeset {
     }
 
     /// Closes all open marks: what was recorded since the oldest of them is one step from now on.
-    /// Answers whether there is such a step.
+    /// Answers whether there is such a step, and never refuses.
     pub fn end(&mut self, alloc: Global) -> Result<bool, OutOfMemory>
-        ensures answer { IfOk result (λ closed. (text : List ℕ) → ItemsStand self.old text → closed
-            ≡ closes (held_on self.old text)) }
-        ensures held { OnOk result ((text : List ℕ) → ItemsStand self.old text → ItemsStand self.new
-            text × (held_on self.new text ≡ ended (held_on self.old text))) }
-        ensures cleared { OnOk result (self.new.undone ≡ []) }
-        ensures kept { OnErr result (self.new ≡ self.old) }
+        ensures answer { IsOkAnd result (λ closed. (text : List ℕ) → ItemsStand self.old text
+            → closed ≡ closes (held_on self.old text)) }
+        ensures held { (text : List ℕ) → ItemsStand self.old text → ItemsStand self.new text
+            × (held_on self.new text ≡ ended (held_on self.old text)) }
+        ensures cleared { self.new.undone ≡ [] }
     {
         let closed = close(&mut self.steps, self.done, self.mark);
         self.done = self.steps.len();
@@ -128,7 +127,7 @@ impl Changeset {
     pub fn insert(&mut self, alloc: Global, idx: usize, c: char) -> Result<(), OutOfMemory>
         ensures ok { OnOk result (self.new ≡ told_of (InsertChar idx c) self.old) }
         ensures recorded { OnOk result (RecordedIn self.old (InsertChar idx c) self.new) }
-        ensures kept { OnErr result (self.new ≡ self.old) }
+        ensures refused { OnErr result (record_refuses self.old (InsertChar idx c) self.new) }
     {
         self.note(alloc, Report::Char { at: idx, c })
     }
@@ -137,7 +136,7 @@ impl Changeset {
     pub fn insert_str(&mut self, alloc: Global, idx: usize, text: &str) -> Result<(), OutOfMemory>
         ensures ok { OnOk result (self.new ≡ told_of (InsertStr idx text.now) self.old) }
         ensures recorded { OnOk result (RecordedIn self.old (InsertStr idx text.now) self.new) }
-        ensures kept { OnErr result (self.new ≡ self.old) }
+        ensures refused { OnErr result (record_refuses self.old (InsertStr idx text.now) self.new) }
     {
         self.note(alloc, Report::Text { at: idx, text })
     }
@@ -147,7 +146,8 @@ impl Changeset {
         ensures ok { OnOk result (self.new ≡ told_of (Delete idx text.now Forward) self.old) }
         ensures recorded { OnOk result (RecordedIn self.old (Delete idx text.now Forward)
             self.new) }
-        ensures kept { OnErr result (self.new ≡ self.old) }
+        ensures refused { OnErr result (record_refuses self.old
+            (Delete idx text.now Forward) self.new) }
     {
         let direction = Direction::Forward;
         self.note(
@@ -171,7 +171,8 @@ impl Changeset {
         ensures ok { OnOk result (self.new ≡ told_of (Replace idx removed.now added.now) self.old) }
         ensures recorded { OnOk result (RecordedIn self.old (Replace idx removed.now added.now)
             self.new) }
-        ensures kept { OnErr result (self.new ≡ self.old) }
+        ensures refused { OnErr result (record_refuses self.old
+            (Replace idx removed.now added.now) self.new) }
     {
         self.note(
             alloc,
@@ -187,7 +188,7 @@ impl Changeset {
     pub(crate) fn note(&mut self, alloc: Global, report: Report<'_>) -> Result<(), OutOfMemory>
         ensures ok { OnOk result (self.new ≡ told_of (event_of report.entry) self.old) }
         ensures recorded { OnOk result (RecordedIn self.old (event_of report.entry) self.new) }
-        ensures kept { OnErr result (self.new ≡ self.old) }
+        ensures refused { OnErr result (record_refuses self.old (event_of report.entry) self.new) }
     {
         self.steps.note(self.done, report)?;
         self.done = self.steps.len();

@@ -71,6 +71,7 @@ impl KillRing {
     pub fn kill(&mut self, alloc: Global, text: &str, mode: Mode) -> Result<(), OutOfMemory>
         ensures ok { OnOk result (self.new ≡ killed text.now mode self.old) }
         ensures kept { OnErr result (self.new ≡ self.old) }
+        ensures refused { OnErr result (0 < self.old.size) }
     {
         if self.size == 0 {
             self.last_action = Action::Kill;
@@ -190,11 +191,11 @@ fn put_slot(
 
 impl DeleteListener for KillRing {
     ghost use Rattle.std.specs.Prelude.{◌≡◌};
-    ghost use Rattle.line_record.specs.Ring.{ring_step};
+    ghost use Rattle.line_record.specs.Ring.{ring_step, ring_refuses};
 
     ghost takes = { λ s e t. t ≡ ring_step e s };
 
-    ghost refuses = { λ s e t. t ≡ s };
+    ghost refuses = { ring_refuses };
 
     fn start_killing(&mut self) {
         self.killing = true;

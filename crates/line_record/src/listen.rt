@@ -6,12 +6,11 @@ use line_buffer::{ChangeListener, DeleteListener, Direction, OutOfMemory};
 use std::alloc::Global;
 
 impl DeleteListener for Changeset {
-    ghost use Rattle.std.specs.Prelude.{◌≡◌};
-    ghost use Rattle.line_record.specs.Items.{RecordedIn};
+    ghost use Rattle.line_record.specs.Items.{RecordedIn, record_refuses};
 
     ghost takes = { RecordedIn };
 
-    ghost refuses = { λ s _ t. t ≡ s };
+    ghost refuses = { record_refuses };
 
     fn start_killing(&mut self) {}
 

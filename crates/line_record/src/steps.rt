@@ -115,6 +115,7 @@ impl Steps {
         ensures ok { OnOk result (reverse self.new ≡ noted_if (event_of report.entry)
             (change_of (event_of report.entry)) (reverse (take n self.old))) }
         ensures kept { OnErr result (self.new ≡ self.old) }
+        ensures some { OnErr result (is_some (change_of (event_of report.entry)) ≡ true) }
     {
         if report.is_empty() {
             self.truncate(n);

@@ -4,7 +4,8 @@ use Rattle.std.specs.List.{FoldsTo, flat_map}
 use Rattle.line_config.specs.declared.device.DeviceFailed.{DeviceFailed}
 use Rattle.line_config.specs.declared.errors.ReadlineError.{ReadlineError}
 use Rattle.line_config.specs.Sending.{Takes, TakesSome, Sends}
-use Rattle.line_editor.specs.Calls.{Call, Begun, Makes}
+use Rattle.line_editor.specs.Calls.{Call, MadeIn, RefusedIn, Begun, Makes}
+use Rattle.line_editor.specs.Calls.Call.{Help}
 use Rattle.line_screen.specs.Calls.{Sent, canvas_of, bytes_of, screen_of, sink_of, display_answer}
 use Rattle.line_screen.specs.declared.renderer.ScreenRenderer.{ScreenRenderer}
 use Rattle.line_config.proofs.Taking.{takes_then}
@@ -21,21 +22,31 @@ module _ {D : Type 0} (told : D → Bool) (held : D → List ℕ) (failed : D �
         screen = second.screen ∙ first.screen;
       }
 
+  -- the helper's call sends nothing
+  pub sent_in : (call : Call) (a b : ScreenRenderer D) → MadeIn (canvas_of told held failed) a call b → Sent told held failed (bytes_of (screen_of a) call) a b
+  sent_in (Help fails) a b h = subst (Sent told held failed [] a) (sym h.1) (sent_nothing a)
+  sent_in _ a b h = h
+
+  screen_in : (fault : ReadlineError) (call : Call) (a b : ScreenRenderer D) → RefusedIn (canvas_of told held failed) fault a call b → screen_of b ≡ screen_of a
+  screen_in fault (Help fails) a b h = ap screen_of h.2
+  screen_in fault _ a b h = h.1.screen
+
   -- calls that were made sent their bytes in order
-  pub sent_in_all : (calls : List Call) (a b : ScreenRenderer D) → FoldsTo (canvas_of told held failed).made a calls b → Sent told held failed (flat_map (bytes_of (screen_of a)) calls) a b
+  pub sent_in_all : (calls : List Call) (a b : ScreenRenderer D) → FoldsTo (MadeIn (canvas_of told held failed)) a calls b → Sent told held failed (flat_map (bytes_of (screen_of a)) calls) a b
   sent_in_all [] a b h = subst (Sent told held failed [] a) h (sent_nothing a)
   sent_in_all (call ∷ calls) a b h =
       let more = flat_map (bytes_of (screen_of a)) calls in
-      let rest : Sent told held failed more h.0 b = subst (λ s. Sent told held failed (flat_map (bytes_of s) calls) h.0 b) h.1.screen (sent_in_all calls h.0 b h.2) in
-      sent_then (bytes_of (screen_of a) call) more a h.0 b h.1 rest
+      let first : Sent told held failed (bytes_of (screen_of a) call) a h.0 = sent_in call a h.0 h.1 in
+      let rest : Sent told held failed more h.0 b = subst (λ s. Sent told held failed (flat_map (bytes_of s) calls) h.0 b) first.screen (sent_in_all calls h.0 b h.2) in
+      sent_then (bytes_of (screen_of a) call) more a h.0 b first rest
 
   -- calls that were begun leave the screen as it is
   pub begun_stays : (fault : ReadlineError) (calls : List Call) (a b : ScreenRenderer D) → Begun (canvas_of told held failed) fault calls a b → screen_of b ≡ screen_of a
   unfolding Begun
   begun_stays fault [] a b h = ap screen_of h.1
   begun_stays fault (call ∷ calls) a b (inl h) = ap screen_of h.1
-  begun_stays fault (call ∷ calls) a b (inr (inl h)) = h.1.screen
-  begun_stays fault (call ∷ calls) a b (inr (inr h)) = begun_stays fault calls h.0 b h.2 ∙ h.1.screen
+  begun_stays fault (call ∷ calls) a b (inr (inl h)) = screen_in fault call a b h
+  begun_stays fault (call ∷ calls) a b (inr (inr h)) = begun_stays fault calls h.0 b h.2 ∙ (sent_in call a h.0 h.1).screen
 
   -- a call sends its bytes to the sink, and its answer is the display's
   pub makes_call : (call : Call) (old : ScreenRenderer D) (d : D) (bytes : List ℕ) (sent : Result (Unit {0}) DeviceFailed) (result : Result (Unit {0}) ReadlineError)

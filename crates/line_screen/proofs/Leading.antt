@@ -12,7 +12,7 @@ use Rattle.line_buffer.specs.declared.layout.Position.{Position}
 use Rattle.line_config.specs.declared.settings.BellStyle.{BellStyle}
 use Rattle.line_config.specs.declared.settings.BellStyle.TheVariants as Bells
 use Rattle.line_editor.specs.Calls.{Call}
-use Rattle.line_editor.specs.Calls.Call.{Draw, Move, Write, Beep, ClearScreen, ClearRows, ClearToEol, ToLeftmost}
+use Rattle.line_editor.specs.Calls.Call.{Draw, Move, Write, Beep, ClearScreen, ClearRows, ClearToEol, ToLeftmost, Help}
 use Rattle.line_screen.specs.Calls.{Screen, bytes_of, bell_bytes, drawing_bytes}
 use Rattle.line_screen.specs.Chain.{View, Good, Inside, empty_view, Replaces, Redraws, is_simple, with_letter, Types, ClosesLine, cut_line, LeadsView, with_place}
 use Rattle.line_screen.specs.Display.{Placed, Display, read, start, put_down, is_printable, right, ends_before, starts_before, is_cut, stays_in_row, at_cursor, erased_below, erased_right}
@@ -451,4 +451,7 @@ leads s some few bytes over a b ClearToEol g h =
     (kills_good s.mode s.columns some few bytes over a h.line h.killed g h.whole h.info h.simple h.printable h.room h.place_is))
 leads s some few bytes over a b ToLeftmost g h =
     same_over s bytes over a ToLeftmost b g
+    (subst (λ x. Good s.columns (cluster_width s.mode s.columns) x over b) (sym (append-nil bytes)) (subst (Good s.columns (cluster_width s.mode s.columns) bytes over) (sym h) g))
+leads s some few bytes over a b (Help fails) g h =
+    same_over s bytes over a (Help fails) b g
     (subst (λ x. Good s.columns (cluster_width s.mode s.columns) x over b) (sym (append-nil bytes)) (subst (Good s.columns (cluster_width s.mode s.columns) bytes over) (sym h) g))

@@ -9,7 +9,7 @@ use Rattle.line_config.specs.Sending.{Takes, TakesSome}
 use Rattle.line_config.specs.declared.settings.BellStyle.{BellStyle}
 use Rattle.line_config.specs.declared.settings.BellStyle.TheVariants.{Audible}
 use Rattle.line_editor.specs.Calls.{Call, Canvas, Ruler}
-use Rattle.line_editor.specs.Calls.Call.{Draw, Move, Write, Beep, ClearScreen, ClearRows, ClearToEol, ToLeftmost}
+use Rattle.line_editor.specs.Calls.Call.{Draw, Move, Write, Beep, ClearScreen, ClearRows, ClearToEol, ToLeftmost, Help}
 use Rattle.line_screen.specs.Drawing.{drawing, full_drawing, clearing_bytes, move_bytes, erase_to_end, erase_to_row_end, go_home}
 use Rattle.line_screen.specs.Measure.{cluster_width, measure_of}
 use Rattle.line_screen.specs.declared.renderer.ScreenRenderer.{ScreenRenderer}
@@ -47,7 +47,8 @@ abbrev pub bell_bytes : BellStyle → List ℕ
 bell_bytes Audible = 0x07 ∷ []
 bell_bytes style = []
 
--- each drawing ends in its own cells, so no call leaves the cursor elsewhere than it says
+-- each drawing ends in its own cells, so no call leaves the cursor elsewhere than it says; the
+-- helper's draws nothing
 abbrev pub bytes_of : Screen → Call → List ℕ
 bytes_of s (Draw old prompt line info finish cursor) = drawing_bytes s.columns
     (cluster_width s.mode s.columns) old prompt line info finish cursor
@@ -58,6 +59,7 @@ bytes_of s ClearScreen = go_home ++ erase_to_end
 bytes_of s (ClearRows row) = clearing_bytes row
 bytes_of s ClearToEol = erase_to_row_end
 bytes_of s ToLeftmost = []
+bytes_of s (Help fails) = []
 
 -- a failed device's answer is the display's refusal
 abbrev pub display_answer : {A : Type 0} → Result A DeviceFailed → Result A ReadlineError

@@ -4,7 +4,7 @@ use Rattle.std.specs.List.{list_all, filter}
 use Rattle.line_buffer.specs.Cells.{origin}
 use Rattle.line_buffer.specs.declared.layout.Position.{Position}
 use Rattle.line_editor.specs.Calls.{Call}
-use Rattle.line_editor.specs.Calls.Call.{Draw, Move, Write, Beep, ClearScreen, ClearRows, ClearToEol, ToLeftmost}
+use Rattle.line_editor.specs.Calls.Call.{Draw, Move, Write, Beep, ClearScreen, ClearRows, ClearToEol, ToLeftmost, Help}
 use Rattle.line_screen.specs.Display.{Display, Placed, is_printable, read, start}
 use Rattle.line_screen.specs.Drawing.{row_break}
 use Rattle.line_screen.specs.Showing.{Picture, nothing, Stands, cells_of, finish_of, cursor_of, down, down_placed, above, from_top}
@@ -133,3 +133,4 @@ LeadsView columns wide a ClearScreen b = b ≡ empty_view 0
 LeadsView columns wide a (ClearRows row) b = (row ≡ a.place.row) × (b ≡ empty_view a.top)
 LeadsView columns wide a ClearToEol b = ErasesKilled columns wide a b
 LeadsView columns wide a ToLeftmost b = b ≡ a
+LeadsView columns wide a (Help fails) b = b ≡ a

@@ -4,7 +4,7 @@
 //! the end of the input, `saves` and `shows`. Keys are parted by blanks: `C-a` is Ctrl, `M-b` is Esc and then `b`, `Left` is
 //! what a terminal sends, and any other word is itself. Lines are parted by blanks too; `""` is an empty one. A control
 //! character stands as its picture, a blank as `␠`. Where lines aren't added to the history, nothing is to be saved. A line
-//! without ` = ` is a comment, and so is one that begins with `#`. Settings are words, as `vi` or `columns:4`.
+//! without ` = ` is a comment, and so is one that begins with `#`. Settings are words, as `vi`, `columns:4` or `words:al,alp`.
 
 use keyline::EditMode;
 use stand_ins::tables::{meant, meant_bytes};
@@ -16,6 +16,8 @@ pub struct Setting<'a> {
     pub mode: EditMode,
     pub adding: bool,
     pub helped: bool,
+    /// The words that complete, with a comma between two.
+    pub words: &'a str,
     /// Whether Ctrl-O is bound to `YankPop`.
     pub bound: bool,
     pub columns: u16,
@@ -49,6 +51,7 @@ pub fn setting_of(words: &str) -> Setting<'_> {
         },
         adding: has(words, "adding"),
         helped: has(words, "helped"),
+        words: after(words, "words:").unwrap_or(""),
         bound: has(words, "bound"),
         columns: digits.parse().unwrap_or(80),
         prompt: if has(words, "bare") { "" } else { "> " },

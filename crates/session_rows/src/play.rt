@@ -2,7 +2,7 @@
 
 ghost use Rattle.std.specs.Prelude.{◌≡◌, false};
 
-use crate::aide::Aide;
+use crate::aide::aide_of;
 use crate::notation::{Row, Setting, display_meant, field, lines_meant, row_of, setting_of, typed};
 use keyline::{
     Bindings, Cmd, Config, Ended, Ending, Event, EventHandler, KeyEvent, ReadSource, ReadlineError,
@@ -50,12 +50,13 @@ pub fn ended<S: Source + Drop, D: Sink + Drop, L: Sink + Drop, T: Sink + Drop>(
         .auto_add_history(setting.adding)
         .build();
     let loaded = meant_bytes(alloc, setting.loaded)?;
+    let helper = aide_of(alloc, setting)?;
     let session = Session::open(
         alloc,
         config,
         bindings_of(alloc, setting)?,
         SliceSource::new(&loaded),
-        if setting.helped { Some(Aide) } else { None },
+        helper,
         setting.prompt,
         source,
         setting.columns.max(2).min(1000),

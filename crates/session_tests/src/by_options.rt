@@ -8,7 +8,8 @@ use stand_ins::tables::{meant_bytes, pictured_bytes};
 use std::alloc::{AllocError, Global};
 use std::test::Fail;
 
-/// Plays a session by a row's command line, history and keys.
+/// Plays a session by a row's command line, history and keys. The words of `--words` stand there themselves, with a
+/// comma between two.
 #[derive(Drop)]
 struct Optioned;
 
@@ -48,12 +49,24 @@ fn played(
         VecSink::new(alloc),
         VecSink::new(alloc),
     );
-    let end = edit(alloc, options, history, keys, display, lines, text)?;
+    let words = words_of(alloc, &options.words)?;
+    let end = edit(alloc, options, words, history, keys, display, lines, text)?;
     Ok(Kept {
         ending: end.ending,
         lines: end.lines.into_bytes(),
         saved: end.text.into_bytes(),
     })
+}
+
+fn words_of(alloc: Global, listed: &Option<String>) -> Result<Option<Vec<String>>, AllocError> {
+    let Some(listed) = listed else {
+        return Ok(None);
+    };
+    let mut words = Vec::new(alloc);
+    for word in listed.as_str().split(',') {
+        words.push(String::from_str(alloc, word)?)?;
+    }
+    Ok(Some(words))
 }
 
 /// How a session ended, with its lines and the history's text; or why none was opened.
@@ -75,6 +88,10 @@ fn sessions_by_options(rt: HostRuntime) -> Result<(), Fail> {
         keyline : ‹ff› : ab␍ = HistoryText
         keyline --mode vi : #V2␊ : ab␛x␍ = Eof <a␊> <#V2␊a␊>
         keyline : #V2␊ : (␍)␍ = Eof <(␊)␊> <#V2␊(␊)␊>
-        keyline --brackets : #V2␊ : (␍)␍ = Eof <(␊)␊> <#V2␊(\\n)␊>";
+        keyline --brackets : #V2␊ : (␍)␍ = Eof <(␊)␊> <#V2␊(\\n)␊>
+        keyline --words alpha,alpine : #V2␊ : x al␉␍ = Eof <x alp␊> <#V2␊x alp␊>
+        keyline --brackets : #V2␊ : al␉␍ = Eof <al␊> <#V2␊al␊>
+        keyline --words alpha,alpine : #V2␊ : (␍)␍ = Eof <(␊)␊> <#V2␊(␊)␊>
+        keyline --brackets --words alpha,alpine : #V2␊ : (␍)␍ = Eof <(␊)␊> <#V2␊(\\n)␊>";
     rows_hold(rt.alloc(), &mut Optioned, rows)
 }

@@ -26,10 +26,8 @@ fn shown(alloc: Global, parsed: Parsed) -> Result<String, AllocError> {
 }
 
 fn options_shown(alloc: Global, options: &Options) -> Result<String, AllocError> {
-    let history = match &options.history {
-        Some(path) => path.as_str(),
-        None => "no history",
-    };
+    let history = or_none(&options.history, "no history");
+    let words = or_none(&options.words, "no words");
     let brackets = if options.brackets {
         "brackets"
     } else {
@@ -37,15 +35,25 @@ fn options_shown(alloc: Global, options: &Options) -> Result<String, AllocError>
     };
     let prompt = options.prompt.as_str();
     let (mode, columns) = (options.mode, options.columns);
-    format!(in alloc; "{mode:?} {columns} <{prompt}> {history}, {brackets}")
+    format!(in alloc; "{mode:?} {columns} <{prompt}> {history}, {words}, {brackets}")
+}
+
+fn or_none<'a>(path: &'a Option<String>, none: &'a str) -> &'a str {
+    match path {
+        Some(path) => path.as_str(),
+        None => none,
+    }
 }
 
 #[test]
 fn command_lines(rt: HostRuntime) -> Result<(), Fail> {
-    let rows = "keyline = Emacs 80 <> > no history, no brackets
-        keyline --mode vi --columns 1000 = Vi 1000 <> > no history, no brackets
-        keyline --mode=emacs --columns=2 --prompt=$ = Emacs 2 <$> no history, no brackets
-        keyline --prompt ? --history=kept --brackets = Emacs 80 <?> kept, brackets
+    let rows = "keyline = Emacs 80 <> > no history, no words, no brackets
+        keyline --mode vi --columns 1000 = Vi 1000 <> > no history, no words, no brackets
+        keyline --mode=emacs --columns=2 --prompt=$ = Emacs 2 <$> no history, no words, no brackets
+        keyline --prompt ? --history=kept --brackets = Emacs 80 <?> kept, no words, brackets
+        keyline --words listed = Emacs 80 <> > no history, listed, no brackets
+        keyline --brackets --words=a --history b = Emacs 80 <> > b, a, brackets
+        keyline --words= = Emacs 80 <> > no history, , no brackets
         keyline --columns 1 = usage
         keyline --columns 1001 = usage
         keyline --columns 70000 = usage
@@ -58,6 +66,9 @@ fn command_lines(rt: HostRuntime) -> Result<(), Fail> {
         keyline --mode vi --mode vi = usage
         keyline --brackets=on = usage
         keyline --history = usage
+        keyline --words = usage
+        keyline --words a --words b = usage
+        keyline --word a = usage
         keyline --colours = usage
         keyline -x = usage
         keyline word = usage

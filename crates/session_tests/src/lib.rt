@@ -6,6 +6,8 @@ mod by_options;
 #[cfg(test)]
 mod command_lines;
 #[cfg(test)]
+mod completing;
+#[cfg(test)]
 mod endings;
 #[cfg(test)]
 mod faults;

@@ -27,10 +27,10 @@ impl<D: Decides> InputState<'_, D> {
     ghost use Rattle.line_keys.specs.Coming.{made_of};
     ghost use Rattle.line_keys.specs.Custom.{custom_answer, sequence_answer, shown_for, followed};
     ghost use Rattle.line_keys.specs.Meant.{followed_of};
-    ghost use Rattle.line_keys.specs.Answers.{answer_by};
-    ghost use Rattle.line_keys.specs.Follows.{Follows, Decides as Decision};
-    ghost use Rattle.line_keys.specs.Faults.{HadMemory};
-    ghost use Rattle.std.specs.Prelude.{option_map, option_copied};
+    ghost use Rattle.line_keys.specs.Answers.{answer_by, Decides as Decision};
+    ghost use Rattle.line_keys.specs.Custom.{or_any};
+    ghost use Rattle.line_keys.specs.Events.{single};
+    ghost use Rattle.line_keys.specs.Follows.{Follows};
 
     /// The command of the key's own binding, else of that of any key.
     pub(crate) fn custom_binding<W: Refresher>(
@@ -42,42 +42,55 @@ impl<D: Decides> InputState<'_, D> {
         positive: bool,
     ) -> Result<Option<Cmd>, ReadlineError>
         ensures { let s = situation_in self.now D.decides (W.display.shown wrt.now) n positive in
-            Decision s.custom (custom_answer s key) result }
+            Decision (custom_answer s key) result }
     {
-        let event = Event::from_key(alloc, key)?;
-        let handler = match self.custom_bindings.get(&event) {
-            Some(handler) => Some(handler),
-            None => self.custom_bindings.get(&Event::Any),
-        };
-        self.decided(alloc, wrt, handler, &event, n, positive)
+        match self.custom_bindings.entry_of(key) {
+            Some((event, handler)) => self.decided(alloc, wrt, handler, event, n, positive),
+            None => self.any_binding(alloc, wrt, key, n, positive),
+        }
     }
 
-    // What a handler, if there is one, answers of an event.
-    fn decided<W: Refresher>(
+    // The command of the binding of any key, for which the key's event is made.
+    fn any_binding<W: Refresher>(
         &self,
         alloc: Global,
         wrt: &W,
-        handler: Option<&D>,
-        event: &Event,
+        key: KeyEvent,
         n: RepeatCount,
         positive: bool,
     ) -> Result<Option<Cmd>, ReadlineError>
         ensures { let s = situation_in self.now D.decides (W.display.shown wrt.now) n positive in
-            let bound = option_map D.decides (option_copied handler.entry) in
-            HadMemory result → result ≡ answer_by bound (shown_for s event.now) }
+            Decision (answer_by (or_any s.custom None) (shown_for s (single key))) result }
     {
-        match handler {
+        match self.custom_bindings.get(&Event::Any) {
             Some(handler) => {
-                let ctx = EventContext::new(self.mode, self.input_mode, wrt);
-                handler.decide(alloc, event, n, positive, &ctx)
+                let event = Event::from_key(alloc, key)?;
+                self.decided(alloc, wrt, handler, &event, n, positive)
             }
             None => Ok(None),
         }
     }
 
+    // What a handler answers of an event.
+    fn decided<W: Refresher>(
+        &self,
+        alloc: Global,
+        wrt: &W,
+        handler: &D,
+        event: &Event,
+        n: RepeatCount,
+        positive: bool,
+    ) -> Result<Option<Cmd>, ReadlineError>
+        ensures { let s = situation_in self.now D.decides (W.display.shown wrt.now) n positive in
+            Decision (D.decides handler.now (shown_for s event.now)) result }
+    {
+        let ctx = EventContext::new(self.mode, self.input_mode, wrt);
+        handler.decide(alloc, event, n, positive, &ctx)
+    }
+
     /// The command that a sequence of keys is bound to, which begins with this key: while the keys
     /// so far begin a bound sequence, or are it, one more is read.
-    #[tactic(auto, using(crate::proofs::Steps::turns), unfolding(crate::specs::Custom::followed))]
+    #[tactic(auto, using(crate::proofs::Steps::turns))]
     pub(crate) fn custom_seq_binding<R: RawReader, W: Refresher>(
         &self,
         alloc: Global,
@@ -92,6 +105,9 @@ impl<D: Decides> InputState<'_, D> {
             Follows W.display s.custom (followed s key (R.feed rdr.old).coming)
             wrt.now s.input wrt.now s.input (R.feed rdr.old) (R.feed rdr.new) came }
     {
+        if !self.custom_bindings.begins(&[key]) {
+            return Ok(Followed::Unbound(None));
+        }
         let mut keys = Vec::new(alloc);
         keys.push(key)?;
         while self.custom_bindings.begins(keys.as_slice()) {
@@ -115,17 +131,13 @@ impl<D: Decides> InputState<'_, D> {
         positive: bool,
     ) -> Result<Option<Cmd>, ReadlineError>
         ensures { let s = situation_in self.now D.decides (W.display.shown wrt.now) n positive in
-            Decision s.custom (sequence_answer s keys.now) result }
+            Decision (sequence_answer s keys.now) result }
     {
         let event = Event::KeySeq(Keys::try_from_slice(alloc, keys)?);
-        self.decided(
-            alloc,
-            wrt,
-            self.custom_bindings.get(&event),
-            &event,
-            n,
-            positive,
-        )
+        match self.custom_bindings.get(&event) {
+            Some(handler) => self.decided(alloc, wrt, handler, &event, n, positive),
+            None => Ok(None),
+        }
     }
 }
 

@@ -8,7 +8,7 @@ still_stand {s} {t} {a} {b} e k h = subst (λ x. ItemsStand x b) (sym e) (subst 
 pub returns-in_err-replace : goal.returns-in_err-replace
 returns-in_err-replace c =
     let same = ap (λ l. l.text) c.in_err-replace.ensures.kept in
-    elim c.in_err-replace.ensures.refused [ inl e ↦ still_stand e same c.requires | inr e ↦ still_stand e same c.requires ]
+    elim c.in_err-replace.ensures.refused [ inl e ↦ still_stand e same c.requires | inr e ↦ still_stand e.0 same c.requires ]
 
 pub returns : goal.returns
 returns c = (c.in_ok-replace.ensures.told.on _ _ c.requires c.as_str-here.ensures.utf8 c.in_ok-replace.ensures.replays).stand

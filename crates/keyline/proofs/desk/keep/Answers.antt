@@ -14,7 +14,7 @@ pub returns-in_err-remember-clause-closes : goal.returns-in_err-remember-clause-
 returns-in_err-remember-clause-closes g c =
     let p = err_from_is_err_and c.from_residual-in_err-remember.result c.from_residual-in_err-remember.ensures.1 in
     closes_unkept g.D.Sink.told g.D.Sink.held g.D.Sink.has_failed g.L.Sink.told g.L.Sink.held g.L.Sink.has_failed
-    c.args.adds _ _ _ _ _ _ c.from_residual-in_err-remember.result p.0 c.in_ok-write_and_flush.ensures.made.takes p.1 (p.2 ∙ c.in_err-remember.ensures.fault) c.in_err-remember.ensures.kept
+    c.args.adds _ _ _ _ _ _ c.from_residual-in_err-remember.result p.0 c.in_ok-write_and_flush.ensures.made.takes p.1 (p.2 ∙ c.in_err-remember.ensures.fault.0) c.in_err-remember.ensures.fault.1 c.in_err-remember.ensures.kept
 
 pub returns-clause-closes : goal.returns-clause-closes
 returns-clause-closes g c =

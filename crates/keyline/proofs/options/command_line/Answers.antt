@@ -11,4 +11,5 @@ returns c =
     let columns = c.in_ok-arg-2.ensures.shape c.defaulted-2.ensures.local ∙ ap₂ with_rule mode c.defaulted-2.ensures.rule in
     let prompt = c.in_ok-arg-3.ensures.shape c.defaulted-3.ensures.local ∙ ap₂ with_rule columns c.defaulted-3.ensures.rule in
     let history = c.in_ok-arg-4.ensures.shape c.text_option.ensures.local ∙ ap₂ with_rule prompt c.text_option.ensures.rule in
-    IfOk-weaker c.arg-5.result _ _ (λ command adds. adds.shape c.flag.ensures.local ∙ ap₂ with_rule history c.flag.ensures.rule) c.arg-5.ensures
+    let words = c.in_ok-arg-5.ensures.shape c.text_option-2.ensures.local ∙ ap₂ with_rule history c.text_option-2.ensures.rule in
+    IfOk-weaker c.arg-6.result _ _ (λ command adds. adds.shape c.flag.ensures.local ∙ ap₂ with_rule words c.flag.ensures.rule) c.arg-6.ensures

@@ -1,4 +1,5 @@
-use Rattle.std.proofs.Common.{◌∙◌}
+use Rattle.std.proofs.Common.{◌≡◌, ◌∙◌, []}
+use Rattle.std.proofs.lemmas.Result.{MatchResult-at_ok}
 use Rattle.keyline.proofs.EditLemmas.{edited, none_bound}
 use Rattle.keyline.proofs.program.edit.Goals as goal
 
@@ -6,8 +7,8 @@ pub returns-clause-edits : goal.returns-clause-edits
 returns-clause-edits g c =
     let session = c.in_ok-session.session in
     let opened = c.in_ok-session.ensures in
-    edited _ _ _ _ c.args.options.now (g.F.Source.feed c.args.history) c.args.source c.args.display c.args.lines c.args.text session.text c.run.result
+    edited _ _ _ _ c.args.options.now _ (g.F.Source.feed c.args.history) c.args.source c.args.display c.args.lines c.args.text session.text c.run.result
     session.desk c.config_of.result session.config _ _ c.helper_of.result
     opened.desk c.run.ensures.plays c.run.ensures.shows
     c.config_of.ensures opened.config (opened.prompt ∙ c.as_str.ensures.value) c.helper_of.ensures opened.text
-    (none_bound session.bindings _ (opened.bindings ∙ c.in_ok-new.ensures))
+    (none_bound session.bindings _ (opened.bindings ∙ MatchResult-at_ok (λ b. b ≡ []) (λ _. ⊥) c.unwrap.result c.unwrap.ensures c.new.ensures))

@@ -3,8 +3,8 @@ use Rattle.line_edits.specs.Plain.{is_plain}
 use Rattle.line_edits.proofs.PlainLemmas.{typed_plain}
 use Rattle.line_edits.proofs.inserting.insert_char.Goals as goal
 
-pub returns-then-is_printable : goal.returns-then-is_printable
-returns-then-is_printable c =
+pub returns-then-is_printable-clause-writes : goal.returns-then-is_printable-clause-writes
+returns-then-is_printable-clause-writes c =
     let plain : is_plain c.args.line.now.text ≡ true = sym c.requires.plain ∙ c.if-plain.true in
     record {
       writes = c.in_ok-at_end.ensures.writes;

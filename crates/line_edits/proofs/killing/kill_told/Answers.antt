@@ -1,8 +1,8 @@
 use Rattle.std.proofs.Common.{◌≡◌}
-use Rattle.line_record.specs.Ring.{ring_step}
+use Rattle.line_record.specs.Ring.{ring_step, ring_refuses}
 use Rattle.line_record.proofs.JoinedLaws.{joined_held, joined_stand, joined_stand_refused}
-use Rattle.line_record.specs.Items.{RecordedIn}
-use Rattle.line_edits.proofs.RingLemmas.{on_refusal, ring_stopped}
+use Rattle.line_record.specs.Items.{RecordedIn, record_refuses}
+use Rattle.line_edits.proofs.RingLemmas.{on_refusal, ring_stopped, some_killed}
 use Rattle.line_edits.proofs.WrittenLemmas.{refused_writes}
 use Rattle.line_edits.proofs.killing.kill_told.Goals as goal
 
@@ -16,8 +16,12 @@ returns-clause-writes c = record {
 
 pub returns-in_err-kill-clause-writes : goal.returns-in_err-kill-clause-writes
 returns-in_err-kill-clause-writes c =
-    refused_writes _ c.from_residual.result c.from_residual.ensures.1 (joined_stand_refused (λ s e t. t ≡ ring_step e s) (λ s e t. t ≡ s) c.requires c.as_str-text.ensures.utf8 c.in_err-kill.ensures.stopped)
+    refused_writes _ c.from_residual.result c.from_residual.ensures.1 (joined_stand_refused (λ s e t. t ≡ ring_step e s) ring_refuses c.requires c.as_str-text.ensures.utf8 c.in_err-kill.ensures.stopped)
 
 pub returns-in_err-kill-clause-refused_ring : goal.returns-in_err-kill-clause-refused_ring
 returns-in_err-kill-clause-refused_ring c =
-    on_refusal _ c.from_residual.result c.from_residual.ensures.1 (ring_stopped RecordedIn (λ s e t. t ≡ s) _ _ c.in_err-kill.ensures.stopped)
+    on_refusal _ c.from_residual.result c.from_residual.ensures.1 (ring_stopped RecordedIn record_refuses _ _ c.in_err-kill.ensures.stopped)
+
+pub returns-in_err-kill-clause-refused : goal.returns-in_err-kill-clause-refused
+returns-in_err-kill-clause-refused c =
+    on_refusal _ c.from_residual.result c.from_residual.ensures.1 (some_killed RecordedIn record_refuses _ _ c.in_err-kill.ensures.stopped)

@@ -13,7 +13,7 @@ loop-why-init g c = onward_nowhere _ _ _
 pub returns-in-Err : goal.returns-in-Err
 returns-in-Err g c =
     let k = known_by g.S.Source.feed g.D.Sink.told g.D.Sink.held g.D.Sink.has_failed g.L.Sink.told g.L.Sink.held g.L.Sink.has_failed in
-    let helps = helping_by g.H.Hinter.hint_of g.H.Hinter.fails g.H.Validator.verdict_of g.H.Validator.validating_fails g.H.Highlighter.marks in
+    let helps = helping_by g.H.Hinter.hint_of g.H.Validator.verdict_of g.H.Completer.completion_of g.H.Completer.update_of g.H.Highlighter.marks in
     let custom = custom_of c.args.bindings.now g.B.Decides.decides in
     onward_err k
     (given_by c.args.config.now custom c.args.prompt.now (screen_of c.args.self.out) (helps c.args.self.helper))
@@ -24,7 +24,7 @@ returns-in-Err g c =
 pub loop-why-preserved : goal.loop-why-preserved
 loop-why-preserved g c =
     let k = known_by g.S.Source.feed g.D.Sink.told g.D.Sink.held g.D.Sink.has_failed g.L.Sink.told g.L.Sink.held g.L.Sink.has_failed in
-    let helps = helping_by g.H.Hinter.hint_of g.H.Hinter.fails g.H.Validator.verdict_of g.H.Validator.validating_fails g.H.Highlighter.marks in
+    let helps = helping_by g.H.Hinter.hint_of g.H.Validator.verdict_of g.H.Completer.completion_of g.H.Completer.update_of g.H.Highlighter.marks in
     let custom = custom_of c.args.bindings.now g.B.Decides.decides in
     onward_ok k
     (given_by c.args.config.now custom c.args.prompt.now (screen_of c.args.self.out) (helps c.args.self.helper))

@@ -1,6 +1,6 @@
 use Rattle.std.proofs.Common.{[], refl, rules}
 use Rattle.line_buffer.specs.Indent.{indent_events}
-use Rattle.line_buffer.specs.Replay.{StopsAmong}
+use Rattle.line_buffer.specs.Replay.{StopsAmong, wants_or}
 use Rattle.line_buffer.specs.Replayed.{LeftAmong}
 use Rattle.line_buffer.proofs.LeftLemmas.{left_as_it_was}
 use Rattle.line_buffer.proofs.ReplayLemmas.{on_refusal, stops_for_memory_on}
@@ -14,7 +14,7 @@ returns-in_err-margin-clause-stopped g c =
 
 pub returns-in_err-change_rows-clause-stopped : goal.returns-in_err-change_rows-clause-stopped
 returns-in_err-change_rows-clause-stopped g c =
-    let stopped : StopsAmong g.C.DeleteListener.takes g.C.DeleteListener.refuses [] (indent_events c.args.movement.now c.args.amount c.args.dedent c.args.self.now)
+    let stopped : StopsAmong g.C.DeleteListener.takes (wants_or g.C.DeleteListener.refuses) [] (indent_events c.args.movement.now c.args.amount c.args.dedent c.args.self.now)
     c.args.cl.now c.change_rows.new.cl c.args.self.now.text c.change_rows.new.self.text = search rules in
     on_refusal _ stopped
 

@@ -1,5 +1,5 @@
 use Rattle.std.proofs.Common.{[], rules}
-use Rattle.line_buffer.specs.Replay.{StopsAmong}
+use Rattle.line_buffer.specs.Replay.{StopsAmong, wants_or}
 use Rattle.line_buffer.specs.Replayed.{LeftAmong}
 use Rattle.line_buffer.specs.Transpositions.{after_words, first_word, transpose_words_events}
 use Rattle.line_buffer.proofs.ReplayLemmas.{on_refusal}
@@ -7,7 +7,7 @@ use Rattle.line_buffer.proofs.line_buffer.LineBuffer.transpose_words.Goals as go
 
 pub returns-in_err-swap-clause-stopped : goal.returns-in_err-swap-clause-stopped
 returns-in_err-swap-clause-stopped g c =
-    let stopped : StopsAmong g.C.DeleteListener.takes g.C.DeleteListener.refuses [] (transpose_words_events c.args.n c.args.self.now)
+    let stopped : StopsAmong g.C.DeleteListener.takes (wants_or g.C.DeleteListener.refuses) [] (transpose_words_events c.args.n c.args.self.now)
     c.args.cl.now c.swap.new.cl c.args.self.now.text c.swap.new.self.text = search rules in
     on_refusal _ stopped
 

@@ -7,5 +7,5 @@ returns-else-undone g c =
     let writes = c.in_ok-undone.ensures.writes in
     record {
       does = unmade_does c.args.n _ _ _ (sym writes.answers ∙ c.if-undone.false) writes.line writes.held refl refl refl
-          (record { ruler = refl; prompt = refl; history_is = refl; hints_are = refl; hinting_is = refl; verdicts_are = refl; validating_is = refl; marks_are = refl });
+          (record { ruler = refl; prompt = refl; history_is = refl; hooks_are = refl; marks_are = refl });
     }

@@ -8,7 +8,6 @@ pub returns-in_ok-shown-in-Some : goal.returns-in_ok-shown-in-Some
 returns-in_ok-shown-in-Some c =
     let found = ap (with_bold_byte c.args.line.now) c.in-Some.ensures.found in
     record {
-      is = ap (λ text. Some text) (sym (c.in_ok-shown-in-Some.ensures ∙ found));
+      reply = record { answer = ap (λ text. Some text) (sym (c.in_ok-shown-in-Some.ensures ∙ found)); fault = tt };
       styled = bold_shown c.args.line.now _ c.in-Some.matching c.in-Some.place c.in-Some.ensures.stands c.in_ok-shown-in-Some.ensures;
-      fault = tt;
     }

@@ -1,6 +1,6 @@
 use Rattle.std.specs.Result.{is_ok}
 use Rattle.std.proofs.Common.{◌≡◌, ◌∙◌, sym, ap, length, rules}
-use Rattle.line_help.proofs.LoadLemmas.{empty_is_utf8, read_utf8, unread_utf8}
+use Rattle.line_help.proofs.LoadLemmas.{empty_is_utf8, read_utf8, unread_utf8, good_fault, bad_fault}
 use Rattle.line_help.proofs.file_history.FileHistory.add_row.Goals as goal
 
 pub returns-then-is_empty-clause-text : goal.returns-then-is_empty-clause-text
@@ -12,8 +12,19 @@ pub returns-clause-text : goal.returns-clause-text
 returns-clause-text c =
     read_utf8 _ _ c.args.row.now c.from_utf8.result c.from_utf8.ensures.cases (sym c.map_err.ensures.variant ∙ ap is_ok c.in_ok-text.was) (λ text p. p.1)
 
-pub returns-in_err-text-clause-bad : goal.returns-in_err-text-clause-bad
-returns-in_err-text-clause-bad c h =
-    unread_utf8 _ _ c.args.row.now c.from_utf8.result c.from_utf8.ensures.cases
+pub returns-in_err-text-clause-fault : goal.returns-in_err-text-clause-fault
+returns-in_err-text-clause-fault c =
+    let bad = unread_utf8 _ _ c.args.row.now c.from_utf8.result c.from_utf8.ensures.cases
     (sym c.map_err.ensures.variant ∙ ap is_ok c.in_err-text.was)
-    (λ fault p. p.0)
+    (λ fault p. p.0) in
+    bad_fault c.args.row.now c.from_residual.result bad (search rules)
+
+pub returns-in_err-entry-clause-fault : goal.returns-in_err-entry-clause-fault
+returns-in_err-entry-clause-fault c =
+    let utf8 = read_utf8 _ _ c.args.row.now c.from_utf8.result c.from_utf8.ensures.cases (sym c.map_err.ensures.variant ∙ ap is_ok c.in_ok-text.was) (λ text p. p.1) in
+    good_fault c.args.row.now c.from_residual-in_err-entry.result utf8 (search rules)
+
+pub returns-in_err-added-clause-fault : goal.returns-in_err-added-clause-fault
+returns-in_err-added-clause-fault c =
+    let utf8 = read_utf8 _ _ c.args.row.now c.from_utf8.result c.from_utf8.ensures.cases (sym c.map_err.ensures.variant ∙ ap is_ok c.in_ok-text.was) (λ text p. p.1) in
+    good_fault c.args.row.now c.from_residual-in_err-added.result utf8 (search rules)

@@ -1,6 +1,7 @@
-use Rattle.std.proofs.Common.{◌∙◌, sym, rules, true, false}
+use Rattle.std.proofs.Common.{◌∙◌, Ok, sym, ap, rules, true, false}
 use Rattle.line_help.specs.HistoryText.{text_rows}
-use Rattle.line_help.proofs.LoadLemmas.{answer_more, left_more, reached_more}
+use Rattle.line_help.proofs.LoadLemmas.{answer_more, left_more, memory_row, reached_more}
+use Rattle.line_help.proofs.RowLemmas.{none_read}
 use Rattle.line_help.proofs.file_history.FileHistory.load_rows.Goals as goal
 
 pub loop-self-preserved-then-whole : goal.loop-self-preserved-then-whole
@@ -25,6 +26,8 @@ loop-self-preserved-then-whole g c =
           let r = rw (c.if-branch.true, c.loop-self.invariant.last, ← c.deref.ensures.value) at c.in_ok-read_row.ensures.row (c.loop-self.invariant.told told) in
           rw (added, c.in_ok-added.ensures.answer)
           (sym (answer_more last true c.loop-self.self c.args.escapes row rows text) ∙ (rw (r, c.if-whole.true) at c.loop-self.invariant.answer told));
+      good = λ told later r.
+          c.loop-self.invariant.good told later (c.in_ok-read_row.ensures.good (c.loop-self.invariant.told told) (ap (λ b. Ok b) c.if-branch.true) (rw c.deref.ensures.value at text) later r);
     }
 
 pub loop-self-preserved : goal.loop-self-preserved
@@ -48,4 +51,16 @@ loop-self-preserved g c =
       answer = λ told.
           let r = rw (c.if-branch.true, c.loop-self.invariant.last, ← c.deref.ensures.value) at c.in_ok-read_row.ensures.row (c.loop-self.invariant.told told) in
           rw c.if-whole.false (sym (answer_more last false c.loop-self.self c.args.escapes row rows text) ∙ (rw (r, c.if-whole.false) at c.loop-self.invariant.answer told));
+      good = λ told later r.
+          c.loop-self.invariant.good told later (c.in_ok-read_row.ensures.good (c.loop-self.invariant.told told) (ap (λ b. Ok b) c.if-branch.true) (rw c.deref.ensures.value at text) later r);
     }
+
+pub returns-in_err-read_row-clause-memory : goal.returns-in_err-read_row-clause-memory
+returns-in_err-read_row-clause-memory g c told h =
+    c.loop-self.invariant.good told (g.S.Source.feed c.read_row.new.source).coming (c.in_err-read_row.ensures.memory (c.loop-self.invariant.told told) (search rules))
+
+pub returns-in_err-added-clause-memory : goal.returns-in_err-added-clause-memory
+returns-in_err-added-clause-memory g c told h =
+    let utf8 = memory_row c.deref.result.now (search rules) in
+    let coming = (g.S.Source.feed c.read_row.new.source).coming in
+    c.loop-self.invariant.good told coming (c.in_ok-read_row.ensures.good (c.loop-self.invariant.told told) (ap (λ b. Ok b) c.if-branch.true) (rw c.deref.ensures.value at utf8) coming (none_read coming))

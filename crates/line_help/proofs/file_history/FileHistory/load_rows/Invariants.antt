@@ -1,7 +1,7 @@
 use Rattle.std.proofs.Common.{◌≡◌, ◌≤◌, IsTrue}
 use Rattle.std.specs.Prelude.{◌&&◌}
 use Rattle.line_help.specs.History.{filed_with_all, takes_all}
-use Rattle.line_help.specs.HistoryText.{entries_of, good_rows, rows_answer, text_rows}
+use Rattle.line_help.specs.HistoryText.{GoodUpTo, entries_of, good_rows, rows_answer, text_rows}
 use Rattle.line_help.proofs.LoadLemmas.{Reached}
 use Rattle.line_help.proofs.file_history.FileHistory.load_rows.Given as goal
 
@@ -11,6 +11,7 @@ invariant-loop-self g l = record {
   steady : (g.S.Source.feed l.source).steady ≡ (g.S.Source.feed l.fn.source).steady;
   last : (g.S.Source.feed l.source).last ≡ (g.S.Source.feed l.fn.source).last;
   bound : (g.S.Source.feed l.source).bound ≤ (g.S.Source.feed l.fn.source).bound;
+  good : IsTrue (g.S.Source.feed l.fn.source).told → GoodUpTo (g.S.Source.feed l.fn.source).coming (g.S.Source.feed l.source).coming;
   part : IsTrue (g.S.Source.feed l.fn.source).told
       → Reached (entries_of l.escapes (good_rows (text_rows (g.S.Source.feed l.fn.source).last (g.S.Source.feed l.fn.source).coming)))
       (entries_of l.escapes (good_rows (text_rows (g.S.Source.feed l.fn.source).last (g.S.Source.feed l.source).coming))) l.fn.self l.self;

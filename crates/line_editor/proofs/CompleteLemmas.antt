@@ -1,0 +1,153 @@
+-- What is put in place of a word, and what a state makes of completing one.
+use Rattle.std.specs.Prelude.{⊤, Option, Some, None, is_some, option_map, Result, Ok, Err, IsErrAnd, IsFalse, IsTrue, IsUtf8}
+use Rattle.std.proofs.Common.{◌≡◌, ◌⊎◌, inl, inr, ℕ, Bool, true, false, true≢false, List, [], ◌∷◌, map, refl, sym, ap, subst, ◌∙◌}
+use Rattle.std.proofs.lemmas.Simd.{map-map}
+use Rattle.line_buffer.specs.Line.{Line}
+use Rattle.line_buffer.specs.Replay.{replacement}
+use Rattle.line_config.specs.declared.errors.ReadlineError.{ReadlineError}
+use Rattle.line_config.specs.declared.errors.ReadlineError.TheVariants.{Helper, Memory}
+use Rattle.line_config.specs.declared.errors.HookFault.{HookFault}
+use Rattle.line_config.specs.declared.errors.HookFault.TheVariants.{Failed as HookFailed, Memory as HookMemory}
+use Rattle.line_edits.specs.Written.{Writes}
+use Rattle.line_edits.proofs.WrittenLemmas.{recorded_one}
+use Rattle.line_help.specs.Completion.{Offered, Completion, Updates}
+use Rattle.line_help.specs.declared.completion as completions
+use Rattle.line_help.specs.declared.hint as hints
+use Rattle.line_help.specs.declared.highlight as highlights
+use Rattle.line_help.specs.declared.validate as verdicts
+use Rattle.line_help.specs.declared.history as histories
+use Rattle.line_keys.specs.Replies.{Reply, fails}
+use Rattle.line_record.specs.Items.{Items, ItemsStand, RecordedIn, record_refuses, held_on}
+use Rattle.line_editor.specs.Completing.{elected, word_put, word_updated, completed_with, completed, candidates_given, candidates_asked, complete_if, complete}
+use Rattle.line_editor.specs.States.{hooks_of, value_of, setting_of, fails_by, IsHelpFault, reason_of, Stays, Does}
+use Rattle.line_editor.specs.Values.{Value, Setting, Hooks, then_do, completion_reply, update_reply, IsFailing}
+use Rattle.line_editor.specs.declared.renderer as renderers
+use Rattle.line_editor.specs.declared.state.State.{State}
+use Rattle.line_editor.proofs.BegunLemmas.{begun_none, help_made, help_layout, help_refused}
+use Rattle.line_editor.proofs.DoesLemmas.{is_err, does_as, does_both, does_cut_by, setting_stays, stays_same}
+use Rattle.line_editor.proofs.HelpedLemmas.{completion_reason, update_reason}
+
+-- the texts that candidates put in
+pub replacements : {A : Type 0} (offers : A → Offered) (candidates : List A) → map (λ (o : Offered). o.replacement) (map offers candidates) ≡ map (λ c. (offers c).replacement) candidates
+replacements offers candidates = map-map (λ (o : Offered). o.replacement) offers candidates
+
+stays_by : {R : Type 0} (old new : Items) → (new ≡ old) ⊎ ((new ≡ old) × R) → new ≡ old
+stays_by old new (inl same) = same
+stays_by old new (inr refused) = refused.0
+
+pub put_writes : {E : Type 0} (start : ℕ) (text : List ℕ) (before after : Line) (old new : Items) (result : Result ⊤ E) → IsUtf8 before.text → ItemsStand old before.text
+    → Updates RecordedIn record_refuses start text old new before after result → Writes (word_put start text) (tt {0}) before after old new result
+put_writes start text before after old new (Ok a) utf8 stand u =
+    let told = u.told.on _ _ stand utf8 u.replays in
+    record {
+      answers = refl;
+      line = u.becomes;
+      held = told.held ∙ recorded_one (replacement start before.place text before.text) before.text (held_on old before.text);
+      stand = told.stand;
+    }
+put_writes start text before after old new (Err e) utf8 stand u = record {
+  answers = tt;
+  line = tt;
+  held = tt;
+  stand = subst (λ (l : Line). ItemsStand new l.text) (sym u.stays) (subst (λ (x : Items). ItemsStand x before.text) (sym (stays_by old new u.refused)) stand);
+}
+
+-- ---- with a helper
+
+some_mapped : {A B C : Type 0} (f : B → C) (g : A → B) (o : Option A) → is_some (option_map f (option_map g o)) ≡ is_some o
+some_mapped f g None = refl
+some_mapped f g (Some x) = refl
+
+completed_by_reply : (reply : Option (Reply Completion)) (s : Setting) (v : Value) → is_some reply ≡ true → then_do candidates_asked (completed (candidates_given reply)) s v ≡ complete_if reply s v
+completed_by_reply None s v some = absurd (true≢false (sym some))
+completed_by_reply (Some reply) s v some = refl
+
+completed_is : (found given : Completion) (o : Option (List ℕ)) (s : Setting) (v : Value) → found ≡ given → elected found v.line ≡ o → completed_with found.start o s v ≡ completed given s v
+completed_is found given o s v same is = ap (λ x. completed_with found.start x s v) (sym is) ∙ ap (λ f. completed f s v) same
+
+module _ {Out H Hi K T : Type 0} {renderer : renderers.Renderer.Ghosts Out} {completer : completions.Completer.Ghosts H K} {candidate : completions.Candidate.Ghosts K}
+    {hinter : hints.Hinter.Ghosts H T} {hint : hints.Hint.Ghosts T} {highlighter : highlights.Highlighter.Ghosts H} {validator : verdicts.Validator.Ghosts H} {history : histories.History.Ghosts Hi} where
+  -- ---- the update
+
+  pub update_fails : (s : State Out H Hi K T renderer completer candidate hinter hint highlighter validator history) (h : H) (start : ℕ) (text : List ℕ) → s.helper ≡ Some h
+      → IsTrue (fails (completer.update_of h s.line start text)) → IsHelpFault (update_reply start text (setting_of s) (value_of s)) Helper
+  update_fails s h start text is why =
+      subst (λ (o : Option H). IsHelpFault (option_map (λ (k : Hooks). k.updates s.line start text) (option_map (hooks_of completer hinter validator) o)) Helper) (sym is) why
+
+  pub updating_refused : {A : Type 0} (start : ℕ) (text : List ℕ) (s t : State Out H Hi K T renderer completer candidate hinter hint highlighter validator history)
+      → IsHelpFault (update_reply start text (setting_of s) (value_of s)) Helper → t.out ≡ s.out → Stays s t → Does {A = A} (word_updated start text) s t (Err Helper)
+  updating_refused start text s t why out stays = record {
+    value = tt;
+    calls = tt;
+    layout = tt;
+    stays = stays;
+    reason = subst (λ (a : Setting). reason_of (renderer.canvas.failed t.out) (IsFailing a.hooks) Helper) (sym (setting_stays s t stays))
+        (update_reason (setting_of s).hooks s.line start text (renderer.canvas.failed t.out) Helper why);
+    begun = help_refused renderer.canvas (renderer.canvas.ruler s.out) s.layout (update_reply start text (setting_of s) (value_of s)) Helper s.out t.out why out;
+  }
+
+  -- a fault of the update that isn't want of memory
+  pub updating_failed : {A : Type 0} (start : ℕ) (text : List ℕ) (s t : State Out H Hi K T renderer completer candidate hinter hint highlighter validator history) (h : H) (fault : HookFault) → s.helper ≡ Some h
+      → fault ≡ HookFailed → (fault ≡ HookMemory) ⊎ ((fault ≡ HookFailed) × IsTrue (fails (completer.update_of h s.line start text))) → t.out ≡ s.out → Stays s t
+      → Does {A = A} (word_updated start text) s t (Err Helper)
+  updating_failed start text s t h fault is failed (inl memory) out stays = let never : HookFailed ≡ HookMemory = sym failed ∙ memory in absurd (cc)
+  updating_failed start text s t h fault is failed (inr why) out stays = updating_refused start text s t (update_fails s h start text is why.1) out stays
+
+  pub updating_wants : {A : Type 0} (start : ℕ) (text : List ℕ) (s t : State Out H Hi K T renderer completer candidate hinter hint highlighter validator history)
+      → t.out ≡ s.out → Stays s t → Does {A = A} (word_updated start text) s t (Err Memory)
+  updating_wants start text s t out stays = record {
+    value = tt;
+    calls = tt;
+    layout = tt;
+    stays = stays;
+    reason = tt;
+    begun = begun_none renderer.canvas Memory _ s.out t.out refl out;
+  }
+
+  -- ---- the candidates
+
+  asked_made : {A : Type 0} (s : State Out H Hi K T renderer completer candidate hinter hint highlighter validator history) (x : A)
+      → IsFalse (fails_by (completion_reply (setting_of s) (value_of s))) → Does candidates_asked s s (Ok x)
+  asked_made s x works =
+      let reply = completion_reply (setting_of s) (value_of s) in
+      record {
+        value = refl;
+        calls = help_made renderer.canvas (renderer.canvas.ruler s.out) s.layout reply s.out s.out works refl;
+        layout = sym (help_layout (renderer.canvas.ruler s.out) s.layout reply);
+        stays = stays_same s;
+        reason = tt;
+        begun = tt;
+      }
+
+  asked_refused : (s : State Out H Hi K T renderer completer candidate hinter hint highlighter validator history) (e : ReadlineError)
+      → IsHelpFault (completion_reply (setting_of s) (value_of s)) e → Does {A = ⊤} candidates_asked s s (Err e)
+  asked_refused s e why = record {
+    value = tt;
+    calls = tt;
+    layout = tt;
+    stays = stays_same s;
+    reason = completion_reason (setting_of s).hooks s.line (setting_of s).entries (value_of s).history (renderer.canvas.failed s.out) e why;
+    begun = help_refused renderer.canvas (renderer.canvas.ruler s.out) s.layout (completion_reply (setting_of s) (value_of s)) e s.out s.out why refl;
+  }
+
+  complete_is : (s : State Out H Hi K T renderer completer candidate hinter hint highlighter validator history) → is_some s.helper ≡ true
+      → then_do candidates_asked (completed (candidates_given (completion_reply (setting_of s) (value_of s)))) (setting_of s) (value_of s) ≡ complete (setting_of s) (value_of s)
+  complete_is s some = completed_by_reply (completion_reply (setting_of s) (value_of s)) (setting_of s) (value_of s)
+      (some_mapped (λ (h : Hooks). h.completes s.line.text s.line.place (setting_of s).entries (value_of s).history) (hooks_of completer hinter validator) s.helper ∙ some)
+
+  pub complete_refused : {A : Type 0} (s : State Out H Hi K T renderer completer candidate hinter hint highlighter validator history) (e : ReadlineError) (result : Result A ReadlineError) → is_some s.helper ≡ true
+      → IsErrAnd result (λ x. x ≡ e) → IsHelpFault (completion_reply (setting_of s) (value_of s)) e → Does complete s s result
+  complete_refused s e result some is why =
+      let done = completed (candidates_given (completion_reply (setting_of s) (value_of s))) in
+      does_as (then_do candidates_asked done) complete s s result (complete_is s some) (does_cut_by candidates_asked done s s e result is (asked_refused s e why))
+
+  pub complete_made : {A : Type 0} (start : ℕ) (items : List K) (o : Option (List ℕ)) (s t : State Out H Hi K T renderer completer candidate hinter hint highlighter validator history) (result : Result A ReadlineError)
+      → is_some s.helper ≡ true → (let found : Completion = record { start = start; candidates = map candidate.offers items } in
+      found ≡ candidates_given (completion_reply (setting_of s) (value_of s)) → elected found s.line ≡ o → IsFalse (fails_by (completion_reply (setting_of s) (value_of s)))
+      → Does (completed_with start o) s t result → Does complete s t result)
+  complete_made {A} start items o s t result some same is works does =
+      let found : Completion = record { start = start; candidates = map candidate.offers items } in
+      let given : Completion = candidates_given (completion_reply (setting_of s) (value_of s)) in
+      does_as (then_do candidates_asked (completed given)) complete s t result (complete_is s some)
+      (does_both {A = ⊤} candidates_asked (completed given) s s t (tt {0}) result (asked_made s (tt {0}) works)
+      (does_as (completed_with start o) (completed given) s t result (completed_is found given o (setting_of s) (value_of s) same is) does))

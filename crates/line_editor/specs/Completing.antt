@@ -1,0 +1,79 @@
+-- Completion: the word before the cursor exchanged for what its candidates begin with.
+use Rattle.std.specs.Prelude.{ℕ, Bool, ◌-◌, ◌==◌, ◌&&◌, ◌||◌, not, nat_le, nat_lt, if◌then◌else◌, List, [], ◌∷◌, map, length, Option, Some, None}
+use Rattle.std.specs.Option.{option_map_or}
+use Rattle.line_buffer.specs.Insertions.{is_inside_char}
+use Rattle.line_buffer.specs.Line.{Line, replaced}
+use Rattle.line_buffer.specs.Replay.{replacement}
+use Rattle.line_edits.specs.Written.{Written, edited, in_group}
+use Rattle.line_help.specs.CommonPrefix.{longest_common_prefix}
+use Rattle.line_help.specs.Completion.{Completion, nothing_offered}
+use Rattle.line_keys.specs.Replies.{Reply}
+use Rattle.line_editor.specs.Drawing.{beeped, refreshed}
+use Rattle.line_editor.specs.Values.{Value, Setting, Transition, unchanged, then_do, rewritten, helped, completion_reply, update_reply}
+
+-- ---- what is put in place of the word
+
+-- a start that is no boundary at or before the cursor begins no word
+abbrev pub begins_word : ℕ → Line → Bool
+begins_word start l = nat_le start l.place && not (is_inside_char l.text start)
+
+-- what so many candidates all begin with, where it is longer than the word, or there is only one
+abbrev pub elected_by : ℕ → ℕ → Option (List ℕ) → Option (List ℕ)
+elected_by len count None = None
+elected_by len count (Some text) =
+    if count == 1 || nat_lt len (length text) then Some text else None
+
+abbrev pub elected_among : ℕ → List (List ℕ) → Option (List ℕ)
+elected_among len texts = elected_by len (length texts) (longest_common_prefix texts)
+
+abbrev pub elected : Completion → Line → Option (List ℕ)
+elected found l =
+    if begins_word found.start l
+    then elected_among (l.place - found.start) (map (λ o. o.replacement) found.candidates)
+    else None
+
+-- ---- the command
+
+-- the text from a start to the cursor exchanged
+abbrev pub word_put : ℕ → List ℕ → Written → Written
+word_put start text w =
+    edited (replacement start w.line.place text w.line.text ∷ [])
+    (replaced start w.line.place text w.line) w
+
+abbrev pub word_replaced : ℕ → List ℕ → Written → Written
+word_replaced start text = in_group (word_put start text)
+
+-- by the helper, undone as one
+abbrev pub word_updated : ℕ → List ℕ → Transition
+word_updated start text s v = record {
+  value = rewritten (word_replaced start text) v;
+  redraws = helped (update_reply start text s v);
+}
+
+abbrev pub word_completed : ℕ → List ℕ → Transition
+word_completed start text = then_do (word_updated start text) refreshed
+
+-- what adds nothing beeps
+abbrev pub completed_with : ℕ → Option (List ℕ) → Transition
+completed_with start None = beeped
+completed_with start (Some text) = word_completed start text
+
+abbrev pub completed : Completion → Transition
+completed found s v = completed_with found.start (elected found v.line) s v
+
+-- the helper's candidates, none where it fails
+abbrev pub candidates_given : Option (Reply Completion) → Completion
+candidates_given None = nothing_offered
+candidates_given (Some reply) = option_map_or (λ found. found) reply.answer nothing_offered
+
+-- the helper is asked for them
+abbrev pub candidates_asked : Transition
+candidates_asked s v = record { value = v; redraws = helped (completion_reply s v) }
+
+-- without a helper nothing is done
+abbrev pub complete_if : Option (Reply Completion) → Transition
+complete_if None = unchanged
+complete_if (Some reply) = then_do candidates_asked (completed (candidates_given (Some reply)))
+
+abbrev pub complete : Transition
+complete s v = complete_if (completion_reply s v) s v

@@ -1,0 +1,180 @@
+//! Completion of the word before the cursor.
+ghost use Rattle.std.specs.Prelude.{◌≡◌, ◌≤◌, ◌⊎◌, false, true, is_some, map, IfErr, IfOk, IfSome, OnOk, IsCharBoundary, IsTrue, option_copied};
+ghost use Rattle.line_config.specs.declared.errors.HookFault.TheVariants.{Failed, Memory};
+ghost use Rattle.line_edits.specs.Written.{Writes};
+ghost use Rattle.line_help.specs.Completion.{completion_by};
+ghost use Rattle.line_keys.specs.Replies.{Replies, fails, itself};
+ghost use Rattle.line_record.specs.Items.{ItemsStand};
+ghost use Rattle.line_editor.specs.Completing.{elected, elected_among, begins_word, word_put, word_replaced};
+
+use crate::renderer::Renderer;
+use crate::state::State;
+use line_buffer::LineBuffer;
+use line_config::{HookFault, ReadlineError};
+use line_edits::is_plain;
+use line_help::{Candidate, Completer, Helper, History, longest_common_prefix};
+use line_record::Changeset;
+use std::alloc::Global;
+
+/// What is put in place of a word of so many bytes: what all candidates begin with, where it is
+/// longer than the word, or there is one candidate.
+fn elected_among<C: Candidate>(candidates: &[C], len: usize) -> Option<&str>
+    ensures { option_copied result ≡ elected_among len
+        (map (λ c. (C.offers c).replacement) candidates.now) }
+{
+    let text = longest_common_prefix(candidates)?;
+    if candidates.len() == 1 || len < text.len() {
+        Some(text)
+    } else {
+        None
+    }
+}
+
+/// Whether a word may begin at a place: it is a boundary at or before the cursor.
+fn begins_word(line: &LineBuffer, start: usize) -> bool
+    ensures value { result ≡ begins_word start line.now }
+    ensures order { IsTrue result → start ≤ line.now.place }
+    ensures boundary { IsTrue result → IsCharBoundary line.now.text start }
+{
+    start <= line.pos() && line.as_str().is_char_boundary(start)
+}
+
+/// What is put in place of the word that begins at a place, if anything.
+fn elected<'c, C: Candidate>(
+    line: &LineBuffer,
+    start: usize,
+    candidates: &'c [C],
+) -> Option<&'c str>
+    ensures value { option_copied result ≡ elected
+        (record { start = start; candidates = map C.offers candidates.now }) line.now }
+    ensures order { IfSome result (λ _. start ≤ line.now.place) }
+    ensures boundary { IfSome result (λ _. IsCharBoundary line.now.text start) }
+{
+    if begins_word(line, start) {
+        elected_among(candidates, line.pos() - start)
+    } else {
+        None
+    }
+}
+
+/// The completer puts a text in place of the line from a start to the cursor.
+fn put<C: Completer>(
+    alloc: Global,
+    completer: &C,
+    line: &mut LineBuffer,
+    changes: &mut Changeset,
+    start: usize,
+    text: &str,
+) -> Result<(), HookFault>
+    requires order { start ≤ line.old.place }
+    requires boundary { IsCharBoundary line.old.text start }
+    requires stand { ItemsStand changes.old line.old.text }
+    ensures writes { Writes (word_put start text.now) tt
+        line.old line.new changes.old changes.new result }
+    ensures reply { Replies (C.update_of completer.now line.old start text.now) itself result }
+{
+    let _text = line.as_str();
+    completer.update(alloc, line, start, text, changes)
+}
+
+/// The same in one group, which stays open where the completer refuses.
+fn put_in_group<C: Completer>(
+    alloc: Global,
+    completer: &C,
+    line: &mut LineBuffer,
+    changes: &mut Changeset,
+    start: usize,
+    text: &str,
+) -> Result<(), HookFault>
+    requires order { start ≤ line.old.place }
+    requires boundary { IsCharBoundary line.old.text start }
+    requires stand { ItemsStand changes.old line.old.text }
+    ensures writes { Writes (word_replaced start text.now) tt
+        line.old line.new changes.old changes.new result }
+    ensures works { OnOk result
+        (fails (C.update_of completer.now line.old start text.now) ≡ false) }
+    ensures fault { IfErr result (λ e. (e ≡ Memory)
+        ⊎ ((e ≡ Failed) × IsTrue (fails (C.update_of completer.now line.old start text.now)))) }
+{
+    changes.begin(alloc)?;
+    put(alloc, completer, line, changes, start, text)?;
+    changes.end(alloc)?;
+    Ok(())
+}
+
+impl<'p, 'h, Out: Renderer, H: Helper + Drop, Hi: History> State<'p, 'h, Out, H, Hi> {
+    ghost use Rattle.line_editor.specs.States.{value_of, setting_of, Does, Helps};
+    ghost use Rattle.line_editor.specs.Values.{completion_reply};
+    ghost use Rattle.line_editor.specs.Completing.{candidates_given, complete, word_updated, word_completed};
+
+    /// The helper's candidates for the word before the cursor, and where it starts.
+    fn candidates(&self) -> Result<(usize, Vec<H::Candidate>), ReadlineError>
+        requires { is_some self.now.helper ≡ true }
+        ensures found { IfOk result (λ found. completion_by H.Candidate.offers found
+            ≡ candidates_given (completion_reply (setting_of self.now) (value_of self.now))) }
+        ensures helps { Helps (completion_reply (setting_of self.now) (value_of self.now))
+            result }
+    {
+        let Some(helper) = &self.helper else {
+            return Ok((0, Vec::new(self.alloc)));
+        };
+        match helper.complete(self.alloc, self.line.as_str(), self.line.pos(), &self.ctx) {
+            Ok(found) => Ok(found),
+            Err(HookFault::Failed) => Err(ReadlineError::Helper),
+            Err(HookFault::Memory) => Err(ReadlineError::Memory),
+        }
+    }
+
+    /// The helper puts a text in place of the line from a start to the cursor.
+    fn update_word(&mut self, start: usize, text: &str) -> Result<(), ReadlineError>
+        requires some { is_some self.old.helper ≡ true }
+        requires order { start ≤ self.old.line.place }
+        requires boundary { IsCharBoundary self.old.line.text start }
+        ensures does { Does (word_updated start text.now) self.old self.new result }
+    {
+        let Some(helper) = &self.helper else {
+            return Ok(());
+        };
+        let done = put_in_group(
+            self.alloc,
+            helper,
+            &mut self.line,
+            &mut self.changes,
+            start,
+            text,
+        );
+        self.plain = is_plain(self.line.as_str());
+        match done {
+            Ok(()) => Ok(()),
+            Err(HookFault::Failed) => Err(ReadlineError::Helper),
+            Err(HookFault::Memory) => Err(ReadlineError::Memory),
+        }
+    }
+
+    /// Exchanges the word that begins at a place, and draws the line.
+    fn complete_word(&mut self, start: usize, text: &str) -> Result<(), ReadlineError>
+        requires some { is_some self.old.helper ≡ true }
+        requires order { start ≤ self.old.line.place }
+        requires boundary { IsCharBoundary self.old.line.text start }
+        ensures does { Does (word_completed start text.now) self.old self.new result }
+    {
+        self.update_word(start, text)?;
+        self.refresh()
+    }
+
+    /// Exchanges the word before the cursor for what the helper's candidates begin with, undone as
+    /// one, or beeps where that adds nothing. Where the helper refuses the exchange, the group that
+    /// was opened for it stays open.
+    pub(crate) fn complete(&mut self) -> Result<(), ReadlineError>
+        ensures does { Does complete self.old self.new result }
+    {
+        if self.helper.is_none() {
+            return Ok(());
+        }
+        let (start, candidates) = self.candidates()?;
+        match elected(&self.line, start, &candidates) {
+            Some(text) => self.complete_word(start, text),
+            None => self.beep(),
+        }
+    }
+}

@@ -1,0 +1,31 @@
+-- Words of a text, one a row.
+use Rattle.std.specs.Prelude.{◌≡◌, true, false, if◌then◌else◌, IsTrue, List, ℕ, map, Result, IfOk, IfErr, String, string_bytes}
+use Rattle.std.specs.Str.{is_utf8}
+use Rattle.std.specs.Global.{Global, Vec}
+use Rattle.line_config.specs.Feed.{Feed}
+use Rattle.line_config.specs.declared.device.Last.TheVariants.{End, Failed}
+use Rattle.line_config.specs.declared.errors.ReadlineError.{ReadlineError}
+use Rattle.line_config.specs.declared.errors.ReadlineError.TheVariants.{Memory, NotUtf8, Reader}
+use Rattle.line_help.specs.HistoryText.{ReadsGood, entries_of, has_bad_row, text_rows}
+
+-- why a row gives no word: it isn't UTF-8, or else memory is wanting
+abbrev pub word_fault : List ℕ → ReadlineError
+word_fault row = if is_utf8 row then Memory else NotUtf8
+
+abbrev pub rows_to_come : Feed → List (List ℕ)
+rows_to_come text = text_rows text.last text.coming
+
+-- why a text of which this is left gives no words
+abbrev pub IsWordFault : Feed → Feed → ReadlineError → Type 0
+IsWordFault text left NotUtf8 = has_bad_row (rows_to_come text) ≡ true
+IsWordFault text left Reader = IsTrue text.steady → text.last ≡ Failed
+IsWordFault text left Memory = ReadsGood text.coming left.coming
+IsWordFault text left why = ⊥
+
+-- the words of a text are its rows, cut as a history's are, but for empty ones
+pub record LoadsWords (text left : Feed) (result : Result (Vec (String Global)) ReadlineError)
+    : Type 0 where
+  pub ends : IfOk result (λ words. text.last ≡ End)
+  pub words : IfOk result (λ words. map string_bytes words.items
+      ≡ entries_of false (rows_to_come text))
+  pub fault : IfErr result (IsWordFault text left)

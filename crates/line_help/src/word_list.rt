@@ -1,0 +1,39 @@
+//! Words of a text, one a row.
+ghost use Rattle.std.specs.Prelude.{◌≡◌, ◌++◌, ◌∷◌, [], true, false, map, string_bytes, IsTrue, IfErr, OnOk};
+ghost use Rattle.std.specs.Str.{is_utf8};
+ghost use Rattle.line_help.specs.HistoryText.{entries_of};
+ghost use Rattle.line_help.specs.WordList.{LoadsWords, word_fault};
+
+use crate::rows::read_row;
+use line_config::{ReadlineError, Source};
+use std::alloc::Global;
+
+/// Adds the word of a row. An empty row has none.
+fn push_word(alloc: Global, words: &mut Vec<String>, row: &[u8]) -> Result<(), ReadlineError>
+    ensures added { OnOk result (map string_bytes words.new.items
+        ≡ map string_bytes words.old.items ++ entries_of false (row.now ∷ [])) }
+    ensures text { OnOk result (is_utf8 row.now ≡ true) }
+    ensures fault { IfErr result (λ e. e ≡ word_fault row.now) }
+{
+    if row.is_empty() {
+        return Ok(());
+    }
+    let text = str::from_utf8(row).map_err(|_| ReadlineError::NotUtf8)?;
+    words.push(String::from_str(alloc, text)?)?;
+    Ok(())
+}
+
+/// The words of a text, one a row, in their order. Rows are cut as a history's are, and an empty one
+/// has no word. Refused where a row isn't UTF-8 (`NotUtf8`), the source fails (`Reader`) or memory
+/// is wanting.
+pub fn load_words<S: Source>(alloc: Global, source: &mut S) -> Result<Vec<String>, ReadlineError>
+    ensures { IsTrue (S.feed source.old).told
+        → LoadsWords (S.feed source.old) (S.feed source.new) result }
+{
+    let mut words = Vec::new(alloc);
+    let mut row = Vec::new(alloc);
+    while read_row(source, &mut row)? {
+        push_word(alloc, &mut words, &row)?;
+    }
+    Ok(words)
+}

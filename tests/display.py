@@ -1,0 +1,331 @@
+"""What display bytes mean, and what a drawing is: docs/DISPLAY.md once more, for the tests of the built program.
+
+It stands apart from the program: of it nothing is asked but bytes. Clusters follow UAX #29 and widths the rules of
+`unicode_width`, both for the characters of the table below and for letters that no rule names; what holds another
+character is `Unjudged`.
+"""
+import re
+import unicodedata
+
+# Range, class of UAX #29, width alone. What is left out of a block has no row.
+CHARACTERS = """
+    20-7E Other 1 | A0-A8 Other 1 | A9 Pict 1 | AA-AC Other 1 | AD Control 0 | AE Pict 1 | AF-2FF Other 1
+    300-36F Extend 0 | 370-482 Other 1 | 483-489 Extend 0 | 48A-590 Other 1
+    591-5BD Extend 0 | 5BE Other 1 | 5BF Extend 0 | 5D0-5EA Other 1
+    600-604 Prepend 1 | 605 Prepend 0 | 606-60F Other 1 | 610-61A Extend 0 | 61C Control 0 | 620-64A Other 1
+    64B-65F Extend 0 | 660-66F Other 1 | 671-6D5 Other 1 | 6DD Prepend 1
+    904-914 Other 1 | 915-939 Consonant 1 | 93C Extend 0 | 93E-940 SpacingMark 1 | 941-948 Extend 0 | 94D Linker 0
+    E01-E30 Other 1 | E31 Extend 0 | E32 Other 1 | E33 SpacingMark 1 | E34-E3A Extend 0 | E47-E4E Extend 0
+    1100-115F L 2 | 1160-11A7 V 0 | 11A8-11FF T 0
+    200B Control 0 | 200C NonJoiner 0 | 200D Joiner 0 | 200E-200F Control 0 | 2010-2027 Other 1 | 2028-2029 Control 1
+    202A-202E Control 0 | 2030-203B Other 1 | 203C Pict 1 | 2060-2064 Control 0 | 2066-206F Control 0
+    20D0-20F0 Extend 0 | 2139 Pict 1 | 231A-231B Pict 2 | 2615 Pict 2 | 261D Pict 1 | 263A Pict 1 | 26A0 Pict 1 | 2764 Pict 1
+    3000-3029 Other 2 | 3030 Pict 2 | 3041-3096 Other 2 | 3099-309A Extend 0 | 309B-30FF Other 2 | 3131-3163 Other 2
+    3400-4DBF Other 2 | 4E00-9FFF Other 2 | AC00-D7A3 Syllable 2 | E000-F8FF Other 1
+    FE00-FE0F Extend 0 | FEFF Control 0 | FF01-FF60 Other 2 | FF61-FF9D Other 1 | FF9E-FF9F Extend 1 | FFFD Other 1
+    1F1E6-1F1FF Flag 1 | 1F308 Pict 2 | 1F3F3 Pict 1 | 1F3F4 Pict 2 | 1F3FB-1F3FF Extend 2 | 1F44D Pict 2
+    1F466-1F469 Pict 2 | 1F4BB Pict 2 | 1F525 Pict 2 | 1F600 Pict 2 | 1F9D1 Pict 2 | 20000-2A6DF Other 2
+    E0020-E007F Extend 0
+"""
+# Of these: what U+FE0F widens (U+FE0E narrows those of two columns), and what a skin tone colours.
+VARIED = set("#*0123456789\u00a9\u00ae\u203c\u2139\u231a\u231b\u2615\u261d\u263a\u26a0\u2764\u3030")
+VARIED |= set("\U0001f3f3\U0001f44d\U0001f4bb")
+COLOURED = set("\u261d\U0001f44d\U0001f466\U0001f467\U0001f468\U0001f469\U0001f9d1")
+# Pictographs that are emoji without U+FE0F.
+EMOJI = set("\u231a\u231b\u2615\U0001f308\U0001f3f4\U0001f4bb\U0001f525\U0001f600") | COLOURED - {"\u261d"}
+TONES = {chr(code) for code in range(0x1F3FB, 0x1F400)}
+JOINER, TO_TEXT, TO_EMOJI, TAG_END = "\u200d", "\ufe0e", "\ufe0f", "\U000e007f"
+
+# Rows beyond this one are not counted, and nothing is promised of them.
+MOST_ROWS = 65535
+
+PRINTABLE = re.compile(r"[ -~]*\Z")
+# How a drawing begins whose old one had one row: so does a line's first.
+REDRAWN = b"\r\x1b[J"
+TOKENS = re.compile(rb"(?P<nothing>(\x1b\[m)+)|(?P<text>[ -~\x80-\xff]+)|(?P<plain>\x1b\[[JKH]|[\r\n\x07])"
+                    rb"|\x1b\[(?P<by>[1-9][0-9]*)(?P<way>[A-D])")
+
+
+class Unjudged(Exception):
+    """A character whose class or width isn't known here."""
+
+
+class Meaningless(Exception):
+    """Display bytes that have no meaning."""
+
+
+def read_table():
+    found = {}
+    for row in re.split(r"[|\n]", CHARACTERS):
+        if row.strip():
+            span, kind, width = row.split()
+            first, _, last = span.partition("-")
+            found.update((chr(code), (kind, int(width))) for code in range(int(first, 16), int(last or first, 16) + 1))
+    return found
+
+
+TABLE = read_table()
+
+
+def known(char):
+    """A character's class and its width alone."""
+    if char in TABLE:
+        return TABLE[char]
+    if unicodedata.category(char) == "Cc":
+        return ("Control", 1)
+    if unicodedata.category(char) in ("Lu", "Ll", "Nd") and unicodedata.east_asian_width(char) not in "WF":
+        return ("Other", 1)
+    raise Unjudged(f"U+{ord(char):04X}")
+
+
+def kind(char):
+    found = known(char)[0]
+    if found == "Syllable":
+        return "LV" if (ord(char) - 0xAC00) % 28 == 0 else "LVT"
+    return found
+
+
+# Where no boundary stands between two neighbours, whatever comes before them.
+JOINED = {("L", "L"), ("L", "V"), ("L", "LV"), ("L", "LVT"), ("LV", "V"), ("LV", "T"), ("V", "V"), ("V", "T"), ("LVT", "T"),
+          ("T", "T")}
+# The classes of a cluster that a pictograph goes on with, and a consonant.
+PICTURE_JOINED = re.compile(r"(.* )?Pict (Extend |Linker |NonJoiner )*Joiner \Z")
+CONJUNCT_OPEN = re.compile(r"(.* )?Linker (Extend |Joiner |Linker )*\Z")
+
+
+def belongs(kinds, now):
+    """Whether a character of the class `now` goes on with the cluster whose characters have these classes."""
+    last = kinds[-1]
+    if "Control" in (last, now):
+        return False
+    if (last, now) in JOINED or now in ("Extend", "Linker", "Joiner", "NonJoiner", "SpacingMark") or last == "Prepend":
+        return True
+    before = " ".join(kinds) + " "
+    if now == "Pict":
+        return PICTURE_JOINED.match(before) is not None
+    if now == "Consonant":
+        return CONJUNCT_OPEN.match(before) is not None
+    return now == last == "Flag" and kinds.count("Flag") % 2 == 1
+
+
+def clusters(text):
+    """The extended grapheme clusters of a text without CR LF."""
+    if PRINTABLE.match(text):
+        return list(text)
+    found, kinds = [], []
+    for char in text:
+        now = kind(char)
+        if kinds and belongs(kinds, now):
+            found[-1] += char
+            kinds.append(now)
+        else:
+            found.append(char)
+            kinds = [now]
+    return found
+
+
+def step_back(char, total, after, selector):
+    """A text's width with one character more before it; `after` and `selector` tell what the text begins with."""
+    joined = after == "joiner"
+    if selector == TO_EMOJI and char in VARIED:
+        return (total + (0 if joined else 2), "emoji", None)
+    if char in (TO_TEXT, TO_EMOJI):
+        return (total, "joiner" if joined and char == TO_EMOJI and selector is None else None, char)
+    if selector == TO_EMOJI:
+        after = None
+    if selector == TO_TEXT and char in VARIED & EMOJI:
+        return (total + 1, None, None)
+    if after == "tone" and (char in COLOURED or char == JOINER):
+        return (total, "emoji" if char in COLOURED else "joiner", None)
+    if after == "joiner" and (char in EMOJI or char in TONES):
+        return (total, "emoji" if char in EMOJI else "tone", None)
+    if after == "joiner" and (char in (TAG_END, "\u20e3") or kind(char) == "Flag"):
+        raise Unjudged("a flag or a keycap before a joiner")
+    if after == "emoji" and char == JOINER:
+        return (total, "joiner", None)
+    own = known(char)[1]
+    return (total + own, "emoji" if char in EMOJI else "tone" if char in TONES else None, None)
+
+
+WIDTHS = {}
+
+
+def width(cluster):
+    """The columns of a cluster as a text."""
+    if cluster not in WIDTHS:
+        reading = (0, None, None)
+        for char in reversed(cluster):
+            reading = step_back(char, *reading)
+        WIDTHS[cluster] = reading[0]
+    return WIDTHS[cluster]
+
+
+def is_control(char):
+    return char < " " or "\x7f" <= char <= "\x9f"
+
+
+def shown_cluster(cluster, columns):
+    """What is drawn of a cluster, and its width."""
+    if any(map(is_control, cluster)) or not 1 <= width(cluster) <= columns:
+        return ("?", 1)
+    return (cluster, width(cluster))
+
+
+class Rows:
+    """Rows of cells: each has its columns that aren't blank, with a cluster, or with INSIDE for the rest of one."""
+
+    INSIDE = object()
+
+    def __init__(self, columns):
+        self.columns, self.rows = columns, []
+
+    def row(self, number):
+        if number > MOST_ROWS:
+            raise Unjudged("more rows than are counted")
+        while len(self.rows) <= number:
+            self.rows.append({})
+        return self.rows[number]
+
+    def put(self, row, col, cluster, wide):
+        cells = self.row(row)
+        cells[col] = cluster
+        for at in range(col + 1, col + wide):
+            cells[at] = self.INSIDE
+
+    def below(self, top):
+        """The rows from one on, without the blank ones at the end."""
+        found = self.rows[top:]
+        while found and not found[-1]:
+            found.pop()
+        return found
+
+    def text(self, row, col):
+        """The clusters from a place on, without what is blank between them."""
+        cells = [(at, cell) for number, row in enumerate(self.rows[row:]) for at, cell in sorted(row.items()) if number or at >= col]
+        return "".join(cell for _, cell in cells if cell is not self.INSIDE)
+
+
+class Drawing(Rows):
+    """Texts drawn one after the other from a display's first cell; `place` is where they end."""
+
+    def __init__(self, columns, *texts):
+        super().__init__(columns)
+        self.place = (0, 0)
+        for text in texts:
+            self.draw(text)
+
+    def draw(self, text):
+        for number, piece in enumerate(text.split("\n")):
+            if number:
+                self.place = (self.place[0] + 1, 0)
+            if PRINTABLE.match(piece):
+                self.lay((char, 1) for char in piece)
+            else:
+                self.lay(shown_cluster(cluster, self.columns) for cluster in clusters(piece))
+
+    def lay(self, items):
+        row, col = self.place
+        for cluster, wide in items:
+            if col + wide > self.columns:
+                row, col = row + 1, 0
+            self.put(row, col, cluster, wide)
+            col += wide
+            if col == self.columns:
+                row, col = row + 1, 0
+        self.place = (row, col)
+
+
+class Display(Rows):
+    """A display that reads bytes. `top` is the row where the present line begins: nothing may change above."""
+
+    def __init__(self, columns):
+        super().__init__(columns)
+        self.cursor, self.top, self.homed = (0, 0), 0, False
+
+    def tell(self, why):
+        raise Meaningless(f"{why}, at row {self.cursor[0]}, column {self.cursor[1]}")
+
+    def read(self, display):
+        """Reads bytes, and yields after each new row that a drawing follows: there a line has ended."""
+        at = 0
+        for token in TOKENS.finditer(display):
+            if token.start() != at:
+                break
+            at = token.end()
+            word = token.lastgroup
+            if word == "text":
+                self.write(token["text"])
+            elif word == "way":
+                self.move(int(token["by"]), token["way"])
+            elif word == "plain":
+                self.plain(token["plain"])
+                if display[at - 2:at + len(REDRAWN)] == b"\r\n" + REDRAWN:
+                    yield at
+        if at != len(display):
+            self.tell(f"no meaning has {display[at:at + 12]!r}")
+
+    def write(self, run):
+        row, col = self.cursor
+        try:
+            text = run.decode()
+        except UnicodeDecodeError:
+            self.tell(f"{run!r} is not UTF-8")
+        if PRINTABLE.match(text):
+            items = [(char, 1) for char in text]
+        elif len(clusters(text)) == 1 and not any(map(is_control, text)):
+            items = [(text, width(text))]
+        else:
+            self.tell(f"{text!r} is no cluster")
+        wide = sum(item[1] for item in items)
+        if wide == 0 or col + wide > self.columns:
+            self.tell(f"{text!r} has no place")
+        if row < self.top or not self.row(row).keys().isdisjoint(range(col, col + wide)):
+            self.tell(f"{text!r} goes over what stands there")
+        for cluster, each in items:
+            self.put(row, col, cluster, each)
+            col += each
+        self.cursor = (row, col)
+
+    def move(self, by, way):
+        row, col = self.cursor
+        self.stay_inside()
+        if way in b"AB":
+            row += by if way == b"B" else -by
+        else:
+            col += by if way == b"C" else -by
+        if row < 0 or not 0 <= col < self.columns:
+            self.tell(f"a move by {by} {way.decode()} goes out of the display")
+        self.cursor = (row, col)
+
+    def stay_inside(self):
+        if self.cursor[1] == self.columns:
+            self.tell("behind a row's last cell stands more than CR")
+
+    def plain(self, word):
+        """A control character, or a sequence without a number."""
+        row, col = self.cursor
+        if word == b"\r":
+            self.cursor = (row, 0)
+            return
+        self.stay_inside()
+        if word == b"\n":
+            self.cursor = (row + 1, col)
+        elif word == b"\x1b[H":
+            self.cursor, self.homed = (0, 0), True
+        elif word != b"\x07":
+            self.erase(word)
+
+    def erase(self, word):
+        row, col = self.cursor
+        if self.homed and word == b"\x1b[J" and self.cursor == (0, 0):
+            self.top = 0
+        self.homed = False
+        if row < self.top:
+            self.tell("an erasure of the lines above")
+        cells = self.row(row)
+        if cells.get(col) is self.INSIDE:
+            self.tell("an erasure inside a cluster")
+        for at in [at for at in cells if at >= col]:
+            del cells[at]
+        if word == b"\x1b[J":
+            del self.rows[row + 1:]

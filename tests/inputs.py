@@ -1,0 +1,246 @@
+"""Sessions that nobody would write by hand, each made from a random generator: for tests/hostile.py."""
+import dataclasses
+
+ESC, ENTER = b"\x1b", b"\r"
+PASTE, PASTED = b"\x1b[200~", b"\x1b[201~"
+
+PLAIN = ["a", "b", "c", "word", " ", "  ", "x_y", ",", *"()[]{}", "\\", "\"", "é", "ñ", "Ж", "λ"]
+MARKS = ["e\u0301", "\u0301", "\u0308\u0323", "a\u20dd", "o\u0338", "\u05d0\u05b8", "\u064b", "ก\u0e49", "ก\u0e33", "か\u3099",
+         "\u0915\u094d\u0937\u093f", "\u094d", "\u0937", "\u093e", "ｶ\uff9e", "\uff9f", "\ufe0f", "\ufe00"]
+JOINED = ["😀", "👍🏽", "🏽", "👩\u200d💻", "👩🏽\u200d💻", "❤\ufe0f\u200d🔥", "👨\u200d👩\u200d👧\u200d👦",
+          "\U0001f3f3\ufe0f\u200d🌈", "\U0001f1e9\U0001f1ea", "\U0001f1e9", "1\ufe0f\u20e3", "⌚\ufe0e", "❤\ufe0f", "❤",
+          "©\ufe0f", "\u200d", "🔥", "\U0001f3f4\U000e0067\U000e0062\U000e0065\U000e006e\U000e0067\U000e007f"]
+RIGHT_TO_LEFT = ["א", "ב", "שלום", "ل", "ا", "لا", "سلام", *"\u200f\u200e\u202e\u2067\u061c\u0600\u0605\u06dd"]
+WIDTHLESS = list("\u200b\u200c\u2060\ufeff\u00ad\u115f\u1160\u1161\u11a8\u2028\u2029\U000e0061")
+WIDE = ["漢", "字", "あ", "한", "각", "\u1112\u1161\u11ab", "Ａ", "ㅋ", "。", "\U00020000", "カ", "ｶ"]
+# What takes part only in a text that is pasted, recalled or given as a prompt.
+UNTYPED = ["\t", "\x00", "\x07", "\x1b", "\x1b[H", "\x7f", "\x80", "\x9b", "\r", "\n", "\r\n", "\n\n"]
+ALPHABETS = [PLAIN, MARKS, JOINED, RIGHT_TO_LEFT, WIDTHLESS, WIDE]
+
+COLUMNS = [2, 2, 3, 3, 4, 5, 7, 10, 20, 80, 80, 1000, 1000]
+
+# What follows ESC in every form of a key's sequence, and in some that are none.
+SEQUENCES = [b"[" + bytes([final]) for final in b"ABCDHFZEX"]
+SEQUENCES += [b"O" + bytes([final]) for final in b"ABCDHFMPQRSZ"]
+SEQUENCES += [b"[%d~" % number for number in (0, 1, 2, 3, 4, 5, 6, 7, 8, 9, 11, 15, 16, 17, 21, 23, 24, 25, 99, 201)]
+SEQUENCES += [b"[1;%d%c" % (mods, final) for mods in (0, 2, 3, 4, 5, 6, 7, 8, 9) for final in b"ABCDHFPQRS"]
+SEQUENCES += [b"[%d;%d~" % (number, mods) for number in (1, 3, 5, 11, 200, 201) for mods in (2, 5, 8)]
+SEQUENCES += [b"[[" + bytes([final]) for final in b"ABCDEF["]
+SEQUENCES += [b"[?25h", b"[<0;1;2M", b"[ q", b"[1 ~", b"[03~", b"[1;2;3A", b"[;A", b"[3\x07", b"[3\r", b"[\xc3\xa9", b"O\xc3\xa9",
+              b"[\x1b", b"O\x1b", b"[", b"O", b"", b"\x1b", b"\x1b[A", b"[" + b"9" * 40 + b"~"]
+
+# Those that end a session come seldom.
+ENDING = [b"\x03", b"\x1c", b"\x04"]
+CONTROLS = [bytes([code]) for code in [*range(0x20), 0x7F] if code not in (0x03, 0x04, 0x1B, 0x1C)]
+EMACS = [ESC + bytes([char]) for char in b"bfdcultyBFDCULTY<>\x7f\x08\x07"]
+EMACS += [b"\x18\x15", b"\x18\x7f", b"\x18\x07", b"\x18z", b"\x1da", b"\x1d ", b"\x1b\x1da"]
+EMACS += [b"\x19", b"\x19", b"\x1by", b"\x1f", b"\x17", b"\x0b"]
+VI = [bytes([char]) for char in b"0$^wWbBeEhljk+-xXDpPuiIaACSsRR.;,"]
+VI += [b"fa", b"F ", b"tb", b"T,", b"rx", b"r\x1b", b"dd", b"cc", b"yy", b"dw", b"cw", b"yw", b"d$", b"db", b"c0", b"y^", b"dfa",
+       b"dt ", b"d;", b"d,", b"dj", b"dk", b"yj", b">>", b"<<", b">w", b"<k", b">j", b"d2w", b"2dd", b"3p", b"2u", b"c2c", b"5l",
+       b"3.", b"dz", b"cx"]
+
+
+@dataclasses.dataclass(frozen=True)
+class Session:
+    """A run of the program: its keys, its arguments, and the bytes of its history file, which None leaves out.
+
+    A file of words would be one field more.
+    """
+
+    keys: bytes
+    mode: str = "emacs"
+    columns: int = 80
+    prompt: str = "> "
+    brackets: bool = False
+    history: bytes = None
+
+    def __repr__(self):
+        given = [(field, getattr(self, field.name)) for field in dataclasses.fields(self)]
+        return f"Session({', '.join(f'{field.name}={value!r}' for field, value in given if value != field.default)})"
+
+    def arguments(self):
+        given = [f"--mode={self.mode}", f"--columns={self.columns}", f"--prompt={self.prompt}"]
+        return given + (["--brackets"] if self.brackets else [])
+
+
+def some(rng, least, most):
+    """A number, the smaller ones more often."""
+    return least + int((most - least + 1) * rng.random() ** 2)
+
+
+def texts(rng, most, *more):
+    """A text of one or two alphabets, and of what is added to them."""
+    pieces = rng.choice(ALPHABETS) + rng.choice(ALPHABETS) + [piece for other in more for piece in other]
+    return "".join(rng.choice(pieces) for _ in range(some(rng, 0, most)))
+
+
+def pasted(rng, most=12):
+    text = texts(rng, most, UNTYPED).encode()
+    if rng.random() < 0.2:
+        text += rng.choice([PASTE, b"\x1b[201", b"\x1b[20\x1b[201", b"\x1b", b"\x1b[", b"\xff", b"\xc3"])
+    return PASTE + text + PASTED
+
+
+def settings(rng):
+    given = {"mode": rng.choice(["emacs", "vi"]), "columns": rng.choice(COLUMNS), "brackets": rng.random() < 0.2}
+    if rng.random() < 0.1:
+        given["prompt"] = rng.choice(["", "$ ", "漢", "a\nb", "é> "])
+    if rng.random() < 0.2:
+        given["history"] = history(rng)
+    return given
+
+
+def one_key(rng, mode):
+    """The bytes of a key or of a few that belong together."""
+    at = rng.random()
+    if at < 0.25:
+        return texts(rng, 4).encode()
+    if at < 0.40:
+        return ENTER
+    if at < 0.55:
+        return ESC + rng.choice(SEQUENCES)
+    if at < 0.65:
+        return rng.choice(CONTROLS)
+    if at < 0.67:
+        return pasted(rng)
+    if at < 0.675:
+        return rng.choice(ENDING)
+    if at < 0.71:
+        return count(rng, mode, 30)
+    if mode == "vi":
+        return (ESC if rng.random() < 0.4 else b"") + rng.choice(VI)
+    return rng.choice(EMACS)
+
+
+def keys_of(rng, mode, most):
+    return b"".join(one_key(rng, mode) for _ in range(some(rng, 1, most)))
+
+
+def closed(rng, keys):
+    """These keys, mostly with what accepts a line behind them."""
+    return keys + rng.choice([ENTER, ENTER, ENTER, ENTER, b"\n", ESC + ENTER, b""])
+
+
+def cut(rng, keys):
+    """These keys, now and then cut off, or with a byte lost, doubled or changed."""
+    at, how = rng.randrange(len(keys) + 1), rng.random()
+    if how < 0.15:
+        return keys[:at]
+    if how < 0.22:
+        return keys[:at] + keys[at + 1:]
+    if how < 0.26:
+        return keys[:at] + keys[at:at + 3] + keys[at:]
+    if how < 0.28:
+        return keys[:at] + bytes([rng.randrange(256)]) + keys[at + 1:]
+    return keys
+
+
+def count(rng, mode, most):
+    """A count as it is typed, its amount up to `most` or at an end of what counts can be."""
+    digits = rng.choice([str(rng.randrange(most + 1)), "0", "1", "00", str(most)])
+    if mode == "vi":
+        return ESC + digits.encode()
+    sign = rng.choice([b"-", b"", b"", b"-0", b"--"])
+    return ESC + sign + b"".join(rng.choice([b"", ESC]) + bytes([digit]) for digit in digits.encode())
+
+
+def history(rng):
+    how = rng.random()
+    if how < 0.1:
+        return None
+    if how < 0.2:
+        return rng.randbytes(some(rng, 0, 40))
+    if how < 0.3:
+        return b"#V2\n" + rng.randbytes(some(rng, 0, 6))
+    ends = rng.choice(["\n", "\r\n", "\r\r\n", "\n\n"])
+    count = rng.choice([0, 1, 2, 5, 5, 99, 100, 101, 130])
+    rows = [texts(rng, 6, ["\\", "\\n", "\\\\", "\\x", "\t", "\r"]) for _ in range(count)]
+    head = rng.choice(["#V2" + ends, "#V2\n", "#V2\n", "", "#V1\n", "\n#V2\n"])
+    return (head + ends.join(rows) + rng.choice(["", ends])).encode()
+
+
+def random_bytes(rng):
+    """Bytes of one kind or another."""
+    length = some(rng, 0, 200)
+    keys = rng.choice([
+        lambda: rng.randbytes(length),
+        lambda: bytes(rng.choice(b"\x1b[O0123456789;~ABCDHFZ\r\x7f ab") for _ in range(length)),
+        lambda: bytes(rng.randrange(0x80) for _ in range(length)).replace(b"\x03", b"").replace(b"\x1c", b""),
+        lambda: bytes(rng.choice([rng.randrange(0x20), 0x1B, 0x61, 0xC3, 0xA9, 0xE6, 0xBC, 0xA2, 0xF0]) for _ in range(length)),
+    ])()
+    return Session(keys=keys, **settings(rng))
+
+
+def keys_cut_anywhere(rng):
+    """Keys of every form."""
+    given = settings(rng)
+    return Session(keys=cut(rng, closed(rng, keys_of(rng, given["mode"], 60))), **given)
+
+
+def pastes(rng):
+    """Pastes one after the other, in one another, cut off, and where none is awaited."""
+    given, keys = settings(rng), b""
+    for _ in range(some(rng, 1, 6)):
+        some_keys = keys_of(rng, given["mode"], 3)
+        keys += rng.choice([b"", b"", texts(rng, 3).encode(), b"\x18", b"d", b"\x1b3", b"\x1d", ESC, some_keys])
+        keys += pasted(rng, 30) + rng.choice([b"", ENTER, b"\x1f", b"\x19", PASTED, some_keys])
+    return Session(keys=cut(rng, closed(rng, keys)), **given)
+
+
+def counts(rng):
+    """Counts at their ends before keys of all kinds; the line is long at times."""
+    given = settings(rng)
+    keys = texts(rng, 20).encode()
+    if rng.random() < 0.05:
+        keys += count(rng, "emacs", rng.choice([999, 9999, 99999])) + rng.choice(["x", "漢", "e\u0301", " "]).encode()
+        for _ in range(3):
+            keys += count(rng, given["mode"], 99999) + rng.choice([b"\x02", b"h", b"\x0b", b"D", b"u", b"\x1f"])
+        return Session(keys=cut(rng, closed(rng, keys)), **given)
+    moves = {"vi": VI[:18] + [b"d", b"y", b">"], "emacs": EMACS[:12] + [b"\x02", b"\x06", b"\x04", b"\x7f", b"\x17"]}
+    for _ in range(some(rng, 1, 15)):
+        amount = rng.choice([5, 99, 1000, 9999, 10000, 65535, 65536, 999999])
+        keys += count(rng, given["mode"], amount) + rng.choice(moves[given["mode"]])
+        keys += rng.choice([b"", b"", str(amount).encode(), one_key(rng, given["mode"]), one_key(rng, given["mode"])])
+    return Session(keys=cut(rng, closed(rng, keys)), **given)
+
+
+def odd_texts(rng):
+    """Texts that a display has trouble with, typed, pasted and edited."""
+    given = settings(rng)
+    given["columns"] = rng.choice([2, 3, 1000, given["columns"]])
+    keys = b""
+    for _ in range(some(rng, 1, 5)):
+        text = texts(rng, 25).encode()
+        keys += text if rng.random() < 0.7 else PASTE + text + PASTED
+        keys += keys_of(rng, given["mode"], 12)
+        keys += ENTER if rng.random() < 0.5 else b""
+    return Session(keys=cut(rng, closed(rng, keys)), **given)
+
+
+def odd_prompts(rng):
+    """Prompts of such texts."""
+    given = settings(rng)
+    given["prompt"] = texts(rng, 12, UNTYPED).replace("\0", "")
+    return Session(keys=cut(rng, closed(rng, keys_of(rng, given["mode"], 25))), **given)
+
+
+def history_files(rng):
+    """History files of every kind, and keys that go through them."""
+    given = settings(rng)
+    given["history"] = history(rng)
+    ways = [b"\x10", b"\x0e", b"\x1b[A", b"\x1b[B", b"\x1b<", b"\x1b>", ENTER, b"k", b"j", ESC]
+    keys = b"".join(rng.choice([rng.choice(ways), one_key(rng, given["mode"])]) for _ in range(some(rng, 1, 30)))
+    return Session(keys=cut(rng, closed(rng, keys)), **given)
+
+
+def large_pastes(rng):
+    """A megabyte pasted."""
+    unit = rng.choice(["0123456789abcdef", "漢字", "e\u0301", "👩\u200d💻", "a\n", "\r\n", "word ", "(", "\x1b[20", "\t"])
+    text = unit.encode() * (1_000_000 // len(unit.encode()))
+    keys = PASTE + text + PASTED + rng.choice([b"", b"\x01", b"\x15\x19"]) + ENTER
+    return Session(keys=keys, columns=rng.choice([2, 80, 1000]), mode=rng.choice(["emacs", "vi"]))
+
+
+# Of each kind that comes by chance, how often.
+KINDS = {random_bytes: 6, keys_cut_anywhere: 10, pastes: 6, counts: 4, odd_texts: 8, odd_prompts: 3, history_files: 3}
