@@ -1,17 +1,54 @@
 -- What whole characters, keys and pasted texts read as stays, whatever follows them.
-use Rattle.std.proofs.Common.{◌≡◌, ℕ, ◌+◌, Bool, true, false, IsTrue, ◌&&◌, ◌||◌, nat_lt, ◌==◌, if◌then◌else◌, List, [], ◌∷◌, ◌++◌, take, Option, Some, None, refl, sym, ap, ◌∙◌, true≢false}
+use Rattle.std.proofs.Common.{◌≡◌, ℕ, ◌+◌, Bool, true, false, IsTrue, ◌&&◌, ◌||◌, nat_lt, ◌==◌, if◌then◌else◌, List, [], ◌∷◌, ◌++◌, take, Option, Some, None, refl, sym, ap, ◌∙◌, true≢false, arith, subst, append_assoc, append-nil, inl, inr, eqb-true}
 use Rattle.std.specs.Prelude.{slice_index, codes}
+use lib.Utf8.{encode}
 use Rattle.line_config.specs.declared.device.Last.{Last}
 use Rattle.line_config.specs.declared.device.Last.TheVariants.{End}
 use Rattle.line_config.specs.declared.settings.EditMode.{EditMode}
 use Rattle.line_config.specs.declared.settings.EditMode.TheVariants.{Emacs, Vi}
 use Rattle.line_keys.specs.Keys.{key_of, none, alt}
+use Rattle.line_screen.specs.Characters.{ReadsFirst}
 use Rattle.line_screen.specs.Input.{Chars, Next, Over, Stop, AtEnd, AtBad, AtFailure, Torn, Inside, Continuation, chars_of, in_char, char_then, is_scalar, lead_in, lead_rows, value_with, after_byte}
-use Rattle.line_screen.specs.KeyGrammar.{Readings, Key, Paste, readings, in_escape, in_sequence, in_paste, esc, keeps_byte, marker, put, announces, inside}
+use Rattle.line_screen.specs.KeyGrammar.{Readings, Key, Paste, Stops, readings, lone_escape, in_escape, in_sequence, in_paste, byte_is, esc, keeps_byte, marker, put, announces, inside}
 use Rattle.line_screen.specs.Sequences.{awaits_more, sequence_key}
-use Rattle.line_screen.specs.Following.{are_whole_chars, ends_in_esc, are_whole, readings_then, is_end, WholeKeysStay}
+use Rattle.line_screen.specs.Following.{EndWithoutEsc, are_whole, readings_then, is_end, WholeKeysStay}
+use Rattle.line_screen.proofs.EncodedChars.{encode_one}
+use Rattle.line_screen.proofs.ReadChars.{chars_are_encoded}
+use Rattle.line_screen.proofs.SequenceLemmas.{by_test}
 
 -- ---- characters
+
+-- the characters are whole up to the end
+abbrev are_whole_chars : Chars → Bool
+are_whole_chars (Next c behind rest) = are_whole_chars rest
+are_whole_chars (Over stop left) = is_end stop
+
+-- the last character is ESC, which the first argument is where none follows
+abbrev ends_in_esc : ℕ → Chars → Bool
+ends_in_esc c (Next next behind rest) = ends_in_esc next rest
+ends_in_esc c (Over stop left) = c == 0x1B
+
+-- the front's last character c isn't ESC where no byte behind it is the last and ESC
+other_end : (c : ℕ) (front : List ℕ) → (c ≡ 0x1B → (before : List ℕ) × (front ≡ before ++ 0x1B ∷ [])) → EndWithoutEsc front → (c == 0x1B) ≡ false
+other_end c front known free = elim (by_test (c == 0x1B)) [
+  | inl is ↦ let k = known (eqb-true c 0x1B is) in absurd (free k.0 k.1)
+  | inr other ↦ other
+]
+
+no_esc_last : (c : ℕ) (front bytes : List ℕ) (chars : Chars) → chars_of bytes End ≡ chars → IsTrue (are_whole_chars chars) → EndWithoutEsc (front ++ bytes)
+    → (c ≡ 0x1B → (before : List ℕ) × (front ≡ before ++ 0x1B ∷ [])) → ends_in_esc c chars ≡ false
+no_esc_last c front bytes (Over AtEnd left) e whole free known =
+    let r : ReadsFirst End bytes (Over AtEnd left) = subst (ReadsFirst End bytes) e (chars_are_encoded bytes End) in
+    other_end c front known (subst EndWithoutEsc (ap (λ t. front ++ t) r.0 ∙ append-nil front) free)
+no_esc_last c front bytes (Over AtBad left) e whole free known = absurd (cc)
+no_esc_last c front bytes (Over AtFailure left) e whole free known = absurd (cc)
+no_esc_last c front bytes (Over Torn left) e whole free known = absurd (cc)
+no_esc_last c front bytes (Over Inside left) e whole free known = absurd (cc)
+no_esc_last c front bytes (Next d behind rest) e whole free known =
+    let r : ReadsFirst End bytes (Next d behind rest) = subst (ReadsFirst End bytes) e (chars_are_encoded bytes End) in
+    no_esc_last d (front ++ encode d) behind rest (sym r.2) whole
+    (subst EndWithoutEsc (ap (λ t. front ++ t) r.1 ∙ sym (append_assoc front (encode d) behind)) free)
+    (λ is. (front, ap (λ x. front ++ encode x) is ∙ ap (λ t. front ++ t) (encode_one 0x1B (omega arith))))
 
 abbrev chars_then : Chars → List ℕ → Chars → Chars
 chars_then (Next c behind rest) more following = Next c (behind ++ more) (chars_then rest more following)
@@ -121,6 +158,58 @@ never_inside AtFailure whole = absurd (cc)
 never_inside Torn whole = absurd (cc)
 never_inside Inside whole = absurd (cc)
 
+-- whole keys are of whole characters
+whole_by : {P : Type 0} (b : Bool) (x y : Readings) → (IsTrue (are_whole x) → P) → (IsTrue (are_whole y) → P) → IsTrue (are_whole (if b then x else y)) → P
+whole_by true x y p q whole = p whole
+whole_by false x y p q whole = q whole
+
+whole_alone : (mode : EditMode) (here : List ℕ) (stop : Stop) (left : List ℕ) → IsTrue (are_whole (lone_escape mode here stop left (Stops stop left))) → IsTrue (is_end stop)
+whole_alone mode [] AtEnd left whole = whole
+whole_alone mode [] AtBad left whole = whole
+whole_alone mode [] AtFailure left whole = whole
+whole_alone mode [] Torn left whole = whole
+whole_alone mode [] Inside left whole = whole
+whole_alone Emacs (b ∷ bs) stop left whole = whole
+whole_alone Vi (b ∷ bs) stop left whole = whole
+
+mutual
+  chars_whole : (mode : EditMode) (chars : Chars) → IsTrue (are_whole (readings mode chars)) → IsTrue (are_whole_chars chars)
+  chars_whole mode (Over stop left) whole = whole
+  chars_whole mode (Next c behind rest) whole =
+      whole_by (c == 0x1B) (in_escape mode behind rest (readings mode rest)) (Key (key_of c none) behind (readings mode rest))
+      (λ w. escape_whole mode behind rest (λ w. chars_whole mode rest w) w) (λ w. chars_whole mode rest w) whole
+
+  escape_whole : (mode : EditMode) (here : List ℕ) (chars : Chars) → (IsTrue (are_whole (readings mode chars)) → IsTrue (are_whole_chars chars))
+      → IsTrue (are_whole (in_escape mode here chars (readings mode chars))) → IsTrue (are_whole_chars chars)
+  escape_whole mode here (Over stop left) again whole = whole_alone mode here stop left whole
+  escape_whole mode here (Next c behind rest) again whole =
+      let kept : Readings = Key esc here (readings mode (Next c behind rest)) in
+      let held : Readings = Key (key_of c alt) behind (readings mode rest) in
+      whole_by (byte_is 0x5B here) (in_sequence mode (codes "[") rest) (if byte_is 0x4F here then in_sequence mode (codes "O") rest else if keeps_byte mode here then kept else held)
+      (λ w. sequence_whole mode (codes "[") rest w)
+      (λ w. whole_by (byte_is 0x4F here) (in_sequence mode (codes "O") rest) (if keeps_byte mode here then kept else held)
+      (λ w. sequence_whole mode (codes "O") rest w)
+      (λ w. whole_by (keeps_byte mode here) kept held (λ w. again w) (λ w. chars_whole mode rest w) w) w) whole
+
+  sequence_whole : (mode : EditMode) (text : List ℕ) (chars : Chars) → IsTrue (are_whole (in_sequence mode text chars)) → IsTrue (are_whole_chars chars)
+  sequence_whole mode text (Over stop left) whole = absurd (never_inside stop whole)
+  sequence_whole mode text (Next c behind rest) whole =
+      let k = sequence_key (text ++ c ∷ []) in
+      whole_by (awaits_more (text ++ c ∷ [])) (in_sequence mode (text ++ c ∷ []) rest) (Key k behind (if announces k then in_paste mode [] false 0 rest else readings mode rest))
+      (λ w. sequence_whole mode (text ++ c ∷ []) rest w)
+      (λ w. whole_by (announces k) (in_paste mode [] false 0 rest) (readings mode rest) (λ w. paste_whole mode [] false 0 rest w) (λ w. chars_whole mode rest w) w) whole
+
+  paste_whole : (mode : EditMode) (text : List ℕ) (after_return : Bool) (matched : ℕ) (chars : Chars) → IsTrue (are_whole (in_paste mode text after_return matched chars)) → IsTrue (are_whole_chars chars)
+  paste_whole mode text after_return matched (Over stop left) whole = absurd (cc)
+  paste_whole mode text after_return matched (Next c behind rest) whole =
+      let escaped : Readings = in_paste mode (text ++ take matched marker) false 1 rest in
+      let other : Readings = in_paste mode (put (text ++ take matched marker) (after_return && (matched == 0)) c) (c == 0x0D) 0 rest in
+      whole_by (c == slice_index marker matched) (if matched == 5 then Paste text behind (readings mode rest) else in_paste mode text after_return (matched + 1) rest) (if c == 0x1B then escaped else other)
+      (λ w. whole_by (matched == 5) (Paste text behind (readings mode rest)) (in_paste mode text after_return (matched + 1) rest)
+      (λ w. chars_whole mode rest w) (λ w. paste_whole mode text after_return (matched + 1) rest w) w)
+      (λ w. whole_by (c == 0x1B) escaped other (λ w. paste_whole mode (text ++ take matched marker) false 1 rest w)
+      (λ w. paste_whole mode (put (text ++ take matched marker) (after_return && (matched == 0)) c) (c == 0x0D) 0 rest w) w) whole
+
 mutual
   keys_follow : (mode : EditMode) (first : ℕ) (here : List ℕ) (chars : Chars) (more : List ℕ) (following : Chars)
       → Spelled here chars → ends_in_esc first chars ≡ false → IsTrue (are_whole (readings mode chars))
@@ -183,6 +272,8 @@ mutual
       (λ w. paste_follows mode (put (text ++ take matched marker) (after_return && (matched == 0)) c) (c == 0x0D) 0 c behind rest more following sp.1 free w)) whole
 
 pub whole_keys_stay : WholeKeysStay
-whole_keys_stay mode bytes more last chars free whole =
+whole_keys_stay mode bytes more last free whole =
+    let chars : IsTrue (are_whole_chars (chars_of bytes End)) = chars_whole mode (chars_of bytes End) whole in
     ap (readings mode) (chars_follow bytes more last chars)
-    ∙ keys_follow mode 0 bytes (chars_of bytes End) more (chars_of more last) (spelled bytes End) free whole
+    ∙ keys_follow mode 0 bytes (chars_of bytes End) more (chars_of more last) (spelled bytes End)
+    (no_esc_last 0 [] bytes (chars_of bytes End) refl chars free (λ is. absurd (cc))) whole

@@ -1,24 +1,18 @@
 -- What is read of bytes, with more bytes after them.
-use Rattle.std.specs.Prelude.{◌≡◌, ℕ, Bool, true, false, IsTrue, ◌==◌, List, ◌++◌}
+use Rattle.std.specs.Prelude.{◌≡◌, ◌≢◌, ℕ, Bool, true, false, IsTrue, List, [], ◌∷◌, ◌++◌}
 use Rattle.line_config.specs.declared.device.Last.{Last}
 use Rattle.line_config.specs.declared.device.Last.TheVariants.{End}
 use Rattle.line_config.specs.declared.settings.EditMode.{EditMode}
-use Rattle.line_screen.specs.Input.{Chars, Next, Over, Stop, AtEnd, chars_of}
+use Rattle.line_screen.specs.Input.{Stop, AtEnd, chars_of}
 use Rattle.line_screen.specs.KeyGrammar.{Readings, Key, Paste, Cut, Stops, readings}
 
 abbrev pub is_end : Stop → Bool
 is_end AtEnd = true
 is_end stop = false
 
--- the bytes are whole characters
-abbrev pub are_whole_chars : Chars → Bool
-are_whole_chars (Next c behind rest) = are_whole_chars rest
-are_whole_chars (Over stop left) = is_end stop
-
--- the last character is ESC, which the first argument is where none follows
-abbrev pub ends_in_esc : ℕ → Chars → Bool
-ends_in_esc c (Next next behind rest) = ends_in_esc next rest
-ends_in_esc c (Over stop left) = c == 0x1B
+-- the last byte, if there is one, isn't ESC
+abbrev pub EndWithoutEsc : List ℕ → Type 0
+EndWithoutEsc bytes = (front : List ℕ) → bytes ≢ front ++ 0x1B ∷ []
 
 -- the readings are whole keys and pasted texts
 abbrev pub are_whole : Readings → Bool
@@ -36,11 +30,10 @@ readings_then (Paste text behind rest) more following = Paste text (behind ++ mo
 readings_then (Cut stop left) more following = Cut stop left
 readings_then (Stops stop left) more following = following
 
--- Where bytes are whole characters that read as whole keys and pasted texts, and the last isn't
--- ESC, they read so whatever follows them.
+-- Where bytes read as whole keys and pasted texts to their end, and the last isn't ESC, they read so
+-- whatever follows them.
 abbrev pub WholeKeysStay : Type 0
 WholeKeysStay = (mode : EditMode) (bytes more : List ℕ) (last : Last)
-    → IsTrue (are_whole_chars (chars_of bytes End)) → ends_in_esc 0 (chars_of bytes End) ≡ false
-    → IsTrue (are_whole (readings mode (chars_of bytes End)))
+    → EndWithoutEsc bytes → IsTrue (are_whole (readings mode (chars_of bytes End)))
     → readings mode (chars_of (bytes ++ more) last)
     ≡ readings_then (readings mode (chars_of bytes End)) more (readings mode (chars_of more last))
