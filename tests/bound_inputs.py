@@ -24,6 +24,10 @@ KEYS.update({"Up": b"\x1b[A", "Down": b"\x1b[B", "Right": b"\x1b[C", "Left": b"\
 KEYS.update({"Delete": b"\x1b[3~", "Insert": b"\x1b[2~", "PageUp": b"\x1b[5~", "PageDown": b"\x1b[6~", "BackTab": b"\x1b[Z"})
 KEYS.update({"C-Left": b"\x1b[1;5D", "A-Right": b"\x1b[1;3C", "S-Up": b"\x1b[1;2A", "F1": b"\x1bOP", "F5": b"\x1b[15~"})
 KEYS.update({"UnknownEscSeq": b"\x1b[99~", "PasteEnd": PASTED, "PasteStart": PASTE, "C-H": b"\x08", "C-M": b"\r", "C-I": b"\t"})
+NAMES = list(KEYS)
+# The one that accepts a session's last line: nothing else is bound to it.
+ACCEPTING = "F12"
+KEYS[ACCEPTING] = b"\x1b[24~"
 # Those that begin a sequence which is reached.
 FIRST = ["C-X", "C-X", "C-X", "F5", "F1", "S-Up", "PageUp", "Insert", "C-O", "C-V", "A-Q", "C-A-Z", "UnknownEscSeq"]
 
@@ -108,6 +112,15 @@ class Session:
             message = found[0] if found else ""
         if message:
             yield Drawing(self.columns, self.prompt, line, message, clusters=self.clusters)
+
+    @property
+    def hints_of_history(self):
+        return "advised" not in self.words and any(word.startswith(("helped", "words:")) for word in self.words)
+
+    def open_lines(self, prompt, line):
+        """Drawings of a line that isn't ended, with what may stand after it."""
+        for text in ("", *(meant(self.value(name, "")).decode() for name in ("hint:", "message:"))):
+            yield Drawing(self.columns, prompt, line, text, clusters=self.clusters)
 
     def shorter(self):
         """Sessions with less in them, the ones with much less first."""
@@ -242,14 +255,19 @@ def setting(rng):
 
 def typed(rng, mode, names, most):
     """Keys, among them those of these names."""
-    keys = b"".join(KEYS[rng.choice(names)] if rng.random() < 0.6 else one_key(rng, mode) for _ in range(some(rng, 1, most)))
-    return keys + rng.choice([ENTER, ENTER, ENTER, b"\n", b""])
+    return ended(rng, b"".join(KEYS[rng.choice(names)] if rng.random() < 0.6 else one_key(rng, mode)
+                               for _ in range(some(rng, 1, most))))
+
+
+def ended(rng, keys):
+    """These keys, with what accepts a line behind them, or cut off anywhere."""
+    return rng.choice([keys + ENTER, keys + b"\n", keys, keys[:rng.randrange(len(keys) + 1)]])
 
 
 def shadowed_keys(rng):
     """Many keys bound, among them those of the tables, and any other."""
     words, mode = setting(rng)
-    bound = rng.sample(list(KEYS), some(rng, 1, 60))
+    bound = rng.sample(NAMES, some(rng, 1, 60))
     words += [word_of([name], action(rng)) for name in bound]
     if rng.random() < 0.3:
         words.append(word_of(["any"], action(rng)))
@@ -260,7 +278,7 @@ def bound_sequences(rng):
     """Sequences that begin each other."""
     words, mode = setting(rng)
     first = rng.sample(FIRST, rng.choice([1, 1, 2]))
-    names = [*first, *rng.sample(list(KEYS), rng.choice([1, 2, 3]))]
+    names = [*first, *rng.sample(NAMES, rng.choice([1, 2, 3]))]
     sequences = []
     for _ in range(some(rng, 1, 10)):
         begun = rng.choice([*sequences, []])
@@ -272,7 +290,7 @@ def bound_sequences(rng):
         sequence = rng.choice(sequences)
         whole = b"".join(KEYS[name] for name in sequence[:rng.choice([len(sequence), rng.randrange(len(sequence) + 1)])])
         keys += rng.choice([whole, whole, whole, KEYS[rng.choice(names)], one_key(rng, mode), ENTER])
-    return Session(keys + ENTER, tuple(words))
+    return Session(ended(rng, keys), tuple(words))
 
 
 def advised_lines(rng):
@@ -287,7 +305,7 @@ def advised_lines(rng):
     for _ in range(some(rng, 1, 30)):
         keys += rng.choice([KEYS[rng.choice(list(asking))], b"\t", b"\x1b[C", b"\x1b[D", ENTER, texts(rng, 6).encode(),
                             texts(rng, 6).encode(), keys_of(rng, mode, 3)])
-    return Session(keys + ENTER, tuple(words))
+    return Session(ended(rng, keys), tuple(words))
 
 
 def odd_settings(rng):
@@ -297,7 +315,7 @@ def odd_settings(rng):
     words.append(f"columns:{rng.choice(COLUMNS)}")
     loaded = history(rng)
     words += [f"loaded:{noted(loaded)}"] if loaded else []
-    return Session(keys_of(rng, mode, 50) + rng.choice([ENTER, ENTER, b""]), tuple(words))
+    return Session(ended(rng, keys_of(rng, mode, 50)), tuple(words))
 
 
 # Of each kind, how often.

@@ -161,7 +161,7 @@ def judge_run(session, ran):
     reasons = {0: True, 130: b"\x03" in keys or b"\x1c" in keys, 3: not is_text(keys), 4: PASTE in keys}
     if not reasons.get(ran.status, False):
         tell("ending", f"status {ran.status} of keys that have no reason for it")
-    saved = saved_after(session.history, shown_lines(session, display, ran.lines))
+    saved = saved_after(session.history, shown_lines(session, display, ran.lines)[0])
     left = session.history if saved is None else saved
     same("history", ran.files, {} if left is None else {"history": left})
 

@@ -5,10 +5,12 @@ answer. Run it by ./test, or alone once `rt ci` has built crates/sessions_progra
     tests/hostile_memory.py                           half a minute, from a seed that is the program's sum
     tests/hostile_memory.py --seconds N --seed S      as long as one likes, from any seed
 
-The program reads sessions as rows and tells in hexadecimal what each leaves. Each is played twice, its keys in one read, and
-as its own word cuts them: both must leave the same. It must end by a name that its words and keys have a reason for, write
-whole lines alone, save the text that those lines make of the old one, and send display bytes that have a meaning and show
-prompt, line and a message at most where each line ends. What fails is cut down, and printed as a row for ROWS.
+The program reads sessions as rows and tells in hexadecimal what each leaves. Each is played with its keys in one read, and
+then as its own word cuts them: both must leave the same. It must end by a name that its words and keys have a reason for,
+write whole lines alone, save the text that those lines make of the old one, and send display bytes that have a meaning and
+show prompt, line and a message at most where each line ends. Played once more with a key after all others that accepts the
+line, it tells what the line was that stood open: prompt, line and a hint or message at most must be what the display showed
+of it. What fails is cut down, and printed as a row for ROWS.
 """
 import argparse
 import dataclasses
@@ -18,10 +20,11 @@ import random
 import resource
 import subprocess
 
-from bound_inputs import KINDS, Session, noted_keys
+from bound_inputs import ACCEPTING, KEYS, KINDS, Session, noted_keys
 from checks import built, run_all
 from display import Unjudged
-from hunting import Fault, hunted, is_text, rows_pass, same, saved_after, shown_lines, tell, test_of
+from hunting import (Fault, begins, hunted, is_text, pictured, prompts_of, rows_pass, same, saved_after, shown_lines, tell,
+                     test_of)
 from inputs import PASTE
 from sessions import key
 
@@ -47,6 +50,8 @@ C-x a b C-x a a Enter = nothing
 ab Esc c Enter = nothing
 : clusters:WcWidth columns:3
 👩🏽‹e2›‹80›‹8d›💻 a Enter = nothing
+: advised hint:b␊c columns:4
+a é Left = nothing
 : reads:2,interrupted,1.. prompt:漢␊
 ‹e6›‹bc›‹a2› Left a Enter = nothing
 """
@@ -86,12 +91,12 @@ class Player:
 
     @staticmethod
     def play(sessions):
-        """What these sessions leave, each in both ways; what the program tells of no more is the one that ended it."""
+        """What these sessions leave, each in its three ways, and the run; where that was cut off, some are missing."""
         rows = []
         for session in sessions:
             others = " ".join(word for word in session.words if not word.startswith("reads:"))
-            for words in (others, f"{others} {session.cut()}"):
-                rows.append(f"\n: {words}\n{noted_keys(session.keys)} = nothing")
+            ways = [("", b""), (session.cut(), b""), (f"bind:{ACCEPTING}⇒AcceptLine", KEYS[ACCEPTING])]
+            rows += [f"\n: {others} {word}\n{noted_keys(session.keys + key)} = nothing" for word, key in ways]
         ran = subprocess.run([PROGRAM, "each"], input="".join(rows).encode(), capture_output=True, preexec_fn=limit)
         told = ran.stdout.decode().split("\n")[:-1]
         return list(map(left_of, told)), ran
@@ -101,11 +106,11 @@ class Player:
         sessions = iter(sessions)
         while batch := list(itertools.islice(sessions, BATCH)):
             left, ran = self.play(batch)
-            if ran.returncode != 0 or len(left) != 2 * len(batch):
+            if ran.returncode != 0 or len(left) != 3 * len(batch):
                 yield from self.apart(batch, ran)
                 continue
             for at, session in enumerate(batch):
-                yield session, found_of(session, *left[2 * at:2 * at + 2])
+                yield session, found_of(session, *left[3 * at:3 * at + 3])
 
     def apart(self, batch, ran):
         """The sessions of a batch that the program didn't end, each by itself."""
@@ -116,16 +121,16 @@ class Player:
             yield from self.faults([session])
 
 
-def found_of(session, whole, pieces):
-    """What is wrong with a session that left this, read at once and in pieces."""
+def found_of(session, whole, pieces, accepted):
+    """What is wrong with a session that left this, read at once, in pieces, and with the last line accepted."""
     try:
-        judge(session, whole, pieces)
+        judge(session, whole, pieces, accepted)
     except (Fault, Unjudged) as fault:
         return fault
     return None
 
 
-def judge(session, whole, pieces):
+def judge(session, whole, pieces, accepted):
     if whole.ending == "Memory" and not has_reason(session, "Memory"):
         raise Unjudged("more than there is room for")
     if whole != pieces:
@@ -134,9 +139,25 @@ def judge(session, whole, pieces):
         return same("ending", whole, Left("unopened HistoryText"))
     if not has_reason(session, whole.ending):
         tell("ending", f"{whole.ending} of words and keys that have no reason for it")
-    lines = shown_lines(session, whole.display, whole.lines, whole.ending not in ("Helper", "Memory"))
+    lines, shown = shown_lines(session, whole.display, whole.lines, whole.ending not in ("Helper", "Memory"))
     saved = saved_after(session.history, lines) if "adding" in session.words else None
-    return same("history", whole.saved, saved or b"")
+    same("history", whole.saved, saved or b"")
+    return judge_open_line(session, shown, whole, accepted)
+
+
+def judge_open_line(session, shown, whole, accepted):
+    """What the display shows at last is the line that was accepted then, where the key for that was read as one."""
+    if (whole.ending, accepted.ending) != ("Eof", "Eof") or not accepted.lines.startswith(whole.lines):
+        return
+    line = accepted.lines[len(whole.lines):].decode()
+    if not line:
+        return
+    rows = shown.below(shown.top)
+    for prompt in prompts_of(session, shown):
+        for drawn in session.open_lines(prompt, line[:-1]):
+            if rows == drawn.below(0) or session.hints_of_history and begins(rows, drawn.below(0)):
+                return
+    tell("open line", f"of {line[:-1]!r} the display shows {pictured(shown)}")
 
 
 def has_reason(session, ending):

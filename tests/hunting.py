@@ -46,8 +46,8 @@ def is_text(data):
 
 
 def shown_lines(session, display, lines, is_drawn=True):
-    """The lines that were written, as the display shows them, each where it ends; all else on it is as it must be. The line that
-    was begun may be undrawn, where a helper failed."""
+    """The lines that were written, as the display shows them, each where it ends, and what it shows at last; all else on it is as
+    it must be. The line that was begun may be undrawn, where a helper failed."""
     if lines and not (lines.endswith(b"\n") and is_text(lines)):
         tell("lines", f"not whole: {lines[-60:]!r}")
     text, found, ends = lines.decode(), [], display.count(b"\r\n" + REDRAWN)
@@ -64,7 +64,7 @@ def shown_lines(session, display, lines, is_drawn=True):
         tell("lines", f"the display shows the end of none of {text!r}")
     if is_drawn and not shows_prompt(session, shown):
         tell("display", f"at the end it shows no prompt, but {pictured(shown)}")
-    return found
+    return found, shown
 
 
 def ended_line(session, shown, text, is_last):
@@ -85,10 +85,14 @@ def is_shown(session, shown, line):
 
 def shows_prompt(session, shown):
     """Whether the prompt, or that of a count, stands at the display's top."""
-    count = COUNT.match(shown.text(shown.top, 0))
-    prompts = [session.prompt] + ([count[0]] if count else [])
-    drawn = [Drawing(session.columns, prompt, clusters=session.clusters) for prompt in prompts]
+    drawn = [Drawing(session.columns, prompt, clusters=session.clusters) for prompt in prompts_of(session, shown)]
     return any(begins(shown.below(shown.top), each.below(0)) for each in drawn)
+
+
+def prompts_of(session, shown):
+    """The session's prompt, and that of a count which a display may show."""
+    count = COUNT.match(shown.text(shown.top, 0))
+    return [session.prompt] + ([count[0]] if count else [])
 
 
 def begins(rows, drawn):
