@@ -3,7 +3,6 @@
 import importlib.util
 import itertools
 import os
-import resource
 import stat
 import subprocess
 import tempfile
@@ -14,11 +13,8 @@ UP = b"\x1b[A"
 NOT_LOADED = b"keyline: history does not load\n"
 NOT_SAVED = b"keyline: history text failed\n"
 NO_WORDS = b"keyline: words do not load\n"
-NO_MEMORY = b"keyline: out of memory\n"
 TAB = b"\t"
 BELL = b"\x07"
-# What a program may take of memory that reads what never ends, in bytes.
-SPACE = 300_000_000
 # Words of each kind, of which every one and every two make a command line.
 WORDS = ["--help", "-h", "-hx", "--help=x", "--mode", "--mode=vi", "--mode=ed", "--columns", "--columns=+07", "--columns=1",
          "--columns=", "--prompt=--", "--history", "--words", "--brackets", "--brackets=on", "--", "-", "", "vi", "7", "-x", "-\u00e9",
@@ -254,18 +250,6 @@ def another_fault_comes_first():
         words_end(run, b"keyline: line output failed\n", 1)
 
 
-def a_device_is_no_file():
-    expect(ran(b"ab\r", "--history", os.devnull), b"ab\n")
-    same("still a device", stat.S_ISCHR(os.stat(os.devnull).st_mode), True)
-
-
-def a_history_without_end():
-    with open(os.devnull, "rb") as keys:
-        run = ran(b"", "--history", "/dev/zero", stdin=keys,
-                  preexec_fn=lambda: resource.setrlimit(resource.RLIMIT_AS, (SPACE, SPACE)))
-    expect(run, b"", NO_MEMORY, 1)
-
-
 class Words(History):
     """A folder with a file of words."""
 
@@ -330,28 +314,10 @@ def words_are_read_before_the_history():
         same("status", words.ran(b"ab\r", "--history", history.path, "--columns", "1").returncode, 2)
 
 
-def words_of_a_device():
-    expect(ran(b"ab\r", "--words", os.devnull), b"ab\n")
-    with open(os.devnull, "rb") as keys:
-        run = ran(b"", "--words", "/dev/zero", stdin=keys,
-                  preexec_fn=lambda: resource.setrlimit(resource.RLIMIT_AS, (SPACE, SPACE)))
-    expect(run, b"", NO_MEMORY, 1)
-
-
 def many_words():
     with Words(*(b"word%d" % number for number in range(100000))) as words:
         expect(words.ran(b"word9999" + TAB + TAB + ENTER), b"word9999\n")
         expect(words.ran(TAB + b"12345" + TAB + ENTER), b"word12345\n")
-
-
-def what_a_crash_left():
-    with History(b"#V2\none\n") as history:
-        for number in range(3):
-            with open(f"{history.path}.{number}.new", "wb") as it:
-                it.write(b"half")
-        expect(ran(b"two\r", "--history", history.path), b"two\n")
-        same("history", history.text(), b"#V2\none\ntwo\n")
-        same("the folder", len(history.names()), 4)
 
 
 def many_entries():
@@ -383,15 +349,11 @@ if __name__ == "__main__":
         histories_that_do_not_load,
         histories_that_cannot_be_written,
         another_fault_comes_first,
-        a_device_is_no_file,
-        a_history_without_end,
         words_complete,
         words_are_cut_as_rows,
         words_with_brackets,
         words_that_do_not_load,
         words_are_read_before_the_history,
-        words_of_a_device,
         many_words,
-        what_a_crash_left,
         many_entries,
     ])

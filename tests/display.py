@@ -147,28 +147,39 @@ def step_back(char, total, after, selector):
     return (total + own, "emoji" if char in EMOJI else "tone" if char in TONES else None, None)
 
 
+def text_width(text):
+    """The columns of a text."""
+    reading = (0, None, None)
+    for char in reversed(text):
+        reading = step_back(char, *reading)
+    return reading[0]
+
+
+# The columns of a cluster, by how clusters are counted.
+COUNTED = {
+    "Unicode": text_width,
+    "WcWidth": lambda cluster: sum(known(char)[1] for char in cluster),
+    "NoZwj": lambda cluster: sum(map(text_width, cluster.split(JOINER))),
+}
 WIDTHS = {}
 
 
-def width(cluster):
-    """The columns of a cluster as a text."""
-    if cluster not in WIDTHS:
-        reading = (0, None, None)
-        for char in reversed(cluster):
-            reading = step_back(char, *reading)
-        WIDTHS[cluster] = reading[0]
-    return WIDTHS[cluster]
+def width(cluster, counted):
+    """The columns of a cluster."""
+    if (cluster, counted) not in WIDTHS:
+        WIDTHS[cluster, counted] = COUNTED[counted](cluster)
+    return WIDTHS[cluster, counted]
 
 
 def is_control(char):
     return char < " " or "\x7f" <= char <= "\x9f"
 
 
-def shown_cluster(cluster, columns):
+def shown_cluster(cluster, columns, counted):
     """What is drawn of a cluster, and its width."""
-    if any(map(is_control, cluster)) or not 1 <= width(cluster) <= columns:
+    if any(map(is_control, cluster)) or not 1 <= width(cluster, counted) <= columns:
         return ("?", 1)
-    return (cluster, width(cluster))
+    return (cluster, width(cluster, counted))
 
 
 class Rows:
@@ -176,8 +187,8 @@ class Rows:
 
     INSIDE = object()
 
-    def __init__(self, columns):
-        self.columns, self.rows = columns, []
+    def __init__(self, columns, clusters="Unicode"):
+        self.columns, self.counted, self.rows = columns, clusters, []
 
     def row(self, number):
         if number > MOST_ROWS:
@@ -208,8 +219,8 @@ class Rows:
 class Drawing(Rows):
     """Texts drawn one after the other from a display's first cell; `place` is where they end."""
 
-    def __init__(self, columns, *texts):
-        super().__init__(columns)
+    def __init__(self, columns, *texts, clusters="Unicode"):
+        super().__init__(columns, clusters)
         self.place = (0, 0)
         for text in texts:
             self.draw(text)
@@ -221,7 +232,7 @@ class Drawing(Rows):
             if PRINTABLE.match(piece):
                 self.lay((char, 1) for char in piece)
             else:
-                self.lay(shown_cluster(cluster, self.columns) for cluster in clusters(piece))
+                self.lay(shown_cluster(cluster, self.columns, self.counted) for cluster in clusters(piece))
 
     def lay(self, items):
         row, col = self.place
@@ -238,8 +249,8 @@ class Drawing(Rows):
 class Display(Rows):
     """A display that reads bytes. `top` is the row where the present line begins: nothing may change above."""
 
-    def __init__(self, columns):
-        super().__init__(columns)
+    def __init__(self, columns, clusters="Unicode"):
+        super().__init__(columns, clusters)
         self.cursor, self.top, self.homed = (0, 0), 0, False
 
     def tell(self, why):
@@ -273,7 +284,7 @@ class Display(Rows):
         if PRINTABLE.match(text):
             items = [(char, 1) for char in text]
         elif len(clusters(text)) == 1 and not any(map(is_control, text)):
-            items = [(text, width(text))]
+            items = [(text, width(text, self.counted))]
         else:
             self.tell(f"{text!r} is no cluster")
         wide = sum(item[1] for item in items)

@@ -9,12 +9,15 @@ import signal
 import subprocess
 import tempfile
 
-from checks import HUNG, NEW_ROW, PROGRAM, Running, drawing, run_all, same
+from checks import CTRL_D, HUNG, NEW_ROW, PROGRAM, Running, drawing, run_all, same
 
 OLD = b"#V2\n" + b"".join(b"entry %d\n" % number for number in range(60))
 NEW = b"x" * 20_000
 NOT_LOADED = b"keyline: history does not load\n"
 NOT_SAVED = b"keyline: history text failed\n"
+NO_WORDS = b"keyline: words do not load\n"
+# How many files a crash may have left each, and an owner who isn't the tests' own.
+STALE, NOBODY = 120, 65534
 
 
 def played(path, keys, status=0, words=b"", **more):
@@ -93,6 +96,111 @@ def a_link_in_a_circle():
         same("files", sorted(os.listdir(folder)), ["one", "two"])
 
 
+def a_link_to_nothing():
+    """The file that a link names is made, and the link stays; so behind several links, from other folders too."""
+    with folder_with("link") as (folder, link):
+        os.mkdir(os.path.join(folder, "one"))
+        os.symlink("one/two", link)
+        os.symlink("../three", os.path.join(folder, "one", "two"))
+        os.symlink(os.path.join(folder, "four"), os.path.join(folder, "three"))
+        played(link, b"a\r")
+        same("the file", text_of(os.path.join(folder, "four")), b"#V2\na\n")
+        played(link, b"b\r")
+        same("the file", text_of(os.path.join(folder, "four")), b"#V2\na\nb\n")
+        links = [os.path.islink(os.path.join(folder, name)) for name in ("link", "one/two", "three", "four")]
+        same("what is a link", links, [True, True, True, False])
+        same("files", sorted(os.listdir(folder)), ["four", "link", "one", "three"])
+    with folder_with("link") as (folder, link):
+        os.symlink("none/history", link)
+        played(link, b"a\r", 1, NOT_SAVED)
+        same("files", os.listdir(folder), ["link"])
+
+
+def a_name_as_long_as_names_are():
+    """A name of 255 bytes has no room for another ending, nor one of letters of two bytes."""
+    for name in ("h" * 255, "é" * 127):
+        with folder_with(name) as (folder, path):
+            played(path, b"a\r")
+            played(path, b"b\r")
+            same("history and files", [text_of(path), os.listdir(folder)], [b"#V2\na\nb\n", [name]])
+
+
+def a_relative_name():
+    with folder_with("history") as (folder, path):
+        played("history", b"a\r", cwd=folder)
+        os.symlink("history", os.path.join(folder, "link"))
+        played("link", b"b\r", cwd=folder)
+        played("./link", b"c\r", cwd=folder)
+        same("history and files", [text_of(path), sorted(os.listdir(folder))], [b"#V2\na\nb\nc\n", ["history", "link"]])
+
+
+def what_crashes_left():
+    """Files that runs before have left don't stop a save, and stay; nor do those of a run that is at work."""
+    with folder_with("history", OLD) as (folder, path):
+        left = [f".keyline.{number}.new" for number in range(STALE)]
+        for name in left:
+            with open(os.path.join(folder, name), "wb") as file:
+                file.write(b"half")
+        played(path, b"a\r")
+        same("history", text_of(path), OLD + b"a\n")
+        same("files", sorted(os.listdir(folder)), sorted([*left, "history"]))
+
+
+def the_owner_of_a_file():
+    """A file keeps its owner, its group and its rights where the program may give them, and is saved where it may not."""
+    with folder_with("history", OLD) as (folder, path):
+        if os.geteuid() != 0:
+            print("not played: a file of another owner, which root alone can make")
+            return
+        os.chmod(path, 0o640)
+        os.chown(path, NOBODY, NOBODY - 1)
+        played(path, b"a\r")
+        found = os.stat(path)
+        same("owner, group and rights", [found.st_uid, found.st_gid, found.st_mode & 0o7777], [NOBODY, NOBODY - 1, 0o640])
+        os.chmod(path, 0o666)
+        os.chmod(folder, 0o777)
+        played(path, b"b\r", user=NOBODY - 2, group=NOBODY - 2, extra_groups=[])
+        found = os.stat(path)
+        same("owner and rights", [found.st_uid, found.st_mode & 0o7777], [NOBODY - 2, 0o666])
+        same("history and files", [text_of(path), os.listdir(folder)], [OLD + b"a\nb\n", ["history"]])
+
+
+def devices():
+    """A device is neither a history nor words: it is refused before a key is read, and not read without end."""
+    for name in ("/dev/null", "/dev/zero", "/dev/full", "/dev/urandom"):
+        for option, words, status in (("--history", NOT_LOADED, 5), ("--words", NO_WORDS, 6)):
+            ran = subprocess.run([PROGRAM, option, name], input=b"ab\r", capture_output=True, timeout=HUNG)
+            same(f"lines, words and status of {option} {name}", [ran.stdout, ran.stderr, ran.returncode], [b"", words, status])
+    with folder_with("link") as (folder, link):
+        os.symlink("/dev/zero", link)
+        ran = subprocess.run([PROGRAM, "--history", link], input=b"ab\r", capture_output=True, timeout=HUNG)
+        same("lines, words and status of a link", [ran.stdout, ran.stderr, ran.returncode], [b"", NOT_LOADED, 5])
+
+
+@contextlib.contextmanager
+def pipe_with(text):
+    """The path of a pipe that gives this text, and what a program is started with to have it."""
+    reader, writer = os.pipe()
+    os.write(writer, text)
+    os.close(writer)
+    try:
+        yield f"/dev/fd/{reader}", {"pass_fds": [reader]}
+    finally:
+        os.close(reader)
+
+
+def a_pipe():
+    """What a pipe gives is read to its end; a history can't be written to one that nobody reads."""
+    with pipe_with(b"alpha\n") as (path, given):
+        ran = subprocess.run([PROGRAM, "--words", path], input=b"alp\t\r", capture_output=True, timeout=HUNG, **given)
+        same("lines and status with words", [ran.stdout, ran.returncode], [b"alpha\n", 0])
+    for keys, lines, status, words in ((b"\x10" + CTRL_D, b"", 0, b""), (b"\x10b\r", b"alphab\n", 1, NOT_SAVED)):
+        with pipe_with(b"alpha\n") as (path, given):
+            ran = subprocess.run([PROGRAM, "--history", path], input=keys, capture_output=True, timeout=HUNG, **given)
+            same("lines and status with a history", [ran.stdout, ran.returncode], [lines, status])
+            same("last words", ran.stderr[len(ran.stderr) - len(words):], words)
+
+
 def killed_in_mid_line():
     """A signal ends the program: the lines before stand, and the old history is whole."""
     for number in (signal.SIGTERM, signal.SIGHUP, signal.SIGINT, signal.SIGQUIT, signal.SIGKILL):
@@ -111,5 +219,12 @@ if __name__ == "__main__":
     run_all([
         a_full_disk,
         a_link_in_a_circle,
+        a_link_to_nothing,
+        a_name_as_long_as_names_are,
+        a_relative_name,
+        what_crashes_left,
+        the_owner_of_a_file,
+        devices,
+        a_pipe,
         killed_in_mid_line,
     ])

@@ -1,5 +1,9 @@
 """Sessions that nobody would write by hand, each made from a random generator: for tests/hostile.py."""
 import dataclasses
+import re
+
+from display import Drawing
+from hunting import without_parts
 
 ESC, ENTER = b"\x1b", b"\r"
 PASTE, PASTED = b"\x1b[200~", b"\x1b[201~"
@@ -41,11 +45,13 @@ VI += [b"fa", b"F ", b"tb", b"T,", b"rx", b"r\x1b", b"dd", b"cc", b"yy", b"dw", 
        b"3.", b"dz", b"cx"]
 
 
+MESSAGE = re.compile(r"Mismatched brackets: '.' is (unpaired|not properly closed)")
+
+
 @dataclasses.dataclass(frozen=True)
 class Session:
-    """A run of the program: its keys, its arguments, and the bytes of its history file, which None leaves out.
-
-    A file of words would be one field more.
+    """A run of the program: its keys, its arguments, and the bytes of its history file and of its file of words, which None
+    leaves out.
     """
 
     keys: bytes
@@ -54,13 +60,46 @@ class Session:
     prompt: str = "> "
     brackets: bool = False
     history: bytes = None
+    words: bytes = None
 
     def __repr__(self):
         given = [(field, getattr(self, field.name)) for field in dataclasses.fields(self)]
         return f"Session({', '.join(f'{field.name}={value!r}' for field, value in given if value != field.default)})"
 
-    def arguments(self):
+    # How clusters are counted.
+    clusters = "Unicode"
+
+    def with_message(self, shown, line, place):
+        """The drawing that has after prompt and line the message which a display shows there, where it may show one."""
+        message = shown.text(shown.top + place[0], place[1])
+        if self.brackets and MESSAGE.fullmatch(message):
+            yield Drawing(self.columns, self.prompt, line, message)
+
+    @property
+    def hints_of_history(self):
+        return self.brackets or self.words is not None
+
+    def open_lines(self, prompt, line):
+        """Drawings of a line that isn't ended; after it a hint of the history may stand, or a message."""
+        yield Drawing(self.columns, prompt, line)
+
+    def shorter(self):
+        """Sessions with less in them, the ones with much less first."""
+        for field in ("prompt", "history", "words", "brackets", "mode", "columns"):
+            default = Session.__dataclass_fields__[field].default
+            if getattr(self, field) != default:
+                yield dataclasses.replace(self, **{field: default})
+        for field in ("keys", "history", "words", "prompt"):
+            for less in without_parts(getattr(self, field) or b""):
+                yield dataclasses.replace(self, **{field: less})
+        for at, byte in enumerate(self.keys[:100]):
+            if byte != 0x61:
+                yield dataclasses.replace(self, keys=self.keys[:at] + b"a" + self.keys[at + 1:])
+
+    def arguments(self, words):
+        """The program's, with the path of the file of words."""
         given = [f"--mode={self.mode}", f"--columns={self.columns}", f"--prompt={self.prompt}"]
+        given += [] if self.words is None else [f"--words={words}"]
         return given + (["--brackets"] if self.brackets else [])
 
 
@@ -88,6 +127,8 @@ def settings(rng):
         given["prompt"] = rng.choice(["", "$ ", "漢", "a\nb", "é> "])
     if rng.random() < 0.2:
         given["history"] = history(rng)
+    if rng.random() < 0.1:
+        given["words"] = rng.choice([b"a\nab\nabc\nword\n", "漢字\n漢\né".encode(), rng.randbytes(some(rng, 0, 20))])
     return given
 
 
@@ -234,6 +275,20 @@ def history_files(rng):
     return Session(keys=cut(rng, closed(rng, keys)), **given)
 
 
+def word_files(rng):
+    """Files of words of every kind, and keys that complete them."""
+    given = settings(rng)
+    listed = [texts(rng, 6, ["\t", "\r", "\u3000"]) for _ in range(rng.choice([0, 1, 1, 2, 3, 10]))]
+    listed += [word[:rng.randrange(len(word) + 1)] + texts(rng, 3) for word in listed]
+    given["words"] = rng.choice(["\n", "\n", "\r\n", "\n\n"]).join(listed).encode() + rng.choice([b"\n", b"", b"\xff", b"\xe6\xbc"])
+    keys = b""
+    for _ in range(some(rng, 1, 20)):
+        word = rng.choice([*listed, "a"])
+        keys += rng.choice([word[:rng.randrange(len(word) + 1)].encode(), one_key(rng, given["mode"]), ENTER, b" "])
+        keys += rng.choice([b"\t", b"\t", b"\t\t", b"\x1b[D\t", b""])
+    return Session(keys=cut(rng, closed(rng, keys)), **given)
+
+
 def large_pastes(rng):
     """A megabyte pasted."""
     unit = rng.choice(["0123456789abcdef", "漢字", "e\u0301", "👩\u200d💻", "a\n", "\r\n", "word ", "(", "\x1b[20", "\t"])
@@ -243,4 +298,5 @@ def large_pastes(rng):
 
 
 # Of each kind that comes by chance, how often.
-KINDS = {random_bytes: 6, keys_cut_anywhere: 10, pastes: 6, counts: 4, odd_texts: 8, odd_prompts: 3, history_files: 3}
+KINDS = {random_bytes: 6, keys_cut_anywhere: 10, pastes: 6, counts: 4, odd_texts: 8, odd_prompts: 3, history_files: 3,
+         word_files: 3}

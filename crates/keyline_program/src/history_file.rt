@@ -1,65 +1,103 @@
 //! The file that keeps a history.
 
-use std::fs::{File, OpenOptions, Permissions};
+use crate::files;
+use std::fs::{File, Metadata, OpenOptions, Permissions};
 use std::io::{Error, ErrorKind, Write};
-use std::os::unix::fs::{OpenOptionsExt, PermissionsExt};
+use std::os::unix::fs::{MetadataExt, OpenOptionsExt, PermissionsExt, fchown};
 use std::{fs, io};
 
 /// The rights of a new history file: its owner's alone.
 const RIGHTS: u32 = 0o600;
 
-/// How many names are tried for a file that is to take the old one's place.
-const NAMES: u8 = 100;
+/// How many links are followed, one to the next.
+const LINKS: u8 = 40;
 
 /// The text of the file. A missing file is empty.
 pub(crate) fn load(rt: &HostRuntime, path: &str) -> io::Result<Vec<u8>> {
-    match fs::read(rt, path) {
+    match files::read(rt, path) {
         Err(error) if error.kind() == ErrorKind::NotFound => Ok(Vec::new(rt.alloc())),
         read => read,
     }
 }
 
-/// Writes the text whole. A regular file is replaced by a new one of its folder that has its rights,
-/// so the old text stays until the new one is there; what is no regular file is written to.
+/// Writes the text whole. A regular file is replaced by a new one of its folder that has its rights
+/// and its owner, so the old text stays until the new one is there; a link stays, and a file that it
+/// names and that is missing is made. What is no regular file is written to.
 pub(crate) fn save(rt: &HostRuntime, path: &str, text: &[u8]) -> io::Result<()> {
-    let old = match fs::metadata(rt, path) {
+    let target = target_of(rt, path)?;
+    let target = target.as_str();
+    let old = match fs::metadata(rt, target) {
         Ok(old) => old,
-        Err(error) if error.kind() == ErrorKind::NotFound => {
-            return replace(rt, path, Permissions::from_mode(RIGHTS), text);
-        }
+        Err(error) if error.kind() == ErrorKind::NotFound => return replace(rt, target, None, text),
         Err(error) => return Err(error),
     };
     // Opened for writing, so that a file which its rights protect stays as it is.
-    let mut file = OpenOptions::new().write(true).open(rt, path)?;
+    let mut file = OpenOptions::new().write(true).open(rt, target)?;
     if !old.is_file() {
         return file.write_all(text);
     }
-    let target = fs::canonicalize(rt, path)?;
-    match target.to_str() {
-        Some(target) => replace(rt, target, old.permissions(), text),
-        None => Err(Error::from(ErrorKind::InvalidData)),
-    }
+    replace(rt, target, Some(&old), text)
 }
 
-fn replace(rt: &HostRuntime, path: &str, rights: Permissions, text: &[u8]) -> io::Result<()> {
+/// Where the links of a path lead to, one after the other.
+fn target_of(rt: &HostRuntime, path: &str) -> io::Result<String> {
+    let mut target = String::from_str(rt.alloc(), path)?;
+    for _ in 0..LINKS {
+        let link = match fs::read_link(rt, target.as_str()) {
+            Ok(link) => link,
+            Err(error) if error.kind() == ErrorKind::OutOfMemory => return Err(error),
+            Err(_) => return Ok(target),
+        };
+        target = match link.to_str() {
+            Some(link) => beside(rt, target.as_str(), link)?,
+            None => return Err(Error::from(ErrorKind::InvalidData)),
+        };
+    }
+    Err(Error::from(ErrorKind::InvalidData))
+}
+
+/// A path as it is seen from the folder of another.
+fn beside(rt: &HostRuntime, other: &str, path: &str) -> io::Result<String> {
+    let seen = match other.rsplit_once('/') {
+        Some((folder, _)) if !path.starts_with('/') => format!(in rt.alloc(); "{folder}/{path}")?,
+        _ => String::from_str(rt.alloc(), path)?,
+    };
+    Ok(seen)
+}
+
+fn replace(rt: &HostRuntime, path: &str, old: Option<&Metadata>, text: &[u8]) -> io::Result<()> {
     let (mut file, name) = new_beside(rt, path)?;
-    let written = fill(&mut file, rights, text).and_then(|()| fs::rename(rt, name.as_str(), path));
+    let written = fill(&mut file, old, text).and_then(|()| fs::rename(rt, name.as_str(), path));
     if written.is_err() {
         let _ = fs::remove_file(rt, name.as_str());
     }
     written
 }
 
-fn fill(file: &mut File, rights: Permissions, text: &[u8]) -> io::Result<()> {
+fn fill(file: &mut File, old: Option<&Metadata>, text: &[u8]) -> io::Result<()> {
+    let rights = match old {
+        Some(old) => {
+            keep_owner(file, old);
+            old.permissions()
+        }
+        None => Permissions::from_mode(RIGHTS),
+    };
     file.set_permissions(rights)?;
     file.write_all(text)?;
     file.sync_all()
 }
 
-/// A new file in the folder of another, and its name.
+/// Gives a file the owner and the group of another, where the program may.
+fn keep_owner(file: &File, old: &Metadata) {
+    let _ = fchown(file, None, Some(old.gid()));
+    let _ = fchown(file, Some(old.uid()), None);
+}
+
+/// A new file in the folder of another, and its name, which is short, whatever the other's is.
 fn new_beside(rt: &HostRuntime, path: &str) -> io::Result<(File, String)> {
-    for number in 0..NAMES {
-        let name = format!(in rt.alloc(); "{path}.{number}.new")?;
+    for number in 0..u16::MAX {
+        let name = format!(in rt.alloc(); ".keyline.{number}.new")?;
+        let name = beside(rt, path, name.as_str())?;
         let opened = OpenOptions::new()
             .write(true)
             .create_new(true)

@@ -3,15 +3,16 @@
 
 ghost use Rattle.std.specs.Prelude.{◌≤◌};
 
+mod files;
 mod history_file;
 
 use keyline::{
     Ending, Options, Parsed, ReadSource, ReadlineError, Sink, SliceSource, VecSink, WriteSink,
     edit, load_words, parse,
 };
+use std::env;
 use std::io::ErrorKind;
 use std::process::ExitCode;
-use std::{env, fs};
 
 /// The status where words are no command line.
 const USAGE: u8 = 2;
@@ -106,7 +107,7 @@ fn words_of(rt: &HostRuntime, options: &Options) -> Result<Option<Vec<String>>, 
     let Some(path) = &options.words else {
         return Ok(None);
     };
-    let text = match fs::read(rt, path.as_str()) {
+    let text = match files::read(rt, path.as_str()) {
         Ok(text) => text,
         Err(error) if error.kind() == ErrorKind::OutOfMemory => return Err(ReadlineError::Memory),
         Err(_) => return Err(ReadlineError::Reader),

@@ -2,6 +2,9 @@
 //! reader that gives a byte at a read.
 #![tactic(auto)]
 
+pub mod advice;
 pub mod aide;
+pub mod bound;
+pub mod each;
 pub mod notation;
 pub mod play;

@@ -6,7 +6,7 @@
 //! character stands as its picture, a blank as `␠`. Where lines aren't added to the history, nothing is to be saved. A line
 //! without ` = ` is a comment, and so is one that begins with `#`. Settings are words, as `vi`, `columns:4` or `words:al,alp`.
 
-use keyline::EditMode;
+use keyline::{EditMode, GraphemeClusterMode};
 use stand_ins::tables::{meant, meant_bytes};
 use std::alloc::{AllocError, Global};
 
@@ -16,14 +16,22 @@ pub struct Setting<'a> {
     pub mode: EditMode,
     pub adding: bool,
     pub helped: bool,
+    /// Whether the helper is an adviser.
+    pub advised: bool,
     /// The words that complete, with a comma between two.
     pub words: &'a str,
     /// Whether Ctrl-O is bound to `YankPop`.
     pub bound: bool,
     pub columns: u16,
+    pub clusters: GraphemeClusterMode,
+    /// The prompt, with pictures.
     pub prompt: &'a str,
     /// The text of the history, with pictures.
     pub loaded: &'a str,
+    /// What a reader does at its calls, with a comma between two.
+    pub reads: &'a str,
+    /// All words, among them those of bindings and of an adviser.
+    pub all: &'a str,
 }
 
 fn has(words: &str, wanted: &str) -> bool {
@@ -31,7 +39,7 @@ fn has(words: &str, wanted: &str) -> bool {
 }
 
 /// What stands after a beginning, in the first word that has it.
-fn after<'a>(words: &'a str, beginning: &str) -> Option<&'a str> {
+pub(crate) fn after<'a>(words: &'a str, beginning: &str) -> Option<&'a str> {
     for word in words.split_whitespace() {
         if let Some(rest) = word.strip_prefix(beginning) {
             return Some(rest);
@@ -40,9 +48,34 @@ fn after<'a>(words: &'a str, beginning: &str) -> Option<&'a str> {
     None
 }
 
+/// The number after a beginning, where a word has it.
+pub(crate) fn number_after(words: &str, beginning: &str, otherwise: usize) -> usize {
+    match after(words, beginning) {
+        Some(digits) => digits.parse().unwrap_or(otherwise),
+        None => otherwise,
+    }
+}
+
+/// The text that is meant by one with pictures and numbers of bytes; none where the bytes are no text.
+pub(crate) fn text_meant(alloc: Global, shown: &str) -> Result<String, AllocError> {
+    match String::from_utf8(meant_bytes(alloc, shown)?) {
+        Ok(text) => Ok(text),
+        Err(_) => Ok(String::new(alloc)),
+    }
+}
+
+fn clusters_named(name: &str) -> GraphemeClusterMode {
+    match name {
+        "WcWidth" => GraphemeClusterMode::WcWidth,
+        "NoZwj" => GraphemeClusterMode::NoZwj,
+        _ => GraphemeClusterMode::Unicode,
+    }
+}
+
 /// Emacs mode, 80 columns, the prompt `> `, and what these words say.
 pub fn setting_of(words: &str) -> Setting<'_> {
     let digits = after(words, "columns:").unwrap_or("80");
+    let prompt = if has(words, "bare") { "" } else { "> " };
     Setting {
         mode: if has(words, "vi") {
             EditMode::Vi
@@ -51,11 +84,15 @@ pub fn setting_of(words: &str) -> Setting<'_> {
         },
         adding: has(words, "adding"),
         helped: has(words, "helped"),
+        advised: has(words, "advised"),
         words: after(words, "words:").unwrap_or(""),
         bound: has(words, "bound"),
         columns: digits.parse().unwrap_or(80),
-        prompt: if has(words, "bare") { "" } else { "> " },
+        clusters: clusters_named(after(words, "clusters:").unwrap_or("")),
+        prompt: after(words, "prompt:").unwrap_or(prompt),
         loaded: after(words, "loaded:").unwrap_or(""),
+        reads: after(words, "reads:").unwrap_or(""),
+        all: words,
     }
 }
 

@@ -2,11 +2,15 @@
 
 ghost use Rattle.std.specs.Prelude.{◌≡◌, false};
 
+use crate::advice::texts_of;
 use crate::aide::aide_of;
-use crate::notation::{Row, Setting, display_meant, field, lines_meant, row_of, setting_of, typed};
+use crate::bound::bind_words;
+use crate::notation::{
+    Row, Setting, display_meant, field, lines_meant, row_of, setting_of, text_meant, typed,
+};
 use keyline::{
-    Bindings, Cmd, Config, Ended, Ending, Event, EventHandler, KeyEvent, ReadSource, ReadlineError,
-    Session, Sink, SliceSource, Source, VecSink,
+    Bindings, Cmd, Config, Ended, Ending, Event, EventHandler, Helper, KeyEvent, ReadSource,
+    ReadlineError, Session, Sink, SliceSource, Source, VecSink,
 };
 use stand_ins::devices::{Pieces, Turns};
 use stand_ins::tables::{meant_bytes, pictured_bytes};
@@ -28,7 +32,51 @@ fn bindings_of(alloc: Global, setting: &Setting<'_>) -> Result<Bindings, Readlin
         let event = Event::from_key(alloc, KeyEvent::ctrl('O'))?;
         let _ = bindings.bind_sequence(event, EventHandler::Simple(Cmd::YankPop))?;
     }
+    bind_words(alloc, &mut bindings, setting.all)?;
     Ok(bindings)
+}
+
+fn config_of(setting: &Setting<'_>) -> Config {
+    Config::builder()
+        .edit_mode(setting.mode)
+        .auto_add_history(setting.adding)
+        .grapheme_cluster_mode(setting.clusters)
+        .build()
+}
+
+/// A session with a helper over these devices, run to its ending; or why none was opened.
+fn ended_with<H: Helper, S: Source + Drop, D: Sink + Drop, L: Sink + Drop, T: Sink + Drop>(
+    alloc: Global,
+    setting: &Setting<'_>,
+    helper: Option<H>,
+    source: S,
+    display: D,
+    lines: L,
+    text: T,
+) -> Result<Ended<S, D, L, T>, ReadlineError>
+where
+    H: Drop,
+    requires source { (S.feed source).failed ≡ false }
+    requires display { D.has_failed display ≡ false }
+    requires lines { L.has_failed lines ≡ false }
+    requires text { T.has_failed text ≡ false }
+{
+    let loaded = meant_bytes(alloc, setting.loaded)?;
+    let prompt = text_meant(alloc, setting.prompt)?;
+    let session = Session::open(
+        alloc,
+        config_of(setting),
+        bindings_of(alloc, setting)?,
+        SliceSource::new(&loaded),
+        helper,
+        prompt.as_str(),
+        source,
+        setting.columns.max(2).min(1000),
+        display,
+        lines,
+        text,
+    )?;
+    Ok(session.run())
 }
 
 /// A session over these devices, run to its ending; or why none was opened.
@@ -45,26 +93,13 @@ pub fn ended<S: Source + Drop, D: Sink + Drop, L: Sink + Drop, T: Sink + Drop>(
     requires lines { L.has_failed lines ≡ false }
     requires text { T.has_failed text ≡ false }
 {
-    let config = Config::builder()
-        .edit_mode(setting.mode)
-        .auto_add_history(setting.adding)
-        .build();
-    let loaded = meant_bytes(alloc, setting.loaded)?;
-    let helper = aide_of(alloc, setting)?;
-    let session = Session::open(
-        alloc,
-        config,
-        bindings_of(alloc, setting)?,
-        SliceSource::new(&loaded),
-        helper,
-        setting.prompt,
-        source,
-        setting.columns.max(2).min(1000),
-        display,
-        lines,
-        text,
-    )?;
-    Ok(session.run())
+    if setting.advised {
+        let texts = texts_of(alloc, setting.all)?;
+        let adviser = texts.adviser(setting.all);
+        return ended_with(alloc, setting, Some(adviser), source, display, lines, text);
+    }
+    let aide = aide_of(alloc, setting)?;
+    ended_with(alloc, setting, aide, source, display, lines, text)
 }
 
 /// What a session over a source of keys left.

@@ -1,12 +1,14 @@
-//! With an argument, draws the line that it names. Without one, plays the sessions that stand in the files of `data/`,
+//! With the argument `each`, tells what each session leaves that stands on standard input; with another one, draws the line that
+//! it names. Without one, plays the sessions that stand in the files of `data/`,
 //! tells each session that differs from what its row says, and how many there were, and then draws a line.
 #![tactic(auto)]
 
 mod drawings;
 
 use anyhow::Result;
+use session_rows::each::told_of_each;
 use session_rows::play::play;
-use std::{env, fs};
+use std::{env, fs, io};
 
 const FILES: [&str; 3] = ["rows.txt", "emacs.txt", "vi.txt"];
 
@@ -25,8 +27,21 @@ fn play_file(rt: &HostRuntime, name: &str) -> Result<usize> {
     Ok(count)
 }
 
+/// Tells what each session of standard input leaves.
+fn tell_each(rt: &HostRuntime) -> Result<()> {
+    let text = io::read_to_string(rt.alloc(), rt.stdin())?;
+    for part in text.split("\n:") {
+        let (settings, rows) = part.split_once('\n').unwrap_or((part, ""));
+        print!(rt; "{}", told_of_each(rt.alloc(), settings, rows)?)?;
+    }
+    Ok(())
+}
+
 fn main(rt: HostRuntime) -> Result<()> {
     if let Some(name) = env::args(&rt)?.nth(1) {
+        if name.as_str() == "each" {
+            return tell_each(&rt);
+        }
         return drawings::draw_named(&rt, name.as_str());
     }
     for name in FILES {

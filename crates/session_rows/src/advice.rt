@@ -1,0 +1,356 @@
+//! A helper of sessions that answers as it is told to, whatever would be right.
+//!
+//! The word `advised` asks for it. What it is told are the words `hint:`, `taken:` (what the hint adds to the line),
+//! `hint-from:`, `verdict:`, `later:`, `later-from:`, `message:`, `offers:` (a candidate, or two with a comma between them),
+//! `start:`, `marked:`, `hint-fails:`, `verdict-fails:`, `completion-fails:`, `update-fails:` and `wants-memory`.
+
+ghost use Rattle.std.specs.Prelude.{◌≡◌, ◌==◌, nat_le, option_copied, option_map, length, None, Some, false, if◌then◌else◌, IfErr};
+ghost use Rattle.line_help.specs.Completion.{text_offered};
+ghost use Rattle.line_keys.specs.Replies.{gives_at_once, gives_unless};
+ghost use Rattle.line_config.specs.declared.errors.HookFault.TheVariants.{Memory};
+
+use crate::notation::{after, number_after, text_meant};
+use keyline::{
+    ChangeListener, CmdKind, Completer, CompletionType, Context, Helper, Highlighter, Hint, Hinter,
+    History, HookFault, LineBuffer, Text, ValidationContext, ValidationResult, Validator,
+    update_line,
+};
+use std::alloc::{AllocError, Global};
+use std::borrow::CowStr;
+
+/// What is found of a text; those that tell do so by the adviser's message.
+#[derive(Clone, Copy)]
+pub enum Verdict {
+    Incomplete,
+    Invalid,
+    InvalidTold,
+    Valid,
+    ValidTold,
+}
+
+/// The candidates for any word.
+#[derive(Clone, Copy)]
+pub enum Offer<'a> {
+    Nothing,
+    One(&'a str),
+    Two(&'a str, &'a str),
+}
+
+/// A hint, and what it adds to the line where it can be taken.
+#[derive(Clone, Copy, Drop)]
+pub struct Said<'a> {
+    display: &'a str,
+    completion: Option<&'a str>,
+}
+
+impl Hint for Said<'_> {
+    ghost says = { λ h. record { display = h.display.now; completion = option_copied h.completion } };
+
+    fn display(&self) -> &str {
+        self.display
+    }
+
+    fn completion(&self) -> Option<&str> {
+        self.completion
+    }
+}
+
+/// A helper with one hint for lines of so many bytes or more, one verdict for texts of fewer bytes and one for longer ones,
+/// and candidates that are the same for every word, which begins at one place. A character is highlighted where the cursor
+/// is at `marked_at`. From a text of so many bytes on hinter, validator and completer fail, or want memory; the completer
+/// puts none of so many bytes in.
+#[derive(Clone, Copy, Drop)]
+pub struct Adviser<'a> {
+    hint: Option<Said<'a>>,
+    hint_from: usize,
+    hint_fails_from: usize,
+    verdict: Verdict,
+    later: Verdict,
+    later_from: usize,
+    message: &'a str,
+    verdict_fails_from: usize,
+    offer: Offer<'a>,
+    start: usize,
+    completion_fails_from: usize,
+    update_fails_from: usize,
+    marked_at: usize,
+    wants_memory: bool,
+}
+
+impl Adviser<'_> {
+    ghost use Rattle.std.specs.Prelude.{IfOk};
+
+    fn fault(&self) -> HookFault {
+        if self.wants_memory {
+            HookFault::Memory
+        } else {
+            HookFault::Failed
+        }
+    }
+
+    fn said(&self, alloc: Global) -> Result<Text, HookFault>
+        ensures ok { IfOk result (λ t. t ≡ self.now.message.now) }
+        ensures err { IfErr result (λ e. e ≡ Memory) }
+    {
+        match Text::try_from_str(alloc, self.message) {
+            Ok(text) => Ok(text),
+            Err(_) => Err(HookFault::Memory),
+        }
+    }
+}
+
+impl Completer for Adviser<'_> {
+    ghost use Rattle.std.specs.Prelude.{◌∷◌, []};
+    ghost use Rattle.session_rows.specs.declared.advice.Offer.TheVariants.{Nothing, One, Two};
+
+    type Candidate = String;
+
+    ghost completion_of = { λ self line pos entries place. gives_unless (nat_le self.completion_fails_from (length line))
+        (record {
+          start = self.start;
+          candidates = elim self.offer [
+            | Nothing ↦ []
+            | One a ↦ text_offered a.now ∷ []
+            | Two a b ↦ text_offered a.now ∷ (text_offered b.now ∷ [])
+          ];
+        }) };
+
+    ghost update_of = { λ self line start elected. gives_unless (nat_le self.update_fails_from (length elected)) (tt {0}) };
+
+    fn complete<Hi: History>(
+        &self,
+        alloc: Global,
+        line: &str,
+        _pos: usize,
+        _ctx: &Context<'_, Hi>,
+    ) -> Result<(usize, Vec<String>), HookFault> {
+        if line.len() >= self.completion_fails_from {
+            return Err(self.fault());
+        }
+        let mut candidates = Vec::new(alloc);
+        match self.offer {
+            Offer::Nothing => {}
+            Offer::One(word) => candidates.push(String::from_str(alloc, word)?)?,
+            Offer::Two(word, other) => {
+                candidates.push(String::from_str(alloc, word)?)?;
+                candidates.push(String::from_str(alloc, other)?)?;
+            }
+        }
+        Ok((self.start, candidates))
+    }
+
+    fn update<L: ChangeListener>(
+        &self,
+        alloc: Global,
+        line: &mut LineBuffer,
+        start: usize,
+        elected: &str,
+        cl: &mut L,
+    ) -> Result<(), HookFault> {
+        if elected.len() >= self.update_fails_from {
+            return Err(self.fault());
+        }
+        update_line(alloc, line, start, elected, cl)
+    }
+}
+
+impl<'a> Hinter for Adviser<'a> {
+    type Hint = Said<'a>;
+
+    ghost hint_of = { λ self line pos entries place. gives_unless (nat_le self.hint_fails_from (length line))
+        (if nat_le self.hint_from (length line) then option_map ⟦<Said<'a> as Hint>⟧.says self.hint else None) };
+
+    fn hint<Hi: History>(
+        &self,
+        _alloc: Global,
+        line: &str,
+        _pos: usize,
+        _ctx: &Context<'_, Hi>,
+    ) -> Result<Option<Said<'a>>, HookFault> {
+        if line.len() >= self.hint_fails_from {
+            return Err(self.fault());
+        }
+        if line.len() >= self.hint_from {
+            Ok(self.hint)
+        } else {
+            Ok(None)
+        }
+    }
+}
+
+impl Highlighter for Adviser<'_> {
+    ghost marks = { λ self line pos kind. pos == self.marked_at };
+
+    ghost kept = { λ before after. after ≡ before };
+
+    ghost shown_as = { λ self part text. gives_at_once text };
+
+    fn highlight<'l>(
+        &self,
+        alloc: Global,
+        line: &'l str,
+        pos: usize,
+    ) -> Result<CowStr<'l>, HookFault> {
+        ().highlight(alloc, line, pos)
+    }
+
+    fn highlight_prompt<'p>(
+        &self,
+        alloc: Global,
+        prompt: &'p str,
+        default: bool,
+    ) -> Result<CowStr<'p>, HookFault> {
+        ().highlight_prompt(alloc, prompt, default)
+    }
+
+    fn highlight_hint<'h>(&self, alloc: Global, hint: &'h str) -> Result<CowStr<'h>, HookFault> {
+        ().highlight_hint(alloc, hint)
+    }
+
+    fn highlight_candidate<'c>(
+        &self,
+        alloc: Global,
+        candidate: &'c str,
+        completion: CompletionType,
+    ) -> Result<CowStr<'c>, HookFault> {
+        ().highlight_candidate(alloc, candidate, completion)
+    }
+
+    fn highlight_char(&mut self, _line: &str, pos: usize, _kind: CmdKind) -> bool {
+        pos == self.marked_at
+    }
+}
+
+impl Validator for Adviser<'_> {
+    ghost use Rattle.line_help.specs.declared.validate.ValidationResult.TheVariants as results;
+    ghost use Rattle.session_rows.specs.declared.advice.Verdict.TheVariants.{Incomplete, Invalid, InvalidTold, Valid, ValidTold};
+
+    ghost verdict_of = { λ self text. gives_unless (nat_le self.verdict_fails_from (length text))
+        (elim (if nat_le self.later_from (length text) then self.later else self.verdict) [
+          | Incomplete ↦ results.Incomplete
+          | Invalid ↦ results.Invalid None
+          | InvalidTold ↦ results.Invalid (Some self.message.now)
+          | Valid ↦ results.Valid None
+          | ValidTold ↦ results.Valid (Some self.message.now)
+        ]) };
+
+    ghost while_typing = { λ self. false };
+
+    fn validate(
+        &self,
+        alloc: Global,
+        ctx: &ValidationContext<'_>,
+    ) -> Result<ValidationResult, HookFault> {
+        let len = ctx.input().len();
+        if len >= self.verdict_fails_from {
+            return Err(self.fault());
+        }
+        let verdict = if len >= self.later_from {
+            self.later
+        } else {
+            self.verdict
+        };
+        let found = match verdict {
+            Verdict::Incomplete => ValidationResult::Incomplete,
+            Verdict::Invalid => ValidationResult::Invalid(None),
+            Verdict::InvalidTold => ValidationResult::Invalid(Some(self.said(alloc)?)),
+            Verdict::Valid => ValidationResult::Valid(None),
+            Verdict::ValidTold => ValidationResult::Valid(Some(self.said(alloc)?)),
+        };
+        Ok(found)
+    }
+
+    fn validate_while_typing(&self) -> bool {
+        false
+    }
+}
+
+impl<'a> Helper for Adviser<'a> {
+    ghost use Rattle.std.proofs.Common.{ap};
+
+    ghost same_completions = { λ before after kept. ap ⟦<Adviser<'a> as Completer>⟧.completion_of kept };
+
+    ghost same_updates = { λ before after kept. ap ⟦<Adviser<'a> as Completer>⟧.update_of kept };
+
+    ghost same_hints = { λ before after kept. ap ⟦<Adviser<'a> as Hinter>⟧.hint_of kept };
+
+    ghost same_verdicts = { λ before after kept. ap ⟦<Adviser<'a> as Validator>⟧.verdict_of kept };
+}
+
+/// The texts of an adviser, in memory of their own.
+#[derive(Drop)]
+pub(crate) struct Texts {
+    hint: Option<String>,
+    taken: Option<String>,
+    message: String,
+    offers: Option<String>,
+}
+
+fn text_after(alloc: Global, words: &str, beginning: &str) -> Result<Option<String>, AllocError> {
+    match after(words, beginning) {
+        Some(shown) => Ok(Some(text_meant(alloc, shown)?)),
+        None => Ok(None),
+    }
+}
+
+/// The texts that a setting has for an adviser.
+pub(crate) fn texts_of(alloc: Global, words: &str) -> Result<Texts, AllocError> {
+    Ok(Texts {
+        hint: text_after(alloc, words, "hint:")?,
+        taken: text_after(alloc, words, "taken:")?,
+        message: text_meant(alloc, after(words, "message:").unwrap_or(""))?,
+        offers: text_after(alloc, words, "offers:")?,
+    })
+}
+
+fn verdict_named(name: &str) -> Verdict {
+    match name {
+        "Incomplete" => Verdict::Incomplete,
+        "Invalid" => Verdict::Invalid,
+        "InvalidTold" => Verdict::InvalidTold,
+        "ValidTold" => Verdict::ValidTold,
+        _ => Verdict::Valid,
+    }
+}
+
+impl Texts {
+    fn hint(&self) -> Option<Said<'_>> {
+        match &self.hint {
+            Some(display) => Some(Said {
+                display: display.as_str(),
+                completion: self.taken.as_ref().map(|text| text.as_str()),
+            }),
+            None => None,
+        }
+    }
+
+    fn offer(&self) -> Offer<'_> {
+        match &self.offers {
+            Some(offers) => match offers.as_str().split_once(',') {
+                Some((word, other)) => Offer::Two(word, other),
+                None => Offer::One(offers.as_str()),
+            },
+            None => Offer::Nothing,
+        }
+    }
+
+    /// The adviser that a setting asks for.
+    pub(crate) fn adviser(&self, words: &str) -> Adviser<'_> {
+        Adviser {
+            hint: self.hint(),
+            hint_from: number_after(words, "hint-from:", 0),
+            hint_fails_from: number_after(words, "hint-fails:", usize::MAX),
+            verdict: verdict_named(after(words, "verdict:").unwrap_or("")),
+            later: verdict_named(after(words, "later:").unwrap_or("")),
+            later_from: number_after(words, "later-from:", usize::MAX),
+            message: self.message.as_str(),
+            verdict_fails_from: number_after(words, "verdict-fails:", usize::MAX),
+            offer: self.offer(),
+            start: number_after(words, "start:", 0),
+            completion_fails_from: number_after(words, "completion-fails:", usize::MAX),
+            update_fails_from: number_after(words, "update-fails:", usize::MAX),
+            marked_at: number_after(words, "marked:", usize::MAX),
+            wants_memory: after(words, "wants-memory").is_some(),
+        }
+    }
+}

@@ -1,0 +1,74 @@
+//! Sessions of which all that they leave is told. The word `reads:` says what a reader does at its calls, as `reads:2,1..`.
+
+ghost use Rattle.std.specs.Prelude.{◌≡◌, false};
+
+use crate::notation::{Setting, row_of, setting_of, typed};
+use crate::play::{Left, left_of};
+use keyline::{ReadSource, ReadlineError};
+use stand_ins::devices::{Pieces, Turns};
+use std::alloc::{AllocError, Global};
+use std::cell::Cell;
+
+fn put_bytes(said: &mut String, bytes: &[u8]) -> Result<(), AllocError> {
+    said.push_str(" .")?;
+    for byte in bytes {
+        write!(said, "{byte:02x}")?;
+    }
+    Ok(())
+}
+
+/// Tells how a session ended, its lines, the text of its history and the bytes of its display.
+fn tell_left(said: &mut String, left: &Left) -> Result<(), AllocError> {
+    let ending = left.ending;
+    write!(said, "{ending:?}")?;
+    put_bytes(said, &left.lines)?;
+    put_bytes(said, &left.saved)?;
+    put_bytes(said, &left.shown)?;
+    said.push_str("\n")
+}
+
+/// What a reader with these turns does at its calls: a comma stands for a blank.
+fn turns_of(alloc: Global, words: &str) -> Result<String, AllocError> {
+    let mut turns = String::new(alloc);
+    for c in words.chars() {
+        turns.push(if c == ',' { ' ' } else { c })?;
+    }
+    Ok(turns)
+}
+
+/// What a session over a reader leaves, of the keys of a row.
+fn left_of_reads(alloc: Global, setting: &Setting<'_>, keys: &str) -> Result<Left, ReadlineError> {
+    let keys = typed(alloc, keys)?;
+    let turns = turns_of(alloc, setting.reads)?;
+    let calls = Cell::new(0);
+    let reader = Pieces {
+        bytes: &keys,
+        turns: Turns::new(turns.as_str(), &calls),
+    };
+    left_of(alloc, setting, ReadSource::new(reader))
+}
+
+fn tell_row(
+    alloc: Global,
+    setting: &Setting<'_>,
+    keys: &str,
+    said: &mut String,
+) -> Result<(), AllocError> {
+    match left_of_reads(alloc, setting, keys) {
+        Ok(left) => tell_left(said, &left),
+        Err(why) => write!(said, "unopened {why:?}\n"),
+    }
+}
+
+/// Tells of each session of rows with these settings, in a line each: its ending, and after points in hexadecimal its lines,
+/// the text of its history and the bytes of its display; or why it wasn't opened.
+pub fn told_of_each(alloc: Global, settings: &str, rows: &str) -> Result<String, AllocError> {
+    let setting = setting_of(settings);
+    let mut said = String::new(alloc);
+    for row in rows.lines() {
+        if let Some(row) = row_of(row) {
+            tell_row(alloc, &setting, row.keys, &mut said)?;
+        }
+    }
+    Ok(said)
+}

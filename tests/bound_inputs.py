@@ -1,0 +1,322 @@
+"""Sessions over memory that nobody would write by hand, each made from a random generator: for tests/hostile_memory.py.
+
+A session has what the program has no argument for: keys bound to commands and handlers, a helper that answers as it is told
+to, and each way in which clusters are counted.
+"""
+import dataclasses
+import re
+
+from display import Drawing
+from hunting import without_parts
+from inputs import COLUMNS, ENTER, PASTE, PASTED, UNTYPED, history, keys_of, one_key, settings, some, texts
+from sessions import NAMED, meant
+
+MESSAGE = re.compile(r"Mismatched brackets: '.' is (unpaired|not properly closed)")
+
+# Keys by their names, and what a terminal sends for them.
+KEYS = {f"C-{chr(code + 0x40)}": bytes([code]) for code in range(1, 0x20) if chr(code) not in "\t\r\x1b\x7f\x08"}
+KEYS.update({"Space": b" ", "Bar": b"|", "Enter": b"\r", "Tab": b"\t", "Backspace": b"\x7f", "Esc": b"\x1b"})
+KEYS.update({chr(code): bytes([code]) for code in range(0x21, 0x7F) if chr(code) != "|"})
+KEYS.update({char: char.encode() for char in "éЖ漢😀\u0301\u200d"})
+KEYS.update({f"A-{chr(code)}": b"\x1b" + bytes([code]) for code in range(0x21, 0x7F) if chr(code) not in "|[O"})
+KEYS.update({f"C-A-{letter}": b"\x1b" + bytes([ord(letter) & 0x1F]) for letter in "AGXZ]"})
+KEYS.update({"Up": b"\x1b[A", "Down": b"\x1b[B", "Right": b"\x1b[C", "Left": b"\x1b[D", "Home": b"\x1b[H", "End": b"\x1b[F"})
+KEYS.update({"Delete": b"\x1b[3~", "Insert": b"\x1b[2~", "PageUp": b"\x1b[5~", "PageDown": b"\x1b[6~", "BackTab": b"\x1b[Z"})
+KEYS.update({"C-Left": b"\x1b[1;5D", "A-Right": b"\x1b[1;3C", "S-Up": b"\x1b[1;2A", "F1": b"\x1bOP", "F5": b"\x1b[15~"})
+KEYS.update({"UnknownEscSeq": b"\x1b[99~", "PasteEnd": PASTED, "PasteStart": PASTE, "C-H": b"\x08", "C-M": b"\r", "C-I": b"\t"})
+NAMES = list(KEYS)
+# The one that accepts a session's last line: nothing else is bound to it.
+ACCEPTING = "F12"
+KEYS[ACCEPTING] = b"\x1b[24~"
+# Those that begin a sequence which is reached.
+FIRST = ["C-X", "C-X", "C-X", "F5", "F1", "S-Up", "PageUp", "Insert", "C-O", "C-V", "A-Q", "C-A-Z", "UnknownEscSeq"]
+
+BARE = """Abort EndOfFile Interrupt Noop Repaint ClearScreen Suspend Unknown AcceptLine Newline AcceptOrInsertLine
+    AcceptAtEndOrInsertLine BeginningOfHistory EndOfHistory ForwardSearchHistory HistorySearchBackward HistorySearchForward
+    NextHistory PreviousHistory ReverseSearchHistory CapitalizeWord Complete CompleteBackward CompleteHint DowncaseWord
+    QuotedInsert TransposeChars UpcaseWord YankPop""".split()
+# Those that show what is hunted for come more often.
+BARE += ["CompleteHint", "Complete", "Repaint", "AcceptLine", "Newline", "YankPop", "HistorySearchBackward", "PreviousHistory"] * 2
+BARE += ["AcceptOrInsertLine", "AcceptAtEndOrInsertLine"] * 3
+RANGES = "WholeLine BeginningOfLine EndOfLine ViFirstPrint WholeBuffer BeginningOfBuffer EndOfBuffer".split()
+ENDS = {"Interrupt", "EndOfFile"}
+
+
+def noted(text):
+    """A text, or bytes, in the notation of rows: pictures, and numbers for what would be lost or be read in another way."""
+    if isinstance(text, bytes):
+        text = text.decode(errors="surrogateescape")
+    return "".join(map(noted_char, text))
+
+
+def noted_char(char):
+    code = ord(char)
+    if code <= 0x20:
+        return chr(0x2400 + code)
+    if code == 0x7F:
+        return "␡"
+    if "\udc80" <= char <= "\udcff":
+        return f"‹{code - 0xDC00:02x}›"
+    if char.isspace() or char in "‹›·⇒→|=" or 0x80 <= code < 0xA0 or 0x2400 <= code <= 0x2421:
+        return "".join(f"‹{byte:02x}›" for byte in char.encode())
+    return char
+
+
+def noted_keys(keys):
+    """Keys as a row has them, in one word."""
+    word = noted(keys) or "nothing"
+    if keys and (word in NAMED or word[0] in ":#" or re.match("[CM]-", word)):
+        return f"‹{ord(word[0]):02x}›{word[1:]}"
+    return word
+
+
+@dataclasses.dataclass(frozen=True)
+class Session:
+    """Keys, and the words of a setting as `session_rows` reads them."""
+
+    keys: bytes
+    words: tuple = ()
+
+    def __repr__(self):
+        return f": {' '.join(self.words)}\n{noted_keys(self.keys)} = nothing"
+
+    def value(self, name, default=None):
+        """What stands after a name in the first word that has it."""
+        return next((word[len(name):] for word in self.words if word.startswith(name)), default)
+
+    @property
+    def columns(self):
+        return int(self.value("columns:", "80"))
+
+    @property
+    def clusters(self):
+        return self.value("clusters:", "Unicode")
+
+    @property
+    def prompt(self):
+        return meant(self.value("prompt:", "> ")).decode()
+
+    @property
+    def history(self):
+        return meant(self.value("loaded:", ""))
+
+    def cut(self):
+        """The word that says how its keys are read the second time."""
+        return f"reads:{self.value('reads:', '1..')}"
+
+    def with_message(self, shown, line, place):
+        """The drawing that has after prompt and line the message which a display shows there, where it may show one."""
+        message = meant(self.value("message:", "")).decode()
+        if "helped" in self.words and "advised" not in self.words:
+            found = MESSAGE.fullmatch(shown.text(shown.top + place[0], place[1]))
+            message = found[0] if found else ""
+        if message:
+            yield Drawing(self.columns, self.prompt, line, message, clusters=self.clusters)
+
+    @property
+    def hints_of_history(self):
+        return "advised" not in self.words and any(word.startswith(("helped", "words:")) for word in self.words)
+
+    def open_lines(self, prompt, line):
+        """Drawings of a line that isn't ended, with what may stand after it."""
+        for text in ("", *(meant(self.value(name, "")).decode() for name in ("hint:", "message:"))):
+            yield Drawing(self.columns, prompt, line, text, clusters=self.clusters)
+
+    def shorter(self):
+        """Sessions with less in them, the ones with much less first."""
+        for words in without_parts(self.words):
+            yield Session(self.keys, words)
+        for keys in without_parts(self.keys):
+            yield Session(keys, self.words)
+        for at, word in enumerate(self.words):
+            for less in shorter_words(word):
+                yield Session(self.keys, (*self.words[:at], less, *self.words[at + 1:]))
+        for at, byte in enumerate(self.keys[:100]):
+            if byte != 0x61:
+                yield Session(self.keys[:at] + b"a" + self.keys[at + 1:], self.words)
+
+
+def shorter_words(word):
+    """This word of a setting with less in it."""
+    name, found, rest = word.partition(":")
+    if name == "bind":
+        keys, _, command = rest.partition("⇒")
+        for less in without_parts(tuple(keys.split("→"))):
+            if less:
+                yield f"bind:{'→'.join(less)}⇒{command}"
+    elif name in ("prompt", "loaded", "hint", "taken", "message", "offers"):
+        for less in without_parts(meant(rest)):
+            yield f"{name}:{noted(less)}"
+    elif found and rest.isdigit() and int(rest) > 2:
+        yield f"{name}:2"
+
+
+def of_text(rng, most):
+    """A text for a command, which has no numbers of bytes in it."""
+    noted_chars = map(noted_char, texts(rng, most, UNTYPED))
+    return "".join(char for char in noted_chars if not char.startswith("‹")) or "x"
+
+
+def movement(rng):
+    if rng.random() < 0.3:
+        return rng.choice(RANGES)
+    n = rng.choice([0, 1, 1, 1, 2, 3, 65535])
+    word = rng.choice(["Big", "Vi", "Emacs"])
+    search = rng.choice(["Forward", "ForwardBefore", "Backward", "BackwardAfter"])
+    return rng.choice([f"BackwardChar·{n}", f"ForwardChar·{n}", f"LineUp·{n}", f"LineDown·{n}", f"BackwardWord·{n}·{word}",
+                       f"ForwardWord·{n}·{rng.choice(['Start', 'BeforeEnd', 'AfterEnd'])}·{word}",
+                       f"ViCharSearch·{n}·{search}·{of_text(rng, 1)[0]}"])
+
+
+def command(rng):
+    """A command, as `stand_ins` reads it."""
+    if rng.random() < 0.4:
+        found = rng.choice(BARE)
+        return found if found not in ENDS or rng.random() < 0.2 else "Repaint"
+    n = rng.choice([0, 1, 1, 2, 3, 7, 20])
+    char = of_text(rng, 1)[0]
+    return rng.choice([
+        f"Kill·{movement(rng)}", f"Kill·{movement(rng)}", f"Move·{movement(rng)}", f"ViYankTo·{movement(rng)}",
+        f"Indent·{movement(rng)}", f"Dedent·{movement(rng)}", f"Replace·{movement(rng)}",
+        f"Replace·{movement(rng)}·with·{of_text(rng, 4)}", f"Yank·{n}·{rng.choice(['Before', 'After'])}", f"Yank·{n}·Before",
+        f"TransposeWords·{n}", f"Undo·{rng.choice([n, 65535])}", f"LineUpOrPreviousHistory·{n}", f"LineDownOrNextHistory·{n}",
+        f"Insert·{n}·{of_text(rng, 6)}", f"SelfInsert·{n}·{char}", f"ReplaceChar·{n}·{char}", f"Overwrite·{char}",
+    ])
+
+
+def action(rng):
+    """A command, or a handler of one answer or another."""
+    at = rng.random()
+    if at < 0.55:
+        return command(rng)
+    if at < 0.75:
+        return f"Always·{command(rng)}"
+    if at < 0.77:
+        return rng.choice(["Fails", "WantsMemory"])
+    return rng.choice(["Count", "Nothing", "Nothing", f"HintOrKill·{rng.choice([0, 1, 2, 65535])}"])
+
+
+def word_of(keys, bound):
+    return f"bind:{'→'.join(keys)}⇒{bound}"
+
+
+def advice(rng):
+    """The words of a helper that answers as it is told to."""
+    words = ["advised"]
+    if rng.random() < 0.7:
+        words.append(f"hint:{noted(texts(rng, 8, UNTYPED))}")
+        words += rng.choice([[], [f"taken:{noted(texts(rng, 6, UNTYPED))}"], [f"taken:{words[-1][5:]}"]])
+    if rng.random() < 0.7:
+        verdicts = ["Incomplete", "Invalid", "InvalidTold", "Valid", "Valid", "ValidTold", "ValidTold"]
+        words += [f"verdict:{rng.choice(verdicts)}", f"later:{rng.choice(verdicts)}", f"later-from:{some(rng, 0, 12)}"]
+        words.append(f"message:{noted(texts(rng, 12, UNTYPED))}")
+    if rng.random() < 0.5:
+        offers = [texts(rng, 5, UNTYPED).replace(",", ";") for _ in range(2)]
+        offers = rng.choice([offers[:1], offers, [offers[0], offers[0] + offers[1]]])
+        words.append(f"offers:{','.join(map(noted, offers))}")
+    for name, often in (("hint-from", 0.5), ("start", 0.5), ("marked", 0.2)):
+        if rng.random() < often:
+            words.append(f"{name}:{some(rng, 0, 8)}")
+    for name in ("hint-fails", "verdict-fails", "completion-fails", "update-fails"):
+        if rng.random() < 0.04:
+            words.append(f"{name}:{some(rng, 0, 20)}")
+    return words + (["wants-memory"] if rng.random() < 0.1 else [])
+
+
+def helper(rng):
+    at = rng.random()
+    if at < 0.5:
+        return advice(rng)
+    if at < 0.7:
+        return rng.choice([["helped"], ["words:al,alp,漢字,e\u0301"], ["helped", "words:word,words,x_y"]])
+    return []
+
+
+def reads(rng):
+    """What a reader does at its calls: mostly a byte at each."""
+    if rng.random() < 0.6:
+        return "reads:1.."
+    turns = [rng.choice(["1", "1", "2", "3", "5", "17", "interrupted"]) for _ in range(some(rng, 0, 20))]
+    return f"reads:{','.join([*turns, rng.choice(['1..', '2..', '3..', '4096..'])])}"
+
+
+def setting(rng):
+    """The words of a setting, without bindings, and its mode."""
+    given = settings(rng)
+    words = ["adding", f"columns:{given['columns']}"] + (["vi"] if given["mode"] == "vi" else [])
+    if "prompt" in given or rng.random() < 0.2:
+        words.append(f"prompt:{noted(given.get('prompt') or texts(rng, 6, UNTYPED))}")
+    if given.get("history"):
+        words.append(f"loaded:{noted(given['history'])}")
+    if rng.random() < 0.3:
+        words.append(f"clusters:{rng.choice(['WcWidth', 'NoZwj'])}")
+    return [*words, *helper(rng), reads(rng)], given["mode"]
+
+
+def typed(rng, mode, names, most):
+    """Keys, among them those of these names."""
+    return ended(rng, b"".join(KEYS[rng.choice(names)] if rng.random() < 0.6 else one_key(rng, mode)
+                               for _ in range(some(rng, 1, most))))
+
+
+def ended(rng, keys):
+    """These keys, with what accepts a line behind them, or cut off anywhere."""
+    return rng.choice([keys + ENTER, keys + b"\n", keys, keys[:rng.randrange(len(keys) + 1)]])
+
+
+def shadowed_keys(rng):
+    """Many keys bound, among them those of the tables, and any other."""
+    words, mode = setting(rng)
+    bound = rng.sample(NAMES, some(rng, 1, 60))
+    words += [word_of([name], action(rng)) for name in bound]
+    if rng.random() < 0.3:
+        words.append(word_of(["any"], action(rng)))
+    return Session(typed(rng, mode, bound, 60), tuple(words))
+
+
+def bound_sequences(rng):
+    """Sequences that begin each other."""
+    words, mode = setting(rng)
+    first = rng.sample(FIRST, rng.choice([1, 1, 2]))
+    names = [*first, *rng.sample(NAMES, rng.choice([1, 2, 3]))]
+    sequences = []
+    for _ in range(some(rng, 1, 10)):
+        begun = rng.choice([*sequences, []])
+        begun = begun[:rng.randrange(len(begun) + 1)] or [rng.choice(first)]
+        sequences.append([*begun, *(rng.choice(names) for _ in range(rng.choice([0, 1, 1, 2, 4])))])
+    words += [word_of(names_of, action(rng)) for names_of in sequences]
+    keys = b""
+    for _ in range(some(rng, 1, 40)):
+        sequence = rng.choice(sequences)
+        whole = b"".join(KEYS[name] for name in sequence[:rng.choice([len(sequence), rng.randrange(len(sequence) + 1)])])
+        keys += rng.choice([whole, whole, whole, KEYS[rng.choice(names)], one_key(rng, mode), ENTER])
+    return Session(ended(rng, keys), tuple(words))
+
+
+def advised_lines(rng):
+    """A helper of any answers, without bindings or with a few that ask it."""
+    words, mode = setting(rng)
+    words = [word for word in words if not word.startswith(("helped", "words:"))]
+    if "advised" not in words:
+        words += advice(rng)
+    asking = {"F5": "CompleteHint", "F1": "Complete", "PageUp": "AcceptLine", "Insert": "AcceptAtEndOrInsertLine"}
+    words += [word_of([name], bound) for name, bound in asking.items() if rng.random() < 0.7]
+    keys = b""
+    for _ in range(some(rng, 1, 30)):
+        keys += rng.choice([KEYS[rng.choice(list(asking))], b"\t", b"\x1b[C", b"\x1b[D", ENTER, texts(rng, 6).encode(),
+                            texts(rng, 6).encode(), keys_of(rng, mode, 3)])
+    return Session(ended(rng, keys), tuple(words))
+
+
+def odd_settings(rng):
+    """Settings of every kind, and keys of every form."""
+    words, mode = setting(rng)
+    words = [word for word in words if not word.startswith(("loaded:", "columns:"))]
+    words.append(f"columns:{rng.choice(COLUMNS)}")
+    loaded = history(rng)
+    words += [f"loaded:{noted(loaded)}"] if loaded else []
+    return Session(ended(rng, keys_of(rng, mode, 50)), tuple(words))
+
+
+# Of each kind, how often.
+KINDS = {shadowed_keys: 4, bound_sequences: 4, advised_lines: 4, odd_settings: 2}

@@ -1,0 +1,254 @@
+"""What the hunts share: what a session must show and keep, a failing one cut down, and processes side by side."""
+import collections
+import itertools
+import os
+import pickle
+import re
+import resource
+import sys
+import time
+import traceback
+
+from checks import Failed
+from display import REDRAWN, Display, Drawing, Meaningless, Unjudged
+
+COUNT = re.compile(r"\(arg: -?\d+\) ")
+# Lines that a history keeps.
+KEPT = 100
+# Bytes that a session may write into one stream, and hold.
+ROOM, SPACE = 64_000_000, 2_000_000_000
+# How many faults end a hunt.
+ENOUGH = 3
+
+
+class Fault(Exception):
+    """What is wrong with a session; the first argument says of which kind it is."""
+
+    def __str__(self):
+        return f"{self.args[0]}: {self.args[1]}"
+
+
+def tell(kind, what):
+    raise Fault(kind, what if len(what) < 2000 else what[:1000] + " .. " + what[-1000:])
+
+
+def same(kind, found, expected):
+    if found != expected:
+        tell(kind, f"expected {expected!r}, found {found!r}")
+
+
+def is_text(data):
+    try:
+        data.decode()
+    except UnicodeDecodeError:
+        return False
+    return True
+
+
+def shown_lines(session, display, lines, is_drawn=True):
+    """The lines that were written, as the display shows them, each where it ends, and what it shows at last; all else on it is as
+    it must be. The line that was begun may be undrawn, where a helper failed."""
+    if lines and not (lines.endswith(b"\n") and is_text(lines)):
+        tell("lines", f"not whole: {lines[-60:]!r}")
+    text, found, ends = lines.decode(), [], display.count(b"\r\n" + REDRAWN)
+    shown = Display(session.columns, session.clusters)
+    try:
+        for _ in shown.read(display):
+            line = ended_line(session, shown, text, len(found) + 1 == ends)
+            found.append(line)
+            text = text[len(line) + 1:]
+            shown.top = shown.cursor[0]
+    except Meaningless as fault:
+        tell("display", str(fault))
+    if text:
+        tell("lines", f"the display shows the end of none of {text!r}")
+    if is_drawn and not shows_prompt(session, shown):
+        tell("display", f"at the end it shows no prompt, but {pictured(shown)}")
+    return found, shown
+
+
+def ended_line(session, shown, text, is_last):
+    """The line at a text's beginning that the display shows: up to its first newline, or a later one, as lines hold some."""
+    ends = [len(text) - 1] if is_last else (at for at, char in enumerate(text) if char == "\n")
+    for end in itertools.islice(ends, 1000):
+        if end >= 0 and is_shown(session, shown, text[:end]):
+            return text[:end]
+    return tell("cells", f"of {text[:200]!r} the display shows no line, but {pictured(shown)}")
+
+
+def is_shown(session, shown, line):
+    """Whether the display shows prompt and line from its top on, and a message at most, and the cursor is in the row below."""
+    drawn = Drawing(session.columns, session.prompt, line, clusters=session.clusters)
+    return any(shown.below(shown.top) == each.below(0) and shown.cursor == (shown.top + each.place[0] + 1, 0)
+               for each in (drawn, *session.with_message(shown, line, drawn.place)))
+
+
+def shows_prompt(session, shown):
+    """Whether the prompt, or that of a count, stands at the display's top."""
+    drawn = [Drawing(session.columns, prompt, clusters=session.clusters) for prompt in prompts_of(session, shown)]
+    return any(begins(shown.below(shown.top), each.below(0)) for each in drawn)
+
+
+def prompts_of(session, shown):
+    """The session's prompt, and that of a count which a display may show."""
+    count = COUNT.match(shown.text(shown.top, 0))
+    return [session.prompt] + ([count[0]] if count else [])
+
+
+def judge_open_line(session, shown, lines, accepted):
+    """What a display shows at last is the line that stood open, with a hint or message at most: the one more line that is
+    accepted where a key for that comes after all others, if it is read as one."""
+    line = accepted[len(lines):].decode()
+    if not line or not accepted.startswith(lines):
+        return
+    rows = shown.below(shown.top)
+    for prompt in prompts_of(session, shown):
+        for drawn in session.open_lines(prompt, line[:-1]):
+            if rows == drawn.below(0) or session.hints_of_history and begins(rows, drawn.below(0)):
+                return
+    tell("open line", f"of {line[:-1]!r} the display shows {pictured(shown)}")
+
+
+def begins(rows, drawn):
+    """Whether these rows have what is drawn, and maybe more."""
+    return len(drawn) <= len(rows) and all(cells.items() <= row.items() for cells, row in zip(drawn, rows))
+
+
+def pictured(shown):
+    """A display's rows from its top on, and its cursor."""
+    rows = [[row.get(col, " ") for col in range(max(row, default=-1) + 1)] for row in shown.below(shown.top)[:20]]
+    words = " / ".join("".join(cell for cell in row if cell is not shown.INSIDE) for row in rows)
+    return f"{words}, the cursor in row {shown.cursor[0] - shown.top}"
+
+
+def entries_of(saved):
+    """The entries of a history file: its rows, in which escapes are read where the first row says so."""
+    rows = saved.decode().split("\n")
+    rows = [row[:-1] if row.endswith("\r") else row for row in rows[:-1]] + rows[-1:]
+    if rows[0] != "#V2":
+        return rows
+    escapes = {"\\n": "\n", "\\\\": "\\"}
+    whole = re.compile(r"([^\\]|\\n|\\\\)*")
+    return [re.sub(r"\\.", lambda it: escapes[it[0]], row) if whole.fullmatch(row) else row for row in rows[1:]]
+
+
+def saved_after(saved, lines):
+    """The text of the history after these lines, None where nothing is new: no line counts that is empty or that was the last
+    one."""
+    kept, are_new = [], 0
+    loaded = [] if saved is None else entries_of(saved)
+    for number, line in enumerate(loaded + lines):
+        if line and line != (kept[-1] if kept else None):
+            kept.append(line)
+            are_new += number >= len(loaded)
+    if not are_new:
+        return None
+    return "".join(line.replace("\\", "\\\\").replace("\n", "\\n") + "\n" for line in ["#V2", *kept[-KEPT:]]).encode()
+
+
+def without_parts(parts):
+    """A text, or a tuple, with less in it, the ones with much less first."""
+    size = len(parts)
+    while size:
+        for at in range(0, len(parts), size):
+            yield parts[:at] + parts[at + size:]
+        size //= 2
+
+
+def cut_down(player, session, fault, tries=3000):
+    """The smallest session found that fails in the same way, and how."""
+    begun = True
+    while begun:
+        begun = False
+        for less, other in player.faults(itertools.islice(session.shorter(), tries)):
+            tries -= 1
+            if other is not None and other.args[0] == fault.args[0]:
+                session, fault, begun = less, other, True
+                break
+    return session, fault
+
+
+class Hunt:
+    """The sessions of some numbers: how many of each kind were played, why some weren't judged, and what failed."""
+
+    def __init__(self):
+        self.played, self.unjudged, self.faults = collections.Counter(), collections.Counter(), []
+
+    def play(self, player, session_at, numbers, end):
+        """Plays the sessions of these numbers, as a player takes them, until the end."""
+        names = []
+
+        def sessions():
+            for number in numbers:
+                if time.monotonic() > end or len(self.faults) == ENOUGH:
+                    return
+                kind, session = session_at(number)
+                names.append((kind.__name__, number))
+                yield session
+
+        for at, (session, fault) in enumerate(player.faults(sessions())):
+            name, number = names[at]
+            self.played[name] += 1
+            if isinstance(fault, Unjudged):
+                self.unjudged[str(fault)] += 1
+            elif fault is not None:
+                self.faults.append((name, number, str(fault), *cut_down(player, session, fault)))
+        return self
+
+
+def hunted(player, session_at, seconds):
+    """The hunts of as many processes as there are processors; each has a player of its own."""
+    count, end, reports = len(os.sched_getaffinity(0)), time.monotonic() + seconds, []
+    for number in range(count):
+        report, told = os.pipe()
+        if os.fork() == 0:
+            try:
+                resource.setrlimit(resource.RLIMIT_FSIZE, (ROOM, ROOM))
+                resource.setrlimit(resource.RLIMIT_AS, (SPACE, SPACE))
+                with player() as plays:
+                    found = pickle.dumps(Hunt().play(plays, session_at, itertools.count(number, count), end))
+                with open(told, "wb") as out:
+                    out.write(found)
+            except BaseException:
+                traceback.print_exc()
+            finally:
+                os._exit(0)
+        os.close(told)
+        reports.append(report)
+    hunts = []
+    for report in reports:
+        with open(report, "rb") as told:
+            found = told.read()
+        os.wait()
+        if not found:
+            sys.exit("a process of the hunt ended without its report")
+        hunts.append(pickle.loads(found))
+    for why, unjudged in sorted(sum((hunt.unjudged for hunt in hunts), collections.Counter()).items()):
+        print(f"not judged: {unjudged} sessions, {why}")
+    return hunts
+
+
+def rows_pass(player, rows):
+    """A test that plays rows, before the hunt."""
+
+    def rows_as_they_stand():
+        with player() as plays:
+            for session, fault in plays.faults(rows):
+                if fault is not None:
+                    raise Failed(f"{session!r}: {fault}")
+
+    return rows_as_they_stand
+
+
+def test_of(kind, hunts):
+    """A test that tells of the sessions of a kind which were played."""
+
+    def test():
+        print(f"sessions of {kind.__name__.replace('_', ' ')}: {sum(hunt.played[kind.__name__] for hunt in hunts)}")
+        faults = [fault[1:] for hunt in hunts for fault in hunt.faults if fault[0] == kind.__name__]
+        if faults:
+            raise Failed("".join(f"\n  session {number}: {fault}\n  cut down: {less_fault}\n{less!r}"
+                                 for number, fault, less, less_fault in faults))
+
+    test.__name__ = kind.__name__
+    return test
