@@ -320,6 +320,18 @@ def many_words():
         expect(words.ran(TAB + b"12345" + TAB + ENTER), b"word12345\n")
 
 
+def a_thousand_words():
+    for word in ("--brackets", "--columns=80", "--prompt=x", "x", "--", ""):
+        run = by_its_name(*[word] * 1000)
+        same(f"status, and whether the usage is told, of {word!r}", [run.returncode, b"Usage: keyline" in run.stderr], [2, True])
+
+
+def a_long_prompt():
+    shown = drawing(b"").replace(b"> ", (b"p" * 1000 + NEW_ROW) * 120)
+    run = ran(b"ab" + ENTER, "--prompt", b"p" * 120_000, "--columns", "1000")
+    expect(run, b"ab\n", shown + b"ab" + NEW_ROW + shown + NEW_ROW)
+
+
 def many_entries():
     with History(b"#V2\n" + b"".join(b"entry %d\n" % number for number in range(100000))) as history:
         expect(ran(UP + ENTER, "--history", history.path), b"entry 99999\n")
@@ -355,5 +367,7 @@ if __name__ == "__main__":
         words_that_do_not_load,
         words_are_read_before_the_history,
         many_words,
+        a_thousand_words,
+        a_long_prompt,
         many_entries,
     ])

@@ -259,6 +259,15 @@ def a_hundred_thousand_lines():
     same("whether memory stays", peaks[1] - peaks[0] <= 256, True)
 
 
+def a_line_of_a_megabyte():
+    """It is typed, then killed and yanked twice."""
+    line = b"0123456789" * 100_000
+    keys = line + ENTER + line + b"\x15\x19\x19" + ENTER
+    ran = subprocess.run([PROGRAM, "--columns=1000"], input=keys, stdout=subprocess.PIPE, stderr=subprocess.DEVNULL, timeout=HUNG)
+    same("bytes and status", [len(ran.stdout), ran.returncode], [3 * len(line) + 2, 0])
+    same("whether they are the lines", ran.stdout == line + b"\n" + line + line + b"\n", True)
+
+
 if __name__ == "__main__":
     run_all([
         input_that_ends,
@@ -272,4 +281,5 @@ if __name__ == "__main__":
         streams_closed_from_the_start,
         words_that_cannot_be_said,
         a_hundred_thousand_lines,
+        a_line_of_a_megabyte,
     ])
