@@ -14,12 +14,14 @@ use Rattle.line_help.specs.declared.highlight as highlights
 use Rattle.line_help.specs.declared.validate as verdicts
 use Rattle.line_help.specs.declared.history as histories
 use Rattle.line_editor.specs.Calls.{Ruler, MadeIn, Begun, IsAsked}
+use Rattle.line_editor.specs.Drawing.{refreshed}
 use Rattle.line_editor.specs.Redraws.{Redraw, Asked, one, asked, then_asked}
 use Rattle.line_editor.specs.States.{hooks_of, value_of, setting_of, Stays, Does, Shows}
 use Rattle.line_editor.specs.Values.{Setting, Hooks, Effect, Transition, then_do}
 use Rattle.line_editor.specs.declared.renderer as renderers
 use Rattle.line_editor.specs.declared.state.State.{State}
 use Rattle.line_editor.proofs.BegunLemmas.{begun_broken, begun_before, begun_behind, display_asked, folds_both}
+use Rattle.line_editor.proofs.ShowsLemmas.{refreshed_shows}
 
 asked_joined : (a : Asked) (b : Asked) (c : Asked) → then_asked a (then_asked b c) ≡ then_asked (then_asked a b) c
 asked_joined a b c = ap (λ calls. record { calls = calls; layout = c.layout }) (sym (append_assoc a.calls b.calls c.calls))
@@ -148,6 +150,12 @@ module _ {Out H Hi K T : Type 0} {renderer : renderers.Renderer.Ghosts Out} {com
       → IsErrAnd result (λ x. x ≡ e) → Does {A = A} first s t (Err e) → Does (then_do first second) s t result
   does_cut_by {A} {B} first second s t e result is h =
       subst (λ r. Does {A = B} (then_do first second) s t r) (sym (is_err e result is)) (does_cut first second s t e h)
+
+  -- a drawing of all asks for something
+  pub does_then_refreshed : {A B : Type 0} (first : Transition) (s m t : State Out H Hi K T renderer completer candidate hinter hint highlighter validator history) (x : A) (result : Result B ReadlineError)
+      → Does first s m (Ok x) → Does refreshed m t result → Does (then_do first refreshed) s t result
+  does_then_refreshed first s m t x result h k =
+      does_both first refreshed s m t x result h k (on_refusal result (refreshed_shows (renderer.canvas.ruler m.out) m.layout (setting_of m) (value_of m)))
 
   pub does_both_by : {A B C : Type 0} (first second : Transition) (s m t : State Out H Hi K T renderer completer candidate hinter hint highlighter validator history) (x : A) (e : ReadlineError) (result : Result C ReadlineError)
       → IsErrAnd result (λ y. y ≡ e) → Does first s m (Ok x) → Does {A = B} second m t (Err e) → Shows second m → Does (then_do first second) s t result

@@ -1,6 +1,6 @@
 -- What a state makes of asking its helper.
 use Rattle.std.proofs.Common.{◌≡◌, ◌⊎◌, inl, inr, ℕ, Bool, true, false, true≢false, List, [], ◌∷◌, refl, sym, ap, subst, ◌∙◌, if◌then◌else◌}
-use Rattle.std.specs.Prelude.{Option, Some, None, is_some, option_map, Result, Ok, Err, IsErrAnd, IsTrue, IsFalse}
+use Rattle.std.specs.Prelude.{Option, Some, None, is_some, option_map, Result, Ok, Err, IsErrAnd, IsTrue, IsFalse, OnErr}
 use Rattle.std.specs.List.{FoldsTo}
 use Rattle.line_buffer.specs.Line.{Line}
 use Rattle.line_config.specs.declared.errors.ReadlineError.{ReadlineError}
@@ -197,8 +197,14 @@ module _ {Out H Hi K T : Type 0} {renderer : renderers.Renderer.Ghosts Out} {com
 
   -- a helper is asked
   pub validate_asks : (s : State Out H Hi K T renderer completer candidate hinter hint highlighter validator history) → is_some s.helper ≡ true → Shows validate s
-  validate_asks s some = validate_shows (renderer.canvas.ruler s.out) s.layout (verdict_reply (setting_of s) (value_of s)) (setting_of s) (value_of s)
-      (some_mapped (λ (h : Hooks). h.judge s.line.text) (hooks_of completer hinter validator) s.helper ∙ some)
+  validate_asks s some =
+      let there : is_some (verdict_reply (setting_of s) (value_of s)) ≡ true = some_mapped (λ (h : Hooks). h.judge s.line.text) (hooks_of completer hinter validator) s.helper ∙ some in
+      validate_shows (renderer.canvas.ruler s.out) s.layout (verdict_reply (setting_of s) (value_of s)) (setting_of s) (value_of s) there there
+
+  -- and so where it was: a refusal has calls to come
+  pub validate_asked : {A B : Type 0} (s t : State Out H Hi K T renderer completer candidate hinter hint highlighter validator history) (found : Result A ReadlineError) (result : Result B ReadlineError)
+      → is_some s.helper ≡ true → Does opened_and_asked s t found → OnErr result (Shows validate s)
+  validate_asked s t found result some h = on_refusal result (validate_asks s some)
 
   pub validate_unasked : {A B : Type 0} (s t : State Out H Hi K T renderer completer candidate hinter hint highlighter validator history) (e : ReadlineError) (result : Result B ReadlineError)
       → is_some s.helper ≡ true → IsErrAnd result (λ x. x ≡ e) → Does {A = A} opened_and_asked s t (Err e) → Does validate s t result

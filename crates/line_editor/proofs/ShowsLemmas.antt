@@ -10,7 +10,7 @@ use Rattle.line_keys.specs.Refreshing.{Ask}
 use Rattle.line_keys.specs.Refreshing.Ask.{Line, Message, Prompted, DoingInsert, DoneInserting}
 use Rattle.line_keys.specs.Replies.{Reply}
 use Rattle.line_help.specs.declared.validate.ValidationResult.{ValidationResult}
-use Rattle.line_editor.specs.Accepting.{validate_by}
+use Rattle.line_editor.specs.Accepting.{opened_and_asked, closed_and_told, verdict_given, validate_by}
 use Rattle.line_editor.specs.Acts.{SeenInPart}
 use Rattle.line_editor.specs.Asks.{ask_effect}
 use Rattle.line_editor.specs.Calls.{Call, Canvas, Ruler, BrokenOff, Begun, IsAsked}
@@ -20,7 +20,7 @@ use Rattle.line_editor.specs.Inserting.{insert_char, insert_text, put_shown, ins
 use Rattle.line_editor.specs.Killing.{taken_shown, may_be_taken}
 use Rattle.line_editor.specs.Redraws.{Redraw, Asked, one, asked, full, typed_short, taken_short, may_type, may_take}
 use Rattle.line_editor.specs.Redraws.Redraw.{Typed, Taken}
-use Rattle.line_editor.specs.Values.{Setting, Value, unchanged, rewritten, helped, hint_reply, update_reply}
+use Rattle.line_editor.specs.Values.{Setting, Value, unchanged, rewritten, helped, hint_reply, verdict_reply, update_reply}
 use Rattle.line_editor.proofs.BegunLemmas.{begun_nothing, begun_broken}
 
 asked_first : (calls more : List Call) → IsAsked calls → IsAsked (calls ++ more)
@@ -79,9 +79,16 @@ insert_text_shows text r l s v some =
     let w : Value = rewritten (put_behind text) v in
     subst (λ (b : Bool). IsAsked (asked r l (if b then unchanged s v else refreshed s w).redraws).calls) (sym some) (refreshed_shows r l s w)
 
-pub validate_shows : (r : Ruler) (l : Layout) (reply : Option (Reply ValidationResult)) (s : Setting) (v : Value) → is_some reply ≡ true → IsAsked (asked r l (validate_by reply s v).redraws).calls
-validate_shows r l None s v some = absurd (true≢false (sym some))
-validate_shows r l (Some reply) s v some = tt
+-- where there is a hook to ask
+replied_shows : {A : Type 0} (r : Ruler) (l : Layout) (reply : Option (Reply A)) (xs : List Redraw) → is_some reply ≡ true → IsAsked (asked r l (helped reply ++ xs)).calls
+replied_shows r l None xs some = absurd (true≢false (sym some))
+replied_shows r l (Some reply) xs some = tt
+
+pub validate_shows : (r : Ruler) (l : Layout) (reply : Option (Reply ValidationResult)) (s : Setting) (v : Value) → is_some reply ≡ true → is_some (verdict_reply s v) ≡ true
+    → IsAsked (asked r l (validate_by reply s v).redraws).calls
+validate_shows r l None s v some there = absurd (true≢false (sym some))
+validate_shows r l (Some reply) s v some there =
+    replied_shows r l (verdict_reply s v) (closed_and_told (verdict_given reply.answer) s (opened_and_asked s v).value).redraws there
 
 pub completed_shows : (start : ℕ) (o : Option (List ℕ)) (r : Ruler) (l : Layout) (s : Setting) (v : Value) → IsAsked (asked r l (completed_with start o s v).redraws).calls
 completed_shows start None r l s v = tt
