@@ -14,8 +14,8 @@ use Rattle.line_keys.specs.Coming.{Coming, left_by}
 use Rattle.line_keys.specs.Phrases.{Input}
 use Rattle.line_keys.specs.InputStates.{new_input}
 use Rattle.line_record.specs.Ring.{Ring}
-use Rattle.line_editor.specs.Acts.{Act, Sees, Gets, Obeys, Stage, stage, CutIn, acts_after, acts_from, acts_of, turn_acts}
-use Rattle.line_editor.specs.Calls.{Call, Canvas, MadeIn, RefusedIn, Begun}
+use Rattle.line_editor.specs.Acts.{Act, Sees, Gets, Obeys, Stage, stage, SeenInPart, CutIn, acts_after, acts_from, acts_of, turn_acts}
+use Rattle.line_editor.specs.Calls.{Call, Canvas, MadeIn, RefusedIn, BrokenOff, Begun}
 use Rattle.line_editor.specs.Calls.Call.{Help}
 use Rattle.line_editor.specs.Drawing.{refreshed}
 use Rattle.line_editor.specs.Lines.{Told, Turned, turn_of, after_turn, line_from, line_of}
@@ -552,9 +552,9 @@ module _ {D L : Type 0} (shows : D → Bool) (shown : D → List ℕ) (writes : 
 
       -- calls that others follow
       cut_calls : (calls : List Call) (tail : List SessionDeed) → TakesMemory adds tail → (c : Coming) (a b : ScreenRenderer D) → screen_of a ≡ s
-          → Begun (canvas_of shows shown show_failed) why calls a b → CutAt (call_deeds s calls ++ tail) c (on a) (on b) c why
-      unfolding Begun
-      cut_calls [] tail takes c a b is h = stay h.0 tail takes c a b h.1
+          → BrokenOff (canvas_of shows shown show_failed) why calls a b → CutAt (call_deeds s calls ++ tail) c (on a) (on b) c why
+      unfolding BrokenOff
+      cut_calls [] tail takes c a b is h = absurd h
       cut_calls (call ∷ calls) tail takes c a b is (inl h) = stay h.0 (call_deeds s (call ∷ calls) ++ tail) (calls_take adds s (call ∷ calls) tail takes) c a b h.1
       cut_calls (call ∷ calls) tail takes c a b is (inr (inl h)) = cut_call call (call_deeds s calls ++ tail) c a b is h
       cut_calls (call ∷ calls) tail takes c a b is (inr (inr h)) =
@@ -585,11 +585,27 @@ module _ {D L : Type 0} (shows : D → Bool) (shown : D → List ℕ) (writes : 
       joined redraws l more tail = sym (append_assoc (call_deeds s (drawn_by s l redraws).calls) (act_deeds s (drawn_by s l redraws).layout more) tail)
 
       cut_drawn : (redraws : List Redraw) (l : Layout) (more : List Act) (tail : List SessionDeed) → TakesMemory adds tail → (c : Coming) (a b : ScreenRenderer D) → screen_of a ≡ s
-          → Begun (canvas_of shows shown show_failed) why (drawn_by s l redraws).calls a b → CutAt (act_deeds s l (Sees redraws ∷ more) ++ tail) c (on a) (on b) c why
+          → BrokenOff (canvas_of shows shown show_failed) why (drawn_by s l redraws).calls a b → CutAt (act_deeds s l (Sees redraws ∷ more) ++ tail) c (on a) (on b) c why
       cut_drawn redraws l more tail takes c a b is h =
           let x = drawn_by s l redraws in
           subst (λ deeds. CutAt deeds c (on a) (on b) c why) (joined redraws l more tail)
           (cut_calls x.calls (act_deeds s x.layout more ++ tail) (acts_take adds s x.layout more tail takes) c a b is h)
+
+      -- memory was wanting before it
+      unbegun : (redraws : List Redraw) (l : Layout) (more : List Act) (tail : List SessionDeed) → TakesMemory adds tail → (c : Coming) (a b : ScreenRenderer D) → (why ≡ Memory) × (b ≡ a)
+          → CutAt (act_deeds s l (Sees redraws ∷ more) ++ tail) c (on a) (on b) c why
+      unbegun redraws l more tail takes c a b h = let acts = Sees redraws ∷ more in stay h.0 (act_deeds s l acts ++ tail) (acts_take adds s l acts tail takes) c a b h.1
+
+      cut_seen : (redraws : List Redraw) (l : Layout) (more : List Act) (tail : List SessionDeed) → TakesMemory adds tail → (c : Coming) (a b : ScreenRenderer D) → screen_of a ≡ s
+          → SeenInPart (canvas_of shows shown show_failed) (ruler_of s) why redraws l a b → CutAt (act_deeds s l (Sees redraws ∷ more) ++ tail) c (on a) (on b) c why
+      cut_seen [] l more tail takes c a b is h = unbegun [] l more tail takes c a b h
+      cut_seen (x ∷ xs) l more tail takes c a b is h = cut_drawn (x ∷ xs) l more tail takes c a b is h
+
+      cut_obeyed : (redraws : List Redraw) (l : Layout) (more : List Act) (tail : List SessionDeed) → TakesMemory adds tail → (c : Coming) (a b : ScreenRenderer D) → screen_of a ≡ s
+          → Begun (canvas_of shows shown show_failed) why (drawn_by s l redraws).calls a b → CutAt (act_deeds s l (Sees redraws ∷ more) ++ tail) c (on a) (on b) c why
+      unfolding Begun
+      cut_obeyed redraws l more tail takes c a b is (inl h) = unbegun redraws l more tail takes c a b h
+      cut_obeyed redraws l more tail takes c a b is (inr h) = cut_drawn redraws l more tail takes c a b is h
 
       cut_behind : (redraws : List Redraw) (l : Layout) (more : List Act) (tail : List SessionDeed) (c left : Coming) (a m b : ScreenRenderer D) → screen_of a ≡ s
           → Made (drawn_by s l redraws).calls a m → CutAt (act_deeds s (drawn_by s l redraws).layout more ++ tail) c (on m) (on b) left why
@@ -604,11 +620,10 @@ module _ {D L : Type 0} (shows : D → Bool) (shown : D → List ℕ) (writes : 
           → CutIn (canvas_of shows shown show_failed) (ruler_of s) why acts l old new
           → CutAt (act_deeds s l acts ++ tail) old.coming (on old.out) (on new.out) new.coming why
       unfolding CutIn
-      cut_acts [] tail takes l old new is h =
-          here tail old.coming new.coming old.out new.out (ap (λ x. x.coming) h.1) (stay h.0 tail takes old.coming old.out new.out (ap (λ x. x.out) h.1))
+      cut_acts [] tail takes l old new is h = absurd h
       cut_acts (Sees redraws ∷ more) tail takes l old new is (inl h) =
           here (act_deeds s l (Sees redraws ∷ more) ++ tail) old.coming new.coming old.out new.out (ap (λ x. x.coming) h.1)
-          (cut_drawn redraws l more tail takes old.coming old.out new.out is h.0)
+          (cut_seen redraws l more tail takes old.coming old.out new.out is h.0)
       cut_acts (Sees redraws ∷ more) tail takes l old new is (inr (out, made, h)) =
           let a = drawn_by s l redraws in
           cut_behind redraws l more tail old.coming new.coming old.out out new.out is made
@@ -627,7 +642,7 @@ module _ {D L : Type 0} (shows : D → Bool) (shown : D → List ℕ) (writes : 
           (stay h.0 deeds (acts_take adds s l acts tail takes) old.coming old.out new.out (ap (λ x. x.out) h.1))
       cut_acts (Obeys textless ring redraws ∷ more) tail takes l old new is (inr (inl h)) =
           here (act_deeds s l (Obeys textless ring redraws ∷ more) ++ tail) old.coming new.coming old.out new.out h.1
-          (cut_drawn redraws l more tail takes old.coming old.out new.out is h.0)
+          (cut_obeyed redraws l more tail takes old.coming old.out new.out is h.0)
       cut_acts (Obeys textless ring redraws ∷ more) tail takes l old new is (inr (inr (out, made, h))) =
           let a = drawn_by s l redraws in
           cut_behind redraws l more tail old.coming new.coming old.out out new.out is made

@@ -20,13 +20,12 @@ use Rattle.line_editor.specs.States.{reason_of}
 use Rattle.line_editor.specs.Turning.{cause_of}
 use Rattle.line_editor.specs.Values.{Setting}
 use Rattle.line_editor.specs.declared.ran.Ran.{Ran}
-use Rattle.line_editor.proofs.ActsLemmas.{begun_of_line}
 use Rattle.line_screen.specs.Calls.{canvas_of, screen_of, sink_of, ruler_of}
 use Rattle.line_screen.specs.Drawing.{break_if}
 use Rattle.line_screen.specs.Reader.{items_of}
 use Rattle.line_screen.specs.declared.reading.reader.KeyReader.{KeyReader}
 use Rattle.line_screen.specs.declared.renderer.ScreenRenderer.{ScreenRenderer}
-use Rattle.line_screen.proofs.CallLemmas.{sent_in_all, begun_stays}
+use Rattle.line_screen.proofs.CallLemmas.{sent_in_all, cut_stays}
 use Rattle.keyline.specs.Closing.{Closes, CloseReason, work}
 use Rattle.keyline.specs.Deeds.{SessionDeed, act_deeds, acts_in, close_deeds, line_deeds}
 use Rattle.keyline.specs.Desks.{Known, Lined, TakesLine, DeskReason, feed_of, hearing, work_of}
@@ -112,9 +111,8 @@ module _ {S H D L K T : Type 0} (k : Known S D L) (helps : Option H → Helping)
   screen_by n heard (inl w) =
       (sent_in_all k.shows k.shown k.show_failed (line_calls (ruler_of (screen_of old.out)) (line_meant n setting custom config old.ring heard).turns) old.out ran.out w.calls).screen
   screen_by n heard (inr w) =
-      let begun = begun_of_line (canvas_of k.shows k.shown k.show_failed) (ruler_of (screen_of old.out)) w.fault n setting custom config.indent_size
-      (new_input config.edit_mode) old.ring heard (fresh (ruler_of (screen_of old.out)).mode) (stage old.out heard old.ring) (stage ran.out (items_of k.feed reader).coming ring) w.done in
-      begun_stays k.shows k.shown k.show_failed w.fault (line_calls (ruler_of (screen_of old.out)) (line_meant n setting custom config old.ring heard).turns) old.out ran.out begun
+      cut_stays k.shows k.shown k.show_failed (ruler_of (screen_of old.out)) w.fault (acts_meant n setting custom config old.ring heard) (fresh (ruler_of (screen_of old.out)).mode)
+      (stage old.out heard old.ring) (stage ran.out (items_of k.feed reader).coming ring) w.done
 
   screen_stays : RunsAt → IsTrue (feed_of k old).told → screen_of ran.out ≡ screen_of old.out
   screen_stays runs t =

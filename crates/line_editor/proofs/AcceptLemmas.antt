@@ -10,7 +10,7 @@ use Rattle.line_help.specs.declared.validate as verdicts
 use Rattle.line_help.specs.declared.history as histories
 use Rattle.line_help.specs.declared.validate.ValidationResult.{ValidationResult}
 use Rattle.line_editor.specs.Accepting.{accept, verdict, accepts, accepts_found, newline_if, accept_or_insert}
-use Rattle.line_editor.specs.States.{value_of, setting_of, Does}
+use Rattle.line_editor.specs.States.{value_of, setting_of, Does, Shows}
 use Rattle.line_editor.specs.Values.{Value, Setting, Transition, then_do}
 use Rattle.line_editor.specs.declared.renderer as renderers
 use Rattle.line_editor.specs.declared.state.State.{State}
@@ -22,12 +22,16 @@ behind middle s v = newline_if (accepts middle s v) (verdict s v)
 module _ {Out H Hi K T : Type 0} {renderer : renderers.Renderer.Ghosts Out} {completer : completions.Completer.Ghosts H K} {candidate : completions.Candidate.Ghosts K}
     {hinter : hints.Hinter.Ghosts H T} {hint : hints.Hint.Ghosts T} {highlighter : highlights.Highlighter.Ghosts H} {validator : verdicts.Validator.Ghosts H} {history : histories.History.Ghosts Hi} where
   -- what was found decides what comes after it
+  newline_by : (middle accepted : Bool) (found : ValidationResult) (s m : State Out H Hi K T renderer completer candidate hinter hint highlighter validator history)
+      → found ≡ verdict (setting_of s) (value_of s) → m.line ≡ s.line → accepted ≡ accepts_found middle found m.line → newline_if accepted found ≡ behind middle (setting_of s) (value_of s)
+  newline_by middle accepted found s m is same test =
+      ap (λ (a : Bool). newline_if a found) (test ∙ ap (λ (l : Line). accepts_found middle found l) same ∙ ap (λ (f : ValidationResult). accepts_found middle f s.line) is)
+      ∙ ap (newline_if (accepts middle (setting_of s) (value_of s))) is
+
   newline_is : {B : Type 0} (middle accepted : Bool) (found : ValidationResult) (s m t : State Out H Hi K T renderer completer candidate hinter hint highlighter validator history) (r : Result B ReadlineError)
       → found ≡ verdict (setting_of s) (value_of s) → m.line ≡ s.line → accepted ≡ accepts_found middle found m.line
       → Does (newline_if accepted found) m t r → Does (behind middle (setting_of s) (value_of s)) m t r
-  newline_is middle accepted found s m t r is same test k =
-      let whole : accepted ≡ accepts middle (setting_of s) (value_of s) = test ∙ ap (λ (l : Line). accepts_found middle found l) same ∙ ap (λ (f : ValidationResult). accepts_found middle f s.line) is in
-      subst (λ (a : Bool). Does (newline_if a (verdict (setting_of s) (value_of s))) m t r) whole (subst (λ (f : ValidationResult). Does (newline_if accepted f) m t r) is k)
+  newline_is middle accepted found s m t r is same test k = subst (λ (edit : Transition). Does edit m t r) (newline_by middle accepted found s m is same test) k
 
   pub accept_cut : {A B : Type 0} (middle : Bool) (s t : State Out H Hi K T renderer completer candidate hinter hint highlighter validator history) (e : ReadlineError) (r : Result B ReadlineError)
       → IsErrAnd r (λ x. x ≡ e) → Does {A = A} accept s t (Err e) → Does (accept_or_insert middle) s t r
@@ -45,11 +49,12 @@ module _ {Out H Hi K T : Type 0} {renderer : renderers.Renderer.Ghosts Out} {com
   accept_newline middle accepted found s m t x y h is same test z k =
       does_as (then_do accept (behind middle (setting_of s) (value_of s))) (accept_or_insert middle) s t (Ok y) refl
       (does_both accept (behind middle (setting_of s) (value_of s)) s m t x (Ok y) h
-      (newline_is middle accepted found s m t (Ok y) is same test (made_as (newline_if accepted found) m t z y k)))
+      (newline_is middle accepted found s m t (Ok y) is same test (made_as (newline_if accepted found) m t z y k)) tt)
 
   pub accept_newline_cut : {A B C : Type 0} (middle accepted : Bool) (found : ValidationResult) (s m t : State Out H Hi K T renderer completer candidate hinter hint highlighter validator history) (x : A) (e : ReadlineError) (r : Result C ReadlineError)
       → IsErrAnd r (λ y. y ≡ e) → Does accept s m (Ok x) → found ≡ verdict (setting_of s) (value_of s) → m.line ≡ s.line → accepted ≡ accepts_found middle found m.line
-      → Does {A = B} (newline_if accepted found) m t (Err e) → Does (accept_or_insert middle) s t r
-  accept_newline_cut {A} {B} {C} middle accepted found s m t x e r fault h is same test k =
+      → Shows (newline_if accepted found) m → Does {A = B} (newline_if accepted found) m t (Err e) → Does (accept_or_insert middle) s t r
+  accept_newline_cut {A} {B} {C} middle accepted found s m t x e r fault h is same test shows k =
       does_as (then_do accept (behind middle (setting_of s) (value_of s))) (accept_or_insert middle) s t r refl
-      (does_both_by accept (behind middle (setting_of s) (value_of s)) s m t x e r fault h (newline_is {B = B} middle accepted found s m t (Err e) is same test k))
+      (does_both_by accept (behind middle (setting_of s) (value_of s)) s m t x e r fault h (newline_is {B = B} middle accepted found s m t (Err e) is same test k)
+      (subst (λ (edit : Transition). Shows edit m) (newline_by middle accepted found s m is same test) shows))

@@ -11,7 +11,7 @@ use Rattle.line_keys.specs.Phrases.{Input, Script, Ends, Needs, Asks, Reads, Bec
 use Rattle.line_keys.specs.declared.command.Cmd.{Cmd}
 use Rattle.line_record.specs.Ring.{Ring}
 use Rattle.line_editor.specs.Accepting.{submitted}
-use Rattle.line_editor.specs.Acts.{Act, Sees, Gets, Obeys, Stage, stage, CutIn, script_acts, command_acts, turn_acts, acts_after, acts_from, acts_of}
+use Rattle.line_editor.specs.Acts.{Act, Sees, Gets, Obeys, Stage, stage, SeenInPart, CutIn, script_acts, command_acts, turn_acts, acts_after, acts_from, acts_of}
 use Rattle.line_editor.specs.Asks.{shown_in, ask_effect}
 use Rattle.line_editor.specs.Calls.{Call, Canvas, Ruler, MadeIn, Begun}
 use Rattle.line_editor.specs.Courses.{redraws_in}
@@ -23,8 +23,9 @@ use Rattle.line_editor.specs.Starts.{first_value}
 use Rattle.line_editor.specs.Values.{Value, Setting, Effect}
 use Rattle.line_editor.specs.declared.commands.Status.{Status}
 use Rattle.line_editor.specs.declared.commands.Status.TheVariants.{Proceed, Submit}
-use Rattle.line_editor.proofs.BegunLemmas.{begun_none, begun_before, begun_behind, folds_apart}
+use Rattle.line_editor.proofs.BegunLemmas.{begun_none, folds_apart}
 use Rattle.line_editor.proofs.DoesLemmas.{asked_both}
+use Rattle.line_editor.proofs.ShowsLemmas.{refreshed_shows, shown_in_part}
 
 -- ---- what acts come to
 
@@ -174,19 +175,16 @@ whole_redraws n s custom indent i r c =
 -- ---- cut
 
 module _ {R : Type 0} (canvas : Canvas R) (r : Ruler) (fault : ReadlineError) where
-  cut_here : (acts : List Act) (l : Layout) (old : Stage R) → fault ≡ Memory → CutIn canvas r fault acts l old old
-  unfolding CutIn
-  cut_here [] l old is = (is, refl)
-  cut_here (Sees redraws ∷ more) l old is = inl (begun_none canvas fault (asked r l redraws).calls old.out old.out is refl, refl)
-  cut_here (Gets rest ∷ more) l old is = inl (is, inl refl)
-  cut_here (Obeys textless ring redraws ∷ more) l old is = inl (is, refl)
-
-  -- before any act
-  pub cut_none : (acts : List Act) (l : Layout) (old new : Stage R) → fault ≡ Memory → new ≡ old → CutIn canvas r fault acts l old new
-  cut_none acts l old new is same = subst (λ x. CutIn canvas r fault acts l old x) (sym same) (cut_here acts l old is)
+  -- before a line's first drawing
+  pub cut_first : (n : ℕ) (s : Setting) (custom : Custom) (indent : ℕ) (i : Input) (ring : Ring) (c : Coming) (l : Layout) (old : Stage R) → fault ≡ Memory
+      → CutIn canvas r fault (acts_of n s custom indent i ring c) l old old
+  unfolding CutIn acts_of
+  cut_first n s custom indent i ring c l old is =
+      let e : Effect = refreshed s (first_value s) in
+      inl (shown_in_part canvas r fault e.redraws l old.out old.out (refreshed_shows r l s (first_value s)) (begun_none canvas fault (asked r l e.redraws).calls old.out old.out is refl), refl)
 
   -- in the first act, or after it
-  pub cut_seeing : (redraws : List Redraw) (more : List Act) (l : Layout) (old new : R) (c : Coming) (k : Ring) → Begun canvas fault (asked r l redraws).calls old new
+  pub cut_seeing : (redraws : List Redraw) (more : List Act) (l : Layout) (old new : R) (c : Coming) (k : Ring) → SeenInPart canvas r fault redraws l old new
       → CutIn canvas r fault (Sees redraws ∷ more) l (stage old c k) (stage new c k)
   unfolding CutIn
   cut_seeing redraws more l old new c k h = inl (h, refl)
@@ -213,7 +211,7 @@ module _ {R : Type 0} (canvas : Canvas R) (r : Ruler) (fault : ReadlineError) wh
   -- more are to come after them
   pub cut_before : (acts more : List Act) (l : Layout) (old new : Stage R) → CutIn canvas r fault acts l old new → CutIn canvas r fault (acts ++ more) l old new
   unfolding CutIn
-  cut_before [] more l old new h = cut_none more l old new h.0 h.1
+  cut_before [] more l old new h = absurd h
   cut_before (Sees redraws ∷ acts) more l old new (inl h) = inl h
   cut_before (Sees redraws ∷ acts) more l old new (inr (out, made, h)) = inr (out, made, cut_before acts more (asked r l redraws).layout (stage out old.coming old.ring) new h)
   cut_before (Gets rest ∷ acts) more l old new (inl h) = inl h
@@ -235,36 +233,3 @@ module _ {R : Type 0} (canvas : Canvas R) (r : Ruler) (fault : ReadlineError) wh
   cut_behind (Obeys textless ring redraws ∷ acts) more l old new out made h =
       let parts = folds_apart (MadeIn canvas) (asked r l redraws).calls (asked_of r (asked r l redraws).layout acts).calls old.out out made in
       inr (inr (parts.0, parts.1, cut_behind acts more (asked r l redraws).layout (stage parts.0 old.coming ring) new out parts.2 h))
-
-  -- memory was wanting before any call
-  still : (calls : List Call) (old new : R) → fault ≡ Memory → new ≡ old → Begun canvas fault calls old new
-  still calls old new is same = begun_none canvas fault calls old new is same
-
-  -- the calls made are the first of all
-  begun_in : (acts : List Act) (l : Layout) (old new : Stage R) → CutIn canvas r fault acts l old new → Begun canvas fault (asked_of r l acts).calls old.out new.out
-  unfolding CutIn
-  begun_in [] l old new h = still [] old.out new.out h.0 (ap (λ x. x.out) h.1)
-  begun_in (Sees redraws ∷ acts) l old new (inl h) =
-      begun_before canvas fault (asked r l redraws).calls (asked_of r (asked r l redraws).layout acts).calls old.out new.out h.0
-  begun_in (Sees redraws ∷ acts) l old new (inr (out, made, h)) =
-      begun_behind canvas fault (asked r l redraws).calls (asked_of r (asked r l redraws).layout acts).calls old.out out new.out made
-      (begun_in acts (asked r l redraws).layout (stage out old.coming old.ring) new h)
-  begun_in (Gets rest ∷ acts) l old new (inl (is, inl same)) = still (asked_of r l acts).calls old.out new.out is (ap (λ x. x.out) same)
-  begun_in (Gets rest ∷ acts) l old new (inl (is, inr lost)) = still (asked_of r l acts).calls old.out new.out is (ap (λ x. x.out) lost)
-  begun_in (Gets rest ∷ acts) l old new (inr h) = begun_in acts l (stage old.out rest old.ring) new h
-  begun_in (Obeys textless ring redraws ∷ acts) l old new (inl h) =
-      still ((asked r l redraws).calls ++ (asked_of r (asked r l redraws).layout acts).calls) old.out new.out h.0 (ap (λ x. x.out) h.1)
-  begun_in (Obeys textless ring redraws ∷ acts) l old new (inr (inl h)) =
-      begun_before canvas fault (asked r l redraws).calls (asked_of r (asked r l redraws).layout acts).calls old.out new.out h.0
-  begun_in (Obeys textless ring redraws ∷ acts) l old new (inr (inr (out, made, h))) =
-      begun_behind canvas fault (asked r l redraws).calls (asked_of r (asked r l redraws).layout acts).calls old.out out new.out made
-      (begun_in acts (asked r l redraws).layout (stage out old.coming ring) new h)
-
-  -- of all calls of a line
-  pub begun_of_line : (n : ℕ) (s : Setting) (custom : Custom) (indent : ℕ) (i : Input) (ring : Ring) (c : Coming) (l : Layout) (old new : Stage R)
-      → CutIn canvas r fault (acts_of n s custom indent i ring c) l old new
-      → Begun canvas fault (asked r l (flat_map redraws_in (line_of n s custom indent i ring c).turns)).calls old.out new.out
-  begun_of_line n s custom indent i ring c l old new h =
-      let acts = acts_of n s custom indent i ring c in
-      subst (λ x. Begun canvas fault (asked r l x).calls old.out new.out) (whole_redraws n s custom indent i ring c)
-      (subst (λ x. Begun canvas fault x.calls old.out new.out) (asked_same r l acts) (begun_in acts l old new h))

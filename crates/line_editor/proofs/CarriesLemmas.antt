@@ -2,7 +2,7 @@
 use Rattle.std.proofs.Common.{◌≡◌, ◌⊎◌, inl, inr, ℕ, zero, suc, ◌<◌, ◌≤◌, Bool, List, [], ◌∷◌, append-nil, refl, sym, ap, subst, ◌∙◌, IsTrue, arith, le_refl}
 use Rattle.std.specs.Prelude.{⊤, IsFalse, Option, None, Result, Ok, Err, IfErr, OnOk, IsErrAnd}
 use Rattle.line_config.specs.declared.errors.ReadlineError.{ReadlineError}
-use Rattle.line_config.specs.declared.errors.ReadlineError.TheVariants.{Reader}
+use Rattle.line_config.specs.declared.errors.ReadlineError.TheVariants.{Display, Reader}
 use Rattle.line_help.specs.declared.completion as completions
 use Rattle.line_help.specs.declared.hint as hints
 use Rattle.line_help.specs.declared.highlight as highlights
@@ -31,6 +31,7 @@ use Rattle.line_editor.specs.declared.state.State.{State}
 use Rattle.line_editor.proofs.CommandedLemmas.{edit_cause}
 use Rattle.line_editor.proofs.DoesLemmas.{is_err}
 use Rattle.line_editor.proofs.EnactedLemmas.{seeing_cut}
+use Rattle.line_editor.proofs.ShowsLemmas.{refreshed_shows, shown_in_part}
 use Rattle.line_editor.proofs.LoopLemmas.{reads_on, cut_on, turn_on, turn_ends, turn_cut, turn_accepts, close_cut, proceeds, submits_not}
 
 -- bindings that stayed
@@ -185,25 +186,25 @@ module _ {Out H Hi K T : Type 0} {renderer : renderers.Renderer.Ghosts Out} {com
     closed_by : (line : Coming → Telling) (acts : Doing) (m2 t : State Out H Hi K T renderer completer candidate hinter hint highlighter validator history) (i2 : Input) (r2 : Ring) (feed2 : KeyFeed) (result : Result A ReadlineError)
         → Carried A feed.steady line acts custom indent s feed.coming r m i1 r1 feed1
         → ((heard : Coming) × HeardBy {A = Status} feed1.steady feed1.coming (Ok Submit) heard × Whole (turning custom indent i1 r1 heard) m m2 r2 i2 feed2.coming (Ok Submit)) ⊎ Cut (turn_doing custom indent i1 r1 feed1.coming) m m2 feed1.coming feed2.coming r1 r2 (Ok Submit)
-        → Does submitted m2 t result → Reading feed.steady line acts s t feed.coming feed2.coming r r2 result
-    closed_by line acts m2 t i2 r2 feed2 result at (inr cut) close = submits_not cut.fault cut.result_is
-    closed_by line acts m2 t i2 r2 feed2 (Ok x) at (inl read) close =
+        → IfErr result (λ e. e ≡ Display) → Does submitted m2 t result → Reading feed.steady line acts s t feed.coming feed2.coming r r2 result
+    closed_by line acts m2 t i2 r2 feed2 result at (inr cut) why close = submits_not cut.fault cut.result_is
+    closed_by line acts m2 t i2 r2 feed2 (Ok x) at (inl read) why close =
         let whole = all_heard feed1.steady feed1.coming feed2.coming Submit i2 r2 m2 read in
         let f = some_fuel at.fuel feed1.bound at.enough in
         at.onward t r2 feed2.coming (Ok x)
         (subst (λ n. Reading feed.steady (λ heard. turns_left custom indent i1 r1 heard n at.stands) (turns_doing custom indent i1 r1 feed1.coming n) m t feed1.coming feed2.coming r1 r2 (Ok x)) (sym f.is)
         (inl (feed1.coming, inl refl, turn_accepts custom indent i1 r1 feed1.coming f.less at.stands m m2 i2 r2 feed2.coming whole x t close)))
-    closed_by line acts m2 t i2 r2 feed2 (Err e) at (inl read) close =
+    closed_by line acts m2 t i2 r2 feed2 (Err e) at (inl read) why close =
         let whole = all_heard feed1.steady feed1.coming feed2.coming Submit i2 r2 m2 read in
         let f = some_fuel at.fuel feed1.bound at.enough in
         at.onward t r2 feed2.coming (Err e)
         (subst (λ n. Reading {A = A} feed.steady (λ heard. turns_left custom indent i1 r1 heard n at.stands) (turns_doing custom indent i1 r1 feed1.coming n) m t feed1.coming feed2.coming r1 r2 (Err e)) (sym f.is)
-        (inr (close_cut custom indent i1 r1 feed1.coming f.less at.stands m m2 i2 r2 feed2.coming whole {A = A} {B = A} t e (Err e) refl close)))
+        (inr (close_cut custom indent i1 r1 feed1.coming f.less at.stands m m2 i2 r2 feed2.coming whole {A = A} {B = A} t e (Err e) refl why close)))
 
     pub carries_closed : (kept : Custom) → kept ≡ custom → (m2 t : State Out H Hi K T renderer completer candidate hinter hint highlighter validator history) (i2 : Input) (r2 : Ring) (feed2 : KeyFeed) (result : Result A ReadlineError)
-        → Takes kept indent m i1 r1 feed1 m2 i2 r2 feed2 (Ok Submit) → Does submitted m2 t result → ReadsLine custom (turns_left custom indent i r) (turns_doing custom indent i r feed.coming) s r feed t r2 feed2 result
-    carries_closed kept same m2 t i2 r2 feed2 result taken close = let turn = subst (λ x. Takes x indent m i1 r1 feed1 m2 i2 r2 feed2 (Ok Submit)) same taken in record {
-      goes = λ told n h info. closed_by (λ heard. turns_left custom indent i r heard n info) (turns_doing custom indent i r feed.coming n) m2 t i2 r2 feed2 result (so_far.goes told n h info) (turn.goes (so_far.told told)) close;
+        → Takes kept indent m i1 r1 feed1 m2 i2 r2 feed2 (Ok Submit) → IfErr result (λ e. e ≡ Display) → Does submitted m2 t result → ReadsLine custom (turns_left custom indent i r) (turns_doing custom indent i r feed.coming) s r feed t r2 feed2 result
+    carries_closed kept same m2 t i2 r2 feed2 result taken why close = let turn = subst (λ x. Takes x indent m i1 r1 feed1 m2 i2 r2 feed2 (Ok Submit)) same taken in record {
+      goes = λ told n h info. closed_by (λ heard. turns_left custom indent i r heard n info) (turns_doing custom indent i r feed.coming n) m2 t i2 r2 feed2 result (so_far.goes told n h info) (turn.goes (so_far.told told)) why close;
       told = λ h. turn.told (so_far.told h);
       steady = turn.steady ∙ so_far.steady;
       keeps = let a : feed2.bound ≤ feed1.bound = turn.keeps in let b : feed1.bound ≤ feed.bound = so_far.keeps in omega arith;
@@ -251,7 +252,8 @@ module _ {Out H Hi K T : Type 0} {renderer : renderers.Renderer.Ghosts Out} {com
     pub undrawn : {A B : Type 0} (t : State Out H Hi K T renderer completer candidate hinter hint highlighter validator history) (e : ReadlineError) (result : Result A ReadlineError)
         → IsErrAnd result (λ x. x ≡ e) → Does {A = B} refreshed s t (Err e) → ReadsLine custom (drawn_and_turned custom indent i r) (line_doing custom indent i r feed.coming) s r feed t r feed result
     undrawn {A} {B} t e result is refused = subst (λ x. ReadsLine custom (drawn_and_turned custom indent i r) (line_doing custom indent i r feed.coming) s r feed t r feed x) (sym (is_err e result is)) (record {
-      goes = λ told n h none. inr (seeing_cut {A = B} {B = A} refreshed (λ a v. turns_doing custom indent i r feed.coming n a (refreshed a v).value) s t feed.coming r e (Err e) refl refused);
+      goes = λ told n h none. inr (seeing_cut {A = B} {B = A} refreshed (λ a v. turns_doing custom indent i r feed.coming n a (refreshed a v).value) s t feed.coming r e (Err e) refl
+          (shown_in_part renderer.canvas (renderer.canvas.ruler s.out) e (refreshed (setting_of s) (value_of s)).redraws s.layout s.out t.out (refreshed_shows (renderer.canvas.ruler s.out) s.layout (setting_of s) (value_of s)) refused.begun) refused);
       told = λ h. h;
       steady = refl;
       keeps = le_refl feed.bound;

@@ -202,7 +202,7 @@ module _ {Out H Hi K T : Type 0} {renderer : renderers.Renderer.Ghosts Out} {com
       command_whole : Done (means_of i1 indent q) cmd m t ring' result → Whole (turning custom indent i r c) s t ring' i1 c1 result
       command_whole k = record {
         does = does_as (then_do (phrased_made custom indent i r c) (effect (means_of i1 indent q) cmd)) (made custom indent i r c) s t (Ok (tt {0})) made_same
-            (does_both (phrased_made custom indent i r c) (effect (means_of i1 indent q) cmd) s m t (tt {0}) (Ok (tt {0})) h.does k.does);
+            (does_both (phrased_made custom indent i r c) (effect (means_of i1 indent q) cmd) s m t (tt {0}) (Ok (tt {0})) h.does k.does tt);
         outcome_is = k.outcome_is ∙ outcome_same;
         ring_is = k.ring_is ∙ ring_same;
         input_is = h.input_is ∙ ap (λ x. x.input) commanded_same;

@@ -24,8 +24,9 @@ use Rattle.line_editor.specs.Values.{Value, Setting, Hooks, then_do, completion_
 use Rattle.line_editor.specs.declared.renderer as renderers
 use Rattle.line_editor.specs.declared.state.State.{State}
 use Rattle.line_editor.proofs.BegunLemmas.{begun_none, help_made, help_layout, help_refused}
-use Rattle.line_editor.proofs.DoesLemmas.{is_err, does_as, does_both, does_cut_by, setting_stays, stays_same}
+use Rattle.line_editor.proofs.DoesLemmas.{is_err, on_refusal, does_as, does_both, does_cut_by, setting_stays, stays_same}
 use Rattle.line_editor.proofs.HelpedLemmas.{completion_reason, update_reason}
+use Rattle.line_editor.proofs.ShowsLemmas.{completed_shows}
 
 -- the texts that candidates put in
 pub replacements : {A : Type 0} (offers : A → Offered) (candidates : List A) → map (λ (o : Offered). o.replacement) (map offers candidates) ≡ map (λ c. (offers c).replacement) candidates
@@ -150,4 +151,5 @@ module _ {Out H Hi K T : Type 0} {renderer : renderers.Renderer.Ghosts Out} {com
       let given : Completion = candidates_given (completion_reply (setting_of s) (value_of s)) in
       does_as (then_do candidates_asked (completed given)) complete s t result (complete_is s some)
       (does_both {A = ⊤} candidates_asked (completed given) s s t (tt {0}) result (asked_made s (tt {0}) works)
-      (does_as (completed_with start o) (completed given) s t result (completed_is found given o (setting_of s) (value_of s) same is) does))
+      (does_as (completed_with start o) (completed given) s t result (completed_is found given o (setting_of s) (value_of s) same is) does)
+      (on_refusal result (completed_shows given.start (elected given s.line) (renderer.canvas.ruler s.out) s.layout (setting_of s) (value_of s))))

@@ -1,24 +1,27 @@
 -- One edit, then another.
 use Rattle.std.proofs.Common.{◌≡◌, Bool, List, [], ◌∷◌, ◌++◌, refl, sym, ap, subst, ◌∙◌, append_assoc, if◌then◌else◌, Option, None, option_map}
-use Rattle.std.specs.Prelude.{ℕ, Result, Ok, Err, OnOk, IfErr, IsErrAnd}
-use Rattle.std.proofs.lemmas.Result.{on_ok_weaker, IfErr-weaker}
+use Rattle.std.specs.Prelude.{ℕ, Result, Ok, Err, OnOk, OnErr, IfErr, IsErrAnd}
+use Rattle.std.proofs.lemmas.Result.{on_ok_weaker}
 use Rattle.line_buffer.specs.Cells.{origin}
 use Rattle.line_keys.specs.declared.command.CmdKind.{CmdKind}
 use Rattle.std.specs.List.{FoldsTo}
 use Rattle.line_buffer.specs.declared.layout.Layout.{Layout}
 use Rattle.line_config.specs.declared.errors.ReadlineError.{ReadlineError}
+use Rattle.line_config.specs.declared.errors.ReadlineError.TheVariants.{Display}
 use Rattle.line_help.specs.declared.completion as completions
 use Rattle.line_help.specs.declared.hint as hints
 use Rattle.line_help.specs.declared.highlight as highlights
 use Rattle.line_help.specs.declared.validate as verdicts
 use Rattle.line_help.specs.declared.history as histories
-use Rattle.line_editor.specs.Calls.{Ruler, MadeIn, Begun}
+use Rattle.line_editor.specs.Calls.{Ruler, MadeIn, Begun, IsAsked}
+use Rattle.line_editor.specs.Drawing.{refreshed}
 use Rattle.line_editor.specs.Redraws.{Redraw, Asked, one, asked, then_asked}
-use Rattle.line_editor.specs.States.{hooks_of, value_of, setting_of, Stays, Does}
+use Rattle.line_editor.specs.States.{hooks_of, value_of, setting_of, Stays, Does, Shows}
 use Rattle.line_editor.specs.Values.{Setting, Hooks, Effect, Transition, then_do}
 use Rattle.line_editor.specs.declared.renderer as renderers
 use Rattle.line_editor.specs.declared.state.State.{State}
-use Rattle.line_editor.proofs.BegunLemmas.{begun_before, begun_behind, folds_both}
+use Rattle.line_editor.proofs.BegunLemmas.{begun_broken, begun_before, begun_behind, display_asked, folds_both}
+use Rattle.line_editor.proofs.ShowsLemmas.{refreshed_shows}
 
 asked_joined : (a : Asked) (b : Asked) (c : Asked) → then_asked a (then_asked b c) ≡ then_asked (then_asked a b) c
 asked_joined a b c = ap (λ calls. record { calls = calls; layout = c.layout }) (sym (append_assoc a.calls b.calls c.calls))
@@ -31,6 +34,15 @@ asked_both r l (x ∷ xs) ys = ap (then_asked (one r l x)) (asked_both r (one r 
 pub is_err : {A E : Type 0} (e : E) (result : Result A E) → IsErrAnd result (λ x. x ≡ e) → result ≡ Err e
 is_err e (Ok x) h = elim h [ ]
 is_err e (Err x) h = ap Err h
+
+-- where it was refused
+pub on_refusal : {A P : Type 0} (result : Result A ReadlineError) → P → OnErr result P
+on_refusal (Ok x) h = tt
+on_refusal (Err e) h = h
+
+both_refused : {A P : Type 0} {Q R : ReadlineError → Type 0} (result : Result A ReadlineError) → (P → (e : ReadlineError) → Q e → R e) → OnErr result P → IfErr result Q → IfErr result R
+both_refused (Ok x) go h k = tt
+both_refused (Err e) go h k = go h e k
 
 abbrev setting_by : Ruler → List ℕ → Option Hooks → Option (List ℕ → ℕ → CmdKind → Bool) → List (List ℕ) → Setting
 setting_by r prompt hooks marks entries = record {
@@ -88,10 +100,16 @@ module _ {Out H Hi K T : Type 0} {renderer : renderers.Renderer.Ghosts Out} {com
   pub refused_as : {A B : Type 0} (edit : Transition) (s t : State Out H Hi K T renderer completer candidate hinter hint highlighter validator history) (e : ReadlineError) → Does {A = A} edit s t (Err e) → Does {A = B} edit s t (Err e)
   refused_as edit s t e h = record { value = tt; calls = tt; layout = tt; stays = h.stays; reason = h.reason; begun = h.begun }
 
-  -- both were made, or the second was refused
+  -- what the display alone refuses asks for something
+  pub drawing_shows : {A : Type 0} (edit : Transition) (s t : State Out H Hi K T renderer completer candidate hinter hint highlighter validator history) (result : Result A ReadlineError)
+      → IfErr result (λ e. e ≡ Display) → Does edit s t result → OnErr result (Shows edit s)
+  drawing_shows edit s t (Ok x) why h = tt
+  drawing_shows edit s t (Err e) why h = display_asked renderer.canvas e (asked (renderer.canvas.ruler s.out) s.layout (edit (setting_of s) (value_of s)).redraws).calls s.out t.out why h.begun
+
+  -- both were made, or the second was refused, which asks for something then
   pub does_both : {A B : Type 0} (first second : Transition) (s m t : State Out H Hi K T renderer completer candidate hinter hint highlighter validator history) (x : A) (result : Result B ReadlineError)
-      → Does first s m (Ok x) → Does second m t result → Does (then_do first second) s t result
-  does_both first second s m t x result h k =
+      → Does first s m (Ok x) → Does second m t result → OnErr result (Shows second m) → Does (then_do first second) s t result
+  does_both first second s m t x result h k shows =
       let e : Effect = first (setting_of s) (value_of s) in
       let f : Effect = second (setting_of s) e.value in
       let a : Asked = asked (renderer.canvas.ruler s.out) s.layout e.redraws in
@@ -105,8 +123,9 @@ module _ {Out H Hi K T : Type 0} {renderer : renderers.Renderer.Ghosts Out} {com
         layout = on_ok_weaker result (λ c. c ∙ ap (λ y. y.layout) is ∙ ap (λ y. y.layout) (sym whole)) k.layout;
         stays = stays_both s m t h.stays k.stays;
         reason = k.reason;
-        begun = IfErr-weaker result _ _ (λ fault c. subst (λ y. Begun renderer.canvas fault y.calls s.out t.out) (sym whole)
-            (begun_behind renderer.canvas fault a.calls b.calls s.out m.out t.out h.calls (subst (λ y. Begun renderer.canvas fault y.calls m.out t.out) is c))) k.begun;
+        begun = both_refused result (λ asks fault c. subst (λ y. Begun renderer.canvas fault y.calls s.out t.out) (sym whole)
+            (begun_behind renderer.canvas fault a.calls b.calls s.out m.out t.out h.calls
+            (begun_broken renderer.canvas fault b.calls m.out t.out (subst (λ y. IsAsked y.calls) is asks) (subst (λ y. Begun renderer.canvas fault y.calls m.out t.out) is c)))) shows k.begun;
       }
 
   -- the first one was refused
@@ -132,10 +151,16 @@ module _ {Out H Hi K T : Type 0} {renderer : renderers.Renderer.Ghosts Out} {com
   does_cut_by {A} {B} first second s t e result is h =
       subst (λ r. Does {A = B} (then_do first second) s t r) (sym (is_err e result is)) (does_cut first second s t e h)
 
+  -- a drawing of all asks for something
+  pub does_then_refreshed : {A B : Type 0} (first : Transition) (s m t : State Out H Hi K T renderer completer candidate hinter hint highlighter validator history) (x : A) (result : Result B ReadlineError)
+      → Does first s m (Ok x) → Does refreshed m t result → Does (then_do first refreshed) s t result
+  does_then_refreshed first s m t x result h k =
+      does_both first refreshed s m t x result h k (on_refusal result (refreshed_shows (renderer.canvas.ruler m.out) m.layout (setting_of m) (value_of m)))
+
   pub does_both_by : {A B C : Type 0} (first second : Transition) (s m t : State Out H Hi K T renderer completer candidate hinter hint highlighter validator history) (x : A) (e : ReadlineError) (result : Result C ReadlineError)
-      → IsErrAnd result (λ y. y ≡ e) → Does first s m (Ok x) → Does {A = B} second m t (Err e) → Does (then_do first second) s t result
-  does_both_by {A} {B} {C} first second s m t x e result is h k =
-      subst (λ r. Does {A = C} (then_do first second) s t r) (sym (is_err e result is)) (does_both {B = C} first second s m t x (Err e) h (refused_as {A = B} {B = C} second m t e k))
+      → IsErrAnd result (λ y. y ≡ e) → Does first s m (Ok x) → Does {A = B} second m t (Err e) → Shows second m → Does (then_do first second) s t result
+  does_both_by {A} {B} {C} first second s m t x e result is h k shows =
+      subst (λ r. Does {A = C} (then_do first second) s t r) (sym (is_err e result is)) (does_both {B = C} first second s m t x (Err e) h (refused_as {A = B} {B = C} second m t e k) shows)
 
   -- an edit that does the same here
   pub does_as : {A : Type 0} (edit other : Transition) (s t : State Out H Hi K T renderer completer candidate hinter hint highlighter validator history) (result : Result A ReadlineError)

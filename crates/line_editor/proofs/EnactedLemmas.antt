@@ -1,5 +1,5 @@
 -- A script that a state followed is enacted, or cut by a fault.
-use Rattle.std.proofs.Common.{◌≡◌, ◌⊎◌, inl, inr, Bool, true, true≢false, List, ◌∷◌, ◌++◌, refl, sym, ap, subst, ◌∙◌}
+use Rattle.std.proofs.Common.{◌≡◌, ◌⊎◌, inl, inr, Bool, true, true≢false, List, [], ◌∷◌, ◌++◌, refl, sym, ap, subst, ◌∙◌}
 use Rattle.std.specs.Prelude.{Result, Ok, Err}
 use Rattle.line_config.specs.declared.errors.ReadlineError.{ReadlineError}
 use Rattle.line_config.specs.declared.errors.ReadlineError.TheVariants.{Reader, Memory}
@@ -15,7 +15,7 @@ use Rattle.line_keys.specs.Follows.{Goes}
 use Rattle.line_keys.specs.Refreshing.{KnownDisplay as Displaying}
 use Rattle.line_keys.specs.Phrases.{Input, Script, Ends, Needs, Asks, Reads, Becomes}
 use Rattle.line_record.specs.Ring.{Ring}
-use Rattle.line_editor.specs.Acts.{Act, Sees, Gets, Stage, stage, CutIn, script_acts}
+use Rattle.line_editor.specs.Acts.{Act, Sees, Gets, Stage, stage, SeenInPart, CutIn, script_acts}
 use Rattle.line_editor.specs.Calls.{Ruler, MadeIn}
 use Rattle.line_editor.specs.Asks.{shown_in, ask_effect}
 use Rattle.line_editor.specs.Displays.{display_of}
@@ -26,8 +26,9 @@ use Rattle.line_editor.specs.Turning.{Doing, Cut}
 use Rattle.line_editor.specs.Values.{Value, Setting, Effect, Transition, unchanged, then_do}
 use Rattle.line_editor.specs.declared.renderer as renderers
 use Rattle.line_editor.specs.declared.state.State.{State}
-use Rattle.line_editor.proofs.ActsLemmas.{redraws_of, rest_of, ring_of, asked_of, asked_same, cut_behind, cut_none, cut_seen, cut_seeing, cut_got, cut_getting}
+use Rattle.line_editor.proofs.ActsLemmas.{redraws_of, rest_of, ring_of, asked_of, asked_same, cut_behind, cut_seen, cut_seeing, cut_got, cut_getting}
 use Rattle.line_editor.proofs.DoesLemmas.{does_both, does_as, setting_stays, stays_same, stays_both}
+use Rattle.line_editor.proofs.ShowsLemmas.{ask_in_part}
 
 -- a read that a steady source cuts wants memory
 wants_memory : (item : InputItem) (e : ReadlineError) → IsReadFault item true e → e ≡ Memory
@@ -110,25 +111,28 @@ module _ {Out H Hi K T : Type 0} {renderer : renderers.Renderer.Ghosts Out} {com
 
   -- an edit was refused
   pub seeing_cut : {A B : Type 0} (first : Transition) (acts : Doing) (s t : State Out H Hi K T renderer completer candidate hinter hint highlighter validator history) (c : Coming) (r : Ring) (e : ReadlineError) (q : Result B ReadlineError)
-      → q ≡ Err e → Does {A = A} first s t (Err e) → Cut (λ a v. Sees (first a v).redraws ∷ acts a v) s t c c r r q
-  seeing_cut first acts s t c r e q is refused = record {
+      → q ≡ Err e → SeenInPart renderer.canvas (renderer.canvas.ruler s.out) e (first (setting_of s) (value_of s)).redraws s.layout s.out t.out → Does {A = A} first s t (Err e)
+      → Cut (λ a v. Sees (first a v).redraws ∷ acts a v) s t c c r r q
+  seeing_cut first acts s t c r e q is part refused = record {
     fault = e;
     result_is = is;
     cause = refused.reason;
     stays = refused.stays;
-    done = cut_seeing renderer.canvas (renderer.canvas.ruler s.out) e (first (setting_of s) (value_of s)).redraws (acts (setting_of s) (value_of s)) s.layout s.out t.out c r refused.begun;
+    done = cut_seeing renderer.canvas (renderer.canvas.ruler s.out) e (first (setting_of s) (value_of s)).redraws (acts (setting_of s) (value_of s)) s.layout s.out t.out c r part;
   }
 
-  -- nothing was done for want of memory
+  -- memory was wanting for what is kept
   cut_still : {A : Type 0} (acts : Doing) (s t : State Out H Hi K T renderer completer candidate hinter hint highlighter validator history) (c c' : Coming) (r : Ring) (q : Result A ReadlineError)
-      → q ≡ Err Memory → t ≡ s → c' ≡ c → Cut acts s t c c' r r q
-  cut_still {A} acts s t c c' r q is same kept = subst (λ x. Cut {A = A} acts s x c c' r r q) (sym same) (record {
-    fault = Memory;
-    result_is = is;
-    cause = tt;
-    stays = stays_same s;
-    done = cut_none renderer.canvas (renderer.canvas.ruler s.out) Memory (acts (setting_of s) (value_of s)) s.layout (stage s.out c r) (stage s.out c' r) refl (ap (λ x. stage s.out x r) kept);
-  })
+      → q ≡ Err Memory → t ≡ s → c' ≡ c → Cut (λ a v. Sees [] ∷ acts a v) s t c c' r r q
+  cut_still {A} acts s t c c' r q is same kept =
+      let whole : Doing = λ a v. Sees [] ∷ acts a v in
+      subst (λ x. Cut {A = A} whole s t c x r r q) (sym kept) (subst (λ x. Cut {A = A} whole s x c c r r q) (sym same) (record {
+        fault = Memory;
+        result_is = is;
+        cause = tt;
+        stays = stays_same s;
+        done = cut_seeing renderer.canvas (renderer.canvas.ruler s.out) Memory [] (acts (setting_of s) (value_of s)) s.layout s.out s.out c r (refl, refl);
+      }))
 
   -- a read was refused
   cut_at_read : {A : Type 0} (rest : Coming) (acts : Doing) (s t : State Out H Hi K T renderer completer candidate hinter hint highlighter validator history) (c c' : Coming) (r : Ring) (e : ReadlineError) (q : Result A ReadlineError)
@@ -176,7 +180,7 @@ module _ {Out H Hi K T : Type 0} {renderer : renderers.Renderer.Ghosts Out} {com
       let same : next (setting_of m) (value_of m) ≡ next (setting_of s) (ask_effect ask (setting_of s) (value_of s)).value =
       ap (λ a. next a (value_of m)) (setting_stays s m made.stays) ∙ ap (next (setting_of s)) made.value in
       inl (record {
-        does = does_as (then_do (ask_effect ask) (λ a v. (next a v).made)) whole s t (Ok (tt {0})) refl (does_both (ask_effect ask) (λ a v. (next a v).made) s m t (tt {0}) (Ok (tt {0})) made second);
+        does = does_as (then_do (ask_effect ask) (λ a v. (next a v).made)) whole s t (Ok (tt {0})) refl (does_both (ask_effect ask) (λ a v. (next a v).made) s m t (tt {0}) (Ok (tt {0})) made second tt);
         answer_is = e.answer_is ∙ ap (λ p. p.answer) same;
         input_is = e.input_is ∙ ap (λ p. p.input) same;
         rest_is = e.rest_is ∙ ap (λ p. p.rest) same;
@@ -185,6 +189,19 @@ module _ {Out H Hi K T : Type 0} {renderer : renderers.Renderer.Ghosts Out} {com
       let next : Doing = λ a v. script_acts a (later (shown_in v)) v in
       inr (seen_cut {B = X} {C = X} (ask_effect ask) next s m t (tt {0}) c c' k k r r
       (record { fault = cut.fault; result_is = cut.result_is; cause = cut.cause; stays = cut.stays; done = cut.done }) cut.result_is made)
+
+  -- after memory was taken
+  needed_before : {X : Type 0} (later : Script X) (i : Input) (c : Coming) (k : Ring) (s t : State Out H Hi K T renderer completer candidate hinter hint highlighter validator history) (i' : Input) (c' : Coming) (r : Result X ReadlineError)
+      → Enacting (λ a v. enacted a later i v c) (λ a v. script_acts a later v) s t i' c c' k r
+      → Enacting (λ a v. enacted a (Needs later) i v c) (λ a v. script_acts a (Needs later) v) s t i' c c' k r
+  needed_before later i c k s t i' c' r (inl e) = inl (record { does = e.does; answer_is = e.answer_is; input_is = e.input_is; rest_is = e.rest_is })
+  needed_before later i c k s t i' c' r (inr cut) = inr (record {
+    fault = cut.fault;
+    result_is = cut.result_is;
+    cause = cut.cause;
+    stays = cut.stays;
+    done = cut_seen renderer.canvas (renderer.canvas.ruler s.out) cut.fault [] (script_acts (setting_of s) later (value_of s)) s.layout (stage s.out c k) (stage t.out c' k) s.out refl cut.done;
+  })
 
   read_before : {X : Type 0} (item : InputItem) (rest : Coming) (later : Script X) (i : Input) (c : Coming) (k : Ring) (s t : State Out H Hi K T renderer completer candidate hinter hint highlighter validator history) (i' : Input) (c' : Coming) (r : Result X ReadlineError)
       → Enacting (λ a v. enacted a later i v rest) (λ a v. script_acts a later v) s t i' rest c' k r
@@ -201,13 +218,14 @@ module _ {Out H Hi K T : Type 0} {renderer : renderers.Renderer.Ghosts Out} {com
     input_is = is.2;
     rest_is = is.3;
   })
-  goes_enacts (Needs later) s t i i' c c' k r (inl goes) = goes_enacts later s t i i' c c' k r goes
+  goes_enacts (Needs later) s t i i' c c' k r (inl goes) = needed_before later i c k s t i' c' r (goes_enacts later s t i i' c c' k r goes)
   goes_enacts (Needs later) s t i i' c c' k r (inr cut) = inr (cut_still (λ a v. script_acts a later v) s t c c' k r cut.0 cut.1 cut.3)
   goes_enacts (Asks ask later) s t i i' c c' k r (inl (m, made, goes)) =
       asked_before ask later i c k s m t i' c' r made (goes_enacts (later (shown_in (value_of m))) m t i i' c c' k r goes)
   goes_enacts {X} (Asks ask later) s t i i' c c' k r (inr (e, is, refused, cut, kept, rest)) =
       inr (subst (λ x. Cut {A = X} (λ a v. script_acts a (Asks ask later) v) s t c x k k r) (sym rest)
-      (seeing_cut {A = Unit {0}} (ask_effect ask) (λ a v. script_acts a (later (shown_in (ask_effect ask a v).value)) (ask_effect ask a v).value) s t c k e r cut refused))
+      (seeing_cut {A = Unit {0}} (ask_effect ask) (λ a v. script_acts a (later (shown_in (ask_effect ask a v).value)) (ask_effect ask a v).value) s t c k e r cut
+      (ask_in_part renderer.canvas (renderer.canvas.ruler s.out) e ask (setting_of s) (value_of s) s.layout s.out t.out refused.begun) refused))
   goes_enacts (Reads item rest later) s t i i' c c' k r (inl goes) = read_before item rest later i c k s t i' c' r (goes_enacts later s t i i' rest c' k r goes)
   goes_enacts (Reads item rest later) s t i i' c c' k r (inr (e, fault, cut)) =
       inr (cut_at_read rest (λ a v. script_acts a later v) s t c c' k e r cut.0 cut.1 cut.3 (wants_memory item e fault))

@@ -19,6 +19,7 @@ pub mod ReturnLemmas
 pub mod RowLemmas
 mod Rows
 pub mod RunLemmas
+pub mod ShowsLemmas
 pub mod TurnLemmas
 pub mod UndoAllLemmas
 pub mod UndoLemmas

@@ -2,6 +2,7 @@
 use Rattle.std.proofs.Common.{◌≡◌, inl, inr, ℕ, suc, Bool, List, [], ◌∷◌, ◌++◌, refl, sym, ap, subst, ◌∙◌, arith, append-nil}
 use Rattle.std.specs.Prelude.{Option, Result, Ok, Err, flat_map}
 use Rattle.line_config.specs.declared.errors.ReadlineError.{ReadlineError}
+use Rattle.line_config.specs.declared.errors.ReadlineError.TheVariants.{Display}
 use Rattle.line_help.specs.declared.completion as completions
 use Rattle.line_help.specs.declared.hint as hints
 use Rattle.line_help.specs.declared.highlight as highlights
@@ -27,9 +28,10 @@ use Rattle.line_editor.specs.declared.commands.Status.TheVariants.{Proceed, Subm
 use Rattle.line_editor.specs.declared.renderer as renderers
 use Rattle.line_editor.specs.declared.state.State.{State}
 use Rattle.line_editor.proofs.ActsLemmas.{redraws_of, rest_of, ring_of, turn_redraws, turn_rest, turn_ring, cut_before, cut_seeing}
-use Rattle.line_editor.proofs.DoesLemmas.{does_both, does_as, setting_stays, stays_both}
+use Rattle.line_editor.proofs.DoesLemmas.{does_both, does_as, drawing_shows, setting_stays, stays_both}
 use Rattle.line_editor.proofs.HeardLemmas.{turn_on as early_turn}
 use Rattle.line_editor.proofs.EnactedLemmas.{cut_onward}
+use Rattle.line_editor.proofs.ShowsLemmas.{shown_in_part}
 
 -- one turn of a line with fuel
 turned : (n : ℕ) (s : Setting) (custom : Custom) (indent : ℕ) (i : Input) (r : Ring) (info : Option (List ℕ)) (v : Value) (c : Coming)
@@ -81,7 +83,7 @@ module _ {Out H Hi K T : Type 0} {renderer : renderers.Renderer.Ghosts Out} {com
       ap (λ a. line a (value_of m)) (setting_stays s m made.stays) ∙ ap (line (setting_of s)) made.value in
       record {
         does = does_as (then_do first (edit_of line)) (edit_of whole) s t (Ok (tt {0})) (ap effect_of (sym line_is))
-            (does_both first (edit_of line) s m t (tt {0}) (Ok (tt {0})) made read.does);
+            (does_both first (edit_of line) s m t (tt {0}) (Ok (tt {0})) made read.does tt);
         outcome_is = read.outcome_is ∙ ap (λ p. p.outcome) same ∙ ap (λ p. p.outcome) (sym line_is);
         ring_is = read.ring_is ∙ ap (λ p. p.ring) same ∙ ap (λ p. p.ring) (sym line_is);
         rest_is = read.rest_is ∙ ap (λ p. p.rest) same ∙ ap (λ p. p.rest) (sym line_is);
@@ -205,7 +207,7 @@ module _ {Out H Hi K T : Type 0} {renderer : renderers.Renderer.Ghosts Out} {com
           → Does submitted m t (Ok x) → Read line_here s t r' c' (Ok x)
       turn_accepts {A} x t closed =
           let same = ends_by (Ok Submit) whole.outcome_is in
-          let both = does_as (then_do (made custom indent i r c) submitted) (edit_of line_here) s t (Ok x) closed_same (does_both (made custom indent i r c) submitted s m t (tt {0}) (Ok x) whole.does closed) in
+          let both = does_as (then_do (made custom indent i r c) submitted) (edit_of line_here) s t (Ok x) closed_same (does_both (made custom indent i r c) submitted s m t (tt {0}) (Ok x) whole.does closed tt) in
           record {
             does = record { value = both.value; calls = both.calls; layout = both.layout; stays = both.stays; reason = tt; begun = tt };
             outcome_is = ap (λ (v : Value). Ok v.line.text) (both.value ∙ ap (λ p. p.value) same) ∙ ap (λ p. p.outcome) (sym same);
@@ -215,8 +217,8 @@ module _ {Out H Hi K T : Type 0} {renderer : renderers.Renderer.Ghosts Out} {com
 
       -- the close was refused
       pub close_cut : {A B : Type 0} (t : State Out H Hi K T renderer completer candidate hinter hint highlighter validator history) (e : ReadlineError)
-          (result : Result A ReadlineError) → result ≡ Err e → Does {A = B} submitted m t (Err e) → Cut doing_here s t c c' r r' result
-      close_cut {A} {B} t e result is refused =
+          (result : Result A ReadlineError) → result ≡ Err e → e ≡ Display → Does {A = B} submitted m t (Err e) → Cut doing_here s t c c' r r' result
+      close_cut {A} {B} t e result is why refused =
           let closing : Doing = λ a v. Sees (submitted a v).redraws ∷ [] in
           record {
             fault = e;
@@ -228,7 +230,9 @@ module _ {Out H Hi K T : Type 0} {renderer : renderers.Renderer.Ghosts Out} {com
                 (subst (λ y. CutIn renderer.canvas (renderer.canvas.ruler m.out) e (closing (setting_of m) (value_of m)) m.layout y (stage t.out c' r'))
                 (ap (λ y. stage m.out y r') (whole.rest_is ∙ sym (turn_rest (setting_of s) custom indent i r (value_of s) c))
                 ∙ ap (stage m.out (rest_of c front_here)) (whole.ring_is ∙ sym (turn_ring (setting_of s) custom indent i r (value_of s) c)))
-                (cut_seeing renderer.canvas (renderer.canvas.ruler m.out) e (submitted (setting_of m) (value_of m)).redraws [] m.layout m.out t.out c' r' refused.begun)));
+                (cut_seeing renderer.canvas (renderer.canvas.ruler m.out) e (submitted (setting_of m) (value_of m)).redraws [] m.layout m.out t.out c' r'
+                (shown_in_part renderer.canvas (renderer.canvas.ruler m.out) e (submitted (setting_of m) (value_of m)).redraws m.layout m.out t.out
+                (drawing_shows {A = B} submitted m t (Err e) why refused) refused.begun))));
           }
 
   -- ---- over what was heard

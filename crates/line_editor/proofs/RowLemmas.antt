@@ -19,7 +19,7 @@ use Rattle.line_editor.specs.States.{value_of, setting_of, Does}
 use Rattle.line_editor.specs.Values.{Transition}
 use Rattle.line_editor.specs.declared.renderer as renderers
 use Rattle.line_editor.specs.declared.state.State.{State}
-use Rattle.line_editor.proofs.BegunLemmas.{begun_none}
+use Rattle.line_editor.proofs.BegunLemmas.{begun_none, begun_nothing}
 use Rattle.line_editor.proofs.DoesLemmas.{does_as, is_err}
 
 abbrev either : Bool → Transition → Transition → Transition
@@ -30,14 +30,13 @@ module _ {Out H Hi K T : Type 0} {renderer : renderers.Renderer.Ghosts Out} {com
   -- a motion that asked for nothing was refused before anything was asked
   unmoved : {A B : Type 0} (edit other : Transition) (s t : State Out H Hi K T renderer completer candidate hinter hint highlighter validator history) (e : ReadlineError)
       → (edit (setting_of s) (value_of s)).redraws ≡ [] → Does {A = A} edit s t (Err e) → Does {A = B} other s t (Err e)
-  unfolding Begun
   unmoved edit other s t e none h = record {
     value = tt;
     calls = tt;
     layout = tt;
     stays = h.stays;
     reason = h.reason;
-    begun = let nothing = subst (λ (xs : List Redraw). Begun renderer.canvas e (asked (renderer.canvas.ruler s.out) s.layout xs).calls s.out t.out) none h.begun in
+    begun = let nothing = begun_nothing renderer.canvas e s.out t.out (subst (λ (xs : List Redraw). Begun renderer.canvas e (asked (renderer.canvas.ruler s.out) s.layout xs).calls s.out t.out) none h.begun) in
         begun_none renderer.canvas e (asked (renderer.canvas.ruler s.out) s.layout (other (setting_of s) (value_of s)).redraws).calls s.out t.out nothing.0 nothing.1;
   }
 

@@ -35,7 +35,7 @@ use Rattle.line_editor.specs.Values.{Setting, Hooks, IsFailing}
 use Rattle.line_editor.specs.declared.ran.Ran.{Ran}
 use Rattle.line_editor.specs.declared.renderer as renderers
 use Rattle.line_editor.specs.declared.state.State.{State}
-use Rattle.line_editor.proofs.ActsLemmas.{cut_none}
+use Rattle.line_editor.proofs.ActsLemmas.{cut_first}
 
 -- no memory for a line, and nothing was read or drawn
 pub not_begun : {R H K T : Type 0} (canvas : Canvas R) (helps : Option H → Helping) (custom : Custom) (prompt : List ℕ) (helper : Option H) (entries : List (List ℕ)) (config : Config) (out : R)
@@ -48,8 +48,8 @@ not_begun canvas helps custom prompt helper entries config out ring feed = recor
       fault = Memory;
       outcome_is = refl;
       cause = tt;
-      done = cut_none canvas (canvas.ruler out) Memory (acts_meant n (setting_by (canvas.ruler out) prompt (helps helper) entries) custom config ring feed.coming) (fresh (canvas.ruler out).mode)
-          (stage out feed.coming ring) (stage out feed.coming ring) refl refl;
+      done = cut_first canvas (canvas.ruler out) Memory n (setting_by (canvas.ruler out) prompt (helps helper) entries) custom config.indent_size (new_input config.edit_mode) ring feed.coming
+          (fresh (canvas.ruler out).mode) (stage out feed.coming ring) refl;
     }),
   );
   told = λ told. told;

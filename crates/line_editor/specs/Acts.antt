@@ -11,7 +11,7 @@ use Rattle.line_keys.specs.Phrases.{Input, Script, Ends, Needs, Asks, Reads, Bec
 use Rattle.line_record.specs.Ring.{Ring}
 use Rattle.line_editor.specs.Accepting.{submitted}
 use Rattle.line_editor.specs.Asks.{shown_in, ask_effect}
-use Rattle.line_editor.specs.Calls.{Canvas, Ruler, MadeIn, Begun}
+use Rattle.line_editor.specs.Calls.{Canvas, Ruler, MadeIn, BrokenOff, Begun}
 use Rattle.line_editor.specs.Commands.{means_of, effect, ring_after_command, ring_without_text}
 use Rattle.line_editor.specs.Drawing.{refreshed}
 use Rattle.line_editor.specs.Lines.{Enacted, line_phrase, phrase_enacted, reset_by, Turned, turn_of}
@@ -22,7 +22,7 @@ use Rattle.line_editor.specs.declared.commands.Status.{Status}
 use Rattle.line_editor.specs.declared.commands.Status.TheVariants.{Proceed, Submit}
 
 pub data Act : Type 0 where
-  -- this is to be seen
+  -- this is to be seen; where that is nothing, memory is taken for what is kept
   Sees : (redraws : List Redraw) → Act
   -- a key or a paste is read, and this is to come after it
   Gets : (rest : Coming) → Act
@@ -35,7 +35,7 @@ pub data Act : Type 0 where
 -- a script followed on the editor's value
 abbrev pub script_acts : {X : Type 0} → Setting → Script X → Value → List Act
 script_acts s (Ends answer) v = []
-script_acts s (Needs later) v = script_acts s later v
+script_acts s (Needs later) v = Sees [] ∷ script_acts s later v
 script_acts s (Asks ask later) v =
     let e = ask_effect ask s v in
     Sees e.redraws ∷ script_acts s (later (shown_in e.value)) e.value
@@ -86,21 +86,25 @@ abbrev pub stage : {R : Type 0} → R → Coming → Ring → Stage R
 stage out coming ring = record { out = out; coming = coming; ring = ring }
 
 module _ {R : Type 0} (canvas : Canvas R) (r : Ruler) where
-  -- of the calls of these redraws the first ones were made, and then the fault came
   abbrev pub BegunOf : ReadlineError → List Redraw → Layout → R → R → Type 0
   BegunOf fault redraws l old new = Begun canvas fault (asked r l redraws).calls old new
 
   abbrev pub MadeOf : List Redraw → Layout → R → R → Type 0
   MadeOf redraws l old new = FoldsTo (MadeIn canvas) old (asked r l redraws).calls new
 
+  -- what is to be seen was broken off; where that is nothing, memory was wanting
+  abbrev pub SeenInPart : ReadlineError → List Redraw → Layout → R → R → Type 0
+  SeenInPart fault [] l old new = (fault ≡ Memory) × (new ≡ old)
+  SeenInPart fault (x ∷ xs) l old new = BrokenOff canvas fault (asked r l (x ∷ xs)).calls old new
+
   -- the first of these acts were done in full, and then the fault came: in what is to be seen, or
-  -- for want of memory before a read or a command, in a read or after all. A read that finds no
-  -- memory for its text is refused for good; a command that is refused has changed the ring, but
-  -- where memory is wanting that may be without its text
+  -- for want of memory before a read or a command, or in a read. None comes after the last act. A
+  -- read that finds no memory for its text is refused for good; a command that is refused has
+  -- changed the ring, but where memory is wanting that may be without its text
   unfoldable pub CutIn : ReadlineError → List Act → Layout → Stage R → Stage R → Type 0
-  CutIn fault [] l old new = (fault ≡ Memory) × (new ≡ old)
+  CutIn fault [] l old new = ⊥
   CutIn fault (Sees redraws ∷ more) l old new =
-      (BegunOf fault redraws l old.out new.out × (new ≡ stage new.out old.coming old.ring))
+      (SeenInPart fault redraws l old.out new.out × (new ≡ stage new.out old.coming old.ring))
       ⊎ ((out : R) × MadeOf redraws l old.out out
       × CutIn fault more (asked r l redraws).layout (stage out old.coming old.ring) new)
   CutIn fault (Gets rest ∷ more) l old new =

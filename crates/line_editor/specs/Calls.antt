@@ -1,6 +1,6 @@
 -- The calls of a renderer and of the helper, what is known of a renderer, and what a call makes of
 -- it.
-use Rattle.std.specs.Prelude.{◌≡◌, ◌⊎◌, ℕ, Bool, List, [], ◌∷◌, Option, option_map, Result, OnOk, OnErr, IfErr, IsTrue, IsFalse}
+use Rattle.std.specs.Prelude.{◌≡◌, ◌⊎◌, ⊤, ℕ, Bool, List, [], ◌∷◌, Option, option_map, Result, OnOk, OnErr, IfErr, IsTrue, IsFalse}
 use Rattle.line_buffer.specs.declared.layout.GraphemeClusterMode.{GraphemeClusterMode}
 use Rattle.line_buffer.specs.declared.layout.Layout.{Layout}
 use Rattle.line_buffer.specs.declared.layout.Position.{Position}
@@ -60,14 +60,24 @@ abbrev pub RefusedIn : {R : Type 0} → Canvas R → ReadlineError → R → Cal
 RefusedIn canvas fault old (Help fails) new = (fault ≡ Helper) × IsTrue fails × (new ≡ old)
 RefusedIn canvas fault old call new = (fault ≡ Display) × canvas.refused old call new
 
--- of these calls the first ones were made, and then the fault came: the next one was refused by it,
--- or memory was wanting
-unfoldable pub Begun : {R : Type 0} → Canvas R → ReadlineError → List Call → R → R → Type 0
-Begun canvas fault [] old new = (fault ≡ Memory) × (new ≡ old)
-Begun {R} canvas fault (call ∷ calls) old new =
+-- these calls were broken off by a fault: those before it were made, and the next one was refused by
+-- it, or memory was wanting for it. None comes after the last one
+unfoldable pub BrokenOff : {R : Type 0} → Canvas R → ReadlineError → List Call → R → R → Type 0
+BrokenOff canvas fault [] old new = ⊥
+BrokenOff {R} canvas fault (call ∷ calls) old new =
     ((fault ≡ Memory) × (new ≡ old))
     ⊎ (RefusedIn canvas fault old call new
-    ⊎ ((between : R) × MadeIn canvas old call between × Begun canvas fault calls between new))
+    ⊎ ((between : R) × MadeIn canvas old call between × BrokenOff canvas fault calls between new))
+
+-- memory was wanting before anything was done, or the calls were broken off
+unfoldable pub Begun : {R : Type 0} → Canvas R → ReadlineError → List Call → R → R → Type 0
+Begun canvas fault calls old new =
+    ((fault ≡ Memory) × (new ≡ old)) ⊎ BrokenOff canvas fault calls old new
+
+-- something is asked for
+abbrev pub IsAsked : List Call → Type 0
+IsAsked [] = ⊥
+IsAsked (call ∷ calls) = ⊤
 
 -- a call that draws nothing
 pub record Idles {R A : Type 0} (canvas : Canvas R) (old new : R)

@@ -11,7 +11,7 @@ use Rattle.line_help.specs.declared.highlight as highlights
 use Rattle.line_help.specs.declared.validate as verdicts
 use Rattle.line_help.specs.declared.history as histories
 use Rattle.line_record.specs.Items.{held_on}
-use Rattle.line_editor.specs.Calls.{MadeIn, Begun}
+use Rattle.line_editor.specs.Calls.{MadeIn, Begun, IsAsked}
 use Rattle.line_editor.specs.Redraws.{asked}
 use Rattle.line_editor.specs.Values.{Value, Setting, Hooks, hooks_by, Transition, IsFailing}
 use Rattle.line_editor.specs.declared.renderer as renderers
@@ -114,3 +114,11 @@ module _ {Out H Hi K T : Type 0} {renderer : renderers.Renderer.Ghosts Out}
     pub begun : IfErr result (λ fault. Begun renderer.canvas fault
         (asked (renderer.canvas.ruler s.out) s.layout
         (edit (setting_of s) (value_of s)).redraws).calls s.out t.out)
+
+  -- something is asked for in an edit
+  abbrev pub Shows : Transition
+      → State Out H Hi K T renderer completer candidate hinter hint highlighter validator history
+      → Type 0
+  Shows edit s =
+      IsAsked (asked (renderer.canvas.ruler s.out) s.layout
+      (edit (setting_of s) (value_of s)).redraws).calls

@@ -1,5 +1,6 @@
 //! Lines that are to be accepted.
-ghost use Rattle.std.specs.Prelude.{◌≡◌, IfOk, OnOk, option_copied};
+ghost use Rattle.std.specs.Prelude.{◌≡◌, IfErr, IfOk, OnErr, OnOk, option_copied};
+ghost use Rattle.line_config.specs.declared.errors.ReadlineError.TheVariants.{Display};
 
 use crate::renderer::Renderer;
 use crate::state::State;
@@ -9,7 +10,7 @@ use line_keys::{CmdKind, Text};
 
 #[tactic(auto, using(crate::proofs::BegunLemmas::begun_none, crate::proofs::BegunLemmas::begun_refused))]
 impl<'p, 'h, Out: Renderer, H: Helper + Drop, Hi: History> State<'p, 'h, Out, H, Hi> {
-    ghost use Rattle.line_editor.specs.States.{value_of, setting_of, Does, Helps, Stays};
+    ghost use Rattle.line_editor.specs.States.{value_of, setting_of, Does, Shows, Helps, Stays};
     ghost use Rattle.line_editor.specs.Values.{verdict_reply};
     ghost use Rattle.line_editor.specs.Accepting.{bare, verdict, told_if, verdict_told, closed_and_told, opened_and_asked, validate, accepts_found, newline, accept, accepts, newline_if, accept_or_insert, submitted};
 
@@ -48,6 +49,7 @@ impl<'p, 'h, Out: Renderer, H: Helper + Drop, Hi: History> State<'p, 'h, Out, H,
     /// or there is a message.
     fn tell_verdict(&mut self, found: &ValidationResult, draws: bool) -> Result<(), ReadlineError>
         ensures does { Does (verdict_told found.now draws) self.old self.new result }
+        ensures fault { IfErr result (λ e. e ≡ Display) }
     {
         match found {
             ValidationResult::Incomplete => Ok(()),
@@ -64,6 +66,7 @@ impl<'p, 'h, Out: Renderer, H: Helper + Drop, Hi: History> State<'p, 'h, Out, H,
         kind: CmdKind,
     ) -> Result<(), ReadlineError>
         ensures does { Does (told_if draws text.now kind) self.old self.new result }
+        ensures fault { IfErr result (λ e. e ≡ Display) }
     {
         if draws || text.is_some() {
             self.tell(text_of(text), kind)
@@ -75,6 +78,7 @@ impl<'p, 'h, Out: Renderer, H: Helper + Drop, Hi: History> State<'p, 'h, Out, H,
     /// Closes the groups, and tells what was found.
     fn close_and_tell(&mut self, found: &ValidationResult) -> Result<(), ReadlineError>
         ensures does { Does (closed_and_told found.now) self.old self.new result }
+        ensures fault { IfErr result (λ e. e ≡ Display) }
     {
         let ended = self.changes.end(self.alloc)?;
         let draws = ended || self.hint.is_some();
@@ -97,6 +101,7 @@ impl<'p, 'h, Out: Renderer, H: Helper + Drop, Hi: History> State<'p, 'h, Out, H,
     /// the group that was opened for it stays open.
     pub fn validate(&mut self) -> Result<ValidationResult, ReadlineError>
         ensures does { Does validate self.old self.new result }
+        ensures shows { OnErr result (Shows validate self.old) }
         ensures verdict { IfOk result
             (λ found. found ≡ verdict (setting_of self.old) (value_of self.old)) }
     {
@@ -134,6 +139,7 @@ impl<'p, 'h, Out: Renderer, H: Helper + Drop, Hi: History> State<'p, 'h, Out, H,
         found: &ValidationResult,
     ) -> Result<(), ReadlineError>
         ensures does { Does (newline_if accepted found.now) self.old self.new result }
+        ensures shows { OnErr result (Shows (newline_if accepted found.now) self.old) }
     {
         if !accepted && (found.is_valid() || !found.has_message()) {
             self.edit_insert('\n', 1)
@@ -166,6 +172,7 @@ impl<'p, 'h, Out: Renderer, H: Helper + Drop, Hi: History> State<'p, 'h, Out, H,
     /// drawing.
     pub(crate) fn submit(&mut self) -> Result<(), ReadlineError>
         ensures does { Does submitted self.old self.new result }
+        ensures fault { IfErr result (λ e. e ≡ Display) }
     {
         self.edit_move_buffer_end(CmdKind::ForcedRefresh)?;
         self.move_cursor_to_end()

@@ -1,6 +1,7 @@
 //! What a state draws.
-ghost use Rattle.std.specs.Prelude.{◌≡◌, ◌+◌, ◌<◌, ◌≤◌, Some, None, if◌then◌else◌, IfOk, IsTrue, option_map, option_copied};
+ghost use Rattle.std.specs.Prelude.{◌≡◌, ◌+◌, ◌<◌, ◌≤◌, Some, None, if◌then◌else◌, IfErr, IfOk, IsTrue, option_map, option_copied};
 ghost use Rattle.line_buffer.specs.Cells.{origin};
+ghost use Rattle.line_config.specs.declared.errors.ReadlineError.TheVariants.{Display};
 ghost use Rattle.line_editor.specs.Calls.{Makes};
 ghost use Rattle.line_editor.specs.Calls.Call.{Draw};
 ghost use Rattle.line_editor.specs.Redraws.{layout_of, info_text, may_type, may_take};
@@ -74,7 +75,7 @@ fn draw_over<Out: Renderer, H: Highlighter>(
     Ok(layout)
 }
 
-#[tactic(auto, using(crate::proofs::BegunLemmas::begun_none, crate::proofs::BegunLemmas::begun_refused, crate::proofs::BegunLemmas::begun_made))]
+#[tactic(auto, using(crate::proofs::BegunLemmas::begun_none, crate::proofs::BegunLemmas::begun_refused, crate::proofs::BegunLemmas::broken_refused, crate::proofs::BegunLemmas::begun_made))]
 impl<'p, 'h, Out: Renderer, H: Helper + Drop, Hi: History> State<'p, 'h, Out, H, Hi> {
     ghost use Rattle.line_editor.specs.States.{value_of, setting_of, Stays, Does, Helps};
     ghost use Rattle.line_editor.specs.Values.{hint_reply, with_hint, with_mark};
@@ -155,6 +156,7 @@ impl<'p, 'h, Out: Renderer, H: Helper + Drop, Hi: History> State<'p, 'h, Out, H,
     /// Draws the line with other information in place of the hint.
     pub(crate) fn draw_with(&mut self, info: Option<&str>) -> Result<(), ReadlineError>
         ensures does { Does (drawn_with (option_copied info.entry)) self.old self.new result }
+        ensures fault { IfErr result (λ e. e ≡ Display) }
     {
         self.layout = draw_over(
             &mut self.out,
@@ -206,6 +208,7 @@ impl<'p, 'h, Out: Renderer, H: Helper + Drop, Hi: History> State<'p, 'h, Out, H,
     /// Draws the line with a message, if there is one, in place of the hint.
     pub(crate) fn tell(&mut self, message: Option<&str>, kind: CmdKind) -> Result<(), ReadlineError>
         ensures does { Does (told (option_copied message.entry) kind) self.old self.new result }
+        ensures fault { IfErr result (λ e. e ≡ Display) }
     {
         self.hint = None;
         self.mark(kind);
@@ -215,6 +218,7 @@ impl<'p, 'h, Out: Renderer, H: Helper + Drop, Hi: History> State<'p, 'h, Out, H,
     /// Moves the display's cursor to the text's.
     pub(crate) fn show_cursor(&mut self) -> Result<(), ReadlineError>
         ensures does { Does cursor_shown self.old self.new result }
+        ensures fault { IfErr result (λ e. e ≡ Display) }
     {
         let pos = self.line.pos();
         let cursor = self
@@ -232,6 +236,7 @@ impl<'p, 'h, Out: Renderer, H: Helper + Drop, Hi: History> State<'p, 'h, Out, H,
     /// now, the line is drawn in its place, without hint and message.
     pub fn move_cursor(&mut self, kind: CmdKind) -> Result<(), ReadlineError>
         ensures does { Does (cursor_moved kind) self.old self.new result }
+        ensures fault { IfErr result (λ e. e ≡ Display) }
     {
         let was_marked = self.highlight_char;
         self.mark(kind);
@@ -245,6 +250,7 @@ impl<'p, 'h, Out: Renderer, H: Helper + Drop, Hi: History> State<'p, 'h, Out, H,
     /// Moves the display's cursor to the drawing's end.
     pub fn move_cursor_to_end(&mut self) -> Result<(), ReadlineError>
         ensures does { Does moved_to_end self.old self.new result }
+        ensures fault { IfErr result (λ e. e ≡ Display) }
     {
         if self.layout.cursor == self.layout.end {
             return Ok(());

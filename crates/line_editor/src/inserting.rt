@@ -1,5 +1,5 @@
 //! Characters and texts put in.
-ghost use Rattle.std.specs.Prelude.{◌≡◌};
+ghost use Rattle.std.specs.Prelude.{◌≡◌, OnErr};
 ghost use Rattle.line_editor.specs.Inserting.{may_be_typed};
 
 use crate::renderer::Renderer;
@@ -24,9 +24,9 @@ fn may_be_typed(
     n == 1 && (at_end && (plain && (is_printable(ch) && (was_bare && bare))))
 }
 
-#[tactic(auto, using(crate::proofs::BegunLemmas::begun_none, crate::proofs::BegunLemmas::begun_refused))]
+#[tactic(auto, using(crate::proofs::BegunLemmas::begun_none, crate::proofs::BegunLemmas::begun_refused, crate::proofs::ShowsLemmas::insert_shows, crate::proofs::ShowsLemmas::insert_text_shows))]
 impl<'p, 'h, Out: Renderer, H: Helper + Drop, Hi: History> State<'p, 'h, Out, H, Hi> {
-    ghost use Rattle.line_editor.specs.States.{value_of, setting_of, Does};
+    ghost use Rattle.line_editor.specs.States.{value_of, setting_of, Does, Shows};
     ghost use Rattle.line_editor.specs.Inserting.{is_bare, inserted_shown, insert_char, insert_text, replace_char, overwrite_char};
 
     /// Whether neither a hint nor a highlighted character stands.
@@ -61,6 +61,7 @@ impl<'p, 'h, Out: Renderer, H: Helper + Drop, Hi: History> State<'p, 'h, Out, H,
     /// shows it.
     pub fn edit_insert(&mut self, ch: char, n: RepeatCount) -> Result<(), ReadlineError>
         ensures does { Does (insert_char ch n) self.old self.new result }
+        ensures shows { OnErr result (Shows (insert_char ch n) self.old) }
     {
         let at_end = self.line.is_cursor_at_end();
         let plain = self.plain;
@@ -82,6 +83,7 @@ impl<'p, 'h, Out: Renderer, H: Helper + Drop, Hi: History> State<'p, 'h, Out, H,
     /// Puts a text at the cursor, which stays before it.
     pub fn edit_insert_text(&mut self, text: &str) -> Result<(), ReadlineError>
         ensures does { Does (insert_text text.now) self.old self.new result }
+        ensures shows { OnErr result (Shows (insert_text text.now) self.old) }
     {
         if text.is_empty() {
             return Ok(());

@@ -1,5 +1,5 @@
 //! What is killed, and what is copied into the ring.
-ghost use Rattle.std.specs.Prelude.{◌≡◌, ◌⊎◌, OnOk, IfErr};
+ghost use Rattle.std.specs.Prelude.{◌≡◌, ◌⊎◌, OnErr, OnOk, IfErr};
 ghost use Rattle.line_config.specs.declared.errors.ReadlineError.{ReadlineError};
 ghost use Rattle.line_edits.specs.Edits.{unkilled};
 
@@ -14,7 +14,7 @@ use line_record::KillRing;
 
 #[tactic(auto, using(crate::proofs::BegunLemmas::begun_none, crate::proofs::BegunLemmas::begun_refused))]
 impl<'p, 'h, Out: Renderer, H: Helper + Drop, Hi: History> State<'p, 'h, Out, H, Hi> {
-    ghost use Rattle.line_editor.specs.States.{value_of, setting_of, Does, Stays};
+    ghost use Rattle.line_editor.specs.States.{value_of, setting_of, Does, Shows, Stays};
     ghost use Rattle.line_editor.specs.Killing.{may_be_taken, killed_shown, kill, insert_text_if, replace, killed_into, copied_into};
 
     /// Whether what was taken is all that is to be erased: printable characters from the end of a
@@ -80,6 +80,7 @@ impl<'p, 'h, Out: Renderer, H: Helper + Drop, Hi: History> State<'p, 'h, Out, H,
     /// Puts a text at the cursor, if there is one.
     fn insert_some(&mut self, text: &Option<Text>) -> Result<(), ReadlineError>
         ensures does { Does (insert_text_if text.now) self.old self.new result }
+        ensures shows { OnErr result (Shows (insert_text_if text.now) self.old) }
     {
         if let Some(text) = text {
             self.edit_insert_text(text.as_str())

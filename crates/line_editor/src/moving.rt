@@ -1,5 +1,6 @@
 //! Motions of the cursor.
-ghost use Rattle.std.specs.Prelude.{◌≡◌, is_some, IfOk};
+ghost use Rattle.std.specs.Prelude.{◌≡◌, is_some, IfErr, IfOk};
+ghost use Rattle.line_config.specs.declared.errors.ReadlineError.TheVariants.{Display};
 ghost use Rattle.line_help.specs.History.{begins_with_space};
 
 use crate::renderer::Renderer;
@@ -76,6 +77,7 @@ impl<'p, 'h, Out: Renderer, H: Helper + Drop, Hi: History> State<'p, 'h, Out, H,
     /// Moves to the text's end.
     pub fn edit_move_buffer_end(&mut self, kind: CmdKind) -> Result<(), ReadlineError>
         ensures does { Does (move_buffer_end kind) self.old self.new result }
+        ensures fault { IfErr result (λ e. e ≡ Display) }
     {
         if self.line.move_buffer_end() {
             self.move_cursor(kind)
@@ -107,6 +109,7 @@ impl<'p, 'h, Out: Renderer, H: Helper + Drop, Hi: History> State<'p, 'h, Out, H,
         n: RepeatCount,
     ) -> Result<(), ReadlineError>
         ensures does { Does (move_to_next_word at word n) self.old self.new result }
+        ensures fault { IfErr result (λ e. e ≡ Display) }
     {
         if self.line.move_to_next_word(at, word, n) {
             self.move_cursor(CmdKind::MoveCursor)

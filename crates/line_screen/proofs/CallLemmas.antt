@@ -4,8 +4,11 @@ use Rattle.std.specs.List.{FoldsTo, flat_map}
 use Rattle.line_config.specs.declared.device.DeviceFailed.{DeviceFailed}
 use Rattle.line_config.specs.declared.errors.ReadlineError.{ReadlineError}
 use Rattle.line_config.specs.Sending.{Takes, TakesSome, Sends}
-use Rattle.line_editor.specs.Calls.{Call, MadeIn, RefusedIn, Begun, Makes}
+use Rattle.line_buffer.specs.declared.layout.Layout.{Layout}
+use Rattle.line_editor.specs.Acts.{Act, Sees, Gets, Obeys, Stage, stage, SeenInPart, CutIn}
+use Rattle.line_editor.specs.Calls.{Call, Ruler, MadeIn, RefusedIn, BrokenOff, Begun, Makes}
 use Rattle.line_editor.specs.Calls.Call.{Help}
+use Rattle.line_editor.specs.Redraws.{Redraw, asked}
 use Rattle.line_screen.specs.Calls.{Sent, canvas_of, bytes_of, screen_of, sink_of, display_answer}
 use Rattle.line_screen.specs.declared.renderer.ScreenRenderer.{ScreenRenderer}
 use Rattle.line_config.proofs.Taking.{takes_then}
@@ -40,13 +43,37 @@ module _ {D : Type 0} (told : D → Bool) (held : D → List ℕ) (failed : D �
       let rest : Sent told held failed more h.0 b = subst (λ s. Sent told held failed (flat_map (bytes_of s) calls) h.0 b) first.screen (sent_in_all calls h.0 b h.2) in
       sent_then (bytes_of (screen_of a) call) more a h.0 b first rest
 
-  -- calls that were begun leave the screen as it is
-  pub begun_stays : (fault : ReadlineError) (calls : List Call) (a b : ScreenRenderer D) → Begun (canvas_of told held failed) fault calls a b → screen_of b ≡ screen_of a
+  -- calls that were broken off leave the screen as it is
+  broken_stays : (fault : ReadlineError) (calls : List Call) (a b : ScreenRenderer D) → BrokenOff (canvas_of told held failed) fault calls a b → screen_of b ≡ screen_of a
+  unfolding BrokenOff
+  broken_stays fault [] a b h = absurd h
+  broken_stays fault (call ∷ calls) a b (inl h) = ap screen_of h.1
+  broken_stays fault (call ∷ calls) a b (inr (inl h)) = screen_in fault call a b h
+  broken_stays fault (call ∷ calls) a b (inr (inr h)) = broken_stays fault calls h.0 b h.2 ∙ (sent_in call a h.0 h.1).screen
+
+  begun_stays : (fault : ReadlineError) (calls : List Call) (a b : ScreenRenderer D) → Begun (canvas_of told held failed) fault calls a b → screen_of b ≡ screen_of a
   unfolding Begun
-  begun_stays fault [] a b h = ap screen_of h.1
-  begun_stays fault (call ∷ calls) a b (inl h) = ap screen_of h.1
-  begun_stays fault (call ∷ calls) a b (inr (inl h)) = screen_in fault call a b h
-  begun_stays fault (call ∷ calls) a b (inr (inr h)) = begun_stays fault calls h.0 b h.2 ∙ (sent_in call a h.0 h.1).screen
+  begun_stays fault calls a b (inl h) = ap screen_of h.1
+  begun_stays fault calls a b (inr h) = broken_stays fault calls a b h
+
+  part_stays : (r : Ruler) (fault : ReadlineError) (redraws : List Redraw) (l : Layout) (a b : ScreenRenderer D) → SeenInPart (canvas_of told held failed) r fault redraws l a b → screen_of b ≡ screen_of a
+  part_stays r fault [] l a b h = ap screen_of h.1
+  part_stays r fault (x ∷ xs) l a b h = broken_stays fault (asked r l (x ∷ xs)).calls a b h
+
+  -- and so do acts that a fault cut
+  pub cut_stays : (r : Ruler) (fault : ReadlineError) (acts : List Act) (l : Layout) (old new : Stage (ScreenRenderer D)) → CutIn (canvas_of told held failed) r fault acts l old new → screen_of new.out ≡ screen_of old.out
+  unfolding CutIn
+  cut_stays r fault [] l old new h = absurd h
+  cut_stays r fault (Sees redraws ∷ more) l old new (inl h) = part_stays r fault redraws l old.out new.out h.0
+  cut_stays r fault (Sees redraws ∷ more) l old new (inr (out, made, h)) =
+      cut_stays r fault more (asked r l redraws).layout (stage out old.coming old.ring) new h ∙ (sent_in_all (asked r l redraws).calls old.out out made).screen
+  cut_stays r fault (Gets rest ∷ more) l old new (inl (memory, inl same)) = ap (λ x. screen_of x.out) same
+  cut_stays r fault (Gets rest ∷ more) l old new (inl (memory, inr lost)) = ap (λ x. screen_of x.out) lost
+  cut_stays r fault (Gets rest ∷ more) l old new (inr h) = cut_stays r fault more l (stage old.out rest old.ring) new h
+  cut_stays r fault (Obeys textless ring redraws ∷ more) l old new (inl h) = ap (λ x. screen_of x.out) h.1
+  cut_stays r fault (Obeys textless ring redraws ∷ more) l old new (inr (inl h)) = begun_stays fault (asked r l redraws).calls old.out new.out h.0
+  cut_stays r fault (Obeys textless ring redraws ∷ more) l old new (inr (inr (out, made, h))) =
+      cut_stays r fault more (asked r l redraws).layout (stage out old.coming ring) new h ∙ (sent_in_all (asked r l redraws).calls old.out out made).screen
 
   -- a call sends its bytes to the sink, and its answer is the display's
   pub makes_call : (call : Call) (old : ScreenRenderer D) (d : D) (bytes : List ℕ) (sent : Result (Unit {0}) DeviceFailed) (result : Result (Unit {0}) ReadlineError)
