@@ -1,4 +1,5 @@
 pub mod CloseLemmas
+pub mod CuttingLemmas
 pub mod DeedLaw
 pub mod DeedLemmas
 pub mod DeskLemmas

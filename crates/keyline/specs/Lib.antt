@@ -1,4 +1,5 @@
 pub mod Closing
+pub mod Cutting
 pub mod Deeds
 pub mod Desks
 pub mod Edits

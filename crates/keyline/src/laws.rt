@@ -1,5 +1,6 @@
 //! Laws of the definitions: each is the contract of a function that does nothing.
 
+ghost use Rattle.keyline.specs.Cutting.{CutsAreFree};
 ghost use Rattle.keyline.specs.Deeds.{DeedsTell};
 ghost use Rattle.keyline.specs.OneByte.{LayoutsTell, OneByte};
 ghost use Rattle.keyline.specs.SessionLaws.{ColumnsAreFree, LastAreKept};
@@ -43,4 +44,10 @@ pub fn deeds()
 /// weren't ignored, in order.
 pub fn kept()
     ensures { LastAreKept }
+{}
+
+/// Bytes that read as whole keys and pastes to their end, with no paste owed, read so whatever
+/// follows them, unless the last one is ESC: what comes is theirs, and then what follows.
+pub fn cutting()
+    ensures { CutsAreFree }
 {}
