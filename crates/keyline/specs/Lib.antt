@@ -6,6 +6,7 @@ pub mod Edits
 pub mod Endings
 pub mod OneByte
 pub mod Options
+pub mod Pasting
 pub mod Playing
 pub mod Plays
 pub mod SessionLaws
