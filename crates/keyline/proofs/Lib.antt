@@ -1,4 +1,5 @@
 pub mod CloseLemmas
+pub mod CuttingLemmas
 pub mod DeedLaw
 pub mod DeedLemmas
 pub mod DeskLemmas
@@ -6,6 +7,7 @@ pub mod EditLemmas
 pub mod HeardSteps
 pub mod OneByteLemmas
 pub mod OptionsLemmas
+pub mod PasteLemmas
 pub mod PlaysLemmas
 pub mod SessionCourse
 pub mod SessionLawLemmas

@@ -1,10 +1,12 @@
 pub mod Closing
+pub mod Cutting
 pub mod Deeds
 pub mod Desks
 pub mod Edits
 pub mod Endings
 pub mod OneByte
 pub mod Options
+pub mod Pasting
 pub mod Playing
 pub mod Plays
 pub mod SessionLaws

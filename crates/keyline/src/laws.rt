@@ -1,7 +1,9 @@
 //! Laws of the definitions: each is the contract of a function that does nothing.
 
+ghost use Rattle.keyline.specs.Cutting.{CutsAreFree};
 ghost use Rattle.keyline.specs.Deeds.{DeedsTell};
 ghost use Rattle.keyline.specs.OneByte.{LayoutsTell, OneByte};
+ghost use Rattle.keyline.specs.Pasting.{PastesAreAccepted, PastedLinesAreAccepted};
 ghost use Rattle.keyline.specs.SessionLaws.{ColumnsAreFree, LastAreKept};
 ghost use Rattle.keyline.specs.SessionShows.{SessionsShow};
 ghost use Rattle.keyline.specs.Shows.{DrawingsShow};
@@ -43,4 +45,18 @@ pub fn deeds()
 /// weren't ignored, in order.
 pub fn kept()
     ensures { LastAreKept }
+{}
+
+/// Bytes that read as whole keys and pastes to their end, with no paste owed, read so whatever
+/// follows them, unless the last one is ESC: what comes is theirs, and then what follows.
+pub fn cutting()
+    ensures { CutsAreFree }
+{}
+
+/// Where nothing is bound and nothing helps, a text that is sent as a paste and entered, at an
+/// empty line between two phrases, is accepted as it is, whatever is kept, in every mode: so is one
+/// that a session's line begins with.
+pub fn paste()
+    ensures phrases { PastesAreAccepted }
+    ensures lines { PastedLinesAreAccepted }
 {}

@@ -1,0 +1,311 @@
+-- A text that is sent as a paste, and then entered, is accepted as it is.
+use Rattle.std.proofs.Common.{◌≡◌, ◌≢◌, ℕ, suc, ◌==◌, ◌||◌, not, Bool, true, false, if◌then◌else◌, List, [], ◌∷◌, ◌++◌, length, take, drop, Option, None, Some, is_some, option_map, Ok, refl, sym, ap, ◌∙◌, append-nil, arith, subst, eqb-true, true≢false, codes}
+use Rattle.std.specs.List.{repeat}
+use Rattle.std.proofs.Math.Seq.{take-nil, drop-nil}
+use Rattle.std.proofs.lemmas.Bool.Decides.{nat_tests}
+use Rattle.line_buffer.specs.Insertions.{yank as yanked_in, no_insertion, insertion_of}
+use Rattle.line_buffer.specs.Line.{Line}
+use Rattle.line_buffer.specs.declared.types.Anchor.TheVariants.{Before}
+use Rattle.line_buffer.specs.declared.types.CharSearch.{CharSearch}
+use Rattle.line_buffer.specs.declared.layout.GraphemeClusterMode.TheVariants.{Unicode}
+use Rattle.line_config.specs.declared.device.Last.{Last}
+use Rattle.line_config.specs.declared.device.Last.TheVariants.{End}
+use Rattle.line_config.specs.declared.settings.EditMode.{EditMode}
+use Rattle.line_config.specs.declared.settings.EditMode.TheVariants.{Emacs, Vi}
+use Rattle.line_keys.specs.declared.command.Cmd.{Cmd}
+use Rattle.line_keys.specs.declared.command.Cmd.TheVariants.{AcceptOrInsertLine, Insert, Noop}
+use Rattle.line_keys.specs.declared.command.CmdKind.{CmdKind}
+use Rattle.line_keys.specs.declared.command.CmdKind.TheVariants.{ForcedRefresh}
+use Rattle.line_keys.specs.declared.command.InputMode.{InputMode}
+use Rattle.line_keys.specs.declared.command.InputMode.TheVariants.{Command, Insert as Inserting, Replace as Overwriting}
+use Rattle.line_keys.specs.declared.events.Event.TheVariants.{Any}
+use Rattle.line_keys.specs.declared.key.KeyCode.TheVariants.{Char, Enter}
+use Rattle.line_keys.specs.declared.key.KeyEvent.{KeyEvent}
+use Rattle.line_keys.specs.Answers.{Custom, answer_by}
+use Rattle.line_keys.specs.Coming.{Coming, Pressed, Pasted, Ends as NoMore, End as AtItsEnd}
+use Rattle.line_keys.specs.Common.{common_deed, command_or, bound_or, decided, terminal_command}
+use Rattle.line_keys.specs.Custom.{Situation, situation, shown_for, or_any, custom_answer}
+use Rattle.line_keys.specs.Emacs.{emacs_deed, emacs_command}
+use Rattle.line_keys.specs.Events.{single}
+use Rattle.line_keys.specs.Feeds.{Key, Paste}
+use Rattle.line_keys.specs.InputStates.{new_input}
+use Rattle.line_keys.specs.Keys.{key_with, none}
+use Rattle.line_keys.specs.Phrase.{phrase_from}
+use Rattle.line_keys.specs.Phrases.{Input, Script, Ends, Needs, Reads, Becomes, Part, after, and_then, deciding}
+use Rattle.line_keys.specs.Refreshing.{Shown}
+use Rattle.line_keys.specs.Replies.{gives_at_once, taking}
+use Rattle.line_keys.specs.Vi.{with_last, changed, typed, command_table, vi_counted, vi_command, insert_table, vi_insert}
+use Rattle.line_keys.specs.ViTables.{insert_deed, deed_of}
+use Rattle.line_record.specs.Ring.{Ring, new_ring}
+use Rattle.line_edits.specs.Edits.{text_yanked}
+use Rattle.line_editor.specs.Accepting.{accept_or_insert}
+use Rattle.line_editor.specs.Asks.{shown_in}
+use Rattle.line_editor.specs.Commands.{in_vi_command, means_of}
+use Rattle.line_editor.specs.Drawing.{refreshed}
+use Rattle.line_editor.specs.Lines.{Enacted, Told, Turned, enacted, with_group_begun, phrase_enacted, reset_by, turned_by, turn_of, after_turn, line_from, line_of}
+use Rattle.line_editor.specs.Moving.{cursor_moved_if}
+use Rattle.line_editor.specs.Sights.{info_after}
+use Rattle.line_editor.specs.Starts.{empty_at, first_value}
+use Rattle.line_editor.specs.Values.{Setting, Value, unchanged, rewritten, at_line}
+use Rattle.line_editor.specs.Yanking.{behind_yank, yanked_by, yank_text}
+use Rattle.line_screen.specs.KeyGrammar.{coming_of}
+use Rattle.line_screen.specs.Pasting.{paste_start, with_newlines}
+use Rattle.line_screen.proofs.Pasting.{pasted_text_is_before_its_mark}
+use Rattle.keyline.specs.Edits.{nothing_bound}
+use Rattle.keyline.specs.Pasting.{sent_as_paste, IsPasteable, IsUnbound, IsEmptyLine, Accepts, PastesAreAccepted, PastedLinesAreAccepted}
+use Rattle.keyline.specs.Sessions.{coming_from, setting_in}
+
+abbrev enter : KeyEvent
+enter = key_with Enter none
+
+-- ---- what no binding answers, the tables do
+
+unbound_answer : (s : Situation) (k : KeyEvent) → IsUnbound s.custom → custom_answer s k ≡ gives_at_once None
+unbound_answer s k free =
+    ap (λ bound. answer_by (or_any s.custom bound) (shown_for s (single k))) (free (single k))
+    ∙ ap (λ bound. answer_by (option_map (λ meaning s. taking (meaning s)) bound) (shown_for s (single k))) (free Any)
+
+by_the_table : (new : Option ℕ) (s : Situation) (k : KeyEvent) (table : Part Cmd) (c : Coming) → IsUnbound s.custom → terminal_command s.shown k ≡ None
+    → decided new s k table c ≡ table c
+by_the_table new s k table c free none =
+    ap (λ reply. deciding (bound_or new s (command_or table (terminal_command s.shown k))) reply c) (unbound_answer s k free)
+    ∙ ap (λ command. command_or table command c) none
+
+abbrev input_with : EditMode → InputMode → Cmd → Option CharSearch → Input
+input_with mode input_mode last search = record { mode = mode; input_mode = input_mode; last = last; search = search }
+
+-- ---- a paste
+
+-- in Vi mode it is the last change
+abbrev kept_after : EditMode → List ℕ → Input → Input
+kept_after Emacs text input = input
+kept_after Vi text input = with_last (Insert 1 text) input
+
+abbrev keeping : EditMode → List ℕ → Input → Script Cmd → Script Cmd
+keeping Emacs text input script = script
+keeping Vi text input script = Needs (Becomes (with_last (Insert 1 text) input) script)
+
+abbrev pasting : EditMode → List ℕ → Input → Coming → Script Cmd
+pasting mode text input rest = Reads Paste rest (keeping mode text input (Ends (Ok (Insert 1 text))))
+
+pastes : (mode : EditMode) (input_mode : InputMode) (custom : Custom) (last : Cmd) (search : Option CharSearch) (shown : Shown) (text : List ℕ) (rest : Coming) → IsUnbound custom
+    → phrase_from mode custom (input_with mode input_mode last search) shown paste_start (Pasted text rest) ≡ pasting mode text (input_with mode input_mode last search) rest
+unfolding emacs_deed common_deed deed_of insert_deed command_table vi_counted vi_command insert_table vi_insert
+pastes Emacs input_mode custom last search shown text rest free =
+    let s = situation custom (input_with Emacs input_mode last search) shown 1 true in
+    by_the_table (Some 1) s paste_start (emacs_command s paste_start) (Pasted text rest) free refl
+pastes Vi Command custom last search shown text rest free =
+    let input = input_with Vi Command last search in
+    let s = situation custom input shown 1 true in
+    by_the_table None s paste_start (and_then input shown (command_table None s paste_start) changed) (Pasted text rest) free refl
+pastes Vi Inserting custom last search shown text rest free =
+    let input = input_with Vi Inserting last search in
+    by_the_table None (situation custom input shown 0 true) paste_start (and_then input shown (insert_table custom input shown paste_start) typed) (Pasted text rest) free refl
+pastes Vi Overwriting custom last search shown text rest free =
+    let input = input_with Vi Overwriting last search in
+    by_the_table None (situation custom input shown 0 true) paste_start (and_then input shown (insert_table custom input shown paste_start) typed) (Pasted text rest) free refl
+
+enters : (mode : EditMode) (input_mode : InputMode) (custom : Custom) (last : Cmd) (search : Option CharSearch) (shown : Shown) (rest : Coming) → IsUnbound custom
+    → phrase_from mode custom (input_with mode input_mode last search) shown enter rest ≡ Ends (Ok (AcceptOrInsertLine true))
+unfolding emacs_deed common_deed deed_of insert_deed command_table vi_counted vi_command insert_table vi_insert
+enters Emacs input_mode custom last search shown rest free =
+    let s = situation custom (input_with Emacs input_mode last search) shown 1 true in
+    by_the_table (Some 1) s enter (emacs_command s enter) rest free refl
+enters Vi Command custom last search shown rest free =
+    let input = input_with Vi Command last search in
+    let s = situation custom input shown 1 true in
+    by_the_table None s enter (and_then input shown (command_table None s enter) changed) rest free refl
+enters Vi Inserting custom last search shown rest free =
+    let input = input_with Vi Inserting last search in
+    by_the_table None (situation custom input shown 0 true) enter (and_then input shown (insert_table custom input shown enter) typed) rest free refl
+enters Vi Overwriting custom last search shown rest free =
+    let input = input_with Vi Overwriting last search in
+    by_the_table None (situation custom input shown 0 true) enter (and_then input shown (insert_table custom input shown enter) typed) rest free refl
+
+-- ---- what the phrases are to the value
+
+abbrev paste_enacted : EditMode → List ℕ → Setting → Input → Value → Coming → Enacted Cmd
+paste_enacted mode text s input v rest = record { answer = Ok (Insert 1 text); made = unchanged s v; input = kept_after mode text input; rest = rest }
+
+abbrev enter_enacted : Setting → Input → Value → Coming → Enacted Cmd
+enter_enacted s input v rest = record { answer = Ok (AcceptOrInsertLine true); made = unchanged s v; input = input; rest = rest }
+
+enacts_keeping : (mode : EditMode) (text : List ℕ) (s : Setting) (input : Input) (v : Value) (c rest : Coming)
+    → enacted s (after with_group_begun input (shown_in v) c (Reads Key (Pasted text rest) (pasting mode text input rest))) input v c ≡ paste_enacted mode text s input v rest
+enacts_keeping Emacs text s input v c rest = refl
+enacts_keeping Vi text s input v c rest = refl
+
+enacts_paste : (s : Setting) (custom : Custom) (input : Input) (v : Value) (text : List ℕ) (rest : Coming) → IsUnbound custom
+    → phrase_enacted s custom input v (Pressed paste_start (Pasted text rest)) ≡ paste_enacted input.mode text s input v rest
+enacts_paste s custom input v text rest free =
+    let c : Coming = Pressed paste_start (Pasted text rest) in
+    ap (λ script. enacted s (after with_group_begun input (shown_in v) c (Reads Key (Pasted text rest) script)) input v c)
+    (pastes input.mode input.input_mode custom input.last input.search (shown_in v) text rest free)
+    ∙ enacts_keeping input.mode text s input v c rest
+
+enacts_enter : (s : Setting) (custom : Custom) (input : Input) (v : Value) (rest : Coming) → IsUnbound custom
+    → phrase_enacted s custom input v (Pressed enter rest) ≡ enter_enacted s input v rest
+enacts_enter s custom input v rest free =
+    let c : Coming = Pressed enter rest in
+    ap (λ script. enacted s (after with_group_begun input (shown_in v) c (Reads Key rest script)) input v c)
+    (enters input.mode input.input_mode custom input.last input.search (shown_in v) rest free)
+
+-- ---- the paste's text is the line's
+
+put_some : (text : List ℕ) (place : ℕ) → (take place [] ++ repeat 1 text) ++ drop place [] ≡ text
+put_some text place =
+    ap (λ (front : List ℕ). (front ++ repeat 1 text) ++ drop place []) (take-nil place)
+    ∙ ap (λ (back : List ℕ). repeat 1 text ++ back) (drop-nil place) ∙ append-nil (repeat 1 text) ∙ append-nil text
+
+put_if : (b : Bool) → b ≡ false → (text : List ℕ) (place limit : ℕ) → let l : Line = record { text = []; place = place; growth = true; limit = limit } in
+    (if b then no_insertion l else insertion_of text 1 l).line.text ≡ text
+put_if true is text place limit = absurd (true≢false is)
+put_if false is text place limit = put_some text place
+
+put_into : (text : List ℕ) (place limit : ℕ) → let l : Line = record { text = []; place = place; growth = true; limit = limit } in
+    (yanked_in text 1 l).line.text ≡ text
+put_into [] place limit = refl
+put_into (x ∷ xs) place limit = let some : (length (x ∷ xs) == 0) ≡ false = grind (arith, nat_tests) in put_if (length (x ∷ xs) == 0) some (x ∷ xs) place limit
+
+put_into_empty : (text : List ℕ) (l : Line) → l.text ≡ [] → l.growth ≡ true → (yanked_in text 1 l).line.text ≡ text
+put_into_empty text l empty grows =
+    subst (λ b. (yanked_in text 1 (record l { growth = b })).line.text ≡ text) (sym grows)
+    (subst (λ t. (yanked_in text 1 (record l { text = t; growth = true })).line.text ≡ text) (sym empty) (put_into text l.place l.limit))
+
+refreshed_if : (b : Bool) (s : Setting) (v : Value) → (if b then refreshed s v else unchanged s v).value.line ≡ v.line
+refreshed_if true s v = refl
+refreshed_if false s v = refl
+
+-- the step back moves the cursor alone
+stepped_text : (vi : Bool) (l : Line) → (behind_yank vi l).text ≡ l.text
+stepped_text true l = refl
+stepped_text false l = refl
+
+stepped_if : (b vi : Bool) (w : Value) → (if b then at_line (behind_yank vi w.line) w else w).line.text ≡ w.line.text
+stepped_if true vi w = stepped_text vi w.line
+stepped_if false vi w = refl
+
+pasted_text : (vi : Bool) (text : List ℕ) (s : Setting) (v : Value) → v.line.text ≡ [] → v.line.growth ≡ true → (yank_text vi text Before 1 s v).value.line.text ≡ text
+pasted_text vi text s v empty grows =
+    let put : Bool = is_some (yanked_in text 1 v.line).answer in
+    let before : Value = at_line v.line v in
+    ap (λ l. l.text) (refreshed_if (put || false) s (yanked_by vi text 1 before))
+    ∙ stepped_if put vi (rewritten (text_yanked text 1) before)
+    ∙ put_into_empty text v.line empty grows
+
+-- ---- the turns
+
+abbrev paste_turn : EditMode → List ℕ → Setting → ℕ → Input → Ring → Value → Coming → Turned
+paste_turn mode text s indent input r v rest = turned_by s indent r (Ok (Insert 1 text)) (paste_enacted mode text s input v rest)
+
+abbrev enter_turn : Setting → ℕ → Input → Ring → Value → Coming → Turned
+enter_turn s indent input r v rest = turned_by s indent r (Ok (AcceptOrInsertLine true)) (enter_enacted s input v rest)
+
+turns_by_paste : (s : Setting) (custom : Custom) (indent : ℕ) (input : Input) (r : Ring) (v : Value) (text : List ℕ) (rest : Coming) → IsUnbound custom
+    → turn_of s custom indent input r v (Pressed paste_start (Pasted text rest)) ≡ paste_turn input.mode text s indent input r v rest
+unfolding turn_of
+turns_by_paste s custom indent input r v text rest free = ap (λ (p : Enacted Cmd). turned_by s indent r p.answer p) (enacts_paste s custom input v text rest free)
+
+turns_by_enter : (s : Setting) (custom : Custom) (indent : ℕ) (input : Input) (r : Ring) (v : Value) (rest : Coming) → IsUnbound custom
+    → turn_of s custom indent input r v (Pressed enter rest) ≡ enter_turn s indent input r v rest
+unfolding turn_of
+turns_by_enter s custom indent input r v rest free = ap (λ (p : Enacted Cmd). turned_by s indent r p.answer p) (enacts_enter s custom input v rest free)
+
+-- ---- the line
+
+abbrev without_hooks : Setting → Setting
+without_hooks s = record s { hooks = None }
+
+moved_text : (b : Bool) (kind : CmdKind) (l : Line) (s : Setting) (v : Value) → l.text ≡ v.line.text → (cursor_moved_if kind b l s v).value.line.text ≡ v.line.text
+moved_text true kind l s v is = is
+moved_text false kind l s v is = refl
+
+enter_accepts : (n : ℕ) (s : Setting) (custom : Custom) (indent : ℕ) (input : Input) (r : Ring) (info : Option (List ℕ)) (v : Value) (rest : Coming) → IsUnbound custom
+    → Accepts (line_from (suc n) (without_hooks s) custom indent input r info v (Pressed enter rest)) v.line.text rest
+unfolding line_from
+enter_accepts n s custom indent input r info v rest free =
+    let bare : Setting = without_hooks s in
+    subst (λ (t : Turned). Accepts (after_turn (line_from n bare custom indent) bare info t t.outcome) v.line.text rest) (sym (turns_by_enter bare custom indent input r v rest free)) (record {
+      outcome =
+          let w : Value = (accept_or_insert true bare v).value in
+          ap Ok (moved_text (not (w.line.place == length w.line.text)) ForcedRefresh (record w.line { place = length w.line.text }) bare w refl);
+      rest_is = refl;
+    })
+
+paste_accepts : (n : ℕ) (s : Setting) (custom : Custom) (indent : ℕ) (input : Input) (r : Ring) (info : Option (List ℕ)) (v : Value) (text : List ℕ) (rest : Coming) → IsUnbound custom → IsEmptyLine v
+    → Accepts (line_from (suc (suc n)) (without_hooks s) custom indent input r info v (Pressed paste_start (Pasted text (Pressed enter rest)))) text rest
+unfolding line_from
+paste_accepts n s custom indent input r info v text rest free empty =
+    let bare : Setting = without_hooks s in
+    let t : Turned = paste_turn input.mode text bare indent input r v (Pressed enter rest) in
+    let vi : Bool = in_vi_command (means_of (kept_after input.mode text input) indent (reset_by (Insert 1 text) r)) in
+    let typed : t.made.value.line.text ≡ text = pasted_text vi text bare v empty.empty empty.grows in
+    let a = enter_accepts n s custom indent t.input t.ring (info_after t.made.redraws info) t.made.value rest free in
+    subst (λ (t : Turned). Accepts (after_turn (line_from (suc n) bare custom indent) bare info t t.outcome) text rest) (sym (turns_by_paste bare custom indent input r v text (Pressed enter rest) free)) (record {
+      outcome = a.outcome ∙ ap Ok typed;
+      rest_is = a.rest_is;
+    })
+
+-- ---- what the bytes read as
+
+plain_byte : (b : ℕ) (bytes : List ℕ) → (b == 0x0D) ≡ false → with_newlines (b ∷ bytes) ≡ b ∷ with_newlines bytes
+plain_byte b bytes is = rw is (rw is refl)
+
+stays : (bytes : List ℕ) → ((before after : List ℕ) → bytes ≢ before ++ 0x0D ∷ after) → with_newlines bytes ≡ bytes
+stays [] plain = refl
+stays (b ∷ bytes) plain =
+    plain_byte b bytes (other (b == 0x0D) refl) ∙ ap (λ t. b ∷ t) (stays bytes (λ before after is. plain (b ∷ before) after (ap (λ t. b ∷ t) is)))
+  where
+    other : (t : Bool) → (b == 0x0D) ≡ t → t ≡ false
+    other true is = absurd (plain [] bytes (ap (λ x. x ∷ bytes) (eqb-true b 0x0D is)))
+    other false is = refl
+
+reads_as : (mode : EditMode) (text more : List ℕ) (last : Last) → IsPasteable text
+    → coming_from mode (sent_as_paste text ++ 0x0D ∷ more) last ≡ Pressed paste_start (Pasted text (Pressed enter (coming_from mode more last)))
+reads_as mode text more last paste =
+    ap coming_of (pasted_text_is_before_its_mark mode text (0x0D ∷ more) last paste.utf8 paste.no_marker)
+    ∙ ap (λ t. Pressed paste_start (Pasted t (coming_from mode (0x0D ∷ more) last))) (stays text paste.no_return)
+
+pub pastes_are_accepted : PastesAreAccepted
+pastes_are_accepted n s custom indent input r info v text more last none free empty paste =
+    subst (λ hooks. Accepts (line_from (suc (suc n)) (record s { hooks = hooks }) custom indent input r info v (coming_from input.mode (sent_as_paste text ++ 0x0D ∷ more) last)) text (coming_from input.mode more last)) (sym none)
+    (subst (λ c. Accepts (line_from (suc (suc n)) (without_hooks s) custom indent input r info v c) text (coming_from input.mode more last)) (sym (reads_as input.mode text more last paste))
+    (paste_accepts n s custom indent input r info v text (coming_from input.mode more last) free empty))
+
+pub pasted_lines_are_accepted : PastedLinesAreAccepted
+unfolding line_of
+pasted_lines_are_accepted n g x text more last none free paste is =
+    let s : Setting = setting_in g x.history.kept.entries in
+    let e = refreshed s (first_value s) in
+    let a = pastes_are_accepted n s g.custom g.config.indent_size (new_input g.config.edit_mode) x.ring (info_after e.redraws None) e.value text more last none free (record { empty = refl; grows = refl }) paste in
+    subst (λ c. Accepts (line_of (suc (suc n)) s g.custom g.config.indent_size (new_input g.config.edit_mode) x.ring c) text (coming_from g.config.edit_mode more last)) (sym is)
+    (record { outcome = a.outcome; rest_is = a.rest_is })
+
+-- ---- worked rows
+
+bytes_of_a_paste : sent_as_paste (codes "a") ≡ 0x1B ∷ codes "[200~a" ++ 0x1B ∷ codes "[201~"
+bytes_of_a_paste = refl
+
+plain_setting : Setting
+plain_setting = record { prompt = []; column = 0; mode = Unicode; hooks = None; marks = None; entries = [] }
+
+pasted_in : InputMode → List ℕ → Told
+pasted_in input_mode text =
+    line_from 2 plain_setting nothing_bound 2 (input_with Vi input_mode Noop None) (new_ring 60) None (empty_at 0)
+    (coming_from Vi (sent_as_paste text ++ 0x0D ∷ codes "b") End)
+
+follows : Coming
+follows = Pressed (key_with (Char 0x62) none) (NoMore AtItsEnd)
+
+pasted_row : Accepts (pasted_in Inserting (codes "a")) (codes "a") follows
+unfolding line_from turn_of common_deed insert_deed insert_table vi_insert pasted_in plain_setting follows lib.Utf8.encode
+pasted_row = record { outcome = refl; rest_is = refl }
+
+empty_row : Accepts (pasted_in Command []) [] follows
+unfolding line_from turn_of common_deed deed_of command_table vi_counted vi_command pasted_in plain_setting follows lib.Utf8.encode
+empty_row = record { outcome = refl; rest_is = refl }
+
+-- a CR is a newline
+return_row : Accepts (pasted_in Overwriting (0x0D ∷ [])) (0x0A ∷ []) follows
+unfolding line_from turn_of common_deed insert_deed insert_table vi_insert pasted_in plain_setting follows lib.Utf8.encode
+return_row = record { outcome = refl; rest_is = refl }

@@ -1,0 +1,57 @@
+-- A text that is sent as a paste, and then entered.
+use Rattle.std.specs.Prelude.{◌≡◌, ◌≢◌, ℕ, suc, true, List, [], ◌∷◌, ◌++◌, Option, None, Ok}
+use Rattle.std.specs.Str.{IsUtf8}
+use Rattle.line_config.specs.declared.device.Last.{Last}
+use Rattle.line_keys.specs.declared.events.Event.{Event}
+use Rattle.line_keys.specs.Answers.{Custom}
+use Rattle.line_keys.specs.Coming.{Coming}
+use Rattle.line_keys.specs.Phrases.{Input}
+use Rattle.line_record.specs.Ring.{Ring}
+use Rattle.line_editor.specs.Lines.{Told, line_from}
+use Rattle.line_editor.specs.Values.{Setting, Value}
+use Rattle.line_screen.specs.KeyGrammar.{marker}
+use Rattle.line_screen.specs.Pasting.{start_marker, HaveNoMarker}
+use Rattle.keyline.specs.Sessions.{Given, SessionState, coming_from, line_in}
+
+-- ESC [ 2 0 0 ~, the text, and ESC [ 2 0 1 ~
+abbrev pub sent_as_paste : List ℕ → List ℕ
+sent_as_paste text = start_marker ++ text ++ marker
+
+-- a text that stays as it is: of characters, without CR, and without the mark that ends it
+pub record IsPasteable (text : List ℕ) : Type 0 where
+  pub utf8 : IsUtf8 text
+  pub no_return : (before after : List ℕ) → text ≢ before ++ 0x0D ∷ after
+  pub no_marker : HaveNoMarker text
+
+abbrev pub IsUnbound : Custom → Type 0
+IsUnbound custom = (event : Event) → custom.answers event ≡ None
+
+-- an empty line that may grow
+pub record IsEmptyLine (v : Value) : Type 0 where
+  pub empty : v.line.text ≡ []
+  pub grows : v.line.growth ≡ true
+
+-- the text is accepted, and this is left to come
+pub record Accepts (t : Told) (text : List ℕ) (rest : Coming) : Type 0 where
+  pub outcome : t.outcome ≡ Ok text
+  pub rest_is : t.rest ≡ rest
+
+-- Where nothing is bound and nothing helps, at an empty line between two phrases, a text that is
+-- sent as a paste and entered is accepted, whatever is kept: the last change and search, in any
+-- input mode, the ring, the record and the history.
+abbrev pub PastesAreAccepted : Type 0
+PastesAreAccepted =
+    (n : ℕ) (s : Setting) (custom : Custom) (indent : ℕ) (input : Input) (ring : Ring)
+    (info : Option (List ℕ)) (v : Value) (text more : List ℕ) (last : Last)
+    → s.hooks ≡ None → IsUnbound custom → IsEmptyLine v → IsPasteable text
+    → let comes = coming_from input.mode (sent_as_paste text ++ 0x0D ∷ more) last in
+    Accepts (line_from (suc (suc n)) s custom indent input ring info v comes) text
+    (coming_from input.mode more last)
+
+-- and so is one that a line of a session begins with
+abbrev pub PastedLinesAreAccepted : Type 0
+PastedLinesAreAccepted =
+    (n : ℕ) (g : Given) (x : SessionState) (text more : List ℕ) (last : Last)
+    → g.helping.hooks ≡ None → IsUnbound g.custom → IsPasteable text
+    → x.coming ≡ coming_from g.config.edit_mode (sent_as_paste text ++ 0x0D ∷ more) last
+    → Accepts (line_in (suc (suc n)) g x) text (coming_from g.config.edit_mode more last)
