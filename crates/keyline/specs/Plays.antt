@@ -33,7 +33,7 @@ loaded_from config text =
     load_leaves text.last (text_rows text.last text.coming) (nothing_filed (settings_of config))
 
 -- why no history is loaded of a source's text, where this is left of the source: it has failed, a
--- row that was read isn't UTF-8, or memory is wanting, and each row that was read is UTF-8
+-- row isn't UTF-8, or memory is wanting, and each row that was read is UTF-8
 abbrev pub LoadRefused : Config → Feed → Feed → ReadlineError → Type 0
 LoadRefused config text left Reader = IsTrue left.failed
     × (IsTrue text.told → IsTrue text.steady → loads config text ≡ Err Reader)
