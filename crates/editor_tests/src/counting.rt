@@ -1,7 +1,7 @@
 //! A helper that counts how often each of its hooks is asked. A row has the commands of a line, or after `keys: ` the keys
 //! that are typed into an empty one, and after ` = ` how often the hinter was asked, and how often the validator.
 
-ghost use Rattle.std.specs.Prelude.{◌≡◌, None, false, refl, Some};
+ghost use Rattle.std.specs.Prelude.{◌≡◌, None, false, refl};
 ghost use Rattle.line_help.specs.Completion.{nothing_offered};
 ghost use Rattle.line_keys.specs.Replies.{gives, gives_at_once};
 
@@ -103,7 +103,7 @@ impl Highlighter for Counting<'_> {
 
     ghost kept = { λ before after. after ≡ before };
 
-    ghost shown_as = { λ self part text. Some text };
+    ghost shown_as = { λ self part text. gives_at_once text };
 
     fn highlight<'l>(
         &self,
