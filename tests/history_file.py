@@ -177,17 +177,28 @@ def devices():
         same("lines, words and status of a link", [ran.stdout, ran.stderr, ran.returncode], [b"", NOT_LOADED, 5])
 
 
-def a_pipe():
-    """What a pipe gives is read to its end."""
-    for option in ("--words", "--history"):
-        reader, writer = os.pipe()
-        os.write(writer, b"alpha\n")
-        os.close(writer)
-        keys = b"alp\t\r" if option == "--words" else b"\x10" + CTRL_D
-        ran = subprocess.run([PROGRAM, option, f"/dev/fd/{reader}"], input=keys, capture_output=True, timeout=HUNG,
-                             pass_fds=[reader])
+@contextlib.contextmanager
+def pipe_with(text):
+    """The path of a pipe that gives this text, and what a program is started with to have it."""
+    reader, writer = os.pipe()
+    os.write(writer, text)
+    os.close(writer)
+    try:
+        yield f"/dev/fd/{reader}", {"pass_fds": [reader]}
+    finally:
         os.close(reader)
-        same(f"lines and status of {option}", [ran.stdout, ran.returncode], [b"alpha\n" if option == "--words" else b"", 0])
+
+
+def a_pipe():
+    """What a pipe gives is read to its end; a history can't be written to one that nobody reads."""
+    with pipe_with(b"alpha\n") as (path, given):
+        ran = subprocess.run([PROGRAM, "--words", path], input=b"alp\t\r", capture_output=True, timeout=HUNG, **given)
+        same("lines and status with words", [ran.stdout, ran.returncode], [b"alpha\n", 0])
+    for keys, lines, status, words in ((b"\x10" + CTRL_D, b"", 0, b""), (b"\x10b\r", b"alphab\n", 1, NOT_SAVED)):
+        with pipe_with(b"alpha\n") as (path, given):
+            ran = subprocess.run([PROGRAM, "--history", path], input=keys, capture_output=True, timeout=HUNG, **given)
+            same("lines and status with a history", [ran.stdout, ran.returncode], [lines, status])
+            same("last words", ran.stderr[len(ran.stderr) - len(words):], words)
 
 
 def killed_in_mid_line():

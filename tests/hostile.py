@@ -7,8 +7,9 @@
 
 Each session is played twice, the second time one byte a read, with tests/one_byte.c preloaded: it must end by a name,
 with the status and the words that go with it, write whole lines alone, leave the history file that those lines make of
-the old one, and show on the display of tests/display.py, from its top on, prompt and line where each line ends. What
-fails is cut down, and printed as a row for ROWS.
+the old one, and show on the display of tests/display.py, from its top on, prompt and line where each line ends. Played
+once more with Enter after all keys, it tells what the line was that stood open: prompt and line must be what the display
+showed of it. What fails is cut down, and printed as a row for ROWS.
 """
 import argparse
 import dataclasses
@@ -22,7 +23,7 @@ import tempfile
 
 from checks import HUNG, PROGRAM, run_all, shim
 from display import Unjudged
-from hunting import Fault, hunted, is_text, rows_pass, same, saved_after, shown_lines, tell, test_of
+from hunting import Fault, hunted, is_text, judge_open_line, rows_pass, same, saved_after, shown_lines, tell, test_of
 from inputs import ENTER, KINDS, PASTE, PASTED, Session, large_pastes
 
 # Sessions that are played each time before the hunt: what it found once, and ends of what it looks for.
@@ -47,8 +48,8 @@ ENDINGS = {0: b"", 130: b"", 3: b"keyline: input is not UTF-8\n", 4: b"keyline: 
            5: b"keyline: history does not load\n", 6: b"keyline: words do not load\n"}
 # Seconds of processor that a session may take.
 PATIENCE = 60
-# Of how many sessions one is a large paste.
-SELDOM = 3000
+# Of how many sessions one is a large paste, and how many keys such a one has at least.
+SELDOM, SHORT = 3000, 100_000
 
 
 @dataclasses.dataclass(frozen=True)
@@ -127,7 +128,11 @@ class Player:
             raise Unjudged("more than there is room for")
         if whole != (pieces := self.play(session, True)):
             tell("reads", f"one byte a read leaves another run: {pieces!r} for {whole!r}")
-        judge_run(session, whole)
+        shown = judge_run(session, whole)
+        if whole.status == 0 and len(session.keys) < SHORT:
+            accepted = self.play(dataclasses.replace(session, keys=session.keys + ENTER), False)
+            if accepted.status == 0:
+                judge_open_line(session, shown, whole.lines, accepted.lines)
 
 
 def write(path, text):
@@ -147,6 +152,7 @@ def unread_status(session):
 
 
 def judge_run(session, ran):
+    """Raises what is wrong with a run, and answers what its display shows at last."""
     if ran.status not in ENDINGS:
         tell("ending", f"status {ran.status}, with {ran.display[-60:]!r}")
     words = ENDINGS[ran.status]
@@ -156,14 +162,17 @@ def judge_run(session, ran):
     unread = unread_status(session)
     if unread is not None:
         same("ending", [ran.status, ran.lines, display], [unread, b"", b""])
-        return same("history", ran.files, {} if session.history is None else {"history": session.history})
+        same("history", ran.files, {} if session.history is None else {"history": session.history})
+        return None
     keys = session.keys
     reasons = {0: True, 130: b"\x03" in keys or b"\x1c" in keys, 3: not is_text(keys), 4: PASTE in keys}
     if not reasons.get(ran.status, False):
         tell("ending", f"status {ran.status} of keys that have no reason for it")
-    saved = saved_after(session.history, shown_lines(session, display, ran.lines)[0])
+    lines, shown = shown_lines(session, display, ran.lines)
+    saved = saved_after(session.history, lines)
     left = session.history if saved is None else saved
     same("history", ran.files, {} if left is None else {"history": left})
+    return shown
 
 
 def session_of(seed):

@@ -23,8 +23,7 @@ import subprocess
 from bound_inputs import ACCEPTING, KEYS, KINDS, Session, noted_keys
 from checks import built, run_all
 from display import Unjudged
-from hunting import (Fault, begins, hunted, is_text, pictured, prompts_of, rows_pass, same, saved_after, shown_lines, tell,
-                     test_of)
+from hunting import Fault, hunted, is_text, judge_open_line, rows_pass, same, saved_after, shown_lines, tell, test_of
 from inputs import PASTE
 from sessions import key
 
@@ -142,22 +141,9 @@ def judge(session, whole, pieces, accepted):
     lines, shown = shown_lines(session, whole.display, whole.lines, whole.ending not in ("Helper", "Memory"))
     saved = saved_after(session.history, lines) if "adding" in session.words else None
     same("history", whole.saved, saved or b"")
-    return judge_open_line(session, shown, whole, accepted)
-
-
-def judge_open_line(session, shown, whole, accepted):
-    """What the display shows at last is the line that was accepted then, where the key for that was read as one."""
-    if (whole.ending, accepted.ending) != ("Eof", "Eof") or not accepted.lines.startswith(whole.lines):
-        return
-    line = accepted.lines[len(whole.lines):].decode()
-    if not line:
-        return
-    rows = shown.below(shown.top)
-    for prompt in prompts_of(session, shown):
-        for drawn in session.open_lines(prompt, line[:-1]):
-            if rows == drawn.below(0) or session.hints_of_history and begins(rows, drawn.below(0)):
-                return
-    tell("open line", f"of {line[:-1]!r} the display shows {pictured(shown)}")
+    if (whole.ending, accepted.ending) == ("Eof", "Eof"):
+        judge_open_line(session, shown, whole.lines, accepted.lines)
+    return None
 
 
 def has_reason(session, ending):

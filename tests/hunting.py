@@ -95,6 +95,20 @@ def prompts_of(session, shown):
     return [session.prompt] + ([count[0]] if count else [])
 
 
+def judge_open_line(session, shown, lines, accepted):
+    """What a display shows at last is the line that stood open, with a hint or message at most: the one more line that is
+    accepted where a key for that comes after all others, if it is read as one."""
+    line = accepted[len(lines):].decode()
+    if not line or not accepted.startswith(lines):
+        return
+    rows = shown.below(shown.top)
+    for prompt in prompts_of(session, shown):
+        for drawn in session.open_lines(prompt, line[:-1]):
+            if rows == drawn.below(0) or session.hints_of_history and begins(rows, drawn.below(0)):
+                return
+    tell("open line", f"of {line[:-1]!r} the display shows {pictured(shown)}")
+
+
 def begins(rows, drawn):
     """Whether these rows have what is drawn, and maybe more."""
     return len(drawn) <= len(rows) and all(cells.items() <= row.items() for cells, row in zip(drawn, rows))

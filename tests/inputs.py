@@ -75,6 +75,14 @@ class Session:
         if self.brackets and MESSAGE.fullmatch(message):
             yield Drawing(self.columns, self.prompt, line, message)
 
+    @property
+    def hints_of_history(self):
+        return self.brackets or self.words is not None
+
+    def open_lines(self, prompt, line):
+        """Drawings of a line that isn't ended; after it a hint of the history may stand, or a message."""
+        yield Drawing(self.columns, prompt, line)
+
     def shorter(self):
         """Sessions with less in them, the ones with much less first."""
         for field in ("prompt", "history", "words", "brackets", "mode", "columns"):

@@ -1,4 +1,8 @@
 //! A helper of sessions that answers as it is told to, whatever would be right.
+//!
+//! The word `advised` asks for it. What it is told are the words `hint:`, `taken:` (what the hint adds to the line),
+//! `hint-from:`, `verdict:`, `later:`, `later-from:`, `message:`, `offers:` (a candidate, or two with a comma between them),
+//! `start:`, `marked:`, `hint-fails:`, `verdict-fails:`, `completion-fails:`, `update-fails:` and `wants-memory`.
 
 ghost use Rattle.std.specs.Prelude.{◌≡◌, ◌==◌, nat_le, option_copied, option_map, length, None, Some, false, if◌then◌else◌, IfErr};
 ghost use Rattle.line_help.specs.Completion.{text_offered};

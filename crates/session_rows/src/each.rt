@@ -1,4 +1,4 @@
-//! Sessions of which all that they leave is told.
+//! Sessions of which all that they leave is told. The word `reads:` says what a reader does at its calls, as `reads:2,1..`.
 
 ghost use Rattle.std.specs.Prelude.{◌≡◌, false};
 
