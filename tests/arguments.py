@@ -120,7 +120,11 @@ def what_is_answered_before_a_build():
             texts = [b"", answer.text.encode()] if answer.status else [answer.text.encode(), b""]
             same(f"what the program answers to {words}", found, [answer.status, *texts])
         else:
-            same(f"whether {words} give a session", found[:2] + [found[2][:1]], [0, b"", b"\r"])
+            # There are no files of such names, so words do not load.
+            if b"--words" in words:
+                same(f"what a session by {words} says", found, [6, b"", NO_WORDS])
+            else:
+                same(f"whether {words} give a session", found[:2] + [found[2][:1]], [0, b"", b"\r"])
 
 
 def no_device_is_touched_before():

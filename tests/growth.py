@@ -10,31 +10,56 @@ import os
 import subprocess
 import tempfile
 
-from checks import HUNG, NEW_ROW, PROGRAM, TOP, Failed, drawing, run_all, same
+from checks import ENTER, HUNG, NEW_ROW, PROGRAM, TOP, Failed, drawing, run_all, same
 
 SHIM = os.path.join(TOP, "build", "refuse_growth.so")
 WORDS = b"keyline: out of memory\n"
 # Where the history's text doesn't fit into memory, after everything else was done.
 NO_TEXT = b"keyline: history text failed\n"
 MOST = 10000
+TAB = ord("\t")
+BELL = b"\a"
 
 
 class Session:
-    """The keys that type these lines, and what a whole run on them writes, with these words to complete."""
+    """The keys of these lines, each printable ASCII or Tab, and what a whole run on them writes, with these words to
+    complete. Each line fits into one row."""
 
     def __init__(self, *lines, words=()):
         self.words = words
-        self.keys = b"".join(line + b"\r" for line in lines)
-        self.lines = [line + b"\n" for line in lines]
+        self.keys = b"".join(line + ENTER for line in lines)
+        self.lines = []
         # The display's parts in order: drawings, characters and row breaks, and which of them end an accepted line.
         self.parts = [drawing(b"")]
         self.breaks = []
         for line in lines:
-            self.parts += [bytes([c]) for c in line]
+            self.lines.append(self.typed(line) + b"\n")
             self.breaks.append(len(self.parts))
             self.parts += [NEW_ROW, drawing(b"")]
         self.parts.append(NEW_ROW)
         self.got_over = 0
+
+    def typed(self, keys):
+        """The line that the keys give; their parts of the display go to the others."""
+        line = b""
+        for key in keys:
+            completed = self.completed(line) if key == TAB else None
+            if key != TAB:
+                line += bytes([key])
+                self.parts.append(bytes([key]))
+            elif completed is None:
+                self.parts.append(BELL)
+            else:
+                line = completed
+                self.parts.append(drawing(line))
+        return line
+
+    def completed(self, line):
+        """The line after a Tab at its end, or None where it rings."""
+        word = line.rpartition(b" ")[2]
+        candidates = [it for it in self.words if it.startswith(word)]
+        shared = os.path.commonprefix(candidates)
+        return line[: len(line) - len(word)] + shared if len(candidates) == 1 or len(shared) > len(word) else None
 
     def check_whole(self, ran):
         same("lines", ran.stdout, b"".join(self.lines))
@@ -115,6 +140,16 @@ def words_that_are_read():
     Session(b"ab", words=[b"alpha", b"x" * 40, b"alpine" * 20]).refuse_each()
 
 
+def words_that_are_completed():
+    """By what they share, by the one that begins so, and by none."""
+    Session(b"al\t", b"x alph\t!", b"zz\t", words=[b"alpha", b"alpine"]).refuse_each()
+
+
+def words_that_are_longer_than_the_line_had_room():
+    long = b"al" + b"x" * 68
+    Session(b"b al\t\t", words=[long + b"1", long + b"2"]).refuse_each()
+
+
 def three_lines_and_an_empty_one():
     Session(b"x" * 20, b"", b"y" * 40, b"z" * 60).refuse_each()
 
@@ -125,5 +160,7 @@ if __name__ == "__main__":
         two_short_lines,
         a_line_that_grows_again_and_again,
         words_that_are_read,
+        words_that_are_completed,
+        words_that_are_longer_than_the_line_had_room,
         three_lines_and_an_empty_one,
     ])

@@ -66,7 +66,7 @@ class Session:
 
     def __init__(self, words):
         self.name, *self.arguments = shlex.split(words)
-        self.steps, self.before, self.saved, self.lines = [], None, None, None
+        self.steps, self.words, self.before, self.saved, self.lines = [], [], None, None, None
 
     def add(self, line):
         word, _, rest = line.partition(" ")
@@ -74,6 +74,8 @@ class Session:
             self.before = meant(rest)
         elif word == "saves:":
             self.saved = meant(rest)
+        elif word == "words:":
+            self.words = rest.split()
         elif word == "writes:":
             self.lines = "".join(f"{meant(text)}\n" for text in rest.split())
         elif " = " in line:
@@ -146,6 +148,7 @@ def test_of(session):
         with tempfile.TemporaryDirectory() as folder:
             if session.before is not None:
                 pathlib.Path(folder, "history").write_text(session.before, encoding="utf-8")
+            pathlib.Path(folder, "words").write_text("".join(f"{word}\n" for word in session.words), encoding="utf-8")
             run = " ".join(map(shlex.quote, [SCRIPT, *session.arguments]))
             around = f"cd {shlex.quote(folder)}; stty -g > before; {run} > lines; echo $? > status; stty -g > after"
             terminal = Terminal(folder, int(session.argument("--columns", "80")), f"{around}; exec sleep 120")

@@ -5,7 +5,7 @@ use Rattle.line_config.specs.declared.config.Config.{Config}
 use Rattle.line_config.specs.declared.errors.ReadlineError.{ReadlineError}
 use Rattle.line_config.specs.declared.errors.ReadlineError.TheVariants.{Reader, HistoryText, Memory}
 use Rattle.line_help.specs.History.{Filed, settings_of, nothing_filed}
-use Rattle.line_help.specs.HistoryText.{text_rows, load_answer, load_leaves}
+use Rattle.line_help.specs.HistoryText.{ReadsGood, text_rows, load_answer, load_leaves}
 use Rattle.line_keys.specs.Coming.{Coming}
 use Rattle.line_record.specs.Ring.{new_ring}
 use Rattle.line_screen.specs.Calls.{screen_of, sink_of}
@@ -32,20 +32,22 @@ abbrev pub loaded_from : Config → Feed → Filed
 loaded_from config text =
     load_leaves text.last (text_rows text.last text.coming) (nothing_filed (settings_of config))
 
--- why no history is loaded, where this is left of the source of its text: the source has failed,
--- the text isn't UTF-8, or memory is wanting
+-- why no history is loaded of a source's text, where this is left of the source: it has failed, a
+-- row isn't UTF-8, or memory is wanting, and each row that was read is UTF-8
 abbrev pub LoadRefused : Config → Feed → Feed → ReadlineError → Type 0
 LoadRefused config text left Reader = IsTrue left.failed
     × (IsTrue text.told → IsTrue text.steady → loads config text ≡ Err Reader)
 LoadRefused config text left HistoryText = (left.failed ≡ false)
     × (IsTrue text.told → loads config text ≡ Err HistoryText)
-LoadRefused config text left Memory = left.failed ≡ false
+LoadRefused config text left Memory = (left.failed ≡ false)
+    × (IsTrue text.told → ReadsGood text.coming left.coming)
 LoadRefused config text left why = ⊥
 
--- the same of a source that isn't handed back: one is left
-abbrev pub LoadFault : {F : Type 0} → (F → Feed) → Config → F → ReadlineError → Type 0
-LoadFault {F} feed config source why =
-    (left : F) × LoadRefused config (feed source) (feed left) why
+-- what is left of a source is told and steady as it was, and ends as it did
+pub record Remains (text left : Feed) : Type 0 where
+  pub told : IsTrue text.told → IsTrue left.told
+  pub steady : left.steady ≡ text.steady
+  pub last : left.last ≡ text.last
 
 -- a history that was loaded
 pub record Loaded (config : Config) (text : Feed) (history : Filed) : Type 0 where
@@ -58,11 +60,13 @@ pub record Begins (config : Config) (prompt : List ℕ) (text : Feed) (b : Begin
   pub ring : b.ring ≡ new_ring 60
   pub prompt_is : string_bytes b.prompt ≡ prompt
 
--- no session was opened, and the devices are as they were handed in
+-- no session was opened: of the history's text something may have been read, and all other devices
+-- are as they were handed in
 pub record Unopens {F S D L T : Type 0} (feed : F → Feed) (config : Config) (history : F)
-    (source : S) (display : D) (lines : L) (text : T) (unopened : Unopened S D L T)
+    (source : S) (display : D) (lines : L) (text : T) (unopened : Unopened F S D L T)
     : Type 0 where
-  pub fault : LoadFault feed config history unopened.why
+  pub fault : LoadRefused config (feed history) (feed unopened.history) unopened.why
+  pub remains : Remains (feed history) (feed unopened.history)
   pub source_is : unopened.source ≡ source
   pub display_is : unopened.display ≡ display
   pub lines_are : unopened.lines ≡ lines

@@ -55,7 +55,7 @@ pub fn edit<F: Source + Drop, S: Source + Drop, D: Sink + Drop, L: Sink + Drop, 
     display: D,
     lines: L,
     text: T,
-) -> Result<Ended<S, D, L, T>, Unopened<S, D, L, T>>
+) -> Result<Ended<S, D, L, T>, Unopened<F, S, D, L, T>>
     requires columns { (2 ≤ options.now.columns) × (options.now.columns ≤ 1000) }
     requires history { (F.feed history).failed ≡ false }
     requires source { (S.feed source).failed ≡ false }

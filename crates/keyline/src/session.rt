@@ -7,7 +7,7 @@ ghost use Rattle.line_editor.specs.Running.{helping_by};
 ghost use Rattle.line_screen.specs.Calls.{screen_of};
 ghost use Rattle.keyline.specs.Desks.{known_by, hearing};
 ghost use Rattle.keyline.specs.Playing.{Saves, ending_after};
-ghost use Rattle.keyline.specs.Plays.{Begins, LoadRefused, Loaded, Opens, Plays, Unopens};
+ghost use Rattle.keyline.specs.Plays.{Begins, LoadRefused, Loaded, Opens, Plays, Remains, Unopens};
 ghost use Rattle.keyline.specs.SessionShows.{Displays};
 ghost use Rattle.keyline.specs.Sessions.{given_by};
 
@@ -37,11 +37,13 @@ pub struct Session<S: Source, H, D: Sink, L: Sink, T: Sink> {
 }
 
 /// A session that was not opened, with the devices that were handed in for it: nothing was asked of
-/// them. Of the history's text alone something may have been read.
+/// them, but of the history's text something may have been read.
 #[derive(Drop)]
-pub struct Unopened<S, D, L, T> {
+pub struct Unopened<F, S, D, L, T> {
     /// Why: the history's text isn't UTF-8, its source has failed, or memory was wanting.
     pub why: ReadlineError,
+    /// The source of the history's text, after what was read of it.
+    pub history: F,
     pub source: S,
     pub display: D,
     /// The sink of accepted lines.
@@ -50,10 +52,11 @@ pub struct Unopened<S, D, L, T> {
     pub text: T,
 }
 
-impl<S, D, L, T> Unopened<S, D, L, T> {
-    fn new(why: ReadlineError, source: S, display: D, lines: L, text: T) -> Self
+impl<F, S, D, L, T> Unopened<F, S, D, L, T> {
+    fn new(why: ReadlineError, history: F, source: S, display: D, lines: L, text: T) -> Self
         ensures { result ≡ record {
           why = why;
+          history = history;
           source = source;
           display = display;
           lines = lines;
@@ -62,6 +65,7 @@ impl<S, D, L, T> Unopened<S, D, L, T> {
     {
         Unopened {
             why,
+            history,
             source,
             display,
             lines,
@@ -71,18 +75,18 @@ impl<S, D, L, T> Unopened<S, D, L, T> {
 }
 
 /// Shown as why.
-impl<S, D, L, T> fmt::Debug for Unopened<S, D, L, T> {
+impl<F, S, D, L, T> fmt::Debug for Unopened<F, S, D, L, T> {
     fn fmt<W: fmt::Write>(&self, f: &mut fmt::Formatter<W>) -> fmt::Result {
         fmt::Debug::fmt(&self.why, f)
     }
 }
 
-impl<S: Drop, D: Drop, L: Drop, T: Drop> From<Unopened<S, D, L, T>> for ReadlineError {
+impl<F: Drop, S: Drop, D: Drop, L: Drop, T: Drop> From<Unopened<F, S, D, L, T>> for ReadlineError {
     ghost use Rattle.std.specs.Prelude.{◌≡◌};
 
     ghost from_gives = { λ unopened why. why ≡ unopened.why };
 
-    fn from(unopened: Unopened<S, D, L, T>) -> ReadlineError {
+    fn from(unopened: Unopened<F, S, D, L, T>) -> ReadlineError {
         unopened.why
     }
 }
@@ -115,6 +119,7 @@ fn load<F: Source>(
     ensures loaded { IfOk result (Loaded config.now (F.feed source.old)) }
     ensures fault { IfErr result (LoadRefused config.now (F.feed source.old)
         (F.feed source.new)) }
+    ensures remains { Remains (F.feed source.old) (F.feed source.new) }
 {
     let mut history = FileHistory::with_config(alloc, config);
     history.load_from(alloc, source)?;
@@ -140,6 +145,7 @@ fn begin<F: Source>(
     ensures ok { IfOk result (Begins config.now prompt.now (F.feed source.old)) }
     ensures fault { IfErr result (LoadRefused config.now (F.feed source.old)
         (F.feed source.new)) }
+    ensures remains { Remains (F.feed source.old) (F.feed source.new) }
 {
     let prompt = String::from_str(alloc, prompt)?;
     let ring = KillRing::new(alloc, KILL_RING_SIZE)?;
@@ -184,7 +190,8 @@ where
     T: Drop,
 {
     /// Opens a session: the history is loaded, no key is read, and nothing is drawn yet. Rows of
-    /// the display have `columns` cells. Where it is refused, the devices come back.
+    /// the display have `columns` cells. Where it is refused, the devices come back, the source of
+    /// the history's text after what was read of it.
     pub fn open<F: Source + Drop>(
         alloc: Global,
         config: Config,
@@ -197,7 +204,7 @@ where
         display: D,
         lines: L,
         text: T,
-    ) -> Result<Self, Unopened<S, D, L, T>>
+    ) -> Result<Self, Unopened<F, S, D, L, T>>
         requires columns { (2 ≤ columns) × (columns ≤ 1000) }
         requires history { (F.feed history).failed ≡ false }
         requires source { (S.feed source).failed ≡ false }
@@ -216,17 +223,17 @@ where
         let Beginning {
             prompt,
             ring,
-            history,
+            history: loaded,
         } = match begin(alloc, &config, prompt, &mut history) {
             Ok(beginning) => beginning,
-            Err(why) => return Err(Unopened::new(why, source, display, lines, text)),
+            Err(why) => return Err(Unopened::new(why, history, source, display, lines, text)),
         };
         let mode = config.grapheme_cluster_mode();
         let desk = Desk {
             reader: KeyReader::new(source, config.edit_mode()),
             out: ScreenRenderer::new(display, columns, mode, config.bell_style()),
             helper,
-            history,
+            history: loaded,
             ring,
             lines,
         };

@@ -3,7 +3,9 @@
 ghost use Rattle.std.specs.Prelude.{◌≡◌, false};
 
 use crate::fixtures::{plain, told};
-use keyline::{Ending, ReadlineError, Sink, SliceSource, VecSink};
+use keyline::{
+    Bindings, Config, Ending, ReadlineError, Session, Sink, SliceSource, Source, VecSink,
+};
 use session_rows::notation::{display_meant, field, setting_of};
 use session_rows::play::{Left, ended, left_of};
 use stand_ins::rows::{Player, rows_hold};
@@ -235,5 +237,31 @@ fn history_that_is_no_text(rt: HostRuntime) -> Result<(), Fail> {
     let source = SliceSource::new(b"a");
     let left = left_of(rt.alloc(), &setting_of("loaded:‹ff›"), source);
     assert_eq!(&rt; left.err(), Some(ReadlineError::HistoryText));
+    Ok(())
+}
+
+/// All that was not read comes back.
+#[test]
+fn devices_of_a_session_that_is_not_opened(rt: HostRuntime) -> Result<(), Fail> {
+    let alloc = rt.alloc();
+    let opened = Session::open(
+        alloc,
+        Config::default(),
+        Bindings::new(alloc)?,
+        SliceSource::new(b"a\n\xFF\nb\n"),
+        None::<()>,
+        "> ",
+        SliceSource::new(b"x"),
+        80,
+        VecSink::new(alloc),
+        VecSink::new(alloc),
+        VecSink::new(alloc),
+    );
+    let Err(mut unopened) = opened else {
+        return Err(Fail::new("it is opened"));
+    };
+    assert!(&rt; unopened.why == ReadlineError::HistoryText);
+    assert!(&rt; unopened.history.next_byte() == Ok(Some(b'b')));
+    assert!(&rt; unopened.source.next_byte() == Ok(Some(b'x')));
     Ok(())
 }

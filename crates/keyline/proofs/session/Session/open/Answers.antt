@@ -6,4 +6,4 @@ use Rattle.keyline.proofs.session.Session.open.Goals as goal
 pub returns-in-Err-clause-refused : goal.returns-in-Err-clause-refused
 returns-in-Err-clause-refused g c =
     subst (Unopens g.F.Source.feed c.args.config c.args.history c.args.source c.args.display c.args.lines c.args.text) (sym c.new.ensures)
-    (record { fault = (c.begin.new.source, c.in-Err.ensures.fault); source_is = refl; display_is = refl; lines_are = refl; text_is = refl })
+    (record { fault = c.in-Err.ensures.fault; remains = c.begin.ensures.remains; source_is = refl; display_is = refl; lines_are = refl; text_is = refl })
