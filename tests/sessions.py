@@ -10,7 +10,7 @@ import re
 import subprocess
 import tempfile
 
-from checks import HUNG, PROGRAM, TOP, Failed, run_all, same, shim
+from checks import HUNG, PROGRAM, TOP, Failed, built, run_all, same, shim
 
 DATA = os.path.join(TOP, "crates", "sessions_program", "data")
 STATUS = {"Eof": 0, "Interrupted": 130, "NotUtf8": 3, "PasteOutOfPlace": 4}
@@ -22,11 +22,13 @@ NAMED = {
 
 
 def meant(text):
-    """The bytes of a text with pictures: a control character's own, `␠` for a blank, hexadecimal digits in `‹›`."""
+    """The bytes of a text with pictures: a control character's own, `␠` for a blank, and in `‹›` hexadecimal digits, or a
+    number and what is so often there."""
     held = b""
-    for part in re.split("(‹[0-9a-f]+›)", text):
+    for part in re.split("(‹[^›]+›)", text):
         if part.startswith("‹"):
-            held += bytes.fromhex(part[1:-1])
+            count, _, again = part[1:-1].rpartition("*")
+            held += int(count) * meant(again) if count else bytes.fromhex(again)
             continue
         for char in part:
             code = ord(char)
@@ -59,21 +61,23 @@ class Row:
         keys, wanted = text.split(" = ", 1)
         self.keys = b"".join(key(word) for word in keys.split())
         first, *others = wanted.split(" | ")
-        self.lines = b"" if first == "nothing" else b"".join(
-            b"\n" if word == '""' else meant(word) + b"\n" for word in first.split())
+        self.accepted = [b"" if word == '""' else meant(word) for word in first.split() if first != "nothing"]
+        self.lines = b"".join(line + b"\n" for line in self.accepted)
         said = dict(part.split(" ", 1) for part in others)
         self.ends = said.get("ends", "Eof").strip()
         self.saves = said.get("saves")
         self.shows = said.get("shows")
+        self.loaded = meant(self.value("loaded:", ""))
 
     def value(self, name, default):
         found = [word[len(name):] for word in self.settings if word.startswith(name)]
         return found[0] if found else default
 
     def is_played(self):
-        """Whether the program has what the row needs: it binds no key and gives no hint."""
+        """Whether the program has what the row needs: it binds no key, gives no hint and keeps a hundred lines."""
         helped = "helped" in self.settings or self.value("words:", "")
-        return "bound" not in self.settings and not (helped and self.value("loaded:", ""))
+        own = any(word.startswith(("bind:", "size:")) for word in self.settings)
+        return not own and not (helped and self.value("loaded:", ""))
 
     def arguments(self, folder):
         """Those of the program; the words that complete stand in a file of the folder."""
@@ -86,24 +90,29 @@ class Row:
             given += ["--words", path]
         return given + (["--brackets"] if "helped" in self.settings else [])
 
+    def run(self, folder, environment):
+        """A run of the program, and its history file."""
+        path = os.path.join(folder, "history")
+        if self.loaded:
+            with open(path, "wb") as file:
+                file.write(self.loaded)
+        ran = subprocess.run([PROGRAM, *self.arguments(folder), "--history", path], input=self.keys, timeout=HUNG,
+                             capture_output=True, env=environment)
+        if not os.path.exists(path):
+            return ran, b""
+        with open(path, "rb") as file:
+            return ran, file.read()
+
     def play(self, one_byte):
+        environment = dict(os.environ, LD_PRELOAD=shim("one_byte")) if one_byte else None
         with tempfile.TemporaryDirectory() as folder:
-            path = os.path.join(folder, "history")
-            loaded = meant(self.value("loaded:", ""))
-            if loaded:
-                with open(path, "wb") as file:
-                    file.write(loaded)
-            environment = dict(os.environ, LD_PRELOAD=shim("one_byte")) if one_byte else None
-            ran = subprocess.run([PROGRAM, *self.arguments(folder), "--history", path], input=self.keys, timeout=HUNG,
-                                 capture_output=True, env=environment)
-            same("lines", ran.stdout, self.lines)
-            same("status", ran.returncode, STATUS[self.ends])
-            if self.shows is not None:
-                same("display", ran.stderr, drawn("".join(self.shows.split())))
-            if self.saves is not None and "adding" in self.settings:
-                wanted = loaded if self.saves.strip() == "nothing" else meant(self.saves.strip())
-                with open(path, "rb") as file:
-                    same("history", file.read(), wanted)
+            ran, saved = self.run(folder, environment)
+        same("lines", ran.stdout, self.lines)
+        same("status", ran.returncode, STATUS[self.ends])
+        if self.shows is not None:
+            same("display", ran.stderr, drawn("".join(self.shows.split())))
+        if self.saves is not None and "adding" in self.settings:
+            same("history", saved, self.loaded if self.saves.strip() == "nothing" else meant(self.saves.strip()))
 
 
 def rows_of(name):
@@ -158,6 +167,13 @@ def keys_of_vi_one_byte_a_read():
     played("vi.txt", True)
 
 
+def sizes():
+    """Those that are too large to be played each time that `sessions_program` is run."""
+    count = len(list(rows_of("sizes.txt")))
+    ran = subprocess.run([built("sessions_program"), "sizes.txt"], cwd=DATA, capture_output=True, timeout=HUNG)
+    same("what is told", [ran.stdout[:1000], ran.stderr, ran.returncode], [b"sizes.txt: %d sessions\n" % count, b"", 0])
+
+
 if __name__ == "__main__":
     run_all([worked_rows, worked_rows_one_byte_a_read, keys_of_emacs, keys_of_emacs_one_byte_a_read, keys_of_vi,
-             keys_of_vi_one_byte_a_read])
+             keys_of_vi_one_byte_a_read, sizes])

@@ -1,6 +1,6 @@
 //! A helper of sessions.
 
-use crate::notation::Setting;
+use crate::notation::{Setting, text_meant};
 use keyline::{HelperParts, HistoryHinter, MatchingBracketValidator, WordCompleter};
 use std::alloc::{AllocError, Global};
 
@@ -18,7 +18,7 @@ fn completer_of(alloc: Global, listed: &str) -> Result<Option<WordCompleter>, Al
     }
     let mut words = Vec::new(alloc);
     for word in listed.split(',') {
-        words.push(String::from_str(alloc, word)?)?;
+        words.push(text_meant(alloc, word)?)?;
     }
     Ok(Some(WordCompleter::new(words)))
 }

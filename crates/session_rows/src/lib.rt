@@ -6,5 +6,7 @@ pub mod advice;
 pub mod aide;
 pub mod bound;
 pub mod each;
+mod faults;
 pub mod notation;
 pub mod play;
+pub mod refusals;

@@ -7,7 +7,7 @@
 //! without ` = ` is a comment, and so is one that begins with `#`. Settings are words, as `vi`, `columns:4` or `words:al,alp`.
 
 use keyline::{EditMode, GraphemeClusterMode};
-use stand_ins::tables::{meant, meant_bytes};
+use stand_ins::tables::meant_bytes;
 use std::alloc::{AllocError, Global};
 
 /// What a session is opened with.
@@ -20,8 +20,6 @@ pub struct Setting<'a> {
     pub advised: bool,
     /// The words that complete, with a comma between two.
     pub words: &'a str,
-    /// Whether Ctrl-O is bound to `YankPop`.
-    pub bound: bool,
     pub columns: u16,
     pub clusters: GraphemeClusterMode,
     /// The prompt, with pictures.
@@ -86,7 +84,6 @@ pub fn setting_of(words: &str) -> Setting<'_> {
         helped: has(words, "helped"),
         advised: has(words, "advised"),
         words: after(words, "words:").unwrap_or(""),
-        bound: has(words, "bound"),
         columns: digits.parse().unwrap_or(80),
         clusters: clusters_named(after(words, "clusters:").unwrap_or("")),
         prompt: after(words, "prompt:").unwrap_or(prompt),
@@ -187,7 +184,7 @@ pub fn typed(alloc: Global, keys: &str) -> Result<Vec<u8>, AllocError> {
 
 fn put_line(alloc: Global, bytes: &mut Vec<u8>, word: &str) -> Result<(), AllocError> {
     let line = if word == "\"\"" { "" } else { word };
-    bytes.extend_from_slice(meant(alloc, line)?.as_bytes())?;
+    bytes.extend_from_slice(meant_bytes(alloc, line)?.as_slice())?;
     bytes.push(b'\n')?;
     Ok(())
 }

@@ -5,12 +5,14 @@ ghost use Rattle.std.specs.Prelude.{◌≡◌, false};
 use crate::advice::texts_of;
 use crate::aide::aide_of;
 use crate::bound::bind_words;
+use crate::faults::{Faults, faults_of, sink_of};
 use crate::notation::{
-    Row, Setting, display_meant, field, lines_meant, row_of, setting_of, text_meant, typed,
+    Row, Setting, display_meant, field, lines_meant, number_after, row_of, setting_of, text_meant,
+    typed,
 };
 use keyline::{
     Bindings, Cmd, Config, Ended, Ending, Event, EventHandler, Helper, KeyEvent, ReadSource,
-    ReadlineError, Session, Sink, SliceSource, Source, VecSink,
+    ReadlineError, Session, Sink, SliceSource, Source, Text, VecSink,
 };
 use stand_ins::devices::{Pieces, Turns};
 use stand_ins::tables::{meant_bytes, pictured_bytes};
@@ -28,20 +30,30 @@ pub struct Left {
 
 fn bindings_of(alloc: Global, setting: &Setting<'_>) -> Result<Bindings, ReadlineError> {
     let mut bindings = Bindings::new(alloc)?;
-    if setting.bound {
-        let event = Event::from_key(alloc, KeyEvent::ctrl('O'))?;
-        let _ = bindings.bind_sequence(event, EventHandler::Simple(Cmd::YankPop))?;
-    }
     bind_words(alloc, &mut bindings, setting.all)?;
+    bind_many(alloc, &mut bindings, number_after(setting.all, "many:", 0))?;
     Ok(bindings)
 }
 
-fn config_of(setting: &Setting<'_>) -> Config {
-    Config::builder()
+/// Binds so many characters, from 一 on, each to what puts it in twice.
+fn bind_many(alloc: Global, bindings: &mut Bindings, count: usize) -> Result<(), ReadlineError> {
+    for c in ('一'..='\u{9FFF}').take(count) {
+        let twice = format!(in alloc; "{c}{c}")?;
+        let event = Event::from_key(alloc, KeyEvent::from(c))?;
+        let handler = EventHandler::Simple(Cmd::Insert(1, Text::from(twice)));
+        let _ = bindings.bind_sequence(event, handler)?;
+    }
+    Ok(())
+}
+
+fn config_of(setting: &Setting<'_>) -> Result<Config, ReadlineError> {
+    let config = Config::builder()
         .edit_mode(setting.mode)
         .auto_add_history(setting.adding)
         .grapheme_cluster_mode(setting.clusters)
-        .build()
+        .max_history_size(number_after(setting.all, "size:", 100))?
+        .build();
+    Ok(config)
 }
 
 /// A session with a helper over these devices, run to its ending; or why none was opened.
@@ -65,7 +77,7 @@ where
     let prompt = text_meant(alloc, setting.prompt)?;
     let session = Session::open(
         alloc,
-        config_of(setting),
+        config_of(setting)?,
         bindings_of(alloc, setting)?,
         SliceSource::new(&loaded),
         helper,
@@ -102,6 +114,25 @@ pub fn ended<S: Source + Drop, D: Sink + Drop, L: Sink + Drop, T: Sink + Drop>(
     ended_with(alloc, setting, aide, source, display, lines, text)
 }
 
+/// What a session left in sinks that fail.
+fn left_in_trays<S: Source + Drop>(
+    alloc: Global,
+    setting: &Setting<'_>,
+    source: S,
+    faults: Faults,
+) -> Result<Left, ReadlineError>
+    requires { (S.feed source).failed ≡ false }
+{
+    let (display, lines) = (sink_of(faults.display), sink_of(faults.lines));
+    let end = ended(alloc, setting, source, display, lines, sink_of(faults.text))?;
+    Ok(Left {
+        ending: end.ending,
+        lines: Vec::from_slice(alloc, end.lines.bytes())?,
+        saved: Vec::from_slice(alloc, end.text.bytes())?,
+        shown: Vec::from_slice(alloc, end.display.bytes())?,
+    })
+}
+
 /// What a session over a source of keys left.
 pub fn left_of<S: Source + Drop>(
     alloc: Global,
@@ -110,6 +141,10 @@ pub fn left_of<S: Source + Drop>(
 ) -> Result<Left, ReadlineError>
     requires { (S.feed source).failed ≡ false }
 {
+    let faults = faults_of(setting.all);
+    if faults.are_of_a_sink() {
+        return left_in_trays(alloc, setting, source, faults);
+    }
     let (display, lines, text) = (
         VecSink::new(alloc),
         VecSink::new(alloc),
@@ -162,23 +197,57 @@ fn shows(alloc: Global, left: &Left, row: Row<'_>) -> Result<bool, AllocError> {
     }
 }
 
+/// What the keys of a row leave over memory.
+fn left_over_memory(
+    alloc: Global,
+    setting: &Setting<'_>,
+    keys: &str,
+) -> Result<Left, ReadlineError> {
+    let keys = typed(alloc, keys)?;
+    let source = match faults_of(setting.all).keys {
+        Some(count) => SliceSource::failing_after(&keys[..count.min(keys.len())]),
+        None => SliceSource::new(&keys),
+    };
+    left_of(alloc, setting, source)
+}
+
+/// A byte at each of so many reads, and then none but a failure; or a byte at each read.
+fn turns_of(alloc: Global, broken: Option<usize>) -> Result<String, AllocError> {
+    let Some(count) = broken else {
+        return String::from_str(alloc, "1..");
+    };
+    let mut turns = String::new(alloc);
+    for _ in 0..count {
+        turns.push_str("1 ")?;
+    }
+    turns.push_str("broken..")?;
+    Ok(turns)
+}
+
+/// What the keys of a row leave that are read a byte at a time.
+fn left_by_reads(alloc: Global, setting: &Setting<'_>, keys: &str) -> Result<Left, ReadlineError> {
+    let keys = typed(alloc, keys)?;
+    let broken = faults_of(setting.all).keys;
+    let turns = turns_of(alloc, broken.map(|count| count.min(keys.len())))?;
+    let calls = Cell::new(0);
+    let reader = Pieces {
+        bytes: &keys,
+        turns: Turns::new(turns.as_str(), &calls),
+    };
+    left_of(alloc, setting, ReadSource::new(reader))
+}
+
 /// Plays a row over memory, and then a byte at a read; what was found, where it isn't what the row says.
 fn differs(
     alloc: Global,
     setting: &Setting<'_>,
     row: Row<'_>,
 ) -> Result<Option<String>, ReadlineError> {
-    let keys = typed(alloc, row.keys)?;
-    let left = left_of(alloc, setting, SliceSource::new(&keys))?;
+    let left = left_over_memory(alloc, setting, row.keys)?;
     if !is_wanted(alloc, setting, &left, row)? {
         return Ok(Some(told(alloc, &left)?));
     }
-    let calls = Cell::new(0);
-    let reader = Pieces {
-        bytes: &keys,
-        turns: Turns::new("1..", &calls),
-    };
-    let left = left_of(alloc, setting, ReadSource::new(reader))?;
+    let left = left_by_reads(alloc, setting, row.keys)?;
     if is_wanted(alloc, setting, &left, row)? {
         return Ok(None);
     }

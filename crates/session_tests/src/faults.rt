@@ -2,7 +2,7 @@
 
 ghost use Rattle.std.specs.Prelude.{◌≡◌, false};
 
-use crate::fixtures::{ending_and_lines, plain, told};
+use crate::fixtures::{plain, told};
 use keyline::{
     Bindings, Config, Ending, ReadlineError, Session, Sink, SliceSource, Source, VecSink,
 };
@@ -10,7 +10,7 @@ use session_rows::notation::{display_meant, field, setting_of};
 use session_rows::play::{Left, ended, left_of};
 use stand_ins::rows::{Player, rows_hold};
 use stand_ins::sources::Faltering;
-use stand_ins::tables::{meant, meant_bytes, word_and_rest};
+use stand_ins::tables::{meant, word_and_rest};
 use stand_ins::tray::Tray;
 use std::alloc::Global;
 use std::process::Abort;
@@ -229,33 +229,6 @@ fn lines_that_are_full(rt: HostRuntime) -> Result<(), Fail> {
         room 6 {} a b ␍␊ {} c d ␍␊ {} ␍␊ = Eof ab␊cd␊
         ";
     rows_hold(rt.alloc(), &mut Lines, rows)
-}
-
-/// Sessions whose sink of the history's text fails at once.
-#[derive(Drop)]
-struct Unsaved;
-
-impl Player for Unsaved {
-    fn play(&mut self, alloc: Global, call: &str) -> Result<String, Fail> {
-        let keys = meant_bytes(alloc, call)?;
-        let source = SliceSource::new(&keys);
-        let (display, lines) = (VecSink::new(alloc), VecSink::new(alloc));
-        let text = Tray::failing_at(0);
-        let end = ended(alloc, &setting_of("adding"), source, display, lines, text)?;
-        Ok(ending_and_lines(alloc, end.ending, end.lines.bytes())?)
-    }
-}
-
-/// That is the ending where no fault came before.
-#[test]
-fn history_text_that_fails(rt: HostRuntime) -> Result<(), Fail> {
-    let rows = "
-        ab␍ = HistoryText ab␊
-        ab␍␃ = HistoryText ab␊
-        ab␍‹ff› = HistoryText ab␊
-        ␃ = Interrupted nothing
-        ";
-    rows_hold(rt.alloc(), &mut Unsaved, rows)
 }
 
 /// A history that is no text is refused before any key is read.

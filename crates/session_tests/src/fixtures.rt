@@ -1,23 +1,10 @@
-//! What the tests share: rows of sessions, and what a session left, in words.
+//! What the tests share: what a session left, in words.
 
 use keyline::Ending;
 use session_rows::notation::{Setting, display_meant, setting_of};
-use session_rows::play::{Left, play};
+use session_rows::play::Left;
 use stand_ins::tables::{or_nothing, pictured_bytes};
 use std::alloc::{AllocError, Global};
-use std::process::Abort;
-use std::test::Fail;
-
-/// Plays the sessions of rows with these settings.
-pub(crate) fn sessions(
-    rt: &(impl AllocGlobal + Abort),
-    settings: &str,
-    rows: &str,
-) -> Result<(), Fail> {
-    let played = play(rt.alloc(), settings, rows)?;
-    assert_eq!(rt; played.told.as_str(), "");
-    Ok(())
-}
 
 /// Emacs, 80 columns, the prompt `> `, and a history that begins empty and stays so.
 pub(crate) fn plain() -> Setting<'static> {
@@ -25,11 +12,7 @@ pub(crate) fn plain() -> Setting<'static> {
 }
 
 /// An ending and lines, as rows tell them.
-pub(crate) fn ending_and_lines(
-    alloc: Global,
-    ending: Ending,
-    lines: &[u8],
-) -> Result<String, AllocError> {
+fn ending_and_lines(alloc: Global, ending: Ending, lines: &[u8]) -> Result<String, AllocError> {
     let lines = pictured_bytes(alloc, lines)?;
     let lines = or_nothing(lines.as_str());
     format!(in alloc; "{ending:?} {lines}")

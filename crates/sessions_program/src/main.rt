@@ -1,24 +1,38 @@
-//! With the argument `each`, tells what each session leaves that stands on standard input; with another one, draws the line that
-//! it names. Without one, plays the sessions that stand in the files of `data/`,
-//! tells each session that differs from what its row says, and how many there were, and then draws a line.
+//! Without an argument, plays the sessions that stand in files of `data/`, tells each session that differs from what its row
+//! says, and how many there were, and then draws a line. With the argument `each`, tells what each session leaves that
+//! stands on standard input; with `growths`, plays those in which each growth is to be refused, and says of each whether one
+//! was; with a name in `.txt`, plays the sessions of that file; with another one, draws the line that it names.
 #![tactic(auto)]
 
 mod drawings;
 
 use anyhow::Result;
 use session_rows::each::told_of_each;
-use session_rows::play::play;
+use session_rows::play::{Played, play};
+use session_rows::refusals::{play_grown, play_refused};
 use std::{env, fs, io};
 
-const FILES: [&str; 3] = ["rows.txt", "emacs.txt", "vi.txt"];
+const FILES: [&str; 5] = ["rows.txt", "emacs.txt", "vi.txt", "faults.txt", REFUSED];
 
-/// Plays the sessions of a file, and answers how many they are.
-fn play_file(rt: &HostRuntime, name: &str) -> Result<usize> {
+/// The file of the sessions in which each byte, write, flush and growth fails in turn.
+const REFUSED: &str = "refusals.txt";
+
+/// Plays the rows of a part of a file, which begins with its settings, as they are or with each call failing in turn.
+fn play_part(rt: &HostRuntime, part: &str, failing: bool) -> Result<Played> {
+    let (settings, rows) = part.split_once('\n').unwrap_or((part, ""));
+    if failing {
+        Ok(play_refused(rt.alloc(), settings, rows)?)
+    } else {
+        Ok(play(rt.alloc(), settings, rows)?)
+    }
+}
+
+/// Plays the sessions of a file, and answers how many they are, or how many calls failed.
+fn play_file(rt: &HostRuntime, name: &str, failing: bool) -> Result<usize> {
     let text = fs::read_to_string(rt, name)?;
     let mut count: usize = 0;
     for part in text.split("\n:") {
-        let (settings, rows) = part.split_once('\n').unwrap_or((part, ""));
-        let played = play(rt.alloc(), settings, rows)?;
+        let played = play_part(rt, part, failing)?;
         count = count.saturating_add(played.count);
         if !played.told.is_empty() {
             println!(rt; "{name}: {}", played.told)?;
@@ -37,16 +51,41 @@ fn tell_each(rt: &HostRuntime) -> Result<()> {
     Ok(())
 }
 
+/// Plays the sessions of a file, and tells how many they are.
+fn play_told(rt: &HostRuntime, name: &str) -> Result<()> {
+    let count = play_file(rt, name, false)?;
+    println!(rt; "{name}: {count} sessions")?;
+    Ok(())
+}
+
+/// Plays the sessions in which a growth is to be refused.
+fn grow(rt: &HostRuntime) -> Result<()> {
+    let text = fs::read_to_string(rt, REFUSED)?;
+    let mut settings = "";
+    for row in text.lines() {
+        if let Some(words) = row.strip_prefix(':') {
+            settings = words;
+        } else if row.contains(" = ") {
+            let word = play_grown(rt.alloc(), settings, row);
+            println!(rt; ":{settings} {row}: {word}")?;
+        }
+    }
+    Ok(())
+}
+
 fn main(rt: HostRuntime) -> Result<()> {
     if let Some(name) = env::args(&rt)?.nth(1) {
-        if name.as_str() == "each" {
-            return tell_each(&rt);
-        }
-        return drawings::draw_named(&rt, name.as_str());
+        return match name.as_str() {
+            "each" => tell_each(&rt),
+            "growths" => grow(&rt),
+            name if name.ends_with(".txt") => play_told(&rt, name),
+            name => drawings::draw_named(&rt, name),
+        };
     }
     for name in FILES {
-        let count = play_file(&rt, name)?;
-        println!(rt; "{name}: {count} sessions")?;
+        play_told(&rt, name)?;
     }
+    let count = play_file(&rt, REFUSED, true)?;
+    println!(rt; "{REFUSED}: {count} calls that failed in turn")?;
     drawings::draw_named(&rt, "shorter")
 }

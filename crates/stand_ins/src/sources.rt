@@ -11,6 +11,7 @@ pub struct Faltering<'a> {
     bytes: &'a [u8],
     calls_left: usize,
     failed: bool,
+    asked_again: bool,
 }
 
 impl<'a> Faltering<'a> {
@@ -22,7 +23,18 @@ impl<'a> Faltering<'a> {
             bytes,
             calls_left: call,
             failed: false,
+            asked_again: false,
         }
+    }
+
+    /// The bytes that it has not given.
+    pub fn left(&self) -> &'a [u8] {
+        self.bytes
+    }
+
+    /// Whether anything was asked of it after it had failed.
+    pub fn asked_again(&self) -> bool {
+        self.asked_again
     }
 }
 
@@ -38,6 +50,7 @@ impl Source for Faltering<'_> {
 
     fn next_byte(&mut self) -> Result<Option<u8>, DeviceFailed> {
         if self.failed || self.calls_left == 0 {
+            self.asked_again = self.failed;
             self.failed = true;
             return Err(DeviceFailed);
         }

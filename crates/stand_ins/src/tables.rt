@@ -67,14 +67,27 @@ pub(crate) fn push_pictured(shown: &mut String, text: &str) -> Result<(), AllocE
     Ok(())
 }
 
-/// The bytes that are meant: a text with pictures, in which `‹c3 28›` is the bytes C3 and 28.
+/// Puts the bytes that stand between `‹` and `›`.
+fn push_bytes(alloc: Global, bytes: &mut Vec<u8>, named: &str) -> Result<(), AllocError> {
+    if let Some((count, shown)) = named.split_once('*') {
+        let text = meant(alloc, shown)?;
+        for _ in 0..count.parse().unwrap_or(0) {
+            bytes.extend_from_slice(text.as_bytes())?;
+        }
+        return Ok(());
+    }
+    for number in named.split_whitespace() {
+        bytes.push(u8::from_str_radix(number, 16).unwrap_or(b'?'))?;
+    }
+    Ok(())
+}
+
+/// The bytes that are meant: a text with pictures, in which `‹c3 28›` is the bytes C3 and 28, and `‹3*ab›` is `ababab`.
 pub fn meant_bytes(alloc: Global, shown: &str) -> Result<Vec<u8>, AllocError> {
     let mut bytes = Vec::new(alloc);
     for piece in shown.split('‹') {
-        let (numbers, text) = piece.split_once('›').unwrap_or(("", piece));
-        for number in numbers.split_whitespace() {
-            bytes.push(u8::from_str_radix(number, 16).unwrap_or(b'?'))?;
-        }
+        let (named, text) = piece.split_once('›').unwrap_or(("", piece));
+        push_bytes(alloc, &mut bytes, named)?;
         bytes.extend_from_slice(meant(alloc, text)?.as_bytes())?;
     }
     Ok(bytes)

@@ -5,7 +5,7 @@ ghost use Rattle.stand_ins.specs.declared.tray.TheConstants.{SIZE};
 
 use line_config::{DeviceFailed, Sink};
 
-const SIZE: usize = 1024;
+const SIZE: usize = 2048;
 
 /// A sink in a fixed array. It fails where the array or its room is full, having taken what fits,
 /// and at the call with the number `failing_call`, having taken half.
@@ -18,6 +18,7 @@ pub struct Tray {
     failing_call: usize,
     failed: bool,
     failed_in_flush: bool,
+    asked_again: bool,
     pub ghost within: { len ≤ SIZE },
 }
 
@@ -34,6 +35,7 @@ impl Tray {
             failing_call: usize::MAX,
             failed: false,
             failed_in_flush: false,
+            asked_again: false,
         }
     }
 
@@ -49,6 +51,7 @@ impl Tray {
             calls: 0,
             failed: false,
             failed_in_flush: false,
+            asked_again: false,
         }
     }
 
@@ -61,6 +64,11 @@ impl Tray {
     /// Whether the call that failed was a flush.
     pub fn failed_in_flush(&self) -> bool {
         self.failed_in_flush
+    }
+
+    /// Whether anything was asked of it after it had failed.
+    pub fn asked_again(&self) -> bool {
+        self.asked_again
     }
 
     // Whether this call is the one that fails.
@@ -99,6 +107,7 @@ impl Sink for Tray {
 
     fn write(&mut self, bytes: &[u8]) -> Result<(), DeviceFailed> {
         if self.failed {
+            self.asked_again = true;
             return Err(DeviceFailed);
         }
         let fails = self.fails_now();
@@ -114,6 +123,7 @@ impl Sink for Tray {
 
     fn flush(&mut self) -> Result<(), DeviceFailed> {
         if self.failed {
+            self.asked_again = true;
             return Err(DeviceFailed);
         }
         self.failed_in_flush = self.fails_now();

@@ -1,0 +1,63 @@
+//! Devices that fail by the words of a setting: `lines@3` is the fourth call of the sink of lines, counted over writes and
+//! flushes, which takes half of what it is handed, and `lines@once` takes nothing at all. So it is with `display`, and with
+//! `text`, which is the history's. `keys@3` fails after three bytes, and `keys@end` after all.
+
+ghost use Rattle.std.specs.Prelude.{◌≡◌, false};
+
+use crate::notation::after;
+use keyline::Sink;
+use stand_ins::tray::Tray;
+
+/// A sink that takes nothing, and a source that fails after its last byte.
+const AT_ONCE: usize = usize::MAX;
+
+/// At which call each device fails, counted from 0.
+#[derive(Clone, Copy)]
+pub(crate) struct Faults {
+    pub(crate) keys: Option<usize>,
+    pub(crate) display: Option<usize>,
+    pub(crate) lines: Option<usize>,
+    /// The sink of the history's text.
+    pub(crate) text: Option<usize>,
+}
+
+impl Faults {
+    /// No device fails.
+    pub(crate) const NONE: Faults = Faults {
+        keys: None,
+        display: None,
+        lines: None,
+        text: None,
+    };
+
+    /// Whether a sink fails.
+    pub(crate) fn are_of_a_sink(&self) -> bool {
+        self.display.is_some() || self.lines.is_some() || self.text.is_some()
+    }
+}
+
+fn fault_after(words: &str, beginning: &str) -> Option<usize> {
+    let call = after(words, beginning)?;
+    Some(call.parse().unwrap_or(AT_ONCE))
+}
+
+/// The faults that the words of a setting name.
+pub(crate) fn faults_of(words: &str) -> Faults {
+    Faults {
+        keys: fault_after(words, "keys@"),
+        display: fault_after(words, "display@"),
+        lines: fault_after(words, "lines@"),
+        text: fault_after(words, "text@"),
+    }
+}
+
+/// A sink that fails at this call, or never.
+pub(crate) fn sink_of(fault: Option<usize>) -> Tray
+    ensures { ⟦<Tray as Sink>⟧.has_failed result ≡ false }
+{
+    match fault {
+        Some(AT_ONCE) => Tray::with_room(0),
+        Some(call) => Tray::failing_at(call),
+        None => Tray::with_room(usize::MAX),
+    }
+}
