@@ -37,7 +37,6 @@ use Rattle.line_keys.specs.Replies.{gives_at_once, taking}
 use Rattle.line_keys.specs.Vi.{with_last, changed, typed, command_table, vi_counted, vi_command, insert_table, vi_insert}
 use Rattle.line_keys.specs.ViTables.{insert_deed, deed_of}
 use Rattle.line_record.specs.Ring.{Ring, new_ring}
-use Rattle.line_edits.specs.Edits.{text_yanked}
 use Rattle.line_editor.specs.Accepting.{accept_or_insert}
 use Rattle.line_editor.specs.Asks.{shown_in}
 use Rattle.line_editor.specs.Commands.{in_vi_command, means_of}
@@ -190,7 +189,7 @@ pasted_text vi text s v empty grows =
     let put : Bool = is_some (yanked_in text 1 v.line).answer in
     let before : Value = at_line v.line v in
     ap (λ l. l.text) (refreshed_if (put || false) s (yanked_by vi text 1 before))
-    ∙ stepped_if put vi (rewritten (text_yanked text 1) before)
+    ∙ stepped_if put vi _
     ∙ put_into_empty text v.line empty grows
 
 -- ---- the turns
