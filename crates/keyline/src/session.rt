@@ -53,6 +53,9 @@ pub struct Unopened<F, S, D, L, T> {
 }
 
 impl<F, S, D, L, T> Unopened<F, S, D, L, T> {
+    // Not inlined, nor are `open` and `run`: where one function moves the devices to several places,
+    // LLVM takes minutes over it.
+    #[inline(never)]
     fn new(why: ReadlineError, history: F, source: S, display: D, lines: L, text: T) -> Self
         ensures { result ≡ record {
           why = why;
@@ -192,6 +195,7 @@ where
     /// Opens a session: the history is loaded, no key is read, and nothing is drawn yet. Rows of
     /// the display have `columns` cells. Where it is refused, the devices come back, the source of
     /// the history's text after what was read of it.
+    #[inline(never)]
     pub fn open<F: Source + Drop>(
         alloc: Global,
         config: Config,
@@ -249,6 +253,7 @@ where
 
     /// Reads lines, draws and writes them, until the input or a fault ends it. The history is saved
     /// once, after every ending.
+    #[inline(never)]
     pub fn run(self) -> Ended<S, D, L, T>
         ensures plays { let custom = custom_of self.bindings ⟦<EventHandler as Decides>⟧.decides in
             let helps = helping_by H.hint_of H.verdict_of H.completion_of H.update_of H.marks in
