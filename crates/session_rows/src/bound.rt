@@ -2,11 +2,11 @@
 //! has no binding of its own. Between two words of a command stands a dot.
 
 ghost use Rattle.std.specs.Prelude.{◌≡◌};
-ghost use Rattle.line_keys.specs.Replies.{gives};
 
+use crate::notation::number_after;
 use keyline::{
-    Bindings, Cmd, ConditionalEventHandler, Event, EventContext, EventHandler, HookFault, Keys,
-    ReadlineError, RepeatCount,
+    Cmd, ConditionalEventHandler, Event, EventContext, HookFault, KeyEvent, Keys, ReadlineError,
+    RepeatCount, Text,
 };
 use stand_ins::commands::command_named;
 use stand_ins::handlers::{HintOrKill, OneWay};
@@ -14,30 +14,58 @@ use stand_ins::key_names::key_named;
 use stand_ins::tables::word_and_rest;
 use std::alloc::{AllocError, Global};
 
-/// Answers one command, whatever it is shown.
+/// A handler of one kind or another.
 #[derive(Drop)]
-pub struct Always {
-    cmd: Cmd,
+pub enum Answering {
+    OneWay(OneWay),
+    HintOrKill(HintOrKill),
+    /// One command, whatever it is shown.
+    Always(Cmd),
 }
 
-impl ConditionalEventHandler for Always {
+impl ConditionalEventHandler for Answering {
     ghost use Rattle.std.specs.Prelude.{Some};
+    ghost use Rattle.line_keys.specs.Replies.{gives};
+    ghost use Rattle.session_rows.specs.declared.bound.Answering.TheVariants as kinds;
+    ghost use Rattle.stand_ins.specs.Handlers.{hint_or_kill, one_way};
 
-    ghost meaning = { λ h s. gives (Some h.cmd) };
+    ghost meaning = { λ h s. elim h [
+      | kinds.OneWay way ↦ one_way way s
+      | kinds.HintOrKill asking ↦ hint_or_kill asking.most s
+      | kinds.Always cmd ↦ gives (Some cmd)
+    ] };
 
     fn handle(
         &self,
         alloc: Global,
-        _: &Event,
-        _: RepeatCount,
-        _: bool,
-        _: &EventContext<'_>,
+        evt: &Event,
+        n: RepeatCount,
+        positive: bool,
+        ctx: &EventContext<'_>,
     ) -> Result<Option<Cmd>, HookFault> {
-        match self.cmd.try_clone(alloc) {
-            Ok(cmd) => Ok(Some(cmd)),
-            Err(_) => Err(HookFault::Memory),
+        match self {
+            Answering::OneWay(way) => way.handle(alloc, evt, n, positive, ctx),
+            Answering::HintOrKill(asking) => asking.handle(alloc, evt, n, positive, ctx),
+            Answering::Always(cmd) => match cmd.try_clone(alloc) {
+                Ok(cmd) => Ok(Some(cmd)),
+                Err(_) => Err(HookFault::Memory),
+            },
         }
     }
+}
+
+/// What is bound: a command, or a handler.
+#[derive(Drop)]
+pub(crate) enum Action {
+    Command(Cmd),
+    Handler(Answering),
+}
+
+/// An event, and what is bound to it.
+#[derive(Drop)]
+pub(crate) struct Bound {
+    pub(crate) event: Event,
+    pub(crate) action: Action,
 }
 
 /// The keys with these names, with an arrow between two.
@@ -63,64 +91,58 @@ fn spaced(alloc: Global, words: &str) -> Result<String, AllocError> {
     Ok(text)
 }
 
-fn one_way(alloc: Global, way: OneWay) -> Result<EventHandler, ReadlineError> {
-    let handler = Box::new(alloc, way)?;
-    Ok(EventHandler::Conditional(handler))
-}
-
-fn hint_or_kill(alloc: Global, most: &str) -> Result<EventHandler, ReadlineError> {
-    let most = most.parse().unwrap_or(9);
-    let handler = Box::new(alloc, HintOrKill { most })?;
-    Ok(EventHandler::Conditional(handler))
-}
-
-fn answering(alloc: Global, words: &str) -> Result<EventHandler, ReadlineError> {
-    let cmd = command_named(alloc, words).unwrap_or(Cmd::Unknown);
-    let handler = Box::new(alloc, Always { cmd })?;
-    Ok(EventHandler::Conditional(handler))
+fn command_of(alloc: Global, words: &str) -> Cmd {
+    command_named(alloc, words).unwrap_or(Cmd::Unknown)
 }
 
 /// The command with these words, or the handler with this name.
-fn handler_named(alloc: Global, words: &str) -> Result<EventHandler, ReadlineError> {
+fn action_named(alloc: Global, words: &str) -> Action {
     let (name, rest) = word_and_rest(words);
-    match name {
-        "Count" => one_way(alloc, OneWay::Count),
-        "Nothing" => one_way(alloc, OneWay::Nothing),
-        "Fails" => one_way(alloc, OneWay::Fails),
-        "WantsMemory" => one_way(alloc, OneWay::WantsMemory),
-        "HintOrKill" => hint_or_kill(alloc, rest),
-        "Always" => answering(alloc, rest),
-        _ => {
-            let cmd = command_named(alloc, words).unwrap_or(Cmd::Unknown);
-            Ok(EventHandler::Simple(cmd))
+    let handler = match name {
+        "Count" => Answering::OneWay(OneWay::Count),
+        "Nothing" => Answering::OneWay(OneWay::Nothing),
+        "Fails" => Answering::OneWay(OneWay::Fails),
+        "WantsMemory" => Answering::OneWay(OneWay::WantsMemory),
+        "HintOrKill" => {
+            let most = rest.parse().unwrap_or(9);
+            Answering::HintOrKill(HintOrKill { most })
         }
-    }
+        "Always" => Answering::Always(command_of(alloc, rest)),
+        _ => return Action::Command(command_of(alloc, words)),
+    };
+    Action::Handler(handler)
 }
 
-fn bind(
-    alloc: Global,
-    bindings: &mut Bindings,
-    keys: &str,
-    words: &str,
-) -> Result<(), ReadlineError> {
+fn bound_as(alloc: Global, keys: &str, words: &str) -> Result<Bound, ReadlineError> {
     let words = spaced(alloc, words)?;
-    let handler = handler_named(alloc, words.as_str())?;
-    let _ = bindings.bind_sequence(event_named(alloc, keys)?, handler)?;
+    Ok(Bound {
+        event: event_named(alloc, keys)?,
+        action: action_named(alloc, words.as_str()),
+    })
+}
+
+/// Puts so many characters, from 一 on, each bound to what puts it in twice.
+fn put_many(alloc: Global, all: &mut Vec<Bound>, count: usize) -> Result<(), ReadlineError> {
+    for c in ('一'..='\u{9FFF}').take(count) {
+        let twice = format!(in alloc; "{c}{c}")?;
+        all.push(Bound {
+            event: Event::from_key(alloc, KeyEvent::from(c))?,
+            action: Action::Command(Cmd::Insert(1, Text::from(twice))),
+        })?;
+    }
     Ok(())
 }
 
-/// Binds all that the words of a setting bind.
-pub(crate) fn bind_words(
-    alloc: Global,
-    bindings: &mut Bindings,
-    words: &str,
-) -> Result<(), ReadlineError> {
+/// All that the words of a setting bind.
+pub(crate) fn bound_by(alloc: Global, words: &str) -> Result<Vec<Bound>, ReadlineError> {
+    let mut all = Vec::new(alloc);
+    put_many(alloc, &mut all, number_after(words, "many:", 0))?;
     for word in words.split_whitespace() {
         if let Some(bound) = word.strip_prefix("bind:")
             && let Some((keys, named)) = bound.split_once('⇒')
         {
-            bind(alloc, bindings, keys, named)?;
+            all.push(bound_as(alloc, keys, named)?)?;
         }
     }
-    Ok(())
+    Ok(all)
 }

@@ -4,15 +4,15 @@ ghost use Rattle.std.specs.Prelude.{◌≡◌, false};
 
 use crate::advice::texts_of;
 use crate::aide::aide_of;
-use crate::bound::bind_words;
+use crate::bound::{Action, bound_by};
 use crate::faults::{Faults, faults_of, sink_of};
 use crate::notation::{
     Row, Setting, display_meant, field, lines_meant, number_after, row_of, setting_of, text_meant,
     typed,
 };
 use keyline::{
-    Bindings, Cmd, Config, Ended, Ending, Event, EventHandler, Helper, KeyEvent, ReadSource,
-    ReadlineError, Session, Sink, SliceSource, Source, Text, VecSink,
+    Bindings, Config, Ended, Ending, EventHandler, Helper, ReadSource, ReadlineError, Session,
+    Sink, SliceSource, Source, VecSink,
 };
 use stand_ins::devices::{Pieces, Turns};
 use stand_ins::tables::{meant_bytes, pictured_bytes};
@@ -26,24 +26,6 @@ pub struct Left {
     pub lines: Vec<u8>,
     pub saved: Vec<u8>,
     pub shown: Vec<u8>,
-}
-
-fn bindings_of(alloc: Global, setting: &Setting<'_>) -> Result<Bindings, ReadlineError> {
-    let mut bindings = Bindings::new(alloc)?;
-    bind_words(alloc, &mut bindings, setting.all)?;
-    bind_many(alloc, &mut bindings, number_after(setting.all, "many:", 0))?;
-    Ok(bindings)
-}
-
-/// Binds so many characters, from 一 on, each to what puts it in twice.
-fn bind_many(alloc: Global, bindings: &mut Bindings, count: usize) -> Result<(), ReadlineError> {
-    for c in ('一'..='\u{9FFF}').take(count) {
-        let twice = format!(in alloc; "{c}{c}")?;
-        let event = Event::from_key(alloc, KeyEvent::from(c))?;
-        let handler = EventHandler::Simple(Cmd::Insert(1, Text::from(twice)));
-        let _ = bindings.bind_sequence(event, handler)?;
-    }
-    Ok(())
 }
 
 fn config_of(setting: &Setting<'_>) -> Result<Config, ReadlineError> {
@@ -73,12 +55,21 @@ where
     requires lines { L.has_failed lines ≡ false }
     requires text { T.has_failed text ≡ false }
 {
+    // Handlers are boxed here: a function that handed them out could promise nothing of them.
+    let mut bindings = Bindings::new(alloc)?;
+    for bound in bound_by(alloc, setting.all)? {
+        let handler = match bound.action {
+            Action::Command(cmd) => EventHandler::Simple(cmd),
+            Action::Handler(answering) => EventHandler::Conditional(Box::new(alloc, answering)?),
+        };
+        let _ = bindings.bind_sequence(bound.event, handler)?;
+    }
     let loaded = meant_bytes(alloc, setting.loaded)?;
     let prompt = text_meant(alloc, setting.prompt)?;
     let session = Session::open(
         alloc,
         config_of(setting)?,
-        bindings_of(alloc, setting)?,
+        bindings,
         SliceSource::new(&loaded),
         helper,
         prompt.as_str(),
