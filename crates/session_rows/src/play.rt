@@ -4,7 +4,7 @@ ghost use Rattle.std.specs.Prelude.{◌≡◌, false};
 
 use crate::advice::texts_of;
 use crate::aide::aide_of;
-use crate::bound::{Action, bound_by};
+use crate::bound::{Action, Bound, bound_by};
 use crate::faults::{Faults, faults_of, sink_of};
 use crate::notation::{
     Row, Setting, display_meant, field, lines_meant, number_after, row_of, setting_of, text_meant,
@@ -58,11 +58,12 @@ where
     // Handlers are boxed here: a function that handed them out could promise nothing of them.
     let mut bindings = Bindings::new(alloc)?;
     for bound in bound_by(alloc, setting.all)? {
-        let handler = match bound.action {
+        let Bound { event, action } = bound;
+        let handler = match action {
             Action::Command(cmd) => EventHandler::Simple(cmd),
             Action::Handler(answering) => EventHandler::Conditional(Box::new(alloc, answering)?),
         };
-        let _ = bindings.bind_sequence(bound.event, handler)?;
+        let _ = bindings.bind_sequence(event, handler)?;
     }
     let loaded = meant_bytes(alloc, setting.loaded)?;
     let prompt = text_meant(alloc, setting.prompt)?;
