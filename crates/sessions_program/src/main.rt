@@ -58,17 +58,23 @@ fn play_told(rt: &HostRuntime, name: &str) -> Result<()> {
     Ok(())
 }
 
-/// Plays the sessions in which a growth is to be refused.
-fn grow(rt: &HostRuntime) -> Result<()> {
-    let text = fs::read_to_string(rt, REFUSED)?;
-    let mut settings = "";
-    for row in text.lines() {
-        if let Some(words) = row.strip_prefix(':') {
-            settings = words;
-        } else if row.contains(" = ") {
+/// Plays the rows of a part of a file, in which a growth is to be refused.
+fn grow_part(rt: &HostRuntime, part: &str) -> Result<()> {
+    let (settings, rows) = part.split_once('\n').unwrap_or((part, ""));
+    for row in rows.lines() {
+        if row.contains(" = ") {
             let word = play_grown(rt.alloc(), settings, row);
             println!(rt; ":{settings} {row}: {word}")?;
         }
+    }
+    Ok(())
+}
+
+/// Plays the sessions in which a growth is to be refused.
+fn grow(rt: &HostRuntime) -> Result<()> {
+    let text = fs::read_to_string(rt, REFUSED)?;
+    for part in text.split("\n:") {
+        grow_part(rt, part)?;
     }
     Ok(())
 }
