@@ -12,7 +12,11 @@ pub(crate) fn plain() -> Setting<'static> {
 }
 
 /// An ending and lines, as rows tell them.
-pub(crate) fn ending_and_lines(alloc: Global, ending: Ending, lines: &[u8]) -> Result<String, AllocError> {
+pub(crate) fn ending_and_lines(
+    alloc: Global,
+    ending: Ending,
+    lines: &[u8],
+) -> Result<String, AllocError> {
     let lines = pictured_bytes(alloc, lines)?;
     let lines = or_nothing(lines.as_str());
     format!(in alloc; "{ending:?} {lines}")
