@@ -119,7 +119,7 @@ class Session:
 
     def open_lines(self, prompt, line):
         """Drawings of a line that isn't ended, with what may stand after it."""
-        for text in ("", *(meant(self.value(name, "")).decode() for name in ("hint:", "message:"))):
+        for text in ("", *(meant(self.value(name, "")).decode(errors="replace") for name in ("hint:", "message:"))):
             yield Drawing(self.columns, prompt, line, text, clusters=self.clusters)
 
     def shorter(self):

@@ -201,12 +201,18 @@ def a_pipe():
             same("last words", ran.stderr[len(ran.stderr) - len(words):], words)
 
 
+def ended_by(number):
+    """Has a signal end this process, also where the test was begun with it ignored, and leave no core."""
+    resource.setrlimit(resource.RLIMIT_CORE, (0, 0))
+    if number != signal.SIGKILL:
+        signal.signal(number, signal.SIG_DFL)
+
+
 def killed_in_mid_line():
     """A signal ends the program: the lines before stand, and the old history is whole."""
     for number in (signal.SIGTERM, signal.SIGHUP, signal.SIGINT, signal.SIGQUIT, signal.SIGKILL):
         with folder_with("history", OLD) as (folder, path):
-            no_core = {"preexec_fn": lambda: resource.setrlimit(resource.RLIMIT_CORE, (0, 0))}
-            with Running([PROGRAM, "--history", path], **no_core) as program:
+            with Running([PROGRAM, "--history", path], preexec_fn=lambda: ended_by(number)) as program:
                 program.type(b"one\rtwo")
                 program.display.expect(drawing(b"") + b"one" + NEW_ROW + drawing(b"") + b"two")
                 program.process.send_signal(number)

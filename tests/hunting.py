@@ -98,9 +98,9 @@ def prompts_of(session, shown):
 def judge_open_line(session, shown, lines, accepted):
     """What a display shows at last is the line that stood open, with a hint or message at most: the one more line that is
     accepted where a key for that comes after all others, if it is read as one."""
-    line = accepted[len(lines):].decode()
-    if not line or not accepted.startswith(lines):
+    if accepted == lines or not accepted.startswith(lines):
         return
+    line = accepted[len(lines):].decode()
     rows = shown.below(shown.top)
     for prompt in prompts_of(session, shown):
         for drawn in session.open_lines(prompt, line[:-1]):
