@@ -114,7 +114,7 @@ module _ {S H D L K T : Type 0} (k : Known S D L) (helps : Option H → Helping)
       cut_stays k.shows k.shown k.show_failed (ruler_of (screen_of old.out)) w.fault (acts_meant n setting custom config old.ring heard) (fresh (ruler_of (screen_of old.out)).mode)
       (stage old.out heard old.ring) (stage ran.out (items_of k.feed reader).coming ring) w.done
 
-  screen_stays : RunsAt → IsTrue (feed_of k old).told → screen_of ran.out ≡ screen_of old.out
+  screen_stays : RunsAt → IsTrue (items_of k.feed reader).told → screen_of ran.out ≡ screen_of old.out
   screen_stays runs t =
       let n = suc (feed_of k old).bound in let went = runs.goes t n (le_refl _) in screen_by n went.0 went.2
 
@@ -205,12 +205,13 @@ module _ {S H D L K T : Type 0} (k : Known S D L) (helps : Option H → Helping)
     lined_falls runs (inl c) = ok_given ran.outcome string_bytes result _ runs.falls c.result_is
     lined_falls runs (inr c) = ok_of_cut result (c left).fault _ (c left).result_is
 
-    lined_given : RunsAt → screen_of out ≡ screen_of ran.out → IsTrue (feed_of k old).told → given' ≡ given
+    lined_given : RunsAt → screen_of out ≡ screen_of ran.out → IsTrue (feed_of k new).told → given' ≡ given
     lined_given runs screen t =
         ap (λ s. given_by config custom prompt s (helps ran.helper)) (screen ∙ screen_stays runs t)
         ∙ ap (λ h. given_by config custom prompt (screen_of old.out) h) (runs.helper_stays t)
 
     reason_of_close : RunsAt → (e : ReadlineError) → CloseReason (outcome_of ran) (k.show_failed (sink_of ran.out)) (k.show_failed (sink_of out)) (k.write_failed lines) e
+<<<<<<< ours
         → DeskReason k given new e
     reason_of_close runs e (inl p) =
         let cause = err_given ran.outcome string_bytes e _ runs.reason p.0 in
@@ -223,6 +224,21 @@ module _ {S H D L K T : Type 0} (k : Known S D L) (helps : Option H → Helping)
         let P : ReadlineError → Type 0 = DeskReason k given new in subst P (sym p.0) p.1
     reason_of_close runs e (inr (inr (inr p))) =
         let P : ReadlineError → Type 0 = DeskReason k given new in subst P (sym p) tt
+=======
+        → DeskReason k (feed_of k new).told given new e
+    reason_of_close runs e (inl p) =
+        let cause = err_given ran.outcome string_bytes e _ runs.reason p.0 in
+        let of_line = reason_by (feed_of k new).told given _ (k.show_failed (sink_of ran.out)) (k.write_failed lines) (items_of k.feed reader) _ e (λ r. r)
+        (λ hook t. (hook.0, subst (λ h. HelperFails h hook.0) (runs.helper_stays t) hook.1)) cause in
+        let P : Bool → Type 0 = λ failed. SessionReason (feed_of k new).told given (k.feed reader.bytes.source).failed failed (k.write_failed lines) e in
+        subst P (sym p.1) of_line
+    reason_of_close runs e (inr (inl p)) =
+        let P : ReadlineError → Type 0 = DeskReason k (feed_of k new).told given new in subst P (sym p.0) p.1
+    reason_of_close runs e (inr (inr (inl p))) =
+        let P : ReadlineError → Type 0 = DeskReason k (feed_of k new).told given new in subst P (sym p.0) p.1
+    reason_of_close runs e (inr (inr (inr p))) =
+        let P : ReadlineError → Type 0 = DeskReason k (feed_of k new).told given new in subst P (sym p) tt
+>>>>>>> theirs
 
     pub takes_line : RunsAt → Ends (outcome_of ran) → screen_of out ≡ screen_of ran.out → TakesLine k given given' old new result
     takes_line runs closes screen = record {
@@ -236,6 +252,10 @@ module _ {S H D L K T : Type 0} (k : Known S D L) (helps : Option H → Helping)
     }
       where
         if_err : (r : Result (Unit {0}) ReadlineError) → IfErr r (CloseReason (outcome_of ran) (k.show_failed (sink_of ran.out)) (k.show_failed (sink_of out)) (k.write_failed lines))
+<<<<<<< ours
             → IfErr r (DeskReason k given new)
+=======
+            → IfErr r (DeskReason k (feed_of k new).told given new)
+>>>>>>> theirs
         if_err (Ok u) p = tt
         if_err (Err e) p = reason_of_close runs e p

@@ -21,6 +21,7 @@ pub none_bound : {D : Type 0} (bindings : List (Event × D)) (means : D → Mean
 none_bound bindings means none = ap (λ b. custom_of b means) none
 
 module _ {S D L T : Type 0} (k : Known S D L) (told : T → Bool) (held : T → List ℕ) (failed : T → Bool) where
+<<<<<<< ours
   pub edited : (options : Options) (words : Option (List (List ℕ))) (history : Feed) (source : S) (display : D) (lines : L) (text text' : T) (ended : Ended S D L T)
       (desk : Desk S EditHelper D L) (config config' : Config) (custom : Custom) (prompt : List ℕ) (helper : Option EditHelper)
       → Opens k.feed config history helper source options.columns display lines desk
@@ -29,17 +30,31 @@ module _ {S D L T : Type 0} (k : Known S D L) (told : T → Bool) (held : T → 
       → config ≡ config_of options → config' ≡ config → prompt ≡ string_bytes options.prompt → helper ≡ helper_of options words → text' ≡ text → custom ≡ nothing_bound
       → EditsByOptions k told held failed options words history source display lines text ended
   edited options words history source display lines text text' ended desk config config' custom prompt helper opens plays shows config_is config_is' prompt_is helper_is text_is custom_is =
+=======
+  pub edited : (options : Options) (loads : Bool) (history : Feed) (source : S) (display : D) (lines : L) (text text' : T) (ended : Ended S D L T)
+      (desk : Desk S BracketHelper D L) (config config' : Config) (custom : Custom) (prompt : List ℕ) (helper : Option BracketHelper)
+      → Opens k.feed loads config history helper source options.columns display lines desk
+      → Plays k told held failed (given_by config' custom prompt (screen_of desk.out) (bracket_helping desk.helper)) desk text' ended
+      → ((heard : Coming) → Displays (given_by config' custom prompt (screen_of desk.out) (bracket_helping desk.helper)) (hearing k desk heard))
+      → config ≡ config_of options → config' ≡ config → prompt ≡ string_bytes options.prompt → helper ≡ helper_of options → text' ≡ text → custom ≡ nothing_bound
+      → EditsByOptions k told held failed options loads history source display lines text ended
+  edited options loads history source display lines text text' ended desk config config' custom prompt helper opens plays shows config_is config_is' prompt_is helper_is text_is custom_is =
+>>>>>>> theirs
       let screen = screen_of desk.out in
       let helping = edit_helping desk.helper in
       let given : given_by config' custom prompt screen helping ≡ given_to options desk =
       ap (λ (x : Config). given_by x custom prompt screen helping) (config_is' ∙ config_is)
       ∙ (ap (λ (x : Custom). given_by (config_of options) x prompt screen helping) custom_is
       ∙ ap (λ (x : List ℕ). given_by (config_of options) nothing_bound x screen helping) prompt_is) in
-      let opens' = subst (λ (x : Config). Opens k.feed x history helper source options.columns display lines desk) config_is opens in
+      let opens' = subst (λ (x : Config). Opens k.feed loads x history helper source options.columns display lines desk) config_is opens in
       let plays' = subst (λ (x : Given). Plays k told held failed x desk text' ended) given plays in
       record {
         desk = desk;
+<<<<<<< ours
         opens = subst (λ (x : Option EditHelper). Opens k.feed (config_of options) history x source options.columns display lines desk) helper_is opens';
+=======
+        opens = subst (λ (x : Option BracketHelper). Opens k.feed loads (config_of options) history x source options.columns display lines desk) helper_is opens';
+>>>>>>> theirs
         plays = subst (λ (x : T). Plays k told held failed (given_to options desk) desk x ended) text_is plays';
         shows = λ heard. subst (λ (x : Given). Displays x (hearing k desk heard)) given (shows heard);
       }

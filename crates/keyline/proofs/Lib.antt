@@ -7,7 +7,11 @@ pub mod EditLemmas
 pub mod HeardSteps
 pub mod OneByteLemmas
 pub mod OptionsLemmas
+<<<<<<< ours
 pub mod PasteLemmas
+=======
+pub mod PlayedLemmas
+>>>>>>> theirs
 pub mod PlaysLemmas
 pub mod SessionCourse
 pub mod SessionLawLemmas

@@ -1,5 +1,5 @@
 -- A session by its lines, its history's saving and its ending.
-use Rattle.std.proofs.Common.{◌≡◌, ℕ, Bool, List, Option, sym, subst}
+use Rattle.std.proofs.Common.{◌≡◌, ℕ, Bool, IsTrue, List, Option, sym, subst}
 use Rattle.line_config.specs.declared.errors.ReadlineError.{ReadlineError}
 use Rattle.line_help.specs.History.{Filed}
 use Rattle.line_screen.specs.Calls.{sink_of}
@@ -26,14 +26,19 @@ plays {S} {H} {D} {L} {T} k told held failed g desk end why history text text' s
   why = why;
   saved = saved;
   goes = λ t n b.
-      let went = lines.goes t n b in
+      let went = lines.goes (subst (λ (s : S). IsTrue (k.feed s).told) source_is t) n b in
       let P : D → Type 0 = λ display. Reads k.shows k.shown k.writes k.written_in g (session n g (hearing k desk went.0)) (session_deeds n g (hearing k desk went.0)) went.0 (work_of k desk)
       (record { display = display; lines = end.lines; history = end.history }) (coming_in k.feed end.reader) why in
       (went.0, went.1, subst P (sym display_is) went.2);
   saves = saves;
   ending_is = is;
   reason =
+<<<<<<< ours
       let P : D → Type 0 = λ display. SessionReason g (k.feed source).failed (k.show_failed display) (k.write_failed end.lines) why in
       let Q : S → Type 0 = λ source. SessionReason g (k.feed source).failed (k.show_failed (sink_of end.out)) (k.write_failed end.lines) why in
+=======
+      let P : D → Type 0 = λ display. SessionReason (k.feed source).told g (k.feed source).failed (k.show_failed display) (k.write_failed end.lines) why in
+      let Q : S → Type 0 = λ source. SessionReason (k.feed source).told g (k.feed source).failed (k.show_failed (sink_of end.out)) (k.write_failed end.lines) why in
+>>>>>>> theirs
       subst P (sym display_is) (subst Q (sym source_is) lines.reason);
 }

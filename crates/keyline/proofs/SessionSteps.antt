@@ -112,11 +112,11 @@ module _ {S H D L : Type 0} (k : Known S D L) where
 
 -- lines were taken: what is read, drawn, kept and written from here on is, with them, what is so from the first desk on
 pub record Onward {S H D L : Type 0} (k : Known S D L) (g g' : Given) (first now : Desk S H D L) : Type 0 where
-  pub told : IsTrue (feed_of k first).told → IsTrue (feed_of k now).told
+  pub told : IsTrue (feed_of k now).told → IsTrue (feed_of k first).told
   pub steady : (feed_of k now).steady ≡ (feed_of k first).steady
-  pub given : IsTrue (feed_of k first).told → g' ≡ g
+  pub given : IsTrue (feed_of k now).told → g' ≡ g
   pub custom : g'.custom ≡ g.custom
-  pub onward : IsTrue (feed_of k first).told → (n : ℕ) → (feed_of k first).bound < n → (m : ℕ) × ((feed_of k now).bound < m)
+  pub onward : IsTrue (feed_of k now).told → (n : ℕ) → (feed_of k first).bound < n → (m : ℕ) × ((feed_of k now).bound < m)
       × ((end : Work D L) (left : Coming) (why : ReadlineError) → Onwards k g m now end left why → Onwards k g n first end left why)
 
 module _ {S H D L : Type 0} (k : Known S D L) where
@@ -189,21 +189,21 @@ module _ {S H D L : Type 0} (k : Known S D L) where
   pub onward_line : (g g' g'' : Given) (first now next : Desk S H D L) → Onward k g g' first now
       → TakesLine k g' g'' now next (Ok (tt {0})) → Onward k g g'' first next
   onward_line g g' g'' first now next before line = record {
-    told = λ t. line.told (before.told t);
+    told = λ t. before.told (line.told t);
     steady = line.steady ∙ before.steady;
-    given = λ t. line.given (before.told t) ∙ before.given t;
+    given = λ t. line.given t ∙ before.given (line.told t);
     custom = line.custom ∙ before.custom;
-    onward = λ t n b. let so = before.onward t n b in went t so.0 so.1 so.2;
+    onward = λ t n b. let so = before.onward (line.told t) n b in went t so.0 so.1 so.2;
   }
     where
-      went : IsTrue (feed_of k first).told → (m : ℕ) → (feed_of k now).bound < m
+      went : IsTrue (feed_of k next).told → (m : ℕ) → (feed_of k now).bound < m
           → {Q : Work D L → Coming → ReadlineError → Type 0}
           → ((end : Work D L) (left : Coming) (why : ReadlineError) → Onwards k g m now end left why → Q end left why)
           → (m' : ℕ) × ((feed_of k next).bound < m') × ((end : Work D L) (left : Coming) (why : ReadlineError) → Onwards k g m' next end left why → Q end left why)
       went t zero b so = absurd (search arith)
       went t (suc m) b {Q} so =
           let P : Given → Type 0 = λ g. LinedAt g (suc m) now next (Ok (tt {0})) in
-          let lined = subst P (before.given t) (line.goes (before.told t) (suc m) b) in (
+          let lined = subst P (before.given (line.told t)) (line.goes t (suc m) b) in (
             m,
             lower (feed_of k next).bound (feed_of k now).bound m line.falls b,
             λ end left why r. so end left why (line_on g m now next line.steady lined end left why r),
@@ -212,17 +212,31 @@ module _ {S H D L : Type 0} (k : Known S D L) where
   pub onward_end : (g g' g'' : Given) (first now next : Desk S H D L) (e : ReadlineError) → Onward k g g' first now → TakesLine k g' g'' now next (Err e)
       → TakesLines k g first next e
   onward_end g g' g'' first now next e before line = record {
-    goes = λ t n b. let so = before.onward t n b in ends t so.0 so.1 (so.2 (work_of k next) (feed_of k next).coming e);
+    goes = λ t n b. let so = before.onward (line.told t) n b in ends t so.0 so.1 (so.2 (work_of k next) (feed_of k next).coming e);
     reason = reason_kept e line.reason;
   }
     where
-      ends : IsTrue (feed_of k first).told → (m : ℕ) → (feed_of k now).bound < m → {Q : Type 0} → (Onwards k g m now (work_of k next) (feed_of k next).coming e → Q) → Q
+      ends : IsTrue (feed_of k next).told → (m : ℕ) → (feed_of k now).bound < m → {Q : Type 0} → (Onwards k g m now (work_of k next) (feed_of k next).coming e → Q) → Q
       ends t zero b so = absurd (search arith)
       ends t (suc m) b so =
           let P : Given → Type 0 = λ g. LinedAt g (suc m) now next (Err e) in
-          so (line_off g m now next e (subst P (before.given t) (line.goes (before.told t) (suc m) b)))
+          so (line_off g m now next e (subst P (before.given (line.told t)) (line.goes t (suc m) b)))
 
+<<<<<<< ours
       reason_kept : (e : ReadlineError) → DeskReason k g' next e → DeskReason k g next e
+=======
+      reason_kept : (e : ReadlineError) → DeskReason k (feed_of k next).told g' next e → DeskReason k (feed_of k next).told g next e
+      reason_kept Eof r = tt
+      reason_kept Interrupted r = tt
+      reason_kept NotUtf8 r = tt
+      reason_kept PasteOutOfPlace r = tt
+      reason_kept Reader r = r
+      reason_kept Display r = r
+      reason_kept Lines r = r
+      reason_kept HistoryText r = r
+      reason_kept Helper r = λ t. let fails = r t in
+          let P : Given → Type 0 = λ g. HelperFails g.helping fails.0 in (fails.0, subst P (before.given (line.told t)) fails.1)
+>>>>>>> theirs
       reason_kept Handler r = subst HandlerFails before.custom r
       reason_kept _ r = r
 

@@ -70,22 +70,30 @@ module _ {S H D L : Type 0} (k : Known S D L) where
   -- THE relation of a line
   pub record TakesLine (g g' : Given) (old new : Desk S H D L)
       (result : Result (Unit {0}) ReadlineError) : Type 0 where
-    pub goes : IsTrue (feed_of old).told → (n : ℕ) → (feed_of old).bound < n
+    pub goes : IsTrue (feed_of new).told → (n : ℕ) → (feed_of old).bound < n
         → (heard : Coming) × HeardAt old heard
         × Lined g (line_in n g (hearing old heard)) (line_deeds n g (hearing old heard)) heard
         old new result
-    pub given : IsTrue (feed_of old).told → g' ≡ g
+    pub given : IsTrue (feed_of new).told → g' ≡ g
     pub custom : g'.custom ≡ g.custom
-    pub told : IsTrue (feed_of old).told → IsTrue (feed_of new).told
+    pub told : IsTrue (feed_of new).told → IsTrue (feed_of old).told
     pub steady : (feed_of new).steady ≡ (feed_of old).steady
     pub falls : OnOk result ((feed_of new).bound < (feed_of old).bound)
+<<<<<<< ours
     pub reason : IfErr result (DeskReason g new)
+=======
+    pub reason : IfErr result (DeskReason (feed_of new).told g new)
+>>>>>>> theirs
 
   -- THE relation of all lines
   pub record TakesLines (g : Given) (old new : Desk S H D L) (why : ReadlineError) : Type 0 where
-    pub goes : IsTrue (feed_of old).told → (n : ℕ) → (feed_of old).bound < n
+    pub goes : IsTrue (feed_of new).told → (n : ℕ) → (feed_of old).bound < n
         → (heard : Coming) × HeardAt old heard
         × Reads k.shows k.shown k.writes k.written_in g
         (session n g (hearing old heard)) (session_deeds n g (hearing old heard)) heard
         (work_of old) (work_of new) (feed_of new).coming why
+<<<<<<< ours
     pub reason : DeskReason g new why
+=======
+    pub reason : DeskReason (feed_of new).told g new why
+>>>>>>> theirs

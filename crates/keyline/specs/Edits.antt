@@ -73,10 +73,18 @@ given_to options desk = given_by (config_of options) nothing_bound (string_bytes
 
 -- a session was opened by these options and words, and run
 pub record EditsByOptions {S D L T : Type 0} (k : Known S D L) (told : T → Bool) (held : T → List ℕ)
+<<<<<<< ours
     (failed : T → Bool) (options : Options) (words : Option (List (List ℕ))) (history : Feed)
     (source : S) (display : D) (lines : L) (text : T) (ended : Ended S D L T) : Type 0 where
   pub desk : Desk S EditHelper D L
   pub opens : Opens k.feed (config_of options) history (helper_of options words) source
       options.columns display lines desk
+=======
+    (failed : T → Bool) (options : Options) (loads : Bool) (history : Feed) (source : S) (display : D)
+    (lines : L) (text : T) (ended : Ended S D L T) : Type 0 where
+  pub desk : Desk S BracketHelper D L
+  pub opens : Opens k.feed loads (config_of options) history (helper_of options) source options.columns
+      display lines desk
+>>>>>>> theirs
   pub plays : Plays k told held failed (given_to options desk) desk text ended
   pub shows : (heard : Coming) → Displays (given_to options desk) (hearing k desk heard)

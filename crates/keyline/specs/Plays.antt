@@ -32,6 +32,7 @@ abbrev pub loaded_from : Config → Feed → Filed
 loaded_from config text =
     load_leaves text.last (text_rows text.last text.coming) (nothing_filed (settings_of config))
 
+<<<<<<< ours
 -- why no history is loaded of a source's text, where this is left of the source: it has failed, a
 -- row isn't UTF-8, or memory is wanting, and each row that was read is UTF-8
 abbrev pub LoadRefused : Config → Feed → Feed → ReadlineError → Type 0
@@ -48,11 +49,20 @@ pub record Remains (text left : Feed) : Type 0 where
   pub told : IsTrue text.told → IsTrue left.told
   pub steady : left.steady ≡ text.steady
   pub last : left.last ≡ text.last
+=======
+-- why no history is loaded, where its source gave what was said: its text isn't UTF-8, its source
+-- fails, or memory is wanting
+abbrev pub LoadFault : Bool → Config → Feed → ReadlineError → Type 0
+LoadFault told config text HistoryText = IsTrue told → loads config text ≡ Err HistoryText
+LoadFault told config text Reader = IsTrue told → loads config text ≡ Err Reader
+LoadFault told config text Memory = ⊤
+LoadFault told config text why = ⊥
+>>>>>>> theirs
 
--- a history that was loaded
-pub record Loaded (config : Config) (text : Feed) (history : Filed) : Type 0 where
-  pub whole : IsTrue text.told → IsOk (loads config text)
-  pub history_is : IsTrue text.told → history ≡ loaded_from config text
+-- a history that was loaded, where its source gave what was said
+pub record Loaded (told : Bool) (config : Config) (text : Feed) (history : Filed) : Type 0 where
+  pub whole : IsTrue told → IsOk (loads config text)
+  pub history_is : IsTrue told → history ≡ loaded_from config text
 
 -- a session's beginning
 pub record Begins (config : Config) (prompt : List ℕ) (text : Feed) (b : Beginning) : Type 0 where
@@ -73,10 +83,10 @@ pub record Unopens {F S D L T : Type 0} (feed : F → Feed) (config : Config) (h
   pub text_is : unopened.text ≡ text
 
 -- a session's desk: the devices as they were handed in, nothing read, and nothing drawn
-pub record Opens {S H D L : Type 0} (feed : S → Feed) (config : Config) (text : Feed)
+pub record Opens {S H D L : Type 0} (feed : S → Feed) (told : Bool) (config : Config) (text : Feed)
     (helper : Option H) (source : S) (columns : ℕ) (display : D) (lines : L) (desk : Desk S H D L)
     : Type 0 where
-  pub history : Loaded config text desk.history
+  pub history : Loaded told config text desk.history
   pub ring : desk.ring ≡ new_ring 60
   pub coming : coming_in feed desk.reader
       ≡ coming_from config.edit_mode (feed source).coming (feed source).last
@@ -103,7 +113,7 @@ pub record Plays {S H D L T : Type 0} (k : Known S D L) (told : T → Bool) (hel
   pub why : ReadlineError
   pub saved : Bool
   -- with more fuel than the source has keys and pastes
-  pub goes : IsTrue (feed_of k desk).told → (n : ℕ) → (feed_of k desk).bound < n
+  pub goes : IsTrue (k.feed ended.source).told → (n : ℕ) → (feed_of k desk).bound < n
       → (heard : Coming) × HeardAt k desk heard
       × Reads k.shows k.shown k.writes k.written_in g
       (session n g (hearing k desk heard)) (session_deeds n g (hearing k desk heard)) heard
@@ -114,5 +124,10 @@ pub record Plays {S H D L T : Type 0} (k : Known S D L) (told : T → Bool) (hel
   pub ahead_is : ended.ahead ≡ kept_of reader
   pub saves : Saves told held failed kept ended.history text ended.text saved
   pub ending_is : ended.ending ≡ ending_of (ending_after why saved)
+<<<<<<< ours
   pub reason : SessionReason g (k.feed ended.source).failed (k.show_failed ended.display)
       (k.write_failed ended.lines) why
+=======
+  pub reason : SessionReason (k.feed ended.source).told g (k.feed ended.source).failed
+      (k.show_failed ended.display) (k.write_failed ended.lines) why
+>>>>>>> theirs

@@ -119,10 +119,15 @@ fn load<F: Source>(
     config: &Config,
     source: &mut F,
 ) -> Result<FileHistory, ReadlineError>
+<<<<<<< ours
     ensures loaded { IfOk result (Loaded config.now (F.feed source.old)) }
     ensures fault { IfErr result (LoadRefused config.now (F.feed source.old)
         (F.feed source.new)) }
     ensures remains { Remains (F.feed source.old) (F.feed source.new) }
+=======
+    ensures loaded { IfOk result (Loaded (F.feed source.new).told config.now (F.feed source.old)) }
+    ensures fault { IfErr result (LoadFault (F.feed source.new).told config.now (F.feed source.old)) }
+>>>>>>> theirs
 {
     let mut history = FileHistory::with_config(alloc, config);
     history.load_from(alloc, source)?;
@@ -193,14 +198,19 @@ where
     T: Drop,
 {
     /// Opens a session: the history is loaded, no key is read, and nothing is drawn yet. Rows of
+<<<<<<< ours
     /// the display have `columns` cells. Where it is refused, the devices come back, the source of
     /// the history's text after what was read of it.
     #[inline(never)]
     pub fn open<F: Source + Drop>(
+=======
+    /// the display have `columns` cells.
+    pub fn open<F: Source>(
+>>>>>>> theirs
         alloc: Global,
         config: Config,
         bindings: Bindings,
-        history: F,
+        history: &mut F,
         helper: Option<H>,
         prompt: &str,
         source: S,
@@ -210,17 +220,18 @@ where
         text: T,
     ) -> Result<Self, Unopened<F, S, D, L, T>>
         requires columns { (2 ≤ columns) × (columns ≤ 1000) }
-        requires history { (F.feed history).failed ≡ false }
+        requires history { (F.feed history.old).failed ≡ false }
         requires source { (S.feed source).failed ≡ false }
         requires display { D.has_failed display ≡ false }
         requires lines { L.has_failed lines ≡ false }
         requires text { T.has_failed text ≡ false }
-        ensures desk { IfOk result (λ s. Opens S.feed config (F.feed history) helper source columns
-            display lines s.desk) }
+        ensures desk { IfOk result (λ s. Opens S.feed (F.feed history.new).told config (F.feed history.old)
+            helper source columns display lines s.desk) }
         ensures config { IfOk result (λ s. s.config ≡ config) }
         ensures bindings { IfOk result (λ s. s.bindings ≡ bindings) }
         ensures prompt { IfOk result (λ s. string_bytes s.prompt ≡ prompt.now) }
         ensures text { IfOk result (λ s. s.text ≡ text) }
+<<<<<<< ours
         ensures refused { IfErr result (Unopens F.feed config history source display lines text) }
     {
         let mut history = history;
@@ -232,6 +243,13 @@ where
             Ok(beginning) => beginning,
             Err(why) => return Err(Unopened::new(why, history, source, display, lines, text)),
         };
+=======
+        ensures fault { IfErr result (LoadFault (F.feed history.new).told config (F.feed history.old)) }
+    {
+        let history = load(alloc, &config, history)?;
+        let ring = KillRing::new(alloc, KILL_RING_SIZE)?;
+        let prompt = String::from_str(alloc, prompt)?;
+>>>>>>> theirs
         let mode = config.grapheme_cluster_mode();
         let desk = Desk {
             reader: KeyReader::new(source, config.edit_mode()),

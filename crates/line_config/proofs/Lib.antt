@@ -2,4 +2,5 @@ pub mod BufferLemmas
 pub mod FeedLemmas
 pub mod KnownLemmas
 pub mod Lent
+pub mod SaidLemmas
 pub mod Taking

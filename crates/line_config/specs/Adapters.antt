@@ -1,23 +1,42 @@
 -- What a clause reads of the devices over std's readers and writers. `remaining` and `contents` are
 -- std's ghost members of these.
-use Rattle.std.specs.Prelude.{ℕ, List, ◌++◌, Option, Bool}
+use Rattle.std.specs.Prelude.{ℕ, ◌+◌, ◌-◌, ◌^◌, List, ◌++◌, length, Option, Bool}
 use Rattle.line_config.specs.Buffer.{bytes_in}
+use Rattle.line_config.specs.Feed.{Feed}
+use Rattle.line_config.specs.Foretold.{left_of, agrees}
 use Rattle.line_config.specs.Known.{is_known, known_bytes}
 use Rattle.line_config.specs.declared.adapters.ReadSource.{ReadSource}
 use Rattle.line_config.specs.declared.adapters.WriteSink.{WriteSink}
+use Rattle.line_config.specs.declared.device.Last.{Last}
 
-abbrev pub reader_of : {R : Type 0} → ReadSource R → R
+abbrev pub reader_of : {R K : Type 0} → ReadSource R K → R
 reader_of s = s.reader
 
 -- what was read and is not given yet
-abbrev pub unread_of : {R : Type 0} → ReadSource R → List ℕ
+abbrev pub unread_of : {R K : Type 0} → ReadSource R K → List ℕ
 unread_of s = bytes_in s.unread
 
-abbrev pub source_told : {R : Type 0} → (R → Option (List ℕ)) → ReadSource R → Bool
-source_told remaining s = is_known (remaining s.reader)
+-- what its reads gave
+abbrev pub gave : {R K : Type 0} → ReadSource R K → List ℕ
+gave s = s.log.bytes
 
-abbrev pub source_coming : {R : Type 0} → (R → Option (List ℕ)) → ReadSource R → List ℕ
-source_coming remaining s = bytes_in s.unread ++ known_bytes (remaining s.reader)
+-- the end or the failure that a read met
+abbrev pub met : {R K : Type 0} → ReadSource R K → Option Last
+met s = s.met
+
+-- a source that is said to give all these bytes, and then this, once its reads gave some, of which
+-- some are unread, and met this
+abbrev pub feed_of : List ℕ → Last → List ℕ → List ℕ → Option Last → ℕ → Bool → Feed
+feed_of all last given unread met count failed = record {
+  told = agrees (left_of all given) last met;
+  coming = unread ++ known_bytes (left_of all given);
+  last = last;
+  bound = 2 ^ 63 - count + length unread;
+  failed = failed;
+}
+
+abbrev pub source_feed : {R K : Type 0} → List ℕ → Last → ReadSource R K → Feed
+source_feed all last s = feed_of all last s.log.bytes (bytes_in s.unread) s.met s.count s.failed
 
 abbrev pub writer_of : {W : Type 0} → WriteSink W → W
 writer_of s = s.writer

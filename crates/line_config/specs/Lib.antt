@@ -3,6 +3,8 @@ pub mod Buffer
 pub mod Config
 pub mod Device
 pub mod Feed
+pub mod Foretold
 pub mod Known
+pub mod Recorded
 pub mod Refusals
 pub mod Sending

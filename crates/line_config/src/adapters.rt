@@ -1,14 +1,18 @@
 //! Devices over std's readers and writers, each with a fixed array.
-ghost use Rattle.std.specs.Prelude.{◌≡◌, ◌++◌, ◌-◌, ◌^◌, ◌≤◌, ◌<◌, [], false, option_to_list, length, take, is_err, IsErr, IsTrue, Ok, None, IfOk, IfSome, OnOk, OnErr};
+ghost use Rattle.std.specs.Prelude.{◌≡◌, ℕ, List, ◌++◌, ◌-◌, ◌^◌, ◌≤◌, ◌<◌, [], false, option_to_list, length, take, is_err, IsErr, IsTrue, Ok, Some, None, IfOk, IfSome, OnOk, OnErr};
 ghost use Rattle.line_config.specs.Sending.{AppendsSome, Takes};
-ghost use Rattle.line_config.specs.Known.{known_bytes};
 ghost use Rattle.line_config.specs.Buffer.{bytes_in};
-ghost use Rattle.line_config.specs.declared.device.Last.TheVariants.{End};
+ghost use Rattle.line_config.specs.Known.{is_known, known_bytes};
+ghost use Rattle.line_config.specs.Feed.{Fills};
+ghost use Rattle.line_config.specs.declared.device.Last.{Last};
+ghost use Rattle.line_config.specs.declared.device.Last.TheVariants.{End, Failed};
 
 use crate::buffer::Buffer;
-use crate::device::{DeviceFailed, Sink, Source};
+use crate::device::{DeviceFailed, Last, Sink, Source};
+use crate::log::Log;
 use crate::retry::flush_retrying;
 use std::io::{Read, Write};
+use std::marker::{Brand, PhantomData};
 
 /// How many bytes a `ReadSource` takes of one read, at most.
 pub const READ_SIZE: usize = 256;
@@ -16,37 +20,61 @@ pub const READ_SIZE: usize = 256;
 /// How many bytes a `WriteSink` gathers before it sends them.
 pub const WRITE_SIZE: usize = 4096;
 
-const MOST_BYTES: u64 = 0x7FFF_FFFF_FFFF_FFFF;
+const MOST_BYTES: u64 = 0x7FFF_FFFF_FFFF_FF00;
 
-/// A source over std's `Read`.
+/// What is said of a source beforehand: its bytes, and what stands after them. No code knows it: a
+/// function over any `K: Keys` is proved for all of them.
+pub trait Keys {
+    ghost bytes: { List ℕ };
+
+    ghost last: { Last };
+}
+
+impl Keys for Brand {
+    ghost bytes = { [] };
+
+    ghost last = { End };
+}
+
+/// A source over std's `Read`, of which it is said that its reads give the bytes of `K`.
 ///
 /// The reader is asked where no byte is left of its last answer, and then once: so a byte that is
 /// there is given before more are asked for. Each error of the reader is a failure, except that a
-/// read which a signal interrupts is made anew. After 2^63 - 1 bytes the source fails.
+/// read which a signal interrupts is made anew. After the end or a failure it isn't asked again, nor
+/// after 2^63 - 256 bytes, where the source fails.
 #[derive(Drop)]
-pub struct ReadSource<R> {
+pub struct ReadSource<R, K> {
     reader: R,
+    log: Log,
     unread: Buffer<READ_SIZE>,
-    given: u64,
+    met: Option<Last>,
+    count: u64,
     failed: bool,
-    pub ghost counted: { given < 2 ^ 63 },
+    said: PhantomData<K>,
+    pub ghost emptied: { IsTrue failed → bytes_in unread ≡ [] },
+    pub ghost met_it: { IsTrue failed → met ≡ Some Failed },
 }
 
-impl<R: Read> ReadSource<R> {
-    ghost use Rattle.line_config.specs.Adapters.{reader_of, unread_of, source_told, source_coming};
+impl<R: Read, K: Keys> ReadSource<R, K> {
+    ghost use Rattle.line_config.specs.Adapters.{reader_of, unread_of, gave, met, source_feed};
 
     /// A source that gives what the reader gives.
     pub fn new(reader: R) -> Self
         ensures reader { reader_of result ≡ reader }
         ensures unread { unread_of result ≡ [] }
-        ensures bound { (⟦<ReadSource<R> as Source>⟧.feed result).bound ≡ 2 ^ 63 - 1 }
-        ensures fresh { (⟦<ReadSource<R> as Source>⟧.feed result).failed ≡ false }
+        ensures gave { gave result ≡ [] }
+        ensures met { met result ≡ None }
+        ensures bound { (⟦<ReadSource<R, K> as Source>⟧.feed result).bound ≡ 2 ^ 63 }
+        ensures fresh { (⟦<ReadSource<R, K> as Source>⟧.feed result).failed ≡ false }
     {
         ReadSource {
             reader,
+            log: Log::new(),
             unread: Buffer::new(),
-            given: 0,
+            met: None,
+            count: 0,
             failed: false,
+            said: PhantomData,
         }
     }
 
@@ -58,53 +86,65 @@ impl<R: Read> ReadSource<R> {
         (self.reader, self.unread)
     }
 
-    fn take_byte(&mut self) -> Result<Option<u8>, DeviceFailed>
-        ensures byte { IsTrue (source_told R.remaining self.old) → IfOk result (λ b.
-            source_coming R.remaining self.old ≡ option_to_list b
-            ++ source_coming R.remaining self.new) }
-        ensures end { IsTrue (source_told R.remaining self.old) → result ≡ Ok None
-            → source_coming R.remaining self.old ≡ [] }
-        ensures err { IsTrue (source_told R.remaining self.old)
-            → OnErr result (source_coming R.remaining self.new
-            ≡ source_coming R.remaining self.old) }
-        ensures told { IsTrue (source_told R.remaining self.old)
-            → IsTrue (source_told R.remaining self.new) }
-        ensures counts { IfOk result (λ b. IfSome b (λ _. self.old.given < self.new.given)) }
-        ensures keeps { self.old.given ≤ self.new.given }
+    // Reads once, where neither the end nor a failure was met.
+    fn fill(&mut self)
+        requires { unread_of self.old ≡ [] }
+        ensures gave { gave self.new ≡ gave self.old ++ unread_of self.new }
+        ensures reader { IsTrue (is_known (R.remaining (reader_of self.old)))
+            → gave self.new ++ known_bytes (R.remaining (reader_of self.new))
+            ≡ gave self.old ++ known_bytes (R.remaining (reader_of self.old)) }
+        ensures told { Fills (source_feed K.bytes K.last self.old)
+            (source_feed K.bytes K.last self.new) (unread_of self.new) (met self.new) }
+        ensures failed { self.new.failed ≡ self.old.failed }
     {
-        if self.given == MOST_BYTES {
-            return Err(DeviceFailed);
+        if self.met.is_some() {
+            return;
         }
+        if self.count > MOST_BYTES {
+            self.met = Some(Last::Failed);
+            return;
+        }
+        match self.unread.fill_from(&mut self.reader) {
+            Ok(()) => {
+                self.log.note(self.unread.as_slice());
+                self.count += self.unread.as_slice().len() as u64;
+                if self.unread.is_empty() {
+                    self.met = Some(Last::End);
+                }
+            }
+            Err(DeviceFailed) => self.met = Some(Last::Failed),
+        }
+    }
+
+    fn get_ready(&mut self)
+        ensures told { Fills (source_feed K.bytes K.last self.old)
+            (source_feed K.bytes K.last self.new) (unread_of self.new) (met self.new) }
+        ensures failed { self.new.failed ≡ self.old.failed }
+    {
         if self.unread.is_empty() {
-            self.unread.fill_from(&mut self.reader)?;
+            self.fill();
         }
-        let byte = self.unread.next_byte();
-        if byte.is_some() {
-            self.given += 1;
-        }
-        Ok(byte)
     }
 }
 
-impl<R: Read> Source for ReadSource<R> {
-    ghost use Rattle.line_config.specs.Adapters.{source_told, source_coming};
+impl<R: Read, K: Keys> Source for ReadSource<R, K> {
+    ghost use Rattle.line_config.specs.Adapters.{source_feed};
 
-    ghost feed = { λ s. record {
-      told = source_told R.remaining s;
-      steady = false;
-      coming = source_coming R.remaining s;
-      last = End;
-      bound = 2 ^ 63 - 1 - s.given;
-      failed = s.failed;
-    } };
+    ghost feed = { λ s. source_feed K.bytes K.last s };
 
     fn next_byte(&mut self) -> Result<Option<u8>, DeviceFailed> {
         if self.failed {
             return Err(DeviceFailed);
         }
-        let given = self.take_byte();
-        self.failed = given.is_err();
-        given
+        self.get_ready();
+        match (self.unread.next_byte(), self.met) {
+            (Some(byte), _) => Ok(Some(byte)),
+            (None, Some(Last::Failed)) => {
+                self.failed = true;
+                Err(DeviceFailed)
+            }
+            (None, _) => Ok(None),
+        }
     }
 
     fn failed(&self) -> bool {

@@ -44,7 +44,6 @@ impl<'a> SliceSource<'a> {
 impl<'a> Source for SliceSource<'a> {
     ghost feed = { λ s. record {
       told = true;
-      steady = true;
       coming = s.bytes.now;
       last = s.last;
       bound = length s.bytes.now;

@@ -100,9 +100,9 @@ module _ {Out H Hi K T : Type 0} {renderer : renderers.Renderer.Ghosts Out} {com
   -- at the head of the loop
   pub record Carries (A : Type 0) (custom : Custom) (indent : ℕ) (s : State Out H Hi K T renderer completer candidate hinter hint highlighter validator history) (i : Input) (r : Ring) (feed : KeyFeed)
       (m : State Out H Hi K T renderer completer candidate hinter hint highlighter validator history) (i' : Input) (r' : Ring) (feed' : KeyFeed) : Type 0 where
-    pub goes : IsTrue feed.told → (n : ℕ) → feed.bound < n → (info : Option (List ℕ))
+    pub goes : IsTrue feed'.told → (n : ℕ) → feed.bound < n → (info : Option (List ℕ))
         → Carried A feed.steady (λ heard. turns_left custom indent i r heard n info) (turns_doing custom indent i r feed.coming n) custom indent s feed.coming r m i' r' feed'
-    pub told : IsTrue feed.told → IsTrue feed'.told
+    pub told : IsTrue feed'.told → IsTrue feed.told
     pub steady : feed'.steady ≡ feed.steady
     pub keeps : feed'.bound ≤ feed.bound
 
@@ -145,8 +145,8 @@ module _ {Out H Hi K T : Type 0} {renderer : renderers.Renderer.Ghosts Out} {com
     pub carries_next : (kept : Custom) → kept ≡ custom → (m2 : State Out H Hi K T renderer completer candidate hinter hint highlighter validator history) (i2 : Input) (r2 : Ring) (feed2 : KeyFeed)
         → Takes kept indent m i1 r1 feed1 m2 i2 r2 feed2 (Ok Proceed) → Carries A custom indent s i r feed m2 i2 r2 feed2
     carries_next kept same m2 i2 r2 feed2 taken = let turn = subst (λ x. Takes x indent m i1 r1 feed1 m2 i2 r2 feed2 (Ok Proceed)) same taken in record {
-      goes = λ told n h info. next_by (λ heard. turns_left custom indent i r heard n info) (turns_doing custom indent i r feed.coming n) m2 i2 r2 feed2 (so_far.goes told n h info) turn.falls (turn.goes (so_far.told told));
-      told = λ h. turn.told (so_far.told h);
+      goes = λ told n h info. next_by (λ heard. turns_left custom indent i r heard n info) (turns_doing custom indent i r feed.coming n) m2 i2 r2 feed2 (so_far.goes (turn.told told) n h info) turn.falls (turn.goes told);
+      told = λ h. so_far.told (turn.told h);
       steady = turn.steady ∙ so_far.steady;
       keeps = let a : feed2.bound ≤ feed1.bound = turn.keeps in let b : feed1.bound ≤ feed.bound = so_far.keeps in omega arith;
     }
@@ -174,8 +174,8 @@ module _ {Out H Hi K T : Type 0} {renderer : renderers.Renderer.Ghosts Out} {com
     pub carries_ended : (kept : Custom) → kept ≡ custom → (t : State Out H Hi K T renderer completer candidate hinter hint highlighter validator history) (i2 : Input) (r2 : Ring) (feed2 : KeyFeed) (e : ReadlineError) (result : Result A ReadlineError)
         → IsErrAnd result (λ x. x ≡ e) → Takes kept indent m i1 r1 feed1 t i2 r2 feed2 (Err e) → ReadsLine custom (turns_left custom indent i r) (turns_doing custom indent i r feed.coming) s r feed t r2 feed2 result
     carries_ended kept same t i2 r2 feed2 e result is taken = let turn = subst (λ x. Takes x indent m i1 r1 feed1 t i2 r2 feed2 (Err e)) same taken in subst (λ x. ReadsLine custom (turns_left custom indent i r) (turns_doing custom indent i r feed.coming) s r feed t r2 feed2 x) (sym (is_err e result is)) (record {
-      goes = λ told n h info. ended_by (λ heard. turns_left custom indent i r heard n info) (turns_doing custom indent i r feed.coming n) t i2 r2 feed2 e (so_far.goes told n h info) (turn.goes (so_far.told told));
-      told = λ h. turn.told (so_far.told h);
+      goes = λ told n h info. ended_by (λ heard. turns_left custom indent i r heard n info) (turns_doing custom indent i r feed.coming n) t i2 r2 feed2 e (so_far.goes (turn.told told) n h info) (turn.goes told);
+      told = λ h. so_far.told (turn.told h);
       steady = turn.steady ∙ so_far.steady;
       keeps = let a : feed2.bound ≤ feed1.bound = turn.keeps in let b : feed1.bound ≤ feed.bound = so_far.keeps in omega arith;
       falls = tt;
@@ -204,8 +204,8 @@ module _ {Out H Hi K T : Type 0} {renderer : renderers.Renderer.Ghosts Out} {com
     pub carries_closed : (kept : Custom) → kept ≡ custom → (m2 t : State Out H Hi K T renderer completer candidate hinter hint highlighter validator history) (i2 : Input) (r2 : Ring) (feed2 : KeyFeed) (result : Result A ReadlineError)
         → Takes kept indent m i1 r1 feed1 m2 i2 r2 feed2 (Ok Submit) → IfErr result (λ e. e ≡ Display) → Does submitted m2 t result → ReadsLine custom (turns_left custom indent i r) (turns_doing custom indent i r feed.coming) s r feed t r2 feed2 result
     carries_closed kept same m2 t i2 r2 feed2 result taken why close = let turn = subst (λ x. Takes x indent m i1 r1 feed1 m2 i2 r2 feed2 (Ok Submit)) same taken in record {
-      goes = λ told n h info. closed_by (λ heard. turns_left custom indent i r heard n info) (turns_doing custom indent i r feed.coming n) m2 t i2 r2 feed2 result (so_far.goes told n h info) (turn.goes (so_far.told told)) why close;
-      told = λ h. turn.told (so_far.told h);
+      goes = λ told n h info. closed_by (λ heard. turns_left custom indent i r heard n info) (turns_doing custom indent i r feed.coming n) m2 t i2 r2 feed2 result (so_far.goes (turn.told told) n h info) (turn.goes told) why close;
+      told = λ h. so_far.told (turn.told h);
       steady = turn.steady ∙ so_far.steady;
       keeps = let a : feed2.bound ≤ feed1.bound = turn.keeps in let b : feed1.bound ≤ feed.bound = so_far.keeps in omega arith;
       falls = on_ok result (let a : feed2.bound < feed1.bound = turn.falls in let b : feed1.bound ≤ feed.bound = so_far.keeps in omega arith);

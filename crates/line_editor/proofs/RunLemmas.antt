@@ -219,7 +219,7 @@ module _ {Out H Hi K T : Type 0} {renderer : renderers.Renderer.Ghosts Out} {com
     stays_by n (inl read) = read.2.does.stays
     stays_by n (inr cut) = cut.stays
 
-    stays_told : IsTrue feed.told → Stays s t
+    stays_told : IsTrue feed'.told → Stays s t
     stays_told told = stays_by (suc feed.bound) (reads.goes told (suc feed.bound) (omega arith) tt)
 
     pub runs_by : Runs renderer.canvas (helps s) custom prompt helper (history.entries hist) config out ring feed ran ring' feed'

@@ -88,10 +88,10 @@ module _ {Out H Hi K T : Type 0} {renderer : renderers.Renderer.Ghosts Out}
       history) (ring : Ring) (feed : KeyFeed)
       (t : State Out H Hi K T renderer completer candidate hinter hint highlighter validator
       history) (ring' : Ring) (feed' : KeyFeed) (result : Result A ReadlineError) : Type 0 where
-    pub goes : IsTrue feed.told → (n : ℕ) → feed.bound < n → (i : I)
+    pub goes : IsTrue feed'.told → (n : ℕ) → feed.bound < n → (i : I)
         → Reading feed.steady (λ heard. line heard n i)
         (acts n) s t feed.coming feed'.coming ring ring' result
-    pub told : IsTrue feed.told → IsTrue feed'.told
+    pub told : IsTrue feed'.told → IsTrue feed.told
     pub steady : feed'.steady ≡ feed.steady
     pub keeps : feed'.bound ≤ feed.bound
     pub falls : OnOk result (feed'.bound < feed.bound)

@@ -90,20 +90,20 @@ pub record Runs {R H K T : Type 0} (canvas : Canvas R) (helps : Option H → Hel
     (prompt : List ℕ) (helper : Option H) (entries : List (List ℕ)) (config : Config) (out : R)
     (ring : Ring) (feed : KeyFeed) (ran : Ran R H K T) (ring' : Ring)
     (feed' : KeyFeed) : Type 0 where
-  pub goes : IsTrue feed.told → (n : ℕ) → feed.bound < n →
+  pub goes : IsTrue feed'.told → (n : ℕ) → feed.bound < n →
       let setting = setting_by (canvas.ruler out) prompt (helps helper) entries in
       (heard : Coming) × Heard feed.steady feed.coming heard
       × (WholeLine canvas (line_meant n setting custom config ring heard) out ran.out ring'
       feed'.coming (outcome_of ran)
       ⊎ CutLine canvas (acts_meant n setting custom config ring heard)
       (stage out heard ring) (stage ran.out feed'.coming ring') (outcome_of ran))
-  pub told : IsTrue feed.told → IsTrue feed'.told
+  pub told : IsTrue feed'.told → IsTrue feed.told
   pub steady : feed'.steady ≡ feed.steady
   pub keeps : feed'.bound ≤ feed.bound
   pub falls : OnOk ran.outcome (feed'.bound < feed.bound)
   -- what the helper gives and the ruler stay
-  pub helper_stays : IsTrue feed.told → helps ran.helper ≡ helps helper
-  pub ruler_stays : IsTrue feed.told → canvas.ruler ran.out ≡ canvas.ruler out
+  pub helper_stays : IsTrue feed'.told → helps ran.helper ≡ helps helper
+  pub ruler_stays : IsTrue feed'.told → canvas.ruler ran.out ≡ canvas.ruler out
   -- why there is no line, whatever is told
   pub reason : IfErr ran.outcome (λ e.
       let hook = IsFailing (helps ran.helper).hooks in

@@ -96,13 +96,13 @@ module _ {Out H Hi K T : Type 0} {renderer : renderers.Renderer.Ghosts Out}
       (t : State Out H Hi K T renderer completer candidate hinter hint highlighter validator
       history) (input' : Input) (ring' : Ring) (feed' : KeyFeed)
       (result : Result Status ReadlineError) : Type 0 where
-    pub goes : IsTrue feed.told →
+    pub goes : IsTrue feed'.told →
         ((heard : Coming) × HeardBy feed.steady feed.coming result heard
         × Whole (turning custom indent input ring heard) s t ring' input' feed'.coming result)
         ⊎ Cut
         (turn_doing custom indent input ring
         feed.coming) s t feed.coming feed'.coming ring ring' result
-    pub told : IsTrue feed.told → IsTrue feed'.told
+    pub told : IsTrue feed'.told → IsTrue feed.told
     pub steady : feed'.steady ≡ feed.steady
     pub keeps : feed'.bound ≤ feed.bound
     pub falls : OnOk result (feed'.bound < feed.bound)

@@ -303,17 +303,17 @@ impl FileHistory {
         row: &mut Vec<u8>,
         escapes: bool,
     ) -> Result<bool, ReadlineError>
-        ensures answer { IsTrue (S.feed source.old).told
-            → IsTrue (follows (S.feed source.old).steady result)
+        ensures answer { IsTrue (S.feed source.new).told
+            → IsTrue (follows true result)
             → let rows = text_rows (S.feed source.old).last (S.feed source.old).coming in
             result ≡ rows_answer (S.feed source.old).last rows
             (takes_all self.old (entries_of escapes (good_rows rows))) }
-        ensures left { IsTrue (S.feed source.old).told
-            → IsTrue (follows (S.feed source.old).steady result)
+        ensures left { IsTrue (S.feed source.new).told
+            → IsTrue (follows true result)
             → self.new ≡ filed_with_all self.old
             (entries_of escapes (good_rows
             (text_rows (S.feed source.old).last (S.feed source.old).coming))) }
-        ensures part { IsTrue (S.feed source.old).told
+        ensures part { IsTrue (S.feed source.new).told
             → AddsSome (entries_of escapes
             (good_rows (text_rows (S.feed source.old).last (S.feed source.old).coming))) self.old
             self.new }
@@ -321,8 +321,7 @@ impl FileHistory {
             → ReadsGood (S.feed source.old).coming (S.feed source.new).coming }
         ensures fault { IfErr result (λ e. (e ≡ Memory) ⊎ ((e ≡ HistoryText) ⊎ (e ≡ Reader))) }
         ensures failure { (S.feed source.new).failed ≡ says_reader result }
-        ensures told { IsTrue (S.feed source.old).told → IsTrue (S.feed source.new).told }
-        ensures steady { (S.feed source.new).steady ≡ (S.feed source.old).steady }
+        ensures told { IsTrue (S.feed source.new).told → IsTrue (S.feed source.old).told }
         ensures last { (S.feed source.new).last ≡ (S.feed source.old).last }
         ensures keeps { (S.feed source.new).bound ≤ (S.feed source.old).bound }
     {
@@ -345,15 +344,15 @@ impl FileHistory {
         alloc: Global,
         source: &mut S,
     ) -> Result<bool, ReadlineError>
-        ensures answer { IsTrue (S.feed source.old).told
-            → IsTrue (follows (S.feed source.old).steady result)
+        ensures answer { IsTrue (S.feed source.new).told
+            → IsTrue (follows true result)
             → result ≡ load_answer (S.feed source.old).last
             (text_rows (S.feed source.old).last (S.feed source.old).coming) self.old }
-        ensures left { IsTrue (S.feed source.old).told
-            → IsTrue (follows (S.feed source.old).steady result)
+        ensures left { IsTrue (S.feed source.new).told
+            → IsTrue (follows true result)
             → self.new ≡ load_leaves (S.feed source.old).last
             (text_rows (S.feed source.old).last (S.feed source.old).coming) self.old }
-        ensures part { IsTrue (S.feed source.old).told
+        ensures part { IsTrue (S.feed source.new).told
             → OnErr result (AddsSome (texts_of
             (good_rows (text_rows (S.feed source.old).last (S.feed source.old).coming))) self.old
             self.new) }
@@ -361,8 +360,7 @@ impl FileHistory {
             → ReadsGood (S.feed source.old).coming (S.feed source.new).coming }
         ensures fault { IfErr result (λ e. (e ≡ Memory) ⊎ ((e ≡ HistoryText) ⊎ (e ≡ Reader))) }
         ensures failure { (S.feed source.new).failed ≡ says_reader result }
-        ensures told { IsTrue (S.feed source.old).told → IsTrue (S.feed source.new).told }
-        ensures steady { (S.feed source.new).steady ≡ (S.feed source.old).steady }
+        ensures told { IsTrue (S.feed source.new).told → IsTrue (S.feed source.old).told }
         ensures last { (S.feed source.new).last ≡ (S.feed source.old).last }
         ensures keeps { (S.feed source.new).bound ≤ (S.feed source.old).bound }
     {

@@ -19,18 +19,16 @@ fn drop_return(row: &mut Vec<u8>)
 }
 
 fn next_byte<S: Source>(source: &mut S) -> Result<Option<u8>, ReadlineError>
-    ensures byte { IsTrue (S.feed source.old).told
+    ensures byte { IsTrue (S.feed source.new).told
         → IfOk result (λ b. (S.feed source.old).coming
         ≡ option_to_list b ++ (S.feed source.new).coming) }
-    ensures end { IsTrue (S.feed source.old).told → result ≡ Ok None
+    ensures end { IsTrue (S.feed source.new).told → result ≡ Ok None
         → ((S.feed source.old).coming ≡ []) × ((S.feed source.old).last ≡ End) }
-    ensures cut { IsTrue (S.feed source.old).told → IsTrue (S.feed source.old).steady
-        → result ≡ Err Reader
+    ensures cut { IsTrue (S.feed source.new).told → result ≡ Err Reader
         → ((S.feed source.old).coming ≡ []) × ((S.feed source.old).last ≡ Failed) }
     ensures fault { IfErr result (λ e. e ≡ Reader) }
     ensures failure { (S.feed source.new).failed ≡ is_err result }
-    ensures told { IsTrue (S.feed source.old).told → IsTrue (S.feed source.new).told }
-    ensures steady { (S.feed source.new).steady ≡ (S.feed source.old).steady }
+    ensures told { IsTrue (S.feed source.new).told → IsTrue (S.feed source.old).told }
     ensures last { (S.feed source.new).last ≡ (S.feed source.old).last }
     ensures falls { IfOk result (λ b. IfSome b
         (λ _. (S.feed source.new).bound < (S.feed source.old).bound)) }
@@ -43,14 +41,13 @@ fn next_byte<S: Source>(source: &mut S) -> Result<Option<u8>, ReadlineError>
 /// one. A carriage return right before the newline is no part of it.
 #[tactic(auto, using(crate::proofs::RowLemmas::row_ends))]
 pub(crate) fn read_row<S: Source>(source: &mut S, row: &mut Vec<u8>) -> Result<bool, ReadlineError>
-    ensures row { IsTrue (S.feed source.old).told
+    ensures row { IsTrue (S.feed source.new).told
         → IfOk result (λ is_row. text_rows (S.feed source.old).last (S.feed source.old).coming
         ≡ (if is_row then row.new.items
         ∷ text_rows (S.feed source.old).last (S.feed source.new).coming else [])) }
-    ensures end { IsTrue (S.feed source.old).told → result ≡ Ok false
+    ensures end { IsTrue (S.feed source.new).told → result ≡ Ok false
         → (S.feed source.old).last ≡ End }
-    ensures cut { IsTrue (S.feed source.old).told → IsTrue (S.feed source.old).steady
-        → result ≡ Err Reader
+    ensures cut { IsTrue (S.feed source.new).told → result ≡ Err Reader
         → ((S.feed source.old).last ≡ Failed)
         × (text_rows (S.feed source.old).last (S.feed source.old).coming ≡ []) }
     ensures good { IsTrue (S.feed source.old).told → result ≡ Ok true
@@ -60,8 +57,7 @@ pub(crate) fn read_row<S: Source>(source: &mut S, row: &mut Vec<u8>) -> Result<b
         → ReadsGood (S.feed source.old).coming (S.feed source.new).coming }
     ensures fault { IfErr result (λ e. (e ≡ Memory) ⊎ (e ≡ Reader)) }
     ensures failure { (S.feed source.new).failed ≡ says_reader result }
-    ensures told { IsTrue (S.feed source.old).told → IsTrue (S.feed source.new).told }
-    ensures steady { (S.feed source.new).steady ≡ (S.feed source.old).steady }
+    ensures told { IsTrue (S.feed source.new).told → IsTrue (S.feed source.old).told }
     ensures last { (S.feed source.new).last ≡ (S.feed source.old).last }
     ensures falls { result ≡ Ok true → (S.feed source.new).bound < (S.feed source.old).bound }
     ensures keeps { (S.feed source.new).bound ≤ (S.feed source.old).bound }

@@ -119,9 +119,9 @@ module _ {S X Y : Type 0} (d : KnownDisplay S) (custom : Custom) where
   pub then_follows : (s : Script X) (next : X → Input → Shown → Part Y) (x : X) (w w1 w2 : S) (i i1 i2 : Input) (f f1 f2 : KeyFeed) (r : Result Y ReadlineError) → Follows d custom s w i w1 i1 f f1 (Ok x)
       → Follows d custom (next x i1 (d.shown w1) f1.coming) w1 i1 w2 i2 f1 f2 r → Follows d custom (after next i (d.shown w) f.coming s) w i w2 i2 f f2 r
   then_follows s next x w w1 w2 i i1 i2 f f1 f2 r first second = record {
-    goes = λ told. goes_ok d f.steady next s x r w w1 w2 i i1 i2 f.coming f1.coming f2.coming (first.goes told)
-        (subst (λ (b : Bool). Goes d b (next x i1 (d.shown w1) f1.coming) w1 i1 f1.coming r w2 i2 f2.coming) first.steady (second.goes (first.told told)));
-    told = λ told. second.told (first.told told);
+    goes = λ told. goes_ok d f.steady next s x r w w1 w2 i i1 i2 f.coming f1.coming f2.coming (first.goes (second.told told))
+        (subst (λ (b : Bool). Goes d b (next x i1 (d.shown w1) f1.coming) w1 i1 f1.coming r w2 i2 f2.coming) first.steady (second.goes told));
+    told = λ told. first.told (second.told told);
     steady = second.steady ∙ first.steady;
     keeps = le_trans second.keeps first.keeps;
     mode = second.mode ∙ first.mode;
@@ -255,9 +255,9 @@ module _ {S X Y : Type 0} (d : KnownDisplay S) (item : InputItem) (at : Coming �
   pub read_follows : (custom : Custom) (x : X) (w w' : S) (i i' : Input) (f f1 f2 : KeyFeed) (r : Result Y ReadlineError) → ReadsBy item at f f1 (Ok x)
       → Follows d custom (next x f1.coming) w i w' i' f1 f2 r → Follows d custom (with_read item at next f.coming) w i w' i' f f2 r
   read_follows custom x w w' i i' f f1 f2 r first second = record {
-    goes = λ told. reads_on f.steady (at f.coming) (behind f.coming) w w' i i' f.coming f1.coming f2.coming x r (first.taken told)
-        (subst (λ (b : Bool). Goes d b (next x f1.coming) w i f1.coming r w' i' f2.coming) first.steady (second.goes (first.told told)));
-    told = λ told. second.told (first.told told);
+    goes = λ told. reads_on f.steady (at f.coming) (behind f.coming) w w' i i' f.coming f1.coming f2.coming x r (first.taken (second.told told))
+        (subst (λ (b : Bool). Goes d b (next x f1.coming) w i f1.coming r w' i' f2.coming) first.steady (second.goes told));
+    told = λ told. first.told (second.told told);
     steady = second.steady ∙ first.steady;
     keeps = le_trans second.keeps first.keeps;
     mode = second.mode;

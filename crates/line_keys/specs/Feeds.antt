@@ -39,9 +39,9 @@ ReadAs item steady given rest result c' =
 pub record ReadsBy {X : Type 0} (item : InputItem) (at : Coming → Result X ReadlineError)
     (feed feed' : KeyFeed)
     (result : Result X ReadlineError) : Type 0 where
-  pub taken : IsTrue feed.told
+  pub taken : IsTrue feed'.told
       → ReadAs item feed.steady (at feed.coming) (behind feed.coming) result feed'.coming
-  pub told : IsTrue feed.told → IsTrue feed'.told
+  pub told : IsTrue feed'.told → IsTrue feed.told
   pub steady : feed'.steady ≡ feed.steady
   pub keeps : feed'.bound ≤ feed.bound
   pub falls : OnOk result (feed'.bound < feed.bound)
@@ -51,7 +51,7 @@ pub record ReadsBy {X : Type 0} (item : InputItem) (at : Coming → Result X Rea
 -- a read whose answer isn't known
 pub record SomeRead {X : Type 0} (feed feed' : KeyFeed)
     (result : Result X ReadlineError) : Type 0 where
-  pub told : IsTrue feed.told → IsTrue feed'.told
+  pub told : IsTrue feed'.told → IsTrue feed.told
   pub steady : feed'.steady ≡ feed.steady
   pub keeps : feed'.bound ≤ feed.bound
   pub falls : OnOk result (feed'.bound < feed.bound)

@@ -4,7 +4,6 @@ use Rattle.std.proofs.lemmas.Bool.Decides.{nat_tests}
 use Rattle.line_config.specs.declared.device.Last.{Last}
 use Rattle.line_config.specs.declared.device.Last.TheVariants.{End, Failed}
 use Rattle.line_config.specs.declared.errors.ReadlineError.{ReadlineError}
-use Rattle.line_config.specs.declared.errors.ReadlineError.TheVariants.{Reader}
 use Rattle.line_config.specs.declared.settings.EditMode.{EditMode}
 use Rattle.line_config.specs.declared.settings.EditMode.TheVariants.{Emacs, Vi}
 use Rattle.line_keys.specs.Keys.{key_of, alt}
@@ -56,11 +55,3 @@ pub emacs_leaves : (mode : EditMode) (bytes : List ℕ) (b : ℕ) (bs : List ℕ
 emacs_leaves mode bytes b bs last e emacs begins is =
     let at : char_at (chars_of (b ∷ bs) last) ≡ Err e = rw begins at is in
     rw (emacs, begins) (alt_left b bs (chars_of (b ∷ bs) last) (readings Emacs (chars_of (b ∷ bs) last)) e at)
-
-emacs_cut : (read : List ℕ) → char_at (chars_of read Failed) ≡ Err Reader → key_answer (escape_from Emacs read Failed) ≡ Err Reader
-emacs_cut [] is = refl
-emacs_cut (b ∷ bs) is = alt_refused b bs (chars_of (b ∷ bs) Failed) (readings Emacs (chars_of (b ∷ bs) Failed)) Reader is
-
-pub emacs_cuts : (mode : EditMode) (read : List ℕ) → mode ≡ Emacs → char_at (chars_of read Failed) ≡ Err Reader
-    → key_answer (escape_from mode read Failed) ≡ Err Reader
-emacs_cuts mode read emacs is = rw emacs (emacs_cut read is)

@@ -1,9 +1,9 @@
 -- What a call of the reader makes of its items.
-use Rattle.std.proofs.Common.{◌≡◌, ℕ, Bool, true, false, List, inl, inr, Result, Ok, Err, IfOk, IfErr, refl, sym, ap, ◌∙◌}
+use Rattle.std.proofs.Common.{◌≡◌, ℕ, true, List, inl, inr, Result, Ok, Err, IfOk, IfErr, refl, sym, ap, ◌∙◌}
 use Rattle.line_config.specs.declared.errors.ReadlineError.{ReadlineError}
 use Rattle.line_config.specs.declared.errors.ReadlineError.TheVariants.{Eof, NotUtf8, PasteOutOfPlace, Reader, Memory}
 use Rattle.line_config.specs.Feed.{Feed}
-use Rattle.line_config.specs.Refusals.{MetBy}
+use Rattle.line_config.specs.Refusals.{Met}
 use Rattle.line_keys.specs.declared.key.KeyEvent.{KeyEvent}
 use Rattle.line_keys.specs.Coming.{Coming, Pressed, Pasted, Refused, key_at, paste_at, left_by, behind, left}
 use Rattle.line_keys.specs.Faults.{IsReaderRefusal}
@@ -13,41 +13,39 @@ use Rattle.line_screen.specs.Reader.{items_of}
 use Rattle.line_screen.specs.declared.reading.reader.KeyReader.{KeyReader}
 
 -- a refusal that the input gives
-as_given : {X : Type 0} (item : InputItem) (steady : Bool) (at : Coming → Result X ReadlineError) (c c' : Coming) (e : ReadlineError)
-    → c' ≡ left_by e → Err e ≡ at c → ReadAs item steady (at c) (behind c) (Err e) c'
-as_given item steady at c c' e err met = inl (met, err ∙ ap (λ r. left r (behind c)) met)
+as_given : {X : Type 0} (item : InputItem) (at : Coming → Result X ReadlineError) (c c' : Coming) (e : ReadlineError)
+    → c' ≡ left_by e → Err e ≡ at c → ReadAs item true (at c) (behind c) (Err e) c'
+as_given item at c c' e err met = inl (met, err ∙ ap (λ r. left r (behind c)) met)
 
-key_as : (steady : Bool) (c c' : Coming) (r : Result KeyEvent ReadlineError) → (MetBy steady r → r ≡ key_at c)
+key_as : (c c' : Coming) (r : Result KeyEvent ReadlineError) → (Met r → r ≡ key_at c)
     → IfOk r (λ k. c ≡ Pressed k c') → IfErr r (λ e. c' ≡ left_by e) → IfErr r (λ e. e ≡ Memory → c ≡ Refused Memory)
-    → IfErr r IsReaderRefusal → ReadAs Key steady (key_at c) (behind c) r c'
-key_as steady c c' (Ok k) met ok err memory kind = inl (met tt, rw ok refl)
-key_as true c c' (Err Reader) met ok err memory kind = as_given Key true key_at c c' Reader err (met (refl, λ h. refl))
-key_as false c c' (Err Reader) met ok err memory kind = inr (Reader, refl, refl, err)
-key_as steady c c' (Err Eof) met ok err memory kind = as_given Key steady key_at c c' Eof err (met (refl, λ h. absurd (cc)))
-key_as steady c c' (Err NotUtf8) met ok err memory kind = as_given Key steady key_at c c' NotUtf8 err (met (refl, λ h. absurd (cc)))
-key_as steady c c' (Err PasteOutOfPlace) met ok err memory kind = as_given Key steady key_at c c' PasteOutOfPlace err (met (refl, λ h. absurd (cc)))
-key_as steady c c' (Err Memory) met ok err memory kind = as_given Key steady key_at c c' Memory err (sym (ap key_at (memory refl)))
-key_as steady c c' (Err _) met ok err memory kind = absurd kind
+    → IfErr r IsReaderRefusal → ReadAs Key true (key_at c) (behind c) r c'
+key_as c c' (Ok k) met ok err memory kind = inl (met tt, rw ok refl)
+key_as c c' (Err Reader) met ok err memory kind = as_given Key key_at c c' Reader err (met refl)
+key_as c c' (Err Eof) met ok err memory kind = as_given Key key_at c c' Eof err (met refl)
+key_as c c' (Err NotUtf8) met ok err memory kind = as_given Key key_at c c' NotUtf8 err (met refl)
+key_as c c' (Err PasteOutOfPlace) met ok err memory kind = as_given Key key_at c c' PasteOutOfPlace err (met refl)
+key_as c c' (Err Memory) met ok err memory kind = as_given Key key_at c c' Memory err (sym (ap key_at (memory refl)))
+key_as c c' (Err _) met ok err memory kind = absurd kind
 
-text_as : (steady : Bool) (c c' : Coming) (r : Result (List ℕ) ReadlineError) → (MetBy steady r → r ≡ paste_at c)
+text_as : (c c' : Coming) (r : Result (List ℕ) ReadlineError) → (Met r → r ≡ paste_at c)
     → IfOk r (λ t. c ≡ Pasted t c') → IfErr r (λ e. c' ≡ left_by e) → IfErr r IsReaderRefusal
-    → ReadAs Paste steady (paste_at c) (behind c) r c'
-text_as steady c c' (Ok t) met ok err kind = inl (met tt, rw ok refl)
-text_as true c c' (Err Reader) met ok err kind = as_given Paste true paste_at c c' Reader err (met (refl, λ h. refl))
-text_as false c c' (Err Reader) met ok err kind = inr (Reader, refl, refl, err)
-text_as steady c c' (Err Eof) met ok err kind = as_given Paste steady paste_at c c' Eof err (met (refl, λ h. absurd (cc)))
-text_as steady c c' (Err NotUtf8) met ok err kind = as_given Paste steady paste_at c c' NotUtf8 err (met (refl, λ h. absurd (cc)))
-text_as steady c c' (Err PasteOutOfPlace) met ok err kind = as_given Paste steady paste_at c c' PasteOutOfPlace err (met (refl, λ h. absurd (cc)))
-text_as steady c c' (Err Memory) met ok err kind = inr (Memory, tt, refl, err)
-text_as steady c c' (Err _) met ok err kind = absurd kind
+    → ReadAs Paste true (paste_at c) (behind c) r c'
+text_as c c' (Ok t) met ok err kind = inl (met tt, rw ok refl)
+text_as c c' (Err Reader) met ok err kind = as_given Paste paste_at c c' Reader err (met refl)
+text_as c c' (Err Eof) met ok err kind = as_given Paste paste_at c c' Eof err (met refl)
+text_as c c' (Err NotUtf8) met ok err kind = as_given Paste paste_at c c' NotUtf8 err (met refl)
+text_as c c' (Err PasteOutOfPlace) met ok err kind = as_given Paste paste_at c c' PasteOutOfPlace err (met refl)
+text_as c c' (Err Memory) met ok err kind = inr (Memory, tt, refl, err)
+text_as c c' (Err _) met ok err kind = absurd kind
 
 pub key_reads : {S : Type 0} (feed : S → Feed) (old new : KeyReader S) (r : Result KeyEvent ReadlineError)
     → AnswersKey feed old new r → IsMemoryKept feed old r → ReadsBy Key key_at (items_of feed old) (items_of feed new) r
 key_reads feed old new r call memory =
     record {
-      taken = λ t. key_as (items_of feed old).steady (items_of feed old).coming (items_of feed new).coming r (call.answer t) (call.ok t) (call.err t) memory call.refused;
+      taken = λ t. key_as (items_of feed old).coming (items_of feed new).coming r (call.answer t) (call.ok t) (call.err t) memory call.refused;
       told = call.told;
-      steady = call.steady;
+      steady = refl;
       keeps = call.keeps;
       falls = call.falls;
       refused = call.refused;
@@ -58,9 +56,9 @@ pub text_reads : {S : Type 0} (feed : S → Feed) (old new : KeyReader S) (r : R
     → AnswersText feed old new r → ReadsBy Paste paste_at (items_of feed old) (items_of feed new) r
 text_reads feed old new r call =
     record {
-      taken = λ t. text_as (items_of feed old).steady (items_of feed old).coming (items_of feed new).coming r (call.answer t) (call.ok t) (call.err t) call.refused;
+      taken = λ t. text_as (items_of feed old).coming (items_of feed new).coming r (call.answer t) (call.ok t) (call.err t) call.refused;
       told = call.told;
-      steady = call.steady;
+      steady = refl;
       keeps = call.keeps;
       falls = call.falls;
       refused = call.refused;

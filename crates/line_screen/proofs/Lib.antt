@@ -1,6 +1,5 @@
 pub mod CallLemmas
 pub mod ControlLemmas
-pub mod Cuts
 pub mod Draws
 pub mod EncodedChars
 pub mod Ends

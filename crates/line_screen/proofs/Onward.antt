@@ -4,11 +4,10 @@ use Rattle.std.specs.Char.{encode_utf8}
 use Rattle.std.specs.Option.{option_to_list}
 use Rattle.line_config.specs.declared.device.DeviceFailed.{DeviceFailed}
 use Rattle.line_config.specs.declared.device.Last.{Last}
-use Rattle.line_config.specs.declared.device.Last.TheVariants.{End, Failed}
+use Rattle.line_config.specs.declared.device.Last.TheVariants.{End}
 use Rattle.line_config.specs.declared.errors.ReadlineError.{ReadlineError}
 use Rattle.line_config.specs.declared.errors.ReadlineError.TheVariants.{Eof, Reader}
 use Rattle.line_config.specs.Feed.{Feed}
-use Rattle.line_config.specs.Refusals.{MetBy}
 use Rattle.line_screen.specs.declared.reading.lookahead.Lookahead.{Lookahead}
 use Rattle.line_screen.specs.declared.reading.reader.KeyReader.{KeyReader}
 use Rattle.line_screen.specs.Characters.{ReadsFirst}
@@ -16,7 +15,7 @@ use Rattle.line_screen.specs.Input.{Chars, Next, chars_of, char_at, behind_char}
 use Rattle.line_screen.specs.KeyGrammar.{Readings, left_after, read_from}
 use Rattle.line_screen.specs.KeyReading.{ReadsPart}
 use Rattle.line_screen.specs.Reader.{feed_in, left_in, reads}
-use Rattle.line_screen.specs.Reading.{Cut, IsCut, IsKeyRefusal, ReadsChar, PeeksByte, unread}
+use Rattle.line_screen.specs.Reading.{IsKeyRefusal, ReadsChar, PeeksByte, unread}
 use Rattle.line_screen.proofs.EncodedChars.{char_read}
 use Rattle.line_screen.proofs.ReadChars.{chars_are_encoded}
 use Rattle.std.proofs.lemmas.Result.{IfOk-weaker}
@@ -37,15 +36,6 @@ leads_then d d' d'' a b c one two =
       split = one.split ∙ ap (λ bytes. one.read ++ bytes) two.split ∙ sym (append_assoc one.read two.read c);
       same = λ bytes last.
           ap (λ xs. d xs last) (append_assoc one.read two.read bytes) ∙ one.same (two.read ++ bytes) last ∙ two.same bytes last;
-    }
-
-leads_cut : {R A : Type 0} (answer : R → Result A ReadlineError) (d d' : List ℕ → Last → R) (a b c : List ℕ)
-    → Leads d d' a b → Cut answer d' b c → Cut answer d a c
-leads_cut answer d d' a b c one cut =
-    record {
-      read = one.read ++ cut.read;
-      split = one.split ∙ ap (λ bytes. one.read ++ bytes) cut.split ∙ sym (append_assoc one.read cut.read c);
-      fails = ap answer (one.same cut.read Failed) ∙ cut.fails;
     }
 
 -- a character was read
@@ -69,9 +59,8 @@ refusal X e = Err e
 
 -- a reader that has read on, and what leads there
 pub record On {S : Type 0} (feed : S → Feed) (d d' : List ℕ → Last → Readings) (a m : KeyReader S) : Type 0 where
-  pub leads : IsTrue (feed_in feed a).told → Leads d d' (left_in feed a) (left_in feed m)
-  pub told : IsTrue (feed_in feed a).told → IsTrue (feed_in feed m).told
-  pub steady : (feed_in feed m).steady ≡ (feed_in feed a).steady
+  pub leads : IsTrue (feed_in feed m).told → Leads d d' (left_in feed a) (left_in feed m)
+  pub told : IsTrue (feed_in feed m).told → IsTrue (feed_in feed a).told
   pub last : (feed_in feed m).last ≡ (feed_in feed a).last
   pub works : (feed_in feed a).failed ≡ false → (feed_in feed m).failed ≡ false
   pub keeps : (feed_in feed m).bound ≤ (feed_in feed a).bound
@@ -84,7 +73,6 @@ on_here feed d a none =
     record {
       leads = λ t. record { read = []; split = refl; same = λ bytes last. refl };
       told = λ t. t;
-      steady = refl;
       last = refl;
       works = λ fine. fine;
       keeps = omega arith;
@@ -94,7 +82,7 @@ on_here feed d a none =
     }
 
 module _ {S : Type 0} (feed : S → Feed) (d : List ℕ → Last → Readings) where
-  char_is : (c : ℕ) (m n : Lookahead S) → ReadsChar feed chars_of m n (Ok c) → IsTrue (unread feed m).told
+  char_is : (c : ℕ) (m n : Lookahead S) → ReadsChar feed chars_of m n (Ok c) → IsTrue (unread feed n).told
       → chars_of (unread feed m).coming (unread feed m).last ≡ Next c (unread feed n).coming (chars_of (unread feed n).coming (unread feed m).last)
   char_is c m n char t =
       char.ok t ∙ ap (λ last. Next c (unread feed n).coming (chars_of (unread feed n).coming last)) char.last
@@ -108,10 +96,9 @@ module _ {S : Type 0} (feed : S → Feed) (d : List ℕ → Last → Readings) w
   on_char f g c a m b on char mode past owed goes =
       record {
         leads = λ t.
-            leads_then d (λ bytes last. f (chars_of bytes last)) g (left_in feed a) (left_in feed m) (left_in feed b) (on.leads t)
-            (leads_char f g c (left_in feed m) (left_in feed b) (feed_in feed m).last (char_is c m.bytes b.bytes char (on.told t)) goes);
-        told = λ t. char.told (on.told t);
-        steady = char.steady ∙ on.steady;
+            leads_then d (λ bytes last. f (chars_of bytes last)) g (left_in feed a) (left_in feed m) (left_in feed b) (on.leads (char.told t))
+            (leads_char f g c (left_in feed m) (left_in feed b) (feed_in feed m).last (char_is c m.bytes b.bytes char t) goes);
+        told = λ t. on.told (char.told t);
         last = char.last ∙ on.last;
         works = λ fine. char.failure (on.works fine);
         keeps = let one = on.keeps in let two = char.keeps in omega arith;
@@ -129,14 +116,14 @@ module _ {S : Type 0} (feed : S → Feed) (d : List ℕ → Last → Readings) w
   on_peek g byte a b n r none peek is bytes mode past owed goes =
       let kept : n.kept ≡ Some byte = rw is at peek.kept in
       let fine : (feed_in feed a).failed ≡ false → (unread feed n).failed ≡ false = rw is at peek.failure in
+      let back : IsTrue (feed_in feed b).told → IsTrue (unread feed n).told = λ t. subst (λ l. IsTrue (unread feed l).told) bytes t in
       (record {
         leads = λ t. record {
           read = byte ∷ [];
-          split = sym (peek.read t) ∙ ap (λ k. option_to_list k ++ (feed n.source).coming) kept ∙ ap (λ l. byte ∷ (unread feed l).coming) (sym bytes);
+          split = sym (peek.read (back t)) ∙ ap (λ k. option_to_list k ++ (feed n.source).coming) kept ∙ ap (λ l. byte ∷ (unread feed l).coming) (sym bytes);
           same = goes;
         };
-        told = λ t. subst (λ l. IsTrue (unread feed l).told) (sym bytes) (peek.told t);
-        steady = ap (λ l. (unread feed l).steady) bytes ∙ peek.steady;
+        told = λ t. peek.told (back t);
         last = ap (λ l. (unread feed l).last) bytes ∙ peek.last;
         works = λ h. ap (λ l. (unread feed l).failed) bytes ∙ fine h;
         keeps =
@@ -155,7 +142,6 @@ module _ {S : Type 0} (feed : S → Feed) (d : List ℕ → Last → Readings) w
       record {
         leads = λ t. record { read = []; split = sym (peek.read t); same = λ bytes last. refl };
         told = peek.told;
-        steady = peek.steady;
         last = peek.last;
         works = λ h. peek.failure h ∙ fine;
         keeps = peek.keeps;
@@ -170,26 +156,23 @@ module _ {S : Type 0} (feed : S → Feed) (d : List ℕ → Last → Readings) w
     pub on_reads : (d' : List ℕ → Last → Readings) (a m b : KeyReader S) (r : Result X ReadlineError) → On feed d d' a m
         → ReadsPart feed item answer_of kinds d' m b r → ReadsPart feed item answer_of kinds d a b r
     on_reads d' a m b r on reads =
-        let same : IsTrue (feed_in feed a).told → d (left_in feed a) (feed_in feed a).last ≡ d' (left_in feed m) (feed_in feed m).last =
+        let same : IsTrue (feed_in feed m).told → d (left_in feed a) (feed_in feed a).last ≡ d' (left_in feed m) (feed_in feed m).last =
         λ t. leads_is d d' (left_in feed a) (left_in feed m) (feed_in feed a).last (on.leads t) ∙ ap (d' (left_in feed m)) (sym on.last) in
-        let met : MetBy (feed_in feed a).steady r → MetBy (feed_in feed m).steady r = λ h. subst (λ s. MetBy s r) (sym on.steady) h in
         record {
-          ok = λ t. IfOk-weaker r _ _ (λ x h. same t ∙ h) (reads.ok (on.told t));
-          answer = λ t h. reads.answer (on.told t) (met h) ∙ ap answer_of (sym (same t));
-          left = λ t h. ap left_after (same t) ∙ reads.left (on.told t) (met h);
-          spent = λ t h. reads.spent (on.told t) h;
-          ends = λ t h. sym on.last ∙ reads.ends (on.told t) h;
+          ok = λ t. IfOk-weaker r _ _ (λ x h. same (reads.told t) ∙ h) (reads.ok t);
+          answer = λ t h. reads.answer t h ∙ ap answer_of (sym (same (reads.told t)));
+          left = λ t h. ap left_after (same (reads.told t)) ∙ reads.left t h;
+          spent = reads.spent;
+          ends = λ t h. sym on.last ∙ reads.ends t h;
           owed = reads.owed;
           mode = reads.mode ∙ on.mode;
           past = reads.past ∙ on.past;
           refused = reads.refused;
           reason = reads.reason;
           failure = λ fine. reads.failure (on.works fine);
-          told = λ t. reads.told (on.told t);
-          steady = reads.steady ∙ on.steady;
+          told = λ t. on.told (reads.told t);
           last = reads.last ∙ on.last;
           keeps = let one = on.keeps in let two = reads.keeps in omega arith;
-          cut = λ t is. leads_cut answer_of d d' (left_in feed a) (left_in feed m) (left_in feed b) (on.leads t) (reads.cut (on.told t) is);
         }
 
     -- a character ends the item
@@ -200,10 +183,10 @@ module _ {S : Type 0} (feed : S → Feed) (d : List ℕ → Last → Readings) w
         → ((bytes : List ℕ) (last : Last) → f (Next c bytes (chars_of bytes last)) ≡ item x bytes (read_from m.mode b.owed (chars_of bytes last)))
         → ReadsPart feed item answer_of kinds d a b (Ok x)
     on_ends f c x a m b answers leaves on char mode past goes =
-        let here : IsTrue (feed_in feed a).told → d (left_in feed a) (feed_in feed a).last ≡ item x (left_in feed b) (reads feed b) =
-        λ t. leads_is d (λ bytes last. f (chars_of bytes last)) (left_in feed a) (left_in feed m) (feed_in feed a).last (on.leads t)
+        let here : IsTrue (feed_in feed b).told → d (left_in feed a) (feed_in feed a).last ≡ item x (left_in feed b) (reads feed b) =
+        λ t. leads_is d (λ bytes last. f (chars_of bytes last)) (left_in feed a) (left_in feed m) (feed_in feed a).last (on.leads (char.told t))
         ∙ ap (λ last. f (chars_of (left_in feed m) last)) (sym on.last)
-        ∙ ap f (char_is c m.bytes b.bytes char (on.told t)) ∙ goes (left_in feed b) (feed_in feed m).last
+        ∙ ap f (char_is c m.bytes b.bytes char t) ∙ goes (left_in feed b) (feed_in feed m).last
         ∙ ap (λ w. item x (left_in feed b) (read_from w b.owed (chars_of (left_in feed b) (feed_in feed m).last))) (sym mode)
         ∙ ap (λ last. item x (left_in feed b) (read_from b.mode b.owed (chars_of (left_in feed b) last))) (sym char.last) in
         record {
@@ -218,11 +201,9 @@ module _ {S : Type 0} (feed : S → Feed) (d : List ℕ → Last → Readings) w
           refused = tt;
           reason = λ h. absurd (cc);
           failure = λ fine. char.failure (on.works fine);
-          told = λ t. char.told (on.told t);
-          steady = char.steady ∙ on.steady;
+          told = λ t. on.told (char.told t);
           last = char.last ∙ on.last;
           keeps = let one = on.keeps in let two = char.keeps in omega arith;
-          cut = λ t h. absurd (cc);
         }
 
     same_refusal : (e e' : ReadlineError) → refusal X e ≡ refusal X e' → e ≡ e'
@@ -233,14 +214,12 @@ module _ {S : Type 0} (feed : S → Feed) (d : List ℕ → Last → Readings) w
         → (char_at (chars_of (left_in feed m) (feed_in feed m).last) ≡ Err e → answer_of (d' (left_in feed m) (feed_in feed m).last) ≡ Err e)
         → (char_at (chars_of (left_in feed m) (feed_in feed m).last) ≡ Err e
         → left_after (d' (left_in feed m) (feed_in feed m).last) ≡ behind_char (chars_of (left_in feed m) (feed_in feed m).last))
-        → ((read : List ℕ) → char_at (chars_of read Failed) ≡ Err Reader → answer_of (d' read Failed) ≡ Err Reader)
         → ((e : ReadlineError) → IsKeyRefusal e → kinds e) → On feed d d' a m → ReadsChar feed chars_of m.bytes b.bytes (Err e)
         → b.mode ≡ m.mode → b.refused ≡ m.refused → b.owed ≡ m.owed
-        → (IsTrue (feed_in feed m).told → no_char e ≡ no_char Eof → (feed_in feed b).coming ≡ [])
-        → (IsTrue (feed_in feed m).told → no_char e ≡ no_char Eof → (feed_in feed m).last ≡ End)
-        → IsCut char_at chars_of (feed_in feed m) (feed_in feed b) (no_char e)
+        → (IsTrue (feed_in feed b).told → no_char e ≡ no_char Eof → (feed_in feed b).coming ≡ [])
+        → (IsTrue (feed_in feed b).told → no_char e ≡ no_char Eof → (feed_in feed m).last ≡ End)
         → ReadsPart feed item answer_of kinds d a b (Err e)
-    on_stops_at d' a m b e refuses leaves cuts kind on char mode past owed spent ends cut =
+    on_stops_at d' a m b e refuses leaves kind on char mode past owed spent ends =
         on_reads d' a m b (Err e) on
         (record {
           ok = λ t. tt;
@@ -255,12 +234,8 @@ module _ {S : Type 0} (feed : S → Feed) (d : List ℕ → Last → Readings) w
           reason = λ h. char.reason (ap no_char (same_refusal e Reader h));
           failure = char.failure;
           told = char.told;
-          steady = char.steady;
           last = char.last;
           keeps = char.keeps;
-          cut = λ t h.
-              let here = cut t (ap no_char (same_refusal e Reader h)) in
-              record { read = here.read; split = here.split; fails = cuts here.read here.fails };
         })
 
     pub on_stops : (f : Chars → Readings) → ((chars : Chars) (e : ReadlineError) → char_at chars ≡ Err e → answer_of (f chars) ≡ Err e)
@@ -268,10 +243,9 @@ module _ {S : Type 0} (feed : S → Feed) (d : List ℕ → Last → Readings) w
         → ((e : ReadlineError) → IsKeyRefusal e → kinds e) → (a m b : KeyReader S) (e : ReadlineError)
         → On feed d (λ bytes last. f (chars_of bytes last)) a m → ReadsChar feed chars_of m.bytes b.bytes (Err e)
         → b.mode ≡ m.mode → b.refused ≡ m.refused → b.owed ≡ m.owed
-        → (IsTrue (feed_in feed m).told → no_char e ≡ no_char Eof → (feed_in feed b).coming ≡ [])
-        → (IsTrue (feed_in feed m).told → no_char e ≡ no_char Eof → (feed_in feed m).last ≡ End)
-        → IsCut char_at chars_of (feed_in feed m) (feed_in feed b) (no_char e)
+        → (IsTrue (feed_in feed b).told → no_char e ≡ no_char Eof → (feed_in feed b).coming ≡ [])
+        → (IsTrue (feed_in feed b).told → no_char e ≡ no_char Eof → (feed_in feed m).last ≡ End)
         → ReadsPart feed item answer_of kinds d a b (Err e)
     on_stops f refuses leaves kind a m b e =
         on_stops_at (λ bytes last. f (chars_of bytes last)) a m b e (refuses (chars_of (left_in feed m) (feed_in feed m).last) e)
-        (leaves (chars_of (left_in feed m) (feed_in feed m).last) e) (λ read h. refuses (chars_of read Failed) Reader h) kind
+        (leaves (chars_of (left_in feed m) (feed_in feed m).last) e) kind

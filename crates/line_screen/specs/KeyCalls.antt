@@ -3,38 +3,32 @@ use Rattle.std.specs.Prelude.{◌≡◌, ℕ, ◌<◌, ◌≤◌, Bool, not, ◌
 use Rattle.line_config.specs.declared.errors.ReadlineError.{ReadlineError}
 use Rattle.line_config.specs.declared.errors.ReadlineError.TheVariants.{Reader, Memory}
 use Rattle.line_config.specs.Feed.{Feed}
-use Rattle.line_config.specs.Refusals.{MetBy}
+use Rattle.line_config.specs.Refusals.{Met}
 use Rattle.line_keys.specs.declared.key.KeyEvent.{KeyEvent}
 use Rattle.line_keys.specs.Coming.{Coming, Pressed, Pasted, Refused, key_at, paste_at, left_by}
 use Rattle.line_keys.specs.Faults.{IsReaderRefusal}
-use Rattle.line_screen.specs.Input.{Next, behind_char, chars_of}
-use Rattle.line_screen.specs.KeyGrammar.{left_after, read_from, readings, coming_of}
+use Rattle.line_screen.specs.Input.{Next, behind_char}
+use Rattle.line_screen.specs.KeyGrammar.{left_after, readings, coming_of}
 use Rattle.line_screen.specs.KeyReading.{KeepsFor}
-use Rattle.line_screen.specs.Reader.{kept_of, feed_in, left_in, chars_in, reads, coming_in, coming_by, left_by_call, char_answer}
-use Rattle.line_screen.specs.Reading.{IsCut}
+use Rattle.line_screen.specs.Reader.{kept_of, feed_in, left_in, chars_in, reads, coming_in, left_by_call, char_answer}
 use Rattle.line_screen.specs.declared.reading.reader.KeyReader.{KeyReader}
 
--- an item is asked for: the answer, what is to come then, and the bytes that are left, where the
--- source's failure comes or is foretold; and where it fails otherwise, what was read
+-- an item is asked for: the answer, what is to come then, and the bytes that are left
 pub record AnswersCall {S X : Type 0} (feed : S → Feed) (item : X → Coming → Coming)
     (at : Coming → Result X ReadlineError)
     (misplaced : Bool) (old new : KeyReader S) (result : Result X ReadlineError) : Type 0 where
-  pub answer : IsTrue (feed_in feed old).told → MetBy (feed_in feed old).steady result
+  pub answer : IsTrue (feed_in feed new).told → Met result
       → result ≡ at (coming_in feed old)
-  pub ok : IsTrue (feed_in feed old).told
+  pub ok : IsTrue (feed_in feed new).told
       → IfOk result (λ x. coming_in feed old ≡ item x (coming_in feed new))
-  pub err : IsTrue (feed_in feed old).told → IfErr result (λ e. coming_in feed new ≡ left_by e)
-  pub left : IsTrue (feed_in feed old).told → MetBy (feed_in feed old).steady result
+  pub err : IsTrue (feed_in feed new).told → IfErr result (λ e. coming_in feed new ≡ left_by e)
+  pub left : IsTrue (feed_in feed new).told → Met result
       → left_in feed new ≡ left_by_call (feed_in feed old).failed old.refused misplaced
       (left_in feed old)
       (left_after (reads feed old))
-  pub cut : IsCut (λ left. at (coming_by (feed_in feed old).failed old.refused left))
-      (λ bytes last. read_from old.mode old.owed (chars_of bytes last)) (feed_in feed old)
-      (feed_in feed new) result
   pub refused : IfErr result IsReaderRefusal
   pub reason : IfErr result (λ e. e ≡ Reader → IsTrue (feed_in feed new).failed)
-  pub told : IsTrue (feed_in feed old).told → IsTrue (feed_in feed new).told
-  pub steady : (feed_in feed new).steady ≡ (feed_in feed old).steady
+  pub told : IsTrue (feed_in feed new).told → IsTrue (feed_in feed old).told
   pub falls : OnOk result ((feed_in feed new).bound < (feed_in feed old).bound)
   pub keeps : (feed_in feed new).bound ≤ (feed_in feed old).bound
 
@@ -50,22 +44,19 @@ AnswersText feed old new result = AnswersCall feed Pasted paste_at (not old.owed
 pub record AnswersChar {S : Type 0} (feed : S → Feed) (old new : KeyReader S)
     (result : Result ℕ ReadlineError)
     : Type 0 where
-  pub answer : IsTrue (feed_in feed old).told → MetBy (feed_in feed old).steady result
+  pub answer : IsTrue (feed_in feed new).told → Met result
       → result ≡ char_answer (feed_in feed old).failed old.refused old.owed (chars_in feed old)
-  pub ok : IsTrue (feed_in feed old).told
+  pub ok : IsTrue (feed_in feed new).told
       → IfOk result (λ c. chars_in feed old ≡ Next c (left_in feed new) (chars_in feed new))
   pub rest : OnOk result (coming_in feed new ≡ coming_of (readings old.mode (chars_in feed new)))
-  pub err : IsTrue (feed_in feed old).told → IfErr result (λ e. coming_in feed new ≡ left_by e)
-  pub left : IsTrue (feed_in feed old).told → MetBy (feed_in feed old).steady result
+  pub err : IsTrue (feed_in feed new).told → IfErr result (λ e. coming_in feed new ≡ left_by e)
+  pub left : IsTrue (feed_in feed new).told → Met result
       → left_in feed new ≡ left_by_call (feed_in feed old).failed old.refused old.owed
       (left_in feed old)
       (behind_char (chars_in feed old))
-  pub cut : IsCut (char_answer (feed_in feed old).failed old.refused old.owed) chars_of
-      (feed_in feed old) (feed_in feed new) result
   pub refused : IfErr result IsReaderRefusal
   pub reason : IfErr result (λ e. e ≡ Reader → IsTrue (feed_in feed new).failed)
-  pub told : IsTrue (feed_in feed old).told → IsTrue (feed_in feed new).told
-  pub steady : (feed_in feed new).steady ≡ (feed_in feed old).steady
+  pub told : IsTrue (feed_in feed new).told → IsTrue (feed_in feed old).told
   pub falls : OnOk result ((feed_in feed new).bound < (feed_in feed old).bound)
   pub keeps : (feed_in feed new).bound ≤ (feed_in feed old).bound
 

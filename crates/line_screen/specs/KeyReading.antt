@@ -7,13 +7,13 @@ use Rattle.line_config.specs.declared.errors.ReadlineError.{ReadlineError}
 use Rattle.line_config.specs.declared.errors.ReadlineError.TheVariants.{Eof, Reader}
 use Rattle.line_config.specs.declared.settings.EditMode.{EditMode}
 use Rattle.line_config.specs.Feed.{Feed}
-use Rattle.line_config.specs.Refusals.{MetBy}
+use Rattle.line_config.specs.Refusals.{Met}
 use Rattle.line_keys.specs.declared.key.KeyEvent.{KeyEvent}
 use Rattle.line_keys.specs.Faults.{IsReaderRefusal}
 use Rattle.line_screen.specs.Input.{chars_of, is_failure}
 use Rattle.line_screen.specs.KeyGrammar.{Readings, Key, Paste, esc, readings, in_escape, in_sequence, in_paste, key_answer, text_answer, left_after}
 use Rattle.line_screen.specs.Reader.{kept_of, feed_in, left_in, reads}
-use Rattle.line_screen.specs.Reading.{IsKeyRefusal, IsCut}
+use Rattle.line_screen.specs.Reading.{IsKeyRefusal}
 use Rattle.line_screen.specs.declared.reading.reader.KeyReader.{KeyReader}
 
 -- what bytes read as from a place on: at a key, after ESC, in a control sequence after this much of
@@ -39,33 +39,30 @@ KeepsFor May new (Err e) = kept_of new ≡ None
 abbrev pub IsEsc : KeyEvent → Type 0
 IsEsc k = k ≡ esc
 
--- an item is read by a definition of readings, where the source's failure comes or is foretold: the
--- item, the bytes left and what they read as are the definition's, or the refusal and the bytes
--- left
+-- an item is read by a definition of readings: the item, the bytes left and what they read as are
+-- the definition's, or the refusal and the bytes left
 pub record ReadsPart {S X : Type 0} (feed : S → Feed) (item : X → List ℕ → Readings → Readings)
     (answer_of : Readings → Result X ReadlineError) (IsRefusal : ReadlineError → Type 0)
     (definition : List ℕ → Last → Readings) (old new : KeyReader S)
     (result : Result X ReadlineError) : Type 0 where
-  pub ok : IsTrue (feed_in feed old).told
+  pub ok : IsTrue (feed_in feed new).told
       → IfOk result (λ x. definition (left_in feed old) (feed_in feed old).last
       ≡ item x (left_in feed new) (reads feed new))
-  pub answer : IsTrue (feed_in feed old).told → MetBy (feed_in feed old).steady result
+  pub answer : IsTrue (feed_in feed new).told → Met result
       → result ≡ answer_of (definition (left_in feed old) (feed_in feed old).last)
-  pub left : IsTrue (feed_in feed old).told → MetBy (feed_in feed old).steady result
+  pub left : IsTrue (feed_in feed new).told → Met result
       → left_after (definition (left_in feed old) (feed_in feed old).last) ≡ left_in feed new
-  pub spent : IsTrue (feed_in feed old).told → result ≡ Err Eof → left_in feed new ≡ []
-  pub ends : IsTrue (feed_in feed old).told → result ≡ Err Eof → (feed_in feed old).last ≡ End
+  pub spent : IsTrue (feed_in feed new).told → result ≡ Err Eof → left_in feed new ≡ []
+  pub ends : IsTrue (feed_in feed new).told → result ≡ Err Eof → (feed_in feed old).last ≡ End
   pub owed : OnErr result (new.owed ≡ false)
   pub mode : new.mode ≡ old.mode
   pub past : new.refused ≡ old.refused
   pub refused : IfErr result IsRefusal
   pub reason : result ≡ Err Reader → IsTrue (feed_in feed new).failed
   pub failure : (feed_in feed old).failed ≡ false → (feed_in feed new).failed ≡ is_failure result
-  pub told : IsTrue (feed_in feed old).told → IsTrue (feed_in feed new).told
-  pub steady : (feed_in feed new).steady ≡ (feed_in feed old).steady
+  pub told : IsTrue (feed_in feed new).told → IsTrue (feed_in feed old).told
   pub last : (feed_in feed new).last ≡ (feed_in feed old).last
   pub keeps : (feed_in feed new).bound ≤ (feed_in feed old).bound
-  pub cut : IsCut answer_of definition (feed_in feed old) (feed_in feed new) result
 
 abbrev pub ReadsKey : {S : Type 0} → (S → Feed) → (List ℕ → Last → Readings) → KeyReader S
     → KeyReader S

@@ -6,7 +6,7 @@ use Rattle.line_config.specs.declared.device.Last.TheVariants.{End, Failed}
 use Rattle.line_config.specs.declared.errors.ReadlineError.{ReadlineError}
 use Rattle.line_config.specs.declared.errors.ReadlineError.TheVariants.{Eof, NotUtf8, Reader}
 use Rattle.line_config.specs.Feed.{Feed}
-use Rattle.line_config.specs.Refusals.{MetBy}
+use Rattle.line_config.specs.Refusals.{Met}
 use Rattle.line_screen.specs.Unread.{with_kept}
 use Rattle.line_screen.specs.declared.reading.lookahead.Lookahead.{Lookahead}
 use Rattle.line_screen.specs.declared.reading.utf8.Awaited.{Awaited}
@@ -19,20 +19,6 @@ IsKeyRefusal NotUtf8 = ⊤
 IsKeyRefusal Reader = ⊤
 IsKeyRefusal why = ⊥
 
--- what was left before is what was read and what is left after, and reading the former with a
--- failure after it answers Reader
-pub record Cut {R A : Type 0} (answer : R → Result A ReadlineError) (definition : List ℕ → Last → R)
-    (before after : List ℕ) : Type 0 where
-  pub read : List ℕ
-  pub split : before ≡ read ++ after
-  pub fails : answer (definition read Failed) ≡ Err Reader
-
--- a call that answers Reader was cut short by a failure of the source
-abbrev pub IsCut : {R A : Type 0} → (R → Result A ReadlineError) → (List ℕ → Last → R) → Feed → Feed
-    → Result A ReadlineError → Type 0
-IsCut answer definition old new result =
-    IsTrue old.told → result ≡ Err Reader → Cut answer definition old.coming new.coming
-
 -- what a source with one byte read ahead has still to give
 abbrev pub unread : {S : Type 0} → (S → Feed) → Lookahead S → Feed
 unread feed b = with_kept b.kept (feed b.source)
@@ -40,18 +26,15 @@ unread feed b = with_kept b.kept (feed b.source)
 -- one byte is asked for: the front of what was to come, and nothing where the source fails
 pub record ReadsByte {S : Type 0} (feed : S → Feed) (old new : Lookahead S)
     (result : Result (Option ℕ) DeviceFailed) : Type 0 where
-  pub read : IsTrue (unread feed old).told
+  pub read : IsTrue (unread feed new).told
       → IfOk result (λ b. (unread feed old).coming ≡ option_to_list b ++ (unread feed new).coming)
-  pub end : IsTrue (unread feed old).told → result ≡ Ok None → (unread feed old).coming ≡ []
-  pub ends : IsTrue (unread feed old).told → result ≡ Ok None → (unread feed old).last ≡ End
-  pub fault : IsTrue (unread feed old).told
+  pub end : IsTrue (unread feed new).told → result ≡ Ok None → (unread feed old).coming ≡ []
+  pub ends : IsTrue (unread feed new).told → result ≡ Ok None → (unread feed old).last ≡ End
+  pub fault : IsTrue (unread feed new).told
       → OnErr result ((unread feed new).coming ≡ (unread feed old).coming)
-  pub spent : IsTrue (unread feed old).told → IsTrue (unread feed old).steady
-      → OnErr result ((unread feed old).coming ≡ [])
-  pub foretold : IsTrue (unread feed old).told → IsTrue (unread feed old).steady
-      → OnErr result ((unread feed old).last ≡ Failed)
-  pub told : IsTrue (unread feed old).told → IsTrue (unread feed new).told
-  pub steady : (unread feed new).steady ≡ (unread feed old).steady
+  pub spent : IsTrue (unread feed new).told → OnErr result ((unread feed old).coming ≡ [])
+  pub foretold : IsTrue (unread feed new).told → OnErr result ((unread feed old).last ≡ Failed)
+  pub told : IsTrue (unread feed new).told → IsTrue (unread feed old).told
   pub last : (unread feed new).last ≡ (unread feed old).last
   pub reason : OnErr result (IsTrue (unread feed new).failed)
   pub failure : (unread feed old).failed ≡ false → (unread feed new).failed ≡ is_err result
@@ -62,15 +45,12 @@ pub record ReadsByte {S : Type 0} (feed : S → Feed) (old new : Lookahead S)
 -- the same where the byte stays unread
 pub record PeeksByte {S : Type 0} (feed : S → Feed) (old new : Lookahead S)
     (result : Result (Option ℕ) DeviceFailed) : Type 0 where
-  pub read : IsTrue (unread feed old).told → (unread feed new).coming ≡ (unread feed old).coming
-  pub end : IsTrue (unread feed old).told → result ≡ Ok None → (unread feed old).coming ≡ []
-  pub ends : IsTrue (unread feed old).told → result ≡ Ok None → (unread feed old).last ≡ End
-  pub spent : IsTrue (unread feed old).told → IsTrue (unread feed old).steady
-      → OnErr result ((unread feed old).coming ≡ [])
-  pub foretold : IsTrue (unread feed old).told → IsTrue (unread feed old).steady
-      → OnErr result ((unread feed old).last ≡ Failed)
-  pub told : IsTrue (unread feed old).told → IsTrue (unread feed new).told
-  pub steady : (unread feed new).steady ≡ (unread feed old).steady
+  pub read : IsTrue (unread feed new).told → (unread feed new).coming ≡ (unread feed old).coming
+  pub end : IsTrue (unread feed new).told → result ≡ Ok None → (unread feed old).coming ≡ []
+  pub ends : IsTrue (unread feed new).told → result ≡ Ok None → (unread feed old).last ≡ End
+  pub spent : IsTrue (unread feed new).told → OnErr result ((unread feed old).coming ≡ [])
+  pub foretold : IsTrue (unread feed new).told → OnErr result ((unread feed old).last ≡ Failed)
+  pub told : IsTrue (unread feed new).told → IsTrue (unread feed old).told
   pub last : (unread feed new).last ≡ (unread feed old).last
   pub reason : OnErr result (IsTrue (unread feed new).failed)
   pub failure : (unread feed old).failed ≡ false → (unread feed new).failed ≡ is_err result
@@ -92,46 +72,41 @@ continuation awaited =
 -- refusal
 pub record ReadsFurther {S : Type 0} (feed : S → Feed) (awaited : Continuation)
     (old new : Lookahead S) (result : Result ℕ ReadlineError) : Type 0 where
-  pub ok : IsTrue (unread feed old).told
+  pub ok : IsTrue (unread feed new).told
       → IfOk result (λ b. (unread feed old).coming ≡ b ∷ (unread feed new).coming)
   pub least : IfOk result (λ b. awaited.least ≤ b)
   pub greatest : IfOk result (λ b. b ≤ awaited.greatest)
-  pub answer : IsTrue (unread feed old).told → MetBy (unread feed old).steady result
+  pub answer : IsTrue (unread feed new).told → Met result
       → let all = in_char (Some awaited) (unread feed old).coming (unread feed old).last in
       IfErr result (λ e. char_at all ≡ Err e)
-  pub left : IsTrue (unread feed old).told → MetBy (unread feed old).steady result
+  pub left : IsTrue (unread feed new).told → Met result
       → let all = in_char (Some awaited) (unread feed old).coming (unread feed old).last in
       OnErr result (behind_char all ≡ (unread feed new).coming)
-  pub fault : IsTrue (unread feed old).told → result ≡ Err Reader
-      → (unread feed new).coming ≡ (unread feed old).coming
   pub whole : result ≡ Err Eof → ⊥
   pub refused : IfErr result IsKeyRefusal
   pub reason : result ≡ Err Reader → IsTrue (unread feed new).failed
   pub failure : (unread feed old).failed ≡ false → (unread feed new).failed ≡ is_failure result
-  pub told : IsTrue (unread feed old).told → IsTrue (unread feed new).told
-  pub steady : (unread feed new).steady ≡ (unread feed old).steady
+  pub told : IsTrue (unread feed new).told → IsTrue (unread feed old).told
   pub last : (unread feed new).last ≡ (unread feed old).last
   pub keeps : (unread feed new).bound ≤ (unread feed old).bound
   pub kept : new.kept ≡ None
 
--- a character is read by a definition of characters, where the source's failure comes or is
--- foretold
+-- a character is read by a definition of characters
 pub record ReadsChar {S : Type 0} (feed : S → Feed) (definition : List ℕ → Last → Chars)
     (old new : Lookahead S)
     (result : Result ℕ ReadlineError) : Type 0 where
-  pub ok : IsTrue (unread feed old).told
+  pub ok : IsTrue (unread feed new).told
       → IfOk result (λ c. definition (unread feed old).coming (unread feed old).last
       ≡ Next c (unread feed new).coming (chars_of (unread feed new).coming (unread feed new).last))
-  pub answer : IsTrue (unread feed old).told → MetBy (unread feed old).steady result
+  pub answer : IsTrue (unread feed new).told → Met result
       → result ≡ char_at (definition (unread feed old).coming (unread feed old).last)
-  pub left : IsTrue (unread feed old).told → MetBy (unread feed old).steady result
+  pub left : IsTrue (unread feed new).told → Met result
       → behind_char (definition (unread feed old).coming (unread feed old).last)
       ≡ (unread feed new).coming
   pub refused : IfErr result IsKeyRefusal
   pub reason : result ≡ Err Reader → IsTrue (unread feed new).failed
   pub failure : (unread feed old).failed ≡ false → (unread feed new).failed ≡ is_failure result
-  pub told : IsTrue (unread feed old).told → IsTrue (unread feed new).told
-  pub steady : (unread feed new).steady ≡ (unread feed old).steady
+  pub told : IsTrue (unread feed new).told → IsTrue (unread feed old).told
   pub last : (unread feed new).last ≡ (unread feed old).last
   pub keeps : (unread feed new).bound ≤ (unread feed old).bound
   pub kept : new.kept ≡ None

@@ -11,7 +11,6 @@ abbrev pub with_kept : Option ℕ → Feed → Feed
 with_kept kept source =
     record {
       told = source.told;
-      steady = source.steady;
       coming = option_to_list kept ++ source.coming;
       last = source.last;
       bound = source.bound + kept_count kept;

@@ -3,9 +3,9 @@
 ghost use Rattle.std.specs.Prelude.{◌≡◌, ◌<◌, ◌≤◌, ◌∷◌, [], Ok, Err, None, Some, IsTrue, IfOk, IfErr, OnOk, OnErr, false};
 ghost use Rattle.line_config.specs.declared.device.Last.TheVariants.{End};
 ghost use Rattle.line_config.specs.declared.errors.ReadlineError.TheVariants.{Eof, Reader};
-ghost use Rattle.line_config.specs.Refusals.{MetBy};
-ghost use Rattle.line_screen.specs.Input.{chars_of, in_char, char_at, behind_char, is_failure};
-ghost use Rattle.line_screen.specs.Reading.{IsCut, ReadsByte, PeeksByte, ReadsFurther, ReadsChar, continuation};
+ghost use Rattle.line_config.specs.Refusals.{Met};
+ghost use Rattle.line_screen.specs.Input.{chars_of, in_char, behind_char, is_failure};
+ghost use Rattle.line_screen.specs.Reading.{ReadsByte, PeeksByte, ReadsFurther, ReadsChar, continuation};
 
 use crate::reading::utf8::Awaited;
 use line_config::{DeviceFailed, ReadlineError, Source};
@@ -61,8 +61,6 @@ impl<S: Source> Lookahead<S> {
         requires high { 0x80 ≤ awaited.least }
         ensures reads { ReadsChar S.feed (in_char (Some (continuation awaited)))
             self.old self.new result }
-        ensures cut { IsCut char_at (in_char (Some (continuation awaited)))
-            (unread S.feed self.old) (unread S.feed self.new) result }
         ensures whole { result ≡ Err Eof → ⊥ }
     {
         let byte = self.further_byte(awaited)?;
@@ -79,8 +77,6 @@ impl<S: Source> Lookahead<S> {
         requires high { 0x80 ≤ awaited.least }
         ensures reads { ReadsChar S.feed (in_char (Some (continuation awaited)))
             self.old self.new result }
-        ensures cut { IsCut char_at (in_char (Some (continuation awaited)))
-            (unread S.feed self.old) (unread S.feed self.new) result }
         ensures whole { result ≡ Err Eof → ⊥ }
     {
         let byte = self.further_byte(awaited)?;
@@ -94,8 +90,6 @@ impl<S: Source> Lookahead<S> {
         requires high { 0x80 ≤ awaited.least }
         ensures reads { ReadsChar S.feed (in_char (Some (continuation awaited)))
             self.old self.new result }
-        ensures cut { IsCut char_at (in_char (Some (continuation awaited)))
-            (unread S.feed self.old) (unread S.feed self.new) result }
         ensures whole { result ≡ Err Eof → ⊥ }
     {
         let byte = self.further_byte(awaited)?;
@@ -109,8 +103,6 @@ impl<S: Source> Lookahead<S> {
         requires high { 0x80 ≤ awaited.least }
         ensures reads { ReadsChar S.feed (in_char (Some (continuation awaited)))
             self.old self.new result }
-        ensures cut { IsCut char_at (in_char (Some (continuation awaited)))
-            (unread S.feed self.old) (unread S.feed self.new) result }
         ensures whole { result ≡ Err Eof → ⊥ }
     {
         match awaited.more {
@@ -125,13 +117,11 @@ impl<S: Source> Lookahead<S> {
     /// `NotUtf8`.
     pub(crate) fn next_char(&mut self) -> Result<char, ReadlineError>
         ensures reads { ReadsChar S.feed chars_of self.old self.new result }
-        ensures cut { IsCut char_at chars_of (unread S.feed self.old)
-            (unread S.feed self.new) result }
-        ensures end { IsTrue (unread S.feed self.old).told → result ≡ Err Eof
+        ensures end { IsTrue (unread S.feed self.new).told → result ≡ Err Eof
             → (unread S.feed self.old).coming ≡ [] }
-        ensures ended { IsTrue (unread S.feed self.old).told → result ≡ Err Eof
+        ensures ended { IsTrue (unread S.feed self.new).told → result ≡ Err Eof
             → (unread S.feed self.new).coming ≡ [] }
-        ensures ends { IsTrue (unread S.feed self.old).told → result ≡ Err Eof
+        ensures ends { IsTrue (unread S.feed self.new).told → result ≡ Err Eof
             → (unread S.feed self.old).last ≡ End }
         ensures falls { OnOk result
             ((unread S.feed self.new).bound < (unread S.feed self.old).bound) }

@@ -4,19 +4,18 @@ use Rattle.line_help.proofs.RowLemmas.{at_end, cut_off, row_reads, part_reads, l
 use Rattle.line_help.proofs.rows.read_row.Goals as goal
 
 pub returns-in_err-byte-clause-cut : goal.returns-in_err-byte-clause-cut
-returns-in_err-byte-clause-cut g c told steady h =
-    let k = c.in_err-byte.ensures.cut (c.loop-byte.invariant.told told) (rw c.loop-byte.invariant.steady steady) (ap (λ x. Err x) c.in_err-byte.ensures.fault) in
+returns-in_err-byte-clause-cut g c told h =
+    let k = c.in_err-byte.ensures.cut told (ap (λ x. Err x) c.in_err-byte.ensures.fault) in
     let last = sym c.loop-byte.invariant.last ∙ k.1 in
-    (last, rw (last, c.loop-byte.invariant.split told, k.0, append-nil) (cut_off c.loop-byte.row.items c.loop-byte.invariant.inside))
+    (last, rw (last, c.loop-byte.invariant.split (c.in_err-byte.ensures.told told), k.0, append-nil) (cut_off c.loop-byte.row.items c.loop-byte.invariant.inside))
 
 pub returns-clause-row : goal.returns-clause-row
 returns-clause-row g c told =
-    let t = c.loop-byte.invariant.told told in
-    let none = c.in_ok-byte.ensures.end t (ap (λ x. Ok x) c.in_default.is) in
+    let none = c.in_ok-byte.ensures.end told (ap (λ x. Ok x) c.in_default.is) in
     let last = sym c.loop-byte.invariant.last ∙ none.1 in
-    let after = sym (rw c.in_default.is at c.in_ok-byte.ensures.byte t) ∙ none.0 in
+    let after = sym (rw c.in_default.is at c.in_ok-byte.ensures.byte told) ∙ none.0 in
     let v : vec_len c.loop-byte.row ≡ length c.loop-byte.row.items = search rules in
-    rw (last, c.loop-byte.invariant.split told, none.0, append-nil, after)
+    rw (last, c.loop-byte.invariant.split (c.in_ok-byte.ensures.told told), none.0, append-nil, after)
     (at_end c.loop-byte.row.items c.is_empty.result c.loop-byte.invariant.inside (rw v at c.is_empty.ensures))
 
 pub returns-then-byte-eq10-clause-good : goal.returns-then-byte-eq10-clause-good

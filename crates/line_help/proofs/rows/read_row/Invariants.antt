@@ -4,9 +4,8 @@ use Rattle.line_help.proofs.rows.read_row.Given as goal
 
 abbrev pub invariant-loop-byte : goal.invariant-loop-byte
 invariant-loop-byte g l = record {
-  told : IsTrue (g.S.Source.feed l.fn.source).told → IsTrue (g.S.Source.feed l.source).told;
-  split : IsTrue (g.S.Source.feed l.fn.source).told → (g.S.Source.feed l.fn.source).coming ≡ l.row.items ++ (g.S.Source.feed l.source).coming;
-  steady : (g.S.Source.feed l.source).steady ≡ (g.S.Source.feed l.fn.source).steady;
+  told : IsTrue (g.S.Source.feed l.source).told → IsTrue (g.S.Source.feed l.fn.source).told;
+  split : IsTrue (g.S.Source.feed l.source).told → (g.S.Source.feed l.fn.source).coming ≡ l.row.items ++ (g.S.Source.feed l.source).coming;
   last : (g.S.Source.feed l.source).last ≡ (g.S.Source.feed l.fn.source).last;
   bound : (g.S.Source.feed l.source).bound ≤ (g.S.Source.feed l.fn.source).bound;
   used : 0 < length l.row.items → (g.S.Source.feed l.source).bound < (g.S.Source.feed l.fn.source).bound;

@@ -7,18 +7,17 @@ use Rattle.line_help.proofs.file_history.FileHistory.load_rows.Given as goal
 
 abbrev pub invariant-loop-self : goal.invariant-loop-self
 invariant-loop-self g l = record {
-  told : IsTrue (g.S.Source.feed l.fn.source).told → IsTrue (g.S.Source.feed l.source).told;
-  steady : (g.S.Source.feed l.source).steady ≡ (g.S.Source.feed l.fn.source).steady;
+  told : IsTrue (g.S.Source.feed l.source).told → IsTrue (g.S.Source.feed l.fn.source).told;
   last : (g.S.Source.feed l.source).last ≡ (g.S.Source.feed l.fn.source).last;
   bound : (g.S.Source.feed l.source).bound ≤ (g.S.Source.feed l.fn.source).bound;
-  good : IsTrue (g.S.Source.feed l.fn.source).told → GoodUpTo (g.S.Source.feed l.fn.source).coming (g.S.Source.feed l.source).coming;
-  part : IsTrue (g.S.Source.feed l.fn.source).told
+  good : IsTrue (g.S.Source.feed l.source).told → GoodUpTo (g.S.Source.feed l.fn.source).coming (g.S.Source.feed l.source).coming;
+  part : IsTrue (g.S.Source.feed l.source).told
       → Reached (entries_of l.escapes (good_rows (text_rows (g.S.Source.feed l.fn.source).last (g.S.Source.feed l.fn.source).coming)))
       (entries_of l.escapes (good_rows (text_rows (g.S.Source.feed l.fn.source).last (g.S.Source.feed l.source).coming))) l.fn.self l.self;
-  left : IsTrue (g.S.Source.feed l.fn.source).told
+  left : IsTrue (g.S.Source.feed l.source).told
       → filed_with_all l.self (entries_of l.escapes (good_rows (text_rows (g.S.Source.feed l.fn.source).last (g.S.Source.feed l.source).coming)))
       ≡ filed_with_all l.fn.self (entries_of l.escapes (good_rows (text_rows (g.S.Source.feed l.fn.source).last (g.S.Source.feed l.fn.source).coming)));
-  answer : IsTrue (g.S.Source.feed l.fn.source).told
+  answer : IsTrue (g.S.Source.feed l.source).told
       → rows_answer (g.S.Source.feed l.fn.source).last (text_rows (g.S.Source.feed l.fn.source).last (g.S.Source.feed l.source).coming)
       (l.whole && takes_all l.self (entries_of l.escapes (good_rows (text_rows (g.S.Source.feed l.fn.source).last (g.S.Source.feed l.source).coming))))
       ≡ rows_answer (g.S.Source.feed l.fn.source).last (text_rows (g.S.Source.feed l.fn.source).last (g.S.Source.feed l.fn.source).coming)

@@ -16,7 +16,7 @@ returns-in_err-c-clause-reads g c =
     let char = c.in_err-c.ensures in
     rw (p.1, p.2)
     (on_stops feed (key_from r.mode) Key key_answer IsKeyRefusal (readings r.mode) (keys_refused r.mode) (keys_left r.mode) (λ e kind. kind)
-    r r _ _ (on_here feed (key_from r.mode) r c.requires) char.reads refl refl refl char.ended char.ends char.cut)
+    r r _ _ (on_here feed (key_from r.mode) r c.requires) char.reads refl refl refl char.ended char.ends)
 
 pub returns-then-c-eq27-clause-reads : goal.returns-then-c-eq27-clause-reads
 returns-then-c-eq27-clause-reads g c =

@@ -22,7 +22,7 @@ returns-in_err-c g c =
     rw (p.1, p.2) (record {
       reads = on_stops g.S.Source.feed (sequence_from mode (codes "[")) Key key_answer IsKeyRefusal (in_sequence mode text) (sequence_refused mode text) (sequence_left mode text)
           (λ e kind. kind)
-          c.args.self.now c.loop-c.self _ _ i.3 char.reads refl refl refl char.ended char.ends char.cut;
+          c.args.self.now c.loop-c.self _ _ i.3 char.reads refl refl refl char.ended char.ends;
       kept = char.reads.kept;
     })
 

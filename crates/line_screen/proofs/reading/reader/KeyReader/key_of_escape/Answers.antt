@@ -4,7 +4,7 @@ use Rattle.std.proofs.lemmas.Result.{err_from_is_err_and}
 use Rattle.line_screen.specs.KeyGrammar.{Key, key_answer}
 use Rattle.line_screen.specs.KeyReading.{escape_from, sequence_from}
 use Rattle.line_screen.specs.Reading.{IsKeyRefusal}
-use Rattle.line_screen.proofs.Escapes.{emacs_refuses, emacs_leaves, emacs_cuts}
+use Rattle.line_screen.proofs.Escapes.{emacs_refuses, emacs_leaves}
 use Rattle.line_screen.proofs.Onward.{on_look, on_peek, on_reads, on_stops_at}
 use Rattle.line_screen.proofs.reading.reader.KeyReader.key_of_escape.Goals as goal
 
@@ -39,6 +39,6 @@ returns-in_err-c-in-Emacs-clause-reads g c =
     rw (p.1, p.2)
     (on_stops_at feed (escape_from r.mode) Key key_answer IsKeyRefusal (escape_from r.mode) r (record r { bytes = seen }) _ _
     (emacs_refuses r.mode _ byte _ _ _ c.in-Emacs.is begins) (emacs_leaves r.mode _ byte _ _ _ c.in-Emacs.is begins)
-    (λ read. emacs_cuts r.mode read c.in-Emacs.is) (λ e kind. kind)
+    (λ e kind. kind)
     (on_look feed (escape_from r.mode) r (record r { bytes = seen }) _ c.requires c.in-Ok-Some.ensures refl refl refl refl)
-    char.reads refl refl refl char.ended char.ends char.cut)
+    char.reads refl refl refl char.ended char.ends)

@@ -17,6 +17,6 @@ returns-in_err-c g c =
     rw (p.1, p.2) (record {
       reads = on_stops feed (sequence_from r.mode text) Key key_answer IsKeyRefusal (in_sequence r.mode text) (sequence_refused r.mode text) (sequence_left r.mode text)
           (λ e kind. kind)
-          r r _ _ (on_here feed (sequence_from r.mode text) r c.requires) char.reads refl refl refl char.ended char.ends char.cut;
+          r r _ _ (on_here feed (sequence_from r.mode text) r c.requires) char.reads refl refl refl char.ended char.ends;
       kept = char.reads.kept;
     })

@@ -21,7 +21,7 @@ returns-in_err-c-clause-reads g c =
     rw (p.1, p.2)
     (on_stops g.S.Source.feed (text_from r.mode) Paste text_answer IsReaderRefusal (in_paste r.mode (string_bytes l.text) l.after_return l.matched)
     (paste_refused r.mode (string_bytes l.text) l.after_return l.matched) (paste_left r.mode (string_bytes l.text) l.after_return l.matched) key_refusal
-    r l.self _ _ l.invariant.0 char.reads refl refl refl char.ended char.ends char.cut)
+    r l.self _ _ l.invariant.0 char.reads refl refl refl char.ended char.ends)
 
 pub loop-text-preserved-then-c-marker_char : goal.loop-text-preserved-then-c-marker_char
 loop-text-preserved-then-c-marker_char g c =

@@ -1,0 +1,19 @@
+-- Bytes that are said of a device beforehand, held against what its reads gave.
+use Rattle.std.specs.Prelude.{ℕ, ◌==◌, Bool, true, false, if◌then◌else◌, List, [], ◌∷◌, Option, Some, None}
+use Rattle.line_config.specs.declared.device.Last.{Last}
+use Rattle.line_config.specs.declared.device.Last.TheVariants.{End, Failed}
+
+-- what of all these bytes stands after the given ones; nothing where those are no beginning of them
+unfoldable pub left_of : List ℕ → List ℕ → Option (List ℕ)
+left_of all [] = Some all
+left_of [] (byte ∷ given) = None
+left_of (next ∷ all) (byte ∷ given) = if next == byte then left_of all given else None
+
+-- whether reads that left this, and met this after them, agree with what was said: an end or a
+-- failure that was met is the one that was said, and nothing was left before it
+abbrev pub agrees : Option (List ℕ) → Last → Option Last → Bool
+agrees None last met = false
+agrees (Some left) last None = true
+agrees (Some []) End (Some End) = true
+agrees (Some []) Failed (Some Failed) = true
+agrees (Some left) last met = false
