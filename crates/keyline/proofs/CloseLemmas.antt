@@ -23,9 +23,9 @@ pub breaks_by : {A : Type 0} (f : A → List ℕ) (o : Result A ReadlineError) (
 breaks_by {A} f o e b is same broken =
     let P : Result A ReadlineError → Type 0 = λ o. IfErr (made_of f o) (λ e. breaks_after e ≡ true) in subst P (sym is) (sym same ∙ broken)
 
-module _ {D L : Type 0} (shows : D → Bool) (shown : D → List ℕ) (show_failed : D → Bool) (writes : L → Bool) (written_in : L → List ℕ) (write_failed : L → Bool) where
+module _ {D L : Type 0} (shown : D → List ℕ) (show_failed : D → Bool) (written_in : L → List ℕ) (write_failed : L → Bool) where
   abbrev Ends : Bool → Result (List ℕ) ReadlineError → Work D L → Work D L → Result (Unit {0}) ReadlineError → Type 0
-  Ends adds outcome old new result = Closes shows shown show_failed writes written_in write_failed adds outcome old new result
+  Ends adds outcome old new result = Closes shown show_failed written_in write_failed adds outcome old new result
 
   abbrev Breaks : Result (List ℕ) ReadlineError → Type 0
   Breaks outcome = IfErr outcome (λ e. breaks_after e ≡ true)
@@ -42,15 +42,15 @@ module _ {D L : Type 0} (shows : D → Bool) (shown : D → List ℕ) (show_fail
 
   -- the display failed
   pub closes_undrawn : (adds : Bool) (outcome : Result (List ℕ) ReadlineError) (d d' : D) (l : L) (h : Filed) (result : Result (Unit {0}) ReadlineError) (e : ReadlineError)
-      → Breaks outcome → result ≡ Err e → e ≡ Display → IsTrue (show_failed d') → TakesSome shows shown d d' row_break → Ends adds outcome (work d l h) (work d' l h) result
+      → Breaks outcome → result ≡ Err e → e ≡ Display → IsTrue (show_failed d') → TakesSome shown d d' row_break → Ends adds outcome (work d l h) (work d' l h) result
   closes_undrawn adds outcome d d' l h result e breaks is display failed some =
       let now : result ≡ Err Display = is ∙ ap (λ e. Err e) display in
       record {
         goes = inr (λ coming. record {
           fault = Display;
           result_is = now;
-          goes = cut_drawing shows shown writes written_in adds _ (accept_deeds outcome) coming (work d l h) (work d' l h)
-              (subst (TakesSome shows shown d d') (new_row outcome breaks) some) refl refl;
+          goes = cut_drawing shown written_in adds _ (accept_deeds outcome) coming (work d l h) (work d' l h)
+              (subst (TakesSome shown d d') (new_row outcome breaks) some) refl refl;
         });
         stays = stays_not outcome (work d l h) (work d' l h) result breaks;
         reason = let P : Result (Unit {0}) ReadlineError → Type 0 = λ r. IfErr r (CloseReason outcome (show_failed d) (show_failed d') (write_failed l)) in
@@ -59,7 +59,7 @@ module _ {D L : Type 0} (shows : D → Bool) (shown : D → List ℕ) (show_fail
 
   -- the history could take no line
   pub closes_unkept : (adds : Bool) (text : List ℕ) (d d' : D) (l : L) (h h' : Filed) (result : Result (Unit {0}) ReadlineError) (e : ReadlineError)
-      → Takes shows shown d d' row_break → result ≡ Err e → e ≡ Memory → IsTrue adds → h' ≡ h → Ends adds (Ok text) (work d l h) (work d' l h') result
+      → Takes shown d d' row_break → result ≡ Err e → e ≡ Memory → IsTrue adds → h' ≡ h → Ends adds (Ok text) (work d l h) (work d' l h') result
   closes_unkept adds text d d' l h h' result e drawn is memory adding kept =
       let now : result ≡ Err Memory = is ∙ ap (λ e. Err e) memory in
       record {
@@ -73,9 +73,9 @@ module _ {D L : Type 0} (shows : D → Bool) (shown : D → List ℕ) (show_fail
             begun = [];
             torn = [];
             stops = (inl (refl, adding), refl, refl);
-            drawn = subst (Takes shows shown d d') (sym (append-nil (row_break ++ []) ∙ append-nil row_break)) drawn;
+            drawn = subst (Takes shown d d') (sym (append-nil (row_break ++ []) ∙ append-nil row_break)) drawn;
             helped = tt;
-            wrote = takes_none writes written_in l l refl;
+            wrote = takes_none written_in l l refl;
             history_is = kept ∙ sym (remembered_none adds h);
           };
         });
@@ -86,21 +86,21 @@ module _ {D L : Type 0} (shows : D → Bool) (shown : D → List ℕ) (show_fail
 
   -- the line's text and newline were written, or torn
   pub closes_written : (adds : Bool) (text : List ℕ) (d d' : D) (l l' : L) (h h' : Filed) (result : Result (Unit {0}) ReadlineError)
-      → Takes shows shown d d' row_break → h' ≡ remembered adds (text ∷ []) h
-      → Sends writes written_in write_failed (line_text text) l l' result → IfErr result (λ e. e ≡ Lines)
+      → Takes shown d d' row_break → h' ≡ remembered adds (text ∷ []) h
+      → Sends written_in write_failed (line_text text) l l' result → IfErr result (λ e. e ≡ Lines)
       → Ends adds (Ok text) (work d l h) (work d' l' h') result
   closes_written adds text d d' l l' h h' (Ok u) drawn kept wrote named = record {
     goes = inl (record {
       result_is = refl;
       history_is = kept;
       drawn = drawn;
-      wrote = subst (Takes writes written_in l l') (sym (append-nil (line_text text))) wrote.sent;
+      wrote = subst (Takes written_in l l') (sym (append-nil (line_text text))) wrote.sent;
     });
     stays = tt;
     reason = tt;
   }
   closes_written adds text d d' l l' h h' (Err e) drawn kept wrote named =
-      let torn = taken_of writes written_in l l' (line_text text) wrote.begins in
+      let torn = taken_of written_in l l' (line_text text) wrote.begins in
       record {
         goes = inr (λ coming. record {
           fault = e;
@@ -112,7 +112,7 @@ module _ {D L : Type 0} (shows : D → Bool) (shown : D → List ℕ) (show_fail
             begun = [];
             torn = torn.0;
             stops = let P : ReadlineError → Type 0 = λ e. Stops adds e coming (Writes text ∷ []) coming [] torn.0 in subst P (sym named) (refl, refl, (torn.1, torn.2));
-            drawn = subst (Takes shows shown d d') (sym (append-nil (row_break ++ []) ∙ append-nil row_break)) drawn;
+            drawn = subst (Takes shown d d') (sym (append-nil (row_break ++ []) ∙ append-nil row_break)) drawn;
             helped = tt;
             wrote = torn.3;
             history_is = kept;
@@ -124,14 +124,14 @@ module _ {D L : Type 0} (shows : D → Bool) (shown : D → List ℕ) (show_fail
 
   -- no line was accepted
   pub closes_other : (adds : Bool) (e : ReadlineError) (d d' : D) (l : L) (h : Filed)
-      → Takes shows shown d d' (break_if (breaks_after e)) → show_failed d' ≡ show_failed d → (breaks_after e ≡ false → d' ≡ d)
+      → Takes shown d d' (break_if (breaks_after e)) → show_failed d' ≡ show_failed d → (breaks_after e ≡ false → d' ≡ d)
       → Ends adds (Err e) (work d l h) (work d' l h) (Err e)
   closes_other adds e d d' l h drawn works still = record {
     goes = inl (record {
       result_is = refl;
       history_is = refl;
       drawn = drawn;
-      wrote = takes_none writes written_in l l refl;
+      wrote = takes_none written_in l l refl;
     });
     stays = λ other. (ap (λ d. work d l h) (still other), refl);
     reason = inl (refl, works);

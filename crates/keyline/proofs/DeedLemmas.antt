@@ -32,7 +32,7 @@ use Rattle.line_screen.specs.declared.renderer.ScreenRenderer.{ScreenRenderer}
 use Rattle.line_screen.proofs.CallLemmas.{sent_in_all}
 use Rattle.keyline.specs.Closing.{work}
 use Rattle.keyline.specs.Deeds.{SessionDeed, Draws, Helped, Hears, Keeps, Writes, HelperAnswers, bytes_drawn, left_of_deeds, lines_kept, lines_written, call_deed, call_deeds, act_deeds, close_deeds, acts_in, line_deeds}
-use Rattle.keyline.specs.Playing.{Work, LineWhole, Cut, Stops, TakesMemory, DrawsSome, WritesSome, FailsToHelp, IsHeard, accepted_of}
+use Rattle.keyline.specs.Playing.{Work, LineWhole, Cut, Stops, TakesMemory, DrawsSome, WritesSome, FailsToHelp, IsRead, accepted_of}
 use Rattle.keyline.specs.Sessions.{Given, SessionState, breaks, calls_of, history_after, line_bytes, line_in, line_text, lines_text, remembered, setting_in}
 use Rattle.keyline.specs.Shows.{drawn_by}
 
@@ -336,7 +336,7 @@ fails_more : (xs ys : List SessionDeed) → FailsToHelp xs → FailsToHelp (xs +
 fails_more (Helped fails ∷ xs) ys p = p
 fails_more _ ys p = absurd p
 
-heard_more : (xs ys : List SessionDeed) → IsHeard xs → IsHeard (xs ++ ys)
+heard_more : (xs ys : List SessionDeed) → IsRead xs → IsRead (xs ++ ys)
 heard_more (Hears rest ∷ xs) ys p = p
 heard_more _ ys p = absurd p
 
@@ -380,20 +380,20 @@ module _ (adds : Bool) (s : Screen) where
 -- ---- deeds that were done, and deeds that were cut
 
 -- all of them
-pub record Done {D L : Type 0} (shows : D → Bool) (shown : D → List ℕ) (writes : L → Bool) (written_in : L → List ℕ) (adds : Bool) (deeds : List SessionDeed)
+pub record Done {D L : Type 0} (shown : D → List ℕ) (written_in : L → List ℕ) (adds : Bool) (deeds : List SessionDeed)
     (coming : Coming) (old new : Work D L) (left : Coming) : Type 0 where
-  pub drawn : Takes shows shown old.display new.display (bytes_drawn deeds)
+  pub drawn : Takes shown old.display new.display (bytes_drawn deeds)
   pub helped : HelperAnswers deeds
-  pub wrote : Takes writes written_in old.lines new.lines (lines_text (lines_written deeds))
+  pub wrote : Takes written_in old.lines new.lines (lines_text (lines_written deeds))
   pub history_is : new.history ≡ remembered adds (lines_kept deeds) old.history
   pub left_is : left ≡ left_of_deeds coming deeds
 
-module _ {D L : Type 0} (shows : D → Bool) (shown : D → List ℕ) (writes : L → Bool) (written_in : L → List ℕ) (adds : Bool) where
+module _ {D L : Type 0} (shown : D → List ℕ) (written_in : L → List ℕ) (adds : Bool) where
   abbrev AllDone : List SessionDeed → Coming → Work D L → Work D L → Coming → Type 0
-  AllDone deeds coming old new left = Done shows shown writes written_in adds deeds coming old new left
+  AllDone deeds coming old new left = Done shown written_in adds deeds coming old new left
 
   abbrev CutAt : List SessionDeed → Coming → Work D L → Work D L → Coming → ReadlineError → Type 0
-  CutAt deeds coming old new left why = Cut shows shown writes written_in adds deeds coming old new left why
+  CutAt deeds coming old new left why = Cut shown written_in adds deeds coming old new left why
 
   -- more are to come after those that were cut
   pub cut_more : (xs ys : List SessionDeed) (c : Coming) (old new : Work D L) (left : Coming) (why : ReadlineError) → CutAt xs c old new left why → CutAt (xs ++ ys) c old new left why
@@ -416,8 +416,8 @@ module _ {D L : Type 0} (shows : D → Bool) (shown : D → List ℕ) (writes : 
   cut_after xs ys c c' old mid new left why d r =
       let lines = lines_written r.done in
       let S : Coming → Type 0 = λ here. Stops adds why here r.next left r.begun r.torn in
-      let B : List ℕ → Type 0 = Takes shows shown old.display new.display in
-      let W : List ℕ → Type 0 = Takes writes written_in old.lines new.lines in
+      let B : List ℕ → Type 0 = Takes shown old.display new.display in
+      let W : List ℕ → Type 0 = Takes written_in old.lines new.lines in
       record {
         done = xs ++ r.done;
         next = r.next;
@@ -428,11 +428,11 @@ module _ {D L : Type 0} (shows : D → Bool) (shown : D → List ℕ) (writes : 
         stops = subst S (ap (λ here. left_of_deeds here r.done) d.left_is ∙ sym (left_both c xs r.done)) r.stops;
         drawn =
             subst B (sym (append_assoc (bytes_drawn xs) (bytes_drawn r.done) r.begun) ∙ ap (λ bytes. bytes ++ r.begun) (sym (drawn_both xs r.done)))
-            (takes_then shows shown old.display mid.display new.display (bytes_drawn xs) (bytes_drawn r.done ++ r.begun) d.drawn r.drawn);
+            (takes_then shown old.display mid.display new.display (bytes_drawn xs) (bytes_drawn r.done ++ r.begun) d.drawn r.drawn);
         wrote =
             subst W (sym (append_assoc (lines_text (lines_written xs)) (lines_text lines) r.torn)
             ∙ ap (λ bytes. bytes ++ r.torn) (sym (flat_map-append line_text (lines_written xs) lines) ∙ ap lines_text (sym (written_both xs r.done))))
-            (takes_then writes written_in old.lines mid.lines new.lines (lines_text (lines_written xs)) (lines_text lines ++ r.torn) d.wrote r.wrote);
+            (takes_then written_in old.lines mid.lines new.lines (lines_text (lines_written xs)) (lines_text lines ++ r.torn) d.wrote r.wrote);
         history_is =
             r.history_is ∙ (ap (λ h. remembered adds (lines_kept r.done) h) d.history_is
             ∙ (sym (remembered_both adds (lines_kept xs) (lines_kept r.done) old.history)
@@ -449,17 +449,17 @@ module _ {D L : Type 0} (shows : D → Bool) (shown : D → List ℕ) (writes : 
     begun = [];
     torn = [];
     stops = stops;
-    drawn = takes_none shows shown old.display new.display display;
+    drawn = takes_none shown old.display new.display display;
     helped = tt;
-    wrote = takes_none writes written_in old.lines new.lines lines;
+    wrote = takes_none written_in old.lines new.lines lines;
     history_is = history ∙ sym (remembered_none adds old.history);
   }
 
   -- the display failed at the first of them
   pub cut_drawing : (bytes : List ℕ) (deeds : List SessionDeed) (c : Coming) (old new : Work D L)
-      → TakesSome shows shown old.display new.display bytes → new.lines ≡ old.lines → new.history ≡ old.history → CutAt (Draws bytes ∷ deeds) c old new c Display
+      → TakesSome shown old.display new.display bytes → new.lines ≡ old.lines → new.history ≡ old.history → CutAt (Draws bytes ∷ deeds) c old new c Display
   cut_drawing bytes deeds c old new some lines history =
-      let begun = taken_of shows shown old.display new.display bytes some in
+      let begun = taken_of shown old.display new.display bytes some in
       record {
         done = [];
         next = Draws bytes ∷ deeds;
@@ -469,17 +469,17 @@ module _ {D L : Type 0} (shows : D → Bool) (shown : D → List ℕ) (writes : 
         stops = (refl, (begun.1, begun.2), refl);
         drawn = begun.3;
         helped = tt;
-        wrote = takes_none writes written_in old.lines new.lines lines;
+        wrote = takes_none written_in old.lines new.lines lines;
         history_is = history ∙ sym (remembered_none adds old.history);
       }
 
   -- a line that was drawn, kept and written is its deeds
   pub done_line : (n : ℕ) (g : Given) (x : SessionState) (t : Told) (old mid : Work D L) (result : Result (Unit {0}) ReadlineError) → line_in n g x ≡ t
-      → LineWhole shows shown writes written_in adds (line_bytes g.screen t) t.outcome old mid result → HelperAnswers (line_deeds n g x)
+      → LineWhole shown written_in adds (line_bytes g.screen t) t.outcome old mid result → HelperAnswers (line_deeds n g x)
       → AllDone (line_deeds n g x) x.coming old mid t.rest
   done_line n g x t old mid result is w helped =
-      let B : List ℕ → Type 0 = Takes shows shown old.display mid.display in
-      let W : List (List ℕ) → Type 0 = λ lines. Takes writes written_in old.lines mid.lines (lines_text lines) in
+      let B : List ℕ → Type 0 = Takes shown old.display mid.display in
+      let W : List (List ℕ) → Type 0 = λ lines. Takes written_in old.lines mid.lines (lines_text lines) in
       let accepted : accepted_of (line_in n g x).outcome ≡ accepted_of t.outcome = ap (λ (t : Told). accepted_of t.outcome) is in
       record {
         drawn = subst B (sym (deeds_drawn n g x ∙ ap (line_bytes g.screen) is)) w.drawn;
@@ -499,21 +499,21 @@ module _ {D L : Type 0} (shows : D → Bool) (shown : D → List ℕ) (writes : 
     abbrev on : ScreenRenderer D → Work D L
     on out = work (sink_of out) lines history
 
-    untouched : (deeds : List SessionDeed) (c c' : Coming) (a b : ScreenRenderer D) (bytes : List ℕ) → Takes shows shown (sink_of a) (sink_of b) bytes → bytes ≡ bytes_drawn deeds
+    untouched : (deeds : List SessionDeed) (c c' : Coming) (a b : ScreenRenderer D) (bytes : List ℕ) → Takes shown (sink_of a) (sink_of b) bytes → bytes ≡ bytes_drawn deeds
         → HelperAnswers deeds → lines_kept deeds ≡ [] → lines_written deeds ≡ [] → c' ≡ left_of_deeds c deeds → AllDone deeds c (on a) (on b) c'
     untouched deeds c c' a b bytes took is helped kept written left =
-        let B : List ℕ → Type 0 = Takes shows shown (sink_of a) (sink_of b) in
-        let W : List (List ℕ) → Type 0 = λ these. Takes writes written_in lines lines (lines_text these) in
+        let B : List ℕ → Type 0 = Takes shown (sink_of a) (sink_of b) in
+        let W : List (List ℕ) → Type 0 = λ these. Takes written_in lines lines (lines_text these) in
         record {
           drawn = subst B is took;
           helped = helped;
-          wrote = subst W (sym written) (takes_none writes written_in lines lines refl);
+          wrote = subst W (sym written) (takes_none written_in lines lines refl);
           history_is = sym (ap (λ these. remembered adds these history) kept ∙ remembered_none adds history);
           left_is = left;
         }
 
     -- all acts of a line were done
-    pub done_acts : (n : ℕ) (g : Given) (x : SessionState) (a b : ScreenRenderer D) (left : Coming) → Takes shows shown (sink_of a) (sink_of b) (flat_map (bytes_of g.screen) (calls_of g.screen (line_in n g x)))
+    pub done_acts : (n : ℕ) (g : Given) (x : SessionState) (a b : ScreenRenderer D) (left : Coming) → Takes shown (sink_of a) (sink_of b) (flat_map (bytes_of g.screen) (calls_of g.screen (line_in n g x)))
         → Answered (calls_of g.screen (line_in n g x)) → left ≡ (line_in n g x).rest → AllDone (act_deeds g.screen (fresh g.screen.mode) (acts_in n g x)) x.coming (on a) (on b) left
     done_acts n g x a b left took answered is =
         let l = fresh g.screen.mode in
@@ -522,7 +522,7 @@ module _ {D L : Type 0} (shows : D → Bool) (shown : D → List ℕ) (writes : 
 
     module _ (show_failed : D → Bool) (s : Screen) (why : ReadlineError) where
       abbrev Made : List Call → ScreenRenderer D → ScreenRenderer D → Type 0
-      Made calls a b = FoldsTo (MadeIn (canvas_of shows shown show_failed)) a calls b
+      Made calls a b = FoldsTo (MadeIn (canvas_of shown show_failed)) a calls b
 
       -- memory was wanting before the first
       stay : why ≡ Memory → (deeds : List SessionDeed) → TakesMemory adds deeds → (c : Coming) (a b : ScreenRenderer D) → b ≡ a → CutAt deeds c (on a) (on b) c why
@@ -532,27 +532,27 @@ module _ {D L : Type 0} (shows : D → Bool) (shown : D → List ℕ) (writes : 
 
       done_calls : (calls : List Call) (c : Coming) (a b : ScreenRenderer D) → screen_of a ≡ s → Made calls a b → AllDone (call_deeds s calls) c (on a) (on b) c
       done_calls calls c a b is made =
-          let P : Screen → Type 0 = λ s. Takes shows shown (sink_of a) (sink_of b) (flat_map (bytes_of s) calls) in
-          untouched (call_deeds s calls) c c a b _ (subst P is (sent_in_all shows shown show_failed calls a b made).takes) (sym (calls_drawn s calls))
-          (calls_answered s calls (made_answered (canvas_of shows shown show_failed) calls a b made)) (calls_kept s calls) (calls_written s calls) (sym (calls_left s c calls))
+          let P : Screen → Type 0 = λ s. Takes shown (sink_of a) (sink_of b) (flat_map (bytes_of s) calls) in
+          untouched (call_deeds s calls) c c a b _ (subst P is (sent_in_all shown show_failed calls a b made).takes) (sym (calls_drawn s calls))
+          (calls_answered s calls (made_answered (canvas_of shown show_failed) calls a b made)) (calls_kept s calls) (calls_written s calls) (sym (calls_left s c calls))
 
       screen_kept : (calls : List Call) (a b : ScreenRenderer D) → screen_of a ≡ s → Made calls a b → screen_of b ≡ s
-      screen_kept calls a b is made = (sent_in_all shows shown show_failed calls a b made).screen ∙ is
+      screen_kept calls a b is made = (sent_in_all shown show_failed calls a b made).screen ∙ is
 
       -- the first was refused: the helper failed, or the display
-      cut_call : (call : Call) (deeds : List SessionDeed) (c : Coming) (a b : ScreenRenderer D) → screen_of a ≡ s → RefusedIn (canvas_of shows shown show_failed) why a call b
+      cut_call : (call : Call) (deeds : List SessionDeed) (c : Coming) (a b : ScreenRenderer D) → screen_of a ≡ s → RefusedIn (canvas_of shown show_failed) why a call b
           → CutAt (call_deed s call ∷ deeds) c (on a) (on b) c why
       cut_call (Help fails) deeds c a b is h =
           let P : ReadlineError → Type 0 = λ why. Stops adds why c (Helped fails ∷ deeds) c [] [] in
           cut_first (Helped fails ∷ deeds) c c (on a) (on b) why (subst P (sym h.0) (refl, h.1, refl, refl)) (ap sink_of h.2) refl refl
       cut_call call deeds c a b is h =
-          let P : Screen → Type 0 = λ s. TakesSome shows shown (sink_of a) (sink_of b) (bytes_of s call) in
+          let P : Screen → Type 0 = λ s. TakesSome shown (sink_of a) (sink_of b) (bytes_of s call) in
           let Q : ReadlineError → Type 0 = λ why. CutAt (Draws (bytes_of s call) ∷ deeds) c (on a) (on b) c why in
           subst Q (sym h.0) (cut_drawing (bytes_of s call) deeds c (on a) (on b) (subst P is h.1.begins) refl refl)
 
       -- calls that others follow
       cut_calls : (calls : List Call) (tail : List SessionDeed) → TakesMemory adds tail → (c : Coming) (a b : ScreenRenderer D) → screen_of a ≡ s
-          → BrokenOff (canvas_of shows shown show_failed) why calls a b → CutAt (call_deeds s calls ++ tail) c (on a) (on b) c why
+          → BrokenOff (canvas_of shown show_failed) why calls a b → CutAt (call_deeds s calls ++ tail) c (on a) (on b) c why
       unfolding BrokenOff
       cut_calls [] tail takes c a b is h = absurd h
       cut_calls (call ∷ calls) tail takes c a b is (inl h) = stay h.0 (call_deeds s (call ∷ calls) ++ tail) (calls_take adds s (call ∷ calls) tail takes) c a b h.1
@@ -564,7 +564,7 @@ module _ {D L : Type 0} (shows : D → Bool) (shown : D → List ℕ) (writes : 
 
       cut_heard : (rest : Coming) (deeds : List SessionDeed) (c left : Coming) (a b : ScreenRenderer D) → CutAt deeds rest (on a) (on b) left why → CutAt (Hears rest ∷ deeds) c (on a) (on b) left why
       cut_heard rest deeds c left a b r =
-          let first = untouched (Hears rest ∷ []) c rest a a [] (takes_none shows shown (sink_of a) (sink_of a) refl) refl tt refl refl refl in
+          let first = untouched (Hears rest ∷ []) c rest a a [] (takes_none shown (sink_of a) (sink_of a) refl) refl tt refl refl refl in
           cut_after (Hears rest ∷ []) deeds c rest (on a) (on a) (on b) left why first r
 
       -- a paste that found no memory
@@ -585,7 +585,7 @@ module _ {D L : Type 0} (shows : D → Bool) (shown : D → List ℕ) (writes : 
       joined redraws l more tail = sym (append_assoc (call_deeds s (drawn_by s l redraws).calls) (act_deeds s (drawn_by s l redraws).layout more) tail)
 
       cut_drawn : (redraws : List Redraw) (l : Layout) (more : List Act) (tail : List SessionDeed) → TakesMemory adds tail → (c : Coming) (a b : ScreenRenderer D) → screen_of a ≡ s
-          → BrokenOff (canvas_of shows shown show_failed) why (drawn_by s l redraws).calls a b → CutAt (act_deeds s l (Sees redraws ∷ more) ++ tail) c (on a) (on b) c why
+          → BrokenOff (canvas_of shown show_failed) why (drawn_by s l redraws).calls a b → CutAt (act_deeds s l (Sees redraws ∷ more) ++ tail) c (on a) (on b) c why
       cut_drawn redraws l more tail takes c a b is h =
           let x = drawn_by s l redraws in
           subst (λ deeds. CutAt deeds c (on a) (on b) c why) (joined redraws l more tail)
@@ -597,12 +597,12 @@ module _ {D L : Type 0} (shows : D → Bool) (shown : D → List ℕ) (writes : 
       unbegun redraws l more tail takes c a b h = let acts = Sees redraws ∷ more in stay h.0 (act_deeds s l acts ++ tail) (acts_take adds s l acts tail takes) c a b h.1
 
       cut_seen : (redraws : List Redraw) (l : Layout) (more : List Act) (tail : List SessionDeed) → TakesMemory adds tail → (c : Coming) (a b : ScreenRenderer D) → screen_of a ≡ s
-          → SeenInPart (canvas_of shows shown show_failed) (ruler_of s) why redraws l a b → CutAt (act_deeds s l (Sees redraws ∷ more) ++ tail) c (on a) (on b) c why
+          → SeenInPart (canvas_of shown show_failed) (ruler_of s) why redraws l a b → CutAt (act_deeds s l (Sees redraws ∷ more) ++ tail) c (on a) (on b) c why
       cut_seen [] l more tail takes c a b is h = unbegun [] l more tail takes c a b h
       cut_seen (x ∷ xs) l more tail takes c a b is h = cut_drawn (x ∷ xs) l more tail takes c a b is h
 
       cut_obeyed : (redraws : List Redraw) (l : Layout) (more : List Act) (tail : List SessionDeed) → TakesMemory adds tail → (c : Coming) (a b : ScreenRenderer D) → screen_of a ≡ s
-          → Begun (canvas_of shows shown show_failed) why (drawn_by s l redraws).calls a b → CutAt (act_deeds s l (Sees redraws ∷ more) ++ tail) c (on a) (on b) c why
+          → Begun (canvas_of shown show_failed) why (drawn_by s l redraws).calls a b → CutAt (act_deeds s l (Sees redraws ∷ more) ++ tail) c (on a) (on b) c why
       unfolding Begun
       cut_obeyed redraws l more tail takes c a b is (inl h) = unbegun redraws l more tail takes c a b h
       cut_obeyed redraws l more tail takes c a b is (inr h) = cut_drawn redraws l more tail takes c a b is h
@@ -617,7 +617,7 @@ module _ {D L : Type 0} (shows : D → Bool) (shown : D → List ℕ) (writes : 
 
       -- acts that others follow
       pub cut_acts : (acts : List Act) (tail : List SessionDeed) → TakesMemory adds tail → (l : Layout) (old new : Stage (ScreenRenderer D)) → screen_of old.out ≡ s
-          → CutIn (canvas_of shows shown show_failed) (ruler_of s) why acts l old new
+          → CutIn (canvas_of shown show_failed) (ruler_of s) why acts l old new
           → CutAt (act_deeds s l acts ++ tail) old.coming (on old.out) (on new.out) new.coming why
       unfolding CutIn
       cut_acts [] tail takes l old new is h = absurd h

@@ -28,7 +28,7 @@ use Rattle.line_screen.specs.declared.renderer.ScreenRenderer.{ScreenRenderer}
 use Rattle.line_screen.proofs.CallLemmas.{sent_in_all, cut_stays}
 use Rattle.keyline.specs.Closing.{Closes, CloseReason, work}
 use Rattle.keyline.specs.Deeds.{SessionDeed, act_deeds, acts_in, close_deeds, line_deeds}
-use Rattle.keyline.specs.Desks.{Known, Lined, TakesLine, DeskReason, feed_of, hearing, work_of}
+use Rattle.keyline.specs.Desks.{Known, Lined, TakesLine, DeskReason, feed_of, session_state_of, work_of}
 use Rattle.keyline.specs.Playing.{Work, Cut, LineWhole, LineCut, SessionReason}
 use Rattle.keyline.specs.Sessions.{Given, given_by, breaks, calls_of, line_in, history_after}
 use Rattle.keyline.specs.declared.desk.Desk.{Desk}
@@ -70,15 +70,15 @@ ok_of_cut : (result : Result (Unit {0}) ReadlineError) (e : ReadlineError) (P : 
 ok_of_cut (Ok u) e P is = absurd (cc)
 ok_of_cut (Err d) e P is = tt
 
-module _ {D L : Type 0} (shows : D → Bool) (shown : D → List ℕ) (writes : L → Bool) (written_in : L → List ℕ) where
+module _ {D L : Type 0} (shown : D → List ℕ) (written_in : L → List ℕ) where
   -- the line's drawings, and then its end
   whole_then : (adds : Bool) (first second : List ℕ) (outcome : Result (List ℕ) ReadlineError) (d d1 d2 : D) (l l2 : L) (h h2 : Filed) (result : Result (Unit {0}) ReadlineError)
-      → Takes shows shown d d1 first → LineWhole shows shown writes written_in adds second outcome (work d1 l h) (work d2 l2 h2) result
-      → LineWhole shows shown writes written_in adds (first ++ second) outcome (work d l h) (work d2 l2 h2) result
+      → Takes shown d d1 first → LineWhole shown written_in adds second outcome (work d1 l h) (work d2 l2 h2) result
+      → LineWhole shown written_in adds (first ++ second) outcome (work d l h) (work d2 l2 h2) result
   whole_then adds first second outcome d d1 d2 l l2 h h2 result drawn c = record {
     result_is = c.result_is;
     history_is = c.history_is;
-    drawn = takes_then shows shown d d1 d2 first second drawn c.drawn;
+    drawn = takes_then shown d d1 d2 first second drawn c.drawn;
     wrote = c.wrote;
   }
 
@@ -91,7 +91,7 @@ desk_of reader out helper history ring lines =
 module _ {S H D L K T : Type 0} (k : Known S D L) (helps : Option H → Helping) (custom : Custom) (config : Config) (prompt : List ℕ)
     (old : Desk S H D L) (ran : Ran (ScreenRenderer D) H K T) (ring : Ring) (reader : KeyReader S) where
   abbrev RunsAt : Type 0
-  RunsAt = Runs (canvas_of k.shows k.shown k.show_failed) helps custom prompt old.helper old.history.kept.entries config
+  RunsAt = Runs (canvas_of k.shown k.show_failed) helps custom prompt old.helper old.history.kept.entries config
       old.out old.ring (items_of k.feed old.reader) ran ring (items_of k.feed reader)
 
   abbrev setting : Setting
@@ -99,28 +99,31 @@ module _ {S H D L K T : Type 0} (k : Known S D L) (helps : Option H → Helping)
 
   -- the line that was read whole, or cut by a fault
   abbrev WentWhole : Told → Type 0
-  WentWhole t = WholeLine (canvas_of k.shows k.shown k.show_failed) t old.out ran.out ring (items_of k.feed reader).coming (outcome_of ran)
+  WentWhole t = WholeLine (canvas_of k.shown k.show_failed) t old.out ran.out ring (items_of k.feed reader).coming (outcome_of ran)
 
-  abbrev WentCut : ℕ → Coming → Type 0
-  WentCut n heard = CutLine (canvas_of k.shows k.shown k.show_failed) (acts_meant n setting custom config old.ring heard) (stage old.out heard old.ring) (stage ran.out (items_of k.feed reader).coming ring) (outcome_of ran)
+  abbrev come : Coming
+  come = (items_of k.feed old.reader).coming
 
-  abbrev Went : ℕ → Coming → Type 0
-  Went n heard = WentWhole (line_meant n setting custom config old.ring heard) ⊎ WentCut n heard
+  abbrev WentCut : ℕ → Type 0
+  WentCut n = CutLine (canvas_of k.shown k.show_failed) (acts_meant n setting custom config old.ring come) (stage old.out come old.ring) (stage ran.out (items_of k.feed reader).coming ring) (outcome_of ran)
 
-  screen_by : (n : ℕ) (heard : Coming) → Went n heard → screen_of ran.out ≡ screen_of old.out
-  screen_by n heard (inl w) =
-      (sent_in_all k.shows k.shown k.show_failed (line_calls (ruler_of (screen_of old.out)) (line_meant n setting custom config old.ring heard).turns) old.out ran.out w.calls).screen
-  screen_by n heard (inr w) =
-      cut_stays k.shows k.shown k.show_failed (ruler_of (screen_of old.out)) w.fault (acts_meant n setting custom config old.ring heard) (fresh (ruler_of (screen_of old.out)).mode)
-      (stage old.out heard old.ring) (stage ran.out (items_of k.feed reader).coming ring) w.done
+  abbrev Went : ℕ → Type 0
+  Went n = WentWhole (line_meant n setting custom config old.ring come) ⊎ WentCut n
+
+  screen_by : (n : ℕ) → Went n → screen_of ran.out ≡ screen_of old.out
+  screen_by n (inl w) =
+      (sent_in_all k.shown k.show_failed (line_calls (ruler_of (screen_of old.out)) (line_meant n setting custom config old.ring come).turns) old.out ran.out w.calls).screen
+  screen_by n (inr w) =
+      cut_stays k.shown k.show_failed (ruler_of (screen_of old.out)) w.fault (acts_meant n setting custom config old.ring come) (fresh (ruler_of (screen_of old.out)).mode)
+      (stage old.out come old.ring) (stage ran.out (items_of k.feed reader).coming ring) w.done
 
   screen_stays : RunsAt → IsTrue (items_of k.feed reader).told → screen_of ran.out ≡ screen_of old.out
   screen_stays runs t =
-      let n = suc (feed_of k old).bound in let went = runs.goes t n (le_refl _) in screen_by n went.0 went.2
+      let n = suc (feed_of k old).bound in screen_by n (runs.goes t n (le_refl _))
 
   module _ (out : ScreenRenderer D) (history : Filed) (lines : L) (result : Result (Unit {0}) ReadlineError) where
     abbrev Ends : Result (List ℕ) ReadlineError → Type 0
-    Ends outcome = Closes k.shows k.shown k.show_failed k.writes k.written_in k.write_failed config.auto_add_history outcome
+    Ends outcome = Closes k.shown k.show_failed k.written_in k.write_failed config.auto_add_history outcome
         (work (sink_of ran.out) old.lines old.history) (work (sink_of out) lines history) result
 
     abbrev new : Desk S H D L
@@ -139,67 +142,67 @@ module _ {S H D L K T : Type 0} (k : Known S D L) (helps : Option H → Helping)
     left = (items_of k.feed reader).coming
 
     abbrev EndedWhole : Result (List ℕ) ReadlineError → Type 0
-    EndedWhole outcome = LineWhole k.shows k.shown k.writes k.written_in config.auto_add_history (break_if (breaks outcome)) outcome at_end (work_of k new) result
+    EndedWhole outcome = LineWhole k.shown k.written_in config.auto_add_history (break_if (breaks outcome)) outcome at_end (work_of k new) result
 
     abbrev EndedCut : Result (List ℕ) ReadlineError → Type 0
-    EndedCut outcome = LineCut k.shows k.shown k.writes k.written_in config.auto_add_history (close_deeds outcome) left at_end (work_of k new) left result
+    EndedCut outcome = LineCut k.shown k.written_in config.auto_add_history (close_deeds outcome) left at_end (work_of k new) left result
 
     abbrev EndedAs : Result (List ℕ) ReadlineError → Type 0
-    EndedAs outcome = EndedWhole outcome ⊎ ((coming : Coming) → LineCut k.shows k.shown k.writes k.written_in config.auto_add_history (close_deeds outcome)
+    EndedAs outcome = EndedWhole outcome ⊎ ((coming : Coming) → LineCut k.shown k.written_in config.auto_add_history (close_deeds outcome)
         coming at_end (work_of k new) coming result)
 
     abbrev StaysAs : Result (List ℕ) ReadlineError → Type 0
     StaysAs outcome = IfErr outcome (λ e. breaks_after e ≡ false → (work_of k new ≡ at_end) × (result ≡ Err e))
 
-    abbrev CutAs : List SessionDeed → Coming → Type 0
-    CutAs deeds heard = LineCut k.shows k.shown k.writes k.written_in config.auto_add_history deeds heard (work_of k old) (work_of k new) left result
+    abbrev CutAs : List SessionDeed → Type 0
+    CutAs deeds = LineCut k.shown k.written_in config.auto_add_history deeds come (work_of k old) (work_of k new) left result
 
     -- the helper gave an answer wherever it was asked
-    answered : (n : ℕ) (heard : Coming) → let t = line_in n given (hearing k old heard) in WentWhole t → Answered (calls_of given.screen t)
-    answered n heard w =
-        let t = line_in n given (hearing k old heard) in made_answered (canvas_of k.shows k.shown k.show_failed) (calls_of given.screen t) old.out ran.out w.calls
+    answered : (n : ℕ) → let t = line_in n given (session_state_of k old) in WentWhole t → Answered (calls_of given.screen t)
+    answered n w =
+        let t = line_in n given (session_state_of k old) in made_answered (canvas_of k.shown k.show_failed) (calls_of given.screen t) old.out ran.out w.calls
 
-    after_whole : (n : ℕ) (heard : Coming) → let x = hearing k old heard in WentWhole (line_in n given x) → EndedAs (line_in n given x).outcome
-        → Lined k given (line_in n given x) (line_deeds n given x) heard old new result
-    after_whole n heard w (inl c) =
-        let x = hearing k old heard in
+    after_whole : (n : ℕ) → let x = session_state_of k old in WentWhole (line_in n given x) → EndedAs (line_in n given x).outcome
+        → Lined k given (line_in n given x) (line_deeds n given x) old new result
+    after_whole n w (inl c) =
+        let x = session_state_of k old in
         let t = line_in n given x in
-        let sent = sent_in_all k.shows k.shown k.show_failed (line_calls (ruler_of (screen_of old.out)) t.turns) old.out ran.out w.calls in
+        let sent = sent_in_all k.shown k.show_failed (line_calls (ruler_of (screen_of old.out)) t.turns) old.out ran.out w.calls in
         inl (
-          whole_then k.shows k.shown k.writes k.written_in config.auto_add_history _ (break_if (breaks t.outcome)) t.outcome
+          whole_then k.shown k.written_in config.auto_add_history _ (break_if (breaks t.outcome)) t.outcome
               (sink_of old.out) (sink_of ran.out) (sink_of out) old.lines lines old.history history result sent.takes c,
-          deeds_answered n given x (answered n heard w),
+          deeds_answered n given x (answered n w),
           ap (λ r. record { ring = r; history = history; coming = left }) w.ring_is
               ∙ (ap (λ h. record { ring = t.ring; history = h; coming = left }) c.history_is
               ∙ ap (λ c'. record { ring = t.ring; history = history_after config.auto_add_history t.outcome old.history; coming = c' }) w.rest_is),
         )
-    after_whole n heard w (inr c) =
-        let x = hearing k old heard in
+    after_whole n w (inr c) =
+        let x = session_state_of k old in
         let t = line_in n given x in
-        let sent = sent_in_all k.shows k.shown k.show_failed (line_calls (ruler_of (screen_of old.out)) t.turns) old.out ran.out w.calls in
+        let sent = sent_in_all k.shown k.show_failed (line_calls (ruler_of (screen_of old.out)) t.turns) old.out ran.out w.calls in
         let end = c left in
         inr (record {
           fault = end.fault;
           result_is = end.result_is;
-          goes = cut_after k.shows k.shown k.writes k.written_in config.auto_add_history
-              (act_deeds given.screen (fresh given.screen.mode) (acts_in n given x)) (close_deeds t.outcome) heard left (work_of k old) at_end (work_of k new) left end.fault
-              (done_acts k.shows k.shown k.writes k.written_in config.auto_add_history old.lines old.history n given x old.out ran.out left sent.takes (answered n heard w) w.rest_is) end.goes;
+          goes = cut_after k.shown k.written_in config.auto_add_history
+              (act_deeds given.screen (fresh given.screen.mode) (acts_in n given x)) (close_deeds t.outcome) come left (work_of k old) at_end (work_of k new) left end.fault
+              (done_acts k.shown k.written_in config.auto_add_history old.lines old.history n given x old.out ran.out left sent.takes (answered n w) w.rest_is) end.goes;
         })
 
-    after_cut : (n : ℕ) (heard : Coming) → (w : WentCut n heard) → StaysAs (Err w.fault) → CutAs (line_deeds n given (hearing k old heard)) heard
-    after_cut n heard w stays =
-        let x = hearing k old heard in
+    after_cut : (n : ℕ) (w : WentCut n) → StaysAs (Err w.fault) → CutAs (line_deeds n given (session_state_of k old))
+    after_cut n w stays =
+        let x = session_state_of k old in
         let s = screen_of old.out in
         let same = stays (unbroken _ _ w.fault w.cause) in
-        let W : Work D L → Type 0 = λ after. Cut k.shows k.shown k.writes k.written_in config.auto_add_history (line_deeds n given x) heard (work_of k old) after left w.fault in
-        let so = cut_acts k.shows k.shown k.writes k.written_in config.auto_add_history old.lines old.history k.show_failed s w.fault
-        (acts_in n given x) (close_deeds (line_in n given x).outcome) tt (fresh s.mode) (stage old.out heard old.ring) (stage ran.out left ring) refl w.done in
+        let W : Work D L → Type 0 = λ after. Cut k.shown k.written_in config.auto_add_history (line_deeds n given x) come (work_of k old) after left w.fault in
+        let so = cut_acts k.shown k.written_in config.auto_add_history old.lines old.history k.show_failed s w.fault
+        (acts_in n given x) (close_deeds (line_in n given x).outcome) tt (fresh s.mode) (stage old.out come old.ring) (stage ran.out left ring) refl w.done in
         record { fault = w.fault; result_is = same.1; goes = subst W (sym same.0) so }
 
-    lined : (n : ℕ) (heard : Coming) → Went n heard → Ends (outcome_of ran) → let x = hearing k old heard in
-        Lined k given (line_in n given x) (line_deeds n given x) heard old new result
-    lined n heard (inl w) closes = after_whole n heard w (subst EndedAs w.outcome_is closes.goes)
-    lined n heard (inr w) closes = inr (after_cut n heard w (subst StaysAs w.outcome_is closes.stays))
+    lined : (n : ℕ) → Went n → Ends (outcome_of ran) → let x = session_state_of k old in
+        Lined k given (line_in n given x) (line_deeds n given x) old new result
+    lined n (inl w) closes = after_whole n w (subst EndedAs w.outcome_is closes.goes)
+    lined n (inr w) closes = inr (after_cut n w (subst StaysAs w.outcome_is closes.stays))
 
     lined_falls : RunsAt → EndedAs (outcome_of ran) → OnOk result ((feed_of k new).bound < (feed_of k old).bound)
     lined_falls runs (inl c) = ok_given ran.outcome string_bytes result _ runs.falls c.result_is
@@ -211,7 +214,6 @@ module _ {S H D L K T : Type 0} (k : Known S D L) (helps : Option H → Helping)
         ∙ ap (λ h. given_by config custom prompt (screen_of old.out) h) (runs.helper_stays t)
 
     reason_of_close : RunsAt → (e : ReadlineError) → CloseReason (outcome_of ran) (k.show_failed (sink_of ran.out)) (k.show_failed (sink_of out)) (k.write_failed lines) e
-<<<<<<< ours
         → DeskReason k given new e
     reason_of_close runs e (inl p) =
         let cause = err_given ran.outcome string_bytes e _ runs.reason p.0 in
@@ -224,38 +226,18 @@ module _ {S H D L K T : Type 0} (k : Known S D L) (helps : Option H → Helping)
         let P : ReadlineError → Type 0 = DeskReason k given new in subst P (sym p.0) p.1
     reason_of_close runs e (inr (inr (inr p))) =
         let P : ReadlineError → Type 0 = DeskReason k given new in subst P (sym p) tt
-=======
-        → DeskReason k (feed_of k new).told given new e
-    reason_of_close runs e (inl p) =
-        let cause = err_given ran.outcome string_bytes e _ runs.reason p.0 in
-        let of_line = reason_by (feed_of k new).told given _ (k.show_failed (sink_of ran.out)) (k.write_failed lines) (items_of k.feed reader) _ e (λ r. r)
-        (λ hook t. (hook.0, subst (λ h. HelperFails h hook.0) (runs.helper_stays t) hook.1)) cause in
-        let P : Bool → Type 0 = λ failed. SessionReason (feed_of k new).told given (k.feed reader.bytes.source).failed failed (k.write_failed lines) e in
-        subst P (sym p.1) of_line
-    reason_of_close runs e (inr (inl p)) =
-        let P : ReadlineError → Type 0 = DeskReason k (feed_of k new).told given new in subst P (sym p.0) p.1
-    reason_of_close runs e (inr (inr (inl p))) =
-        let P : ReadlineError → Type 0 = DeskReason k (feed_of k new).told given new in subst P (sym p.0) p.1
-    reason_of_close runs e (inr (inr (inr p))) =
-        let P : ReadlineError → Type 0 = DeskReason k (feed_of k new).told given new in subst P (sym p) tt
->>>>>>> theirs
 
     pub takes_line : RunsAt → Ends (outcome_of ran) → screen_of out ≡ screen_of ran.out → TakesLine k given given' old new result
     takes_line runs closes screen = record {
-      goes = λ t n b. let went = runs.goes t n b in (went.0, went.1, lined n went.0 went.2 closes);
+      goes = λ t n b. lined n (runs.goes t n b) closes;
       given = lined_given runs screen;
       custom = refl;
       told = runs.told;
-      steady = runs.steady;
       falls = lined_falls runs closes.goes;
       reason = if_err result closes.reason;
     }
       where
         if_err : (r : Result (Unit {0}) ReadlineError) → IfErr r (CloseReason (outcome_of ran) (k.show_failed (sink_of ran.out)) (k.show_failed (sink_of out)) (k.write_failed lines))
-<<<<<<< ours
             → IfErr r (DeskReason k given new)
-=======
-            → IfErr r (DeskReason k (feed_of k new).told given new)
->>>>>>> theirs
         if_err (Ok u) p = tt
         if_err (Err e) p = reason_of_close runs e p

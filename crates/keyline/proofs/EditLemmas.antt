@@ -3,14 +3,14 @@ use Rattle.std.proofs.Common.{◌≡◌, ◌∙◌, ℕ, Bool, List, [], Option,
 use Rattle.std.specs.Prelude.{string_bytes}
 use Rattle.line_config.specs.Feed.{Feed}
 use Rattle.line_config.specs.declared.config.Config.{Config}
+use Rattle.line_help.specs.History.{Filed}
 use Rattle.line_keys.specs.Answers.{Custom, custom_of}
-use Rattle.line_keys.specs.Coming.{Coming}
 use Rattle.line_keys.specs.Handling.{Meaning}
 use Rattle.line_keys.specs.declared.events.Event.{Event}
 use Rattle.line_screen.specs.Calls.{screen_of}
-use Rattle.keyline.specs.Desks.{Known, hearing}
+use Rattle.keyline.specs.Desks.{Known, session_state_of}
 use Rattle.keyline.specs.Edits.{EditHelper, EditsByOptions, config_of, edit_helping, given_to, helper_of, nothing_bound}
-use Rattle.keyline.specs.Plays.{Opens, Plays}
+use Rattle.keyline.specs.Plays.{Loaded, Opens, Plays}
 use Rattle.keyline.specs.SessionShows.{Displays}
 use Rattle.keyline.specs.Sessions.{Given, given_by}
 use Rattle.keyline.specs.declared.desk.Desk.{Desk}
@@ -20,41 +20,30 @@ use Rattle.keyline.specs.declared.session.Ended.{Ended}
 pub none_bound : {D : Type 0} (bindings : List (Event × D)) (means : D → Meaning) → bindings ≡ [] → custom_of bindings means ≡ nothing_bound
 none_bound bindings means none = ap (λ b. custom_of b means) none
 
-module _ {S D L T : Type 0} (k : Known S D L) (told : T → Bool) (held : T → List ℕ) (failed : T → Bool) where
-<<<<<<< ours
-  pub edited : (options : Options) (words : Option (List (List ℕ))) (history : Feed) (source : S) (display : D) (lines : L) (text text' : T) (ended : Ended S D L T)
+-- a history that was loaded under one premise was so under another that it follows from
+pub loaded_where : {P Q : Type 0} (config : Config) (text : Feed) (history : Filed) → (P → Q) → Loaded Q config text history → Loaded P config text history
+loaded_where config text history follows loaded = record { whole = λ p. loaded.whole (follows p); history_is = λ p. loaded.history_is (follows p) }
+
+module _ {F S D L T : Type 0} (loads : F → Feed) (k : Known S D L) (held : T → List ℕ) (failed : T → Bool) where
+  pub edited : (options : Options) (words : Option (List (List ℕ))) (history : F) (source : S) (display : D) (lines : L) (text text' : T) (ended : Ended S D L T)
       (desk : Desk S EditHelper D L) (config config' : Config) (custom : Custom) (prompt : List ℕ) (helper : Option EditHelper)
-      → Opens k.feed config history helper source options.columns display lines desk
-      → Plays k told held failed (given_by config' custom prompt (screen_of desk.out) (edit_helping desk.helper)) desk text' ended
-      → ((heard : Coming) → Displays (given_by config' custom prompt (screen_of desk.out) (edit_helping desk.helper)) (hearing k desk heard))
+      → Opens loads k.feed config history helper source options.columns display lines desk
+      → Plays k held failed (given_by config' custom prompt (screen_of desk.out) (edit_helping desk.helper)) desk text' ended
+      → Displays (given_by config' custom prompt (screen_of desk.out) (edit_helping desk.helper)) (session_state_of k desk)
       → config ≡ config_of options → config' ≡ config → prompt ≡ string_bytes options.prompt → helper ≡ helper_of options words → text' ≡ text → custom ≡ nothing_bound
-      → EditsByOptions k told held failed options words history source display lines text ended
+      → EditsByOptions loads k held failed options words history source display lines text ended
   edited options words history source display lines text text' ended desk config config' custom prompt helper opens plays shows config_is config_is' prompt_is helper_is text_is custom_is =
-=======
-  pub edited : (options : Options) (loads : Bool) (history : Feed) (source : S) (display : D) (lines : L) (text text' : T) (ended : Ended S D L T)
-      (desk : Desk S BracketHelper D L) (config config' : Config) (custom : Custom) (prompt : List ℕ) (helper : Option BracketHelper)
-      → Opens k.feed loads config history helper source options.columns display lines desk
-      → Plays k told held failed (given_by config' custom prompt (screen_of desk.out) (bracket_helping desk.helper)) desk text' ended
-      → ((heard : Coming) → Displays (given_by config' custom prompt (screen_of desk.out) (bracket_helping desk.helper)) (hearing k desk heard))
-      → config ≡ config_of options → config' ≡ config → prompt ≡ string_bytes options.prompt → helper ≡ helper_of options → text' ≡ text → custom ≡ nothing_bound
-      → EditsByOptions k told held failed options loads history source display lines text ended
-  edited options loads history source display lines text text' ended desk config config' custom prompt helper opens plays shows config_is config_is' prompt_is helper_is text_is custom_is =
->>>>>>> theirs
       let screen = screen_of desk.out in
       let helping = edit_helping desk.helper in
       let given : given_by config' custom prompt screen helping ≡ given_to options desk =
       ap (λ (x : Config). given_by x custom prompt screen helping) (config_is' ∙ config_is)
       ∙ (ap (λ (x : Custom). given_by (config_of options) x prompt screen helping) custom_is
       ∙ ap (λ (x : List ℕ). given_by (config_of options) nothing_bound x screen helping) prompt_is) in
-      let opens' = subst (λ (x : Config). Opens k.feed loads x history helper source options.columns display lines desk) config_is opens in
-      let plays' = subst (λ (x : Given). Plays k told held failed x desk text' ended) given plays in
+      let opens' = subst (λ (x : Config). Opens loads k.feed x history helper source options.columns display lines desk) config_is opens in
+      let plays' = subst (λ (x : Given). Plays k held failed x desk text' ended) given plays in
       record {
         desk = desk;
-<<<<<<< ours
-        opens = subst (λ (x : Option EditHelper). Opens k.feed (config_of options) history x source options.columns display lines desk) helper_is opens';
-=======
-        opens = subst (λ (x : Option BracketHelper). Opens k.feed loads (config_of options) history x source options.columns display lines desk) helper_is opens';
->>>>>>> theirs
-        plays = subst (λ (x : T). Plays k told held failed (given_to options desk) desk x ended) text_is plays';
-        shows = λ heard. subst (λ (x : Given). Displays x (hearing k desk heard)) given (shows heard);
+        opens = subst (λ (x : Option EditHelper). Opens loads k.feed (config_of options) history x source options.columns display lines desk) helper_is opens';
+        plays = subst (λ (x : T). Plays k held failed (given_to options desk) desk x ended) text_is plays';
+        shows = subst (λ (x : Given). Displays x (session_state_of k desk)) given shows;
       }

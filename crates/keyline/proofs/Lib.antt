@@ -4,14 +4,10 @@ pub mod DeedLaw
 pub mod DeedLemmas
 pub mod DeskLemmas
 pub mod EditLemmas
-pub mod HeardSteps
 pub mod OneByteLemmas
 pub mod OptionsLemmas
-<<<<<<< ours
 pub mod PasteLemmas
-=======
 pub mod PlayedLemmas
->>>>>>> theirs
 pub mod PlaysLemmas
 pub mod SessionCourse
 pub mod SessionLawLemmas

@@ -50,21 +50,21 @@ abbrev state_by : Ring → Filed → Coming → SessionState
 state_by ring history coming = record { ring = ring; history = history; coming = coming }
 
 -- what a sink took that held nothing
-took_all : {D : Type 0} (told : D → Bool) (held : D → List ℕ) (old new : D) (bytes : List ℕ) → IsTrue (told old) → held old ≡ [] → Takes told held old new bytes
+took_all : {D : Type 0} (held : D → List ℕ) (old new : D) (bytes : List ℕ) → IsTrue (told old) → held old ≡ [] → Takes held old new bytes
     → Takes (λ (d : List ℕ). true) (λ d. d) [] (held new) bytes
-took_all told held old new bytes t none takes = λ u. (refl, (takes t).1 ∙ ap (λ front. front ++ bytes) none)
+took_all held old new bytes t none takes = λ u. (refl, (takes t).1 ∙ ap (λ front. front ++ bytes) none)
 
-module _ {D L : Type 0} (shows : D → Bool) (shown : D → List ℕ) (writes : L → Bool) (written_in : L → List ℕ) where
+module _ {D L : Type 0} (shown : D → List ℕ) (written_in : L → List ℕ) where
   as_bytes : (g : Given) (report : Report) (deeds : List SessionDeed) (coming : Coming) (old new : Work D L) (left : Coming) (why : ReadlineError)
       → IsTrue (shows old.display) → shown old.display ≡ [] → IsTrue (writes old.lines) → written_in old.lines ≡ []
-      → Reads shows shown writes written_in g report deeds coming old new left why
+      → Reads shown written_in g report deeds coming old new left why
       → Reads (λ d. true) (λ d. d) (λ l. true) (λ l. l) g report deeds coming (bytes_work [] [] old.history) (bytes_work (shown new.display) (written_in new.lines) new.history) left why
   as_bytes g report deeds coming old new left why t none u bare (inl w) = inl (record {
     why_is = w.why_is;
     rest_is = w.rest_is;
     history_is = w.history_is;
-    drawn = took_all shows shown old.display new.display _ t none w.drawn;
-    wrote = took_all writes written_in old.lines new.lines _ u bare w.wrote;
+    drawn = took_all shown old.display new.display _ t none w.drawn;
+    wrote = took_all written_in old.lines new.lines _ u bare w.wrote;
   })
   as_bytes g report deeds coming old new left why t none u bare (inr c) = inr (record {
     done = c.done;
@@ -73,14 +73,14 @@ module _ {D L : Type 0} (shows : D → Bool) (shown : D → List ℕ) (writes : 
     begun = c.begun;
     torn = c.torn;
     stops = c.stops;
-    drawn = took_all shows shown old.display new.display _ t none c.drawn;
-    wrote = took_all writes written_in old.lines new.lines _ u bare c.wrote;
+    drawn = took_all shown old.display new.display _ t none c.drawn;
+    wrote = took_all written_in old.lines new.lines _ u bare c.wrote;
     history_is = c.history_is;
   })
 
-module _ {S D L T : Type 0} (k : Known S D L) (told : T → Bool) (held : T → List ℕ) (failed : T → Bool) where
+module _ {S D L T : Type 0} (k : Known S D L) (held : T → List ℕ) (failed : T → Bool) where
   pub played : (options : Options) (old bytes : List ℕ) (last : Last) (loads : Bool) (text_feed : Feed) (source : S) (display : D) (lines : L) (text : T) (ended : Ended S D L T)
-      → EditsByOptions k told held failed options loads text_feed source display lines text ended → IsTrue loads → text_feed ≡ steady_feed old End
+      → EditsByOptions k held failed options loads text_feed source display lines text ended → IsTrue loads → text_feed ≡ steady_feed old End
       → (k.feed source).coming ≡ bytes → (k.feed source).last ≡ last → (k.feed source).bound ≡ 2 ^ 63
       → IsTrue (k.shows display) → k.shown display ≡ [] → IsTrue (k.writes lines) → k.written_in lines ≡ []
       → IsTrue (k.feed ended.source).told → PlaysBytes options old bytes last (k.shown ended.display) (k.written_in ended.lines)
@@ -113,13 +113,13 @@ module _ {S D L T : Type 0} (k : Known S D L) (told : T → Bool) (held : T → 
             ∙ (ap (λ (h : Filed). state_by (new_ring 60) h heard) history
             ∙ ap (λ (c : Coming). state_by (new_ring 60) loaded_is c) (all_heard (feed_of k desk).coming heard went.1 ∙ coming)) in
             let G : Given → SessionState → Type 0 = λ g x.
-            Reads k.shows k.shown k.writes k.written_in g (session n g x) (session_deeds n g x) x.coming (work_of k desk) end left plays.why in
+            Reads k.shown k.written_in g (session n g x) (session_deeds n g x) x.coming (work_of k desk) end left plays.why in
             let r = subst (λ (x : SessionState). G g x) start_is (subst (λ (g : Given). G g (hearing k desk heard)) given_is went.2) in
             let H : Filed → Type 0 = λ h.
             Reads (λ (d : List ℕ). true) (λ d. d) (λ (l : List ℕ). true) (λ l. l) g (session n g start) (session_deeds n g start) start.coming (bytes_work [] [] h)
             (bytes_work (k.shown ended.display) (k.written_in ended.lines) plays.kept) left plays.why in
             subst H history
-            (as_bytes k.shows k.shown k.writes k.written_in g (session n g start) (session_deeds n g start) start.coming (work_of k desk) end left plays.why
+            (as_bytes k.shown k.written_in g (session n g start) (session_deeds n g start) start.coming (work_of k desk) end left plays.why
             (subst (λ (d : D). IsTrue (k.shows d)) (sym opens.display_is) t) (ap k.shown opens.display_is ∙ none)
             (subst (λ (l : L). IsTrue (k.writes l)) (sym opens.lines_are) u) (ap k.written_in opens.lines_are ∙ bare) r);
       }

@@ -7,14 +7,12 @@ use Rattle.line_editor.specs.Lines.{Told}
 use Rattle.line_help.specs.History.{Filed}
 use Rattle.line_keys.specs.Answers.{HandlerFails}
 use Rattle.line_keys.specs.Coming.{Coming}
-use Rattle.line_keys.specs.Early.{Heard}
 use Rattle.keyline.specs.Deeds.{SessionDeed, HelperAnswers, deeds_after, line_deeds, session_deeds}
-use Rattle.keyline.specs.Desks.{Known, Lined, TakesLine, TakesLines, DeskReason, HeardAt, feed_of, hearing, session_state_of, work_of}
+use Rattle.keyline.specs.Desks.{Known, Lined, TakesLine, TakesLines, DeskReason, feed_of, session_state_of, work_of}
 use Rattle.keyline.specs.Playing.{Work, LineWhole, LineCut, Cut, Reads}
-use Rattle.keyline.specs.Sessions.{Given, SessionState, Report, calls_of, line_in, after_line, line_reported, line_text, lines_text, line_bytes, display_bytes, remembered, session}
+use Rattle.keyline.specs.Sessions.{Given, SessionState, Report, line_in, after_line, line_reported, line_text, lines_text, line_bytes, display_bytes, remembered, session}
 use Rattle.keyline.specs.declared.desk.Desk.{Desk}
-use Rattle.keyline.proofs.DeedLemmas.{Answered, Done, answers_both, cut_after, cut_more, deeds_answered, deeds_ask, done_line, remembered_none}
-use Rattle.keyline.proofs.HeardSteps.{heard_before}
+use Rattle.keyline.proofs.DeedLemmas.{Done, answers_both, cut_after, cut_more, done_line, remembered_none}
 use Rattle.line_config.proofs.Taking.{takes_then}
 
 pub session_step : (n : ℕ) (g : Given) (x : SessionState)
@@ -22,18 +20,10 @@ pub session_step : (n : ℕ) (g : Given) (x : SessionState)
 unfolding session
 session_step n g x = refl
 
--- the same by what the line is
-session_by : (n : ℕ) (g : Given) (x : SessionState) (t : Told) → line_in (suc n) g x ≡ t → session (suc n) g x ≡ line_reported t t.outcome (session n g (after_line g t x))
-session_by n g x t is = session_step n g x ∙ ap (λ (t : Told). line_reported t t.outcome (session n g (after_line g t x))) is
-
 pub deeds_step : (n : ℕ) (g : Given) (x : SessionState)
     → session_deeds (suc n) g x ≡ line_deeds (suc n) g x ++ deeds_after (line_in (suc n) g x).outcome (session_deeds n g (after_line g (line_in (suc n) g x) x))
 unfolding session_deeds
 deeds_step n g x = refl
-
-deeds_by : (n : ℕ) (g : Given) (x : SessionState) (t : Told) → line_in (suc n) g x ≡ t
-    → session_deeds (suc n) g x ≡ line_deeds (suc n) g x ++ deeds_after t.outcome (session_deeds n g (after_line g t x))
-deeds_by n g x t is = deeds_step n g x ∙ ap (λ (t : Told). line_deeds (suc n) g x ++ deeds_after t.outcome (session_deeds n g (after_line g t x))) is
 
 remembered_more : (adds : Bool) (text : List ℕ) (lines : List (List ℕ)) (h : Filed) → remembered adds lines (remembered adds (text ∷ []) h) ≡ remembered adds (text ∷ lines) h
 remembered_more true text lines h = refl
@@ -45,34 +35,34 @@ fault_by r e d one other = cc
 ok_not_err : (u : Unit {0}) (e : ReadlineError) → Ok u ≡ Err e → ⊥
 ok_not_err u e same = absurd (cc)
 
-module _ {D L : Type 0} (shows : D → Bool) (shown : D → List ℕ) (writes : L → Bool) (written_in : L → List ℕ) (g : Given) where
+module _ {D L : Type 0} (shown : D → List ℕ) (written_in : L → List ℕ) (g : Given) where
   abbrev adds : Bool
   adds = g.config.auto_add_history
 
   abbrev Whole : Told → Result (List ℕ) ReadlineError → Work D L → Work D L → Result (Unit {0}) ReadlineError → Type 0
-  Whole t o old new result = LineWhole shows shown writes written_in adds (line_bytes g.screen t) o old new result
+  Whole t o old new result = LineWhole shown written_in adds (line_bytes g.screen t) o old new result
 
   abbrev All : Report → List SessionDeed → Coming → Work D L → Work D L → Coming → ReadlineError → Type 0
-  All report deeds coming old new left why = Reads shows shown writes written_in g report deeds coming old new left why
+  All report deeds coming old new left why = Reads shown written_in g report deeds coming old new left why
 
   -- an accepted line, and then a session
   then_reads : (t : Told) (o : Result (List ℕ) ReadlineError) (later : Report) (deeds more : List SessionDeed) (c c' : Coming) (old mid new : Work D L) (left : Coming) (why : ReadlineError)
-      → Whole t o old mid (Ok (tt {0})) → Done shows shown writes written_in adds deeds c old mid c' → All later more c' mid new left why
+      → Whole t o old mid (Ok (tt {0})) → Done shown written_in adds deeds c old mid c' → All later more c' mid new left why
       → All (line_reported t o later) (deeds ++ deeds_after o more) c old new left why
   then_reads t (Ok text) later deeds more c c' old mid new left why w d (inl (r, helped)) = inl (
     record {
       why_is = r.why_is;
       rest_is = r.rest_is;
       history_is = r.history_is ∙ (ap (λ h. remembered adds later.accepted h) w.history_is ∙ remembered_more adds text later.accepted old.history);
-      drawn = takes_then shows shown old.display mid.display new.display (line_bytes g.screen t) (display_bytes g.screen later) w.drawn r.drawn;
+      drawn = takes_then shown old.display mid.display new.display (line_bytes g.screen t) (display_bytes g.screen later) w.drawn r.drawn;
       wrote =
-          let P : List ℕ → Type 0 = λ line. Takes writes written_in old.lines new.lines (line ++ lines_text later.accepted) in
-          subst P (append-nil (line_text text)) (takes_then writes written_in old.lines mid.lines new.lines (lines_text (text ∷ [])) (lines_text later.accepted) w.wrote r.wrote);
+          let P : List ℕ → Type 0 = λ line. Takes written_in old.lines new.lines (line ++ lines_text later.accepted) in
+          subst P (append-nil (line_text text)) (takes_then written_in old.lines mid.lines new.lines (lines_text (text ∷ [])) (lines_text later.accepted) w.wrote r.wrote);
     },
     answers_both deeds more d.helped helped,
   )
   then_reads t (Ok text) later deeds more c c' old mid new left why w d (inr r) =
-      inr (cut_after shows shown writes written_in adds deeds more c c' old mid new left why d r)
+      inr (cut_after shown written_in adds deeds more c c' old mid new left why d r)
   then_reads t (Err e) later deeds more c c' old mid new left why w d r = absurd (ok_not_err (tt {0}) e w.result_is)
 
   -- the line that ends the session
@@ -84,7 +74,7 @@ module _ {D L : Type 0} (shows : D → Bool) (shown : D → List ℕ) (writes : 
       why_is = fault_by (Err e) e d refl w.result_is;
       rest_is = rest;
       history_is = w.history_is ∙ sym (remembered_none adds old.history);
-      drawn = let P : List ℕ → Type 0 = Takes shows shown old.display new.display in subst P (sym (append-nil (line_bytes g.screen t))) w.drawn;
+      drawn = let P : List ℕ → Type 0 = Takes shown old.display new.display in subst P (sym (append-nil (line_bytes g.screen t))) w.drawn;
       wrote = w.wrote;
     },
     answers_both deeds [] helped tt,
@@ -92,11 +82,11 @@ module _ {D L : Type 0} (shows : D → Bool) (shown : D → List ℕ) (writes : 
 
   -- a line that a fault cut off
   cut_reads : (report : Report) (deeds more : List SessionDeed) (c : Coming) (old new : Work D L) (left : Coming) (e : ReadlineError)
-      → LineCut shows shown writes written_in adds deeds c old new left (Err e) → All report (deeds ++ more) c old new left e
+      → LineCut shown written_in adds deeds c old new left (Err e) → All report (deeds ++ more) c old new left e
   cut_reads report deeds more c old new left e r =
       let same : e ≡ r.fault = fault_by (Err e) e r.fault refl r.result_is in
-      let P : ReadlineError → Type 0 = Cut shows shown writes written_in adds (deeds ++ more) c old new left in
-      inr (subst P (sym same) (cut_more shows shown writes written_in adds deeds more c old new left r.fault r.goes))
+      let P : ReadlineError → Type 0 = Cut shown written_in adds (deeds ++ more) c old new left in
+      inr (subst P (sym same) (cut_more shown written_in adds deeds more c old new left r.fault r.goes))
 
 lower : (a b m : ℕ) → a < b → b < suc m → a < m
 lower a b m less below = search arith
@@ -104,16 +94,14 @@ lower a b m less below = search arith
 -- ---- the loop
 
 module _ {S H D L : Type 0} (k : Known S D L) where
-  -- a session from this desk on, over what is heard of what is to come there
+  -- a session from this desk on
   abbrev pub Onwards : Given → ℕ → Desk S H D L → Work D L → Coming → ReadlineError → Type 0
-  Onwards g n d end left why =
-      (heard : Coming) × HeardAt k d heard
-      × Reads k.shows k.shown k.writes k.written_in g (session n g (hearing k d heard)) (session_deeds n g (hearing k d heard)) heard (work_of k d) end left why
+  Onwards g n d end left why = let x = session_state_of k d in
+      Reads k.shown k.written_in g (session n g x) (session_deeds n g x) x.coming (work_of k d) end left why
 
 -- lines were taken: what is read, drawn, kept and written from here on is, with them, what is so from the first desk on
 pub record Onward {S H D L : Type 0} (k : Known S D L) (g g' : Given) (first now : Desk S H D L) : Type 0 where
   pub told : IsTrue (feed_of k now).told → IsTrue (feed_of k first).told
-  pub steady : (feed_of k now).steady ≡ (feed_of k first).steady
   pub given : IsTrue (feed_of k now).told → g' ≡ g
   pub custom : g'.custom ≡ g.custom
   pub onward : IsTrue (feed_of k now).told → (n : ℕ) → (feed_of k first).bound < n → (m : ℕ) × ((feed_of k now).bound < m)
@@ -123,74 +111,57 @@ module _ {S H D L : Type 0} (k : Known S D L) where
   pub onward_nowhere : (g : Given) (d : Desk S H D L) → Onward k g g d d
   onward_nowhere g d = record {
     told = λ t. t;
-    steady = refl;
     given = λ t. refl;
     custom = refl;
     onward = λ t n b. (n, b, λ end left why r. r);
   }
 
-  -- what a line makes of what is heard
+  -- what a line makes of what is to come
   abbrev LinedAt : Given → ℕ → Desk S H D L → Desk S H D L → Result (Unit {0}) ReadlineError → Type 0
-  LinedAt g n now next result = (heard : Coming) × HeardAt k now heard
-      × Lined k g (line_in n g (hearing k now heard)) (line_deeds n g (hearing k now heard)) heard now next result
+  LinedAt g n now next result = let x = session_state_of k now in Lined k g (line_in n g x) (line_deeds n g x) now next result
 
   -- a line that was accepted, and a session after it
-  line_then : (g : Given) (n : ℕ) (now next : Desk S H D L) (heard later : Coming) (t : Told) → line_in (suc n) g (hearing k now heard) ≡ t
-      → LineWhole k.shows k.shown k.writes k.written_in g.config.auto_add_history (line_bytes g.screen t) t.outcome (work_of k now) (work_of k next) (Ok (tt {0}))
-      → Answered (calls_of g.screen t) → hearing k next later ≡ after_line g t (hearing k now heard) → (end : Work D L) (left : Coming) (why : ReadlineError)
-      → Reads k.shows k.shown k.writes k.written_in g (session n g (hearing k next later)) (session_deeds n g (hearing k next later)) later (work_of k next) end left why
-      → Reads k.shows k.shown k.writes k.written_in g (session (suc n) g (hearing k now heard)) (session_deeds (suc n) g (hearing k now heard)) heard (work_of k now) end left why
-  line_then g n now next heard later t is whole answered after end left why r =
-      let x = hearing k now heard in
-      let y = after_line g t x in
-      let X : SessionState → Type 0 = λ x. Reads k.shows k.shown k.writes k.written_in g (session n g x) (session_deeds n g x) x.coming (work_of k next) end left why in
-      let Q : Report → Type 0 = λ report. Reads k.shows k.shown k.writes k.written_in g report (session_deeds (suc n) g x) heard (work_of k now) end left why in
-      let R : List SessionDeed → Type 0 = λ deeds. Reads k.shows k.shown k.writes k.written_in g (line_reported t t.outcome (session n g y)) deeds heard (work_of k now) end left why in
-      let helped = deeds_answered (suc n) g x (subst (λ (t : Told). Answered (calls_of g.screen t)) (sym is) answered) in
-      subst Q (sym (session_by n g x t is)) (subst R (sym (deeds_by n g x t is))
-      (then_reads k.shows k.shown k.writes k.written_in g t t.outcome (session n g y) (line_deeds (suc n) g x) (session_deeds n g y) heard y.coming
-      (work_of k now) (work_of k next) end left why whole
-      (done_line k.shows k.shown k.writes k.written_in g.config.auto_add_history (suc n) g x t (work_of k now) (work_of k next) (Ok (tt {0})) is whole helped) (subst X after r)))
-
-  line_on : (g : Given) (n : ℕ) (now next : Desk S H D L) → (feed_of k next).steady ≡ (feed_of k now).steady → LinedAt g (suc n) now next (Ok (tt {0}))
+  line_on : (g : Given) (n : ℕ) (now next : Desk S H D L) → LinedAt g (suc n) now next (Ok (tt {0}))
       → (end : Work D L) (left : Coming) (why : ReadlineError) → Onwards k g n next end left why → Onwards k g (suc n) now end left why
-  line_on g n now next same (heard, is, inl w) end left why (later, later_is, r) =
-      let t = line_in (suc n) g (hearing k now heard) in
-      let steady = (feed_of k now).steady in
-      let P : Coming → Type 0 = λ c. Heard steady c later in
-      let Q : Bool → Type 0 = λ steady. Heard steady (feed_of k next).coming later in
-      let rest : Heard steady t.rest later = subst P (ap (λ (x : SessionState). x.coming) w.2) (subst Q same later_is) in
-      let first = heard_before (suc n) g (session_state_of k now) steady (feed_of k now).coming heard is t.outcome refl w.0.result_is later rest in
-      let over : SessionState → SessionState = λ x. record x { coming = later } in
-      (first.0, first.1, line_then g n now next first.0 later (record t { rest = later }) first.2 w.0 (deeds_ask (suc n) g (hearing k now heard) w.1) (ap over w.2) end left why r)
-  line_on g n now next same (heard, is, inr c) end left why r = absurd (ok_not_err (tt {0}) c.fault c.result_is)
+  line_on g n now next (inl w) end left why r =
+      let x = session_state_of k now in
+      let t = line_in (suc n) g x in
+      let y = after_line g t x in
+      let X : SessionState → Type 0 = λ x. Reads k.shown k.written_in g (session n g x) (session_deeds n g x) x.coming (work_of k next) end left why in
+      let Q : Report → Type 0 = λ report. Reads k.shown k.written_in g report (session_deeds (suc n) g x) x.coming (work_of k now) end left why in
+      let R : List SessionDeed → Type 0 = λ deeds. Reads k.shown k.written_in g (line_reported t t.outcome (session n g y)) deeds x.coming (work_of k now) end left why in
+      subst Q (sym (session_step n g x)) (subst R (sym (deeds_step n g x))
+      (then_reads k.shown k.written_in g t t.outcome (session n g y) (line_deeds (suc n) g x) (session_deeds n g y) x.coming y.coming
+      (work_of k now) (work_of k next) end left why w.0
+      (done_line k.shown k.written_in g.config.auto_add_history (suc n) g x t (work_of k now) (work_of k next) (Ok (tt {0})) refl w.0 w.1) (subst X w.2 r)))
+  line_on g n now next (inr c) end left why r = absurd (ok_not_err (tt {0}) c.fault c.result_is)
 
   -- a line that wasn't
   line_off : (g : Given) (n : ℕ) (now next : Desk S H D L) (e : ReadlineError) → LinedAt g (suc n) now next (Err e)
       → Onwards k g (suc n) now (work_of k next) (feed_of k next).coming e
-  line_off g n now next e (heard, is, lined) =
-      let x = hearing k now heard in
+  line_off g n now next e lined =
+      let x = session_state_of k now in
       let t = line_in (suc n) g x in
       let later = session n g (after_line g t x) in
-      let Q : Report → Type 0 = λ report. Reads k.shows k.shown k.writes k.written_in g report (session_deeds (suc n) g x) heard (work_of k now) (work_of k next) (feed_of k next).coming e in
-      let R : List SessionDeed → Type 0 = λ deeds. Reads k.shows k.shown k.writes k.written_in g (line_reported t t.outcome later) deeds heard (work_of k now) (work_of k next) (feed_of k next).coming e in
-      (heard, is, subst Q (sym (session_step n g x)) (subst R (sym (deeds_step n g x)) (by_cases x t lined)))
+      let Q : Report → Type 0 = λ report. Reads k.shown k.written_in g report (session_deeds (suc n) g x) x.coming (work_of k now) (work_of k next) (feed_of k next).coming e in
+      let R : List SessionDeed → Type 0 = λ deeds. Reads k.shown k.written_in g (line_reported t t.outcome later) deeds x.coming (work_of k now) (work_of k next) (feed_of k next).coming e in
+      subst Q (sym (session_step n g x)) (subst R (sym (deeds_step n g x)) (by_cases x t lined))
     where
-      by_cases : (x : SessionState) (t : Told) → Lined k g t (line_deeds (suc n) g x) heard now next (Err e)
-          → Reads k.shows k.shown k.writes k.written_in g (line_reported t t.outcome (session n g (after_line g t x)))
-          (line_deeds (suc n) g x ++ deeds_after t.outcome (session_deeds n g (after_line g t x))) heard (work_of k now) (work_of k next) (feed_of k next).coming e
+      by_cases : (x : SessionState) (t : Told) → Lined k g t (line_deeds (suc n) g x) now next (Err e)
+          → let c = (feed_of k now).coming in
+          Reads k.shown k.written_in g (line_reported t t.outcome (session n g (after_line g t x)))
+          (line_deeds (suc n) g x ++ deeds_after t.outcome (session_deeds n g (after_line g t x))) c (work_of k now) (work_of k next) (feed_of k next).coming e
       by_cases x t (inl w) =
-          ends_reads k.shows k.shown k.writes k.written_in g t t.outcome (session n g (after_line g t x)) (line_deeds (suc n) g x) (session_deeds n g (after_line g t x))
-          heard (work_of k now) (work_of k next) (feed_of k next).coming e w.0 w.1 (ap (λ (x : SessionState). x.coming) w.2)
+          ends_reads k.shown k.written_in g t t.outcome (session n g (after_line g t x)) (line_deeds (suc n) g x) (session_deeds n g (after_line g t x))
+          (feed_of k now).coming (work_of k now) (work_of k next) (feed_of k next).coming e w.0 w.1 (ap (λ (x : SessionState). x.coming) w.2)
       by_cases x t (inr c) =
-          cut_reads k.shows k.shown k.writes k.written_in g (line_reported t t.outcome (session n g (after_line g t x))) (line_deeds (suc n) g x)
-          (deeds_after t.outcome (session_deeds n g (after_line g t x))) heard (work_of k now) (work_of k next) (feed_of k next).coming e c
+          cut_reads k.shown k.written_in g (line_reported t t.outcome (session n g (after_line g t x))) (line_deeds (suc n) g x)
+          (deeds_after t.outcome (session_deeds n g (after_line g t x))) (feed_of k now).coming (work_of k now) (work_of k next) (feed_of k next).coming e c
 
   pub onward_line : (g g' g'' : Given) (first now next : Desk S H D L) → Onward k g g' first now
       → TakesLine k g' g'' now next (Ok (tt {0})) → Onward k g g'' first next
   onward_line g g' g'' first now next before line = record {
     told = λ t. before.told (line.told t);
-    steady = line.steady ∙ before.steady;
     given = λ t. line.given t ∙ before.given (line.told t);
     custom = line.custom ∙ before.custom;
     onward = λ t n b. let so = before.onward (line.told t) n b in went t so.0 so.1 so.2;
@@ -206,7 +177,7 @@ module _ {S H D L : Type 0} (k : Known S D L) where
           let lined = subst P (before.given (line.told t)) (line.goes t (suc m) b) in (
             m,
             lower (feed_of k next).bound (feed_of k now).bound m line.falls b,
-            λ end left why r. so end left why (line_on g m now next line.steady lined end left why r),
+            λ end left why r. so end left why (line_on g m now next lined end left why r),
           )
 
   pub onward_end : (g g' g'' : Given) (first now next : Desk S H D L) (e : ReadlineError) → Onward k g g' first now → TakesLine k g' g'' now next (Err e)
@@ -222,21 +193,7 @@ module _ {S H D L : Type 0} (k : Known S D L) where
           let P : Given → Type 0 = λ g. LinedAt g (suc m) now next (Err e) in
           so (line_off g m now next e (subst P (before.given (line.told t)) (line.goes t (suc m) b)))
 
-<<<<<<< ours
       reason_kept : (e : ReadlineError) → DeskReason k g' next e → DeskReason k g next e
-=======
-      reason_kept : (e : ReadlineError) → DeskReason k (feed_of k next).told g' next e → DeskReason k (feed_of k next).told g next e
-      reason_kept Eof r = tt
-      reason_kept Interrupted r = tt
-      reason_kept NotUtf8 r = tt
-      reason_kept PasteOutOfPlace r = tt
-      reason_kept Reader r = r
-      reason_kept Display r = r
-      reason_kept Lines r = r
-      reason_kept HistoryText r = r
-      reason_kept Helper r = λ t. let fails = r t in
-          let P : Given → Type 0 = λ g. HelperFails g.helping fails.0 in (fails.0, subst P (before.given (line.told t)) fails.1)
->>>>>>> theirs
       reason_kept Handler r = subst HandlerFails before.custom r
       reason_kept _ r = r
 

@@ -22,14 +22,14 @@ CloseReason outcome was_failed display lines e =
 
 -- an accepted line is drawn to its end, kept and written; after the endings that say so a new row
 -- is drawn, and after the others nothing is done; whatever comes isn't read
-pub record Closes {D L : Type 0} (shows : D → Bool) (shown : D → List ℕ) (show_failed : D → Bool)
-    (writes : L → Bool) (written_in : L → List ℕ) (write_failed : L → Bool) (adds : Bool)
+pub record Closes {D L : Type 0} (shown : D → List ℕ) (show_failed : D → Bool)
+    (written_in : L → List ℕ) (write_failed : L → Bool) (adds : Bool)
     (outcome : Result (List ℕ) ReadlineError) (old new : Work D L)
     (result : Result (Unit {0}) ReadlineError) : Type 0 where
-  pub goes : LineWhole shows shown writes written_in adds
+  pub goes : LineWhole shown written_in adds
       (break_if (breaks outcome)) outcome old new
       result
-      ⊎ ((coming : Coming) → LineCut shows shown writes written_in adds
+      ⊎ ((coming : Coming) → LineCut shown written_in adds
       (close_deeds outcome) coming old new coming result)
   pub stays : IfErr outcome (λ e. breaks_after e ≡ false → (new ≡ old) × (result ≡ Err e))
   pub reason : IfErr result (CloseReason outcome (show_failed old.display)

@@ -2,8 +2,6 @@
 use Rattle.std.specs.Prelude.{◌≡◌, ◌⊎◌, ℕ, ◌<◌, Bool, List, Result, IsTrue, IfErr, OnOk}
 use Rattle.line_config.specs.Feed.{Feed}
 use Rattle.line_config.specs.declared.errors.ReadlineError.{ReadlineError}
-use Rattle.line_keys.specs.Coming.{Coming}
-use Rattle.line_keys.specs.Early.{Heard}
 use Rattle.line_keys.specs.Feeds.{KeyFeed}
 use Rattle.line_editor.specs.Lines.{Told}
 use Rattle.line_screen.specs.Calls.{sink_of}
@@ -16,21 +14,17 @@ use Rattle.keyline.specs.declared.desk.Desk.{Desk}
 -- what is known of a source, a display and a sink of lines
 pub record Known (S D L : Type 0) : Type 0 where
   pub feed : S → Feed
-  pub shows : D → Bool
   pub shown : D → List ℕ
   pub show_failed : D → Bool
-  pub writes : L → Bool
   pub written_in : L → List ℕ
   pub write_failed : L → Bool
 
-abbrev pub known_by : {S D L : Type 0} → (S → Feed) → (D → Bool) → (D → List ℕ) → (D → Bool)
-    → (L → Bool) → (L → List ℕ) → (L → Bool) → Known S D L
-known_by feed shows shown show_failed writes written_in write_failed = record {
+abbrev pub known_by : {S D L : Type 0} → (S → Feed) → (D → List ℕ) → (D → Bool) → (L → List ℕ)
+    → (L → Bool) → Known S D L
+known_by feed shown show_failed written_in write_failed = record {
   feed = feed;
-  shows = shows;
   shown = shown;
   show_failed = show_failed;
-  writes = writes;
   written_in = written_in;
   write_failed = write_failed;
 }
@@ -42,14 +36,6 @@ module _ {S H D L : Type 0} (k : Known S D L) where
   abbrev pub session_state_of : Desk S H D L → SessionState
   session_state_of d = record { ring = d.ring; history = d.history; coming = (feed_of d).coming }
 
-  -- the same, where this is what is heard of what is to come
-  abbrev pub hearing : Desk S H D L → Coming → SessionState
-  hearing d heard = record (session_state_of d) { coming = heard }
-
-  -- what is heard of what is to come
-  abbrev pub HeardAt : Desk S H D L → Coming → Type 0
-  HeardAt d heard = Heard (feed_of d).steady (feed_of d).coming heard
-
   abbrev pub work_of : Desk S H D L → Work D L
   work_of d = record { display = sink_of d.out; lines = d.lines; history = d.history }
 
@@ -58,42 +44,31 @@ module _ {S H D L : Type 0} (k : Known S D L) where
   DeskReason g d e = SessionReason g (k.feed (source_of d.reader)).failed
       (k.show_failed (sink_of d.out)) (k.write_failed d.lines) e
 
-  abbrev pub Lined : Given → Told → List SessionDeed → Coming → Desk S H D L → Desk S H D L
+  abbrev pub Lined : Given → Told → List SessionDeed → Desk S H D L → Desk S H D L
       → Result (Unit {0}) ReadlineError → Type 0
-  Lined g t deeds heard old new result =
-      (LineWhole k.shows k.shown k.writes k.written_in g.config.auto_add_history
+  Lined g t deeds old new result =
+      (LineWhole k.shown k.written_in g.config.auto_add_history
       (line_bytes g.screen t) t.outcome (work_of old) (work_of new) result
       × HelperAnswers deeds × (session_state_of new ≡ after_line g t (session_state_of old)))
-      ⊎ LineCut k.shows k.shown k.writes k.written_in g.config.auto_add_history deeds
-      heard (work_of old) (work_of new) (feed_of new).coming result
+      ⊎ LineCut k.shown k.written_in g.config.auto_add_history deeds
+      (feed_of old).coming (work_of old) (work_of new) (feed_of new).coming result
 
   -- THE relation of a line
   pub record TakesLine (g g' : Given) (old new : Desk S H D L)
       (result : Result (Unit {0}) ReadlineError) : Type 0 where
     pub goes : IsTrue (feed_of new).told → (n : ℕ) → (feed_of old).bound < n
-        → (heard : Coming) × HeardAt old heard
-        × Lined g (line_in n g (hearing old heard)) (line_deeds n g (hearing old heard)) heard
-        old new result
+        → let x = session_state_of old in
+        Lined g (line_in n g x) (line_deeds n g x) old new result
     pub given : IsTrue (feed_of new).told → g' ≡ g
     pub custom : g'.custom ≡ g.custom
     pub told : IsTrue (feed_of new).told → IsTrue (feed_of old).told
-    pub steady : (feed_of new).steady ≡ (feed_of old).steady
     pub falls : OnOk result ((feed_of new).bound < (feed_of old).bound)
-<<<<<<< ours
     pub reason : IfErr result (DeskReason g new)
-=======
-    pub reason : IfErr result (DeskReason (feed_of new).told g new)
->>>>>>> theirs
 
   -- THE relation of all lines
   pub record TakesLines (g : Given) (old new : Desk S H D L) (why : ReadlineError) : Type 0 where
     pub goes : IsTrue (feed_of new).told → (n : ℕ) → (feed_of old).bound < n
-        → (heard : Coming) × HeardAt old heard
-        × Reads k.shows k.shown k.writes k.written_in g
-        (session n g (hearing old heard)) (session_deeds n g (hearing old heard)) heard
+        → let x = session_state_of old in
+        Reads k.shown k.written_in g (session n g x) (session_deeds n g x) (feed_of old).coming
         (work_of old) (work_of new) (feed_of new).coming why
-<<<<<<< ours
     pub reason : DeskReason g new why
-=======
-    pub reason : DeskReason (feed_of new).told g new why
->>>>>>> theirs

@@ -17,7 +17,7 @@ use Rattle.line_keys.specs.Answers.{Custom}
 use Rattle.line_keys.specs.Coming.{Coming}
 use Rattle.line_editor.specs.Running.{Helping, helping_by}
 use Rattle.line_screen.specs.Calls.{screen_of}
-use Rattle.keyline.specs.Desks.{Known, hearing}
+use Rattle.keyline.specs.Desks.{Known, session_state_of}
 use Rattle.keyline.specs.Plays.{Opens, Plays}
 use Rattle.keyline.specs.SessionShows.{Displays}
 use Rattle.keyline.specs.Sessions.{Given, given_by}
@@ -72,19 +72,12 @@ given_to options desk = given_by (config_of options) nothing_bound (string_bytes
     (screen_of desk.out) (edit_helping desk.helper)
 
 -- a session was opened by these options and words, and run
-pub record EditsByOptions {S D L T : Type 0} (k : Known S D L) (told : T → Bool) (held : T → List ℕ)
-<<<<<<< ours
-    (failed : T → Bool) (options : Options) (words : Option (List (List ℕ))) (history : Feed)
-    (source : S) (display : D) (lines : L) (text : T) (ended : Ended S D L T) : Type 0 where
+pub record EditsByOptions {F S D L T : Type 0} (loads : F → Feed) (k : Known S D L)
+    (held : T → List ℕ) (failed : T → Bool) (options : Options) (words : Option (List (List ℕ)))
+    (history : F) (source : S) (display : D) (lines : L) (text : T) (ended : Ended S D L T)
+    : Type 0 where
   pub desk : Desk S EditHelper D L
-  pub opens : Opens k.feed (config_of options) history (helper_of options words) source
+  pub opens : Opens loads k.feed (config_of options) history (helper_of options words) source
       options.columns display lines desk
-=======
-    (failed : T → Bool) (options : Options) (loads : Bool) (history : Feed) (source : S) (display : D)
-    (lines : L) (text : T) (ended : Ended S D L T) : Type 0 where
-  pub desk : Desk S BracketHelper D L
-  pub opens : Opens k.feed loads (config_of options) history (helper_of options) source options.columns
-      display lines desk
->>>>>>> theirs
-  pub plays : Plays k told held failed (given_to options desk) desk text ended
-  pub shows : (heard : Coming) → Displays (given_to options desk) (hearing k desk heard)
+  pub plays : Plays k held failed (given_to options desk) desk text ended
+  pub shows : Displays (given_to options desk) (session_state_of k desk)

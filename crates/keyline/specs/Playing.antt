@@ -3,7 +3,7 @@
 use Rattle.std.specs.Prelude.{◌≡◌, ◌⊎◌, ⊤, ℕ, Bool, true, false, List, [], ◌∷◌, ◌++◌, Result, Ok, Err, IsTrue}
 use Rattle.line_config.specs.declared.errors.ReadlineError.{ReadlineError}
 use Rattle.line_config.specs.declared.errors.ReadlineError.TheVariants.{Eof, Interrupted, NotUtf8, PasteOutOfPlace, Reader, Display, Lines, HistoryText, Helper, Handler, Memory}
-use Rattle.line_config.specs.Sending.{Takes, TakesSome}
+use Rattle.line_config.specs.Sending.{AppendsSome, Takes}
 use Rattle.line_help.specs.History.{Filed, all_saved}
 use Rattle.line_help.specs.HistoryText.{text_to_save}
 use Rattle.line_keys.specs.Answers.{HandlerFails}
@@ -11,8 +11,8 @@ use Rattle.line_keys.specs.Coming.{Coming, made_of, left_by}
 use Rattle.keyline.specs.Deeds.{SessionDeed, Draws, Helped, Hears, Keeps, Writes, HelperAnswers, bytes_drawn, left_of_deeds, lines_kept, lines_written}
 use Rattle.keyline.specs.Sessions.{Given, Report, remembered, history_after, line_text, lines_text, display_bytes}
 
--- why lines are read no further, whatever is told: what was given, or a device that has failed.
--- Where a helper fails the deeds say
+-- why lines are read no further: what was given, or a device that has failed. Where a helper fails
+-- the deeds say
 abbrev pub SessionReason : Given → Bool → Bool → Bool → ReadlineError → Type 0
 SessionReason g source display lines Reader = IsTrue source
 SessionReason g source display lines Display = IsTrue display
@@ -50,9 +50,9 @@ FailsToHelp (Helped fails ∷ more) = IsTrue fails
 FailsToHelp deeds = ⊥
 
 -- the next one is to read
-abbrev pub IsHeard : List SessionDeed → Type 0
-IsHeard (Hears rest ∷ more) = ⊤
-IsHeard deeds = ⊥
+abbrev pub IsRead : List SessionDeed → Type 0
+IsRead (Hears rest ∷ more) = ⊤
+IsRead deeds = ⊥
 
 -- the next one is one that memory may be wanting for: none is taken to write a line, nor to keep one
 -- where lines aren't added, nor after all of them
@@ -75,15 +75,14 @@ Stops adds Lines coming next left begun torn =
 Stops adds Helper coming next left begun torn =
     (left ≡ coming) × FailsToHelp next × (begun ≡ []) × (torn ≡ [])
 Stops adds Memory coming next left begun torn =
-    (((left ≡ coming) × TakesMemory adds next) ⊎ ((left ≡ left_by Memory) × IsHeard next))
+    (((left ≡ coming) × TakesMemory adds next) ⊎ ((left ≡ left_by Memory) × IsRead next))
     × (begun ≡ []) × (torn ≡ [])
 Stops adds why coming next left begun torn = ⊥
 
-module _ {D L : Type 0} (shows : D → Bool) (shown : D → List ℕ) (writes : L → Bool)
-    (written_in : L → List ℕ) where
+module _ {D L : Type 0} (shown : D → List ℕ) (written_in : L → List ℕ) where
   -- of these deeds the first were done, in order, and a fault stopped the next one: the display has
   -- the bytes drawn, the helper gave an answer wherever it was asked, the source has left what comes
-  -- after what was heard, the sink of lines has the lines written, and the history has those kept
+  -- after what was read, the sink of lines has the lines written, and the history has those kept
   pub record Cut (adds : Bool) (deeds : List SessionDeed) (coming : Coming) (old new : Work D L)
       (left : Coming) (why : ReadlineError) : Type 0 where
     pub done : List SessionDeed
@@ -92,10 +91,9 @@ module _ {D L : Type 0} (shows : D → Bool) (shown : D → List ℕ) (writes : 
     pub begun : List ℕ
     pub torn : List ℕ
     pub stops : Stops adds why (left_of_deeds coming done) next left begun torn
-    pub drawn : Takes shows shown old.display new.display (bytes_drawn done ++ begun)
+    pub drawn : Takes shown old.display new.display (bytes_drawn done ++ begun)
     pub helped : HelperAnswers done
-    pub wrote : Takes writes written_in old.lines new.lines
-        (lines_text (lines_written done) ++ torn)
+    pub wrote : Takes written_in old.lines new.lines (lines_text (lines_written done) ++ torn)
     pub history_is : new.history ≡ remembered adds (lines_kept done) old.history
 
   -- ---- a line, or the end of one
@@ -105,8 +103,8 @@ module _ {D L : Type 0} (shows : D → Bool) (shown : D → List ℕ) (writes : 
       (old new : Work D L) (result : Result (Unit {0}) ReadlineError) : Type 0 where
     pub result_is : result ≡ made_of (λ text. tt {0}) outcome
     pub history_is : new.history ≡ history_after adds outcome old.history
-    pub drawn : Takes shows shown old.display new.display bytes
-    pub wrote : Takes writes written_in old.lines new.lines (lines_text (accepted_of outcome))
+    pub drawn : Takes shown old.display new.display bytes
+    pub wrote : Takes written_in old.lines new.lines (lines_text (accepted_of outcome))
 
   -- a fault cut its deeds
   pub record LineCut (adds : Bool) (deeds : List SessionDeed) (coming : Coming) (old new : Work D L)
@@ -124,8 +122,8 @@ module _ {D L : Type 0} (shows : D → Bool) (shown : D → List ℕ) (writes : 
     pub why_is : why ≡ report.ending
     pub rest_is : left ≡ report.rest
     pub history_is : new.history ≡ remembered g.config.auto_add_history report.accepted old.history
-    pub drawn : Takes shows shown old.display new.display (display_bytes g.screen report)
-    pub wrote : Takes writes written_in old.lines new.lines (lines_text report.accepted)
+    pub drawn : Takes shown old.display new.display (display_bytes g.screen report)
+    pub wrote : Takes written_in old.lines new.lines (lines_text report.accepted)
 
   -- whole, with a helper that gave an answer wherever it was asked, or a fault cut its deeds
   abbrev pub Reads : Given → Report → List SessionDeed → Coming → Work D L → Work D L → Coming
@@ -138,12 +136,12 @@ module _ {D L : Type 0} (shows : D → Bool) (shown : D → List ℕ) (writes : 
 
 -- the history was saved, so that nothing in it is new; or the sink of its text has failed, and has
 -- taken a beginning of the text
-pub record Saves {T : Type 0} (told : T → Bool) (held : T → List ℕ) (failed : T → Bool)
+pub record Saves {T : Type 0} (held : T → List ℕ) (failed : T → Bool)
     (kept history' : Filed) (text text' : T) (saved : Bool) : Type 0 where
   pub done : saved ≡ true → (history' ≡ all_saved kept)
-      × Takes told held text text' (text_to_save kept)
+      × Takes held text text' (text_to_save kept)
   pub refused : saved ≡ false → (history' ≡ kept) × IsTrue (failed text')
-      × TakesSome told held text text' (text_to_save kept)
+      × AppendsSome (held text) (text_to_save kept) (held text')
 
 -- a fault comes before that of the history's text
 abbrev pub ending_after : ReadlineError → Bool → ReadlineError

@@ -1,18 +1,17 @@
 -- A session that is opened and run: what it is opened on, and what it gives back.
-use Rattle.std.specs.Prelude.{◌≡◌, ℕ, ◌<◌, Bool, false, List, Option, Result, Err, IsOk, IsTrue, string_bytes}
-use Rattle.line_config.specs.Feed.{Feed}
+use Rattle.std.specs.Prelude.{◌≡◌, ℕ, ◌<◌, Bool, false, List, Option, None, Result, Err, IsOk, IsTrue, string_bytes}
+use Rattle.line_config.specs.Feed.{AlwaysTold, Feed}
 use Rattle.line_config.specs.declared.config.Config.{Config}
 use Rattle.line_config.specs.declared.errors.ReadlineError.{ReadlineError}
 use Rattle.line_config.specs.declared.errors.ReadlineError.TheVariants.{Reader, HistoryText, Memory}
 use Rattle.line_help.specs.History.{Filed, settings_of, nothing_filed}
 use Rattle.line_help.specs.HistoryText.{ReadsGood, text_rows, load_answer, load_leaves}
-use Rattle.line_keys.specs.Coming.{Coming}
 use Rattle.line_record.specs.Ring.{new_ring}
 use Rattle.line_screen.specs.Calls.{screen_of, sink_of}
 use Rattle.line_screen.specs.Reader.{coming_in, kept_of, source_of}
 use Rattle.line_screen.specs.declared.reading.reader.KeyReader.{KeyReader}
 use Rattle.keyline.specs.Deeds.{session_deeds}
-use Rattle.keyline.specs.Desks.{Known, HeardAt, feed_of, hearing, work_of}
+use Rattle.keyline.specs.Desks.{Known, feed_of, session_state_of, work_of}
 use Rattle.keyline.specs.Endings.{ending_of}
 use Rattle.keyline.specs.Playing.{SessionReason, Reads, Saves, ending_after}
 use Rattle.keyline.specs.Sessions.{Given, coming_from, session}
@@ -32,41 +31,31 @@ abbrev pub loaded_from : Config → Feed → Filed
 loaded_from config text =
     load_leaves text.last (text_rows text.last text.coming) (nothing_filed (settings_of config))
 
-<<<<<<< ours
 -- why no history is loaded of a source's text, where this is left of the source: it has failed, a
 -- row isn't UTF-8, or memory is wanting, and each row that was read is UTF-8
 abbrev pub LoadRefused : Config → Feed → Feed → ReadlineError → Type 0
 LoadRefused config text left Reader = IsTrue left.failed
-    × (IsTrue text.told → IsTrue text.steady → loads config text ≡ Err Reader)
+    × (IsTrue left.told → loads config text ≡ Err Reader)
 LoadRefused config text left HistoryText = (left.failed ≡ false)
-    × (IsTrue text.told → loads config text ≡ Err HistoryText)
+    × (IsTrue left.told → loads config text ≡ Err HistoryText)
 LoadRefused config text left Memory = (left.failed ≡ false)
-    × (IsTrue text.told → ReadsGood text.coming left.coming)
+    × (IsTrue left.told → ReadsGood text.coming left.coming)
 LoadRefused config text left why = ⊥
 
--- what is left of a source is told and steady as it was, and ends as it did
+-- what is left of a source ends as it did, and agrees where it agreed before
 pub record Remains (text left : Feed) : Type 0 where
-  pub told : IsTrue text.told → IsTrue left.told
-  pub steady : left.steady ≡ text.steady
+  pub told : IsTrue left.told → IsTrue text.told
   pub last : left.last ≡ text.last
-=======
--- why no history is loaded, where its source gave what was said: its text isn't UTF-8, its source
--- fails, or memory is wanting
-abbrev pub LoadFault : Bool → Config → Feed → ReadlineError → Type 0
-LoadFault told config text HistoryText = IsTrue told → loads config text ≡ Err HistoryText
-LoadFault told config text Reader = IsTrue told → loads config text ≡ Err Reader
-LoadFault told config text Memory = ⊤
-LoadFault told config text why = ⊥
->>>>>>> theirs
 
 -- a history that was loaded, where its source gave what was said
-pub record Loaded (told : Bool) (config : Config) (text : Feed) (history : Filed) : Type 0 where
-  pub whole : IsTrue told → IsOk (loads config text)
-  pub history_is : IsTrue told → history ≡ loaded_from config text
+pub record Loaded (Told : Type 0) (config : Config) (text : Feed) (history : Filed) : Type 0 where
+  pub whole : Told → IsOk (loads config text)
+  pub history_is : Told → history ≡ loaded_from config text
 
 -- a session's beginning
-pub record Begins (config : Config) (prompt : List ℕ) (text : Feed) (b : Beginning) : Type 0 where
-  pub history : Loaded config text b.history
+pub record Begins (Told : Type 0) (config : Config) (prompt : List ℕ) (text : Feed) (b : Beginning)
+    : Type 0 where
+  pub history : Loaded Told config text b.history
   pub ring : b.ring ≡ new_ring 60
   pub prompt_is : string_bytes b.prompt ≡ prompt
 
@@ -82,15 +71,17 @@ pub record Unopens {F S D L T : Type 0} (feed : F → Feed) (config : Config) (h
   pub lines_are : unopened.lines ≡ lines
   pub text_is : unopened.text ≡ text
 
--- a session's desk: the devices as they were handed in, nothing read, and nothing drawn
-pub record Opens {S H D L : Type 0} (feed : S → Feed) (told : Bool) (config : Config) (text : Feed)
-    (helper : Option H) (source : S) (columns : ℕ) (display : D) (lines : L) (desk : Desk S H D L)
-    : Type 0 where
-  pub history : Loaded told config text desk.history
+-- a session's desk: the devices as they were handed in, nothing read, and nothing drawn. The
+-- history's source is gone: its text is known where it tells whatever comes
+pub record Opens {F S H D L : Type 0} (text : F → Feed) (feed : S → Feed) (config : Config)
+    (history : F) (helper : Option H) (source : S) (columns : ℕ) (display : D) (lines : L)
+    (desk : Desk S H D L) : Type 0 where
+  pub history : Loaded (AlwaysTold text) config (text history) desk.history
   pub ring : desk.ring ≡ new_ring 60
   pub coming : coming_in feed desk.reader
       ≡ coming_from config.edit_mode (feed source).coming (feed source).last
   pub source_is : source_of desk.reader ≡ source
+  pub kept : kept_of desk.reader ≡ None
   pub screen : screen_of desk.out ≡ record {
     columns = columns;
     mode = config.grapheme_cluster_mode;
@@ -103,31 +94,23 @@ pub record Opens {S H D L : Type 0} (feed : S → Feed) (told : Bool) (config : 
 -- ---- running
 
 -- THE relation of a session
-pub record Plays {S H D L T : Type 0} (k : Known S D L) (told : T → Bool) (held : T → List ℕ)
-    (failed : T → Bool) (g : Given) (desk : Desk S H D L) (text : T) (ended : Ended S D L T)
-    : Type 0 where
+pub record Plays {S H D L T : Type 0} (k : Known S D L) (held : T → List ℕ) (failed : T → Bool)
+    (g : Given) (desk : Desk S H D L) (text : T) (ended : Ended S D L T) : Type 0 where
   -- the history as the lines left it, the reader of the source that is handed back, with the byte
   -- that it keeps, why there was no further line, and whether the history was saved
   pub kept : Filed
   pub reader : KeyReader S
   pub why : ReadlineError
   pub saved : Bool
-  -- with more fuel than the source has keys and pastes
+  -- where the source gave what was said, with more fuel than it has keys and pastes
   pub goes : IsTrue (k.feed ended.source).told → (n : ℕ) → (feed_of k desk).bound < n
-      → (heard : Coming) × HeardAt k desk heard
-      × Reads k.shows k.shown k.writes k.written_in g
-      (session n g (hearing k desk heard)) (session_deeds n g (hearing k desk heard)) heard
-      (work_of k desk)
+      → let x = session_state_of k desk in
+      Reads k.shown k.written_in g (session n g x) (session_deeds n g x) x.coming (work_of k desk)
       (record { display = ended.display; lines = ended.lines; history = kept })
       (coming_in k.feed reader) why
   pub source_is : ended.source ≡ source_of reader
   pub ahead_is : ended.ahead ≡ kept_of reader
-  pub saves : Saves told held failed kept ended.history text ended.text saved
+  pub saves : Saves held failed kept ended.history text ended.text saved
   pub ending_is : ended.ending ≡ ending_of (ending_after why saved)
-<<<<<<< ours
   pub reason : SessionReason g (k.feed ended.source).failed (k.show_failed ended.display)
       (k.write_failed ended.lines) why
-=======
-  pub reason : SessionReason (k.feed ended.source).told g (k.feed ended.source).failed
-      (k.show_failed ended.display) (k.write_failed ended.lines) why
->>>>>>> theirs

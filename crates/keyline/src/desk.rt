@@ -19,7 +19,7 @@ use std::alloc::Global;
 
 /// A text and a newline, flushed.
 fn send_line<L: Sink>(lines: &mut L, text: &str) -> Result<(), DeviceFailed>
-    ensures { Sends L.told L.held L.has_failed (text.now ++ 0x0A ∷ []) lines.old lines.new
+    ensures { Sends L.held L.has_failed (text.now ++ 0x0A ∷ []) lines.old lines.new
         result }
 {
     lines.write(text.as_bytes())?;
@@ -30,7 +30,7 @@ fn send_line<L: Sink>(lines: &mut L, text: &str) -> Result<(), DeviceFailed>
 
 /// The same, with the refusal of lines.
 fn write_line<L: Sink>(lines: &mut L, text: &str) -> Result<(), ReadlineError>
-    ensures sends { Sends L.told L.held L.has_failed (line_text text.now) lines.old lines.new
+    ensures sends { Sends L.held L.has_failed (line_text text.now) lines.old lines.new
         result }
     ensures fault { IfErr result (λ e. e ≡ Lines) }
 {
@@ -73,7 +73,7 @@ fn keep<D: Sink + Drop, L: Sink>(
     history: &mut FileHistory,
     lines: &mut L,
 ) -> Result<(), ReadlineError>
-    ensures closes { Closes D.told D.held D.has_failed L.told L.held L.has_failed adds (Ok text.now)
+    ensures closes { Closes D.held D.has_failed L.held L.has_failed adds (Ok text.now)
         (work (sink_of out.old) lines.old history.old)
         (work (sink_of out.new) lines.new history.new) result }
     ensures screen { screen_of out.new ≡ screen_of out.old }
@@ -92,7 +92,7 @@ fn close<D: Sink + Drop, L: Sink>(
     history: &mut FileHistory,
     lines: &mut L,
 ) -> Result<(), ReadlineError>
-    ensures closes { Closes D.told D.held D.has_failed L.told L.held L.has_failed adds
+    ensures closes { Closes D.held D.has_failed L.held L.has_failed adds
         (made_of string_bytes outcome)
         (work (sink_of out.old) lines.old history.old)
         (work (sink_of out.new) lines.new history.new) result }
@@ -148,7 +148,7 @@ impl<S: Source + Drop, H: Helper + Drop, D: Sink + Drop, L: Sink + Drop> Desk<S,
         ensures { let custom = custom_of bindings.now B.decides in
             let helps = helping_by H.hint_of H.verdict_of H.completion_of H.update_of H.marks in
             let given = given_by config.now custom prompt.now in
-            let known = known_by S.feed D.told D.held D.has_failed L.told L.held L.has_failed in
+            let known = known_by S.feed D.held D.has_failed L.held L.has_failed in
             TakesLine known (given (screen_of self.out) (helps self.helper))
             (given (screen_of result.desk.out) (helps result.desk.helper))
             self result.desk result.outcome }
@@ -200,7 +200,7 @@ impl<S: Source + Drop, H: Helper + Drop, D: Sink + Drop, L: Sink + Drop> Desk<S,
         ensures { let custom = custom_of bindings.now B.decides in
             let helps = helping_by H.hint_of H.verdict_of H.completion_of H.update_of H.marks in
             let given = given_by config.now custom prompt.now in
-            let known = known_by S.feed D.told D.held D.has_failed L.told L.held L.has_failed in
+            let known = known_by S.feed D.held D.has_failed L.held L.has_failed in
             TakesLines known (given (screen_of self.out) (helps self.helper))
             self result.desk result.why }
     {

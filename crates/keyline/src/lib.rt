@@ -21,8 +21,8 @@ pub use ending::Ending;
 pub use line_buffer::{ChangeListener, LineBuffer};
 pub use line_config::{
     Behavior, BellStyle, Builder, ColorMode, CompletionType, Config, Configurer, DeviceFailed,
-    EditMode, HistoryDuplicates, HookFault, Last, ReadSource, ReadlineError, Recorded, Sink,
-    SliceSource, Source, VecSink, WriteSink,
+    EditMode, HistoryDuplicates, HookFault, Last, ReadSource, ReadlineError, Sink, SliceSource,
+    Source, VecSink, WriteSink,
 };
 pub use line_editor::{
     Anchor, At, CharSearch, Direction, GraphemeClusterMode, Movement, RepeatCount, Unit, Word,
@@ -40,10 +40,5 @@ pub use line_keys::{
     Invoke, KeyCode, KeyEvent, Keys, Modifiers, Text,
 };
 pub use options::{Options, Parsed, parse};
-<<<<<<< ours
 pub use program::edit;
 pub use session::{Ended, Session, Unopened};
-=======
-pub use program::{edit, play};
-pub use session::{Ended, Session};
->>>>>>> theirs

@@ -1,11 +1,10 @@
 //! Sessions: from key bytes to accepted lines, a history and display bytes.
 
-ghost use Rattle.std.specs.Prelude.{◌≡◌, ◌≤◌, IfErr, IfOk, false, string_bytes};
+ghost use Rattle.std.specs.Prelude.{◌≡◌, ◌≤◌, IfErr, IfOk, IsTrue, false, string_bytes};
 ghost use Rattle.line_keys.specs.Answers.{custom_of};
-ghost use Rattle.line_keys.specs.Coming.{Coming};
 ghost use Rattle.line_editor.specs.Running.{helping_by};
 ghost use Rattle.line_screen.specs.Calls.{screen_of};
-ghost use Rattle.keyline.specs.Desks.{known_by, hearing};
+ghost use Rattle.keyline.specs.Desks.{known_by, session_state_of};
 ghost use Rattle.keyline.specs.Playing.{Saves, ending_after};
 ghost use Rattle.keyline.specs.Plays.{Begins, LoadRefused, Loaded, Opens, Plays, Remains, Unopens};
 ghost use Rattle.keyline.specs.SessionShows.{Displays};
@@ -119,15 +118,11 @@ fn load<F: Source>(
     config: &Config,
     source: &mut F,
 ) -> Result<FileHistory, ReadlineError>
-<<<<<<< ours
-    ensures loaded { IfOk result (Loaded config.now (F.feed source.old)) }
+    ensures loaded { IfOk result (Loaded (IsTrue (F.feed source.new).told) config.now
+        (F.feed source.old)) }
     ensures fault { IfErr result (LoadRefused config.now (F.feed source.old)
         (F.feed source.new)) }
     ensures remains { Remains (F.feed source.old) (F.feed source.new) }
-=======
-    ensures loaded { IfOk result (Loaded (F.feed source.new).told config.now (F.feed source.old)) }
-    ensures fault { IfErr result (LoadFault (F.feed source.new).told config.now (F.feed source.old)) }
->>>>>>> theirs
 {
     let mut history = FileHistory::with_config(alloc, config);
     history.load_from(alloc, source)?;
@@ -150,7 +145,8 @@ fn begin<F: Source>(
     source: &mut F,
 ) -> Result<Beginning, ReadlineError>
     requires { (F.feed source.old).failed ≡ false }
-    ensures ok { IfOk result (Begins config.now prompt.now (F.feed source.old)) }
+    ensures ok { IfOk result (Begins (IsTrue (F.feed source.new).told) config.now prompt.now
+        (F.feed source.old)) }
     ensures fault { IfErr result (LoadRefused config.now (F.feed source.old)
         (F.feed source.new)) }
     ensures remains { Remains (F.feed source.old) (F.feed source.new) }
@@ -167,7 +163,7 @@ fn begin<F: Source>(
 
 /// Saves the history, where an entry is new, and answers whether the sink took it.
 fn save<T: Sink>(history: &mut FileHistory, text: &mut T) -> bool
-    ensures { Saves T.told T.held T.has_failed history.old history.new text.old text.new result }
+    ensures { Saves T.held T.has_failed history.old history.new text.old text.new result }
 {
     match history.save_to(text) {
         Ok(()) => true,
@@ -198,19 +194,14 @@ where
     T: Drop,
 {
     /// Opens a session: the history is loaded, no key is read, and nothing is drawn yet. Rows of
-<<<<<<< ours
     /// the display have `columns` cells. Where it is refused, the devices come back, the source of
     /// the history's text after what was read of it.
     #[inline(never)]
     pub fn open<F: Source + Drop>(
-=======
-    /// the display have `columns` cells.
-    pub fn open<F: Source>(
->>>>>>> theirs
         alloc: Global,
         config: Config,
         bindings: Bindings,
-        history: &mut F,
+        history: F,
         helper: Option<H>,
         prompt: &str,
         source: S,
@@ -220,18 +211,17 @@ where
         text: T,
     ) -> Result<Self, Unopened<F, S, D, L, T>>
         requires columns { (2 ≤ columns) × (columns ≤ 1000) }
-        requires history { (F.feed history.old).failed ≡ false }
+        requires history { (F.feed history).failed ≡ false }
         requires source { (S.feed source).failed ≡ false }
         requires display { D.has_failed display ≡ false }
         requires lines { L.has_failed lines ≡ false }
         requires text { T.has_failed text ≡ false }
-        ensures desk { IfOk result (λ s. Opens S.feed (F.feed history.new).told config (F.feed history.old)
-            helper source columns display lines s.desk) }
+        ensures desk { IfOk result (λ s. Opens F.feed S.feed config history helper source columns
+            display lines s.desk) }
         ensures config { IfOk result (λ s. s.config ≡ config) }
         ensures bindings { IfOk result (λ s. s.bindings ≡ bindings) }
         ensures prompt { IfOk result (λ s. string_bytes s.prompt ≡ prompt.now) }
         ensures text { IfOk result (λ s. s.text ≡ text) }
-<<<<<<< ours
         ensures refused { IfErr result (Unopens F.feed config history source display lines text) }
     {
         let mut history = history;
@@ -243,13 +233,6 @@ where
             Ok(beginning) => beginning,
             Err(why) => return Err(Unopened::new(why, history, source, display, lines, text)),
         };
-=======
-        ensures fault { IfErr result (LoadFault (F.feed history.new).told config (F.feed history.old)) }
-    {
-        let history = load(alloc, &config, history)?;
-        let ring = KillRing::new(alloc, KILL_RING_SIZE)?;
-        let prompt = String::from_str(alloc, prompt)?;
->>>>>>> theirs
         let mode = config.grapheme_cluster_mode();
         let desk = Desk {
             reader: KeyReader::new(source, config.edit_mode()),
@@ -277,14 +260,14 @@ where
             let helps = helping_by H.hint_of H.verdict_of H.completion_of H.update_of H.marks in
             let given = given_by self.config custom (string_bytes self.prompt)
             (screen_of self.desk.out) (helps self.desk.helper) in
-            let known = known_by S.feed D.told D.held D.has_failed L.told L.held L.has_failed in
-            Plays known T.told T.held T.has_failed given self.desk self.text result }
+            let known = known_by S.feed D.held D.has_failed L.held L.has_failed in
+            Plays known T.held T.has_failed given self.desk self.text result }
         ensures shows { let custom = custom_of self.bindings ⟦<EventHandler as Decides>⟧.decides in
             let helps = helping_by H.hint_of H.verdict_of H.completion_of H.update_of H.marks in
             let given = given_by self.config custom (string_bytes self.prompt)
             (screen_of self.desk.out) (helps self.desk.helper) in
-            let known = known_by S.feed D.told D.held D.has_failed L.told L.held L.has_failed in
-            (heard : Coming) → Displays given (hearing known self.desk heard) }
+            let known = known_by S.feed D.held D.has_failed L.held L.has_failed in
+            Displays given (session_state_of known self.desk) }
     {
         let Session {
             alloc,

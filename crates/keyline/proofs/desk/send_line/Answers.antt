@@ -5,26 +5,23 @@ use Rattle.keyline.proofs.desk.send_line.Goals as goal
 
 pub returns-in_err-write : goal.returns-in_err-write
 returns-in_err-write g c =
-    let told = g.L.Sink.told in
     let held = g.L.Sink.held in
-    sends_cut told held g.L.Sink.has_failed _ c.args.text.now (0x0A ∷ []) c.from_residual.ensures.1 c.in_err-write.ensures.failure
-    (some_of_write told held _ _ _ _ c.as_bytes.ensures.value c.in_err-write.ensures.told c.in_err-write.ensures.begins)
+    sends_cut held g.L.Sink.has_failed _ c.args.text.now (0x0A ∷ []) c.from_residual.ensures.1 c.in_err-write.ensures.failure
+    (some_of_write held _ _ _ _ c.as_bytes.ensures.value c.in_err-write.ensures.begins)
 
 pub returns-in_err-write-2 : goal.returns-in_err-write-2
 returns-in_err-write-2 g c =
-    let told = g.L.Sink.told in
     let held = g.L.Sink.held in
-    let text = takes_write told held _ _ _ _ c.as_bytes.ensures.value c.in_ok-write.ensures.told c.in_ok-write.ensures.ok in
-    sends_refused told held g.L.Sink.has_failed _ (c.args.text.now ++ 0x0A ∷ []) c.from_residual-in_err-write-2.ensures.1 c.in_err-write-2.ensures.failure
-    (some_then told held _ _ _ c.args.text.now (0x0A ∷ []) text (some_of_write told held _ _ _ _ refl c.in_err-write-2.ensures.told c.in_err-write-2.ensures.begins))
+    let text = takes_write held _ _ _ _ c.as_bytes.ensures.value c.in_ok-write.ensures.ok in
+    sends_refused held g.L.Sink.has_failed _ (c.args.text.now ++ 0x0A ∷ []) c.from_residual-in_err-write-2.ensures.1 c.in_err-write-2.ensures.failure
+    (some_then held _ _ _ c.args.text.now (0x0A ∷ []) text (some_of_write held _ _ _ _ refl c.in_err-write-2.ensures.begins))
 
 pub returns-in_err-flush : goal.returns-in_err-flush
 returns-in_err-flush g c =
-    let told = g.L.Sink.told in
     let held = g.L.Sink.held in
-    let text = takes_write told held _ _ _ _ c.as_bytes.ensures.value c.in_ok-write.ensures.told c.in_ok-write.ensures.ok in
-    let newline = takes_write told held _ _ _ (0x0A ∷ []) refl c.in_ok-write-2.ensures.told c.in_ok-write-2.ensures.ok in
-    let line = takes_then told held _ _ _ c.args.text.now (0x0A ∷ []) text newline in
-    sends_refused told held g.L.Sink.has_failed _ (c.args.text.now ++ 0x0A ∷ []) c.from_residual-in_err-flush.ensures.1 c.in_err-flush.ensures.failure
-    (some_of_all told held _ _ (c.args.text.now ++ 0x0A ∷ [])
-    (takes_flush told held _ _ _ (c.args.text.now ++ 0x0A ∷ []) line c.in_err-flush.ensures.told c.in_err-flush.ensures.held))
+    let text = takes_write held _ _ _ _ c.as_bytes.ensures.value c.in_ok-write.ensures.ok in
+    let newline = takes_write held _ _ _ (0x0A ∷ []) refl c.in_ok-write-2.ensures.ok in
+    let line = takes_then held _ _ _ c.args.text.now (0x0A ∷ []) text newline in
+    sends_refused held g.L.Sink.has_failed _ (c.args.text.now ++ 0x0A ∷ []) c.from_residual-in_err-flush.ensures.1 c.in_err-flush.ensures.failure
+    (some_of_all held _ _ (c.args.text.now ++ 0x0A ∷ [])
+    (takes_flush held _ _ _ (c.args.text.now ++ 0x0A ∷ []) line c.in_err-flush.ensures.held))

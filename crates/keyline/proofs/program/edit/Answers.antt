@@ -7,11 +7,7 @@ pub returns-clause-edits : goal.returns-clause-edits
 returns-clause-edits g c =
     let session = c.in_ok-session.session in
     let opened = c.in_ok-session.ensures in
-<<<<<<< ours
-    edited _ _ _ _ c.args.options.now _ (g.F.Source.feed c.args.history) c.args.source c.args.display c.args.lines c.args.text session.text c.run.result
-=======
-    edited _ _ _ _ c.args.options.now _ (g.F.Source.feed c.args.history.now) c.args.source c.args.display c.args.lines c.args.text session.text c.run.result
->>>>>>> theirs
+    edited g.F.Source.feed _ _ _ c.args.options.now _ c.args.history c.args.source c.args.display c.args.lines c.args.text session.text c.run.result
     session.desk c.config_of.result session.config _ _ c.helper_of.result
     opened.desk c.run.ensures.plays c.run.ensures.shows
     c.config_of.ensures opened.config (opened.prompt ∙ c.as_str.ensures.value) c.helper_of.ensures opened.text

@@ -9,10 +9,10 @@ use Rattle.keyline.proofs.desk.Desk.one_line.Goals as goal
 
 pub returns : goal.returns
 returns g c =
-    let k = known_by g.S.Source.feed g.D.Sink.told g.D.Sink.held g.D.Sink.has_failed g.L.Sink.told g.L.Sink.held g.L.Sink.has_failed in
+    let k = known_by g.S.Source.feed g.D.Sink.held g.D.Sink.has_failed g.L.Sink.held g.L.Sink.has_failed in
     let helps = helping_by g.H.Hinter.hint_of g.H.Validator.verdict_of g.H.Completer.completion_of g.H.Completer.update_of g.H.Highlighter.marks in
     let ran = c.run-out.result in
-    let Ends : Bool → Type 0 = λ adds. Closes k.shows k.shown k.show_failed k.writes k.written_in k.write_failed adds (outcome_of ran)
+    let Ends : Bool → Type 0 = λ adds. Closes k.shown k.show_failed k.written_in k.write_failed adds (outcome_of ran)
     (work (sink_of ran.out) c.args.self.lines c.args.self.history) (work (sink_of c.close-outcome.new.out) c.close-outcome.new.lines c.close-outcome.new.history) c.close-outcome.result in
     takes_line k helps _ c.args.config.now c.args.prompt.now c.args.self ran c.run-out.new.kill_ring c.run-out.new.reader
     c.close-outcome.new.out c.close-outcome.new.history c.close-outcome.new.lines c.close-outcome.result

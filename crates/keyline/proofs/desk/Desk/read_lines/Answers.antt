@@ -12,7 +12,7 @@ loop-why-init g c = onward_nowhere _ _ _
 
 pub returns-in-Err : goal.returns-in-Err
 returns-in-Err g c =
-    let k = known_by g.S.Source.feed g.D.Sink.told g.D.Sink.held g.D.Sink.has_failed g.L.Sink.told g.L.Sink.held g.L.Sink.has_failed in
+    let k = known_by g.S.Source.feed g.D.Sink.held g.D.Sink.has_failed g.L.Sink.held g.L.Sink.has_failed in
     let helps = helping_by g.H.Hinter.hint_of g.H.Validator.verdict_of g.H.Completer.completion_of g.H.Completer.update_of g.H.Highlighter.marks in
     let custom = custom_of c.args.bindings.now g.B.Decides.decides in
     onward_err k
@@ -23,7 +23,7 @@ returns-in-Err g c =
 
 pub loop-why-preserved : goal.loop-why-preserved
 loop-why-preserved g c =
-    let k = known_by g.S.Source.feed g.D.Sink.told g.D.Sink.held g.D.Sink.has_failed g.L.Sink.told g.L.Sink.held g.L.Sink.has_failed in
+    let k = known_by g.S.Source.feed g.D.Sink.held g.D.Sink.has_failed g.L.Sink.held g.L.Sink.has_failed in
     let helps = helping_by g.H.Hinter.hint_of g.H.Validator.verdict_of g.H.Completer.completion_of g.H.Completer.update_of g.H.Highlighter.marks in
     let custom = custom_of c.args.bindings.now g.B.Decides.decides in
     onward_ok k

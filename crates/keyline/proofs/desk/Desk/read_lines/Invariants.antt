@@ -9,7 +9,7 @@ use Rattle.keyline.proofs.desk.Desk.read_lines.Given as goal
 
 abbrev pub invariant-loop-why : goal.invariant-loop-why
 invariant-loop-why g l =
-    let k = known_by g.S.Source.feed g.D.Sink.told g.D.Sink.held g.D.Sink.has_failed g.L.Sink.told g.L.Sink.held g.L.Sink.has_failed in
+    let k = known_by g.S.Source.feed g.D.Sink.held g.D.Sink.has_failed g.L.Sink.held g.L.Sink.has_failed in
     let helps = helping_by g.H.Hinter.hint_of g.H.Validator.verdict_of g.H.Completer.completion_of g.H.Completer.update_of g.H.Highlighter.marks in
     let custom = custom_of l.bindings g.B.Decides.decides in
     Onward k (given_by l.config custom l.prompt (screen_of l.fn.self.out) (helps l.fn.self.helper))
@@ -17,4 +17,4 @@ invariant-loop-why g l =
 
 abbrev pub decreases-loop-why : goal.decreases-loop-why
 decreases-loop-why g l =
-    (feed_of (known_by g.S.Source.feed g.D.Sink.told g.D.Sink.held g.D.Sink.has_failed g.L.Sink.told g.L.Sink.held g.L.Sink.has_failed) l.desk).bound
+    (feed_of (known_by g.S.Source.feed g.D.Sink.held g.D.Sink.has_failed g.L.Sink.held g.L.Sink.has_failed) l.desk).bound
