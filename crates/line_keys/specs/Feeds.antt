@@ -6,7 +6,7 @@ use Rattle.line_keys.specs.Coming.{Coming, behind, left, left_by}
 use Rattle.line_keys.specs.Faults.{IsReaderRefusal}
 
 pub record KeyFeed : Type 1 where
-  -- contracts know what is still to come
+  -- what its reads gave so far is what was said of it, and this is still to come
   pub told : Bool
   pub coming : Coming
   -- it falls with each key and each paste

@@ -59,8 +59,7 @@ Because d custom wrt feed Memory = ⊤
 pub record Follows {S X : Type 0} (d : KnownDisplay S) (custom : Custom) (script : Script X)
     (wrt : S) (input : Input) (wrt' : S) (input' : Input)
     (feed feed' : KeyFeed) (result : Result X ReadlineError) : Type 0 where
-  pub goes : IsTrue feed'.told
-      → Goes d script wrt input feed.coming result wrt' input' feed'.coming
+  pub goes : IsTrue feed'.told → Goes d script wrt input feed.coming result wrt' input' feed'.coming
   pub told : IsTrue feed'.told → IsTrue feed.told
   pub keeps : feed'.bound ≤ feed.bound
   -- Emacs or Vi for good
