@@ -1,41 +1,35 @@
 -- A session by options, over all that is said of its keys.
-use Rattle.std.proofs.Common.{◌≡◌, ◌⊎◌, ℕ, ◌+◌, ◌<◌, ◌≤◌, ◌^◌, Bool, true, IsTrue, List, [], ◌++◌, Option, Some, None, inl, inr, refl, sym, ap, subst, ◌∙◌, arith}
-use Rattle.std.specs.Prelude.{string_bytes}
-use Rattle.line_config.specs.Feed.{Feed, steady_feed}
+use Rattle.std.proofs.Common.{◌≡◌, ◌⊎◌, ℕ, ◌+◌, ◌<◌, ◌^◌, Bool, false, IsTrue, List, [], ◌++◌, Option, Some, None, inl, inr, refl, sym, ap, subst, ◌∙◌, arith}
+use Rattle.std.specs.Prelude.{IsErr, IsOk, Result, Ok, Err, is_err, string_bytes}
+use Rattle.line_config.specs.Feed.{AlwaysTold, Feed, fresh_feed}
 use Rattle.line_config.specs.Foretold.{left_of}
 use Rattle.line_config.specs.Known.{known_bytes}
-use Rattle.line_config.specs.Sending.{Takes}
+use Rattle.line_config.specs.Sending.{AppendsSome, Takes}
 use Rattle.line_config.specs.declared.device.Last.{Last}
 use Rattle.line_config.specs.declared.device.Last.TheVariants.{End}
 use Rattle.line_config.specs.declared.errors.ReadlineError.{ReadlineError}
+use Rattle.line_config.specs.declared.errors.ReadlineError.TheVariants.{Display, HistoryText, Lines, Memory, Reader}
 use Rattle.line_help.specs.History.{Filed}
+use Rattle.line_help.specs.HistoryText.{text_to_save}
 use Rattle.line_keys.specs.Coming.{Coming}
-use Rattle.line_keys.specs.Early.{Heard}
 use Rattle.line_record.specs.Ring.{Ring, new_ring}
-use Rattle.line_screen.specs.Calls.{Screen, screen_of, sink_of}
+use Rattle.line_screen.specs.Calls.{Screen, screen_of}
 use Rattle.line_screen.specs.Reader.{coming_in, kept_of, source_of}
 use Rattle.line_screen.specs.Unread.{kept_count}
 use Rattle.keyline.specs.Deeds.{SessionDeed, session_deeds}
-use Rattle.keyline.specs.Desks.{Known, feed_of, hearing, work_of}
-use Rattle.keyline.specs.Edits.{EditsByOptions, bracket_helping, config_of, given_to, helper_of, nothing_bound}
-use Rattle.keyline.specs.Keyboards.{PlaysBytes, bytes_work, program_given, program_start}
-use Rattle.keyline.specs.Playing.{Cut, Reads, Whole, Work}
-use Rattle.keyline.specs.Plays.{loaded_from}
+use Rattle.keyline.specs.Desks.{Known, feed_of, session_state_of, work_of}
+use Rattle.keyline.specs.Edits.{EditHelper, EditsByOptions, config_of, edit_helping, given_to, helper_of, nothing_bound}
+use Rattle.keyline.specs.Played.{PlaysBytes, bytes_work, program_given, program_start, seen_of}
+use Rattle.keyline.specs.Playing.{Reads, SessionReason, Work}
+use Rattle.keyline.specs.Plays.{LoadRefused, loaded_from, loads}
+use Rattle.keyline.specs.SessionShows.{Displays}
 use Rattle.keyline.specs.Sessions.{Given, Report, SessionState, given_by, coming_from, session}
-use Rattle.keyline.specs.declared.brackets.BracketHelper.{BracketHelper}
+use Rattle.keyline.specs.declared.desk.Desk.{Desk}
 use Rattle.keyline.specs.declared.options.Options.{Options}
 use Rattle.keyline.specs.declared.session.Ended.{Ended}
 
-kept_few : (kept : Option ℕ) → kept_count kept ≤ 1
-kept_few None = search arith
-kept_few (Some byte) = search arith
-
-all_heard : (coming heard : Coming) → Heard true coming heard → heard ≡ coming
-all_heard coming heard (inl same) = same
-all_heard coming heard (inr some) = absurd (cc)
-
-below : (most kept bound n : ℕ) → kept ≤ 1 → bound ≡ most + kept → most + 1 < n → bound < n
-below most kept bound n few is low = omega arith
+below : (most kept bound n : ℕ) → kept ≡ 0 → bound ≡ most + kept → most < n → bound < n
+below most kept bound n none is low = omega arith
 
 -- nothing was read, and all that is said is to come
 pub fresh_coming : (bytes unread given : List ℕ) → unread ≡ [] → given ≡ [] → unread ++ known_bytes (left_of bytes given) ≡ bytes
@@ -43,83 +37,124 @@ unfolding left_of
 fresh_coming bytes unread given none bare = rw (none, bare) refl
 
 -- nothing was written, and nothing waits
-pub fresh_sink : (gone wait : List ℕ) → gone ≡ [] → wait ≡ [] → gone ++ wait ≡ []
-fresh_sink gone wait none bare = rw (none, bare) refl
+pub fresh_sink : (sent unsent : List ℕ) → sent ≡ [] → unsent ≡ [] → sent ++ unsent ≡ []
+fresh_sink sent unsent none bare = rw (none, bare) refl
+
+-- a call that fails where its device has failed, and marks it so
+pub fails_still : {A E : Type 0} (result : Result A E) (before after : Bool) → after ≡ is_err result → (IsTrue before → IsErr result) → IsTrue before → IsTrue after
+fails_still (Ok x) before after is for_good failed = absurd (for_good failed)
+fails_still (Err e) before after is for_good failed = subst IsTrue (sym is) tt
+
+-- why no session was played, by the text of its history
+pub refused_by : (options : Options) (old : List ℕ) (text left : Feed) (why : ReadlineError) → text ≡ fresh_feed old End → IsTrue left.told
+    → LoadRefused (config_of options) text left why → (why ≡ Memory) ⊎ (loads (config_of options) (fresh_feed old End) ≡ Err why)
+refused_by options old text left Reader is t r = inr (ap (loads (config_of options)) (sym is) ∙ r.1 t)
+refused_by options old text left HistoryText is t r = inr (ap (loads (config_of options)) (sym is) ∙ r.1 t)
+refused_by options old text left Memory is t r = inl refl
+refused_by options old text left why is t r = absurd r
 
 abbrev state_by : Ring → Filed → Coming → SessionState
 state_by ring history coming = record { ring = ring; history = history; coming = coming }
 
+-- a device that has failed has failed afterwards
+reason_still : (g : Given) (source display display' lines lines' : Bool) (why : ReadlineError) → (IsTrue display → IsTrue display') → (IsTrue lines → IsTrue lines')
+    → SessionReason g source display lines why → SessionReason g source display' lines' why
+reason_still g source display display' lines lines' Reader shows writes r = r
+reason_still g source display display' lines lines' Display shows writes r = shows r
+reason_still g source display display' lines lines' Lines shows writes r = writes r
+reason_still g source display display' lines lines' HistoryText shows writes r = r
+reason_still g source display display' lines lines' _ shows writes r = r
+
 -- what a sink took that held nothing
-took_all : {D : Type 0} (held : D → List ℕ) (old new : D) (bytes : List ℕ) → IsTrue (told old) → held old ≡ [] → Takes held old new bytes
-    → Takes (λ (d : List ℕ). true) (λ d. d) [] (held new) bytes
-took_all held old new bytes t none takes = λ u. (refl, (takes t).1 ∙ ap (λ front. front ++ bytes) none)
+took_all : {D : Type 0} (held : D → List ℕ) (old new : D) (bytes now : List ℕ) → held old ≡ [] → now ≡ held new → Takes held old new bytes
+    → Takes (λ (d : List ℕ). d) [] now bytes
+took_all held old new bytes now none same takes = same ∙ takes ∙ ap (λ front. front ++ bytes) none
 
 module _ {D L : Type 0} (shown : D → List ℕ) (written_in : L → List ℕ) where
-  as_bytes : (g : Given) (report : Report) (deeds : List SessionDeed) (coming : Coming) (old new : Work D L) (left : Coming) (why : ReadlineError)
-      → IsTrue (shows old.display) → shown old.display ≡ [] → IsTrue (writes old.lines) → written_in old.lines ≡ []
+  as_bytes : (g : Given) (report : Report) (deeds : List SessionDeed) (coming : Coming) (old new : Work D L) (left : Coming) (why : ReadlineError) (drawn wrote : List ℕ)
+      → shown old.display ≡ [] → drawn ≡ shown new.display → written_in old.lines ≡ [] → wrote ≡ written_in new.lines
       → Reads shown written_in g report deeds coming old new left why
-      → Reads (λ d. true) (λ d. d) (λ l. true) (λ l. l) g report deeds coming (bytes_work [] [] old.history) (bytes_work (shown new.display) (written_in new.lines) new.history) left why
-  as_bytes g report deeds coming old new left why t none u bare (inl w) = inl (record {
-    why_is = w.why_is;
-    rest_is = w.rest_is;
-    history_is = w.history_is;
-    drawn = took_all shown old.display new.display _ t none w.drawn;
-    wrote = took_all written_in old.lines new.lines _ u bare w.wrote;
-  })
-  as_bytes g report deeds coming old new left why t none u bare (inr c) = inr (record {
+      → Reads (λ d. d) (λ l. l) g report deeds coming (bytes_work [] [] old.history) (bytes_work drawn wrote new.history) left why
+  as_bytes g report deeds coming old new left why drawn wrote none drawn_is bare wrote_is (inl (w, helped)) = inl (
+    record {
+      why_is = w.why_is;
+      rest_is = w.rest_is;
+      history_is = w.history_is;
+      drawn = took_all shown old.display new.display _ drawn none drawn_is w.drawn;
+      wrote = took_all written_in old.lines new.lines _ wrote bare wrote_is w.wrote;
+    },
+    helped,
+  )
+  as_bytes g report deeds coming old new left why drawn wrote none drawn_is bare wrote_is (inr c) = inr (record {
     done = c.done;
     next = c.next;
     first = c.first;
     begun = c.begun;
     torn = c.torn;
     stops = c.stops;
-    drawn = took_all shown old.display new.display _ t none c.drawn;
-    wrote = took_all written_in old.lines new.lines _ u bare c.wrote;
+    helped = c.helped;
+    drawn = took_all shown old.display new.display _ drawn none drawn_is c.drawn;
+    wrote = took_all written_in old.lines new.lines _ wrote bare wrote_is c.wrote;
     history_is = c.history_is;
   })
 
-module _ {S D L T : Type 0} (k : Known S D L) (held : T → List ℕ) (failed : T → Bool) where
-  pub played : (options : Options) (old bytes : List ℕ) (last : Last) (loads : Bool) (text_feed : Feed) (source : S) (display : D) (lines : L) (text : T) (ended : Ended S D L T)
-      → EditsByOptions k held failed options loads text_feed source display lines text ended → IsTrue loads → text_feed ≡ steady_feed old End
+module _ {F S D L T : Type 0} (text_of : F → Feed) (k : Known S D L) (held : T → List ℕ) (failed : T → Bool) where
+  pub played : (options : Options) (words : Option (List (List ℕ))) (old bytes : List ℕ) (last : Last) (history : F) (source : S) (display : D) (lines : L) (text : T)
+      (ended : Ended S D L T) (display' : D) (lines' : L)
+      → EditsByOptions text_of k held failed options words history source display lines text ended → AlwaysTold text_of → text_of history ≡ fresh_feed old End
       → (k.feed source).coming ≡ bytes → (k.feed source).last ≡ last → (k.feed source).bound ≡ 2 ^ 63
-      → IsTrue (k.shows display) → k.shown display ≡ [] → IsTrue (k.writes lines) → k.written_in lines ≡ []
-      → IsTrue (k.feed ended.source).told → PlaysBytes options old bytes last (k.shown ended.display) (k.written_in ended.lines)
-  played options old bytes last loads text_feed source display lines text ended edits loaded text_is coming_is last_is bound_is t none u bare agrees =
+      → k.shown display ≡ [] → k.written_in lines ≡ [] → held text ≡ []
+      → k.shown display' ≡ k.shown ended.display → (IsTrue (k.show_failed ended.display) → IsTrue (k.show_failed display'))
+      → k.written_in lines' ≡ k.written_in ended.lines → (IsTrue (k.write_failed ended.lines) → IsTrue (k.write_failed lines'))
+      → IsTrue (k.feed ended.source).told → PlaysBytes options words old bytes last (seen_of k held failed (record ended { display = display'; lines = lines' }))
+  played options words old bytes last history source display lines text ended display' lines' edits always text_is coming_is last_is bound_is none bare blank drawn_is shows wrote_is writes agrees =
       let desk = edits.desk in
       let opens = edits.opens in
       let plays = edits.plays in
-      let given_is : given_to options desk ≡ program_given options =
-      ap (λ (s : Screen). given_by (config_of options) nothing_bound (string_bytes options.prompt) s (bracket_helping desk.helper)) opens.screen
-      ∙ ap (λ (h : Option BracketHelper). (record (program_given options) { helping = bracket_helping h })) opens.helper_is in
+      let g = program_given options words in
+      let start = program_start options old bytes last in
+      let given_is : given_to options desk ≡ g =
+      ap (λ (s : Screen). given_by (config_of options) nothing_bound (string_bytes options.prompt) s (edit_helping desk.helper)) opens.screen
+      ∙ ap (λ (h : Option EditHelper). (record g { helping = edit_helping h })) opens.helper_is in
       let coming : (feed_of k desk).coming ≡ coming_from options.mode bytes last =
       opens.coming ∙ (ap (λ bs. coming_from options.mode bs (k.feed source).last) coming_is ∙ ap (λ l. coming_from options.mode bytes l) last_is) in
-      let loaded_is = loaded_from (config_of options) (steady_feed old End) in
-      let history : desk.history ≡ loaded_is = opens.history.history_is loaded ∙ ap (λ (f : Feed). loaded_from (config_of options) f) text_is in
+      let loaded_is = loaded_from (config_of options) (fresh_feed old End) in
+      let history_is : desk.history ≡ loaded_is = opens.history.history_is always ∙ ap (λ (f : Feed). loaded_from (config_of options) f) text_is in
       let bound : (feed_of k desk).bound ≡ 2 ^ 63 + kept_count (kept_of desk.reader) =
       ap (λ (s : S). (k.feed s).bound + kept_count (kept_of desk.reader)) opens.source_is ∙ ap (λ b. b + kept_count (kept_of desk.reader)) bound_is in
       let left = coming_in k.feed plays.reader in
       let end : Work D L = record { display = ended.display; lines = ended.lines; history = plays.kept } in
+      let start_is : session_state_of k desk ≡ start =
+      ap (λ (r : Ring). state_by r desk.history (feed_of k desk).coming) opens.ring
+      ∙ (ap (λ (h : Filed). state_by (new_ring 60) h (feed_of k desk).coming) history_is
+      ∙ ap (λ (c : Coming). state_by (new_ring 60) loaded_is c) coming) in
       record {
         kept = plays.kept;
         left = left;
         why = plays.why;
+        saved = plays.saved;
+        loaded = subst (λ (f : Feed). IsOk (loads (config_of options) f)) text_is (opens.history.whole always);
         goes = λ n low.
-            let went = plays.goes agrees n (below (2 ^ 63) (kept_count (kept_of desk.reader)) (feed_of k desk).bound n (kept_few (kept_of desk.reader)) bound low) in
-            let heard = went.0 in
-            let g = program_given options in
-            let start = program_start options old bytes last in
-            let start_is : hearing k desk heard ≡ start =
-            ap (λ (r : Ring). state_by r desk.history heard) opens.ring
-            ∙ (ap (λ (h : Filed). state_by (new_ring 60) h heard) history
-            ∙ ap (λ (c : Coming). state_by (new_ring 60) loaded_is c) (all_heard (feed_of k desk).coming heard went.1 ∙ coming)) in
+            let went = plays.goes agrees n (below (2 ^ 63) (kept_count (kept_of desk.reader)) (feed_of k desk).bound n (ap kept_count opens.kept) bound low) in
             let G : Given → SessionState → Type 0 = λ g x.
             Reads k.shown k.written_in g (session n g x) (session_deeds n g x) x.coming (work_of k desk) end left plays.why in
-            let r = subst (λ (x : SessionState). G g x) start_is (subst (λ (g : Given). G g (hearing k desk heard)) given_is went.2) in
+            let r = subst (λ (x : SessionState). G g x) start_is (subst (λ (g : Given). G g (session_state_of k desk)) given_is went) in
             let H : Filed → Type 0 = λ h.
-            Reads (λ (d : List ℕ). true) (λ d. d) (λ (l : List ℕ). true) (λ l. l) g (session n g start) (session_deeds n g start) start.coming (bytes_work [] [] h)
-            (bytes_work (k.shown ended.display) (k.written_in ended.lines) plays.kept) left plays.why in
-            subst H history
+            Reads (λ (d : List ℕ). d) (λ (l : List ℕ). l) g (session n g start) (session_deeds n g start) start.coming (bytes_work [] [] h)
+            (bytes_work (k.shown display') (k.written_in lines') plays.kept) left plays.why in
+            subst H history_is
             (as_bytes k.shown k.written_in g (session n g start) (session_deeds n g start) start.coming (work_of k desk) end left plays.why
-            (subst (λ (d : D). IsTrue (k.shows d)) (sym opens.display_is) t) (ap k.shown opens.display_is ∙ none)
-            (subst (λ (l : L). IsTrue (k.writes l)) (sym opens.lines_are) u) (ap k.written_in opens.lines_are ∙ bare) r);
+            (k.shown display') (k.written_in lines')
+            (ap k.shown opens.display_is ∙ none) drawn_is (ap k.written_in opens.lines_are ∙ bare) wrote_is r);
+        shows =
+            let P : Given → SessionState → Type 0 = λ g x. Displays g x in
+            subst (λ (x : SessionState). P g x) start_is (subst (λ (g : Given). P g (session_state_of k desk)) given_is edits.shows);
+        done = λ s. (plays.saves.done s).1 ∙ ap (λ front. front ++ text_to_save plays.kept) blank;
+        refused = λ s.
+            let r = plays.saves.refused s in
+            (r.1, subst (λ before. AppendsSome before (text_to_save plays.kept) (held ended.text)) blank r.2);
+        ending_is = plays.ending_is;
+        reason = reason_still g (k.feed ended.source).failed (k.show_failed ended.display) (k.show_failed display') (k.write_failed ended.lines) (k.write_failed lines')
+            plays.why shows writes
+            (subst (λ (g : Given). SessionReason g (k.feed ended.source).failed (k.show_failed ended.display) (k.write_failed ended.lines) plays.why) given_is plays.reason);
       }

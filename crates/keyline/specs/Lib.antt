@@ -4,10 +4,10 @@ pub mod Deeds
 pub mod Desks
 pub mod Edits
 pub mod Endings
-pub mod Keyboards
 pub mod OneByte
 pub mod Options
 pub mod Pasting
+pub mod Played
 pub mod Playing
 pub mod Plays
 pub mod SessionLaws

@@ -21,7 +21,7 @@ pub use ending::Ending;
 pub use line_buffer::{ChangeListener, LineBuffer};
 pub use line_config::{
     Behavior, BellStyle, Builder, ColorMode, CompletionType, Config, Configurer, DeviceFailed,
-    EditMode, HistoryDuplicates, HookFault, Last, ReadSource, ReadlineError, Sink, SliceSource,
+    EditMode, Foretold, HistoryDuplicates, HookFault, Last, ReadSource, ReadlineError, Sink, SliceSource,
     Source, VecSink, WriteSink,
 };
 pub use line_editor::{
@@ -40,5 +40,5 @@ pub use line_keys::{
     Invoke, KeyCode, KeyEvent, Keys, Modifiers, Text,
 };
 pub use options::{Options, Parsed, parse};
-pub use program::edit;
+pub use program::{edit, play};
 pub use session::{Ended, Session, Unopened};

@@ -1,17 +1,24 @@
 //! A session by the program's options.
 
-ghost use Rattle.std.specs.Prelude.{◌≡◌, ◌≤◌, IfErr, IfOk, false};
+ghost use Rattle.std.specs.Prelude.{◌≡◌, ◌⊎◌, ◌≤◌, Err, IfErr, IfOk, false};
+ghost use Rattle.line_config.specs.Feed.{fresh_feed};
+ghost use Rattle.line_config.specs.declared.device.Last.TheVariants.{End};
+ghost use Rattle.line_config.specs.declared.errors.ReadlineError.TheVariants.{Memory};
 ghost use Rattle.keyline.specs.Desks.{known_by};
 ghost use Rattle.keyline.specs.Edits.{EditsByOptions, config_of, helper_of, texts_of};
-ghost use Rattle.keyline.specs.Plays.{Unopens};
+ghost use Rattle.keyline.specs.Played.{PlaysOver};
+ghost use Rattle.keyline.specs.Plays.{Unopens, loads};
 
 use crate::edit_helper::EditHelper;
 use crate::options::Options;
 use crate::session::{Ended, Session, Unopened};
-use line_config::{Config, Sink, Source};
+use line_config::{
+    Config, Foretold, ReadSource, ReadlineError, Sink, SliceSource, Source, VecSink, WriteSink,
+};
 use line_help::{HelperParts, MatchingBracketValidator, WordCompleter};
 use line_keys::Bindings;
 use std::alloc::Global;
+use std::io::{Read, Write};
 
 /// The settings of options: each accepted line is kept in the history.
 fn config_of(options: &Options) -> Config
@@ -82,4 +89,45 @@ pub fn edit<F: Source + Drop, S: Source + Drop, D: Sink + Drop, L: Sink + Drop, 
         text,
     )?;
     Ok(session.run())
+}
+
+/// The same over any reader of keys and any writers, which are flushed at the end, and with a
+/// history's text in memory, before and after.
+///
+/// It is said of the reader that it gives the bytes of `K`: for all of them that agree with what its
+/// reads gave, its session is that of these bytes, and the writers were handed its display bytes and
+/// its lines. A refusal is of a session that was not opened: the text isn't UTF-8, or memory was
+/// wanting.
+pub fn play<K: Foretold, R: Read + Drop, E: Write + Drop, W: Write + Drop>(
+    alloc: Global,
+    options: &Options,
+    words: Option<Vec<String>>,
+    old: &[u8],
+    keys: R,
+    display: E,
+    lines: W,
+) -> Result<Ended<ReadSource<R, K>, WriteSink<E>, WriteSink<W>, VecSink>, ReadlineError>
+    requires { (2 ≤ options.now.columns) × (options.now.columns ≤ 1000) }
+    ensures plays { let known = known_by ⟦<ReadSource<R, K> as Source>⟧.feed
+        ⟦<WriteSink<E> as Sink>⟧.held ⟦<WriteSink<E> as Sink>⟧.has_failed
+        ⟦<WriteSink<W> as Sink>⟧.held ⟦<WriteSink<W> as Sink>⟧.has_failed in
+        IfOk result (PlaysOver known ⟦<VecSink as Sink>⟧.held ⟦<VecSink as Sink>⟧.has_failed
+        options.now (texts_of words) old.now K.bytes K.last) }
+    ensures refused { IfErr result (λ why. (why ≡ Memory)
+        ⊎ (loads (config_of options.now) (fresh_feed old.now End) ≡ Err why)) }
+{
+    let source: ReadSource<R, K> = ReadSource::foretold(keys);
+    let mut played = edit(
+        alloc,
+        options,
+        words,
+        SliceSource::new(old),
+        source,
+        WriteSink::new(display),
+        WriteSink::new(lines),
+        VecSink::new(alloc),
+    )?;
+    let _ = played.display.flush();
+    let _ = played.lines.flush();
+    Ok(played)
 }
