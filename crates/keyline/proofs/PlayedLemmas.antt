@@ -1,14 +1,13 @@
 -- A session by options, over all that is said of its keys.
-use Rattle.std.proofs.Common.{◌≡◌, ◌⊎◌, ℕ, ◌+◌, ◌<◌, ◌^◌, Bool, false, IsTrue, List, [], ◌++◌, Option, Some, None, inl, inr, refl, sym, ap, subst, ◌∙◌, arith}
-use Rattle.std.specs.Prelude.{IsErr, IsOk, Result, Ok, Err, is_err, string_bytes}
+use Rattle.std.proofs.Common.{◌≡◌, ℕ, ◌+◌, ◌<◌, ◌^◌, Bool, false, IsTrue, List, [], ◌++◌, Option, Some, None, inl, inr, refl, sym, ap, subst, ◌∙◌, arith}
+use Rattle.std.specs.Prelude.{IsErr, IsOk, OnOk, Result, Ok, Err, is_err, string_bytes, unwrap_or}
 use Rattle.line_config.specs.Feed.{AlwaysTold, Feed, fresh_feed}
 use Rattle.line_config.specs.Foretold.{left_of}
-use Rattle.line_config.specs.Known.{known_bytes}
 use Rattle.line_config.specs.Sending.{AppendsSome, Takes}
 use Rattle.line_config.specs.declared.device.Last.{Last}
 use Rattle.line_config.specs.declared.device.Last.TheVariants.{End}
 use Rattle.line_config.specs.declared.errors.ReadlineError.{ReadlineError}
-use Rattle.line_config.specs.declared.errors.ReadlineError.TheVariants.{Display, HistoryText, Lines, Memory, Reader}
+use Rattle.line_config.specs.declared.errors.ReadlineError.TheVariants.{Display, HistoryText, Lines, Reader}
 use Rattle.line_help.specs.History.{Filed}
 use Rattle.line_help.specs.HistoryText.{text_to_save}
 use Rattle.line_keys.specs.Coming.{Coming}
@@ -21,7 +20,7 @@ use Rattle.keyline.specs.Desks.{Known, feed_of, session_state_of, work_of}
 use Rattle.keyline.specs.Edits.{EditHelper, EditsByOptions, config_of, edit_helping, given_to, helper_of, nothing_bound}
 use Rattle.keyline.specs.Played.{PlaysBytes, bytes_work, program_given, program_start, seen_of}
 use Rattle.keyline.specs.Playing.{Reads, SessionReason, Work}
-use Rattle.keyline.specs.Plays.{LoadRefused, loaded_from, loads}
+use Rattle.keyline.specs.Plays.{loaded_from, loads}
 use Rattle.keyline.specs.SessionShows.{Displays}
 use Rattle.keyline.specs.Sessions.{Given, Report, SessionState, given_by, coming_from, session}
 use Rattle.keyline.specs.declared.desk.Desk.{Desk}
@@ -32,7 +31,7 @@ below : (most kept bound n : ℕ) → kept ≡ 0 → bound ≡ most + kept → m
 below most kept bound n none is low = omega arith
 
 -- nothing was read, and all that is said is to come
-pub fresh_coming : (bytes unread given : List ℕ) → unread ≡ [] → given ≡ [] → unread ++ known_bytes (left_of bytes given) ≡ bytes
+pub fresh_coming : (bytes unread given : List ℕ) → unread ≡ [] → given ≡ [] → unread ++ unwrap_or (left_of bytes given) [] ≡ bytes
 unfolding left_of
 fresh_coming bytes unread given none bare = rw (none, bare) refl
 
@@ -42,16 +41,12 @@ fresh_sink sent unsent none bare = rw (none, bare) refl
 
 -- a call that fails where its device has failed, and marks it so
 pub fails_still : {A E : Type 0} (result : Result A E) (before after : Bool) → after ≡ is_err result → (IsTrue before → IsErr result) → IsTrue before → IsTrue after
-fails_still (Ok x) before after is for_good failed = absurd (for_good failed)
-fails_still (Err e) before after is for_good failed = subst IsTrue (sym is) tt
+fails_still result before after is for_good failed = is ∙ for_good failed
 
--- why no session was played, by the text of its history
-pub refused_by : (options : Options) (old : List ℕ) (text left : Feed) (why : ReadlineError) → text ≡ fresh_feed old End → IsTrue left.told
-    → LoadRefused (config_of options) text left why → (why ≡ Memory) ⊎ (loads (config_of options) (fresh_feed old End) ≡ Err why)
-refused_by options old text left Reader is t r = inr (ap (loads (config_of options)) (sym is) ∙ r.1 t)
-refused_by options old text left HistoryText is t r = inr (ap (loads (config_of options)) (sym is) ∙ r.1 t)
-refused_by options old text left Memory is t r = inl refl
-refused_by options old text left why is t r = absurd r
+-- a flush that was answered left its device working
+pub handed_on : {A E P : Type 0} (result : Result A E) (failed : Bool) → failed ≡ is_err result → failed ≡ false → OnOk result P → P
+handed_on (Ok x) failed is works p = p
+handed_on (Err e) failed is works p = absurd (cc)
 
 abbrev state_by : Ring → Filed → Coming → SessionState
 state_by ring history coming = record { ring = ring; history = history; coming = coming }
@@ -119,7 +114,7 @@ module _ {F S D L T : Type 0} (text_of : F → Feed) (k : Known S D L) (held : T
       let coming : (feed_of k desk).coming ≡ coming_from options.mode bytes last =
       opens.coming ∙ (ap (λ bs. coming_from options.mode bs (k.feed source).last) coming_is ∙ ap (λ l. coming_from options.mode bytes l) last_is) in
       let loaded_is = loaded_from (config_of options) (fresh_feed old End) in
-      let history_is : desk.history ≡ loaded_is = opens.history.history_is always ∙ ap (λ (f : Feed). loaded_from (config_of options) f) text_is in
+      let history_is : desk.history ≡ loaded_is = opens.loaded.history_is always ∙ ap (λ (f : Feed). loaded_from (config_of options) f) text_is in
       let bound : (feed_of k desk).bound ≡ 2 ^ 63 + kept_count (kept_of desk.reader) =
       ap (λ (s : S). (k.feed s).bound + kept_count (kept_of desk.reader)) opens.source_is ∙ ap (λ b. b + kept_count (kept_of desk.reader)) bound_is in
       let left = coming_in k.feed plays.reader in
@@ -133,7 +128,7 @@ module _ {F S D L T : Type 0} (text_of : F → Feed) (k : Known S D L) (held : T
         left = left;
         why = plays.why;
         saved = plays.saved;
-        loaded = subst (λ (f : Feed). IsOk (loads (config_of options) f)) text_is (opens.history.whole always);
+        loaded = subst (λ (f : Feed). IsOk (loads (config_of options) f)) text_is (opens.loaded.whole always);
         goes = λ n low.
             let went = plays.goes agrees n (below (2 ^ 63) (kept_count (kept_of desk.reader)) (feed_of k desk).bound n (ap kept_count opens.kept) bound low) in
             let G : Given → SessionState → Type 0 = λ g x.

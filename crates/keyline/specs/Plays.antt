@@ -76,7 +76,7 @@ pub record Unopens {F S D L T : Type 0} (feed : F → Feed) (config : Config) (h
 pub record Opens {F S H D L : Type 0} (text : F → Feed) (feed : S → Feed) (config : Config)
     (history : F) (helper : Option H) (source : S) (columns : ℕ) (display : D) (lines : L)
     (desk : Desk S H D L) : Type 0 where
-  pub history : Loaded (AlwaysTold text) config (text history) desk.history
+  pub loaded : Loaded (AlwaysTold text) config (text history) desk.history
   pub ring : desk.ring ≡ new_ring 60
   pub coming : coming_in feed desk.reader
       ≡ coming_from config.edit_mode (feed source).coming (feed source).last
