@@ -79,9 +79,9 @@ silent_because d custom w f HistoryText why = elim why [ ]
 
 -- ---- one part after another
 
-module _ {S : Type 0} (d : KnownDisplay S) (steady : Bool) where
+module _ {S : Type 0} (d : KnownDisplay S) where
   goes_ok : {X Y : Type 0} (next : X → Input → Shown → Part Y) (s : Script X) (x : X) (r : Result Y ReadlineError) (w w1 w2 : S) (i i1 i2 : Input) (c c1 c2 : Coming)
-      → Goes d steady s w i c (Ok x) w1 i1 c1 → Goes d steady (next x i1 (d.shown w1) c1) w1 i1 c1 r w2 i2 c2 → Goes d steady (after next i (d.shown w) c s) w i c r w2 i2 c2
+      → Goes d s w i c (Ok x) w1 i1 c1 → Goes d (next x i1 (d.shown w1) c1) w1 i1 c1 r w2 i2 c2 → Goes d (after next i (d.shown w) c s) w i c r w2 i2 c2
   goes_ok {X} next (Ends (Ok y)) x r w w1 w2 i i1 i2 c c1 c2 is later = rw (ap (value_or x) is.0, is.1, is.2, is.3) at later
   goes_ok next (Ends (Err e)) x r w w1 w2 i i1 i2 c c1 c2 is later = ok_not_err x e is.0
   goes_ok next (Needs more) x r w w1 w2 i i1 i2 c c1 c2 (inl goes) later = inl (goes_ok next more x r w w1 w2 i i1 i2 c c1 c2 goes later)
@@ -93,7 +93,7 @@ module _ {S : Type 0} (d : KnownDisplay S) (steady : Bool) where
   goes_ok next (Becomes kept more) x r w w1 w2 i i1 i2 c c1 c2 goes later = goes_ok next more x r w w1 w2 kept i1 i2 c c1 c2 goes later
 
   goes_err : {X Y : Type 0} (next : X → Input → Shown → Part Y) (s : Script X) (e : ReadlineError) (w w1 : S) (i i1 : Input) (c c1 : Coming)
-      → Goes d steady s w i c (Err e) w1 i1 c1 → Goes d steady (after next i (d.shown w) c s) w i c (Err e) w1 i1 c1
+      → Goes d s w i c (Err e) w1 i1 c1 → Goes d (after next i (d.shown w) c s) w i c (Err e) w1 i1 c1
   goes_err next (Ends (Ok y)) e w w1 i i1 c c1 is = ok_not_err y e (sym is.0)
   goes_err next (Ends (Err f)) e w w1 i i1 c c1 is = (err_same e f is.0, is.1, is.2, is.3)
   goes_err next (Needs more) e w w1 i i1 c c1 (inl goes) = inl (goes_err next more e w w1 i i1 c c1 goes)
@@ -108,9 +108,8 @@ module _ {S X Y : Type 0} (d : KnownDisplay S) (custom : Custom) where
   pub then_stops : (s : Script X) (next : X → Input → Shown → Part Y) (w w' : S) (i i' : Input) (f f' : KeyFeed) (e : ReadlineError) → Follows d custom s w i w' i' f f' (Err e)
       → Follows d custom (after next i (d.shown w) f.coming s) w i w' i' f f' (Err e)
   then_stops s next w w' i i' f f' e follows = record {
-    goes = λ told. goes_err d f.steady next s e w w' i i' f.coming f'.coming (follows.goes told);
+    goes = λ told. goes_err d next s e w w' i i' f.coming f'.coming (follows.goes told);
     told = follows.told;
-    steady = follows.steady;
     keeps = follows.keeps;
     mode = follows.mode;
     reason = follows.reason;
@@ -119,10 +118,9 @@ module _ {S X Y : Type 0} (d : KnownDisplay S) (custom : Custom) where
   pub then_follows : (s : Script X) (next : X → Input → Shown → Part Y) (x : X) (w w1 w2 : S) (i i1 i2 : Input) (f f1 f2 : KeyFeed) (r : Result Y ReadlineError) → Follows d custom s w i w1 i1 f f1 (Ok x)
       → Follows d custom (next x i1 (d.shown w1) f1.coming) w1 i1 w2 i2 f1 f2 r → Follows d custom (after next i (d.shown w) f.coming s) w i w2 i2 f f2 r
   then_follows s next x w w1 w2 i i1 i2 f f1 f2 r first second = record {
-    goes = λ told. goes_ok d f.steady next s x r w w1 w2 i i1 i2 f.coming f1.coming f2.coming (first.goes (second.told told))
-        (subst (λ (b : Bool). Goes d b (next x i1 (d.shown w1) f1.coming) w1 i1 f1.coming r w2 i2 f2.coming) first.steady (second.goes told));
+    goes = λ told. goes_ok d next s x r w w1 w2 i i1 i2 f.coming f1.coming f2.coming (first.goes (second.told told))
+        (second.goes told);
     told = λ told. first.told (second.told told);
-    steady = second.steady ∙ first.steady;
     keeps = le_trans second.keeps first.keeps;
     mode = second.mode ∙ first.mode;
     reason = second.reason;
@@ -136,7 +134,6 @@ module _ {S X : Type 0} (d : KnownDisplay S) (custom : Custom) where
   memory_follows s w i f e is = record {
     goes = λ told. inr (ap Err is, refl, refl, refl);
     told = λ told. told;
-    steady = refl;
     keeps = le_refl _;
     mode = refl;
     reason = memory_because d custom w f e is;
@@ -146,7 +143,6 @@ module _ {S X : Type 0} (d : KnownDisplay S) (custom : Custom) where
   needs_follow s w w' i i' f f' r follows = record {
     goes = λ told. inl (follows.goes told);
     told = follows.told;
-    steady = follows.steady;
     keeps = follows.keeps;
     mode = follows.mode;
     reason = follows.reason;
@@ -154,9 +150,8 @@ module _ {S X : Type 0} (d : KnownDisplay S) (custom : Custom) where
 
   pub ends_follow : (s : Script X) (w : S) (i : Input) (f : KeyFeed) (x : X) → s ≡ Ends (Ok x) → Follows d custom s w i w i f f (Ok x)
   ends_follow s w i f x is = record {
-    goes = λ told. subst (λ (t : Script X). Goes d f.steady t w i f.coming (Ok x) w i f.coming) (sym is) (refl, refl, refl, refl);
+    goes = λ told. subst (λ (t : Script X). Goes d t w i f.coming (Ok x) w i f.coming) (sym is) (refl, refl, refl, refl);
     told = λ told. told;
-    steady = refl;
     keeps = le_refl _;
     mode = refl;
     reason = tt;
@@ -177,7 +172,6 @@ module _ {S X : Type 0} (d : KnownDisplay S) (custom : Custom) where
   err_follows w i f e why = record {
     goes = λ told. (refl, refl, refl, refl);
     told = λ told. told;
-    steady = refl;
     keeps = le_refl _;
     mode = refl;
     reason = why;
@@ -192,23 +186,22 @@ module _ {S X : Type 0} (d : KnownDisplay S) (custom : Custom) where
   becomes_follows s w w' i j i' f f' r same follows = record {
     goes = follows.goes;
     told = follows.told;
-    steady = follows.steady;
     keeps = follows.keeps;
     mode = follows.mode ∙ same;
     reason = follows.reason;
   }
 
 -- a part that no display is asked of
-silent_goes : {S X : Type 0} (d : KnownDisplay S) (steady : Bool) (s : Script X) (w : S) (i i' : Input) (c c' : Coming) (r : Result X ReadlineError)
-    → Goes silent steady s tt i c r tt i' c' → Goes d steady s w i c r w i' c'
-silent_goes d steady (Ends answer) w i i' c c' r is = (is.0, refl, is.2, is.3)
-silent_goes d steady (Needs more) w i i' c c' r (inl goes) = inl (silent_goes d steady more w i i' c c' r goes)
-silent_goes d steady (Needs more) w i i' c c' r (inr cut) = inr (cut.0, refl, cut.2, cut.3)
-silent_goes d steady (Asks ask more) w i i' c c' r (inl (seen, made, goes)) = elim made [ ]
-silent_goes d steady (Asks ask more) w i i' c c' r (inr (e, is, why, cut, kept, stays)) = elim why [ ]
-silent_goes d steady (Reads item rest more) w i i' c c' r (inl goes) = inl (silent_goes d steady more w i i' rest c' r goes)
-silent_goes d steady (Reads item rest more) w i i' c c' r (inr (e, is, cut)) = inr (e, is, (cut.0, refl, cut.2, cut.3))
-silent_goes d steady (Becomes kept more) w i i' c c' r goes = silent_goes d steady more w kept i' c c' r goes
+silent_goes : {S X : Type 0} (d : KnownDisplay S) (s : Script X) (w : S) (i i' : Input) (c c' : Coming) (r : Result X ReadlineError)
+    → Goes silent s tt i c r tt i' c' → Goes d s w i c r w i' c'
+silent_goes d (Ends answer) w i i' c c' r is = (is.0, refl, is.2, is.3)
+silent_goes d (Needs more) w i i' c c' r (inl goes) = inl (silent_goes d more w i i' c c' r goes)
+silent_goes d (Needs more) w i i' c c' r (inr cut) = inr (cut.0, refl, cut.2, cut.3)
+silent_goes d (Asks ask more) w i i' c c' r (inl (seen, made, goes)) = elim made [ ]
+silent_goes d (Asks ask more) w i i' c c' r (inr (e, is, why, cut, kept, stays)) = elim why [ ]
+silent_goes d (Reads item rest more) w i i' c c' r (inl goes) = inl (silent_goes d more w i i' rest c' r goes)
+silent_goes d (Reads item rest more) w i i' c c' r (inr (e, is, cut)) = inr (e, is, (cut.0, refl, cut.2, cut.3))
+silent_goes d (Becomes kept more) w i i' c c' r goes = silent_goes d more w kept i' c c' r goes
 
 silent_reason : {S X : Type 0} (d : KnownDisplay S) (custom : Custom) (w : S) (f : KeyFeed) (r : Result X ReadlineError) → IfErr r (λ e. Because silent custom tt f e) → IfErr r (λ e. Because d custom w f e)
 silent_reason d custom w f (Ok x) why = tt
@@ -217,9 +210,8 @@ silent_reason d custom w f (Err e) why = silent_because d custom w f e why
 pub silent_follows : {S X : Type 0} (d : KnownDisplay S) (custom : Custom) (s : Script X) (w : S) (i i' : Input) (f f' : KeyFeed) (r : Result X ReadlineError) → Follows silent custom s tt i tt i' f f' r
     → Follows d custom s w i w i' f f' r
 silent_follows d custom s w i i' f f' r quiet = record {
-  goes = λ told. silent_goes d f.steady s w i i' f.coming f'.coming r (quiet.goes told);
+  goes = λ told. silent_goes d s w i i' f.coming f'.coming r (quiet.goes told);
   told = quiet.told;
-  steady = quiet.steady;
   keeps = quiet.keeps;
   mode = quiet.mode;
   reason = silent_reason d custom w f' r quiet.reason;
@@ -228,25 +220,24 @@ silent_follows d custom s w i i' f f' r quiet = record {
 -- ---- reads
 
 module _ {S X Y : Type 0} (d : KnownDisplay S) (item : InputItem) (at : Coming → Result X ReadlineError) (next : X → Part Y) where
-  reads_stop : (steady : Bool) (given : Result X ReadlineError) (rest : Coming) (w : S) (i : Input) (c c' : Coming) (e : ReadlineError)
-      → ReadAs item steady given rest (Err e) c' → Goes d steady (read_by item next given rest) w i c (Err e) w i c'
-  reads_stop steady (Ok x) rest w i c c' e (inl is) = ok_not_err x e (sym is.0)
-  reads_stop steady (Ok x) rest w i c c' e (inr (f, fault, is, left)) = inr (f, fault, (err_same e f is, refl, refl, left))
-  reads_stop steady (Err g) rest w i c c' e (inl is) = inl (err_same e g is.0, refl, refl, is.1)
-  reads_stop steady (Err g) rest w i c c' e (inr (f, fault, is, left)) = inr (f, fault, (err_same e f is, refl, refl, left))
+  reads_stop : (given : Result X ReadlineError) (rest : Coming) (w : S) (i : Input) (c c' : Coming) (e : ReadlineError)
+      → ReadAs item given rest (Err e) c' → Goes d (read_by item next given rest) w i c (Err e) w i c'
+  reads_stop (Ok x) rest w i c c' e (inl is) = ok_not_err x e (sym is.0)
+  reads_stop (Ok x) rest w i c c' e (inr (f, fault, is, left)) = inr (f, fault, (err_same e f is, refl, refl, left))
+  reads_stop (Err g) rest w i c c' e (inl is) = inl (err_same e g is.0, refl, refl, is.1)
+  reads_stop (Err g) rest w i c c' e (inr (f, fault, is, left)) = inr (f, fault, (err_same e f is, refl, refl, left))
 
-  reads_on : (steady : Bool) (given : Result X ReadlineError) (rest : Coming) (w w' : S) (i i' : Input) (c c1 c2 : Coming) (x : X) (r : Result Y ReadlineError)
-      → ReadAs item steady given rest (Ok x) c1 → Goes d steady (next x c1) w i c1 r w' i' c2 → Goes d steady (read_by item next given rest) w i c r w' i' c2
-  reads_on steady (Ok y) rest w w' i i' c c1 c2 x r (inl is) later = inl (rw (ap (value_or x) is.0, is.1) at later)
-  reads_on steady (Ok y) rest w w' i i' c c1 c2 x r (inr (f, fault, is, left)) later = ok_not_err x f is
-  reads_on steady (Err g) rest w w' i i' c c1 c2 x r (inl is) later = ok_not_err x g is.0
-  reads_on steady (Err g) rest w w' i i' c c1 c2 x r (inr (f, fault, is, left)) later = ok_not_err x f is
+  reads_on : (given : Result X ReadlineError) (rest : Coming) (w w' : S) (i i' : Input) (c c1 c2 : Coming) (x : X) (r : Result Y ReadlineError)
+      → ReadAs item given rest (Ok x) c1 → Goes d (next x c1) w i c1 r w' i' c2 → Goes d (read_by item next given rest) w i c r w' i' c2
+  reads_on (Ok y) rest w w' i i' c c1 c2 x r (inl is) later = inl (rw (ap (value_or x) is.0, is.1) at later)
+  reads_on (Ok y) rest w w' i i' c c1 c2 x r (inr (f, fault, is, left)) later = ok_not_err x f is
+  reads_on (Err g) rest w w' i i' c c1 c2 x r (inl is) later = ok_not_err x g is.0
+  reads_on (Err g) rest w w' i i' c c1 c2 x r (inr (f, fault, is, left)) later = ok_not_err x f is
 
   pub read_stops : (custom : Custom) (w : S) (i : Input) (f f' : KeyFeed) (e : ReadlineError) → ReadsBy item at f f' (Err e) → Follows d custom (with_read item at next f.coming) w i w i f f' (Err e)
   read_stops custom w i f f' e reads = record {
-    goes = λ told. reads_stop f.steady (at f.coming) (behind f.coming) w i f.coming f'.coming e (reads.taken told);
+    goes = λ told. reads_stop (at f.coming) (behind f.coming) w i f.coming f'.coming e (reads.taken told);
     told = reads.told;
-    steady = reads.steady;
     keeps = reads.keeps;
     mode = refl;
     reason = reader_because d custom w f' e reads.refused reads.reason;
@@ -255,10 +246,9 @@ module _ {S X Y : Type 0} (d : KnownDisplay S) (item : InputItem) (at : Coming �
   pub read_follows : (custom : Custom) (x : X) (w w' : S) (i i' : Input) (f f1 f2 : KeyFeed) (r : Result Y ReadlineError) → ReadsBy item at f f1 (Ok x)
       → Follows d custom (next x f1.coming) w i w' i' f1 f2 r → Follows d custom (with_read item at next f.coming) w i w' i' f f2 r
   read_follows custom x w w' i i' f f1 f2 r first second = record {
-    goes = λ told. reads_on f.steady (at f.coming) (behind f.coming) w w' i i' f.coming f1.coming f2.coming x r (first.taken (second.told told))
-        (subst (λ (b : Bool). Goes d b (next x f1.coming) w i f1.coming r w' i' f2.coming) first.steady (second.goes told));
+    goes = λ told. reads_on (at f.coming) (behind f.coming) w w' i i' f.coming f1.coming f2.coming x r (first.taken (second.told told))
+        (second.goes told);
     told = λ told. first.told (second.told told);
-    steady = second.steady ∙ first.steady;
     keeps = le_trans second.keeps first.keeps;
     mode = second.mode;
     reason = second.reason;
@@ -277,7 +267,6 @@ module _ {S A Y : Type 0} (d : KnownDisplay S) (custom : Custom) (ask : Ask) (ne
   ask_stops w w' i f e draws = record {
     goes = λ told. inr (e, draws.err.0, draws.err.1, refl, refl, refl);
     told = λ told. told;
-    steady = refl;
     keeps = le_refl _;
     mode = refl;
     reason = display_because d custom w' f e draws.err.0 (w, ask, draws.err.1);
@@ -288,7 +277,6 @@ module _ {S A Y : Type 0} (d : KnownDisplay S) (custom : Custom) (ask : Ask) (ne
   ask_follows u w w1 w2 i i2 f f2 r first second = record {
     goes = λ told. inl (w1, first.ok, second.goes told);
     told = second.told;
-    steady = second.steady;
     keeps = second.keeps;
     mode = second.mode;
     reason = second.reason;

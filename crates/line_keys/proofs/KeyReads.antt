@@ -24,22 +24,21 @@ left_made : {X Y : Type 0} (g : X → Y) (r : Result X ReadlineError) (rest : Co
 left_made g (Ok x) rest = refl
 left_made g (Err e) rest = refl
 
-made_as : {X Y : Type 0} (g : X → Y) (item : InputItem) (steady : Bool) (given result : Result X ReadlineError) (rest c : Coming)
-    → ReadAs item steady given rest result c → ReadAs item steady (made_of g given) rest (made_of g result) c
-made_as g item steady given result rest c (inl is) = inl (ap (made_of g) is.0, is.1 ∙ sym (left_made g given rest))
-made_as g item steady given result rest c (inr (e, fault, is, left)) = inr (e, fault, ap (made_of g) is, left)
+made_as : {X Y : Type 0} (g : X → Y) (item : InputItem) (given result : Result X ReadlineError) (rest c : Coming)
+    → ReadAs item given rest result c → ReadAs item (made_of g given) rest (made_of g result) c
+made_as g item given result rest c (inl is) = inl (ap (made_of g) is.0, is.1 ∙ sym (left_made g given rest))
+made_as g item given result rest c (inr (e, fault, is, left)) = inr (e, fault, ap (made_of g) is, left)
 
-press_as : (steady : Bool) (given : Result KeyEvent ReadlineError) (result : Result Event ReadlineError) (rest c : Coming)
-    → ReadAs Key steady (made_of KeyPress given) rest result c → ReadAs Key steady given rest (of_press result) c
-press_as steady given result rest c (inl is) = inl (ap of_press is.0 ∙ press_of given, is.1 ∙ left_made KeyPress given rest)
-press_as steady given result rest c (inr (e, fault, is, left)) = inr (e, fault, ap of_press is, left)
+press_as : (given : Result KeyEvent ReadlineError) (result : Result Event ReadlineError) (rest c : Coming)
+    → ReadAs Key (made_of KeyPress given) rest result c → ReadAs Key given rest (of_press result) c
+press_as given result rest c (inl is) = inl (ap of_press is.0 ∙ press_of given, is.1 ∙ left_made KeyPress given rest)
+press_as given result rest c (inr (e, fault, is, left)) = inr (e, fault, ap of_press is, left)
 
 module _ {X : Type 0} (g : KeyEvent → X) (f f' : KeyFeed) where
   pub made_of_read : (k : KeyEvent) → ReadsBy Key key_at f f' (Ok k) → ReadsBy Key (from_key_at g) f f' (Ok (g k))
   made_of_read k reads = record {
-    taken = λ told. made_as g Key f.steady (key_at f.coming) (Ok k) (behind f.coming) f'.coming (reads.taken told);
+    taken = λ told. made_as g Key (key_at f.coming) (Ok k) (behind f.coming) f'.coming (reads.taken told);
     told = reads.told;
-    steady = reads.steady;
     keeps = reads.keeps;
     falls = reads.falls;
     refused = reads.refused;
@@ -48,9 +47,8 @@ module _ {X : Type 0} (g : KeyEvent → X) (f f' : KeyFeed) where
 
   pub not_made : (e : ReadlineError) → ReadsBy Key key_at f f' (Err e) → ReadsBy Key (from_key_at g) f f' (Err e)
   not_made e reads = record {
-    taken = λ told. made_as g Key f.steady (key_at f.coming) (Err e) (behind f.coming) f'.coming (reads.taken told);
+    taken = λ told. made_as g Key (key_at f.coming) (Err e) (behind f.coming) f'.coming (reads.taken told);
     told = reads.told;
-    steady = reads.steady;
     keeps = reads.keeps;
     falls = reads.falls;
     refused = reads.refused;
@@ -60,9 +58,8 @@ module _ {X : Type 0} (g : KeyEvent → X) (f f' : KeyFeed) where
 module _ (f f' : KeyFeed) where
   pub key_of_press : (k : KeyEvent) → ReadsBy Key press_at f f' (Ok (KeyPress k)) → ReadsBy Key key_at f f' (Ok k)
   key_of_press k reads = record {
-    taken = λ told. press_as f.steady (key_at f.coming) (Ok (KeyPress k)) (behind f.coming) f'.coming (reads.taken told);
+    taken = λ told. press_as (key_at f.coming) (Ok (KeyPress k)) (behind f.coming) f'.coming (reads.taken told);
     told = reads.told;
-    steady = reads.steady;
     keeps = reads.keeps;
     falls = reads.falls;
     refused = reads.refused;
@@ -71,9 +68,8 @@ module _ (f f' : KeyFeed) where
 
   pub no_press : (e : ReadlineError) → ReadsBy Key press_at f f' (Err e) → ReadsBy Key key_at f f' (Err e)
   no_press e reads = record {
-    taken = λ told. press_as f.steady (key_at f.coming) (Err e) (behind f.coming) f'.coming (reads.taken told);
+    taken = λ told. press_as (key_at f.coming) (Err e) (behind f.coming) f'.coming (reads.taken told);
     told = reads.told;
-    steady = reads.steady;
     keeps = reads.keeps;
     falls = reads.falls;
     refused = reads.refused;

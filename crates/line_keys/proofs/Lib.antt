@@ -2,9 +2,6 @@ pub mod Beginnings
 pub mod Deeds
 pub mod Equality
 pub mod Following
-pub mod HeardLemmas
-pub mod Hearing
-pub mod HearingTables
 pub mod KeyReads
 pub mod Normal
 mod PhraseRows

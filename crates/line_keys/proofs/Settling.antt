@@ -270,16 +270,16 @@ abbrev is_ok : {X : Type 0} → Result X ReadlineError → Bool
 is_ok (Ok x) = true
 is_ok (Err e) = false
 
-pub goes_settled : {S X : Type 0} (d : KnownDisplay S) (steady : Bool) (own : Bool) (s : Script X) (w w' : S) (i i' : Input) (c c' : Coming) (x : X) → Settles own s
-    → Goes d steady s w i c (Ok x) w' i' c' → (asks : List Ask) × FoldsTo d.asked w asks w' × (own_after own asks ≡ true)
-goes_settled d steady own (Ends (Ok y)) w w' i i' c c' x is goes = ([], sym goes.1, is)
-goes_settled d steady own (Ends (Err e)) w w' i i' c c' x is goes = absurd (true≢false (ap is_ok goes.0))
-goes_settled d steady own (Needs later) w w' i i' c c' x is (inl goes) = goes_settled d steady own later w w' i i' c c' x is goes
-goes_settled d steady own (Needs later) w w' i i' c c' x is (inr cut) = absurd (true≢false (ap is_ok cut.0))
-goes_settled d steady own (Asks ask later) w w' i i' c c' x is (inl (seen, made, goes)) =
-    let rest = goes_settled d steady (own_by own ask) (later (d.shown seen)) seen w' i i' c c' x (is (d.shown seen)) goes in
+pub goes_settled : {S X : Type 0} (d : KnownDisplay S) (own : Bool) (s : Script X) (w w' : S) (i i' : Input) (c c' : Coming) (x : X) → Settles own s
+    → Goes d s w i c (Ok x) w' i' c' → (asks : List Ask) × FoldsTo d.asked w asks w' × (own_after own asks ≡ true)
+goes_settled d own (Ends (Ok y)) w w' i i' c c' x is goes = ([], sym goes.1, is)
+goes_settled d own (Ends (Err e)) w w' i i' c c' x is goes = absurd (true≢false (ap is_ok goes.0))
+goes_settled d own (Needs later) w w' i i' c c' x is (inl goes) = goes_settled d own later w w' i i' c c' x is goes
+goes_settled d own (Needs later) w w' i i' c c' x is (inr cut) = absurd (true≢false (ap is_ok cut.0))
+goes_settled d own (Asks ask later) w w' i i' c c' x is (inl (seen, made, goes)) =
+    let rest = goes_settled d (own_by own ask) (later (d.shown seen)) seen w' i i' c c' x (is (d.shown seen)) goes in
     (ask ∷ rest.0, (seen, made, rest.1), rest.2)
-goes_settled d steady own (Asks ask later) w w' i i' c c' x is (inr (e, fault, why, cut, kept, stays)) = absurd (true≢false (ap is_ok cut))
-goes_settled d steady own (Reads item rest later) w w' i i' c c' x is (inl goes) = goes_settled d steady own later w w' i i' rest c' x is goes
-goes_settled d steady own (Reads item rest later) w w' i i' c c' x is (inr (e, fault, cut)) = absurd (true≢false (ap is_ok cut.0))
-goes_settled d steady own (Becomes kept later) w w' i i' c c' x is goes = goes_settled d steady own later w w' kept i' c c' x is goes
+goes_settled d own (Asks ask later) w w' i i' c c' x is (inr (e, fault, why, cut, kept, stays)) = absurd (true≢false (ap is_ok cut))
+goes_settled d own (Reads item rest later) w w' i i' c c' x is (inl goes) = goes_settled d own later w w' i i' rest c' x is goes
+goes_settled d own (Reads item rest later) w w' i i' c c' x is (inr (e, fault, cut)) = absurd (true≢false (ap is_ok cut.0))
+goes_settled d own (Becomes kept later) w w' i i' c c' x is goes = goes_settled d own later w w' kept i' c c' x is goes

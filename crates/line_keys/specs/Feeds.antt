@@ -1,15 +1,13 @@
 -- What is known of a reader of keys, and what each read makes of it.
-use Rattle.std.specs.Prelude.{◌≡◌, ℕ, ◌<◌, ◌≤◌, ◌⊎◌, ⊤, Bool, Result, Err, IsTrue, IsFalse, IfErr, OnOk}
+use Rattle.std.specs.Prelude.{◌≡◌, ℕ, ◌<◌, ◌≤◌, ◌⊎◌, ⊤, Bool, Result, Err, IsTrue, IfErr, OnOk}
 use Rattle.line_config.specs.declared.errors.ReadlineError.{ReadlineError}
-use Rattle.line_config.specs.declared.errors.ReadlineError.TheVariants.{Reader, Memory}
+use Rattle.line_config.specs.declared.errors.ReadlineError.TheVariants.{Memory}
 use Rattle.line_keys.specs.Coming.{Coming, behind, left, left_by}
 use Rattle.line_keys.specs.Faults.{IsReaderRefusal}
 
 pub record KeyFeed : Type 1 where
-  -- contracts know what is still to come
+  -- what its reads gave so far is what was said of it, and this is still to come
   pub told : Bool
-  -- it fails only where that says so
-  pub steady : Bool
   pub coming : Coming
   -- it falls with each key and each paste
   pub bound : ℕ
@@ -21,28 +19,25 @@ pub data InputItem : Type 0 where
   Key : InputItem
   Paste : InputItem
 
--- what a read may be refused for that no input gives: the failure of a source that isn't steady,
--- and want of memory for a pasted text
-abbrev pub IsReadFault : InputItem → Bool → ReadlineError → Type 0
-IsReadFault item steady Reader = IsFalse steady
-IsReadFault Paste steady Memory = ⊤
-IsReadFault item steady why = ⊥
+-- what a read may be refused for that no input gives: want of memory for a pasted text
+abbrev pub IsReadFault : InputItem → ReadlineError → Type 0
+IsReadFault Paste Memory = ⊤
+IsReadFault item why = ⊥
 
 -- a read is answered as the input says, or cut by a fault, which is for good
-abbrev pub ReadAs : {X : Type 0} → InputItem → Bool → Result X ReadlineError → Coming
+abbrev pub ReadAs : {X : Type 0} → InputItem → Result X ReadlineError → Coming
     → Result X ReadlineError → Coming → Type 0
-ReadAs item steady given rest result c' =
+ReadAs item given rest result c' =
     ((result ≡ given) × (c' ≡ left given rest))
-    ⊎ ((e : ReadlineError) × IsReadFault item steady e × (result ≡ Err e) × (c' ≡ left_by e))
+    ⊎ ((e : ReadlineError) × IsReadFault item e × (result ≡ Err e) × (c' ≡ left_by e))
 
 -- what a read of a reader makes of what comes: this answer, of what stands there
 pub record ReadsBy {X : Type 0} (item : InputItem) (at : Coming → Result X ReadlineError)
     (feed feed' : KeyFeed)
     (result : Result X ReadlineError) : Type 0 where
   pub taken : IsTrue feed'.told
-      → ReadAs item feed.steady (at feed.coming) (behind feed.coming) result feed'.coming
+      → ReadAs item (at feed.coming) (behind feed.coming) result feed'.coming
   pub told : IsTrue feed'.told → IsTrue feed.told
-  pub steady : feed'.steady ≡ feed.steady
   pub keeps : feed'.bound ≤ feed.bound
   pub falls : OnOk result (feed'.bound < feed.bound)
   pub refused : IfErr result IsReaderRefusal
@@ -52,7 +47,6 @@ pub record ReadsBy {X : Type 0} (item : InputItem) (at : Coming → Result X Rea
 pub record SomeRead {X : Type 0} (feed feed' : KeyFeed)
     (result : Result X ReadlineError) : Type 0 where
   pub told : IsTrue feed'.told → IsTrue feed.told
-  pub steady : feed'.steady ≡ feed.steady
   pub keeps : feed'.bound ≤ feed.bound
   pub falls : OnOk result (feed'.bound < feed.bound)
   pub refused : IfErr result IsReaderRefusal

@@ -1,6 +1,6 @@
 -- A call makes the steps of its definition, in order, to the answer or to the step at which a fault
 -- cuts it.
-use Rattle.std.specs.Prelude.{◌≡◌, ◌≤◌, ◌⊎◌, ⊤, Bool, false, [], None, Result, Err, IsTrue, IfErr}
+use Rattle.std.specs.Prelude.{◌≡◌, ◌≤◌, ◌⊎◌, ⊤, false, [], None, Result, Err, IsTrue, IfErr}
 use Rattle.line_config.specs.declared.errors.ReadlineError.{ReadlineError}
 use Rattle.line_config.specs.declared.errors.ReadlineError.TheVariants.{Eof, Interrupted, NotUtf8, PasteOutOfPlace, Reader, Display as DisplayFault, Lines, HistoryText, Helper, Handler, Memory}
 use Rattle.line_keys.specs.Answers.{Custom, HandlerFails}
@@ -15,26 +15,26 @@ abbrev pub Stays : {S X : Type 0} → Result X ReadlineError → S → Input →
 Stays answer wrt input c result wrt' input' c' =
     (result ≡ answer) × (wrt' ≡ wrt) × (input' ≡ input) × (c' ≡ c)
 
--- memory cuts only where it is taken; a read where its source fails, or a pasted text finds no
--- memory; an ask where the display refuses it
-abbrev pub Goes : {S X : Type 0} → KnownDisplay S → Bool → Script X → S → Input → Coming
+-- memory cuts only where it is taken; a read where a pasted text finds no memory; an ask where the
+-- display refuses it
+abbrev pub Goes : {S X : Type 0} → KnownDisplay S → Script X → S → Input → Coming
     → Result X ReadlineError → S → Input → Coming → Type 0
-Goes d steady (Ends answer) wrt input c result wrt' input' c' =
+Goes d (Ends answer) wrt input c result wrt' input' c' =
     Stays answer wrt input c result wrt' input' c'
-Goes d steady (Needs later) wrt input c result wrt' input' c' =
-    Goes d steady later wrt input c result wrt' input' c'
+Goes d (Needs later) wrt input c result wrt' input' c' =
+    Goes d later wrt input c result wrt' input' c'
     ⊎ Stays (Err Memory) wrt input c result wrt' input' c'
-Goes {S} d steady (Asks ask later) wrt input c result wrt' input' c' =
+Goes {S} d (Asks ask later) wrt input c result wrt' input' c' =
     ((asked : S) × d.asked wrt ask asked
-    × Goes d steady (later (d.shown asked)) asked input c result wrt' input' c')
+    × Goes d (later (d.shown asked)) asked input c result wrt' input' c')
     ⊎ ((e : ReadlineError) × IsDrawFault e × d.refused wrt ask e wrt' × (result ≡ Err e)
     × (input' ≡ input) × (c' ≡ c))
-Goes d steady (Reads item rest later) wrt input c result wrt' input' c' =
-    Goes d steady later wrt input rest result wrt' input' c'
-    ⊎ ((e : ReadlineError) × IsReadFault item steady e
+Goes d (Reads item rest later) wrt input c result wrt' input' c' =
+    Goes d later wrt input rest result wrt' input' c'
+    ⊎ ((e : ReadlineError) × IsReadFault item e
     × Stays (Err e) wrt input (left_by e) result wrt' input' c')
-Goes d steady (Becomes kept later) wrt input c result wrt' input' c' =
-    Goes d steady later wrt kept c result wrt' input' c'
+Goes d (Becomes kept later) wrt input c result wrt' input' c' =
+    Goes d later wrt kept c result wrt' input' c'
 
 -- the display refused some ask so
 abbrev pub Undrawn : {S : Type 0} → KnownDisplay S → S → ReadlineError → Type 0
@@ -59,10 +59,8 @@ Because d custom wrt feed Memory = ⊤
 pub record Follows {S X : Type 0} (d : KnownDisplay S) (custom : Custom) (script : Script X)
     (wrt : S) (input : Input) (wrt' : S) (input' : Input)
     (feed feed' : KeyFeed) (result : Result X ReadlineError) : Type 0 where
-  pub goes : IsTrue feed'.told
-      → Goes d feed.steady script wrt input feed.coming result wrt' input' feed'.coming
+  pub goes : IsTrue feed'.told → Goes d script wrt input feed.coming result wrt' input' feed'.coming
   pub told : IsTrue feed'.told → IsTrue feed.told
-  pub steady : feed'.steady ≡ feed.steady
   pub keeps : feed'.bound ≤ feed.bound
   -- Emacs or Vi for good
   pub mode : input'.mode ≡ input.mode

@@ -5,7 +5,6 @@ pub mod Commands
 pub mod Common
 pub mod Counts
 pub mod Custom
-pub mod Early
 pub mod Emacs
 pub mod Events
 pub mod Faults

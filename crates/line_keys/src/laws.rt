@@ -6,7 +6,6 @@ ghost use Rattle.line_keys.specs.declared.events.Event.{Event};
 ghost use Rattle.std.specs.Prelude.{true};
 ghost use Rattle.line_keys.specs.Answers.{Custom};
 ghost use Rattle.line_keys.specs.Coming.{Coming};
-ghost use Rattle.line_keys.specs.Early.{Hears};
 ghost use Rattle.line_keys.specs.Phrase.{phrase};
 ghost use Rattle.line_keys.specs.Phrases.{Input};
 ghost use Rattle.line_keys.specs.Refreshing.{Shown};
@@ -37,12 +36,4 @@ pub fn event_equality()
 pub fn phrases_settle()
     ensures { (custom : Custom) (input : Input) (shown : Shown) (coming : Coming)
         → Settles true (phrase custom input shown coming) }
-{}
-
-/// A phrase depends on no key or paste that it hasn't read: over an input that begins alike, it
-/// makes the same steps, to its answer or to the first read that the other input refuses.
-#[tactic(auto, using(crate::proofs::HearingTables::phrase_hears))]
-pub fn phrases_depend_on_what_they_read()
-    ensures { (custom : Custom) (input : Input) (shown : Shown)
-        → Hears (phrase custom input shown) }
 {}
