@@ -1,8 +1,8 @@
 -- The loop of a line: what was done so far by turns, and what is left.
-use Rattle.std.proofs.Common.{◌≡◌, ◌⊎◌, inl, inr, ℕ, zero, suc, ◌<◌, ◌≤◌, Bool, List, [], ◌∷◌, append-nil, refl, sym, ap, subst, ◌∙◌, IsTrue, arith, le_refl}
-use Rattle.std.specs.Prelude.{⊤, IsFalse, Option, None, Result, Ok, Err, IfErr, OnOk, IsErrAnd}
+use Rattle.std.proofs.Common.{◌≡◌, ◌⊎◌, inl, inr, ℕ, zero, suc, ◌<◌, ◌≤◌, List, [], ◌∷◌, append-nil, refl, sym, ap, subst, IsTrue, arith, le_refl}
+use Rattle.std.specs.Prelude.{⊤, Option, None, Result, Ok, Err, IfErr, OnOk, IsErrAnd}
 use Rattle.line_config.specs.declared.errors.ReadlineError.{ReadlineError}
-use Rattle.line_config.specs.declared.errors.ReadlineError.TheVariants.{Display, Reader}
+use Rattle.line_config.specs.declared.errors.ReadlineError.TheVariants.{Display}
 use Rattle.line_help.specs.declared.completion as completions
 use Rattle.line_help.specs.declared.hint as hints
 use Rattle.line_help.specs.declared.highlight as highlights
@@ -22,7 +22,7 @@ use Rattle.line_editor.specs.Drawing.{refreshed}
 use Rattle.line_editor.specs.Reading.{Telling, turns_left, turns_doing, drawn_and_turned, line_doing, Reading, ReadsLine}
 use Rattle.line_editor.specs.Sights.{Sight, sight_of, info_after}
 use Rattle.line_editor.specs.States.{value_of, setting_of, Reason, Does}
-use Rattle.line_editor.specs.Turning.{Doing, HeardBy, Cut, Cause, Whole, turning, turn_doing, Takes}
+use Rattle.line_editor.specs.Turning.{Doing, Cut, Cause, Whole, turning, turn_doing, Takes}
 use Rattle.line_editor.specs.Values.{Transition}
 use Rattle.line_editor.specs.declared.commands.Status.{Status}
 use Rattle.line_editor.specs.declared.commands.Status.TheVariants.{Proceed, Submit}
@@ -70,16 +70,6 @@ on_ok : {A P : Type 0} (result : Result A ReadlineError) → P → OnOk result P
 on_ok (Ok x) h = h
 on_ok (Err e) h = tt
 
--- an answer is no refusal
-answers_not : {Z : Type 0} (status : Status) → ◌≡◌ {A = Result Status ReadlineError} (Ok status) (Err Reader) → Z
-answers_not Proceed is = proceeds Reader is
-answers_not Submit is = submits_not Reader is
-
--- the same of what was heard, for another answer's type
-heard_so : {A : Type 0} (steady kept : Bool) → steady ≡ kept → (c : Coming) (e : ReadlineError) (heard : Coming) → HeardBy {A = Status} steady c (Err e) heard → HeardBy {A = A} kept c (Err e) heard
-heard_so steady kept is c e heard (inl same) = inl same
-heard_so {A} steady kept is c e heard (inr early) = inr (subst IsFalse is early.0, early.1, same_fault Status A e Reader early.2)
-
 module _ {Out H Hi K T : Type 0} {renderer : renderers.Renderer.Ghosts Out} {completer : completions.Completer.Ghosts H K} {candidate : completions.Candidate.Ghosts K}
     {hinter : hints.Hinter.Ghosts H T} {hint : hints.Hint.Ghosts T} {highlighter : highlights.Highlighter.Ghosts H} {validator : verdicts.Validator.Ghosts H} {history : histories.History.Ghosts Hi} where
   caused : {A : Type 0} (custom : Custom) (t : State Out H Hi K T renderer completer candidate hinter hint highlighter validator history) (feed : KeyFeed) (result : Result A ReadlineError)
@@ -88,22 +78,21 @@ module _ {Out H Hi K T : Type 0} {renderer : renderers.Renderer.Ghosts Out} {com
   caused custom t feed (Err e) why = edit_cause custom t feed e why
 
   -- whatever is read of what is left is read of the whole
-  pub record Carried (A : Type 0) (steady : Bool) (line : Coming → Telling) (acts : Doing) (custom : Custom) (indent : ℕ) (s : State Out H Hi K T renderer completer candidate hinter hint highlighter validator history) (c0 : Coming) (r0 : Ring)
+  pub record Carried (A : Type 0) (line : Telling) (acts : Doing) (custom : Custom) (indent : ℕ) (s : State Out H Hi K T renderer completer candidate hinter hint highlighter validator history) (c0 : Coming) (r0 : Ring)
       (m : State Out H Hi K T renderer completer candidate hinter hint highlighter validator history) (i : Input) (r : Ring) (feed : KeyFeed) : Type 0 where
     pub fuel : ℕ
     pub enough : feed.bound < fuel
     pub stands : Option (List ℕ)
     pub onward : (t : State Out H Hi K T renderer completer candidate hinter hint highlighter validator history) (ring : Ring) (rest : Coming) (result : Result A ReadlineError)
-        → Reading steady (λ heard. turns_left custom indent i r heard fuel stands) (turns_doing custom indent i r feed.coming fuel) m t feed.coming rest r ring result
-        → Reading steady line acts s t c0 rest r0 ring result
+        → Reading (turns_left custom indent i r feed.coming fuel stands) (turns_doing custom indent i r feed.coming fuel) m t feed.coming rest r ring result
+        → Reading line acts s t c0 rest r0 ring result
 
   -- at the head of the loop
   pub record Carries (A : Type 0) (custom : Custom) (indent : ℕ) (s : State Out H Hi K T renderer completer candidate hinter hint highlighter validator history) (i : Input) (r : Ring) (feed : KeyFeed)
       (m : State Out H Hi K T renderer completer candidate hinter hint highlighter validator history) (i' : Input) (r' : Ring) (feed' : KeyFeed) : Type 0 where
     pub goes : IsTrue feed'.told → (n : ℕ) → feed.bound < n → (info : Option (List ℕ))
-        → Carried A feed.steady (λ heard. turns_left custom indent i r heard n info) (turns_doing custom indent i r feed.coming n) custom indent s feed.coming r m i' r' feed'
+        → Carried A (turns_left custom indent i r feed.coming n info) (turns_doing custom indent i r feed.coming n) custom indent s feed.coming r m i' r' feed'
     pub told : IsTrue feed'.told → IsTrue feed.told
-    pub steady : feed'.steady ≡ feed.steady
     pub keeps : feed'.bound ≤ feed.bound
 
   pub carries_first : (A : Type 0) (custom : Custom) (indent : ℕ) (s : State Out H Hi K T renderer completer candidate hinter hint highlighter validator history) (i : Input) (r : Ring) (feed : KeyFeed)
@@ -111,102 +100,84 @@ module _ {Out H Hi K T : Type 0} {renderer : renderers.Renderer.Ghosts Out} {com
   carries_first A custom indent s i r feed = record {
     goes = λ told n h info. record { fuel = n; enough = h; stands = info; onward = λ t ring rest result read. read };
     told = λ h. h;
-    steady = refl;
     keeps = le_refl feed.bound;
   }
 
   module _ (A : Type 0) (custom : Custom) (indent : ℕ) (s : State Out H Hi K T renderer completer candidate hinter hint highlighter validator history) (i : Input) (r : Ring) (feed : KeyFeed)
       (m : State Out H Hi K T renderer completer candidate hinter hint highlighter validator history) (i1 : Input) (r1 : Ring) (feed1 : KeyFeed) (so_far : Carries A custom indent s i r feed m i1 r1 feed1) where
-    -- an answer is one to all that comes
-    all_heard : (steady : Bool) (c c' : Coming) (status : Status) (i2 : Input) (r2 : Ring) (m2 : State Out H Hi K T renderer completer candidate hinter hint highlighter validator history)
-        → (heard : Coming) × HeardBy {A = Status} steady c (Ok status) heard × Whole (turning custom indent i1 r1 heard) m m2 r2 i2 c' (Ok status)
-        → Whole (turning custom indent i1 r1 c) m m2 r2 i2 c' (Ok status)
-    all_heard steady c c' status i2 r2 m2 (heard, inl same, whole) = subst (λ x. Whole (turning custom indent i1 r1 x) m m2 r2 i2 c' (Ok status)) same whole
-    all_heard steady c c' status i2 r2 m2 (heard, inr early, whole) = answers_not status early.2
-
     -- a turn that goes on
-    next_by : (line : Coming → Telling) (acts : Doing) (m2 : State Out H Hi K T renderer completer candidate hinter hint highlighter validator history) (i2 : Input) (r2 : Ring) (feed2 : KeyFeed)
-        → Carried A feed.steady line acts custom indent s feed.coming r m i1 r1 feed1 → feed2.bound < feed1.bound
-        → ((heard : Coming) × HeardBy {A = Status} feed1.steady feed1.coming (Ok Proceed) heard × Whole (turning custom indent i1 r1 heard) m m2 r2 i2 feed2.coming (Ok Proceed)) ⊎ Cut (turn_doing custom indent i1 r1 feed1.coming) m m2 feed1.coming feed2.coming r1 r2 (Ok Proceed)
-        → Carried A feed.steady line acts custom indent s feed.coming r m2 i2 r2 feed2
+    next_by : (line : Telling) (acts : Doing) (m2 : State Out H Hi K T renderer completer candidate hinter hint highlighter validator history) (i2 : Input) (r2 : Ring) (feed2 : KeyFeed)
+        → Carried A line acts custom indent s feed.coming r m i1 r1 feed1 → feed2.bound < feed1.bound
+        → Whole (turning custom indent i1 r1 feed1.coming) m m2 r2 i2 feed2.coming (Ok Proceed) ⊎ Cut (turn_doing custom indent i1 r1 feed1.coming) m m2 feed1.coming feed2.coming r1 r2 (Ok Proceed)
+        → Carried A line acts custom indent s feed.coming r m2 i2 r2 feed2
     next_by line acts m2 i2 r2 feed2 at falls (inr cut) = proceeds cut.fault cut.result_is
-    next_by line acts m2 i2 r2 feed2 at falls (inl read) =
-        let whole = all_heard feed1.steady feed1.coming feed2.coming Proceed i2 r2 m2 read in
+    next_by line acts m2 i2 r2 feed2 at falls (inl whole) =
         let f = fuel_for at.fuel feed1.bound feed2.bound at.enough falls in
         record {
           fuel = f.less;
           enough = f.enough;
           stands = info_after (turning custom indent i1 r1 feed1.coming (setting_of m) (value_of m)).made.redraws at.stands;
           onward = λ t ring rest result read. at.onward t ring rest result
-              (subst (λ n. Reading feed.steady (λ heard. turns_left custom indent i1 r1 heard n at.stands) (turns_doing custom indent i1 r1 feed1.coming n) m t feed1.coming rest r1 ring result) (sym f.is)
-              (turn_on custom indent i1 r1 feed1.coming f.less at.stands m feed.steady m2 t i2 r2 ring feed2.coming rest result whole read));
+              (subst (λ n. Reading (turns_left custom indent i1 r1 feed1.coming n at.stands) (turns_doing custom indent i1 r1 feed1.coming n) m t feed1.coming rest r1 ring result) (sym f.is)
+              (turn_on custom indent i1 r1 feed1.coming f.less at.stands m m2 t i2 r2 ring feed2.coming rest result whole read));
         }
 
     pub carries_next : (kept : Custom) → kept ≡ custom → (m2 : State Out H Hi K T renderer completer candidate hinter hint highlighter validator history) (i2 : Input) (r2 : Ring) (feed2 : KeyFeed)
         → Takes kept indent m i1 r1 feed1 m2 i2 r2 feed2 (Ok Proceed) → Carries A custom indent s i r feed m2 i2 r2 feed2
     carries_next kept same m2 i2 r2 feed2 taken = let turn = subst (λ x. Takes x indent m i1 r1 feed1 m2 i2 r2 feed2 (Ok Proceed)) same taken in record {
-      goes = λ told n h info. next_by (λ heard. turns_left custom indent i r heard n info) (turns_doing custom indent i r feed.coming n) m2 i2 r2 feed2 (so_far.goes (turn.told told) n h info) turn.falls (turn.goes told);
+      goes = λ told n h info. next_by (turns_left custom indent i r feed.coming n info) (turns_doing custom indent i r feed.coming n) m2 i2 r2 feed2 (so_far.goes (turn.told told) n h info) turn.falls (turn.goes told);
       told = λ h. so_far.told (turn.told h);
-      steady = turn.steady ∙ so_far.steady;
       keeps = let a : feed2.bound ≤ feed1.bound = turn.keeps in let b : feed1.bound ≤ feed.bound = so_far.keeps in omega arith;
     }
 
     -- a turn that ends the line
-    ended_by : (line : Coming → Telling) (acts : Doing) (t : State Out H Hi K T renderer completer candidate hinter hint highlighter validator history) (i2 : Input) (r2 : Ring) (feed2 : KeyFeed) (e : ReadlineError)
-        → Carried A feed.steady line acts custom indent s feed.coming r m i1 r1 feed1
-        → ((heard : Coming) × HeardBy {A = Status} feed1.steady feed1.coming (Err e) heard × Whole (turning custom indent i1 r1 heard) m t r2 i2 feed2.coming (Err e)) ⊎ Cut {A = Status} (turn_doing custom indent i1 r1 feed1.coming) m t feed1.coming feed2.coming r1 r2 (Err e)
-        → Reading {A = A} feed.steady line acts s t feed.coming feed2.coming r r2 (Err e)
-    ended_by line acts t i2 r2 feed2 e at (inl read) =
+    ended_by : (line : Telling) (acts : Doing) (t : State Out H Hi K T renderer completer candidate hinter hint highlighter validator history) (i2 : Input) (r2 : Ring) (feed2 : KeyFeed) (e : ReadlineError)
+        → Carried A line acts custom indent s feed.coming r m i1 r1 feed1
+        → Whole (turning custom indent i1 r1 feed1.coming) m t r2 i2 feed2.coming (Err e) ⊎ Cut {A = Status} (turn_doing custom indent i1 r1 feed1.coming) m t feed1.coming feed2.coming r1 r2 (Err e)
+        → Reading {A = A} line acts s t feed.coming feed2.coming r r2 (Err e)
+    ended_by line acts t i2 r2 feed2 e at (inl whole) =
         let f = some_fuel at.fuel feed1.bound at.enough in
         at.onward t r2 feed2.coming (Err e)
-        (subst (λ n. Reading {A = A} feed.steady (λ heard. turns_left custom indent i1 r1 heard n at.stands) (turns_doing custom indent i1 r1 feed1.coming n) m t feed1.coming feed2.coming r1 r2 (Err e)) (sym f.is)
-        (inl (
-          read.0,
-          heard_so feed1.steady feed.steady so_far.steady feed1.coming e read.0 read.1,
-          turn_ends custom indent i1 r1 read.0 f.less at.stands m t i2 r2 feed2.coming e (Err e) refl read.2,
-        )))
+        (subst (λ n. Reading {A = A} (turns_left custom indent i1 r1 feed1.coming n at.stands) (turns_doing custom indent i1 r1 feed1.coming n) m t feed1.coming feed2.coming r1 r2 (Err e)) (sym f.is)
+        (inl (turn_ends custom indent i1 r1 feed1.coming f.less at.stands m t i2 r2 feed2.coming e (Err e) refl whole)))
     ended_by line acts t i2 r2 feed2 e at (inr cut) =
         let f = some_fuel at.fuel feed1.bound at.enough in
         at.onward t r2 feed2.coming (Err e)
-        (subst (λ n. Reading {A = A} feed.steady (λ heard. turns_left custom indent i1 r1 heard n at.stands) (turns_doing custom indent i1 r1 feed1.coming n) m t feed1.coming feed2.coming r1 r2 (Err e)) (sym f.is)
+        (subst (λ n. Reading {A = A} (turns_left custom indent i1 r1 feed1.coming n at.stands) (turns_doing custom indent i1 r1 feed1.coming n) m t feed1.coming feed2.coming r1 r2 (Err e)) (sym f.is)
         (inr (turn_cut custom indent i1 r1 feed1.coming f.less at.stands m {A = A} {B = Status} t feed2.coming r2 (Err e) (Err e) cut (same_fault Status A e cut.fault cut.result_is))))
 
     pub carries_ended : (kept : Custom) → kept ≡ custom → (t : State Out H Hi K T renderer completer candidate hinter hint highlighter validator history) (i2 : Input) (r2 : Ring) (feed2 : KeyFeed) (e : ReadlineError) (result : Result A ReadlineError)
-        → IsErrAnd result (λ x. x ≡ e) → Takes kept indent m i1 r1 feed1 t i2 r2 feed2 (Err e) → ReadsLine custom (turns_left custom indent i r) (turns_doing custom indent i r feed.coming) s r feed t r2 feed2 result
-    carries_ended kept same t i2 r2 feed2 e result is taken = let turn = subst (λ x. Takes x indent m i1 r1 feed1 t i2 r2 feed2 (Err e)) same taken in subst (λ x. ReadsLine custom (turns_left custom indent i r) (turns_doing custom indent i r feed.coming) s r feed t r2 feed2 x) (sym (is_err e result is)) (record {
-      goes = λ told n h info. ended_by (λ heard. turns_left custom indent i r heard n info) (turns_doing custom indent i r feed.coming n) t i2 r2 feed2 e (so_far.goes (turn.told told) n h info) (turn.goes told);
+        → IsErrAnd result (λ x. x ≡ e) → Takes kept indent m i1 r1 feed1 t i2 r2 feed2 (Err e) → ReadsLine custom (turns_left custom indent i r) (turns_doing custom indent i r) s r feed t r2 feed2 result
+    carries_ended kept same t i2 r2 feed2 e result is taken = let turn = subst (λ x. Takes x indent m i1 r1 feed1 t i2 r2 feed2 (Err e)) same taken in subst (λ x. ReadsLine custom (turns_left custom indent i r) (turns_doing custom indent i r) s r feed t r2 feed2 x) (sym (is_err e result is)) (record {
+      goes = λ told n h info. ended_by (turns_left custom indent i r feed.coming n info) (turns_doing custom indent i r feed.coming n) t i2 r2 feed2 e (so_far.goes (turn.told told) n h info) (turn.goes told);
       told = λ h. so_far.told (turn.told h);
-      steady = turn.steady ∙ so_far.steady;
       keeps = let a : feed2.bound ≤ feed1.bound = turn.keeps in let b : feed1.bound ≤ feed.bound = so_far.keeps in omega arith;
       falls = tt;
       reason = turn.reason;
     })
 
     -- a turn that accepts the line, and the line's close
-    closed_by : (line : Coming → Telling) (acts : Doing) (m2 t : State Out H Hi K T renderer completer candidate hinter hint highlighter validator history) (i2 : Input) (r2 : Ring) (feed2 : KeyFeed) (result : Result A ReadlineError)
-        → Carried A feed.steady line acts custom indent s feed.coming r m i1 r1 feed1
-        → ((heard : Coming) × HeardBy {A = Status} feed1.steady feed1.coming (Ok Submit) heard × Whole (turning custom indent i1 r1 heard) m m2 r2 i2 feed2.coming (Ok Submit)) ⊎ Cut (turn_doing custom indent i1 r1 feed1.coming) m m2 feed1.coming feed2.coming r1 r2 (Ok Submit)
-        → IfErr result (λ e. e ≡ Display) → Does submitted m2 t result → Reading feed.steady line acts s t feed.coming feed2.coming r r2 result
+    closed_by : (line : Telling) (acts : Doing) (m2 t : State Out H Hi K T renderer completer candidate hinter hint highlighter validator history) (i2 : Input) (r2 : Ring) (feed2 : KeyFeed) (result : Result A ReadlineError)
+        → Carried A line acts custom indent s feed.coming r m i1 r1 feed1
+        → Whole (turning custom indent i1 r1 feed1.coming) m m2 r2 i2 feed2.coming (Ok Submit) ⊎ Cut (turn_doing custom indent i1 r1 feed1.coming) m m2 feed1.coming feed2.coming r1 r2 (Ok Submit)
+        → IfErr result (λ e. e ≡ Display) → Does submitted m2 t result → Reading line acts s t feed.coming feed2.coming r r2 result
     closed_by line acts m2 t i2 r2 feed2 result at (inr cut) why close = submits_not cut.fault cut.result_is
-    closed_by line acts m2 t i2 r2 feed2 (Ok x) at (inl read) why close =
-        let whole = all_heard feed1.steady feed1.coming feed2.coming Submit i2 r2 m2 read in
+    closed_by line acts m2 t i2 r2 feed2 (Ok x) at (inl whole) why close =
         let f = some_fuel at.fuel feed1.bound at.enough in
         at.onward t r2 feed2.coming (Ok x)
-        (subst (λ n. Reading feed.steady (λ heard. turns_left custom indent i1 r1 heard n at.stands) (turns_doing custom indent i1 r1 feed1.coming n) m t feed1.coming feed2.coming r1 r2 (Ok x)) (sym f.is)
-        (inl (feed1.coming, inl refl, turn_accepts custom indent i1 r1 feed1.coming f.less at.stands m m2 i2 r2 feed2.coming whole x t close)))
-    closed_by line acts m2 t i2 r2 feed2 (Err e) at (inl read) why close =
-        let whole = all_heard feed1.steady feed1.coming feed2.coming Submit i2 r2 m2 read in
+        (subst (λ n. Reading (turns_left custom indent i1 r1 feed1.coming n at.stands) (turns_doing custom indent i1 r1 feed1.coming n) m t feed1.coming feed2.coming r1 r2 (Ok x)) (sym f.is)
+        (inl (turn_accepts custom indent i1 r1 feed1.coming f.less at.stands m m2 i2 r2 feed2.coming whole x t close)))
+    closed_by line acts m2 t i2 r2 feed2 (Err e) at (inl whole) why close =
         let f = some_fuel at.fuel feed1.bound at.enough in
         at.onward t r2 feed2.coming (Err e)
-        (subst (λ n. Reading {A = A} feed.steady (λ heard. turns_left custom indent i1 r1 heard n at.stands) (turns_doing custom indent i1 r1 feed1.coming n) m t feed1.coming feed2.coming r1 r2 (Err e)) (sym f.is)
+        (subst (λ n. Reading {A = A} (turns_left custom indent i1 r1 feed1.coming n at.stands) (turns_doing custom indent i1 r1 feed1.coming n) m t feed1.coming feed2.coming r1 r2 (Err e)) (sym f.is)
         (inr (close_cut custom indent i1 r1 feed1.coming f.less at.stands m m2 i2 r2 feed2.coming whole {A = A} {B = A} t e (Err e) refl why close)))
 
     pub carries_closed : (kept : Custom) → kept ≡ custom → (m2 t : State Out H Hi K T renderer completer candidate hinter hint highlighter validator history) (i2 : Input) (r2 : Ring) (feed2 : KeyFeed) (result : Result A ReadlineError)
-        → Takes kept indent m i1 r1 feed1 m2 i2 r2 feed2 (Ok Submit) → IfErr result (λ e. e ≡ Display) → Does submitted m2 t result → ReadsLine custom (turns_left custom indent i r) (turns_doing custom indent i r feed.coming) s r feed t r2 feed2 result
+        → Takes kept indent m i1 r1 feed1 m2 i2 r2 feed2 (Ok Submit) → IfErr result (λ e. e ≡ Display) → Does submitted m2 t result → ReadsLine custom (turns_left custom indent i r) (turns_doing custom indent i r) s r feed t r2 feed2 result
     carries_closed kept same m2 t i2 r2 feed2 result taken why close = let turn = subst (λ x. Takes x indent m i1 r1 feed1 m2 i2 r2 feed2 (Ok Submit)) same taken in record {
-      goes = λ told n h info. closed_by (λ heard. turns_left custom indent i r heard n info) (turns_doing custom indent i r feed.coming n) m2 t i2 r2 feed2 result (so_far.goes (turn.told told) n h info) (turn.goes told) why close;
+      goes = λ told n h info. closed_by (turns_left custom indent i r feed.coming n info) (turns_doing custom indent i r feed.coming n) m2 t i2 r2 feed2 result (so_far.goes (turn.told told) n h info) (turn.goes told) why close;
       told = λ h. so_far.told (turn.told h);
-      steady = turn.steady ∙ so_far.steady;
       keeps = let a : feed2.bound ≤ feed1.bound = turn.keeps in let b : feed1.bound ≤ feed.bound = so_far.keeps in omega arith;
       falls = on_ok result (let a : feed2.bound < feed1.bound = turn.falls in let b : feed1.bound ≤ feed.bound = so_far.keeps in omega arith);
       reason = caused custom t feed2 result close.reason;
@@ -219,8 +190,8 @@ module _ {Out H Hi K T : Type 0} {renderer : renderers.Renderer.Ghosts Out} {com
 
   module _ (custom : Custom) (indent : ℕ) (i : Input) (r : Ring) (s : State Out H Hi K T renderer completer candidate hinter hint highlighter validator history) (feed : KeyFeed) where
     -- the turns that are left after the drawing
-    abbrev after_drawing : ℕ → Coming → Telling
-    after_drawing n heard = turns_left custom indent i r heard n (info_after (refreshed (setting_of s) (value_of s)).redraws None)
+    abbrev after_drawing : ℕ → Telling
+    after_drawing n = turns_left custom indent i r feed.coming n (info_after (refreshed (setting_of s) (value_of s)).redraws None)
 
     abbrev first_drawn : List Act
     first_drawn = Sees (refreshed (setting_of s) (value_of s)).redraws ∷ []
@@ -229,33 +200,31 @@ module _ {Out H Hi K T : Type 0} {renderer : renderers.Renderer.Ghosts Out} {com
     sight_drawn = let e = refreshed (setting_of s) (value_of s) in sight_of (setting_of s) e.value (info_after e.redraws None)
 
     drawn_by : {A B : Type 0} (n : ℕ) (none : ⊤) (x : B) (m t : State Out H Hi K T renderer completer candidate hinter hint highlighter validator history) (r2 : Ring) (c2 : Coming) (result : Result A ReadlineError) → Does refreshed s m (Ok x)
-        → Reading feed.steady (after_drawing n) (turns_doing custom indent i r feed.coming n) m t feed.coming c2 r r2 result
-        → Reading feed.steady (λ heard. drawn_and_turned custom indent i r heard n none) (line_doing custom indent i r feed.coming n) s t feed.coming c2 r r2 result
-    drawn_by n none x m t r2 c2 result drawn (inl (heard, by, read)) =
-        inl (heard, by, reads_on refreshed (after_drawing n heard) (drawn_and_turned custom indent i r heard n none) sight_drawn s m t c2 r2 result refl (done refreshed s m x (tt {0}) drawn) read)
+        → Reading (after_drawing n) (turns_doing custom indent i r feed.coming n) m t feed.coming c2 r r2 result
+        → Reading (drawn_and_turned custom indent i r feed.coming n none) (line_doing custom indent i r feed.coming n) s t feed.coming c2 r r2 result
+    drawn_by n none x m t r2 c2 result drawn (inl read) =
+        inl (reads_on refreshed (after_drawing n) (drawn_and_turned custom indent i r feed.coming n none) sight_drawn s m t c2 r2 result refl (done refreshed s m x (tt {0}) drawn) read)
     drawn_by n none x m t r2 c2 result drawn (inr cut) =
         inr (cut_on refreshed first_drawn (turns_doing custom indent i r feed.coming n) (line_doing custom indent i r feed.coming n) s m t feed.coming feed.coming c2 r r r2 result
         (append-nil (refreshed (setting_of s) (value_of s)).redraws) refl refl refl (done refreshed s m x (tt {0}) drawn) cut)
 
     pub draws : {A B : Type 0} (x : B) (m t : State Out H Hi K T renderer completer candidate hinter hint highlighter validator history) (r2 : Ring) (feed2 : KeyFeed) (result : Result A ReadlineError)
-        → Does refreshed s m (Ok x) → ReadsLine custom (turns_left custom indent i r) (turns_doing custom indent i r feed.coming) m r feed t r2 feed2 result
-        → ReadsLine custom (drawn_and_turned custom indent i r) (line_doing custom indent i r feed.coming) s r feed t r2 feed2 result
+        → Does refreshed s m (Ok x) → ReadsLine custom (turns_left custom indent i r) (turns_doing custom indent i r) m r feed t r2 feed2 result
+        → ReadsLine custom (drawn_and_turned custom indent i r) (line_doing custom indent i r) s r feed t r2 feed2 result
     draws x m t r2 feed2 result drawn read = record {
       goes = λ told n h none. drawn_by n none x m t r2 feed2.coming result drawn (read.goes told n h (info_after (refreshed (setting_of s) (value_of s)).redraws None));
       told = read.told;
-      steady = read.steady;
       keeps = read.keeps;
       falls = read.falls;
       reason = read.reason;
     }
 
     pub undrawn : {A B : Type 0} (t : State Out H Hi K T renderer completer candidate hinter hint highlighter validator history) (e : ReadlineError) (result : Result A ReadlineError)
-        → IsErrAnd result (λ x. x ≡ e) → Does {A = B} refreshed s t (Err e) → ReadsLine custom (drawn_and_turned custom indent i r) (line_doing custom indent i r feed.coming) s r feed t r feed result
-    undrawn {A} {B} t e result is refused = subst (λ x. ReadsLine custom (drawn_and_turned custom indent i r) (line_doing custom indent i r feed.coming) s r feed t r feed x) (sym (is_err e result is)) (record {
+        → IsErrAnd result (λ x. x ≡ e) → Does {A = B} refreshed s t (Err e) → ReadsLine custom (drawn_and_turned custom indent i r) (line_doing custom indent i r) s r feed t r feed result
+    undrawn {A} {B} t e result is refused = subst (λ x. ReadsLine custom (drawn_and_turned custom indent i r) (line_doing custom indent i r) s r feed t r feed x) (sym (is_err e result is)) (record {
       goes = λ told n h none. inr (seeing_cut {A = B} {B = A} refreshed (λ a v. turns_doing custom indent i r feed.coming n a (refreshed a v).value) s t feed.coming r e (Err e) refl
           (shown_in_part renderer.canvas (renderer.canvas.ruler s.out) e (refreshed (setting_of s) (value_of s)).redraws s.layout s.out t.out (refreshed_shows (renderer.canvas.ruler s.out) s.layout (setting_of s) (value_of s)) refused.begun) refused);
       told = λ h. h;
-      steady = refl;
       keeps = le_refl feed.bound;
       falls = tt;
       reason = edit_cause custom t feed e refused.reason;

@@ -10,11 +10,10 @@ use Rattle.line_help.specs.declared.validate as verdicts
 use Rattle.line_help.specs.declared.history as histories
 use Rattle.line_keys.specs.Answers.{Custom}
 use Rattle.line_keys.specs.Coming.{Coming}
-use Rattle.line_keys.specs.Early.{Heard}
 use Rattle.line_keys.specs.Feeds.{KeyFeed}
 use Rattle.line_keys.specs.Follows.{Follows, Because, Goes}
 use Rattle.line_keys.specs.Modes.{is_emacs}
-use Rattle.line_keys.specs.Phrases.{Input, Script}
+use Rattle.line_keys.specs.Phrases.{Input}
 use Rattle.line_keys.specs.declared.command.Cmd.{Cmd}
 use Rattle.line_keys.specs.declared.command.Cmd.TheVariants.{EndOfFile, AcceptOrInsertLine}
 use Rattle.line_record.specs.Ring.{Ring}
@@ -26,17 +25,15 @@ use Rattle.line_editor.specs.Displays.{display_of}
 use Rattle.line_editor.specs.Executing.{Done, Executes}
 use Rattle.line_editor.specs.Lines.{Enacted, enacted, line_phrase, phrase_enacted, Turned, turned_by, turn_of, reset_by}
 use Rattle.line_editor.specs.States.{value_of, setting_of, Reason, Does}
-use Rattle.line_editor.specs.Turning.{Doing, HeardBy, Cut, Cause, Whole, turning, turn_doing, Takes}
+use Rattle.line_editor.specs.Turning.{Doing, Cut, Cause, Whole, turning, turn_doing, Takes}
 use Rattle.line_editor.specs.Values.{Value, Setting, Transition, then_do}
 use Rattle.line_editor.specs.declared.commands.Status.{Status}
 use Rattle.line_editor.specs.declared.commands.Status.TheVariants.{Proceed, Submit}
 use Rattle.line_editor.specs.declared.renderer as renderers
 use Rattle.line_editor.specs.declared.state.State.{State}
-use Rattle.line_keys.proofs.HeardLemmas.{goes_heard}
 use Rattle.line_editor.proofs.ActsLemmas.{rest_of, ring_of, script_redraws, script_rest, script_ring, cut_before, cut_obeying}
 use Rattle.line_editor.proofs.DoesLemmas.{does_both, does_as, setting_stays, stays_both}
-use Rattle.line_editor.proofs.EnactedLemmas.{Enacts, Enacting, goes_apart, goes_enacts, cut_onward}
-use Rattle.line_editor.proofs.HeardLemmas.{line_phrase_hears}
+use Rattle.line_editor.proofs.EnactedLemmas.{Enacts, Enacting, goes_enacts, cut_onward}
 
 pub is_err : {A E : Type 0} (e : E) (result : Result A E) → IsErrAnd result (λ x. x ≡ e) → result ≡ Err e
 is_err e (Ok x) h = elim h [ ]
@@ -81,10 +78,6 @@ made custom indent i r c a v = (turning custom indent i r c a v).made
 fell : (result : Result Status ReadlineError) (a b : ℕ) → a < b → OnOk result (a < b)
 fell (Ok x) a b h = h
 fell (Err e) a b h = tt
-
-heard_by : (steady : Bool) (c heard : Coming) (e : ReadlineError) → e ≡ Reader → Heard steady c heard → HeardBy {A = Status} steady c (Err e) heard
-heard_by steady c heard e is (inl same) = inl same
-heard_by steady c heard e is (inr early) = inr (early.0, early.1, ap (err_of Status) is)
 
 module _ {Out H Hi K T : Type 0} {renderer : renderers.Renderer.Ghosts Out} {completer : completions.Completer.Ghosts H K} {candidate : completions.Candidate.Ghosts K}
     {hinter : hints.Hinter.Ghosts H T} {hint : hints.Hint.Ghosts T} {highlighter : highlights.Highlighter.Ghosts H} {validator : verdicts.Validator.Ghosts H} {history : histories.History.Ghosts Hi} where
@@ -249,69 +242,31 @@ module _ {Out H Hi K T : Type 0} {renderer : renderers.Renderer.Ghosts Out} {com
       command_done (inl k) = inl (command_whole k)
       command_done (inr (e, is, k, left)) = inr (command_cut e is k left)
 
+    -- a phrase that gives no command, and one that gives one
+    stopped : (s t : State Out H Hi K T renderer completer candidate hinter hint highlighter validator history) (i' : Input) (c' : Coming) (e : ReadlineError) → Enacting (phrased custom indent i r c) (spoken s) s t i' c c' r (Err e)
+        → Whole (turning custom indent i r c) s t r i' c' (err_of Status e) ⊎ Cut (turn_doing custom indent i r c) s t c c' r r (err_of Status e)
+    stopped s t i' c' e (inl h) = inl (phrase_ended s t i' c' e (Err e) refl h)
+    stopped s t i' c' e (inr cut) = inr (phrase_cut s t c' e (Err e) refl cut)
+
+    commanded : (s m t : State Out H Hi K T renderer completer candidate hinter hint highlighter validator history) (i1 : Input) (c1 : Coming) (cmd : Cmd) (q ring' : Ring) (result : Result Status ReadlineError)
+        → Enacting (phrased custom indent i r c) (spoken s) s m i1 c c1 r (Ok cmd) → q ≡ reset_by cmd r → Executes (means_of i1 indent q) cmd m t ring' result
+        → Whole (turning custom indent i r c) s t ring' i1 c1 result ⊎ Cut (turn_doing custom indent i r c) s t c c1 r ring' result
+    commanded s m t i1 c1 cmd q ring' result (inl h) reset k = command_done s m t i1 c1 cmd q ring' result h reset k
+    commanded s m t i1 c1 cmd q ring' result (inr cut) reset k = not_refused cmd cut.fault cut.result_is
+
+    phrase_made : (s t : State Out H Hi K T renderer completer candidate hinter hint highlighter validator history) (i' : Input) (c' : Coming) (q : Result Cmd ReadlineError)
+        → Goes display_of (line_phrase custom i (shown_in (value_of s)) c) s i c q t i' c' → Enacting (phrased custom indent i r c) (spoken s) s t i' c c' r q
+    phrase_made s t i' c' q goes = as_phrased s t i' c' q (goes_enacts (line_phrase custom i (shown_in (value_of s)) c) s t i i' c c' r q goes)
+
   -- ---- turns
-
-  -- the phrase, by what was read of what comes
-  abbrev heard_phrase : Custom → Input → State Out H Hi K T renderer completer candidate hinter hint highlighter validator history → Coming → Script Cmd
-  heard_phrase custom i s c = line_phrase custom i (shown_in (value_of s)) c
-
-  stopped_whole : (custom : Custom) (indent : ℕ) (i : Input) (r : Ring) (s t : State Out H Hi K T renderer completer candidate hinter hint highlighter validator history) (i' : Input) (c c' : Coming) (e : ReadlineError) → e ≡ Reader
-      → Enacting (phrased custom indent i r c) (spoken custom indent i r c s) s t i' c c' r (Err e) → Whole (turning custom indent i r c) s t r i' c' (err_of Status e)
-  stopped_whole custom indent i r s t i' c c' e is (inl h) = phrase_ended custom indent i r c s t i' c' e (Err e) refl h
-  stopped_whole custom indent i r s t i' c c' e is (inr cut) = elim (subst (Reason t) (ap refusal_or (sym cut.result_is) ∙ is) cut.cause) [ ]
-
-  abbrev Took : Custom → ℕ → Input → Ring → State Out H Hi K T renderer completer candidate hinter hint highlighter validator history → State Out H Hi K T renderer completer candidate hinter hint highlighter validator history → Bool → Input → Coming → Coming → Ring → Result Status ReadlineError → Type 0
-  Took custom indent i r s t steady i' c c' r' result =
-      ((heard : Coming) × HeardBy steady c result heard × Whole (turning custom indent i r heard) s t r' i' c' result) ⊎ Cut (turn_doing custom indent i r c) s t c c' r r' result
-
-  -- all that comes was heard
-  all_heard : (custom : Custom) (indent : ℕ) (i : Input) (r : Ring) (s t : State Out H Hi K T renderer completer candidate hinter hint highlighter validator history) (steady : Bool) (i' : Input) (c c' : Coming) (r' : Ring) (result : Result Status ReadlineError)
-      → Whole (turning custom indent i r c) s t r' i' c' result ⊎ Cut (turn_doing custom indent i r c) s t c c' r r' result → Took custom indent i r s t steady i' c c' r' result
-  all_heard custom indent i r s t steady i' c c' r' result (inl whole) = inl (c, inl refl, whole)
-  all_heard custom indent i r s t steady i' c c' r' result (inr cut) = inr cut
-
-  stopped_at : (custom : Custom) (indent : ℕ) (i : Input) (r : Ring) (s t : State Out H Hi K T renderer completer candidate hinter hint highlighter validator history) (steady : Bool) (i' : Input) (c c' : Coming) (e : ReadlineError)
-      → Enacting (phrased custom indent i r c) (spoken custom indent i r c s) s t i' c c' r (Err e) → Took custom indent i r s t steady i' c c' r (err_of Status e)
-  stopped_at custom indent i r s t steady i' c c' e (inl h) = inl (c, inl refl, phrase_ended custom indent i r c s t i' c' e (Err e) refl h)
-  stopped_at custom indent i r s t steady i' c c' e (inr cut) = inr (phrase_cut custom indent i r c s t c' e (Err e) refl cut)
-
-  stopped_by : (custom : Custom) (indent : ℕ) (i : Input) (r : Ring) (s t : State Out H Hi K T renderer completer candidate hinter hint highlighter validator history) (steady : Bool) (i' : Input) (c c' : Coming) (e : ReadlineError)
-      → Goes display_of steady (heard_phrase custom i s c) s i c (Err e) t i' c'
-      → Goes display_of true (heard_phrase custom i s c) s i c (Err e) t i' c' ⊎ (err_of Cmd e ≡ Err Reader) → Took custom indent i r s t steady i' c c' r (err_of Status e)
-  stopped_by custom indent i r s t steady i' c c' e goes (inl h) =
-      stopped_at custom indent i r s t steady i' c c' e (as_phrased custom indent i r c s t i' c' (Err e) (goes_enacts (heard_phrase custom i s c) s t i i' c c' r (Err e) h))
-  stopped_by custom indent i r s t steady i' c c' e goes (inr is) =
-      let same : e ≡ Reader = ap refusal_or is in
-      let read = goes_heard display_of (err_of Cmd e) t i' c' steady (heard_phrase custom i s) (line_phrase_hears custom i (shown_in (value_of s))) s i c goes in
-      inl (
-        read.0,
-        heard_by steady c read.0 e same read.1,
-        stopped_whole custom indent i r s t i' read.0 c' e same
-            (as_phrased custom indent i r read.0 s t i' c' (Err e) (goes_enacts (heard_phrase custom i s read.0) s t i i' read.0 c' r (Err e) read.2)),
-      )
-
-  commanded_at : (custom : Custom) (indent : ℕ) (i : Input) (r : Ring) (s m t : State Out H Hi K T renderer completer candidate hinter hint highlighter validator history) (steady : Bool) (i1 : Input) (c c1 : Coming) (cmd : Cmd) (q ring' : Ring)
-      (result : Result Status ReadlineError) → Enacting (phrased custom indent i r c) (spoken custom indent i r c s) s m i1 c c1 r (Ok cmd) → q ≡ reset_by cmd r → Executes (means_of i1 indent q) cmd m t ring' result
-      → Took custom indent i r s t steady i1 c c1 ring' result
-  commanded_at custom indent i r s m t steady i1 c c1 cmd q ring' result (inl h) reset k = all_heard custom indent i r s t steady i1 c c1 ring' result (command_done custom indent i r c s m t i1 c1 cmd q ring' result h reset k)
-  commanded_at custom indent i r s m t steady i1 c c1 cmd q ring' result (inr cut) reset k = not_refused cmd cut.fault cut.result_is
-
-  commanded_by : (custom : Custom) (indent : ℕ) (i : Input) (r : Ring) (s m t : State Out H Hi K T renderer completer candidate hinter hint highlighter validator history) (steady : Bool) (i1 : Input) (c c1 : Coming) (cmd : Cmd) (q ring' : Ring)
-      (result : Result Status ReadlineError) → Goes display_of true (heard_phrase custom i s c) s i c (Ok cmd) m i1 c1 ⊎ (◌≡◌ {A = Result Cmd ReadlineError} (Ok cmd) (Err Reader))
-      → q ≡ reset_by cmd r → Executes (means_of i1 indent q) cmd m t ring' result → Took custom indent i r s t steady i1 c c1 ring' result
-  commanded_by custom indent i r s m t steady i1 c c1 cmd q ring' result (inl h) reset k =
-      commanded_at custom indent i r s m t steady i1 c c1 cmd q ring' result (as_phrased custom indent i r c s m i1 c1 (Ok cmd) (goes_enacts (heard_phrase custom i s c) s m i i1 c c1 r (Ok cmd) h)) reset k
-  commanded_by custom indent i r s m t steady i1 c c1 cmd q ring' result (inr is) reset k = not_refused cmd Reader is
 
   -- no command came
   pub turn_refused : (custom : Custom) (indent : ℕ) (s t : State Out H Hi K T renderer completer candidate hinter hint highlighter validator history) (i i' : Input) (r : Ring) (f f' : KeyFeed) (e : ReadlineError) (q : Result Status ReadlineError)
       → IsErrAnd q (λ x. x ≡ e) → Follows display_of custom (line_phrase custom i (shown_in (value_of s)) f.coming) s i t i' f f' (Err e) → Takes custom indent s i r f t i' r f' q
   turn_refused custom indent s t i i' r f f' e q is h =
       subst (λ x. Takes custom indent s i r f t i' r f' x) (sym (is_err e q is)) (record {
-        goes = λ told. stopped_by custom indent i r s t f.steady i' f.coming f'.coming e (h.goes told)
-            (goes_apart display_of f.steady (err_of Cmd e) t i' f'.coming (heard_phrase custom i s f.coming) s i f.coming (h.goes told));
+        goes = λ told. stopped custom indent i r f.coming s t i' f'.coming e (phrase_made custom indent i r f.coming s t i' f'.coming (Err e) (h.goes told));
         told = h.told;
-        steady = h.steady;
         keeps = h.keeps;
         falls = tt;
         mode = h.mode;
@@ -330,10 +285,8 @@ module _ {Out H Hi K T : Type 0} {renderer : renderers.Renderer.Ghosts Out} {com
       → Follows display_of custom (line_phrase custom i (shown_in (value_of s)) f.coming) s i m i1 f f1 (Ok cmd) → f1.bound < f.bound → q ≡ reset_by cmd r
       → Executes (means_of i1 indent q) cmd m t ring' result → Takes custom indent s i r f t i1 ring' f1 result
   turn_commanded custom indent s m t i i1 r q ring' f f1 cmd result h falls reset k = record {
-    goes = λ told. commanded_by custom indent i r s m t f.steady i1 f.coming f1.coming cmd q ring' result
-        (goes_apart display_of f.steady (Ok cmd) m i1 f1.coming (heard_phrase custom i s f.coming) s i f.coming (h.goes told)) reset k;
+    goes = λ told. commanded custom indent i r f.coming s m t i1 f1.coming cmd q ring' result (phrase_made custom indent i r f.coming s m i1 f1.coming (Ok cmd) (h.goes told)) reset k;
     told = h.told;
-    steady = h.steady;
     keeps = h.keeps;
     falls = fell result f1.bound f.bound falls;
     mode = h.mode;

@@ -1,8 +1,8 @@
 -- A script that a state followed is enacted, or cut by a fault.
-use Rattle.std.proofs.Common.{◌≡◌, ◌⊎◌, inl, inr, Bool, true, true≢false, List, [], ◌∷◌, ◌++◌, refl, sym, ap, subst, ◌∙◌}
+use Rattle.std.proofs.Common.{◌≡◌, ◌⊎◌, inl, inr, List, [], ◌∷◌, ◌++◌, refl, sym, ap, subst, ◌∙◌}
 use Rattle.std.specs.Prelude.{Result, Ok, Err}
 use Rattle.line_config.specs.declared.errors.ReadlineError.{ReadlineError}
-use Rattle.line_config.specs.declared.errors.ReadlineError.TheVariants.{Reader, Memory}
+use Rattle.line_config.specs.declared.errors.ReadlineError.TheVariants.{Memory}
 use Rattle.std.specs.List.{FoldsTo}
 use Rattle.line_help.specs.declared.completion as completions
 use Rattle.line_help.specs.declared.hint as hints
@@ -12,7 +12,6 @@ use Rattle.line_help.specs.declared.history as histories
 use Rattle.line_keys.specs.Coming.{Coming, left_by}
 use Rattle.line_keys.specs.Feeds.{InputItem, Key, Paste, IsReadFault}
 use Rattle.line_keys.specs.Follows.{Goes}
-use Rattle.line_keys.specs.Refreshing.{KnownDisplay as Displaying}
 use Rattle.line_keys.specs.Phrases.{Input, Script, Ends, Needs, Asks, Reads, Becomes}
 use Rattle.line_record.specs.Ring.{Ring}
 use Rattle.line_editor.specs.Acts.{Act, Sees, Gets, Stage, stage, SeenInPart, CutIn, script_acts}
@@ -30,37 +29,11 @@ use Rattle.line_editor.proofs.ActsLemmas.{redraws_of, rest_of, ring_of, asked_of
 use Rattle.line_editor.proofs.DoesLemmas.{does_both, does_as, setting_stays, stays_same, stays_both}
 use Rattle.line_editor.proofs.ShowsLemmas.{ask_in_part}
 
--- a read that a steady source cuts wants memory
-wants_memory : (item : InputItem) (e : ReadlineError) → IsReadFault item true e → e ≡ Memory
+-- a read that is cut wants memory
+wants_memory : (item : InputItem) (e : ReadlineError) → IsReadFault item e → e ≡ Memory
 wants_memory item Memory is = refl
-wants_memory item Reader is = absurd (true≢false is)
-wants_memory item _ is = absurd is
-
-fault_apart : (item : InputItem) (steady : Bool) (e : ReadlineError) → IsReadFault item steady e → IsReadFault item true e ⊎ (e ≡ Reader)
-fault_apart item steady Reader is = inr refl
-fault_apart Key steady Memory is = inl is
-fault_apart Paste steady Memory is = inl is
-fault_apart item steady _ is = absurd is
-
-first_of : {P Q R : Type 0} → P ⊎ R → (P → Q) → Q ⊎ R
-first_of (inl h) go = inl (go h)
-first_of (inr h) go = inr h
-
-read_apart : {X P : Type 0} {r : Result X ReadlineError} (item : InputItem) (e : ReadlineError) → r ≡ Err e → IsReadFault item true e ⊎ (e ≡ Reader) → (IsReadFault item true e → P) → P ⊎ (r ≡ Err Reader)
-read_apart item e is (inl h) go = inl (go h)
-read_apart item e is (inr h) go = inr (is ∙ ap Err h)
-
-module _ {S X : Type 0} (d : Displaying S) (steady : Bool) (r : Result X ReadlineError) (w' : S) (i' : Input) (c' : Coming) where
-  -- the steps went as a steady source lets them, or the source failed
-  pub goes_apart : (script : Script X) (w : S) (i : Input) (c : Coming) → Goes d steady script w i c r w' i' c' → Goes d true script w i c r w' i' c' ⊎ (r ≡ Err Reader)
-  goes_apart (Ends answer) w i c h = inl h
-  goes_apart (Needs later) w i c (inl h) = first_of (goes_apart later w i c h) (λ k. inl k)
-  goes_apart (Needs later) w i c (inr h) = inl (inr h)
-  goes_apart (Asks ask later) w i c (inl (m, made, h)) = first_of (goes_apart (later (d.shown m)) m i c h) (λ k. inl (m, made, k))
-  goes_apart (Asks ask later) w i c (inr h) = inl (inr h)
-  goes_apart (Reads item rest later) w i c (inl h) = first_of (goes_apart later w i rest h) (λ k. inl k)
-  goes_apart (Reads item rest later) w i c (inr (e, fault, h)) = read_apart item e h.0 (fault_apart item steady e fault) (λ k. inr (e, k, h))
-  goes_apart (Becomes kept later) w i c h = goes_apart later w kept c h
+wants_memory Key _ is = absurd is
+wants_memory Paste _ is = absurd is
 
 module _ {Out H Hi K T : Type 0} {renderer : renderers.Renderer.Ghosts Out} {completer : completions.Completer.Ghosts H K} {candidate : completions.Candidate.Ghosts K}
     {hinter : hints.Hinter.Ghosts H T} {hint : hints.Hint.Ghosts T} {highlighter : highlights.Highlighter.Ghosts H} {validator : verdicts.Validator.Ghosts H} {history : histories.History.Ghosts Hi} where
@@ -210,7 +183,7 @@ module _ {Out H Hi K T : Type 0} {renderer : renderers.Renderer.Ghosts Out} {com
   read_before item rest later i c k s t i' c' r (inr cut) = inr (cut_after_read rest (λ a v. script_acts a later v) s t c c' k r cut)
 
   pub goes_enacts : {X : Type 0} (script : Script X) (s t : State Out H Hi K T renderer completer candidate hinter hint highlighter validator history)
-      (i i' : Input) (c c' : Coming) (k : Ring) (r : Result X ReadlineError) → Goes display_of true script s i c r t i' c'
+      (i i' : Input) (c c' : Coming) (k : Ring) (r : Result X ReadlineError) → Goes display_of script s i c r t i' c'
       → Enacting (λ a v. enacted a script i v c) (λ a v. script_acts a script v) s t i' c c' k r
   goes_enacts {X} (Ends answer) s t i i' c c' k r is = inl (record {
     does = subst (λ x. Does {A = Unit {0}} (λ a v. (enacted a (Ends answer) i v c).made) s x (Ok (tt {0}))) (sym is.1) (nothing_done s);

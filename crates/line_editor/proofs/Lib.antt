@@ -4,7 +4,6 @@ pub mod BegunLemmas
 pub mod CommandsLead
 pub mod CompleteLemmas
 pub mod DoesLemmas
-pub mod HeardLemmas
 pub mod HelpedLemmas
 pub mod KillLemmas
 pub mod LeadLemmas

@@ -1,5 +1,5 @@
 -- The turns of a line, one after the other.
-use Rattle.std.proofs.Common.{◌≡◌, inl, inr, ℕ, suc, Bool, List, [], ◌∷◌, ◌++◌, refl, sym, ap, subst, ◌∙◌, arith, append-nil}
+use Rattle.std.proofs.Common.{◌≡◌, inl, inr, ℕ, suc, List, [], ◌∷◌, ◌++◌, refl, sym, ap, subst, ◌∙◌, arith, append-nil}
 use Rattle.std.specs.Prelude.{Option, Result, Ok, Err, flat_map}
 use Rattle.line_config.specs.declared.errors.ReadlineError.{ReadlineError}
 use Rattle.line_config.specs.declared.errors.ReadlineError.TheVariants.{Display}
@@ -10,7 +10,6 @@ use Rattle.line_help.specs.declared.validate as verdicts
 use Rattle.line_help.specs.declared.history as histories
 use Rattle.line_keys.specs.Answers.{Custom}
 use Rattle.line_keys.specs.Coming.{Coming}
-use Rattle.line_keys.specs.Early.{Early}
 use Rattle.line_keys.specs.Phrases.{Input}
 use Rattle.line_record.specs.Ring.{Ring}
 use Rattle.line_editor.specs.Accepting.{submitted}
@@ -29,7 +28,6 @@ use Rattle.line_editor.specs.declared.renderer as renderers
 use Rattle.line_editor.specs.declared.state.State.{State}
 use Rattle.line_editor.proofs.ActsLemmas.{redraws_of, rest_of, ring_of, turn_redraws, turn_rest, turn_ring, cut_before, cut_seeing}
 use Rattle.line_editor.proofs.DoesLemmas.{does_both, does_as, drawing_shows, setting_stays, stays_both}
-use Rattle.line_editor.proofs.HeardLemmas.{turn_on as early_turn}
 use Rattle.line_editor.proofs.EnactedLemmas.{cut_onward}
 use Rattle.line_editor.proofs.ShowsLemmas.{shown_in_part}
 
@@ -121,7 +119,7 @@ module _ {Out H Hi K T : Type 0} {renderer : renderers.Renderer.Ghosts Out} {com
         ∙ ap (after_turn (line_from n (setting_of s) custom indent) (setting_of s) info turn_here) (sym is)
 
     -- one that leaves the line open
-    pub turn_read : {A : Type 0} (m t : State Out H Hi K T renderer completer candidate hinter hint highlighter validator history) (i' : Input) (r' r2 : Ring) (c' c2 : Coming) (result : Result A ReadlineError) → Whole (turning custom indent i r c) s m r' i' c' (Ok Proceed)
+    turn_read : {A : Type 0} (m t : State Out H Hi K T renderer completer candidate hinter hint highlighter validator history) (i' : Input) (r' r2 : Ring) (c' c2 : Coming) (result : Result A ReadlineError) → Whole (turning custom indent i r c) s m r' i' c' (Ok Proceed)
         → Read (turns_left custom indent i' r' c' n (info_after turn_here.made.redraws info)) m t r2 c2 result → Read line_here s t r2 c2 result
     turn_read m t i' r' r2 c' c2 result whole read =
         let stands : Option (List ℕ) = info_after turn_here.made.redraws info in
@@ -145,7 +143,7 @@ module _ {Out H Hi K T : Type 0} {renderer : renderers.Renderer.Ghosts Out} {com
         → front_here ++ acts_after (acts_from n (setting_of s) custom indent) (setting_of s) turn_here o ≡ doing_here (setting_of s) (value_of s)
     doing_by o is = ap (λ x. front_here ++ acts_after (acts_from n (setting_of s) custom indent) (setting_of s) turn_here x) is ∙ sym (acts_turned n (setting_of s) custom indent i r (value_of s) c)
 
-    pub turn_then_cut : {A : Type 0} (m t : State Out H Hi K T renderer completer candidate hinter hint highlighter validator history) (i' : Input) (r' r2 : Ring) (c' c2 : Coming) (result : Result A ReadlineError) → Whole (turning custom indent i r c) s m r' i' c' (Ok Proceed)
+    turn_then_cut : {A : Type 0} (m t : State Out H Hi K T renderer completer candidate hinter hint highlighter validator history) (i' : Input) (r' r2 : Ring) (c' c2 : Coming) (result : Result A ReadlineError) → Whole (turning custom indent i r c) s m r' i' c' (Ok Proceed)
         → Cut (turns_doing custom indent i' r' c' n) m t c' c2 r' r2 result → Cut doing_here s t c c2 r r2 result
     turn_then_cut m t i' r' r2 c' c2 result whole cut =
         let v : Value = turn_here.made.value in
@@ -158,17 +156,10 @@ module _ {Out H Hi K T : Type 0} {renderer : renderers.Renderer.Ghosts Out} {com
         (turn_redraws a custom indent i r (value_of s) c) (turn_rest a custom indent i r (value_of s) c ∙ sym whole.rest_is) (turn_ring a custom indent i r (value_of s) c ∙ sym whole.ring_is)
         (ap (λ y. front_here ++ y) more ∙ doing_by (Ok Proceed) whole.outcome_is) whole.does cut
 
-    -- the same turn over an input of which less is to come after it
-    pub turn_same : (heard rest : Coming) (m : State Out H Hi K T renderer completer candidate hinter hint highlighter validator history) (i' : Input) (r' : Ring) (c' : Coming) (o : Result Status ReadlineError)
-        → turn_of (setting_of s) custom indent i r (value_of s) heard ≡ record turn_here { rest = rest }
-        → Whole (turning custom indent i r c) s m r' i' c' o → Whole (turning custom indent i r heard) s m r' i' rest o
-    turn_same heard rest m i' r' c' o same whole = record {
-      does = does_as (made custom indent i r c) (made custom indent i r heard) s m (Ok (tt {0})) (sym (ap (λ x. x.made) same)) whole.does;
-      outcome_is = whole.outcome_is ∙ sym (ap (λ x. x.outcome) same);
-      ring_is = whole.ring_is ∙ sym (ap (λ x. x.ring) same);
-      input_is = whole.input_is ∙ sym (ap (λ x. x.input) same);
-      rest_is = sym (ap (λ x. x.rest) same);
-    }
+    pub turn_on : {A : Type 0} (m t : State Out H Hi K T renderer completer candidate hinter hint highlighter validator history) (i' : Input) (r' r2 : Ring) (c' c2 : Coming) (result : Result A ReadlineError) → Whole (turning custom indent i r c) s m r' i' c' (Ok Proceed)
+        → Reading (turns_left custom indent i' r' c' n (info_after turn_here.made.redraws info)) (turns_doing custom indent i' r' c' n) m t c' c2 r' r2 result → Reading line_here doing_here s t c c2 r r2 result
+    turn_on m t i' r' r2 c' c2 result whole (inl read) = inl (turn_read m t i' r' r2 c' c2 result whole read)
+    turn_on m t i' r' r2 c' c2 result whole (inr cut) = inr (turn_then_cut m t i' r' r2 c' c2 result whole cut)
 
     -- one that ends the line
     pub turn_ends : {A : Type 0} (t : State Out H Hi K T renderer completer candidate hinter hint highlighter validator history) (i' : Input) (r' : Ring) (c' : Coming) (e : ReadlineError)
@@ -234,31 +225,3 @@ module _ {Out H Hi K T : Type 0} {renderer : renderers.Renderer.Ghosts Out} {com
                 (shown_in_part renderer.canvas (renderer.canvas.ruler m.out) e (submitted (setting_of m) (value_of m)).redraws m.layout m.out t.out
                 (drawing_shows {A = B} submitted m t (Err e) why refused) refused.begun))));
           }
-
-  -- ---- over what was heard
-
-  pub turn_on : {A : Type 0} (custom : Custom) (indent : ℕ) (i : Input) (r : Ring) (c : Coming) (n : ℕ) (info : Option (List ℕ)) (s : State Out H Hi K T renderer completer candidate hinter hint highlighter validator history)
-      (steady : Bool) (m t : State Out H Hi K T renderer completer candidate hinter hint highlighter validator history) (i' : Input) (r' r2 : Ring) (c' c2 : Coming) (result : Result A ReadlineError)
-      → Whole (turning custom indent i r c) s m r' i' c' (Ok Proceed)
-      → Reading steady (λ heard. turns_left custom indent i' r' heard n (info_after (turning custom indent i r c (setting_of s) (value_of s)).made.redraws info))
-      (turns_doing custom indent i' r' c' n) m t c' c2 r' r2 result
-      → Reading steady (λ heard. turns_left custom indent i r heard (suc n) info) (turns_doing custom indent i r c (suc n)) s t c c2 r r2 result
-  turn_on custom indent i r c n info s steady m t i' r' r2 c' c2 result whole (inr cut) = inr (turn_then_cut custom indent i r c n info s m t i' r' r2 c' c2 result whole cut)
-  turn_on custom indent i r c n info s steady m t i' r' r2 c' c2 result whole (inl (heard, inl same, read)) =
-      let stands : Option (List ℕ) = info_after (turning custom indent i r c (setting_of s) (value_of s)).made.redraws info in
-      inl (
-        c,
-        inl refl,
-        turn_read custom indent i r c n info s m t i' r' r2 c' c2 result whole
-            (subst (λ y. Read (turns_left custom indent i' r' y n stands) m t r2 c2 result) same read),
-      )
-  turn_on custom indent i r c n info s steady m t i' r' r2 c' c2 result whole (inl (heard, inr (unsteady, early, is), read)) =
-      let u : Turned = turning custom indent i r c (setting_of s) (value_of s) in
-      let on = early_turn (setting_of s) indent r heard custom i (value_of s) c Proceed (sym whole.outcome_is) (subst (Early heard) whole.rest_is early) in
-      inl (
-        on.0,
-        inr (unsteady, on.1, is),
-        turn_read custom indent i r on.0 n info s m t i' r' r2 heard c2 result
-            (turn_same custom indent i r c n info s on.0 heard m i' r' c' (Ok Proceed) on.2 whole)
-            (subst (λ y. Read (turns_left custom indent i' r' heard n (info_after y info)) m t r2 c2 result) (sym (ap (λ x. x.made.redraws) on.2)) read),
-      )

@@ -15,7 +15,6 @@ use Rattle.line_help.specs.declared.validate.ValidationResult.{ValidationResult}
 use Rattle.line_help.specs.declared.history as histories
 use Rattle.line_keys.specs.Answers.{Custom}
 use Rattle.line_keys.specs.Coming.{Coming, made_of}
-use Rattle.line_keys.specs.Early.{Heard}
 use Rattle.line_keys.specs.Feeds.{KeyFeed}
 use Rattle.line_keys.specs.InputStates.{new_input}
 use Rattle.line_keys.specs.Phrases.{Input}
@@ -30,7 +29,7 @@ use Rattle.line_editor.specs.Redraws.{asked, fresh}
 use Rattle.line_editor.specs.Running.{Helping, helping_by, setting_by, line_meant, acts_meant, line_calls, outcome_of, WholeLine, CutLine, Runs}
 use Rattle.line_editor.specs.Starts.{empty_at, first_value, Starts}
 use Rattle.line_editor.specs.States.{hooks_of, value_of, setting_of, reason_of, Reason, Stays}
-use Rattle.line_editor.specs.Turning.{Doing, HeardBy, Cut, cause_of, Cause}
+use Rattle.line_editor.specs.Turning.{Doing, Cut, cause_of, Cause}
 use Rattle.line_editor.specs.Values.{Setting, Hooks, IsFailing}
 use Rattle.line_editor.specs.declared.ran.Ran.{Ran}
 use Rattle.line_editor.specs.declared.renderer as renderers
@@ -41,19 +40,14 @@ use Rattle.line_editor.proofs.ActsLemmas.{cut_first}
 pub not_begun : {R H K T : Type 0} (canvas : Canvas R) (helps : Option H → Helping) (custom : Custom) (prompt : List ℕ) (helper : Option H) (entries : List (List ℕ)) (config : Config) (out : R)
     (ring : Ring) (feed : KeyFeed) → Runs {K = K} {T = T} canvas helps custom prompt helper entries config out ring feed (record { out = out; helper = helper; outcome = Err Memory }) ring feed
 not_begun canvas helps custom prompt helper entries config out ring feed = record {
-  goes = λ told n h. (
-    feed.coming,
-    inl refl,
-    inr (record {
-      fault = Memory;
-      outcome_is = refl;
-      cause = tt;
-      done = cut_first canvas (canvas.ruler out) Memory n (setting_by (canvas.ruler out) prompt (helps helper) entries) custom config.indent_size (new_input config.edit_mode) ring feed.coming
-          (fresh (canvas.ruler out).mode) (stage out feed.coming ring) refl;
-    }),
-  );
+  goes = λ told n h. inr (record {
+    fault = Memory;
+    outcome_is = refl;
+    cause = tt;
+    done = cut_first canvas (canvas.ruler out) Memory n (setting_by (canvas.ruler out) prompt (helps helper) entries) custom config.indent_size (new_input config.edit_mode) ring feed.coming
+        (fresh (canvas.ruler out).mode) (stage out feed.coming ring) refl;
+  });
   told = λ told. told;
-  steady = refl;
   keeps = le_refl feed.bound;
   falls = tt;
   helper_stays = λ told. refl;
@@ -135,15 +129,15 @@ module _ {Out H Hi K T : Type 0} {renderer : renderers.Renderer.Ghosts Out} {com
 
   -- bindings that stayed
   pub same_reads : {A : Type 0} (kept custom : Custom) (indent : ℕ) (i : Input) (ring ring' : Ring) (s t : State Out H Hi K T renderer completer candidate hinter hint highlighter validator history) (feed feed' : KeyFeed)
-      (result : Result A ReadlineError) → kept ≡ custom → ReadsLine kept (drawn_and_turned kept indent i ring) (line_doing kept indent i ring feed.coming) s ring feed t ring' feed' result
-      → ReadsLine custom (drawn_and_turned custom indent i ring) (line_doing custom indent i ring feed.coming) s ring feed t ring' feed' result
+      (result : Result A ReadlineError) → kept ≡ custom → ReadsLine kept (drawn_and_turned kept indent i ring) (line_doing kept indent i ring) s ring feed t ring' feed' result
+      → ReadsLine custom (drawn_and_turned custom indent i ring) (line_doing custom indent i ring) s ring feed t ring' feed' result
   same_reads kept custom indent i ring ring' s t feed feed' result same reads =
-      subst (λ x. ReadsLine x (drawn_and_turned x indent i ring) (line_doing x indent i ring feed.coming) s ring feed t ring' feed' result) same reads
+      subst (λ x. ReadsLine x (drawn_and_turned x indent i ring) (line_doing x indent i ring) s ring feed t ring' feed' result) same reads
 
   module _ {A : Type 0} (prompt : List ℕ) (helper : Option H) (hist : Hi) (config : Config) (out : Out) (s t : State Out H Hi K T renderer completer candidate hinter hint highlighter validator history)
       (shown : Hi) (place : ℕ) (starts : Starts out prompt helper shown place s) (shown_is : shown ≡ hist) (place_is : place ≡ length (history.entries hist))
       (custom : Custom) (i : Input) (input_is : i ≡ new_input config.edit_mode) (ring ring' : Ring) (feed feed' : KeyFeed) (result : Result A ReadlineError)
-      (reads : ReadsLine custom (drawn_and_turned custom config.indent_size i ring) (line_doing custom config.indent_size i ring feed.coming) s ring feed t ring' feed' result)
+      (reads : ReadsLine custom (drawn_and_turned custom config.indent_size i ring) (line_doing custom config.indent_size i ring) s ring feed t ring' feed' result)
       (ran : Ran Out H K T) (out_is : ran.out ≡ t.out) (helper_is : ran.helper ≡ t.helper) (outcome_is : outcome_of ran ≡ text_or result t.line.text) where
     abbrev setting : Setting
     setting = setting_by (renderer.canvas.ruler out) prompt (helps s helper) (history.entries hist)
@@ -155,11 +149,11 @@ module _ {Out H Hi K T : Type 0} {renderer : renderers.Renderer.Ghosts Out} {com
         ∙ ap (λ h. setting_by (renderer.canvas.ruler out) prompt (helps s h) (history.entries s.ctx.history.now)) starts.helper_is
         ∙ ap (λ x. setting_by (renderer.canvas.ruler out) prompt (helps s helper) (history.entries x)) (starts.history_is ∙ shown_is)
 
-    abbrev read_as : Coming → ℕ → Telling
-    read_as heard n = drawn_and_turned custom config.indent_size i ring heard n tt
+    abbrev read_as : ℕ → Telling
+    read_as n = drawn_and_turned custom config.indent_size i ring feed.coming n tt
 
-    abbrev as_meant : Coming → ℕ → Told
-    as_meant heard n = line_meant n setting custom config ring heard
+    abbrev as_meant : ℕ → Told
+    as_meant n = line_meant n setting custom config ring feed.coming
 
     abbrev done_as : ℕ → Doing
     done_as n = line_doing custom config.indent_size i ring feed.coming n
@@ -171,22 +165,22 @@ module _ {Out H Hi K T : Type 0} {renderer : renderers.Renderer.Ghosts Out} {com
     acts_same n = ap (λ a. done_as n a (value_of s)) setting_same ∙ ap (done_as n setting) (starts.value ∙ ap empty_at place_is)
         ∙ ap (λ x. line_doing custom config.indent_size x ring feed.coming n setting (first_value setting)) input_is ∙ acts_are_meant custom config ring feed.coming n setting
 
-    line_same : (heard : Coming) (n : ℕ) → read_as heard n (setting_of s) (value_of s) ≡ as_meant heard n
-    line_same heard n = ap (λ a. read_as heard n a (value_of s)) setting_same ∙ ap (read_as heard n setting) (starts.value ∙ ap empty_at place_is)
-        ∙ ap (λ x. drawn_and_turned custom config.indent_size x ring heard n tt setting (first_value setting)) input_is ∙ meant custom config ring heard n tt setting
+    line_same : (n : ℕ) → read_as n (setting_of s) (value_of s) ≡ as_meant n
+    line_same n = ap (λ a. read_as n a (value_of s)) setting_same ∙ ap (read_as n setting) (starts.value ∙ ap empty_at place_is)
+        ∙ ap (λ x. drawn_and_turned custom config.indent_size x ring feed.coming n tt setting (first_value setting)) input_is ∙ meant custom config ring feed.coming n tt setting
 
     helper_same_as : Stays s t → helps s ran.helper ≡ helps s helper
     helper_same_as stays = ap (helps s) helper_is ∙ helper_same s t stays ∙ ap (helps s) starts.helper_is
 
-    whole_line : (heard : Coming) (n : ℕ) → Read (read_as heard n) s t ring' feed'.coming result → WholeLine renderer.canvas (as_meant heard n) out ran.out ring' feed'.coming (outcome_of ran)
-    whole_line heard n read = record {
-      outcome_is = outcome_is ∙ read.outcome_is ∙ ap (λ p. p.outcome) (line_same heard n);
-      ring_is = read.ring_is ∙ ap (λ p. p.ring) (line_same heard n);
-      rest_is = read.rest_is ∙ ap (λ p. p.rest) (line_same heard n);
-      calls = subst (λ o. FoldsTo (MadeIn renderer.canvas) out (line_calls (renderer.canvas.ruler out) (as_meant heard n).turns) o) (sym out_is)
-          (subst (λ (p : Told). FoldsTo (MadeIn renderer.canvas) out (line_calls (renderer.canvas.ruler out) p.turns) t.out) (line_same heard n)
-          (subst (λ l. FoldsTo (MadeIn renderer.canvas) out (asked (renderer.canvas.ruler out) l (flat_map redraws_in (read_as heard n (setting_of s) (value_of s)).turns)).calls t.out) starts.layout
-          (subst (λ o. FoldsTo (MadeIn renderer.canvas) o (asked (renderer.canvas.ruler o) s.layout (flat_map redraws_in (read_as heard n (setting_of s) (value_of s)).turns)).calls t.out) starts.out_is read.does.calls)));
+    whole_line : (n : ℕ) → Read (read_as n) s t ring' feed'.coming result → WholeLine renderer.canvas (as_meant n) out ran.out ring' feed'.coming (outcome_of ran)
+    whole_line n read = record {
+      outcome_is = outcome_is ∙ read.outcome_is ∙ ap (λ p. p.outcome) (line_same n);
+      ring_is = read.ring_is ∙ ap (λ p. p.ring) (line_same n);
+      rest_is = read.rest_is ∙ ap (λ p. p.rest) (line_same n);
+      calls = subst (λ o. FoldsTo (MadeIn renderer.canvas) out (line_calls (renderer.canvas.ruler out) (as_meant n).turns) o) (sym out_is)
+          (subst (λ (p : Told). FoldsTo (MadeIn renderer.canvas) out (line_calls (renderer.canvas.ruler out) p.turns) t.out) (line_same n)
+          (subst (λ l. FoldsTo (MadeIn renderer.canvas) out (asked (renderer.canvas.ruler out) l (flat_map redraws_in (read_as n (setting_of s) (value_of s)).turns)).calls t.out) starts.layout
+          (subst (λ o. FoldsTo (MadeIn renderer.canvas) o (asked (renderer.canvas.ruler o) s.layout (flat_map redraws_in (read_as n (setting_of s) (value_of s)).turns)).calls t.out) starts.out_is read.does.calls)));
     }
 
     why_cut : (e : ReadlineError) → Reason t e → reason_of (renderer.canvas.failed ran.out) ⊤ e
@@ -205,18 +199,14 @@ module _ {Out H Hi K T : Type 0} {renderer : renderers.Renderer.Ghosts Out} {com
           (subst (λ o. CutIn renderer.canvas (renderer.canvas.ruler o) cut.fault (done_as n (setting_of s) (value_of s)) s.layout (stage o feed.coming ring) (stage t.out feed'.coming ring')) starts.out_is cut.done)));
     }
 
-    heard_as : (heard : Coming) → HeardBy feed.steady feed.coming result heard → Heard feed.steady feed.coming heard
-    heard_as heard (inl same) = inl same
-    heard_as heard (inr early) = inr (early.0, early.1)
+    goes_by : (n : ℕ) → Reading (read_as n) (done_as n) s t feed.coming feed'.coming ring ring' result
+        → WholeLine renderer.canvas (as_meant n) out ran.out ring' feed'.coming (outcome_of ran)
+        ⊎ CutLine renderer.canvas (acts_as_meant n) (stage out feed.coming ring) (stage ran.out feed'.coming ring') (outcome_of ran)
+    goes_by n (inl read) = inl (whole_line n read)
+    goes_by n (inr cut) = inr (cut_line n cut)
 
-    goes_by : (n : ℕ) → Reading feed.steady (λ heard. read_as heard n) (done_as n) s t feed.coming feed'.coming ring ring' result
-        → (heard : Coming) × Heard feed.steady feed.coming heard × (WholeLine renderer.canvas (as_meant heard n) out ran.out ring' feed'.coming (outcome_of ran)
-        ⊎ CutLine renderer.canvas (acts_meant n setting custom config ring heard) (stage out heard ring) (stage ran.out feed'.coming ring') (outcome_of ran))
-    goes_by n (inl (heard, by, read)) = (heard, heard_as heard by, inl (whole_line heard n read))
-    goes_by n (inr cut) = (feed.coming, inl refl, inr (cut_line n cut))
-
-    stays_by : (n : ℕ) → Reading feed.steady (λ heard. read_as heard n) (done_as n) s t feed.coming feed'.coming ring ring' result → Stays s t
-    stays_by n (inl read) = read.2.does.stays
+    stays_by : (n : ℕ) → Reading (read_as n) (done_as n) s t feed.coming feed'.coming ring ring' result → Stays s t
+    stays_by n (inl read) = read.does.stays
     stays_by n (inr cut) = cut.stays
 
     stays_told : IsTrue feed'.told → Stays s t
@@ -226,7 +216,6 @@ module _ {Out H Hi K T : Type 0} {renderer : renderers.Renderer.Ghosts Out} {com
     runs_by = record {
       goes = λ told n h. goes_by n (reads.goes told n h tt);
       told = reads.told;
-      steady = reads.steady;
       keeps = reads.keeps;
       falls = same_fall (feed'.bound < feed.bound) string_bytes ran.outcome result t.line.text outcome_is reads.falls;
       helper_stays = λ told. helper_same_as (stays_told told);

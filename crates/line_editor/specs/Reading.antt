@@ -1,6 +1,6 @@
 -- What is read and drawn of a line from some state on: all that the definition says, or a beginning
 -- of it.
-use Rattle.std.specs.Prelude.{◌≡◌, ◌⊎◌, ⊤, ℕ, ◌<◌, ◌≤◌, Bool, List, ◌∷◌, Option, None, Result, Ok, Err, flat_map, IsTrue, IfErr, OnOk}
+use Rattle.std.specs.Prelude.{◌≡◌, ◌⊎◌, ⊤, ℕ, ◌<◌, ◌≤◌, List, ◌∷◌, Option, None, Result, Ok, Err, flat_map, IsTrue, IfErr, OnOk}
 use Rattle.line_config.specs.declared.errors.ReadlineError.{ReadlineError}
 use Rattle.line_help.specs.declared.completion as completions
 use Rattle.line_help.specs.declared.hint as hints
@@ -18,7 +18,7 @@ use Rattle.line_editor.specs.Drawing.{refreshed}
 use Rattle.line_editor.specs.Lines.{Told, line_from, drawn_first}
 use Rattle.line_editor.specs.Sights.{info_after}
 use Rattle.line_editor.specs.States.{value_of, setting_of, Does}
-use Rattle.line_editor.specs.Turning.{Doing, HeardBy, Cut, Cause}
+use Rattle.line_editor.specs.Turning.{Doing, Cut, Cause}
 use Rattle.line_editor.specs.Values.{Value, Setting, Transition}
 use Rattle.line_editor.specs.declared.renderer as renderers
 use Rattle.line_editor.specs.declared.state.State.{State}
@@ -72,27 +72,25 @@ module _ {Out H Hi K T : Type 0} {renderer : renderers.Renderer.Ghosts Out}
     pub ring_is : ring ≡ (line (setting_of s) (value_of s)).ring
     pub rest_is : rest ≡ (line (setting_of s) (value_of s)).rest
 
-  -- of what was heard it was read whole; or a fault cut it
-  abbrev pub Reading : {A : Type 0} → Bool → (Coming → Telling) → Doing
+  -- it was read whole, or a fault cut it
+  abbrev pub Reading : {A : Type 0} → Telling → Doing
       → State Out H Hi K T renderer completer candidate hinter hint highlighter validator history
       → State Out H Hi K T renderer completer candidate hinter hint highlighter validator history
       → Coming → Coming → Ring → Ring → Result A ReadlineError → Type 0
-  Reading steady line acts s t c c' r r' result =
-      ((heard : Coming) × HeardBy steady c result heard × Read (line heard) s t r' c' result)
-      ⊎ Cut acts s t c c' r r' result
+  Reading line acts s t c c' r r' result =
+      Read line s t r' c' result ⊎ Cut acts s t c c' r r' result
 
   -- THE relation of a line from a state on. More fuel than the reader has keys and pastes is enough
   pub record ReadsLine {I A : Type 0} (custom : Custom) (line : Coming → ℕ → I → Telling)
-      (acts : ℕ → Doing)
+      (acts : Coming → ℕ → Doing)
       (s : State Out H Hi K T renderer completer candidate hinter hint highlighter validator
       history) (ring : Ring) (feed : KeyFeed)
       (t : State Out H Hi K T renderer completer candidate hinter hint highlighter validator
       history) (ring' : Ring) (feed' : KeyFeed) (result : Result A ReadlineError) : Type 0 where
     pub goes : IsTrue feed'.told → (n : ℕ) → feed.bound < n → (i : I)
-        → Reading feed.steady (λ heard. line heard n i)
-        (acts n) s t feed.coming feed'.coming ring ring' result
+        → Reading (line feed.coming n i) (acts feed.coming n)
+        s t feed.coming feed'.coming ring ring' result
     pub told : IsTrue feed'.told → IsTrue feed.told
-    pub steady : feed'.steady ≡ feed.steady
     pub keeps : feed'.bound ≤ feed.bound
     pub falls : OnOk result (feed'.bound < feed.bound)
     pub reason : IfErr result (λ e. Cause custom t feed' e)

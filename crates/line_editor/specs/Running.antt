@@ -11,7 +11,6 @@ use Rattle.line_keys.specs.Replies.{Reply}
 use Rattle.line_help.specs.declared.validate.ValidationResult.{ValidationResult}
 use Rattle.line_keys.specs.Answers.{Custom}
 use Rattle.line_keys.specs.Coming.{Coming, made_of}
-use Rattle.line_keys.specs.Early.{Heard}
 use Rattle.line_keys.specs.Feeds.{KeyFeed}
 use Rattle.line_keys.specs.InputStates.{new_input}
 use Rattle.line_keys.specs.declared.command.CmdKind.{CmdKind}
@@ -92,13 +91,11 @@ pub record Runs {R H K T : Type 0} (canvas : Canvas R) (helps : Option H → Hel
     (feed' : KeyFeed) : Type 0 where
   pub goes : IsTrue feed'.told → (n : ℕ) → feed.bound < n →
       let setting = setting_by (canvas.ruler out) prompt (helps helper) entries in
-      (heard : Coming) × Heard feed.steady feed.coming heard
-      × (WholeLine canvas (line_meant n setting custom config ring heard) out ran.out ring'
+      WholeLine canvas (line_meant n setting custom config ring feed.coming) out ran.out ring'
       feed'.coming (outcome_of ran)
-      ⊎ CutLine canvas (acts_meant n setting custom config ring heard)
-      (stage out heard ring) (stage ran.out feed'.coming ring') (outcome_of ran))
+      ⊎ CutLine canvas (acts_meant n setting custom config ring feed.coming)
+      (stage out feed.coming ring) (stage ran.out feed'.coming ring') (outcome_of ran)
   pub told : IsTrue feed'.told → IsTrue feed.told
-  pub steady : feed'.steady ≡ feed.steady
   pub keeps : feed'.bound ≤ feed.bound
   pub falls : OnOk ran.outcome (feed'.bound < feed.bound)
   -- what the helper gives and the ruler stay

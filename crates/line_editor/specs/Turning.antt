@@ -1,6 +1,6 @@
 -- What a turn makes of a state, of the ring and of what comes: all that the definition says, or a
 -- beginning of it.
-use Rattle.std.specs.Prelude.{◌≡◌, ◌⊎◌, ⊤, ℕ, ◌<◌, ◌≤◌, Bool, List, Result, Ok, Err, IsTrue, IsFalse, IfErr, OnOk}
+use Rattle.std.specs.Prelude.{◌≡◌, ◌⊎◌, ⊤, ℕ, ◌<◌, ◌≤◌, Bool, List, Result, Ok, Err, IsTrue, IfErr, OnOk}
 use Rattle.line_config.specs.declared.errors.ReadlineError.{ReadlineError}
 use Rattle.line_config.specs.declared.errors.ReadlineError.TheVariants.{Eof, Interrupted, NotUtf8, PasteOutOfPlace, Reader, Display, Lines, HistoryText, Helper, Handler, Memory}
 use Rattle.line_help.specs.declared.completion as completions
@@ -10,7 +10,6 @@ use Rattle.line_help.specs.declared.validate as verdicts
 use Rattle.line_help.specs.declared.history as histories
 use Rattle.line_keys.specs.Answers.{Custom, HandlerFails}
 use Rattle.line_keys.specs.Coming.{Coming}
-use Rattle.line_keys.specs.Early.{Early}
 use Rattle.line_keys.specs.Feeds.{KeyFeed}
 use Rattle.line_keys.specs.Phrases.{Input}
 use Rattle.line_record.specs.Ring.{Ring}
@@ -32,12 +31,6 @@ Doing = Setting → Value → List Act
 
 abbrev pub turn_doing : Custom → ℕ → Input → Ring → Coming → Doing
 turn_doing custom indent input r c s v = turn_acts s custom indent input r v c
-
--- what was heard of what comes, by how a call ends: all of it; only where its source failed, which
--- isn't steady, was it a beginning
-abbrev pub HeardBy : {A : Type 0} → Bool → Coming → Result A ReadlineError → Coming → Type 0
-HeardBy steady coming result heard =
-    (heard ≡ coming) ⊎ (IsFalse steady × Early heard coming × (result ≡ Err Reader))
 
 -- why a call that reads and edits is refused, whatever is told; commands end a line too
 abbrev pub cause_of : Custom → Bool → Type 0 → KeyFeed → ReadlineError → Type 0
@@ -97,13 +90,11 @@ module _ {Out H Hi K T : Type 0} {renderer : renderers.Renderer.Ghosts Out}
       history) (input' : Input) (ring' : Ring) (feed' : KeyFeed)
       (result : Result Status ReadlineError) : Type 0 where
     pub goes : IsTrue feed'.told →
-        ((heard : Coming) × HeardBy feed.steady feed.coming result heard
-        × Whole (turning custom indent input ring heard) s t ring' input' feed'.coming result)
+        Whole (turning custom indent input ring feed.coming) s t ring' input' feed'.coming result
         ⊎ Cut
         (turn_doing custom indent input ring
         feed.coming) s t feed.coming feed'.coming ring ring' result
     pub told : IsTrue feed'.told → IsTrue feed.told
-    pub steady : feed'.steady ≡ feed.steady
     pub keeps : feed'.bound ≤ feed.bound
     pub falls : OnOk result (feed'.bound < feed.bound)
     pub mode : input'.mode ≡ input.mode

@@ -26,7 +26,7 @@ impl<'p, 'h, Out: Renderer, H: Helper + Drop, Hi: History> State<'p, 'h, Out, H,
             let feed = R.feed rdr.old in
             let ring = kill_ring.old in
             ReadsLine custom (turns_left custom indent input ring)
-            (turns_doing custom indent input ring feed.coming)
+            (turns_doing custom indent input ring)
             self.old ring feed self.new kill_ring.new (R.feed rdr.new) result }
     {
         'turns: loop {
@@ -51,7 +51,7 @@ impl<'p, 'h, Out: Renderer, H: Helper + Drop, Hi: History> State<'p, 'h, Out, H,
             let feed = R.feed rdr.old in
             let ring = kill_ring.old in
             ReadsLine custom (drawn_and_turned custom indent input ring)
-            (line_doing custom indent input ring feed.coming)
+            (line_doing custom indent input ring)
             self.old ring feed self.new kill_ring.new (R.feed rdr.new) result }
     {
         self.refresh()?;
