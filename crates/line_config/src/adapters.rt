@@ -166,7 +166,7 @@ pub struct WriteSink<W> {
 }
 
 impl<W: Write> WriteSink<W> {
-    ghost use Rattle.line_config.specs.Adapters.{writer_of, unsent_of, sink_held};
+    ghost use Rattle.line_config.specs.Adapters.{writer_of, unsent_of, sink_told, sink_held};
 
     /// A sink that sends to the writer.
     pub fn new(writer: W) -> Self
@@ -191,9 +191,9 @@ impl<W: Write> WriteSink<W> {
 
     // Puts as many of the bytes after those that wait as there is room for, which is made first.
     fn gather(&mut self, bytes: &[u8]) -> Result<usize, DeviceFailed>
-        ensures ok { IfOk result (λ n. Takes (sink_held W.contents)
+        ensures ok { IfOk result (λ n. Takes (sink_told W.contents) (sink_held W.contents)
             self.old self.new (take n bytes.now)) }
-        ensures err { OnErr result (Takes (sink_held W.contents)
+        ensures err { OnErr result (Takes (sink_told W.contents) (sink_held W.contents)
             self.old self.new []) }
         ensures bound { IfOk result (λ n. n ≤ length bytes.now) }
         ensures some { IfOk result (λ n. 0 < length bytes.now → 0 < n) }
@@ -205,9 +205,11 @@ impl<W: Write> WriteSink<W> {
     }
 
     fn gather_all(&mut self, bytes: &[u8]) -> Result<(), DeviceFailed>
-        ensures ok { OnOk result (Takes (sink_held W.contents)
+        ensures ok { OnOk result (Takes (sink_told W.contents) (sink_held W.contents)
             self.old self.new bytes.now) }
-        ensures begins { AppendsSome (sink_held W.contents self.old) bytes.now
+        ensures begins { IsTrue (sink_told W.contents self.old)
+            → IsTrue (sink_told W.contents self.new)
+            × AppendsSome (sink_held W.contents self.old) bytes.now
             (sink_held W.contents self.new) }
     {
         let mut rest = bytes;
@@ -220,7 +222,7 @@ impl<W: Write> WriteSink<W> {
 
     // Sends what waits, and flushes the writer.
     fn send(&mut self) -> Result<(), DeviceFailed>
-        ensures takes { Takes (sink_held W.contents)
+        ensures takes { Takes (sink_told W.contents) (sink_held W.contents)
             self.old self.new [] }
         ensures sent { OnOk result (unsent_of self.new ≡ []) }
     {
@@ -230,7 +232,9 @@ impl<W: Write> WriteSink<W> {
 }
 
 impl<W: Write> Sink for WriteSink<W> {
-    ghost use Rattle.line_config.specs.Adapters.{writer_of, unsent_of, sink_held};
+    ghost use Rattle.line_config.specs.Adapters.{writer_of, unsent_of, sink_told, sink_held};
+
+    ghost told = { sink_told W.contents };
 
     ghost held = { sink_held W.contents };
 
@@ -246,13 +250,16 @@ impl<W: Write> Sink for WriteSink<W> {
     }
 
     fn flush(&mut self) -> Result<(), DeviceFailed>
-        ensures held { sink_held W.contents self.new ≡ sink_held W.contents self.old }
+        ensures held { IsTrue (sink_told W.contents self.old)
+            → sink_held W.contents self.new ≡ sink_held W.contents self.old }
+        ensures told { IsTrue (sink_told W.contents self.old)
+            → IsTrue (sink_told W.contents self.new) }
         ensures failure { self.new.failed ≡ is_err result }
         ensures for_good { IsTrue self.old.failed → IsErr result }
 
         // The writer itself holds all then, and the array nothing.
         ensures sent { OnOk result (unsent_of self.new ≡ []) }
-        ensures passed_on { OnOk result (
+        ensures passed_on { IsTrue (sink_told W.contents self.old) → OnOk result (
             known_bytes (W.contents (writer_of self.new)) ≡ sink_held W.contents self.old) }
     {
         if self.failed {

@@ -38,16 +38,24 @@ pub trait Source {
 }
 
 /// A device that bytes go to.
+///
+/// A sink over memory tells what it has taken; one over a file can't.
 pub trait Sink {
-    // The bytes taken so far.
+    // Whether the bytes taken so far are known.
+    ghost told: { Self → Bool };
+
+    // The bytes taken so far, where told.
     ghost held: { Self → List ℕ };
 
     ghost has_failed: { Self → Bool };
 
     /// Takes all the bytes, or fails. A write that fails may have taken the first of them.
     fn write(&mut self, bytes: &[u8]) -> Result<(), DeviceFailed>
-        ensures ok { OnOk result (held self.new ≡ held self.old ++ bytes.now) }
-        ensures begins { AppendsSome (held self.old) bytes.now (held self.new) }
+        ensures ok { IsTrue (told self.old)
+            → OnOk result (held self.new ≡ held self.old ++ bytes.now) }
+        ensures begins { IsTrue (told self.old)
+            → AppendsSome (held self.old) bytes.now (held self.new) }
+        ensures told { IsTrue (told self.old) → IsTrue (told self.new) }
 
         // It fails exactly where it is marked so, and then for good.
         ensures failure { has_failed self.new ≡ is_err result }
@@ -55,7 +63,8 @@ pub trait Sink {
 
     /// Passes on what was written, where the sink gathers it first.
     fn flush(&mut self) -> Result<(), DeviceFailed>
-        ensures held { held self.new ≡ held self.old }
+        ensures held { IsTrue (told self.old) → held self.new ≡ held self.old }
+        ensures told { IsTrue (told self.old) → IsTrue (told self.new) }
         ensures failure { has_failed self.new ≡ is_err result }
         ensures for_good { IsTrue (has_failed self.old) → IsErr result };
 

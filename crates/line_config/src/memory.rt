@@ -105,6 +105,8 @@ impl VecSink {
 }
 
 impl Sink for VecSink {
+    ghost told = { λ _. true };
+
     ghost held = { λ s. s.bytes.items };
 
     ghost has_failed = { λ s. s.failed };
