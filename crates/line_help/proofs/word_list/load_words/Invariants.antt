@@ -1,4 +1,4 @@
-use Rattle.std.proofs.Common.{◌≡◌, ◌≤◌, ◌++◌, IsTrue, map, false}
+use Rattle.std.proofs.Common.{◌≡◌, ◌++◌, IsTrue, map, false}
 use Rattle.std.specs.Prelude.{string_bytes}
 use Rattle.line_help.specs.HistoryText.{GoodUpTo, entries_of, has_bad_row, text_rows}
 use Rattle.line_help.proofs.word_list.load_words.Given as goal
