@@ -1,5 +1,5 @@
 //! Devices over std's readers and writers, each with a fixed array.
-ghost use Rattle.std.specs.Prelude.{◌≡◌, ◌++◌, ◌-◌, ◌^◌, ◌≤◌, ◌<◌, [], false, length, take, is_err, IsErr, IsTrue, Ok, Some, None, IfOk, OnOk, OnErr};
+ghost use Rattle.std.specs.Prelude.{◌≡◌, ◌++◌, ◌-◌, ◌^◌, ◌≤◌, ◌<◌, [], false, length, take, is_err, is_some, IsErr, IsTrue, Ok, Some, None, IfOk, OnOk, OnErr};
 ghost use Rattle.std.specs.Io.KnownBytes.{Appends};
 ghost use Rattle.line_config.specs.Sending.{AppendsSome, Takes};
 ghost use Rattle.line_config.specs.Buffer.{bytes_in};
@@ -98,6 +98,7 @@ impl<R: Read, K: Foretold> ReadSource<R, K> {
         ensures told { Fills (source_feed K.bytes K.last self.old)
             (source_feed K.bytes K.last self.new) (unread_of self.new) (met self.new) }
         ensures failed { self.new.failed ≡ self.old.failed }
+        ensures met { unread_of self.new ≡ [] → IsTrue (is_some (met self.new)) }
     {
         if self.met.is_some() {
             return;
@@ -123,6 +124,7 @@ impl<R: Read, K: Foretold> ReadSource<R, K> {
         ensures told { Fills (source_feed K.bytes K.last self.old)
             (source_feed K.bytes K.last self.new) (unread_of self.new) (met self.new) }
         ensures failed { self.new.failed ≡ self.old.failed }
+        ensures met { unread_of self.new ≡ [] → IsTrue (is_some (met self.new)) }
     {
         if self.unread.is_empty() {
             self.fill();
@@ -230,10 +232,13 @@ impl<W: Write> WriteSink<W> {
     }
 
     // Sends what waits, and flushes the writer.
+    #[tactic(auto, using(crate::proofs::NotesLemmas::on_notes))]
     fn send(&mut self) -> Result<(), DeviceFailed>
         ensures takes { taken self.new ≡ taken self.old }
         ensures sent { OnOk result (unsent_of self.new ≡ []) }
         ensures writer { Notes W.contents (recorded_of self.old) (recorded_of self.new) }
+        ensures told { OnOk result (Appends (W.contents (writer_of self.old))
+            (W.contents (writer_of self.new)) (unsent_of self.old)) }
     {
         self.unsent.send_to(&mut self.writer)?;
         flush_retrying(&mut self.writer)

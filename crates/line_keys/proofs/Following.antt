@@ -1,11 +1,10 @@
 -- Calls that make the steps of their definitions: one step in front, one part after another, and where a fault cuts them.
-use Rattle.std.proofs.Common.{◌≡◌, ◌⊎◌, inl, inr, Bool, true, false, refl, sym, ap, subst, ◌∙◌, true≢false, IsTrue, le_refl, le_trans}
+use Rattle.std.proofs.Common.{◌≡◌, inl, inr, Bool, true, false, refl, sym, ap, subst, ◌∙◌, true≢false, IsTrue, le_refl, le_trans}
 use Rattle.std.specs.Prelude.{Option, Some, None, option_map, Result, Ok, Err, IfErr, is_none}
 use Rattle.line_config.specs.declared.errors.ReadlineError.{ReadlineError}
 use Rattle.line_config.specs.declared.errors.ReadlineError.TheVariants.{Eof, Interrupted, NotUtf8, PasteOutOfPlace, Reader, Display as DisplayFault, Lines, HistoryText, Helper, Handler, Memory}
 use Rattle.line_keys.specs.declared.command.Cmd.{Cmd}
 use Rattle.line_keys.specs.declared.key.KeyEvent.{KeyEvent}
-use Rattle.line_keys.specs.declared.events.Event.{Event}
 use Rattle.line_keys.specs.declared.events.Event.TheVariants.{Any}
 use Rattle.line_keys.specs.Answers.{Custom, Decides, HandlerFails, IsRefusalOf, answer_by}
 use Rattle.line_keys.specs.Coming.{Coming, behind, left}
@@ -15,16 +14,16 @@ use Rattle.line_keys.specs.Events.{single}
 use Rattle.line_keys.specs.Faults.{IsReaderRefusal}
 use Rattle.line_keys.specs.Feeds.{KeyFeed, InputItem, ReadAs, ReadsBy}
 use Rattle.line_keys.specs.Refreshing.{Shown, Ask, KnownDisplay, Draws, IsDrawFault}
-use Rattle.line_keys.specs.Handling.{Meaning, Showing}
+use Rattle.line_keys.specs.Handling.{Meaning}
 use Rattle.line_keys.specs.Phrases.{Input, Script, Ends, Needs, Asks, Reads, Becomes, Part, with_read, read_by, asking, answered, decided_by, deciding, granted, needing, after}
 use Rattle.line_keys.specs.Replies.{Reply, fails, taking}
 use Rattle.line_keys.specs.Follows.{Goes, Follows, Because, Undrawn, silent}
 
-abbrev pub is_ok : {A : Type 0} → Result A ReadlineError → Bool
+abbrev is_ok : {A : Type 0} → Result A ReadlineError → Bool
 is_ok (Ok x) = true
 is_ok (Err e) = false
 
-abbrev pub value_or : {A : Type 0} → A → Result A ReadlineError → A
+abbrev value_or : {A : Type 0} → A → Result A ReadlineError → A
 value_or a (Ok x) = x
 value_or a (Err e) = a
 
@@ -32,13 +31,13 @@ abbrev refusal_in : {A : Type 0} → Result A ReadlineError → ReadlineError
 refusal_in (Ok x) = Memory
 refusal_in (Err e) = e
 
-abbrev pub err_in : (X : Type 0) → ReadlineError → Result X ReadlineError
+abbrev err_in : (X : Type 0) → ReadlineError → Result X ReadlineError
 err_in X e = Err e
 
-abbrev pub ok_in : {X : Type 0} → X → Result X ReadlineError
+abbrev ok_in : {X : Type 0} → X → Result X ReadlineError
 ok_in x = Ok x
 
-pub err_same : {X Y : Type 0} (e f : ReadlineError) → err_in X e ≡ err_in X f → err_in Y e ≡ err_in Y f
+err_same : {X Y : Type 0} (e f : ReadlineError) → err_in X e ≡ err_in X f → err_in Y e ≡ err_in Y f
 err_same e f is = ap Err (ap refusal_in is)
 
 pub ok_not_err : {X : Type 0} {Z : Type 0} (x : X) (e : ReadlineError) → ok_in x ≡ Err e → Z
@@ -118,8 +117,7 @@ module _ {S X Y : Type 0} (d : KnownDisplay S) (custom : Custom) where
   pub then_follows : (s : Script X) (next : X → Input → Shown → Part Y) (x : X) (w w1 w2 : S) (i i1 i2 : Input) (f f1 f2 : KeyFeed) (r : Result Y ReadlineError) → Follows d custom s w i w1 i1 f f1 (Ok x)
       → Follows d custom (next x i1 (d.shown w1) f1.coming) w1 i1 w2 i2 f1 f2 r → Follows d custom (after next i (d.shown w) f.coming s) w i w2 i2 f f2 r
   then_follows s next x w w1 w2 i i1 i2 f f1 f2 r first second = record {
-    goes = λ told. goes_ok d next s x r w w1 w2 i i1 i2 f.coming f1.coming f2.coming (first.goes (second.told told))
-        (second.goes told);
+    goes = λ told. goes_ok d next s x r w w1 w2 i i1 i2 f.coming f1.coming f2.coming (first.goes (second.told told)) (second.goes told);
     told = λ told. first.told (second.told told);
     keeps = le_trans second.keeps first.keeps;
     mode = second.mode ∙ first.mode;
@@ -246,8 +244,7 @@ module _ {S X Y : Type 0} (d : KnownDisplay S) (item : InputItem) (at : Coming �
   pub read_follows : (custom : Custom) (x : X) (w w' : S) (i i' : Input) (f f1 f2 : KeyFeed) (r : Result Y ReadlineError) → ReadsBy item at f f1 (Ok x)
       → Follows d custom (next x f1.coming) w i w' i' f1 f2 r → Follows d custom (with_read item at next f.coming) w i w' i' f f2 r
   read_follows custom x w w' i i' f f1 f2 r first second = record {
-    goes = λ told. reads_on (at f.coming) (behind f.coming) w w' i i' f.coming f1.coming f2.coming x r (first.taken (second.told told))
-        (second.goes told);
+    goes = λ told. reads_on (at f.coming) (behind f.coming) w w' i i' f.coming f1.coming f2.coming x r (first.taken (second.told told)) (second.goes told);
     told = λ told. first.told (second.told told);
     keeps = le_trans second.keeps first.keeps;
     mode = second.mode;

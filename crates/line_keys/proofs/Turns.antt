@@ -17,13 +17,13 @@ use Rattle.line_keys.specs.Phrases.{Input, Script, Needs, Part, Ends, answered, 
 use Rattle.line_keys.proofs.Following.{as_follows, ask_follows, ask_stops, read_follows, read_stops, ends_follow, memory_follows, needs_follow, needing_follows, needed_follows, decides_stop, decides_follow}
 
 module _ (on : ℤ → KeyEvent → Option ℤ) (c : ℤ) where
-  abbrev pub counted : KeyEvent → Part Counted
+  abbrev counted : KeyEvent → Part Counted
   counted k rest = counting_by (λ more. counting on more rest) c k (on c k)
 
   abbrev at_end : KeyEvent → Part Counted
   at_end k = answered (Some c, k)
 
-  pub counting_reads : (coming : Coming) → counting_read on c coming ≡ with_key counted coming
+  counting_reads : (coming : Coming) → counting_read on c coming ≡ with_key counted coming
   unfolding counting
   counting_reads (Pressed k rest) = refl
   counting_reads (Pasted text rest) = refl
@@ -71,20 +71,20 @@ module _ (on : ℤ → KeyEvent → Option ℤ) (c : ℤ) where
           (ap (counting_by (λ m. counting on m f1.coming) c k) (sym is)))
 
 module _ (s : Situation) (keys : List KeyEvent) where
-  abbrev pub read_next : KeyEvent → Part Followed
+  abbrev read_next : KeyEvent → Part Followed
   read_next k rest = deciding (bound_by (following s (keys ++ k ∷ []) rest)) (sequence_answer s (keys ++ k ∷ [])) rest
 
   abbrev on_next : KeyEvent → Option Cmd → Part Followed
   on_next k o rest = bound_by (following s (keys ++ k ∷ []) rest) o rest
 
-  pub following_reads : (coming : Coming) → s.custom.begins keys ≡ true → following s keys coming ≡ with_key read_next coming
+  following_reads : (coming : Coming) → s.custom.begins keys ≡ true → following s keys coming ≡ with_key read_next coming
   following_reads (Pressed k rest) begun = rw begun refl
   following_reads (Pasted text rest) begun = rw begun refl
   following_reads (CutOff last) begun = rw begun refl
   following_reads (NoMore last) begun = rw begun refl
   following_reads (Refused why) begun = rw begun refl
 
-  pub following_over : (coming : Coming) → s.custom.begins keys ≡ false → following s keys coming ≡ in_vain keys coming
+  following_over : (coming : Coming) → s.custom.begins keys ≡ false → following s keys coming ≡ in_vain keys coming
   following_over (Pressed k rest) over = rw over refl
   following_over (Pasted text rest) over = rw over refl
   following_over (CutOff last) over = rw over refl

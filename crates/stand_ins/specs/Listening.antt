@@ -7,7 +7,6 @@ use Rattle.stand_ins.specs.declared.listener.Listener.{Listener}
 abbrev pub listener_feed : Listener → KeyFeed
 listener_feed r = record {
   told = false;
-  steady = false;
   coming = Ends End;
   bound = r.left;
   reason = λ e. ⊤;

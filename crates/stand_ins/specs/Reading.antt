@@ -18,7 +18,6 @@ key_list_coming r = coming_unless r.refused (coming_after r.typed.now r.cut r.af
 abbrev pub key_list_feed : KeyList → KeyFeed
 key_list_feed r = record {
   told = true;
-  steady = true;
   coming = key_list_coming r;
   bound = length r.typed.now;
   reason = λ e. e ≡ Reader → r.refused ≡ Some Reader;
