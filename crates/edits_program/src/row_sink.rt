@@ -1,6 +1,6 @@
 //! A sink that compares.
 
-use line_config::{DeviceFailed, Sink};
+use line_config::{DeviceFailed, Log, Sink};
 
 /// A sink that compares what it takes with rows, each closed by a newline, and takes no memory.
 #[derive(Drop)]
@@ -9,6 +9,7 @@ pub(crate) struct RowSink<'a> {
     row: usize,
     at: usize,
     same: bool,
+    taken: Log,
 }
 
 impl<'a> RowSink<'a> {
@@ -18,6 +19,7 @@ impl<'a> RowSink<'a> {
             row: 0,
             at: 0,
             same: true,
+            taken: Log::new(),
         }
     }
 
@@ -46,11 +48,9 @@ impl<'a> RowSink<'a> {
 }
 
 impl<'a> Sink for RowSink<'a> {
-    ghost use Rattle.std.specs.Prelude.{false, []};
+    ghost use Rattle.std.specs.Prelude.{false};
 
-    ghost told = { λ _. false };
-
-    ghost held = { λ _. [] };
+    ghost held = { λ s. s.taken.bytes };
 
     ghost has_failed = { λ _. false };
 
@@ -58,6 +58,7 @@ impl<'a> Sink for RowSink<'a> {
         for byte in bytes {
             self.take(*byte);
         }
+        self.taken.note(bytes);
         Ok(())
     }
 

@@ -30,12 +30,12 @@ fn ends_for_good<S: Source>(source: &mut S, at_end: bool) -> Result<(), Fail> {
     Ok(())
 }
 
-/// The same, of a source that counts its calls; a failed one asks no more.
+/// The same, of a source that counts its calls. After its end or its failure it asks no more.
 fn stays_ended<S: Source>(source: &mut S, at_end: bool, calls: &Cell<usize>) -> Result<(), Fail> {
     let asked = calls.get();
     ends_for_good(source, at_end)?;
-    if !at_end && calls.get() != asked {
-        return Err(Fail::new("a failed source asks once more"));
+    if calls.get() != asked {
+        return Err(Fail::new("a source that has ended asks once more"));
     }
     Ok(())
 }
