@@ -1,17 +1,21 @@
 //! The program `keyline`: keys from standard input, accepted lines to standard output, the display on standard error.
 #![tactic(auto)]
 
-ghost use Rattle.std.specs.Prelude.{◌≤◌};
+ghost use Rattle.std.specs.Prelude.{◌≤◌, IfOk};
+ghost use Rattle.keyline.specs.Desks.{known_by};
+ghost use Rattle.keyline.specs.Edits.{texts_of};
+ghost use Rattle.keyline.specs.Played.{PlaysOver};
 
 mod files;
 mod history_file;
 
 use keyline::{
-    Ending, Options, Parsed, ReadSource, ReadlineError, Sink, SliceSource, VecSink, WriteSink,
-    edit, load_words, parse,
+    Ended, Ending, Foretold, Options, Parsed, ReadSource, ReadlineError, Sink, SliceSource, Source,
+    VecSink, WriteSink, load_words, parse,
 };
 use std::env;
-use std::io::ErrorKind;
+use std::io::{ErrorKind, Stderr, StdinLock, Stdout};
+use std::marker::Brand;
 use std::process::ExitCode;
 
 /// The status where words are no command line.
@@ -64,27 +68,43 @@ fn run(rt: &HostRuntime, options: &Options) -> ExitCode
         Err(error) if error.kind() == ErrorKind::OutOfMemory => return ended(rt, Ending::Memory),
         Err(_) => return not_loaded(rt, "history does not load", NO_HISTORY),
     };
-    let played = edit(
+    match play::<Brand>(rt, options, words, old.as_slice()) {
+        Ok(played) => ended(rt, kept(rt, options, played.ending, &played.text)),
+        Err(ReadlineError::HistoryText | ReadlineError::Reader) =>
+            not_loaded(rt, "history does not load", NO_HISTORY),
+        Err(why) => ended(rt, Ending::from(why)),
+    }
+}
+
+/// What the program has after its session: keys were read from standard input, drawings and lines
+/// were written to standard error and standard output, and the history's text is in memory.
+type Played<K> = Ended<ReadSource<StdinLock<'static>, K>, WriteSink<Stderr>, WriteSink<Stdout>, VecSink>;
+
+/// The session. For all bytes of `K` that agree with what the reads of standard input gave, the
+/// writes of standard output and standard error took the lines and the display bytes of the session
+/// of these bytes.
+fn play<K: Foretold>(
+    rt: &HostRuntime,
+    options: &Options,
+    words: Option<Vec<String>>,
+    old: &[u8],
+) -> Result<Played<K>, ReadlineError>
+    requires { (2 ≤ options.now.columns) × (options.now.columns ≤ 1000) }
+    ensures { let known = known_by ⟦<ReadSource<StdinLock<'static>, K> as Source>⟧.feed
+        ⟦<WriteSink<Stderr> as Sink>⟧.held ⟦<WriteSink<Stderr> as Sink>⟧.has_failed
+        ⟦<WriteSink<Stdout> as Sink>⟧.held ⟦<WriteSink<Stdout> as Sink>⟧.has_failed in
+        IfOk result (PlaysOver known ⟦<VecSink as Sink>⟧.held ⟦<VecSink as Sink>⟧.has_failed
+        options.now (texts_of words) old.now K.bytes K.last) }
+{
+    keyline::play::<K, _, _, _>(
         rt.alloc(),
         options,
         words,
-        SliceSource::new(old.as_slice()),
-        ReadSource::new(rt.reader()),
-        WriteSink::new(rt.stderr()),
-        WriteSink::new(rt.stdout()),
-        VecSink::new(rt.alloc()),
-    );
-    match played {
-        Ok(played) => ended(rt, kept(rt, options, played.ending, &played.text)),
-        Err(unopened) => match unopened.why {
-            ReadlineError::HistoryText | ReadlineError::Reader => not_loaded(
-                rt,
-                "history does not load",
-                NO_HISTORY,
-            ),
-            why => ended(rt, Ending::from(why)),
-        },
-    }
+        old,
+        rt.reader(),
+        rt.stderr(),
+        rt.stdout(),
+    )
 }
 
 /// Writes the history's text, if there is any, and answers what the session ends with then.
