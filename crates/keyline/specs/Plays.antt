@@ -114,3 +114,13 @@ pub record Plays {S H D L T : Type 0} (k : Known S D L) (held : T → List ℕ) 
   pub ending_is : ended.ending ≡ ending_of (ending_after why saved)
   pub reason : SessionReason g (k.feed ended.source).failed (k.show_failed ended.display)
       (k.write_failed ended.lines) why
+
+-- the same over a source that gives what was said, whatever is asked of it: there is no premise
+pub record AlwaysPlays {S H D L T : Type 0} (k : Known S D L) (held : T → List ℕ)
+    (failed : T → Bool) (g : Given) (desk : Desk S H D L) (text : T) (ended : Ended S D L T)
+    : Type 0 where
+  pub plays : Plays k held failed g desk text ended
+  pub goes : (n : ℕ) → (feed_of k desk).bound < n → let x = session_state_of k desk in
+      Reads k.shown k.written_in g (session n g x) (session_deeds n g x) x.coming (work_of k desk)
+      (record { display = ended.display; lines = ended.lines; history = plays.kept })
+      (coming_in k.feed plays.reader) plays.why

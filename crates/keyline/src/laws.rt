@@ -1,12 +1,46 @@
-//! Laws of the definitions: each is the contract of a function that does nothing.
+//! Laws of the definitions: each is the contract of a function that does nothing, or what a call
+//! comes to where more is known.
 
+ghost use Rattle.std.specs.Prelude.{string_bytes};
+ghost use Rattle.line_config.specs.Feed.{AlwaysTold};
+ghost use Rattle.line_keys.specs.Answers.{custom_of};
+ghost use Rattle.line_editor.specs.Running.{helping_by};
+ghost use Rattle.line_screen.specs.Calls.{screen_of};
 ghost use Rattle.keyline.specs.Cutting.{CutsAreFree};
 ghost use Rattle.keyline.specs.Deeds.{DeedsTell};
+ghost use Rattle.keyline.specs.Desks.{known_by};
 ghost use Rattle.keyline.specs.OneByte.{LayoutsTell, OneByte};
 ghost use Rattle.keyline.specs.Pasting.{PastesAreAccepted, PastedLinesAreAccepted};
+ghost use Rattle.keyline.specs.Plays.{AlwaysPlays};
 ghost use Rattle.keyline.specs.SessionLaws.{ColumnsAreFree, LastAreKept};
 ghost use Rattle.keyline.specs.SessionShows.{SessionsShow};
+ghost use Rattle.keyline.specs.Sessions.{given_by};
 ghost use Rattle.keyline.specs.Shows.{DrawingsShow};
+
+use crate::session::{Ended, Session};
+use line_config::{Sink, Source};
+use line_help::Helper;
+use line_keys::{Decides, EventHandler};
+
+/// Over a source that gives what was said, whatever is asked of it, as one over memory does: what a
+/// session draws, writes and saves is that of its keys, and nothing has to be seen of what they gave.
+pub fn always_told<
+    S: Source + Drop,
+    H: Helper + Drop,
+    D: Sink + Drop,
+    L: Sink + Drop,
+    T: Sink + Drop,
+>(session: Session<S, H, D, L, T>) -> Ended<S, D, L, T>
+    requires { AlwaysTold S.feed }
+    ensures { let custom = custom_of session.bindings ⟦<EventHandler as Decides>⟧.decides in
+        let helps = helping_by H.hint_of H.verdict_of H.completion_of H.update_of H.marks in
+        let given = given_by session.config custom (string_bytes session.prompt)
+        (screen_of session.desk.out) (helps session.desk.helper) in
+        let known = known_by S.feed D.held D.has_failed L.held L.has_failed in
+        AlwaysPlays known T.held T.has_failed given session.desk session.text result }
+{
+    session.run()
+}
 
 /// The bytes up to each moment of a session show its value at its top, as one drawing from nothing,
 /// and all that was sent has a meaning. The rows above keep their cells until a screen is cleared.

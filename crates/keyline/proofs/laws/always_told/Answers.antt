@@ -1,0 +1,5 @@
+-- What is known beforehand holds afterwards too.
+use Rattle.keyline.proofs.laws.always_told.Goals as goal
+
+pub returns : goal.returns
+returns g c = record { plays = c.run.ensures.plays; goes = c.run.ensures.plays.goes (c.requires _) }
