@@ -28,7 +28,8 @@ use Rattle.line_screen.specs.declared.renderer.ScreenRenderer.{ScreenRenderer}
 use Rattle.line_screen.proofs.CallLemmas.{sent_in_all, cut_stays}
 use Rattle.keyline.specs.Closing.{Closes, CloseReason, work}
 use Rattle.keyline.specs.Deeds.{SessionDeed, act_deeds, acts_in, close_deeds, line_deeds}
-use Rattle.keyline.specs.Desks.{Known, Lined, TakesLine, DeskReason, feed_of, session_state_of, work_of}
+use Rattle.keyline.specs.Desks.{Lined, TakesLine, DeskReason, feed_of, session_state_of, work_of}
+use Rattle.keyline.specs.Known.{Known}
 use Rattle.keyline.specs.Playing.{Work, Cut, LineWhole, LineCut, SessionReason}
 use Rattle.keyline.specs.Sessions.{Given, given_by, breaks, calls_of, line_in, history_after}
 use Rattle.keyline.specs.declared.desk.Desk.{Desk}

@@ -8,7 +8,8 @@ use Rattle.line_keys.specs.Answers.{Custom, custom_of}
 use Rattle.line_keys.specs.Handling.{Meaning}
 use Rattle.line_keys.specs.declared.events.Event.{Event}
 use Rattle.line_screen.specs.Calls.{screen_of}
-use Rattle.keyline.specs.Desks.{Known, session_state_of}
+use Rattle.keyline.specs.Desks.{session_state_of}
+use Rattle.keyline.specs.Known.{Known}
 use Rattle.keyline.specs.Edits.{EditHelper, EditsByOptions, config_of, edit_helping, given_to, helper_of, nothing_bound}
 use Rattle.keyline.specs.Plays.{Loaded, Opens, Plays}
 use Rattle.keyline.specs.SessionShows.{Displays}

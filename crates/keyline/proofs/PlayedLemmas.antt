@@ -16,7 +16,8 @@ use Rattle.line_screen.specs.Calls.{Screen, screen_of}
 use Rattle.line_screen.specs.Reader.{coming_in, kept_of, source_of}
 use Rattle.line_screen.specs.Unread.{kept_count}
 use Rattle.keyline.specs.Deeds.{SessionDeed, session_deeds}
-use Rattle.keyline.specs.Desks.{Known, feed_of, session_state_of, work_of}
+use Rattle.keyline.specs.Desks.{feed_of, session_state_of, work_of}
+use Rattle.keyline.specs.Known.{Known}
 use Rattle.keyline.specs.Edits.{EditHelper, EditsByOptions, config_of, edit_helping, given_to, helper_of, nothing_bound}
 use Rattle.keyline.specs.Played.{PlaysBytes, bytes_work, program_given, program_start, seen_of}
 use Rattle.keyline.specs.Playing.{Reads, SessionReason, Work}

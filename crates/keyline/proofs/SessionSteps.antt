@@ -8,7 +8,8 @@ use Rattle.line_help.specs.History.{Filed}
 use Rattle.line_keys.specs.Answers.{HandlerFails}
 use Rattle.line_keys.specs.Coming.{Coming}
 use Rattle.keyline.specs.Deeds.{SessionDeed, HelperAnswers, deeds_after, line_deeds, session_deeds}
-use Rattle.keyline.specs.Desks.{Known, Lined, TakesLine, TakesLines, DeskReason, feed_of, session_state_of, work_of}
+use Rattle.keyline.specs.Desks.{Lined, TakesLine, TakesLines, DeskReason, feed_of, session_state_of, work_of}
+use Rattle.keyline.specs.Known.{Known}
 use Rattle.keyline.specs.Playing.{Work, LineWhole, LineCut, Cut, Reads}
 use Rattle.keyline.specs.Sessions.{Given, SessionState, Report, line_in, after_line, line_reported, line_text, lines_text, line_bytes, display_bytes, remembered, session}
 use Rattle.keyline.specs.declared.desk.Desk.{Desk}

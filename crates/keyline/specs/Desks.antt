@@ -1,33 +1,15 @@
 -- What goes on from line to line, with its devices, and what a line makes of it.
-use Rattle.std.specs.Prelude.{◌≡◌, ◌⊎◌, ℕ, ◌<◌, Bool, List, Result, IsTrue, IfErr, OnOk}
-use Rattle.line_config.specs.Feed.{Feed}
+use Rattle.std.specs.Prelude.{◌≡◌, ◌⊎◌, ℕ, ◌<◌, List, Result, IsTrue, IfErr, OnOk}
 use Rattle.line_config.specs.declared.errors.ReadlineError.{ReadlineError}
 use Rattle.line_keys.specs.Feeds.{KeyFeed}
 use Rattle.line_editor.specs.Lines.{Told}
 use Rattle.line_screen.specs.Calls.{sink_of}
 use Rattle.line_screen.specs.Reader.{items_of, source_of}
 use Rattle.keyline.specs.Deeds.{SessionDeed, HelperAnswers, line_deeds, session_deeds}
+use Rattle.keyline.specs.Known.{Known}
 use Rattle.keyline.specs.Playing.{Work, SessionReason, LineWhole, LineCut, Reads}
 use Rattle.keyline.specs.Sessions.{Given, SessionState, line_in, after_line, line_bytes, session}
 use Rattle.keyline.specs.declared.desk.Desk.{Desk}
-
--- what is known of a source, a display and a sink of lines
-pub record Known (S D L : Type 0) : Type 0 where
-  pub feed : S → Feed
-  pub shown : D → List ℕ
-  pub show_failed : D → Bool
-  pub written_in : L → List ℕ
-  pub write_failed : L → Bool
-
-abbrev pub known_by : {S D L : Type 0} → (S → Feed) → (D → List ℕ) → (D → Bool) → (L → List ℕ)
-    → (L → Bool) → Known S D L
-known_by feed shown show_failed written_in write_failed = record {
-  feed = feed;
-  shown = shown;
-  show_failed = show_failed;
-  written_in = written_in;
-  write_failed = write_failed;
-}
 
 module _ {S H D L : Type 0} (k : Known S D L) where
   abbrev pub feed_of : Desk S H D L → KeyFeed

@@ -17,7 +17,8 @@ use Rattle.line_keys.specs.Answers.{Custom}
 use Rattle.line_keys.specs.Coming.{Coming}
 use Rattle.line_editor.specs.Running.{Helping, helping_by}
 use Rattle.line_screen.specs.Calls.{screen_of}
-use Rattle.keyline.specs.Desks.{Known, session_state_of}
+use Rattle.keyline.specs.Desks.{session_state_of}
+use Rattle.keyline.specs.Known.{Known}
 use Rattle.keyline.specs.Plays.{Opens, Plays}
 use Rattle.keyline.specs.SessionShows.{Displays}
 use Rattle.keyline.specs.Sessions.{Given, given_by}

@@ -14,7 +14,7 @@ use Rattle.line_help.specs.History.{Filed}
 use Rattle.line_help.specs.HistoryText.{text_to_save}
 use Rattle.line_keys.specs.Coming.{Coming}
 use Rattle.keyline.specs.Deeds.{session_deeds}
-use Rattle.keyline.specs.Desks.{Known}
+use Rattle.keyline.specs.Known.{Known}
 use Rattle.keyline.specs.Edits.{config_of, edit_helping, helper_of, nothing_bound}
 use Rattle.keyline.specs.Endings.{ending_of}
 use Rattle.keyline.specs.Playing.{Reads, SessionReason, Work, ending_after}

@@ -11,7 +11,8 @@ use Rattle.line_screen.specs.Calls.{screen_of, sink_of}
 use Rattle.line_screen.specs.Reader.{coming_in, kept_of, source_of}
 use Rattle.line_screen.specs.declared.reading.reader.KeyReader.{KeyReader}
 use Rattle.keyline.specs.Deeds.{session_deeds}
-use Rattle.keyline.specs.Desks.{Known, feed_of, session_state_of, work_of}
+use Rattle.keyline.specs.Desks.{feed_of, session_state_of, work_of}
+use Rattle.keyline.specs.Known.{Known}
 use Rattle.keyline.specs.Endings.{ending_of}
 use Rattle.keyline.specs.Playing.{SessionReason, Reads, Saves, ending_after}
 use Rattle.keyline.specs.Sessions.{Given, coming_from, session}

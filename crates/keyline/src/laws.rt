@@ -8,7 +8,7 @@ ghost use Rattle.line_editor.specs.Running.{helping_by};
 ghost use Rattle.line_screen.specs.Calls.{screen_of};
 ghost use Rattle.keyline.specs.Cutting.{CutsAreFree};
 ghost use Rattle.keyline.specs.Deeds.{DeedsTell};
-ghost use Rattle.keyline.specs.Desks.{known_by};
+ghost use Rattle.keyline.specs.Known.{known_by};
 ghost use Rattle.keyline.specs.OneByte.{LayoutsTell, OneByte};
 ghost use Rattle.keyline.specs.Pasting.{PastesAreAccepted, PastedLinesAreAccepted};
 ghost use Rattle.keyline.specs.Plays.{AlwaysPlays};

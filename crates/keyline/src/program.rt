@@ -4,7 +4,7 @@ ghost use Rattle.std.specs.Prelude.{◌≡◌, ◌⊎◌, ◌≤◌, Err, IfErr,
 ghost use Rattle.line_config.specs.Feed.{fresh_feed};
 ghost use Rattle.line_config.specs.declared.device.Last.TheVariants.{End};
 ghost use Rattle.line_config.specs.declared.errors.ReadlineError.TheVariants.{Memory};
-ghost use Rattle.keyline.specs.Desks.{known_by};
+ghost use Rattle.keyline.specs.Known.{known_by};
 ghost use Rattle.keyline.specs.Edits.{EditsByOptions, config_of, helper_of, texts_of};
 ghost use Rattle.keyline.specs.Played.{PlaysOver};
 ghost use Rattle.keyline.specs.Plays.{Unopens, loads};

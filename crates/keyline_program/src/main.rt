@@ -2,7 +2,7 @@
 #![tactic(auto)]
 
 ghost use Rattle.std.specs.Prelude.{◌≤◌, IfOk};
-ghost use Rattle.keyline.specs.Desks.{known_by};
+ghost use Rattle.keyline.specs.Known.{known_by};
 ghost use Rattle.keyline.specs.Edits.{texts_of};
 ghost use Rattle.keyline.specs.Played.{PlaysOver};
 

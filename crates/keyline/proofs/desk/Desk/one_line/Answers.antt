@@ -3,7 +3,7 @@ use Rattle.std.proofs.Common.{Bool, subst}
 use Rattle.line_editor.specs.Running.{helping_by, outcome_of}
 use Rattle.line_screen.specs.Calls.{sink_of}
 use Rattle.keyline.specs.Closing.{Closes, work}
-use Rattle.keyline.specs.Desks.{known_by}
+use Rattle.keyline.specs.Known.{known_by}
 use Rattle.keyline.proofs.DeskLemmas.{takes_line}
 use Rattle.keyline.proofs.desk.Desk.one_line.Goals as goal
 

@@ -2,7 +2,8 @@
 use Rattle.line_editor.specs.Running.{helping_by}
 use Rattle.line_keys.specs.Answers.{custom_of}
 use Rattle.line_screen.specs.Calls.{screen_of}
-use Rattle.keyline.specs.Desks.{known_by, feed_of}
+use Rattle.keyline.specs.Desks.{feed_of}
+use Rattle.keyline.specs.Known.{known_by}
 use Rattle.keyline.specs.Sessions.{given_by}
 use Rattle.keyline.proofs.SessionSteps.{Onward}
 use Rattle.keyline.proofs.desk.Desk.read_lines.Given as goal

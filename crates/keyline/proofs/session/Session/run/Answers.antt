@@ -1,6 +1,6 @@
 -- The lines, then the history's saving.
 use Rattle.std.proofs.Common.{ap, ◌∙◌}
-use Rattle.keyline.specs.Desks.{known_by}
+use Rattle.keyline.specs.Known.{known_by}
 use Rattle.keyline.specs.Endings.{ending_of}
 use Rattle.keyline.proofs.PlaysLemmas.{plays}
 use Rattle.keyline.proofs.SessionCourse.{sessions_show}
