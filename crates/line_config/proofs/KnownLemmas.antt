@@ -1,6 +1,6 @@
 -- std's words on known bytes, for calls one after the other.
-use Rattle.std.proofs.Common.{◌≡◌, ℕ, List, [], ◌++◌, Option, Some, None, refl, sym, ap, ◌∙◌}
-use Rattle.std.specs.Io.KnownBytes.{Keeps, Appends, Consumes}
+use Rattle.std.proofs.Common.{ℕ, List, [], Option, Some, None, refl, sym, ◌∙◌}
+use Rattle.std.specs.Io.KnownBytes.{Keeps, Consumes}
 
 pub keeps_same : (a : Option (List ℕ)) → Keeps a a
 keeps_same None = tt

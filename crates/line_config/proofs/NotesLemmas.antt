@@ -1,5 +1,5 @@
 -- What a writer notes of calls one after the other.
-use Rattle.std.proofs.Common.{◌≡◌, ℕ, List, [], ◌++◌, Option, Some, None, refl, sym, ap, subst, ◌∙◌, append-nil, append_assoc}
+use Rattle.std.proofs.Common.{◌≡◌, ℕ, List, [], ◌++◌, Option, Some, None, sym, ap, subst, ◌∙◌, append-nil, append_assoc}
 use Rattle.std.proofs.lemmas.List.{append_cancel_left}
 use Rattle.std.specs.Io.KnownBytes.{Keeps, Appends}
 use Rattle.line_config.specs.Recorded.{Notes, took, inner_of}

@@ -1,11 +1,10 @@
 -- What a clause reads of the devices over std's readers and writers. `remaining` and `contents` are
 -- std's ghost members of these.
-use Rattle.std.specs.Prelude.{◌≡◌, ℕ, ◌+◌, ◌-◌, ◌^◌, List, [], ◌++◌, length, option_to_list, Option, Some, None, Bool, Result, Ok, Err}
+use Rattle.std.specs.Prelude.{◌≡◌, ℕ, ◌+◌, ◌-◌, ◌^◌, List, [], ◌++◌, length, option_to_list, Option, Some, None, Bool, Result, Ok, Err, unwrap_or}
 use Rattle.std.specs.Io.KnownBytes.{Consumes, IsAtEnd}
 use Rattle.line_config.specs.Buffer.{bytes_in}
 use Rattle.line_config.specs.Feed.{Feed}
 use Rattle.line_config.specs.Foretold.{left_of, agrees}
-use Rattle.line_config.specs.Known.{known_bytes}
 use Rattle.line_config.specs.Recorded.{took, inner_of}
 use Rattle.line_config.specs.declared.adapters.ReadSource.{ReadSource}
 use Rattle.line_config.specs.declared.adapters.WriteSink.{WriteSink}
@@ -34,7 +33,7 @@ met s = s.met
 abbrev pub feed_of : List ℕ → Last → List ℕ → List ℕ → Option Last → ℕ → Bool → Feed
 feed_of all last given unread met count failed = record {
   told = agrees (left_of all given) last met;
-  coming = unread ++ known_bytes (left_of all given);
+  coming = unread ++ unwrap_or (left_of all given) [];
   last = last;
   bound = 2 ^ 63 - count + length unread;
   failed = failed;

@@ -1,5 +1,5 @@
 -- The refusals: their texts, and which of them are faults.
-use Rattle.std.specs.Prelude.{◌≡◌, ℕ, List, Bool, true, false, IsTrue, IsFalse, Result, Ok, Err, codes, ⊤}
+use Rattle.std.specs.Prelude.{ℕ, List, Bool, true, false, IsTrue, IsFalse, Result, Ok, Err, codes, ⊤}
 use Rattle.line_config.specs.declared.errors.ReadlineError.{ReadlineError}
 use Rattle.line_config.specs.declared.errors.ReadlineError.TheVariants.{Eof, Interrupted, NotUtf8, PasteOutOfPlace, Reader, Display, Lines, HistoryText, Helper, Handler, Memory}
 

@@ -29,7 +29,7 @@ const MOST_BYTES: u64 = 0x7FFF_FFFF_FFFF_FF00;
 /// The reader is asked where no byte is left of its last answer, and then once: so a byte that is
 /// there is given before more are asked for. Each error of the reader is a failure, except that a
 /// read which a signal interrupts is made anew. After the end or a failure it isn't asked again, nor
-/// after 2^63 - 256 bytes, where the source fails.
+/// after more than 2^63 - 256 bytes, where the source fails.
 #[derive(Drop)]
 pub struct ReadSource<R, K = Brand> {
     reader: R,
@@ -133,7 +133,7 @@ impl<R: Read, K: Foretold> ReadSource<R, K> {
 }
 
 impl<R: Read, K: Foretold> Source for ReadSource<R, K> {
-    ghost use Rattle.line_config.specs.Adapters.{Asks, given_by, met, source_feed};
+    ghost use Rattle.line_config.specs.Adapters.{Asks, given_by, met, source_feed, unread_of};
 
     ghost feed = { λ s. source_feed K.bytes K.last s };
 
@@ -141,11 +141,11 @@ impl<R: Read, K: Foretold> Source for ReadSource<R, K> {
         ensures byte { GivesByte (source_feed K.bytes K.last self.old)
             (source_feed K.bytes K.last self.new) result }
 
-        // The bytes are those that its reads gave, in their order, and these are what the reader
-        // gave. It is met by the reads, that none is left of them.
+        // The byte is the next of those that its reads gave. It answers the end or a failure where
+        // a read met that, and none of them is left.
         ensures reader { Asks R.remaining (given_by result) self.old self.new }
-        ensures end { result ≡ Ok None → met self.new ≡ Some End }
-        ensures fault { OnErr result (met self.new ≡ Some Failed) }
+        ensures end { result ≡ Ok None → (unread_of self.new ≡ []) × (met self.new ≡ Some End) }
+        ensures fault { OnErr result ((unread_of self.new ≡ []) × (met self.new ≡ Some Failed)) }
     {
         if self.failed {
             return Err(DeviceFailed);

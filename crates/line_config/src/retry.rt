@@ -32,7 +32,10 @@ pub(crate) fn read_retrying<R: Read>(reader: &mut R, buf: &mut [u8]) -> Result<u
 
 // One write, made anew where a signal interrupts it. One that takes nothing is a failure.
 #[tactic(auto, using(crate::proofs::KnownLemmas::on_known, crate::proofs::NotesLemmas::on_notes))]
-pub(crate) fn write_retrying<W: Write>(writer: &mut Recorded<W>, bytes: &[u8]) -> Result<usize, DeviceFailed>
+pub(crate) fn write_retrying<W: Write>(
+    writer: &mut Recorded<W>,
+    bytes: &[u8],
+) -> Result<usize, DeviceFailed>
     ensures bound { IfOk result (λ n. n ≤ length bytes.now) }
     ensures some { IfOk result (λ n. 0 < n) }
     ensures bytes { IfOk result (λ n. took writer.new ≡ took writer.old ++ take n bytes.now) }
