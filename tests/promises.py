@@ -1,5 +1,6 @@
 #!/usr/bin/env python3
-"""What README and docs/ name is there: each call, clause, law and definition, each named wrong body, and the kit.
+"""What README and docs/ name is there: each call, clause, law and definition, each named wrong body, and the kit. And what
+no document can say for a proof: that nothing but the log's own walks sets what the log has.
 
 A row's place is written `crate` and then its calls: `Type::call`, `Trait::call`, `call` or `laws::law`, each followed by the
 names of its clauses in parentheses where only some of them carry the promise.
@@ -195,6 +196,21 @@ def check_parts(checks):
     checks.expect(rows == [*parts, "all"], "GATE: its table has other parts than ./test, or another order")
 
 
+def check_logs(checks):
+    """What the devices gave and took, which no code keeps: of all structs `Log` of line_config alone has data that only proofs
+    have, its own walks set them, no other walk stands but those of WALKS, and of the libraries only NOTING names it."""
+    told = [name for name in LIBRARIES if name == "line_config" or "line_config" in CRATES[name]]
+    walks = {file for name in CRATES for file in files_under(f"crates/{name}/proofs", ".antt") if file.endswith("/Proof.antt")}
+    for file in sorted(walks | WALKS):
+        checks.expect(file in WALKS, f"{file}: a walk that may set what a log has")
+        checks.expect(file in walks, f"{file}: there is no such walk")
+    for name in CRATES:
+        for file in files_under(f"crates/{name}/src", ".rt"):
+            text = "\n".join(lines_of(file))
+            checks.expect("also_owns" not in text or file == LOG, f"{file}: data of proofs alone that aren't those of a log")
+            checks.expect(name not in told or file in NOTING or not re.search(r"\bLog\b", text), f"{file}: it names a log")
+
+
 def check_kit(checks):
     """README: the kit that the repository is proved with is the one that is here."""
     version = subprocess.run(["rt", "version"], capture_output=True, text=True, check=True).stdout.strip()
@@ -215,6 +231,9 @@ def crates_listed():
 
 
 CRATES, LIBRARIES = crates_listed()
+LOG = "crates/line_config/src/log.rt"
+NOTING = {LOG, *(f"crates/line_config/src/{name}.rt" for name in ("adapters", "lib", "recorded"))}
+WALKS = {f"crates/line_config/proofs/{of}/Proof.antt" for of in ("configurer/ConfigConfigurer/config_mut", "log/Log/new", "log/Log/note")}
 
 
 def main():
@@ -225,6 +244,7 @@ def main():
     check_definitions(checks, crates)
     check_wrong_bodies(checks)
     check_parts(checks)
+    check_logs(checks)
     check_kit(checks)
     print(f"{checks.passed} passed, {checks.failed} failed")
     return checks.failed > 0

@@ -1,31 +1,17 @@
 //! A sink that compares.
 
-use line_config::{DeviceFailed, Sink};
+use line_config::{DeviceFailed, Log, Sink};
 
-/// A sink that compares what it takes with rows, each closed by a newline, and takes no memory.
+/// Rows, each closed by a newline, and how far they were met.
 #[derive(Drop)]
-pub(crate) struct RowSink<'a> {
+struct Comparison<'a> {
     rows: &'a [&'a str],
     row: usize,
     at: usize,
     same: bool,
 }
 
-impl<'a> RowSink<'a> {
-    pub(crate) fn new(rows: &'a [&'a str]) -> Self {
-        RowSink {
-            rows,
-            row: 0,
-            at: 0,
-            same: true,
-        }
-    }
-
-    /// Whether it took just these rows.
-    pub(crate) fn are_taken(&self) -> bool {
-        self.same && self.row == self.rows.len() && self.at == 0
-    }
-
+impl Comparison<'_> {
     fn take(&mut self, byte: u8) {
         let Some(row) = self.rows.get(self.row) else {
             self.same = false;
@@ -43,21 +29,51 @@ impl<'a> RowSink<'a> {
             }
         }
     }
+
+    fn take_all(&mut self, bytes: &[u8]) {
+        for byte in bytes {
+            self.take(*byte);
+        }
+    }
+}
+
+/// A sink that compares what it takes with rows, and takes no memory.
+#[derive(Drop)]
+pub(crate) struct RowSink<'a> {
+    comparison: Comparison<'a>,
+    taken: Log,
+}
+
+impl<'a> RowSink<'a> {
+    pub(crate) fn new(rows: &'a [&'a str]) -> Self {
+        RowSink {
+            comparison: Comparison {
+                rows,
+                row: 0,
+                at: 0,
+                same: true,
+            },
+            taken: Log::new(),
+        }
+    }
+
+    /// Whether it took just these rows.
+    pub(crate) fn are_taken(&self) -> bool {
+        let met = &self.comparison;
+        met.same && met.row == met.rows.len() && met.at == 0
+    }
 }
 
 impl<'a> Sink for RowSink<'a> {
-    ghost use Rattle.std.specs.Prelude.{false, []};
+    ghost use Rattle.std.specs.Prelude.{false};
 
-    ghost told = { λ _. false };
-
-    ghost held = { λ _. [] };
+    ghost held = { λ s. s.taken.bytes };
 
     ghost has_failed = { λ _. false };
 
     fn write(&mut self, bytes: &[u8]) -> Result<(), DeviceFailed> {
-        for byte in bytes {
-            self.take(*byte);
-        }
+        self.comparison.take_all(bytes);
+        self.taken.note(bytes);
         Ok(())
     }
 

@@ -29,4 +29,3 @@ nothing_left a b given is gave t =
     let read : a.coming ≡ option_to_list given ++ b.coming = gave.read t in
     let same : a.coming ≡ b.coming = rw is at read in
     sym same ∙ (gave.end t (ap Ok is)).0
-

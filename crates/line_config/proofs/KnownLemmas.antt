@@ -1,40 +1,26 @@
--- What std's words on known bytes say of these bytes as a list.
-use Rattle.std.proofs.Common.{◌≡◌, ℕ, List, [], ◌++◌, Option, Some, None, IsTrue, refl}
-use Rattle.std.specs.Io.KnownBytes.{Keeps, Appends, Consumes, IsAtEnd}
-use Rattle.line_config.specs.Known.{is_known, known_bytes}
+-- std's words on known bytes, for calls one after the other.
+use Rattle.std.proofs.Common.{ℕ, List, [], Option, Some, None, refl, sym, ◌∙◌}
+use Rattle.std.specs.Io.KnownBytes.{Keeps, Consumes}
 
-pub Keeps-known : (a b : Option (List ℕ)) → Keeps a b → IsTrue (is_known a) → IsTrue (is_known b)
-Keeps-known None b kept known = absurd (cc)
-Keeps-known (Some xs) None kept known = absurd kept
-Keeps-known (Some xs) (Some ys) kept known = refl
+pub keeps_same : (a : Option (List ℕ)) → Keeps a a
+keeps_same None = tt
+keeps_same (Some xs) = refl
 
-pub Keeps-bytes : (a b : Option (List ℕ)) → Keeps a b → IsTrue (is_known a) → known_bytes b ≡ known_bytes a
-Keeps-bytes None b kept known = absurd (cc)
-Keeps-bytes (Some xs) None kept known = absurd kept
-Keeps-bytes (Some xs) (Some ys) kept known = kept
+pub keeps_then : (a b c : Option (List ℕ)) → Keeps a b → Keeps b c → Keeps a c
+keeps_then None b c first second = tt
+keeps_then (Some xs) None c first second = absurd first
+keeps_then (Some xs) (Some ys) None first second = absurd second
+keeps_then (Some xs) (Some ys) (Some zs) first second = second ∙ first
 
-pub Consumes-known : (a b : Option (List ℕ)) (bs : List ℕ) → Consumes a b bs → IsTrue (is_known a) → IsTrue (is_known b)
-Consumes-known None b bs taken known = absurd (cc)
-Consumes-known (Some xs) None bs taken known = absurd taken
-Consumes-known (Some xs) (Some ys) bs taken known = refl
+pub keeps_consumes : (a b c : Option (List ℕ)) (bs : List ℕ) → Keeps a b → Consumes b c bs → Consumes a c bs
+keeps_consumes None b c bs kept taken = tt
+keeps_consumes (Some xs) None c bs kept taken = absurd kept
+keeps_consumes (Some xs) (Some ys) None bs kept taken = absurd taken
+keeps_consumes (Some xs) (Some ys) (Some zs) bs kept taken = sym kept ∙ taken
 
-pub Consumes-bytes : (a b : Option (List ℕ)) (bs : List ℕ) → Consumes a b bs → IsTrue (is_known a) → known_bytes a ≡ bs ++ known_bytes b
-Consumes-bytes None b bs taken known = absurd (cc)
-Consumes-bytes (Some xs) None bs taken known = absurd taken
-Consumes-bytes (Some xs) (Some ys) bs taken known = taken
+pub consumes_none : (a b : Option (List ℕ)) → Keeps a b → Consumes a b []
+consumes_none None b kept = tt
+consumes_none (Some xs) None kept = absurd kept
+consumes_none (Some xs) (Some ys) kept = sym kept
 
-pub Appends-known : (a b : Option (List ℕ)) (bs : List ℕ) → Appends a b bs → IsTrue (is_known a) → IsTrue (is_known b)
-Appends-known None b bs added known = absurd (cc)
-Appends-known (Some xs) None bs added known = absurd added
-Appends-known (Some xs) (Some ys) bs added known = refl
-
-pub Appends-bytes : (a b : Option (List ℕ)) (bs : List ℕ) → Appends a b bs → IsTrue (is_known a) → known_bytes b ≡ known_bytes a ++ bs
-Appends-bytes None b bs added known = absurd (cc)
-Appends-bytes (Some xs) None bs added known = absurd added
-Appends-bytes (Some xs) (Some ys) bs added known = added
-
-pub IsAtEnd-bytes : (a : Option (List ℕ)) → IsAtEnd a → known_bytes a ≡ []
-IsAtEnd-bytes None at_end = refl
-IsAtEnd-bytes (Some xs) at_end = at_end
-
-pub ruleset on_known = (Keeps-known, Keeps-bytes, Consumes-known, Consumes-bytes, Appends-known, Appends-bytes, IsAtEnd-bytes)
+pub ruleset on_known = (keeps_same, keeps_then, keeps_consumes, consumes_none)

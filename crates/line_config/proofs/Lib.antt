@@ -2,5 +2,6 @@ pub mod BufferLemmas
 pub mod FeedLemmas
 pub mod KnownLemmas
 pub mod Lent
+pub mod NotesLemmas
 pub mod SaidLemmas
 pub mod Taking

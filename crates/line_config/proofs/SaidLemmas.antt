@@ -1,8 +1,7 @@
--- What one read, and one byte, make of what is said of a source.
-use Rattle.std.proofs.Common.{◌≡◌, ℕ, ◌+◌, ◌-◌, ◌^◌, ◌<◌, ◌≤◌, suc, Bool, true, false, IsTrue, List, [], ◌∷◌, ◌++◌, length, Option, Some, None, Ok, Err, refl, sym, ap, ◌∙◌, arith}
+-- What one read makes of what is said of a source.
+use Rattle.std.proofs.Common.{◌≡◌, ℕ, ◌+◌, ◌-◌, ◌^◌, ◌≤◌, Bool, IsTrue, List, [], ◌∷◌, ◌++◌, length, Option, Some, None, refl, ap, arith}
 use Rattle.line_config.specs.Foretold.{left_of, agrees}
-use Rattle.line_config.specs.Feed.{Feed, Fills, GivesByte}
-use Rattle.line_config.specs.Device.{front_of}
+use Rattle.line_config.specs.Feed.{Fills}
 use Rattle.line_config.specs.Adapters.{feed_of}
 use Rattle.line_config.specs.declared.device.Last.{Last}
 
@@ -35,25 +34,3 @@ fills_from all last given unread bytes now met count more failed empty unmet not
       last = refl;
       bound = omega (arith, bound);
     })
-
--- a source has read on, and the next of the unread bytes is given
-pub gives_read : (a : Feed) (all : List ℕ) (last : Last) (given unread rest : List ℕ) (byte : ℕ) (met : Option Last) (count : ℕ) (failed : Bool)
-    → unread ≡ byte ∷ rest → failed ≡ false → a.failed ≡ false
-    → Fills a (feed_of all last given unread met count failed) unread met
-    → GivesByte a (feed_of all last given rest met count failed) (Ok (Some byte))
-gives_read a all last given unread rest byte met count failed is working works filled =
-    let b = feed_of all last given unread met count failed in
-    let c = feed_of all last given rest met count failed in
-    let same : IsTrue c.told → a.coming ≡ byte ∷ c.coming = λ t. sym (filled.coming t) ∙ (rw is refl) in
-    record {
-      told = λ t. filled.told t;
-      read = same;
-      end = λ t e. absurd (cc);
-      fault = λ t. tt;
-      front = λ t. rw (same t) refl;
-      last = filled.last;
-      failure = working;
-      for_good = λ f. absurd (cc (works, f));
-      falls = let less : b.bound ≤ a.bound = filled.bound in let len : length unread ≡ suc (length rest) = rw is refl in omega (arith, less, len);
-      keeps = let less : b.bound ≤ a.bound = filled.bound in let len : length unread ≡ suc (length rest) = rw is refl in omega (arith, less, len);
-    }

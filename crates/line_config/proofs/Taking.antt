@@ -1,26 +1,20 @@
 -- What calls of a sink take, one after the other, and where one of them is refused.
-use Rattle.std.proofs.Common.{◌≡◌, ℕ, Bool, true, false, List, [], ◌++◌, Result, Ok, Err, IsTrue, refl, sym, ap, ◌∙◌, subst, append-nil, append_assoc}
+use Rattle.std.proofs.Common.{◌≡◌, ℕ, Bool, List, [], ◌++◌, Result, Ok, Err, IsTrue, refl, sym, ap, ◌∙◌, subst, append-nil, append_assoc}
 use Rattle.std.specs.Result.{OnErr, IsErrAnd}
 use Rattle.line_config.specs.Sending.{Takes, TakesSome, AppendsSome, Sends}
 
-pub takes_none : {D : Type 0} (told : D → Bool) (held : D → List ℕ) (a b : D) → b ≡ a → Takes told held a b []
-takes_none told held a b same t = (rw same t, ap held same ∙ sym (append-nil (held a)))
+pub takes_none : {D : Type 0} (held : D → List ℕ) (a b : D) → b ≡ a → Takes held a b []
+takes_none held a b same = ap held same ∙ sym (append-nil (held a))
 
-pub takes_then : {D : Type 0} (told : D → Bool) (held : D → List ℕ) (a b c : D) (xs ys : List ℕ)
-    → Takes told held a b xs → Takes told held b c ys → Takes told held a c (xs ++ ys)
-takes_then told held a b c xs ys first second t =
-    let one = first t in
-    let two = second one.0 in
-    (two.0, two.1 ∙ ap (λ zs. zs ++ ys) one.1 ∙ append_assoc (held a) xs ys)
+pub takes_then : {D : Type 0} (held : D → List ℕ) (a b c : D) (xs ys : List ℕ) → Takes held a b xs → Takes held b c ys → Takes held a c (xs ++ ys)
+takes_then held a b c xs ys first second = second ∙ ap (λ zs. zs ++ ys) first ∙ append_assoc (held a) xs ys
 
 -- a write that succeeded, and a flush after what was taken
-pub takes_write : {D : Type 0} (told : D → Bool) (held : D → List ℕ) (a b : D) (bytes xs : List ℕ) → bytes ≡ xs
-    → (IsTrue (told a) → IsTrue (told b)) → (IsTrue (told a) → held b ≡ held a ++ bytes) → Takes told held a b xs
-takes_write told held a b bytes xs same stays ok t = (stays t, ok t ∙ ap (λ zs. held a ++ zs) same)
+pub takes_write : {D : Type 0} (held : D → List ℕ) (a b : D) (bytes xs : List ℕ) → bytes ≡ xs → held b ≡ held a ++ bytes → Takes held a b xs
+takes_write held a b bytes xs same ok = ok ∙ ap (λ zs. held a ++ zs) same
 
-pub takes_flush : {D : Type 0} (told : D → Bool) (held : D → List ℕ) (a b c : D) (xs : List ℕ) → Takes told held a b xs
-    → (IsTrue (told b) → IsTrue (told c)) → (IsTrue (told b) → held c ≡ held b) → Takes told held a c xs
-takes_flush told held a b c xs taken stays kept t = let one = taken t in (stays one.0, kept one.0 ∙ one.1)
+pub takes_flush : {D : Type 0} (held : D → List ℕ) (a b c : D) (xs : List ℕ) → Takes held a b xs → held c ≡ held b → Takes held a c xs
+takes_flush held a b c xs taken kept = kept ∙ taken
 
 -- ---- a beginning of some bytes
 
@@ -44,34 +38,22 @@ begins_behind before xs ys between after is some = record {
 
 -- ---- a sink that took a beginning
 
-pub some_of_write : {D : Type 0} (told : D → Bool) (held : D → List ℕ) (a b : D) (bytes xs : List ℕ) → bytes ≡ xs
-    → (IsTrue (told a) → IsTrue (told b)) → (IsTrue (told a) → AppendsSome (held a) bytes (held b)) → TakesSome told held a b xs
-some_of_write told held a b bytes xs same stays some t = (stays t, subst (λ zs. AppendsSome (held a) zs (held b)) same (some t))
+pub some_of_write : {D : Type 0} (held : D → List ℕ) (a b : D) (bytes xs : List ℕ) → bytes ≡ xs → AppendsSome (held a) bytes (held b)
+    → TakesSome held a b xs
+some_of_write held a b bytes xs same some = subst (λ zs. AppendsSome (held a) zs (held b)) same some
 
-pub some_of_more : {D : Type 0} (told : D → Bool) (held : D → List ℕ) (a b : D) (xs ys : List ℕ)
-    → TakesSome told held a b xs → TakesSome told held a b (xs ++ ys)
-some_of_more told held a b xs ys some t = let s = some t in (s.0, begins_more (held a) xs ys (held b) s.1)
+pub some_of_more : {D : Type 0} (held : D → List ℕ) (a b : D) (xs ys : List ℕ) → TakesSome held a b xs → TakesSome held a b (xs ++ ys)
+some_of_more held a b xs ys some = begins_more (held a) xs ys (held b) some
 
-pub some_of_all : {D : Type 0} (told : D → Bool) (held : D → List ℕ) (a b : D) (xs : List ℕ)
-    → Takes told held a b xs → TakesSome told held a b xs
-some_of_all told held a b xs taken t =
-    let all = taken t in (all.0, record { taken = xs; rest = []; split = sym (append-nil xs); held = all.1 })
+pub some_of_all : {D : Type 0} (held : D → List ℕ) (a b : D) (xs : List ℕ) → Takes held a b xs → TakesSome held a b xs
+some_of_all held a b xs taken = record { taken = xs; rest = []; split = sym (append-nil xs); held = taken }
 
-pub some_then : {D : Type 0} (told : D → Bool) (held : D → List ℕ) (a b c : D) (xs ys : List ℕ)
-    → Takes told held a b xs → TakesSome told held b c ys → TakesSome told held a c (xs ++ ys)
-some_then told held a b c xs ys taken some t =
-    let one = taken t in let two = some one.0 in (two.0, begins_behind (held a) xs ys (held b) (held c) one.1 two.1)
+pub some_then : {D : Type 0} (held : D → List ℕ) (a b c : D) (xs ys : List ℕ) → Takes held a b xs → TakesSome held b c ys → TakesSome held a c (xs ++ ys)
+some_then held a b c xs ys taken some = begins_behind (held a) xs ys (held b) (held c) taken some
 
--- what it took, also where that isn't told
-split_some : (t u : Bool) (before bytes after : List ℕ) → (IsTrue t → IsTrue u × AppendsSome before bytes after)
-    → (taken : List ℕ) × (rest : List ℕ) × (bytes ≡ taken ++ rest) × (IsTrue t → IsTrue u × (after ≡ before ++ taken))
-split_some true u before bytes after some =
-    let s = some refl in (s.1.taken, s.1.rest, s.1.split, λ t. (s.0, s.1.held))
-split_some false u before bytes after some = ([], bytes, refl, λ t. absurd (cc))
-
-pub taken_of : {D : Type 0} (told : D → Bool) (held : D → List ℕ) (a b : D) (bytes : List ℕ) → TakesSome told held a b bytes
-    → (taken : List ℕ) × (rest : List ℕ) × (bytes ≡ taken ++ rest) × Takes told held a b taken
-taken_of told held a b bytes some = split_some (told a) (told b) (held a) bytes (held b) some
+pub taken_of : {D : Type 0} (held : D → List ℕ) (a b : D) (bytes : List ℕ) → TakesSome held a b bytes
+    → (taken : List ℕ) × (rest : List ℕ) × (bytes ≡ taken ++ rest) × Takes held a b taken
+taken_of held a b bytes some = (some.taken, some.rest, some.split, some.held)
 
 pub on_err : {T E P : Type 0} (r : Result T E) → P → OnErr r P
 on_err (Ok x) p = tt
@@ -79,49 +61,49 @@ on_err (Err e) p = p
 
 -- ---- calls that make others
 
-module _ {D : Type 0} (told : D → Bool) (held : D → List ℕ) (failed : D → Bool) where
+module _ {D : Type 0} (held : D → List ℕ) (failed : D → Bool) where
   -- a call was answered, and the next one sends what is left
   pub sends_then : {A E : Type 0} (xs ys : List ℕ) {a b c : D} {r : Result A E}
-      → Takes told held a b xs → failed b ≡ failed a → Sends told held failed ys b c r → Sends told held failed (xs ++ ys) a c r
-  sends_then xs ys {a = a} {b = b} {c = c} {r = Ok x} took works s = record { sent = takes_then told held a b c xs ys took s.sent; works = s.works ∙ works; err = tt; begins = tt }
-  sends_then xs ys {a = a} {b = b} {c = c} {r = Err e} took works s = record { sent = tt; works = tt; err = s.err; begins = some_then told held a b c xs ys took s.begins }
+      → Takes held a b xs → failed b ≡ failed a → Sends held failed ys b c r → Sends held failed (xs ++ ys) a c r
+  sends_then xs ys {a = a} {b = b} {c = c} {r = Ok x} took works s = record { sent = takes_then held a b c xs ys took s.sent; works = s.works ∙ works; err = tt; begins = tt }
+  sends_then xs ys {a = a} {b = b} {c = c} {r = Err e} took works s = record { sent = tt; works = tt; err = s.err; begins = some_then held a b c xs ys took s.begins }
 
   -- a call was refused, and that is the end
   pub sends_refused : {A E : Type 0} (Q : E → Type 0) (bytes : List ℕ) {a b : D} {r : Result A E}
-      → IsErrAnd r Q → IsTrue (failed b) → TakesSome told held a b bytes → Sends told held failed bytes a b r
+      → IsErrAnd r Q → IsTrue (failed b) → TakesSome held a b bytes → Sends held failed bytes a b r
   sends_refused Q bytes {a = a} {b = b} {r = Ok x} refused fails some = absurd refused
   sends_refused Q bytes {a = a} {b = b} {r = Err e} refused fails some = record { sent = tt; works = tt; err = fails; begins = some }
 
   pub sends_cut : {A E : Type 0} (Q : E → Type 0) (xs ys : List ℕ) {a b : D} {r : Result A E}
-      → IsErrAnd r Q → IsTrue (failed b) → TakesSome told held a b xs → Sends told held failed (xs ++ ys) a b r
-  sends_cut Q xs ys {a = a} {b = b} refused fails some = sends_refused Q (xs ++ ys) refused fails (some_of_more told held a b xs ys some)
+      → IsErrAnd r Q → IsTrue (failed b) → TakesSome held a b xs → Sends held failed (xs ++ ys) a b r
+  sends_cut Q xs ys {a = a} {b = b} refused fails some = sends_refused Q (xs ++ ys) refused fails (some_of_more held a b xs ys some)
 
   -- what was sent is passed on
   pub sends_flushed : {A E : Type 0} (xs : List ℕ) {a b c : D} {r : Result A E}
-      → Takes told held a b xs → failed b ≡ failed a → Sends told held failed [] b c r → Sends told held failed xs a c r
-  sends_flushed xs {a = a} {b = b} {c = c} {r = r} took works s = subst (λ bytes. Sends told held failed bytes a c r) (append-nil xs) (sends_then xs [] took works s)
+      → Takes held a b xs → failed b ≡ failed a → Sends held failed [] b c r → Sends held failed xs a c r
+  sends_flushed xs {a = a} {b = b} {c = c} {r = r} took works s = subst (λ bytes. Sends held failed bytes a c r) (append-nil xs) (sends_then xs [] took works s)
 
   -- ---- piece after piece: of all of it this is still to be sent
   pub record Underway (all rest : List ℕ) (old new : D) : Type 0 where
     pub done : List ℕ
     pub split : all ≡ done ++ rest
-    pub taken : Takes told held old new done
+    pub taken : Takes held old new done
     pub works : failed new ≡ failed old
 
   pub underway_start : (all : List ℕ) (a : D) → Underway all all a a
-  underway_start all a = record { done = []; split = refl; taken = takes_none told held a a refl; works = refl }
+  underway_start all a = record { done = []; split = refl; taken = takes_none held a a refl; works = refl }
 
-  pub underway_on : (all piece rest : List ℕ) {a b c : D} → Underway all (piece ++ rest) a b → Takes told held b c piece → failed c ≡ failed b → Underway all rest a c
+  pub underway_on : (all piece rest : List ℕ) {a b c : D} → Underway all (piece ++ rest) a b → Takes held b c piece → failed c ≡ failed b → Underway all rest a c
   underway_on all piece rest {a = a} {b = b} {c = c} u took works = record {
     done = u.done ++ piece;
     split = u.split ∙ sym (append_assoc u.done piece rest);
-    taken = takes_then told held a b c u.done piece u.taken took;
+    taken = takes_then held a b c u.done piece u.taken took;
     works = works ∙ u.works;
   }
 
-  pub underway_some : (all piece rest : List ℕ) {a b c : D} → Underway all (piece ++ rest) a b → TakesSome told held b c piece → TakesSome told held a c all
+  pub underway_some : (all piece rest : List ℕ) {a b c : D} → Underway all (piece ++ rest) a b → TakesSome held b c piece → TakesSome held a c all
   underway_some all piece rest {a = a} {b = b} {c = c} u some =
-      subst (TakesSome told held a c) (sym u.split) (some_then told held a b c u.done (piece ++ rest) u.taken (some_of_more told held b c piece rest some))
+      subst (TakesSome held a c) (sym u.split) (some_then held a b c u.done (piece ++ rest) u.taken (some_of_more held b c piece rest some))
 
-  pub underway_end : (all : List ℕ) {a b : D} → Underway all [] a b → Takes told held a b all
-  underway_end all {a = a} {b = b} u = subst (Takes told held a b) (sym (u.split ∙ append-nil u.done)) u.taken
+  pub underway_end : (all : List ℕ) {a b : D} → Underway all [] a b → Takes held a b all
+  underway_end all {a = a} {b = b} u = subst (Takes held a b) (sym (u.split ∙ append-nil u.done)) u.taken

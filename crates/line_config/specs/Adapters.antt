@@ -1,13 +1,17 @@
 -- What a clause reads of the devices over std's readers and writers. `remaining` and `contents` are
 -- std's ghost members of these.
-use Rattle.std.specs.Prelude.{ℕ, ◌+◌, ◌-◌, ◌^◌, List, ◌++◌, length, Option, Bool}
+use Rattle.std.specs.Prelude.{◌≡◌, ℕ, ◌+◌, ◌-◌, ◌^◌, List, [], ◌++◌, length, option_to_list, Option, Some, None, Bool, Result, Ok, Err, unwrap_or}
+use Rattle.std.specs.Io.KnownBytes.{Consumes, IsAtEnd}
 use Rattle.line_config.specs.Buffer.{bytes_in}
 use Rattle.line_config.specs.Feed.{Feed}
 use Rattle.line_config.specs.Foretold.{left_of, agrees}
-use Rattle.line_config.specs.Known.{is_known, known_bytes}
+use Rattle.line_config.specs.Recorded.{took, inner_of}
 use Rattle.line_config.specs.declared.adapters.ReadSource.{ReadSource}
 use Rattle.line_config.specs.declared.adapters.WriteSink.{WriteSink}
+use Rattle.line_config.specs.declared.device.DeviceFailed.{DeviceFailed}
 use Rattle.line_config.specs.declared.device.Last.{Last}
+use Rattle.line_config.specs.declared.device.Last.TheVariants.{End}
+use Rattle.line_config.specs.declared.recorded.Recorded.{Recorded}
 
 abbrev pub reader_of : {R K : Type 0} → ReadSource R K → R
 reader_of s = s.reader
@@ -29,7 +33,7 @@ met s = s.met
 abbrev pub feed_of : List ℕ → Last → List ℕ → List ℕ → Option Last → ℕ → Bool → Feed
 feed_of all last given unread met count failed = record {
   told = agrees (left_of all given) last met;
-  coming = unread ++ known_bytes (left_of all given);
+  coming = unread ++ unwrap_or (left_of all given) [];
   last = last;
   bound = 2 ^ 63 - count + length unread;
   failed = failed;
@@ -38,15 +42,37 @@ feed_of all last given unread met count failed = record {
 abbrev pub source_feed : {R K : Type 0} → List ℕ → Last → ReadSource R K → Feed
 source_feed all last s = feed_of all last s.log.bytes (bytes_in s.unread) s.met s.count s.failed
 
+-- the byte of a call of a source
+abbrev pub given_by : Result (Option ℕ) DeviceFailed → List ℕ
+given_by (Ok byte) = option_to_list byte
+given_by (Err e) = []
+
+-- a source gave these bytes, from the front of what its reads gave: what is noted more is what the
+-- reader gave more, where that one tells its bytes, and nothing was left of them at the end. After
+-- the end or a failure the reader isn't asked.
+pub record Asks {R K : Type 0} (remaining : R → Option (List ℕ)) (bytes : List ℕ) (old new : ReadSource R K) : Type 0 where
+  pub more : List ℕ
+  pub noted : gave new ≡ gave old ++ more
+  pub passed : unread_of old ++ more ≡ bytes ++ unread_of new
+  pub reader : Consumes (remaining (reader_of old)) (remaining (reader_of new)) more
+  pub end : met old ≡ None → met new ≡ Some End → IsAtEnd (remaining (reader_of new))
+  pub stays : (last : Last) → met old ≡ Some last → (met new ≡ Some last) × (reader_of new ≡ reader_of old)
+
+-- the writer with the log of what its writes took
+abbrev pub recorded_of : {W : Type 0} → WriteSink W → Recorded W
+recorded_of s = s.writer
+
 abbrev pub writer_of : {W : Type 0} → WriteSink W → W
-writer_of s = s.writer
+writer_of s = inner_of s.writer
+
+-- what the writer's writes took
+abbrev pub sent_of : {W : Type 0} → WriteSink W → List ℕ
+sent_of s = took s.writer
 
 -- what was taken and is not sent yet
 abbrev pub unsent_of : {W : Type 0} → WriteSink W → List ℕ
 unsent_of s = bytes_in s.unsent
 
-abbrev pub sink_told : {W : Type 0} → (W → Option (List ℕ)) → WriteSink W → Bool
-sink_told contents s = is_known (contents s.writer)
-
-abbrev pub sink_held : {W : Type 0} → (W → Option (List ℕ)) → WriteSink W → List ℕ
-sink_held contents s = known_bytes (contents s.writer) ++ bytes_in s.unsent
+-- all that it took
+abbrev pub taken : {W : Type 0} → WriteSink W → List ℕ
+taken s = sent_of s ++ unsent_of s

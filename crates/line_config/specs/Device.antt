@@ -8,7 +8,7 @@ use Rattle.line_config.specs.declared.device.Last.TheVariants.{End, Failed}
 abbrev pub device_failed : DeviceFailed
 device_failed = record {}
 
--- what a steady source answers where these bytes are still to come, and this stands after them
+-- what a source answers where these bytes are still to come, and this stands after them
 abbrev pub front_of : List ℕ → Last → Result (Option ℕ) DeviceFailed
 front_of (byte ∷ bytes) last = Ok (Some byte)
 front_of [] End = Ok None

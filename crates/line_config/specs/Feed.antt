@@ -15,9 +15,9 @@ pub record Feed : Type 0 where
   pub bound : ℕ
   pub failed : Bool
 
--- a source of these bytes, with this after them
-abbrev pub steady_feed : List ℕ → Last → Feed
-steady_feed bytes last =
+-- a source over memory of these bytes, with this after them, before it gave any
+abbrev pub fresh_feed : List ℕ → Last → Feed
+fresh_feed bytes last =
     record {
       told = true;
       coming = bytes;
@@ -25,6 +25,10 @@ steady_feed bytes last =
       bound = length bytes;
       failed = false;
     }
+
+-- a source that gives what was said, whatever is asked of it, as one over memory does
+abbrev pub AlwaysTold : {F : Type 0} → (F → Feed) → Type 0
+AlwaysTold {F} feed = (s : F) → IsTrue (feed s).told
 
 -- one byte is asked for: where what was given is still what was said, it was so before, and what is
 -- given is the front of what was to come; a failure gives nothing

@@ -4,7 +4,6 @@ pub mod Config
 pub mod Device
 pub mod Feed
 pub mod Foretold
-pub mod Known
 pub mod Recorded
 pub mod Refusals
 pub mod Sending

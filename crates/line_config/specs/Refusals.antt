@@ -1,5 +1,5 @@
 -- The refusals: their texts, and which of them are faults.
-use Rattle.std.specs.Prelude.{◌≡◌, ℕ, List, Bool, true, false, IsTrue, IsFalse, Result, Ok, Err, codes, ⊤}
+use Rattle.std.specs.Prelude.{ℕ, List, Bool, true, false, IsTrue, IsFalse, Result, Ok, Err, codes, ⊤}
 use Rattle.line_config.specs.declared.errors.ReadlineError.{ReadlineError}
 use Rattle.line_config.specs.declared.errors.ReadlineError.TheVariants.{Eof, Interrupted, NotUtf8, PasteOutOfPlace, Reader, Display, Lines, HistoryText, Helper, Handler, Memory}
 
@@ -17,8 +17,8 @@ refusal_text Helper = codes "helper failed"
 refusal_text Handler = codes "handler failed"
 refusal_text Memory = codes "out of memory"
 
--- whether a refusal is a fault: one that no input gives. A reader's failure isn't one here, since a
--- steady source says where it stands.
+-- whether a refusal is a fault: one that no input gives. A reader's failure isn't one, since it stands
+-- after the bytes of the input.
 abbrev pub is_fault : ReadlineError → Bool
 is_fault Eof = false
 is_fault Interrupted = false
@@ -37,11 +37,3 @@ IsMet refusal = IsFalse (is_fault refusal)
 abbrev pub Met : {X : Type 0} → Result X ReadlineError → Type 0
 Met (Ok x) = ⊤
 Met (Err refusal) = IsMet refusal
-
--- the same over a source that may be steady or not: where it isn't, its own failure is a fault too
-abbrev pub IsMetBy : Bool → ReadlineError → Type 0
-IsMetBy steady refusal = IsMet refusal × (refusal ≡ Reader → IsTrue steady)
-
-abbrev pub MetBy : {X : Type 0} → Bool → Result X ReadlineError → Type 0
-MetBy steady (Ok x) = ⊤
-MetBy steady (Err refusal) = IsMetBy steady refusal

@@ -1,10 +1,9 @@
 -- What calls do to a sink.
 use Rattle.std.specs.Prelude.{◌≡◌, ℕ, Bool, List, ◌++◌, IsTrue, Result, OnOk, OnErr}
 
--- a told sink stays told, and has taken these bytes after what it held
-abbrev pub Takes : {D : Type 0} → (D → Bool) → (D → List ℕ) → D → D → List ℕ → Type 0
-Takes told held old new bytes = IsTrue (told old) → IsTrue (told new)
-    × (held new ≡ held old ++ bytes)
+-- a sink has taken these bytes after what it held
+abbrev pub Takes : {D : Type 0} → (D → List ℕ) → D → D → List ℕ → Type 0
+Takes held old new bytes = held new ≡ held old ++ bytes
 
 -- what is held then is what was held before, and after it a beginning of these bytes
 pub record AppendsSome (before bytes after : List ℕ) : Type 0 where
@@ -13,16 +12,15 @@ pub record AppendsSome (before bytes after : List ℕ) : Type 0 where
   pub split : bytes ≡ taken ++ rest
   pub held : after ≡ before ++ taken
 
--- a told sink stays told, and has taken a beginning of these bytes
-abbrev pub TakesSome : {D : Type 0} → (D → Bool) → (D → List ℕ) → D → D → List ℕ → Type 0
-TakesSome told held old new bytes = IsTrue (told old) → IsTrue (told new)
-    × AppendsSome (held old) bytes (held new)
+-- a sink has taken a beginning of these bytes
+abbrev pub TakesSome : {D : Type 0} → (D → List ℕ) → D → D → List ℕ → Type 0
+TakesSome held old new bytes = AppendsSome (held old) bytes (held new)
 
 -- a call that is answered has sent these bytes, and the sink works as before; one that is refused,
 -- by whatever name, is so because the sink has failed, and has sent a beginning of them
-pub record Sends {D A E : Type 0} (told : D → Bool) (held : D → List ℕ) (failed : D → Bool)
-    (bytes : List ℕ) (old new : D) (result : Result A E) : Type 0 where
-  pub sent : OnOk result (Takes told held old new bytes)
+pub record Sends {D A E : Type 0} (held : D → List ℕ) (failed : D → Bool) (bytes : List ℕ) (old new : D)
+    (result : Result A E) : Type 0 where
+  pub sent : OnOk result (Takes held old new bytes)
   pub works : OnOk result (failed new ≡ failed old)
   pub err : OnErr result (IsTrue (failed new))
-  pub begins : OnErr result (TakesSome told held old new bytes)
+  pub begins : OnErr result (TakesSome held old new bytes)

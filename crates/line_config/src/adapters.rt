@@ -1,15 +1,17 @@
 //! Devices over std's readers and writers, each with a fixed array.
-ghost use Rattle.std.specs.Prelude.{◌≡◌, ℕ, List, ◌++◌, ◌-◌, ◌^◌, ◌≤◌, ◌<◌, [], false, option_to_list, length, take, is_err, IsErr, IsTrue, Ok, Some, None, IfOk, IfSome, OnOk, OnErr};
+ghost use Rattle.std.specs.Prelude.{◌≡◌, ◌++◌, ◌-◌, ◌^◌, ◌≤◌, ◌<◌, [], false, length, take, is_err, is_some, IsErr, IsTrue, Ok, Some, None, IfOk, OnOk, OnErr};
+ghost use Rattle.std.specs.Io.KnownBytes.{Appends};
 ghost use Rattle.line_config.specs.Sending.{AppendsSome, Takes};
 ghost use Rattle.line_config.specs.Buffer.{bytes_in};
-ghost use Rattle.line_config.specs.Known.{is_known, known_bytes};
-ghost use Rattle.line_config.specs.Feed.{Fills};
-ghost use Rattle.line_config.specs.declared.device.Last.{Last};
+ghost use Rattle.line_config.specs.Feed.{Fills, GivesByte};
+ghost use Rattle.line_config.specs.Recorded.{Notes};
 ghost use Rattle.line_config.specs.declared.device.Last.TheVariants.{End, Failed};
 
 use crate::buffer::Buffer;
 use crate::device::{DeviceFailed, Last, Sink, Source};
+use crate::foretold::Foretold;
 use crate::log::Log;
+use crate::recorded::Recorded;
 use crate::retry::flush_retrying;
 use std::io::{Read, Write};
 use std::marker::{Brand, PhantomData};
@@ -22,28 +24,14 @@ pub const WRITE_SIZE: usize = 4096;
 
 const MOST_BYTES: u64 = 0x7FFF_FFFF_FFFF_FF00;
 
-/// What is said of a source beforehand: its bytes, and what stands after them. No code knows it: a
-/// function over any `K: Keys` is proved for all of them.
-pub trait Keys {
-    ghost bytes: { List ℕ };
-
-    ghost last: { Last };
-}
-
-impl Keys for Brand {
-    ghost bytes = { [] };
-
-    ghost last = { End };
-}
-
 /// A source over std's `Read`, of which it is said that its reads give the bytes of `K`.
 ///
 /// The reader is asked where no byte is left of its last answer, and then once: so a byte that is
 /// there is given before more are asked for. Each error of the reader is a failure, except that a
 /// read which a signal interrupts is made anew. After the end or a failure it isn't asked again, nor
-/// after 2^63 - 256 bytes, where the source fails.
+/// after more than 2^63 - 256 bytes, where the source fails.
 #[derive(Drop)]
-pub struct ReadSource<R, K> {
+pub struct ReadSource<R, K = Brand> {
     reader: R,
     log: Log,
     unread: Buffer<READ_SIZE>,
@@ -55,11 +43,28 @@ pub struct ReadSource<R, K> {
     pub ghost met_it: { IsTrue failed → met ≡ Some Failed },
 }
 
-impl<R: Read, K: Keys> ReadSource<R, K> {
-    ghost use Rattle.line_config.specs.Adapters.{reader_of, unread_of, gave, met, source_feed};
+impl<R: Read> ReadSource<R, Brand> {
+    ghost use Rattle.line_config.specs.Adapters.{reader_of, unread_of, gave, met};
 
     /// A source that gives what the reader gives.
     pub fn new(reader: R) -> Self
+        ensures reader { reader_of result ≡ reader }
+        ensures unread { unread_of result ≡ [] }
+        ensures gave { gave result ≡ [] }
+        ensures met { met result ≡ None }
+        ensures bound { (⟦<ReadSource<R, Brand> as Source>⟧.feed result).bound ≡ 2 ^ 63 }
+        ensures fresh { (⟦<ReadSource<R, Brand> as Source>⟧.feed result).failed ≡ false }
+    {
+        ReadSource::foretold(reader)
+    }
+}
+
+impl<R: Read, K: Foretold> ReadSource<R, K> {
+    ghost use Rattle.line_config.specs.Adapters.{Asks, given_by, reader_of, unread_of, gave, met, source_feed};
+
+    /// A source that gives what the reader gives, of which it is said that these are the bytes of
+    /// `K`.
+    pub fn foretold(reader: R) -> Self
         ensures reader { reader_of result ≡ reader }
         ensures unread { unread_of result ≡ [] }
         ensures gave { gave result ≡ [] }
@@ -89,13 +94,11 @@ impl<R: Read, K: Keys> ReadSource<R, K> {
     // Reads once, where neither the end nor a failure was met.
     fn fill(&mut self)
         requires { unread_of self.old ≡ [] }
-        ensures gave { gave self.new ≡ gave self.old ++ unread_of self.new }
-        ensures reader { IsTrue (is_known (R.remaining (reader_of self.old)))
-            → gave self.new ++ known_bytes (R.remaining (reader_of self.new))
-            ≡ gave self.old ++ known_bytes (R.remaining (reader_of self.old)) }
+        ensures reader { Asks R.remaining [] self.old self.new }
         ensures told { Fills (source_feed K.bytes K.last self.old)
             (source_feed K.bytes K.last self.new) (unread_of self.new) (met self.new) }
         ensures failed { self.new.failed ≡ self.old.failed }
+        ensures met { unread_of self.new ≡ [] → IsTrue (is_some (met self.new)) }
     {
         if self.met.is_some() {
             return;
@@ -117,9 +120,11 @@ impl<R: Read, K: Keys> ReadSource<R, K> {
     }
 
     fn get_ready(&mut self)
+        ensures reader { Asks R.remaining [] self.old self.new }
         ensures told { Fills (source_feed K.bytes K.last self.old)
             (source_feed K.bytes K.last self.new) (unread_of self.new) (met self.new) }
         ensures failed { self.new.failed ≡ self.old.failed }
+        ensures met { unread_of self.new ≡ [] → IsTrue (is_some (met self.new)) }
     {
         if self.unread.is_empty() {
             self.fill();
@@ -127,12 +132,21 @@ impl<R: Read, K: Keys> ReadSource<R, K> {
     }
 }
 
-impl<R: Read, K: Keys> Source for ReadSource<R, K> {
-    ghost use Rattle.line_config.specs.Adapters.{source_feed};
+impl<R: Read, K: Foretold> Source for ReadSource<R, K> {
+    ghost use Rattle.line_config.specs.Adapters.{Asks, given_by, met, source_feed, unread_of};
 
     ghost feed = { λ s. source_feed K.bytes K.last s };
 
-    fn next_byte(&mut self) -> Result<Option<u8>, DeviceFailed> {
+    fn next_byte(&mut self) -> Result<Option<u8>, DeviceFailed>
+        ensures byte { GivesByte (source_feed K.bytes K.last self.old)
+            (source_feed K.bytes K.last self.new) result }
+
+        // The byte is the next of those that its reads gave. It answers the end or a failure where
+        // a read met that, and none of them is left.
+        ensures reader { Asks R.remaining (given_by result) self.old self.new }
+        ensures end { result ≡ Ok None → (unread_of self.new ≡ []) × (met self.new ≡ Some End) }
+        ensures fault { OnErr result ((unread_of self.new ≡ []) × (met self.new ≡ Some Failed)) }
+    {
         if self.failed {
             return Err(DeviceFailed);
         }
@@ -160,22 +174,23 @@ impl<R: Read, K: Keys> Source for ReadSource<R, K> {
 /// interrupts is made anew.
 #[derive(Drop)]
 pub struct WriteSink<W> {
-    writer: W,
+    writer: Recorded<W>,
     unsent: Buffer<WRITE_SIZE>,
     failed: bool,
 }
 
 impl<W: Write> WriteSink<W> {
-    ghost use Rattle.line_config.specs.Adapters.{writer_of, unsent_of, sink_told, sink_held};
+    ghost use Rattle.line_config.specs.Adapters.{recorded_of, writer_of, sent_of, unsent_of, taken};
 
     /// A sink that sends to the writer.
     pub fn new(writer: W) -> Self
         ensures writer { writer_of result ≡ writer }
+        ensures sent { sent_of result ≡ [] }
         ensures unsent { unsent_of result ≡ [] }
         ensures fresh { ⟦<WriteSink<W> as Sink>⟧.has_failed result ≡ false }
     {
         WriteSink {
-            writer,
+            writer: Recorded::new(writer),
             unsent: Buffer::new(),
             failed: false,
         }
@@ -186,15 +201,14 @@ impl<W: Write> WriteSink<W> {
         ensures writer { result.0 ≡ writer_of self }
         ensures unsent { bytes_in result.1 ≡ unsent_of self }
     {
-        (self.writer, self.unsent)
+        (self.writer.into_inner(), self.unsent)
     }
 
     // Puts as many of the bytes after those that wait as there is room for, which is made first.
     fn gather(&mut self, bytes: &[u8]) -> Result<usize, DeviceFailed>
-        ensures ok { IfOk result (λ n. Takes (sink_told W.contents) (sink_held W.contents)
-            self.old self.new (take n bytes.now)) }
-        ensures err { OnErr result (Takes (sink_told W.contents) (sink_held W.contents)
-            self.old self.new []) }
+        ensures ok { IfOk result (λ n. Takes taken self.old self.new (take n bytes.now)) }
+        ensures err { OnErr result (taken self.new ≡ taken self.old) }
+        ensures writer { Notes W.contents (recorded_of self.old) (recorded_of self.new) }
         ensures bound { IfOk result (λ n. n ≤ length bytes.now) }
         ensures some { IfOk result (λ n. 0 < length bytes.now → 0 < n) }
     {
@@ -205,12 +219,9 @@ impl<W: Write> WriteSink<W> {
     }
 
     fn gather_all(&mut self, bytes: &[u8]) -> Result<(), DeviceFailed>
-        ensures ok { OnOk result (Takes (sink_told W.contents) (sink_held W.contents)
-            self.old self.new bytes.now) }
-        ensures begins { IsTrue (sink_told W.contents self.old)
-            → IsTrue (sink_told W.contents self.new)
-            × AppendsSome (sink_held W.contents self.old) bytes.now
-            (sink_held W.contents self.new) }
+        ensures ok { OnOk result (Takes taken self.old self.new bytes.now) }
+        ensures begins { AppendsSome (taken self.old) bytes.now (taken self.new) }
+        ensures writer { Notes W.contents (recorded_of self.old) (recorded_of self.new) }
     {
         let mut rest = bytes;
         while !rest.is_empty() {
@@ -221,10 +232,13 @@ impl<W: Write> WriteSink<W> {
     }
 
     // Sends what waits, and flushes the writer.
+    #[tactic(auto, using(crate::proofs::NotesLemmas::on_notes))]
     fn send(&mut self) -> Result<(), DeviceFailed>
-        ensures takes { Takes (sink_told W.contents) (sink_held W.contents)
-            self.old self.new [] }
+        ensures takes { taken self.new ≡ taken self.old }
         ensures sent { OnOk result (unsent_of self.new ≡ []) }
+        ensures writer { Notes W.contents (recorded_of self.old) (recorded_of self.new) }
+        ensures told { OnOk result (Appends (W.contents (writer_of self.old))
+            (W.contents (writer_of self.new)) (unsent_of self.old)) }
     {
         self.unsent.send_to(&mut self.writer)?;
         flush_retrying(&mut self.writer)
@@ -232,15 +246,21 @@ impl<W: Write> WriteSink<W> {
 }
 
 impl<W: Write> Sink for WriteSink<W> {
-    ghost use Rattle.line_config.specs.Adapters.{writer_of, unsent_of, sink_told, sink_held};
+    ghost use Rattle.line_config.specs.Adapters.{recorded_of, writer_of, sent_of, unsent_of, taken};
 
-    ghost told = { sink_told W.contents };
-
-    ghost held = { sink_held W.contents };
+    ghost held = { taken };
 
     ghost has_failed = { λ s. s.failed };
 
-    fn write(&mut self, bytes: &[u8]) -> Result<(), DeviceFailed> {
+    fn write(&mut self, bytes: &[u8]) -> Result<(), DeviceFailed>
+        ensures ok { OnOk result (taken self.new ≡ taken self.old ++ bytes.now) }
+        ensures begins { AppendsSome (taken self.old) bytes.now (taken self.new) }
+        ensures failure { self.new.failed ≡ is_err result }
+        ensures for_good { IsTrue self.old.failed → IsErr result }
+
+        // Where the writer tells its bytes, it has taken what its writes are said to have taken.
+        ensures writer { Notes W.contents (recorded_of self.old) (recorded_of self.new) }
+    {
         if self.failed {
             return Err(DeviceFailed);
         }
@@ -250,17 +270,16 @@ impl<W: Write> Sink for WriteSink<W> {
     }
 
     fn flush(&mut self) -> Result<(), DeviceFailed>
-        ensures held { IsTrue (sink_told W.contents self.old)
-            → sink_held W.contents self.new ≡ sink_held W.contents self.old }
-        ensures told { IsTrue (sink_told W.contents self.old)
-            → IsTrue (sink_told W.contents self.new) }
+        ensures held { taken self.new ≡ taken self.old }
         ensures failure { self.new.failed ≡ is_err result }
         ensures for_good { IsTrue self.old.failed → IsErr result }
+        ensures writer { Notes W.contents (recorded_of self.old) (recorded_of self.new) }
 
-        // The writer itself holds all then, and the array nothing.
-        ensures sent { OnOk result (unsent_of self.new ≡ []) }
-        ensures passed_on { IsTrue (sink_told W.contents self.old) → OnOk result (
-            known_bytes (W.contents (writer_of self.new)) ≡ sink_held W.contents self.old) }
+        // The writer itself has all then, and the array nothing.
+        ensures waits { OnOk result (unsent_of self.new ≡ []) }
+        ensures passed_on { OnOk result (sent_of self.new ≡ taken self.old) }
+        ensures told { OnOk result (Appends (W.contents (writer_of self.old))
+            (W.contents (writer_of self.new)) (unsent_of self.old)) }
     {
         if self.failed {
             return Err(DeviceFailed);

@@ -1,8 +1,10 @@
 //! The fixed array of an adapter: what it holds stands between two places in it.
 ghost use Rattle.std.specs.Prelude.{◌≡◌, IsTrue, ◌+◌, ◌-◌, ◌≤◌, ◌<◌, [], ◌++◌, length, take, min, option_to_list, OnOk, OnErr, IsNone, ◌↔◌};
-ghost use Rattle.line_config.specs.Known.{is_known, known_bytes};
+ghost use Rattle.std.specs.Io.KnownBytes.{Consumes, IsAtEnd};
+ghost use Rattle.line_config.specs.Recorded.{Notes, took};
 
 use crate::device::DeviceFailed;
+use crate::recorded::Recorded;
 use crate::retry::{read_retrying, write_retrying};
 use std::io::{Read, Write};
 
@@ -62,15 +64,12 @@ impl<const N: usize> Buffer<N> {
     }
 
     /// Takes what one read gives.
+    #[tactic(auto, using(crate::proofs::KnownLemmas::on_known))]
     pub(crate) fn fill_from<R: Read>(&mut self, reader: &mut R) -> Result<(), DeviceFailed>
-        requires { bytes_in self.old ≡ [] }
-        ensures known { IsTrue (is_known (R.remaining reader.old))
-            → IsTrue (is_known (R.remaining reader.new)) }
-        ensures bytes { IsTrue (is_known (R.remaining reader.old))
-            → known_bytes (R.remaining reader.old) ≡ bytes_in self.new
-            ++ known_bytes (R.remaining reader.new) }
+        ensures bytes { Consumes (R.remaining reader.old) (R.remaining reader.new)
+            (bytes_in self.new) }
         ensures end { OnOk result
-            (bytes_in self.new ≡ [] → 0 < N → known_bytes (R.remaining reader.new) ≡ []) }
+            (bytes_in self.new ≡ [] → 0 < N → IsAtEnd (R.remaining reader.new)) }
         ensures err { OnErr result (bytes_in self.new ≡ []) }
     {
         self.start = 0;
@@ -94,12 +93,10 @@ impl<const N: usize> Buffer<N> {
     }
 
     /// Sends all that it holds. What a failure leaves unsent it still holds.
-    pub(crate) fn send_to<W: Write>(&mut self, writer: &mut W) -> Result<(), DeviceFailed>
-        ensures known { IsTrue (is_known (W.contents writer.old))
-            → IsTrue (is_known (W.contents writer.new)) }
-        ensures bytes { IsTrue (is_known (W.contents writer.old))
-            → known_bytes (W.contents writer.new) ++ bytes_in self.new
-            ≡ known_bytes (W.contents writer.old) ++ bytes_in self.old }
+    #[tactic(auto, using(crate::proofs::NotesLemmas::on_notes))]
+    pub(crate) fn send_to<W: Write>(&mut self, writer: &mut Recorded<W>) -> Result<(), DeviceFailed>
+        ensures bytes { took writer.new ++ bytes_in self.new ≡ took writer.old ++ bytes_in self.old }
+        ensures writer { Notes W.contents writer.old writer.new }
         ensures sent { OnOk result (bytes_in self.new ≡ []) }
         ensures room { OnOk result (room_in self.new ≡ N) }
     {

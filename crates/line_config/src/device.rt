@@ -5,7 +5,7 @@ ghost use Rattle.line_config.specs.Sending.{AppendsSome};
 
 use thiserror::Error;
 
-/// What stands after the bytes of a steady source: the end, or a failure.
+/// What stands after the bytes of a source: the end, or a failure.
 #[derive(Clone, Copy, Debug, PartialEq, Eq)]
 pub enum Last {
     /// The end of the input.
@@ -21,9 +21,9 @@ pub struct DeviceFailed;
 
 /// A device that bytes come from, one at a time.
 ///
-/// `feed` is what is known of it. A source over memory tells what it will give; one over a terminal
-/// can't. Where it is told, the bytes are given in order, whatever pieces they came in. A steady
-/// source fails only at a place that it can tell beforehand, and any other may fail at any call.
+/// `feed` says which bytes it gives, and what stands after them. A source over memory gives just
+/// these. Of any other they are said beforehand, and `feed` says whether what it gave so far is a
+/// beginning of them: so what is promised of a call is promised where that is so after it.
 pub trait Source {
     ghost feed: { Self → Feed };
 
@@ -38,24 +38,16 @@ pub trait Source {
 }
 
 /// A device that bytes go to.
-///
-/// A sink over memory tells what it has taken; one over a file can't.
 pub trait Sink {
-    // Whether the bytes taken so far are known.
-    ghost told: { Self → Bool };
-
-    // The bytes taken so far, where told.
+    // The bytes taken so far.
     ghost held: { Self → List ℕ };
 
     ghost has_failed: { Self → Bool };
 
     /// Takes all the bytes, or fails. A write that fails may have taken the first of them.
     fn write(&mut self, bytes: &[u8]) -> Result<(), DeviceFailed>
-        ensures ok { IsTrue (told self.old)
-            → OnOk result (held self.new ≡ held self.old ++ bytes.now) }
-        ensures begins { IsTrue (told self.old)
-            → AppendsSome (held self.old) bytes.now (held self.new) }
-        ensures told { IsTrue (told self.old) → IsTrue (told self.new) }
+        ensures ok { OnOk result (held self.new ≡ held self.old ++ bytes.now) }
+        ensures begins { AppendsSome (held self.old) bytes.now (held self.new) }
 
         // It fails exactly where it is marked so, and then for good.
         ensures failure { has_failed self.new ≡ is_err result }
@@ -63,8 +55,7 @@ pub trait Sink {
 
     /// Passes on what was written, where the sink gathers it first.
     fn flush(&mut self) -> Result<(), DeviceFailed>
-        ensures held { IsTrue (told self.old) → held self.new ≡ held self.old }
-        ensures told { IsTrue (told self.old) → IsTrue (told self.new) }
+        ensures held { held self.new ≡ held self.old }
         ensures failure { has_failed self.new ≡ is_err result }
         ensures for_good { IsTrue (has_failed self.old) → IsErr result };
 

@@ -2,12 +2,12 @@
 ghost use Rattle.std.specs.Prelude.{◌≡◌, ◌++◌, ◌+◌, ◌<◌, [], true, false, is_err, length, vec_capacity, vec_len, IsErr, IsTrue, OnErr, OnOk};
 ghost use Rattle.line_config.specs.declared.device.Last.{Last};
 ghost use Rattle.line_config.specs.declared.device.Last.TheVariants.{End, Failed};
-ghost use Rattle.line_config.specs.Feed.{steady_feed};
+ghost use Rattle.line_config.specs.Feed.{fresh_feed};
 
 use crate::device::{DeviceFailed, Last, Sink, Source};
 use std::alloc::Global;
 
-/// A source over a slice. Its bytes are told, and it is steady.
+/// A source over a slice.
 #[derive(Drop)]
 pub struct SliceSource<'a> {
     bytes: &'a [u8],
@@ -20,7 +20,7 @@ pub struct SliceSource<'a> {
 impl<'a> SliceSource<'a> {
     /// The bytes, and after them the end. It never fails.
     pub fn new(bytes: &'a [u8]) -> Self
-        ensures { ⟦<SliceSource<'a> as Source>⟧.feed result ≡ steady_feed bytes.entry.now End }
+        ensures { ⟦<SliceSource<'a> as Source>⟧.feed result ≡ fresh_feed bytes.entry.now End }
     {
         SliceSource {
             bytes,
@@ -31,7 +31,7 @@ impl<'a> SliceSource<'a> {
 
     /// The bytes, and after them a failure.
     pub fn failing_after(bytes: &'a [u8]) -> Self
-        ensures { ⟦<SliceSource<'a> as Source>⟧.feed result ≡ steady_feed bytes.entry.now Failed }
+        ensures { ⟦<SliceSource<'a> as Source>⟧.feed result ≡ fresh_feed bytes.entry.now Failed }
     {
         SliceSource {
             bytes,
@@ -105,8 +105,6 @@ impl VecSink {
 }
 
 impl Sink for VecSink {
-    ghost told = { λ _. true };
-
     ghost held = { λ s. s.bytes.items };
 
     ghost has_failed = { λ s. s.failed };

@@ -14,21 +14,28 @@ pub struct Recorded<W> {
 }
 
 impl<W: Write> Recorded<W> {
-    ghost use Rattle.line_config.specs.Recorded.{took, recorded_of};
+    ghost use Rattle.line_config.specs.Recorded.{took, inner_of};
 
     pub fn new(writer: W) -> Self
         ensures took { took result ≡ [] }
-        ensures writer { recorded_of result ≡ writer }
+        ensures writer { inner_of result ≡ writer }
     {
         Recorded {
             writer,
             log: Log::new(),
         }
     }
+
+    /// The writer below.
+    pub fn into_inner(self) -> W
+        ensures { result ≡ inner_of self }
+    {
+        self.writer
+    }
 }
 
 impl<W: Write> Write for Recorded<W> {
-    ghost use Rattle.line_config.specs.Recorded.{took, recorded_of};
+    ghost use Rattle.line_config.specs.Recorded.{took, inner_of};
 
     ghost contents = { λ s. Some s.log.bytes };
 
@@ -37,8 +44,8 @@ impl<W: Write> Write for Recorded<W> {
         ensures bytes { WriteAppends (Some (took self.old)) (Some (took self.new)) result buf.now }
 
         // Where the writer below tells its bytes, it has taken these, and no others.
-        ensures writer { WriteAppends (W.contents (recorded_of self.old))
-            (W.contents (recorded_of self.new)) result buf.now }
+        ensures writer { WriteAppends (W.contents (inner_of self.old))
+            (W.contents (inner_of self.new)) result buf.now }
     {
         let count = self.writer.write(buf)?;
         self.log.note(&buf[..count]);
@@ -47,7 +54,7 @@ impl<W: Write> Write for Recorded<W> {
 
     fn flush(&mut self) -> Result<()>
         ensures bytes { Keeps (Some (took self.old)) (Some (took self.new)) }
-        ensures writer { Keeps (W.contents (recorded_of self.old)) (W.contents (recorded_of self.new)) }
+        ensures writer { Keeps (W.contents (inner_of self.old)) (W.contents (inner_of self.new)) }
     {
         self.writer.flush()
     }

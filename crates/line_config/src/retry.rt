@@ -3,10 +3,12 @@
 //! An interrupted call has read or written nothing, so it is no failure of the device: a terminal
 //! whose window is resized, or a job that is stopped and continued, interrupts a call in this way.
 //! Every other error is a failure.
-ghost use Rattle.std.specs.Prelude.{◌≡◌, ◌++◌, ◌<◌, ◌≤◌, [], length, take, IsTrue, OnErr, IfOk};
-ghost use Rattle.line_config.specs.Known.{is_known, known_bytes};
+ghost use Rattle.std.specs.Prelude.{◌≡◌, ◌++◌, ◌<◌, ◌≤◌, length, take, OnErr, IfOk};
+ghost use Rattle.std.specs.Io.KnownBytes.{ReadConsumes};
+ghost use Rattle.line_config.specs.Recorded.{Notes, took};
 
 use crate::device::DeviceFailed;
+use crate::recorded::Recorded;
 use std::io::{ErrorKind, Read, Write};
 
 // A call must return, so the tries are counted. The count is never reached.
@@ -16,16 +18,7 @@ const TRIES: u64 = u64::MAX;
 #[tactic(auto, using(crate::proofs::KnownLemmas::on_known))]
 pub(crate) fn read_retrying<R: Read>(reader: &mut R, buf: &mut [u8]) -> Result<usize, DeviceFailed>
     ensures bound { IfOk result (λ n. n ≤ length buf.new) }
-    ensures known { IsTrue (is_known (R.remaining reader.old))
-        → IsTrue (is_known (R.remaining reader.new)) }
-    ensures bytes { IsTrue (is_known (R.remaining reader.old)) → IfOk result (λ n.
-        known_bytes (R.remaining reader.old) ≡ take n buf.new
-        ++ known_bytes (R.remaining reader.new)) }
-    ensures end { IfOk result
-        (λ n. n ≡ 0 → 0 < length buf.old → known_bytes (R.remaining reader.new) ≡ []) }
-    ensures err { IsTrue (is_known (R.remaining reader.old))
-        → OnErr result (known_bytes (R.remaining reader.new)
-        ≡ known_bytes (R.remaining reader.old)) }
+    ensures reader { ReadConsumes (R.remaining reader.old) (R.remaining reader.new) result buf.new }
 {
     for _ in 0..TRIES {
         match reader.read(buf) {
@@ -38,17 +31,16 @@ pub(crate) fn read_retrying<R: Read>(reader: &mut R, buf: &mut [u8]) -> Result<u
 }
 
 // One write, made anew where a signal interrupts it. One that takes nothing is a failure.
-#[tactic(auto, using(crate::proofs::KnownLemmas::on_known))]
-pub(crate) fn write_retrying<W: Write>(writer: &mut W, bytes: &[u8]) -> Result<usize, DeviceFailed>
+#[tactic(auto, using(crate::proofs::KnownLemmas::on_known, crate::proofs::NotesLemmas::on_notes))]
+pub(crate) fn write_retrying<W: Write>(
+    writer: &mut Recorded<W>,
+    bytes: &[u8],
+) -> Result<usize, DeviceFailed>
     ensures bound { IfOk result (λ n. n ≤ length bytes.now) }
     ensures some { IfOk result (λ n. 0 < n) }
-    ensures known { IsTrue (is_known (W.contents writer.old))
-        → IsTrue (is_known (W.contents writer.new)) }
-    ensures bytes { IsTrue (is_known (W.contents writer.old)) → IfOk result (λ n.
-        known_bytes (W.contents writer.new) ≡ known_bytes (W.contents writer.old)
-        ++ take n bytes.now) }
-    ensures err { IsTrue (is_known (W.contents writer.old))
-        → OnErr result (known_bytes (W.contents writer.new) ≡ known_bytes (W.contents writer.old)) }
+    ensures bytes { IfOk result (λ n. took writer.new ≡ took writer.old ++ take n bytes.now) }
+    ensures err { OnErr result (took writer.new ≡ took writer.old) }
+    ensures writer { Notes W.contents writer.old writer.new }
 {
     for _ in 0..TRIES {
         match writer.write(bytes) {
@@ -62,12 +54,10 @@ pub(crate) fn write_retrying<W: Write>(writer: &mut W, bytes: &[u8]) -> Result<u
 }
 
 // The writer's flush, made anew where a signal interrupts it.
-#[tactic(auto, using(crate::proofs::KnownLemmas::on_known))]
-pub(crate) fn flush_retrying<W: Write>(writer: &mut W) -> Result<(), DeviceFailed>
-    ensures known { IsTrue (is_known (W.contents writer.old))
-        → IsTrue (is_known (W.contents writer.new)) }
-    ensures bytes { IsTrue (is_known (W.contents writer.old))
-        → known_bytes (W.contents writer.new) ≡ known_bytes (W.contents writer.old) }
+#[tactic(auto, using(crate::proofs::KnownLemmas::on_known, crate::proofs::NotesLemmas::on_notes))]
+pub(crate) fn flush_retrying<W: Write>(writer: &mut Recorded<W>) -> Result<(), DeviceFailed>
+    ensures bytes { took writer.new ≡ took writer.old }
+    ensures writer { Notes W.contents writer.old writer.new }
 {
     for _ in 0..TRIES {
         match writer.flush() {

@@ -1,21 +1,22 @@
 //! A source of the tests, which fails as they ask.
 
-ghost use Rattle.std.specs.Prelude.{◌≡◌, false, length, true};
-ghost use Rattle.line_config.specs.declared.device.Last.TheVariants.{End};
+ghost use Rattle.std.specs.Prelude.{◌≡◌, nat_lt, if◌then◌else◌, false, length, take, true, IsTrue};
+ghost use Rattle.line_config.specs.declared.device.Last.TheVariants.{End, Failed};
 
 use line_config::{DeviceFailed, Source};
 
-/// A source over a slice that fails at one of its calls. It tells its bytes, but not that call.
+/// A source over a slice that fails after so many bytes, where there are as many.
 #[derive(Drop)]
 pub struct Faltering<'a> {
     bytes: &'a [u8],
     calls_left: usize,
     failed: bool,
     asked_again: bool,
+    pub ghost spent: { IsTrue failed → calls_left ≡ 0 },
 }
 
 impl<'a> Faltering<'a> {
-    /// A source whose call with this number fails, counted from 0.
+    /// A source whose call with this number fails, counted from 0, unless the bytes end before it.
     pub fn failing_at(bytes: &'a [u8], call: usize) -> Self
         ensures { (⟦<Faltering<'a> as Source>⟧.feed result).failed ≡ false }
     {
@@ -41,9 +42,8 @@ impl<'a> Faltering<'a> {
 impl Source for Faltering<'_> {
     ghost feed = { λ s. record {
       told = true;
-      steady = false;
-      coming = s.bytes.now;
-      last = End;
+      coming = take s.calls_left s.bytes.now;
+      last = if nat_lt (length s.bytes.now) s.calls_left then End else Failed;
       bound = length s.bytes.now;
       failed = s.failed;
     } };
@@ -54,10 +54,10 @@ impl Source for Faltering<'_> {
             self.failed = true;
             return Err(DeviceFailed);
         }
-        self.calls_left -= 1;
         let Some((first, rest)) = self.bytes.split_first() else {
             return Ok(None);
         };
+        self.calls_left -= 1;
         self.bytes = rest;
         Ok(Some(*first))
     }

@@ -97,9 +97,7 @@ impl Tray {
 }
 
 impl Sink for Tray {
-    ghost use Rattle.std.specs.Prelude.{true, take};
-
-    ghost told = { λ _. true };
+    ghost use Rattle.std.specs.Prelude.{take};
 
     ghost held = { λ s. take s.len s.bytes };
 

@@ -1,12 +1,15 @@
 //! The devices over memory, and over readers and writers that give and take in pieces, are interrupted, or fail. The rows
 //! begin with the turns of the reader or the writer, a word for each call.
 
-use line_config::{DeviceFailed, ReadSource, Sink, SliceSource, Source, VecSink, WriteSink};
+use line_config::{
+    DeviceFailed, ReadSource, Recorded, Sink, SliceSource, Source, VecSink, WriteSink,
+};
 use stand_ins::devices::{Pieces, Taker, Turns};
 use stand_ins::rows::{Player, rows_hold};
 use stand_ins::tables::{or_nothing, pictured_bytes};
 use std::alloc::{AllocError, Global};
 use std::cell::Cell;
+use std::io::Write;
 use std::test::Fail;
 
 /// Takes what a source gives to its end or its failure, and answers whether it was the end.
@@ -30,12 +33,12 @@ fn ends_for_good<S: Source>(source: &mut S, at_end: bool) -> Result<(), Fail> {
     Ok(())
 }
 
-/// The same, of a source that counts its calls; a failed one asks no more.
+/// The same, of a source that counts its calls. After its end or its failure it asks no more.
 fn stays_ended<S: Source>(source: &mut S, at_end: bool, calls: &Cell<usize>) -> Result<(), Fail> {
     let asked = calls.get();
     ends_for_good(source, at_end)?;
-    if !at_end && calls.get() != asked {
-        return Err(Fail::new("a failed source asks once more"));
+    if calls.get() != asked {
+        return Err(Fail::new("a source that has ended asks once more"));
     }
     Ok(())
 }
@@ -403,4 +406,25 @@ fn writes_that_take_a_part_or_fail(rt: HostRuntime) -> Result<(), Fail> {
         1000 | broken = abcd, nothing, failed
         ";
     rows_hold(rt.alloc(), &mut Ask::Written, rows)
+}
+
+/// What a writer that is recorded took of `abcd` in one call, and how many bytes it answered.
+fn recorded(alloc: Global, calls: &Calls) -> Result<(Vec<u8>, usize), Fail> {
+    let mut writer = Recorded::new(Taker {
+        taken: Vec::new(alloc),
+        turns: Turns::new("3", &calls.writes),
+        flushes: Turns::new("", &calls.flushes),
+    });
+    let count = writer.write(b"abcd")?;
+    writer.flush()?;
+    Ok((writer.into_inner().taken, count))
+}
+
+/// Each call is one call of the writer below.
+#[test]
+fn a_recorded_writer(rt: HostRuntime) -> Result<(), Fail> {
+    let calls = Calls::none();
+    let (taken, count) = recorded(rt.alloc(), &calls)?;
+    assert!(rt; taken.as_slice() == b"abc".as_slice() && count == 3 && calls.counts() == (1, 1));
+    Ok(())
 }

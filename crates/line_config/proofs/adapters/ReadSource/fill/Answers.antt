@@ -17,5 +17,5 @@ returns-else-is_empty-clause-told g c =
     let few : s.count ≤ 2 ^ 63 - 256 = grind (arith, common_steps) in
     let fits : length bytes ≤ 256 = omega (arith, w.ordered, w.within, length-take {A = ℕ}, length-drop {A = ℕ}) in
     let some : bytes ≡ [] → ⊥ = λ e. grind (arith, common_steps) in
-    fills_from g.K.Keys.bytes g.K.Keys.last s.log.bytes (bytes_in s.unread) bytes c.note.new.self.bytes s.met s.count (s.count + length c.as_slice-in-Ok.result.now) s.failed
+    fills_from g.K.Foretold.bytes g.K.Foretold.last s.log.bytes (bytes_in s.unread) bytes c.note.new.self.bytes s.met s.count (s.count + length c.as_slice-in-Ok.result.now) s.failed
     c.requires unmet noted some (omega (arith, len, few, fits))

@@ -1,6 +1,7 @@
 -- The bytes gathered in one turn go from the front of the rest to the end of what was taken.
 use Rattle.std.proofs.Common.{◌≡◌, ◌++◌, ◌∙◌, ℕ, List, sym, ap, take, drop, take-append-drop, append_assoc}
 use Rattle.std.proofs.lemmas.List.{take_rest}
+use Rattle.line_config.proofs.NotesLemmas.{notes_then}
 use Rattle.line_config.proofs.adapters.WriteSink.gather_all.Goals as goal
 
 pub loop-rest-preserved : goal.loop-rest-preserved
@@ -13,8 +14,6 @@ loop-rest-preserved g c =
     rw (take_rest rest n) (
       so_far.0 ++ take n rest,
       so_far.1 ∙ parts,
-      λ known. (
-        (c.in_ok-count.ensures.ok (so_far.2 known).0).0,
-        (c.in_ok-count.ensures.ok (so_far.2 known).0).1 ∙ ap (λ (t : List ℕ). t ++ take n rest) (so_far.2 known).1 ∙ append_assoc _ so_far.0 (take n rest),
-      ),
+      c.in_ok-count.ensures.ok ∙ ap (λ (t : List ℕ). t ++ take n rest) so_far.2 ∙ append_assoc _ so_far.0 (take n rest),
+      notes_then _ _ _ _ so_far.3 c.in_ok-count.ensures.writer,
     )

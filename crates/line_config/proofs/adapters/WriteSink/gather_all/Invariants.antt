@@ -1,13 +1,13 @@
 -- A beginning of the bytes was taken, and the rest of them is still to be.
-use Rattle.std.proofs.Common.{◌≡◌, ◌++◌, List, ℕ, IsTrue, length}
-use Rattle.line_config.specs.Adapters.{sink_told, sink_held}
+use Rattle.std.proofs.Common.{◌≡◌, ◌++◌, List, ℕ, length}
+use Rattle.line_config.specs.Adapters.{recorded_of, taken}
+use Rattle.line_config.specs.Recorded.{Notes}
 use Rattle.line_config.proofs.adapters.WriteSink.gather_all.Given as goal
 
 abbrev pub invariant-loop-rest : goal.invariant-loop-rest
 invariant-loop-rest g l =
-    let contents = g.W.Write.contents in
-    (taken : List ℕ) × (l.bytes ≡ taken ++ l.rest) × (IsTrue (sink_told contents l.fn.self)
-    → IsTrue (sink_told contents l.self) × (sink_held contents l.self ≡ sink_held contents l.fn.self ++ taken))
+    (done : List ℕ) × (l.bytes ≡ done ++ l.rest) × (taken l.self ≡ taken l.fn.self ++ done)
+    × Notes g.W.Write.contents (recorded_of l.fn.self) (recorded_of l.self)
 
 abbrev pub decreases-loop-rest : goal.decreases-loop-rest
 decreases-loop-rest g l = length l.rest

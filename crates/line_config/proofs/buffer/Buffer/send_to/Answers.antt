@@ -3,17 +3,17 @@ use Rattle.std.proofs.Common.{◌≤◌, ◌+◌, ℕ, arith, length, take-appen
 use Rattle.std.proofs.lemmas.List.{length-take, length-drop}
 use Rattle.line_config.specs.Buffer.{bytes_in}
 use Rattle.line_config.proofs.BufferLemmas.{slice_range-later}
+use Rattle.line_config.proofs.NotesLemmas.{notes_then}
 use Rattle.line_config.proofs.buffer.Buffer.send_to.Goals as goal
 
 pub loop-self-preserved : goal.loop-self-preserved
-loop-self-preserved g c known =
+loop-self-preserved g c =
     let w = c.loop-self.self in
     let n = c.in_ok-count.count in
     let all = bytes_in w in
     let bound : n ≤ length all = rw (← c.as_slice.ensures) c.in_ok-count.ensures.bound in
     let inside : w.start + n ≤ w.end = omega (arith, bound, length-take {A = ℕ}, length-drop {A = ℕ}) in
-    let so_far = c.loop-self.invariant known in
-    let sent = rw c.as_slice.ensures at (c.in_ok-count.ensures.bytes so_far.0) in (
-      c.in_ok-count.ensures.known so_far.0,
-      rw (slice_range-later w.bytes w.start w.end n inside, sent, append_assoc, take-append-drop) so_far.1,
+    let sent = rw c.as_slice.ensures at c.in_ok-count.ensures.bytes in (
+      rw (slice_range-later w.bytes w.start w.end n inside, sent, append_assoc, take-append-drop) c.loop-self.invariant.0,
+      notes_then _ _ _ _ c.loop-self.invariant.1 c.in_ok-count.ensures.writer,
     )

@@ -3,7 +3,7 @@ use Rattle.std.proofs.Common.{sym, take, drop, take-append-drop, rules}
 use Rattle.stand_ins.proofs.tray.TraySink.write.Goals as goal
 
 pub returns-then-self-2-clause-begins : goal.returns-then-self-2-clause-begins
-returns-then-self-2-clause-begins c = λ told.
+returns-then-self-2-clause-begins c =
     let n = c.put-count.result in
     record {
       taken = take n c.args.bytes.now;
