@@ -1,7 +1,7 @@
 //! Devices that fail at each byte in turn, and what a history is then.
 
 use crate::history::{add_line, add_lines, answer_told, entries, with_lines};
-use line_config::{Config, DeviceFailed, ReadlineError, Sink, SliceSource, Source, VecSink};
+use line_config::{Config, DeviceFailed, Log, ReadlineError, Sink, SliceSource, Source, VecSink};
 use line_help::{FileHistory, History};
 use stand_ins::rows::{Player, rows_hold};
 use stand_ins::tables::{meant_bytes, or_nothing, pictured_bytes, word_and_rest};
@@ -12,6 +12,7 @@ use std::test::Fail;
 #[derive(Drop)]
 struct Narrow {
     room: usize,
+    taken: Log,
     failed: bool,
 }
 
@@ -21,11 +22,13 @@ impl Narrow {
     fn new(room: usize) -> Self {
         Narrow {
             room,
+            taken: Log::new(),
             failed: false,
         }
     }
 
     fn take(&mut self, count: usize) -> Result<(), DeviceFailed>
+        ensures taken { self.new.taken ≡ self.old.taken }
         ensures failure { self.new.failed ≡ is_err result }
         ensures for_good { IsTrue self.old.failed → IsErr result }
     {
@@ -39,16 +42,14 @@ impl Narrow {
 }
 
 impl Sink for Narrow {
-    ghost use Rattle.std.specs.Prelude.{false, []};
-
-    ghost told = { λ s. false };
-
-    ghost held = { λ s. [] };
+    ghost held = { λ s. s.taken.bytes };
 
     ghost has_failed = { λ s. s.failed };
 
     fn write(&mut self, bytes: &[u8]) -> Result<(), DeviceFailed> {
-        self.take(bytes.len())
+        self.take(bytes.len())?;
+        self.taken.note(bytes);
+        Ok(())
     }
 
     fn flush(&mut self) -> Result<(), DeviceFailed> {
@@ -64,6 +65,7 @@ impl Sink for Narrow {
 #[derive(Drop)]
 struct Barred {
     written: Vec<u8>,
+    taken: Log,
     failed: bool,
 }
 
@@ -73,11 +75,13 @@ impl Barred {
     fn new(alloc: Global) -> Self {
         Barred {
             written: Vec::new(alloc),
+            taken: Log::new(),
             failed: false,
         }
     }
 
     fn keep(&mut self, bytes: &[u8]) -> Result<(), DeviceFailed>
+        ensures taken { self.new.taken ≡ self.old.taken }
         ensures failure { self.new.failed ≡ is_err result }
         ensures for_good { IsTrue self.old.failed → IsErr result }
     {
@@ -90,16 +94,14 @@ impl Barred {
 }
 
 impl Sink for Barred {
-    ghost use Rattle.std.specs.Prelude.{false, []};
-
-    ghost told = { λ s. false };
-
-    ghost held = { λ s. [] };
+    ghost held = { λ s. s.taken.bytes };
 
     ghost has_failed = { λ s. s.failed };
 
     fn write(&mut self, bytes: &[u8]) -> Result<(), DeviceFailed> {
-        self.keep(bytes)
+        self.keep(bytes)?;
+        self.taken.note(bytes);
+        Ok(())
     }
 
     fn flush(&mut self) -> Result<(), DeviceFailed> {

@@ -1,12 +1,10 @@
 -- Rows of a text: a row up to its newline, the last row, a row that a failure cuts off.
 use Rattle.std.proofs.Common.{◌≡◌, ◌≢◌, ℕ, suc, ◌-◌, ◌<◌, Bool, true, false, List, [], ◌∷◌, ◌++◌, length, take, refl, sym, ap, ◌∙◌, append_assoc, get_or, arith}
-use Rattle.std.specs.Prelude.{if◌then◌else◌, ◌||◌, ◌&&◌, ◌==◌, not, Err}
+use Rattle.std.specs.Prelude.{if◌then◌else◌, ◌||◌, ◌&&◌, ◌==◌, not}
 use Rattle.std.specs.List.{list_any}
 use Rattle.std.specs.Str.{is_utf8}
 use Rattle.std.proofs.lemmas.List.{append-nil}
 use Rattle.std.proofs.lemmas.Bool.{eq-eqb, ne_eqb}
-use Rattle.line_config.specs.Device.{front_of}
-use Rattle.line_config.specs.declared.device.DeviceFailed.{DeviceFailed}
 use Rattle.line_config.specs.declared.device.Last.{Last}
 use Rattle.line_config.specs.declared.device.Last.TheVariants.{End, Failed}
 use Rattle.line_help.specs.HistoryText.{text_rows, onto, without_return, begins_with_newline, GoodUpTo, ReadsGood}
@@ -121,12 +119,6 @@ none_read coming = record { read = []; split = refl; good = refl }
 
 pub last_reads : (xs : List ℕ) → has_newline xs ≡ false → GoodUpTo xs []
 last_reads xs none later r = record { read = xs; split = rw (nothing_behind r.read later r.split, append-nil) refl; good = rw (cut_off xs none) refl }
-
--- a steady source fails where nothing is to come
-pub failed_at : (bytes : List ℕ) (last : Last) (e : DeviceFailed) → Err e ≡ front_of bytes last → (bytes ≡ []) × (last ≡ Failed)
-failed_at (b ∷ bs) last e h = cc
-failed_at [] End e h = cc
-failed_at [] Failed e h = (refl, refl)
 
 pub at_end : (row : List ℕ) (empty : Bool) → has_newline row ≡ false → empty ≡ (length row == 0) → text_rows End row ≡ (if not empty then row ∷ [] else [])
 at_end [] empty none h = rw h refl

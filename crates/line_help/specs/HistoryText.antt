@@ -152,13 +152,10 @@ pub record AddsSome (texts : List (List ℕ)) (before after : Filed) : Type 0 wh
   pub split : texts ≡ taken ++ rest
   pub held : after ≡ filed_with_all before taken
 
--- whether such a result follows from the text alone: want of memory doesn't, nor the failure of a
--- source that can't tell where it fails
-abbrev pub follows : Bool → Result Bool ReadlineError → Bool
-follows steady (Ok whole) = true
-follows steady (Err HistoryText) = true
-follows steady (Err Reader) = steady
-follows steady (Err why) = false
+-- whether such a result follows from the text alone: want of memory doesn't
+abbrev pub follows : Result Bool ReadlineError → Bool
+follows (Err Memory) = false
+follows result = true
 
 -- whether a result says that the source failed
 abbrev pub says_reader : Result Bool ReadlineError → Bool

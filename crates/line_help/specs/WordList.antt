@@ -1,5 +1,5 @@
 -- Words of a text, one a row.
-use Rattle.std.specs.Prelude.{◌≡◌, true, false, if◌then◌else◌, IsTrue, List, ℕ, map, Result, IfOk, IfErr, String, string_bytes}
+use Rattle.std.specs.Prelude.{◌≡◌, true, false, if◌then◌else◌, List, ℕ, map, Result, IfOk, IfErr, String, string_bytes}
 use Rattle.std.specs.Str.{is_utf8}
 use Rattle.std.specs.Global.{Global, Vec}
 use Rattle.line_config.specs.Feed.{Feed}
@@ -18,7 +18,7 @@ rows_to_come text = text_rows text.last text.coming
 -- why a text of which this is left gives no words
 abbrev pub IsWordFault : Feed → Feed → ReadlineError → Type 0
 IsWordFault text left NotUtf8 = has_bad_row (rows_to_come text) ≡ true
-IsWordFault text left Reader = IsTrue text.steady → text.last ≡ Failed
+IsWordFault text left Reader = text.last ≡ Failed
 IsWordFault text left Memory = ReadsGood text.coming left.coming
 IsWordFault text left why = ⊥
 

@@ -9,7 +9,7 @@ use std::alloc::{AllocError, Global};
 
 /// Writes some bytes of a history's text.
 pub(crate) fn put<S: Sink>(sink: &mut S, bytes: &[u8]) -> Result<(), ReadlineError>
-    ensures sends { Sends S.told S.held S.has_failed bytes.now sink.old sink.new result }
+    ensures sends { Sends S.held S.has_failed bytes.now sink.old sink.new result }
     ensures fault { IfErr result (λ e. e ≡ HistoryText) }
 {
     sink.write(bytes).map_err(|_| ReadlineError::HistoryText)
@@ -17,7 +17,7 @@ pub(crate) fn put<S: Sink>(sink: &mut S, bytes: &[u8]) -> Result<(), ReadlineErr
 
 /// Passes on what was written.
 pub(crate) fn pass_on<S: Sink>(sink: &mut S) -> Result<(), ReadlineError>
-    ensures sends { Sends S.told S.held S.has_failed [] sink.old sink.new result }
+    ensures sends { Sends S.held S.has_failed [] sink.old sink.new result }
     ensures fault { IfErr result (λ e. e ≡ HistoryText) }
 {
     sink.flush().map_err(|_| ReadlineError::HistoryText)
@@ -25,7 +25,7 @@ pub(crate) fn pass_on<S: Sink>(sink: &mut S) -> Result<(), ReadlineError>
 
 /// Writes a byte of an entry: a newline and a backslash as two.
 fn put_escaped<S: Sink>(sink: &mut S, byte: u8) -> Result<(), ReadlineError>
-    ensures sends { Sends S.told S.held S.has_failed (escaped_byte byte) sink.old sink.new result }
+    ensures sends { Sends S.held S.has_failed (escaped_byte byte) sink.old sink.new result }
     ensures fault { IfErr result (λ e. e ≡ HistoryText) }
 {
     match byte {
@@ -37,7 +37,7 @@ fn put_escaped<S: Sink>(sink: &mut S, byte: u8) -> Result<(), ReadlineError>
 
 /// Writes an entry as a row, which a newline closes.
 pub(crate) fn write_row<S: Sink>(sink: &mut S, entry: &str) -> Result<(), ReadlineError>
-    ensures sends { Sends S.told S.held S.has_failed (row_of entry.now) sink.old sink.new result }
+    ensures sends { Sends S.held S.has_failed (row_of entry.now) sink.old sink.new result }
     ensures fault { IfErr result (λ e. e ≡ HistoryText) }
 {
     let bytes = entry.as_bytes();

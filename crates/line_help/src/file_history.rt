@@ -79,7 +79,7 @@ impl FileHistory {
 
     /// Writes the rows of the entries from the first one on, and passes on what was written.
     fn write_rows<S: Sink>(&self, sink: &mut S, first: usize) -> Result<(), ReadlineError>
-        ensures sends { Sends S.told S.held S.has_failed
+        ensures sends { Sends S.held S.has_failed
             (rows_text (drop first self.now.kept.entries)) sink.old sink.new result }
         ensures fault { IfErr result (λ e. e ≡ HistoryText) }
     {
@@ -92,8 +92,7 @@ impl FileHistory {
     /// Writes the whole text of the history, where an entry is new. Then none is new. Where the
     /// sink fails the history stays as it is, and the sink has taken a beginning of the text.
     pub fn save_to<S: Sink>(&mut self, sink: &mut S) -> Result<(), ReadlineError>
-        ensures sends { Sends S.told S.held S.has_failed (text_to_save self.old) sink.old sink.new
-            result }
+        ensures sends { Sends S.held S.has_failed (text_to_save self.old) sink.old sink.new result }
         ensures saved { OnOk result (self.new ≡ all_saved self.old) }
         ensures kept { OnErr result (self.new ≡ self.old) }
         ensures fault { IfErr result (λ e. e ≡ HistoryText) }
@@ -111,8 +110,7 @@ impl FileHistory {
     /// before. Then none is new. Where the sink fails the history stays as it is, and the sink has
     /// taken a beginning of the rows.
     pub fn append_to<S: Sink>(&mut self, sink: &mut S) -> Result<(), ReadlineError>
-        ensures sends { Sends S.told S.held S.has_failed (text_to_append self.old) sink.old sink.new
-            result }
+        ensures sends { Sends S.held S.has_failed (text_to_append self.old) sink.old sink.new result }
         ensures saved { OnOk result (self.new ≡ all_saved self.old) }
         ensures kept { OnErr result (self.new ≡ self.old) }
         ensures fault { IfErr result (λ e. e ≡ HistoryText) }
@@ -304,12 +302,12 @@ impl FileHistory {
         escapes: bool,
     ) -> Result<bool, ReadlineError>
         ensures answer { IsTrue (S.feed source.new).told
-            → IsTrue (follows true result)
+            → IsTrue (follows result)
             → let rows = text_rows (S.feed source.old).last (S.feed source.old).coming in
             result ≡ rows_answer (S.feed source.old).last rows
             (takes_all self.old (entries_of escapes (good_rows rows))) }
         ensures left { IsTrue (S.feed source.new).told
-            → IsTrue (follows true result)
+            → IsTrue (follows result)
             → self.new ≡ filed_with_all self.old
             (entries_of escapes (good_rows
             (text_rows (S.feed source.old).last (S.feed source.old).coming))) }
@@ -317,7 +315,7 @@ impl FileHistory {
             → AddsSome (entries_of escapes
             (good_rows (text_rows (S.feed source.old).last (S.feed source.old).coming))) self.old
             self.new }
-        ensures memory { IsTrue (S.feed source.old).told → result ≡ Err Memory
+        ensures memory { IsTrue (S.feed source.new).told → result ≡ Err Memory
             → ReadsGood (S.feed source.old).coming (S.feed source.new).coming }
         ensures fault { IfErr result (λ e. (e ≡ Memory) ⊎ ((e ≡ HistoryText) ⊎ (e ≡ Reader))) }
         ensures failure { (S.feed source.new).failed ≡ says_reader result }
@@ -345,18 +343,18 @@ impl FileHistory {
         source: &mut S,
     ) -> Result<bool, ReadlineError>
         ensures answer { IsTrue (S.feed source.new).told
-            → IsTrue (follows true result)
+            → IsTrue (follows result)
             → result ≡ load_answer (S.feed source.old).last
             (text_rows (S.feed source.old).last (S.feed source.old).coming) self.old }
         ensures left { IsTrue (S.feed source.new).told
-            → IsTrue (follows true result)
+            → IsTrue (follows result)
             → self.new ≡ load_leaves (S.feed source.old).last
             (text_rows (S.feed source.old).last (S.feed source.old).coming) self.old }
         ensures part { IsTrue (S.feed source.new).told
             → OnErr result (AddsSome (texts_of
             (good_rows (text_rows (S.feed source.old).last (S.feed source.old).coming))) self.old
             self.new) }
-        ensures memory { IsTrue (S.feed source.old).told → result ≡ Err Memory
+        ensures memory { IsTrue (S.feed source.new).told → result ≡ Err Memory
             → ReadsGood (S.feed source.old).coming (S.feed source.new).coming }
         ensures fault { IfErr result (λ e. (e ≡ Memory) ⊎ ((e ≡ HistoryText) ⊎ (e ≡ Reader))) }
         ensures failure { (S.feed source.new).failed ≡ says_reader result }

@@ -50,10 +50,10 @@ pub(crate) fn read_row<S: Source>(source: &mut S, row: &mut Vec<u8>) -> Result<b
     ensures cut { IsTrue (S.feed source.new).told → result ≡ Err Reader
         → ((S.feed source.old).last ≡ Failed)
         × (text_rows (S.feed source.old).last (S.feed source.old).coming ≡ []) }
-    ensures good { IsTrue (S.feed source.old).told → result ≡ Ok true
+    ensures good { IsTrue (S.feed source.new).told → result ≡ Ok true
         → is_utf8 row.new.items ≡ true
         → GoodUpTo (S.feed source.old).coming (S.feed source.new).coming }
-    ensures memory { IsTrue (S.feed source.old).told → result ≡ Err Memory
+    ensures memory { IsTrue (S.feed source.new).told → result ≡ Err Memory
         → ReadsGood (S.feed source.old).coming (S.feed source.new).coming }
     ensures fault { IfErr result (λ e. (e ≡ Memory) ⊎ (e ≡ Reader)) }
     ensures failure { (S.feed source.new).failed ≡ says_reader result }

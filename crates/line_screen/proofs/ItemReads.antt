@@ -1,5 +1,5 @@
 -- What a call of the reader makes of its items.
-use Rattle.std.proofs.Common.{◌≡◌, ℕ, true, List, inl, inr, Result, Ok, Err, IfOk, IfErr, refl, sym, ap, ◌∙◌}
+use Rattle.std.proofs.Common.{◌≡◌, ℕ, List, inl, inr, Result, Ok, Err, IfOk, IfErr, refl, sym, ap, ◌∙◌}
 use Rattle.line_config.specs.declared.errors.ReadlineError.{ReadlineError}
 use Rattle.line_config.specs.declared.errors.ReadlineError.TheVariants.{Eof, NotUtf8, PasteOutOfPlace, Reader, Memory}
 use Rattle.line_config.specs.Feed.{Feed}
@@ -14,12 +14,12 @@ use Rattle.line_screen.specs.declared.reading.reader.KeyReader.{KeyReader}
 
 -- a refusal that the input gives
 as_given : {X : Type 0} (item : InputItem) (at : Coming → Result X ReadlineError) (c c' : Coming) (e : ReadlineError)
-    → c' ≡ left_by e → Err e ≡ at c → ReadAs item true (at c) (behind c) (Err e) c'
+    → c' ≡ left_by e → Err e ≡ at c → ReadAs item (at c) (behind c) (Err e) c'
 as_given item at c c' e err met = inl (met, err ∙ ap (λ r. left r (behind c)) met)
 
 key_as : (c c' : Coming) (r : Result KeyEvent ReadlineError) → (Met r → r ≡ key_at c)
     → IfOk r (λ k. c ≡ Pressed k c') → IfErr r (λ e. c' ≡ left_by e) → IfErr r (λ e. e ≡ Memory → c ≡ Refused Memory)
-    → IfErr r IsReaderRefusal → ReadAs Key true (key_at c) (behind c) r c'
+    → IfErr r IsReaderRefusal → ReadAs Key (key_at c) (behind c) r c'
 key_as c c' (Ok k) met ok err memory kind = inl (met tt, rw ok refl)
 key_as c c' (Err Reader) met ok err memory kind = as_given Key key_at c c' Reader err (met refl)
 key_as c c' (Err Eof) met ok err memory kind = as_given Key key_at c c' Eof err (met refl)
@@ -30,7 +30,7 @@ key_as c c' (Err _) met ok err memory kind = absurd kind
 
 text_as : (c c' : Coming) (r : Result (List ℕ) ReadlineError) → (Met r → r ≡ paste_at c)
     → IfOk r (λ t. c ≡ Pasted t c') → IfErr r (λ e. c' ≡ left_by e) → IfErr r IsReaderRefusal
-    → ReadAs Paste true (paste_at c) (behind c) r c'
+    → ReadAs Paste (paste_at c) (behind c) r c'
 text_as c c' (Ok t) met ok err kind = inl (met tt, rw ok refl)
 text_as c c' (Err Reader) met ok err kind = as_given Paste paste_at c c' Reader err (met refl)
 text_as c c' (Err Eof) met ok err kind = as_given Paste paste_at c c' Eof err (met refl)
@@ -45,7 +45,6 @@ key_reads feed old new r call memory =
     record {
       taken = λ t. key_as (items_of feed old).coming (items_of feed new).coming r (call.answer t) (call.ok t) (call.err t) memory call.refused;
       told = call.told;
-      steady = refl;
       keeps = call.keeps;
       falls = call.falls;
       refused = call.refused;
@@ -58,7 +57,6 @@ text_reads feed old new r call =
     record {
       taken = λ t. text_as (items_of feed old).coming (items_of feed new).coming r (call.answer t) (call.ok t) (call.err t) call.refused;
       told = call.told;
-      steady = refl;
       keeps = call.keeps;
       falls = call.falls;
       refused = call.refused;

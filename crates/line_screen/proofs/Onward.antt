@@ -223,8 +223,8 @@ module _ {S : Type 0} (feed : S → Feed) (d : List ℕ → Last → Readings) w
         on_reads d' a m b (Err e) on
         (record {
           ok = λ t. tt;
-          answer = λ t h. sym (refuses (sym (char.answer t h)));
-          left = λ t h. leaves (sym (char.answer t h)) ∙ char.left t h;
+          answer = λ t h. sym (refuses (sym (char.answer t)));
+          left = λ t h. leaves (sym (char.answer t)) ∙ char.left t;
           spent = λ t h. spent t (ap no_char (same_refusal e Eof h));
           ends = λ t h. ends t (ap no_char (same_refusal e Eof h));
           owed = owed ∙ on.owed;

@@ -65,56 +65,56 @@ col_after_run columns letters col low room = (run_of columns letters col low roo
 
 -- ---- a loop that sends items: what is sent, and what is left
 
-pub record SoFar {D : Type 0} (told : D → Bool) (held : D → List ℕ) (failed : D → Bool) (columns start : ℕ) (all left : List DrawnItem) (old new : D) (col : ℕ) : Type 0 where
-  pub sending : Underway told held failed (sent columns all start) (sent columns left col) old new
+pub record SoFar {D : Type 0} (held : D → List ℕ) (failed : D → Bool) (columns start : ℕ) (all left : List DrawnItem) (old new : D) (col : ℕ) : Type 0 where
+  pub sending : Underway held failed (sent columns all start) (sent columns left col) old new
   pub column : col_after columns left col ≡ col_after columns all start
   pub inside : col < columns
 
-module _ {D : Type 0} (told : D → Bool) (held : D → List ℕ) (failed : D → Bool) (columns start : ℕ) where
-  pub so_far_start : (all : List DrawnItem) (s : D) → start < columns → SoFar told held failed columns start all all s s start
-  so_far_start all s h = record { sending = underway_start told held failed (sent columns all start) s; column = refl; inside = h }
+module _ {D : Type 0} (held : D → List ℕ) (failed : D → Bool) (columns start : ℕ) where
+  pub so_far_start : (all : List DrawnItem) (s : D) → start < columns → SoFar held failed columns start all all s s start
+  so_far_start all s h = record { sending = underway_start held failed (sent columns all start) s; column = refl; inside = h }
 
   -- these items are next, and the others are left then
-  next_items : (all items left before : List DrawnItem) (old new : D) (col next : ℕ) → SoFar told held failed columns start all before old new col → before ≡ items ++ left → next ≡ col_after columns items col
-      → Underway told held failed (sent columns all start) (sent columns items col ++ sent columns left next) old new
+  next_items : (all items left before : List DrawnItem) (old new : D) (col next : ℕ) → SoFar held failed columns start all before old new col → before ≡ items ++ left → next ≡ col_after columns items col
+      → Underway held failed (sent columns all start) (sent columns items col ++ sent columns left next) old new
   next_items all items left before old new col next h split next_is =
-      let Rest : List ℕ → Type 0 = λ rest. Underway told held failed (sent columns all start) rest old new in
+      let Rest : List ℕ → Type 0 = λ rest. Underway held failed (sent columns all start) rest old new in
       subst Rest (ap (λ is. sent columns is col) split ∙ sent-append columns items left col ∙ ap (λ n. sent columns items col ++ sent columns left n) (sym next_is)) h.sending
 
-  pub so_far_steps : (all items left before : List DrawnItem) (old new newer : D) (col next : ℕ) → SoFar told held failed columns start all before old new col → before ≡ items ++ left
-      → Takes told held new newer (sent columns items col) → failed newer ≡ failed new → next ≡ col_after columns items col → next < columns
-      → SoFar told held failed columns start all left old newer next
+  pub so_far_steps : (all items left before : List DrawnItem) (old new newer : D) (col next : ℕ) → SoFar held failed columns start all before old new col → before ≡ items ++ left
+      → Takes held new newer (sent columns items col) → failed newer ≡ failed new → next ≡ col_after columns items col → next < columns
+      → SoFar held failed columns start all left old newer next
   so_far_steps all items left before old new newer col next h split sent_more works next_is inside = record {
-    sending = underway_on told held failed (sent columns all start) (sent columns items col) (sent columns left next) (next_items all items left before old new col next h split next_is) sent_more works;
+    sending = underway_on held failed (sent columns all start) (sent columns items col) (sent columns left next) (next_items all items left before old new col next h split next_is) sent_more works;
     column = ap (col_after columns left) next_is ∙ sym (col_after-append columns items left col) ∙ ap (λ is. col_after columns is col) (sym split) ∙ h.column;
     inside = inside;
   }
 
-  pub so_far_end : (all left : List DrawnItem) (old new : D) (col : ℕ) → SoFar told held failed columns start all left old new col → left ≡ [] → Takes told held old new (sent columns all start)
+  pub so_far_end : (all left : List DrawnItem) (old new : D) (col : ℕ) → SoFar held failed columns start all left old new col → left ≡ [] → Takes held old new (sent columns all start)
   so_far_end all left old new col h none =
-      let Left : List DrawnItem → Type 0 = λ is. Underway told held failed (sent columns all start) (sent columns is col) old new in
-      underway_end told held failed (sent columns all start) (subst Left none h.sending)
+      let Left : List DrawnItem → Type 0 = λ is. Underway held failed (sent columns all start) (sent columns is col) old new in
+      underway_end held failed (sent columns all start) (subst Left none h.sending)
 
-  pub so_far_column : (all left : List DrawnItem) (old new : D) (col : ℕ) → SoFar told held failed columns start all left old new col → left ≡ [] → col ≡ col_after columns all start
+  pub so_far_column : (all left : List DrawnItem) (old new : D) (col : ℕ) → SoFar held failed columns start all left old new col → left ≡ [] → col ≡ col_after columns all start
   so_far_column all left old new col h none = ap (λ is. col_after columns is col) (sym none) ∙ h.column
 
-  pub so_far_step : (all left before : List DrawnItem) (item : DrawnItem) (old new newer : D) (col next : ℕ) → SoFar told held failed columns start all before old new col → before ≡ item ∷ left
-      → Takes told held new newer (sent_one columns item col) → failed newer ≡ failed new → next ≡ col_after_one columns item col → next < columns
-      → SoFar told held failed columns start all left old newer next
+  pub so_far_step : (all left before : List DrawnItem) (item : DrawnItem) (old new newer : D) (col next : ℕ) → SoFar held failed columns start all before old new col → before ≡ item ∷ left
+      → Takes held new newer (sent_one columns item col) → failed newer ≡ failed new → next ≡ col_after_one columns item col → next < columns
+      → SoFar held failed columns start all left old newer next
   so_far_step all left before item old new newer col next h split sent_more works next_is inside =
-      so_far_steps all (item ∷ []) left before old new newer col next h split (subst (Takes told held new newer) (sym (append-nil (sent_one columns item col))) sent_more) works next_is inside
+      so_far_steps all (item ∷ []) left before old new newer col next h split (subst (Takes held new newer) (sym (append-nil (sent_one columns item col))) sent_more) works next_is inside
 
   -- some of these items were sent
   pub so_far_cut : (Q : DeviceFailed → Type 0) (all items left before : List DrawnItem) (old new newer : D) (col : ℕ) (r : Result ℕ DeviceFailed)
-      → SoFar told held failed columns start all before old new col → before ≡ items ++ left
-      → IsErrAnd r Q → IsTrue (failed newer) → TakesSome told held new newer (sent columns items col)
-      → SendsItems all start columns told held failed old newer r
+      → SoFar held failed columns start all before old new col → before ≡ items ++ left
+      → IsErrAnd r Q → IsTrue (failed newer) → TakesSome held new newer (sent columns items col)
+      → SendsItems all start columns held failed old newer r
   so_far_cut Q all items left before old new newer col (Ok x) h split refused fails some = absurd refused
   so_far_cut Q all items left before old new newer col (Err e) h split refused fails some =
       let next = col_after columns items col in
       record {
-        sends = sends_refused told held failed Q (sent columns all start) {r = Err e} refused fails
-            (underway_some told held failed (sent columns all start) (sent columns items col) (sent columns left next) (next_items all items left before old new col next h split refl) some);
+        sends = sends_refused held failed Q (sent columns all start) {r = Err e} refused fails
+            (underway_some held failed (sent columns all start) (sent columns items col) (sent columns left next) (next_items all items left before old new col next h split refl) some);
         next = tt;
         inside = tt;
       }

@@ -10,23 +10,23 @@ use Rattle.line_screen.specs.Drawing.{control_sequence, no_style, break_if, brea
 use Rattle.line_screen.specs.Drawing.DrawnItem.{Cluster}
 use Rattle.line_screen.specs.Sending.{SendsTo}
 
-module _ {D : Type 0} (told : D → Bool) (held : D → List ℕ) (failed : D → Bool) where
+module _ {D : Type 0} (held : D → List ℕ) (failed : D → Bool) where
   -- a sequence whose number isn't 0
   pub sends_control : {A : Type 0} (count final : ℕ) {a b : D} {r : Result A DeviceFailed}
-      → (count ≡ 0 → ⊥) → Sends told held failed (0x1B ∷ 0x5B ∷ (decimal count ++ final ∷ [])) a b r → Sends told held failed (control_sequence count final) a b r
+      → (count ≡ 0 → ⊥) → Sends held failed (0x1B ∷ 0x5B ∷ (decimal count ++ final ∷ [])) a b r → Sends held failed (control_sequence count final) a b r
   sends_control count final {a = a} {b = b} {r = r} not_none s =
-      let P : Bool → Type 0 = λ none. Sends told held failed (if none then [] else (0x1B ∷ 0x5B ∷ (decimal count ++ final ∷ []))) a b r in
+      let P : Bool → Type 0 = λ none. Sends held failed (if none then [] else (0x1B ∷ 0x5B ∷ (decimal count ++ final ∷ []))) a b r in
       subst P (sym (ne_eqb count 0 not_none)) s
 
   -- the same, where a column is answered
   pub sends_to_then : (column columns : ℕ) (xs ys : List ℕ) {a b c : D} {r : Result ℕ DeviceFailed}
-      → Takes told held a b xs → failed b ≡ failed a → SendsTo ys column columns told held failed b c r → SendsTo (xs ++ ys) column columns told held failed a c r
-  sends_to_then column columns xs ys took works s = record { sends = sends_then told held failed xs ys took works s.sends; next = s.next; inside = s.inside }
+      → Takes held a b xs → failed b ≡ failed a → SendsTo ys column columns held failed b c r → SendsTo (xs ++ ys) column columns held failed a c r
+  sends_to_then column columns xs ys took works s = record { sends = sends_then held failed xs ys took works s.sends; next = s.next; inside = s.inside }
 
   pub sends_to_cut : (Q : DeviceFailed → Type 0) (column columns : ℕ) (xs ys : List ℕ) {a b : D} {r : Result ℕ DeviceFailed}
-      → IsErrAnd r Q → IsTrue (failed b) → TakesSome told held a b xs → SendsTo (xs ++ ys) column columns told held failed a b r
+      → IsErrAnd r Q → IsTrue (failed b) → TakesSome held a b xs → SendsTo (xs ++ ys) column columns held failed a b r
   sends_to_cut Q column columns xs ys {a = a} {b = b} {r = Ok x} refused fails some = absurd refused
-  sends_to_cut Q column columns xs ys {a = a} {b = b} {r = Err e} refused fails some = record { sends = sends_cut told held failed Q xs ys {a = a} {b = b} {r = Err e} refused fails some; next = tt; inside = tt }
+  sends_to_cut Q column columns xs ys {a = a} {b = b} {r = Err e} refused fails some = record { sends = sends_cut held failed Q xs ys {a = a} {b = b} {r = Err e} refused fails some; next = tt; inside = tt }
 
   -- ---- a cluster: room for it, its text, and the end of a full row
   module _ (columns width col : ℕ) (cluster : List ℕ) where
@@ -40,20 +40,20 @@ module _ {D : Type 0} (told : D → Bool) (held : D → List ℕ) (failed : D �
     next = col_after_one columns (Cluster cluster width) col
 
     abbrev SendsCluster : D → D → Result ℕ DeviceFailed → Type 0
-    SendsCluster a b r = SendsTo (sent_one columns (Cluster cluster width) col) next columns told held failed a b r
+    SendsCluster a b r = SendsTo (sent_one columns (Cluster cluster width) col) next columns held failed a b r
 
-    pub roomless : (Q : DeviceFailed → Type 0) {a b : D} {r : Result ℕ DeviceFailed} → IsErrAnd r Q → IsTrue (failed b) → TakesSome told held a b room → SendsCluster a b r
-    roomless Q {a = a} {b = b} refused fails some = sends_to_cut Q next columns (room ++ fenced cluster) full refused fails (some_of_more told held a b room (fenced cluster) some)
+    pub roomless : (Q : DeviceFailed → Type 0) {a b : D} {r : Result ℕ DeviceFailed} → IsErrAnd r Q → IsTrue (failed b) → TakesSome held a b room → SendsCluster a b r
+    roomless Q {a = a} {b = b} refused fails some = sends_to_cut Q next columns (room ++ fenced cluster) full refused fails (some_of_more held a b room (fenced cluster) some)
 
     pub textless : (Q : DeviceFailed → Type 0) {a b c : D} {r : Result ℕ DeviceFailed} → IsErrAnd r Q
-        → Takes told held a b room → IsTrue (failed c) → TakesSome told held b c (fenced cluster) → SendsCluster a c r
+        → Takes held a b room → IsTrue (failed c) → TakesSome held b c (fenced cluster) → SendsCluster a c r
     textless Q {a = a} {b = b} {c = c} refused took fails some =
-        sends_to_cut Q next columns (room ++ fenced cluster) full refused fails (some_then told held a b c room (fenced cluster) took some)
+        sends_to_cut Q next columns (room ++ fenced cluster) full refused fails (some_then held a b c room (fenced cluster) took some)
 
-    pub whole : {a b c d : D} {r : Result ℕ DeviceFailed} → Takes told held a b room → failed b ≡ failed a → Takes told held b c (fenced cluster) → failed c ≡ failed b
-        → SendsTo full next columns told held failed c d r → SendsCluster a d r
+    pub whole : {a b c d : D} {r : Result ℕ DeviceFailed} → Takes held a b room → failed b ≡ failed a → Takes held b c (fenced cluster) → failed c ≡ failed b
+        → SendsTo full next columns held failed c d r → SendsCluster a d r
     whole {a = a} {b = b} {c = c} took works took_text works_on s =
-        sends_to_then next columns (room ++ fenced cluster) full (takes_then told held a b c room (fenced cluster) took took_text) (works_on ∙ works) s
+        sends_to_then next columns (room ++ fenced cluster) full (takes_then held a b c room (fenced cluster) took took_text) (works_on ∙ works) s
 
 -- parts that each begin without style, and the end
 pub shown_parts : (prompt line info : List ℕ)

@@ -67,25 +67,24 @@ display_answer (Ok x) = Ok x
 display_answer (Err e) = Err Refusal.Display
 
 -- bytes were sent and the sink works as before; the screen stays as it is
-pub record Sent {D : Type 0} (told : D → Bool) (held : D → List ℕ) (failed : D → Bool)
-    (bytes : List ℕ) (old new : ScreenRenderer D) : Type 0 where
-  pub takes : Takes told held (sink_of old) (sink_of new) bytes
+pub record Sent {D : Type 0} (held : D → List ℕ) (failed : D → Bool) (bytes : List ℕ)
+    (old new : ScreenRenderer D) : Type 0 where
+  pub takes : Takes held (sink_of old) (sink_of new) bytes
   pub works : failed (sink_of new) ≡ failed (sink_of old)
   pub screen : screen_of new ≡ screen_of old
 
 -- the sink has failed, and has taken a beginning of these bytes; the screen stays as it is
-pub record Unsent {D : Type 0} (told : D → Bool) (held : D → List ℕ) (failed : D → Bool)
-    (bytes : List ℕ) (old new : ScreenRenderer D) : Type 0 where
-  pub begins : TakesSome told held (sink_of old) (sink_of new) bytes
+pub record Unsent {D : Type 0} (held : D → List ℕ) (failed : D → Bool) (bytes : List ℕ)
+    (old new : ScreenRenderer D) : Type 0 where
+  pub begins : TakesSome held (sink_of old) (sink_of new) bytes
   pub fails : IsTrue (failed (sink_of new))
   pub screen : screen_of new ≡ screen_of old
 
 -- a screen as a renderer: a call that it makes sends the call's bytes
-abbrev pub canvas_of : {D : Type 0} → (D → Bool) → (D → List ℕ) → (D → Bool)
-    → Canvas (ScreenRenderer D)
-canvas_of told held failed = record {
-  made = λ old call new. Sent told held failed (bytes_of (screen_of old) call) old new;
-  refused = λ old call new. Unsent told held failed (bytes_of (screen_of old) call) old new;
+abbrev pub canvas_of : {D : Type 0} → (D → List ℕ) → (D → Bool) → Canvas (ScreenRenderer D)
+canvas_of held failed = record {
+  made = λ old call new. Sent held failed (bytes_of (screen_of old) call) old new;
+  refused = λ old call new. Unsent held failed (bytes_of (screen_of old) call) old new;
   failed = λ r. failed (sink_of r);
   ruler = λ r. ruler_of (screen_of r);
 }

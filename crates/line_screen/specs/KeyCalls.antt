@@ -44,13 +44,13 @@ AnswersText feed old new result = AnswersCall feed Pasted paste_at (not old.owed
 pub record AnswersChar {S : Type 0} (feed : S → Feed) (old new : KeyReader S)
     (result : Result ℕ ReadlineError)
     : Type 0 where
-  pub answer : IsTrue (feed_in feed new).told → Met result
+  pub answer : IsTrue (feed_in feed new).told
       → result ≡ char_answer (feed_in feed old).failed old.refused old.owed (chars_in feed old)
   pub ok : IsTrue (feed_in feed new).told
       → IfOk result (λ c. chars_in feed old ≡ Next c (left_in feed new) (chars_in feed new))
   pub rest : OnOk result (coming_in feed new ≡ coming_of (readings old.mode (chars_in feed new)))
   pub err : IsTrue (feed_in feed new).told → IfErr result (λ e. coming_in feed new ≡ left_by e)
-  pub left : IsTrue (feed_in feed new).told → Met result
+  pub left : IsTrue (feed_in feed new).told
       → left_in feed new ≡ left_by_call (feed_in feed old).failed old.refused old.owed
       (left_in feed old)
       (behind_char (chars_in feed old))

@@ -46,7 +46,6 @@ abbrev pub items_of : {S : Type 0} → (S → Feed) → KeyReader S → KeyFeed
 items_of feed r =
     record {
       told = (feed_in feed r).told;
-      steady = true;
       coming = coming_in feed r;
       bound = (feed_in feed r).bound;
       reason = λ e. e ≡ Reader → IsTrue (feed_in feed r).failed;

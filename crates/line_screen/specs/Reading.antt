@@ -6,7 +6,6 @@ use Rattle.line_config.specs.declared.device.Last.TheVariants.{End, Failed}
 use Rattle.line_config.specs.declared.errors.ReadlineError.{ReadlineError}
 use Rattle.line_config.specs.declared.errors.ReadlineError.TheVariants.{Eof, NotUtf8, Reader}
 use Rattle.line_config.specs.Feed.{Feed}
-use Rattle.line_config.specs.Refusals.{Met}
 use Rattle.line_screen.specs.Unread.{with_kept}
 use Rattle.line_screen.specs.declared.reading.lookahead.Lookahead.{Lookahead}
 use Rattle.line_screen.specs.declared.reading.utf8.Awaited.{Awaited}
@@ -76,10 +75,10 @@ pub record ReadsFurther {S : Type 0} (feed : S → Feed) (awaited : Continuation
       → IfOk result (λ b. (unread feed old).coming ≡ b ∷ (unread feed new).coming)
   pub least : IfOk result (λ b. awaited.least ≤ b)
   pub greatest : IfOk result (λ b. b ≤ awaited.greatest)
-  pub answer : IsTrue (unread feed new).told → Met result
+  pub answer : IsTrue (unread feed new).told
       → let all = in_char (Some awaited) (unread feed old).coming (unread feed old).last in
       IfErr result (λ e. char_at all ≡ Err e)
-  pub left : IsTrue (unread feed new).told → Met result
+  pub left : IsTrue (unread feed new).told
       → let all = in_char (Some awaited) (unread feed old).coming (unread feed old).last in
       OnErr result (behind_char all ≡ (unread feed new).coming)
   pub whole : result ≡ Err Eof → ⊥
@@ -98,9 +97,9 @@ pub record ReadsChar {S : Type 0} (feed : S → Feed) (definition : List ℕ →
   pub ok : IsTrue (unread feed new).told
       → IfOk result (λ c. definition (unread feed old).coming (unread feed old).last
       ≡ Next c (unread feed new).coming (chars_of (unread feed new).coming (unread feed new).last))
-  pub answer : IsTrue (unread feed new).told → Met result
+  pub answer : IsTrue (unread feed new).told
       → result ≡ char_at (definition (unread feed old).coming (unread feed old).last)
-  pub left : IsTrue (unread feed new).told → Met result
+  pub left : IsTrue (unread feed new).told
       → behind_char (definition (unread feed old).coming (unread feed old).last)
       ≡ (unread feed new).coming
   pub refused : IfErr result IsKeyRefusal

@@ -64,7 +64,7 @@ impl<D: Sink> ScreenRenderer<D> {
 }
 
 impl<D: Sink + Drop> Renderer for ScreenRenderer<D> {
-    ghost canvas = { canvas_of D.told D.held D.has_failed };
+    ghost canvas = { canvas_of D.held D.has_failed };
 
     /// Writes nothing where the two cells are one.
     fn move_cursor(&mut self, old: Position, new: Position) -> Result<(), ReadlineError> {

@@ -1,13 +1,14 @@
 //! Sinks that fail, and that know what waits in them.
 
-ghost use Rattle.std.specs.Prelude.{[], false};
+ghost use Rattle.std.specs.Prelude.{false};
 
-use line_config::{DeviceFailed, Sink};
+use line_config::{DeviceFailed, Log, Sink};
 
 /// A sink that fails for good after so many writes.
 #[derive(Drop)]
 pub(crate) struct FailsAfter {
     writes: u32,
+    taken: Log,
     failed: bool,
 }
 
@@ -15,24 +16,24 @@ impl FailsAfter {
     pub(crate) fn new(writes: u32) -> Self {
         FailsAfter {
             writes,
+            taken: Log::new(),
             failed: false,
         }
     }
 }
 
 impl Sink for FailsAfter {
-    ghost told = { λ _. false };
-
-    ghost held = { λ _. [] };
+    ghost held = { λ s. s.taken.bytes };
 
     ghost has_failed = { λ s. s.failed };
 
-    fn write(&mut self, _: &[u8]) -> Result<(), DeviceFailed> {
+    fn write(&mut self, bytes: &[u8]) -> Result<(), DeviceFailed> {
         if self.failed || self.writes == 0 {
             self.failed = true;
             return Err(DeviceFailed);
         }
         self.writes -= 1;
+        self.taken.note(bytes);
         Ok(())
     }
 
@@ -53,6 +54,7 @@ impl Sink for FailsAfter {
 pub(crate) struct Gathers {
     waiting: bool,
     writes: u32,
+    taken: Log,
 }
 
 impl Gathers {
@@ -60,6 +62,7 @@ impl Gathers {
         Gathers {
             waiting: false,
             writes: 0,
+            taken: Log::new(),
         }
     }
 
@@ -74,15 +77,14 @@ impl Gathers {
 }
 
 impl Sink for Gathers {
-    ghost told = { λ _. false };
-
-    ghost held = { λ _. [] };
+    ghost held = { λ s. s.taken.bytes };
 
     ghost has_failed = { λ _. false };
 
-    fn write(&mut self, _: &[u8]) -> Result<(), DeviceFailed> {
+    fn write(&mut self, bytes: &[u8]) -> Result<(), DeviceFailed> {
         self.waiting = true;
         self.writes = self.writes.saturating_add(1);
+        self.taken.note(bytes);
         Ok(())
     }
 

@@ -9,14 +9,14 @@ use line_buffer::{Position, Unit};
 use line_config::{DeviceFailed, Sink};
 
 pub(crate) fn send<D: Sink>(sink: &mut D, bytes: &[u8]) -> Result<(), DeviceFailed>
-    ensures { Sends D.told D.held D.has_failed bytes.now sink.old sink.new result }
+    ensures { Sends D.held D.has_failed bytes.now sink.old sink.new result }
 {
     sink.write(bytes)
 }
 
 /// A sequence with a number and a final byte; nothing for 0.
 pub(crate) fn send_control<D: Sink>(sink: &mut D, count: Unit, last: u8) -> Result<(), DeviceFailed>
-    ensures { Sends D.told D.held D.has_failed (control_sequence count last)
+    ensures { Sends D.held D.has_failed (control_sequence count last)
         sink.old sink.new result }
 {
     if count == 0 {
@@ -29,7 +29,7 @@ pub(crate) fn send_control<D: Sink>(sink: &mut D, count: Unit, last: u8) -> Resu
 }
 
 fn send_row_move<D: Sink>(sink: &mut D, old: Unit, new: Unit) -> Result<(), DeviceFailed>
-    ensures { Sends D.told D.held D.has_failed (row_move old new) sink.old sink.new result }
+    ensures { Sends D.held D.has_failed (row_move old new) sink.old sink.new result }
 {
     if new < old {
         send_control(sink, old - new, b'A')
@@ -39,7 +39,7 @@ fn send_row_move<D: Sink>(sink: &mut D, old: Unit, new: Unit) -> Result<(), Devi
 }
 
 fn send_col_move<D: Sink>(sink: &mut D, old: Unit, new: Unit) -> Result<(), DeviceFailed>
-    ensures { Sends D.told D.held D.has_failed (col_move old new) sink.old sink.new result }
+    ensures { Sends D.held D.has_failed (col_move old new) sink.old sink.new result }
 {
     if new < old {
         send_control(sink, old - new, b'D')
@@ -54,7 +54,7 @@ pub(crate) fn send_move<D: Sink>(
     old: Position,
     new: Position,
 ) -> Result<(), DeviceFailed>
-    ensures { Sends D.told D.held D.has_failed (move_bytes old new) sink.old sink.new result }
+    ensures { Sends D.held D.has_failed (move_bytes old new) sink.old sink.new result }
 {
     send_row_move(sink, old.row, new.row)?;
     send_col_move(sink, old.col, new.col)
@@ -63,7 +63,7 @@ pub(crate) fn send_move<D: Sink>(
 /// To the first row of a drawing whose cursor stands in its row `row`, and all from there on
 /// erased.
 pub(crate) fn send_cleared<D: Sink>(sink: &mut D, row: Unit) -> Result<(), DeviceFailed>
-    ensures { Sends D.told D.held D.has_failed (clearing_bytes row) sink.old sink.new result }
+    ensures { Sends D.held D.has_failed (clearing_bytes row) sink.old sink.new result }
 {
     send_control(sink, row, b'A')?;
     send(sink, b"\r\x1B[J")
@@ -71,13 +71,13 @@ pub(crate) fn send_cleared<D: Sink>(sink: &mut D, row: Unit) -> Result<(), Devic
 
 /// Passes on what was written.
 pub(crate) fn flush<D: Sink>(sink: &mut D) -> Result<(), DeviceFailed>
-    ensures { Sends D.told D.held D.has_failed [] sink.old sink.new result }
+    ensures { Sends D.held D.has_failed [] sink.old sink.new result }
 {
     sink.flush()
 }
 
 pub(crate) fn send_flushed<D: Sink>(sink: &mut D, bytes: &[u8]) -> Result<(), DeviceFailed>
-    ensures { Sends D.told D.held D.has_failed bytes.now sink.old sink.new result }
+    ensures { Sends D.held D.has_failed bytes.now sink.old sink.new result }
 {
     send(sink, bytes)?;
     flush(sink)
@@ -85,7 +85,7 @@ pub(crate) fn send_flushed<D: Sink>(sink: &mut D, bytes: &[u8]) -> Result<(), De
 
 /// The way from one cell to another, passed on; nothing is written where they are one.
 pub(crate) fn go<D: Sink>(sink: &mut D, old: Position, new: Position) -> Result<(), DeviceFailed>
-    ensures { Sends D.told D.held D.has_failed (move_bytes old new) sink.old sink.new result }
+    ensures { Sends D.held D.has_failed (move_bytes old new) sink.old sink.new result }
 {
     send_move(sink, old, new)?;
     if old.row == new.row && old.col == new.col {
@@ -95,7 +95,7 @@ pub(crate) fn go<D: Sink>(sink: &mut D, old: Position, new: Position) -> Result<
 }
 
 pub(crate) fn clear<D: Sink>(sink: &mut D, row: Unit) -> Result<(), DeviceFailed>
-    ensures { Sends D.told D.held D.has_failed (clearing_bytes row) sink.old sink.new result }
+    ensures { Sends D.held D.has_failed (clearing_bytes row) sink.old sink.new result }
 {
     send_cleared(sink, row)?;
     flush(sink)

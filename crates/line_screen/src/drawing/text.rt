@@ -21,7 +21,7 @@ fn leave_full<D: Sink>(sink: &mut D, grid: Grid, col: Unit) -> Result<Unit, Devi
     requires inside { col ≤ grid.columns }
     ensures { SendsTo (break_if (col == grid.columns))
         (left_col grid.columns col)
-        grid.columns D.told D.held D.has_failed sink.old sink.new result }
+        grid.columns D.held D.has_failed sink.old sink.new result }
 {
     if col == grid.columns {
         send(sink, b"\r\n")?;
@@ -39,7 +39,7 @@ fn make_room<D: Sink>(
 ) -> Result<Unit, DeviceFailed>
     requires inside { col < grid.columns }
     requires narrow { width ≤ grid.columns }
-    ensures sends { Sends D.told D.held D.has_failed
+    ensures sends { Sends D.held D.has_failed
         (break_unless (nat_le (col + width) grid.columns)) sink.old sink.new result }
     ensures next { IfOk result (λ c. c ≡ fitted_col grid.columns width col) }
     ensures room { IfOk result (λ c. c + width ≤ grid.columns) }
@@ -53,7 +53,7 @@ fn make_room<D: Sink>(
 
 /// The text of a cluster between two sequences that change nothing.
 fn send_fenced<D: Sink>(sink: &mut D, cluster: &str) -> Result<(), DeviceFailed>
-    ensures { Sends D.told D.held D.has_failed (fenced cluster.now) sink.old sink.new result }
+    ensures { Sends D.held D.has_failed (fenced cluster.now) sink.old sink.new result }
 {
     send(sink, b"\x1B[m")?;
     send(sink, cluster.as_bytes())?;
@@ -71,7 +71,7 @@ fn send_wide<D: Sink>(
     requires narrow { width ≤ grid.columns }
     ensures { SendsTo (sent_one grid.columns (Cluster cluster.now width) col)
         (col_after_one grid.columns (Cluster cluster.now width) col)
-        grid.columns D.told D.held D.has_failed sink.old sink.new result }
+        grid.columns D.held D.has_failed sink.old sink.new result }
 {
     let start = make_room(sink, grid, col, width)?;
     send_fenced(sink, cluster)?;
@@ -88,7 +88,7 @@ fn send_run<D: Sink>(
     requires inside { col < grid.columns }
     requires room { col + length letters.now ≤ grid.columns }
     ensures { SendsItems (map Letter letters.now) col
-        grid.columns D.told D.held D.has_failed sink.old sink.new result }
+        grid.columns D.held D.has_failed sink.old sink.new result }
 {
     send(sink, letters)?;
     leave_full(sink, grid, col + letters.len() as Unit)
@@ -106,7 +106,7 @@ fn send_cluster<D: Sink>(
         (drawn_item (cluster_width grid.mode grid.columns) cluster.now) col)
         (col_after_one grid.columns
         (drawn_item (cluster_width grid.mode grid.columns) cluster.now) col)
-        grid.columns D.told D.held D.has_failed sink.old sink.new result }
+        grid.columns D.held D.has_failed sink.old sink.new result }
 {
     if is_letter(cluster) {
         return send_run(sink, grid, col, cluster.as_bytes());
@@ -125,7 +125,7 @@ fn send_letters<D: Sink>(
 ) -> Result<Unit, DeviceFailed>
     requires inside { start < grid.columns }
     ensures { SendsItems (map Letter letters.now) start
-        grid.columns D.told D.held D.has_failed sink.old sink.new result }
+        grid.columns D.held D.has_failed sink.old sink.new result }
 {
     let mut col = start;
     let mut rest = letters;
@@ -147,7 +147,7 @@ fn send_clusters<D: Sink>(
     requires inside { start < grid.columns }
     ensures { SendsItems (map (drawn_item (cluster_width grid.mode grid.columns))
         (graphemes true row.now)) start
-        grid.columns D.told D.held D.has_failed sink.old sink.new result }
+        grid.columns D.held D.has_failed sink.old sink.new result }
 {
     let mut col = start;
     for cluster in row.graphemes(true) {
@@ -160,7 +160,7 @@ fn send_clusters<D: Sink>(
 fn send_row<D: Sink>(sink: &mut D, grid: Grid, start: Unit, row: &str) -> Result<Unit, DeviceFailed>
     requires inside { start < grid.columns }
     ensures { SendsItems (row_items (cluster_width grid.mode grid.columns) row.now) start
-        grid.columns D.told D.held D.has_failed sink.old sink.new result }
+        grid.columns D.held D.has_failed sink.old sink.new result }
 {
     if is_printable_text(row) {
         send_letters(sink, grid, start, row.as_bytes())
@@ -178,7 +178,7 @@ fn send_next_row<D: Sink>(
 ) -> Result<Unit, DeviceFailed>
     requires inside { start < grid.columns }
     ensures { SendsItems (next_items (cluster_width grid.mode grid.columns) is_first row.now) start
-        grid.columns D.told D.held D.has_failed sink.old sink.new result }
+        grid.columns D.held D.has_failed sink.old sink.new result }
 {
     if is_first {
         return send_row(sink, grid, start, row);
@@ -196,7 +196,7 @@ pub(crate) fn send_text<D: Sink>(
 ) -> Result<Unit, DeviceFailed>
     requires inside { start < grid.columns }
     ensures { SendsItems (text_items (cluster_width grid.mode grid.columns) text.now) start
-        grid.columns D.told D.held D.has_failed sink.old sink.new result }
+        grid.columns D.held D.has_failed sink.old sink.new result }
 {
     let mut col = start;
     let mut is_first = true;

@@ -36,7 +36,7 @@ fn send_part<D: Sink>(
         (no_style ++ sent grid.columns
         (text_items (cluster_width grid.mode grid.columns) text.now) start)
         (col_after grid.columns (text_items (cluster_width grid.mode grid.columns) text.now) start)
-        grid.columns D.told D.held D.has_failed sink.old sink.new result }
+        grid.columns D.held D.has_failed sink.old sink.new result }
 {
     send(sink, b"\x1B[m")?;
     send_text(sink, grid, start, text)
@@ -44,7 +44,7 @@ fn send_part<D: Sink>(
 
 /// The three texts, each from where the one before ends.
 fn send_texts<D: Sink>(sink: &mut D, grid: Grid, shown: Shown) -> Result<(), DeviceFailed>
-    ensures { Sends D.told D.held D.has_failed
+    ensures { Sends D.held D.has_failed
         (shown_text grid.columns (cluster_width grid.mode grid.columns)
         shown.entry.prompt.now shown.entry.line.now shown.entry.info.now)
         sink.old sink.new result }
@@ -57,7 +57,7 @@ fn send_texts<D: Sink>(sink: &mut D, grid: Grid, shown: Shown) -> Result<(), Dev
 
 /// The three texts, then the way from where they end to the cursor.
 fn send_drawing<D: Sink>(sink: &mut D, grid: Grid, shown: Shown) -> Result<(), DeviceFailed>
-    ensures { Sends D.told D.held D.has_failed
+    ensures { Sends D.held D.has_failed
         (drawing grid.columns (cluster_width grid.mode grid.columns)
         shown.entry.prompt.now shown.entry.line.now shown.entry.info.now
         shown.entry.end shown.entry.cursor)
@@ -69,7 +69,7 @@ fn send_drawing<D: Sink>(sink: &mut D, grid: Grid, shown: Shown) -> Result<(), D
 
 /// A drawing from the cursor on, passed on.
 fn draw_new<D: Sink>(sink: &mut D, grid: Grid, shown: Shown) -> Result<(), DeviceFailed>
-    ensures { Sends D.told D.held D.has_failed
+    ensures { Sends D.held D.has_failed
         (drawing grid.columns (cluster_width grid.mode grid.columns)
         shown.entry.prompt.now shown.entry.line.now shown.entry.info.now
         shown.entry.end shown.entry.cursor)
@@ -81,7 +81,7 @@ fn draw_new<D: Sink>(sink: &mut D, grid: Grid, shown: Shown) -> Result<(), Devic
 
 /// The same in the place of a drawing whose cursor stands in its row `row`.
 fn draw_over<D: Sink>(sink: &mut D, grid: Grid, row: Unit, shown: Shown) -> Result<(), DeviceFailed>
-    ensures { Sends D.told D.held D.has_failed
+    ensures { Sends D.held D.has_failed
         (full_drawing grid.columns (cluster_width grid.mode grid.columns) row
         shown.entry.prompt.now shown.entry.line.now shown.entry.info.now
         shown.entry.end shown.entry.cursor)
@@ -99,7 +99,7 @@ pub(crate) fn draw<D: Sink>(
     old_row: Option<Unit>,
     shown: Shown,
 ) -> Result<(), DeviceFailed>
-    ensures { Sends D.told D.held D.has_failed
+    ensures { Sends D.held D.has_failed
         (drawing_bytes grid.columns (cluster_width grid.mode grid.columns) old_row
         shown.entry.prompt.now shown.entry.line.now shown.entry.info.now
         shown.entry.end shown.entry.cursor)

@@ -3,7 +3,6 @@
 ghost use Rattle.std.specs.Prelude.{◌≡◌, ◌<◌, ◌≤◌, ◌∷◌, [], Ok, Err, None, Some, IsTrue, IfOk, IfErr, OnOk, OnErr, false};
 ghost use Rattle.line_config.specs.declared.device.Last.TheVariants.{End};
 ghost use Rattle.line_config.specs.declared.errors.ReadlineError.TheVariants.{Eof, Reader};
-ghost use Rattle.line_config.specs.Refusals.{Met};
 ghost use Rattle.line_screen.specs.Input.{chars_of, in_char, behind_char, is_failure};
 ghost use Rattle.line_screen.specs.Reading.{ReadsByte, PeeksByte, ReadsFurther, ReadsChar, continuation};
 

@@ -7,32 +7,30 @@ use Rattle.line_help.proofs.SavingLemmas.{piece_sent, piece_refused, pieces_sent
 use Rattle.line_help.proofs.escapes.write_row.Goals as goal
 
 pub loop-byte-init : goal.loop-byte-init
-loop-byte-init g c = underway_start g.S.Sink.told g.S.Sink.held g.S.Sink.has_failed (escaped_entry c.as_bytes-bytes.result.now) c.args.sink.now
+loop-byte-init g c = underway_start g.S.Sink.held g.S.Sink.has_failed (escaped_entry c.as_bytes-bytes.result.now) c.args.sink.now
 
 pub loop-byte-preserved : goal.loop-byte-preserved
 loop-byte-preserved g c =
     let bytes = c.as_bytes-bytes.result.now in
-    piece_sent g.S.Sink.told g.S.Sink.held g.S.Sink.has_failed escaped_byte bytes (escaped_entry bytes) c.loop-byte.byte-index 0
+    piece_sent g.S.Sink.held g.S.Sink.has_failed escaped_byte bytes (escaped_entry bytes) c.loop-byte.byte-index 0
     c.loop-byte-test.true c.loop-byte.invariant c.in_ok-put_escaped.ensures.sends.sent c.in_ok-put_escaped.ensures.sends.works
 
 pub returns-in_err-put_escaped-clause-sends : goal.returns-in_err-put_escaped-clause-sends
 returns-in_err-put_escaped-clause-sends g c =
-    let told = g.S.Sink.told in
     let held = g.S.Sink.held in
     let failed = g.S.Sink.has_failed in
     let bytes = c.as_bytes-bytes.result.now in
-    let Row : List ℕ → Type 0 = λ entry. Sends told held failed (row_of entry) c.args.sink.now c.put_escaped.new.sink c.from_residual.result in
+    let Row : List ℕ → Type 0 = λ entry. Sends held failed (row_of entry) c.args.sink.now c.put_escaped.new.sink c.from_residual.result in
     subst Row c.as_bytes-bytes.ensures.value
-    (sends_cut told held failed _ (escaped_entry bytes) (10 ∷ []) c.from_residual.ensures.1 c.in_err-put_escaped.ensures.sends.err
-    (piece_refused told held failed escaped_byte bytes (escaped_entry bytes) c.loop-byte.byte-index 0 c.loop-byte-test.true c.loop-byte.invariant c.in_err-put_escaped.ensures.sends.begins))
+    (sends_cut held failed _ (escaped_entry bytes) (10 ∷ []) c.from_residual.ensures.1 c.in_err-put_escaped.ensures.sends.err
+    (piece_refused held failed escaped_byte bytes (escaped_entry bytes) c.loop-byte.byte-index 0 c.loop-byte-test.true c.loop-byte.invariant c.in_err-put_escaped.ensures.sends.begins))
 
 pub returns-clause-sends : goal.returns-clause-sends
 returns-clause-sends g c =
-    let told = g.S.Sink.told in
     let held = g.S.Sink.held in
     let failed = g.S.Sink.has_failed in
     let bytes = c.as_bytes-bytes.result.now in
-    let Row : List ℕ → Type 0 = λ entry. Sends told held failed (row_of entry) c.args.sink.now c.put.new.sink c.put.result in
+    let Row : List ℕ → Type 0 = λ entry. Sends held failed (row_of entry) c.args.sink.now c.put.new.sink c.put.result in
     subst Row c.as_bytes-bytes.ensures.value
-    (sends_then told held failed (escaped_entry bytes) (10 ∷ [])
-    (pieces_sent told held failed escaped_byte bytes (escaped_entry bytes) c.loop-byte.byte-index c.loop-byte-test.false c.loop-byte.invariant) c.loop-byte.invariant.works c.put.ensures.sends)
+    (sends_then held failed (escaped_entry bytes) (10 ∷ [])
+    (pieces_sent held failed escaped_byte bytes (escaped_entry bytes) c.loop-byte.byte-index c.loop-byte-test.false c.loop-byte.invariant) c.loop-byte.invariant.works c.put.ensures.sends)

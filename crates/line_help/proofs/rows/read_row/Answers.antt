@@ -20,19 +20,18 @@ returns-clause-row g c told =
 
 pub returns-then-byte-eq10-clause-good : goal.returns-then-byte-eq10-clause-good
 returns-then-byte-eq10-clause-good g c told whole utf8 later r =
-    let rest = rw (c.in-Some.is, c.if-byte-eq10.true) at c.in_ok-byte.ensures.byte (c.loop-byte.invariant.told told) in
-    rw (c.loop-byte.invariant.split told, rest)
+    let rest = rw (c.in-Some.is, c.if-byte-eq10.true) at c.in_ok-byte.ensures.byte told in
+    rw (c.loop-byte.invariant.split (c.in_ok-byte.ensures.told told), rest)
     (row_reads c.loop-byte.row.items (g.S.Source.feed c.next_byte.new.source).coming c.loop-byte.invariant.inside (rw c.drop_return.ensures at utf8) later r)
 
 pub returns-in_err-push-clause-memory : goal.returns-in_err-push-clause-memory
 returns-in_err-push-clause-memory g c told h =
-    let rest = rw c.in-Some.is at c.in_ok-byte.ensures.byte (c.loop-byte.invariant.told told) in
-    rw (c.loop-byte.invariant.split told, rest)
+    let rest = rw c.in-Some.is at c.in_ok-byte.ensures.byte told in
+    rw (c.loop-byte.invariant.split (c.in_ok-byte.ensures.told told), rest)
     (part_reads c.loop-byte.row.items (g.S.Source.feed c.next_byte.new.source).coming c.in-Some.byte c.loop-byte.invariant.inside c.if-byte-eq10.false)
 
 pub returns-clause-good : goal.returns-clause-good
 returns-clause-good g c told whole utf8 later r =
-    let t = c.loop-byte.invariant.told told in
-    let none = c.in_ok-byte.ensures.end t (ap (λ x. Ok x) c.in_default.is) in
-    let after = sym (rw c.in_default.is at c.in_ok-byte.ensures.byte t) ∙ none.0 in
-    rw (c.loop-byte.invariant.split told, none.0, append-nil) (last_reads c.loop-byte.row.items c.loop-byte.invariant.inside later (rw after at r))
+    let none = c.in_ok-byte.ensures.end told (ap (λ x. Ok x) c.in_default.is) in
+    let after = sym (rw c.in_default.is at c.in_ok-byte.ensures.byte told) ∙ none.0 in
+    rw (c.loop-byte.invariant.split (c.in_ok-byte.ensures.told told), none.0, append-nil) (last_reads c.loop-byte.row.items c.loop-byte.invariant.inside later (rw after at r))

@@ -8,23 +8,21 @@ use Rattle.line_help.proofs.file_history.FileHistory.save_to.Goals as goal
 
 pub returns-in_err-put-clause-sends : goal.returns-in_err-put-clause-sends
 returns-in_err-put-clause-sends g c =
-    let told = g.S.Sink.told in
     let held = g.S.Sink.held in
     let failed = g.S.Sink.has_failed in
     let entries = c.args.self.now.kept.entries in
     let is_new : (c.args.self.now.unsaved == 0) ≡ false = search rules in
-    let Saved : Bool → Type 0 = λ none. Sends told held failed (if none then [] else saved_text entries) c.args.sink.now c.put.new.sink c.from_residual.result in
+    let Saved : Bool → Type 0 = λ none. Sends held failed (if none then [] else saved_text entries) c.args.sink.now c.put.new.sink c.from_residual.result in
     subst Saved (sym is_new)
-    (sends_cut told held failed _ (35 ∷ 86 ∷ 50 ∷ 10 ∷ []) (rows_text entries) c.from_residual.ensures.1 c.in_err-put.ensures.sends.err c.in_err-put.ensures.sends.begins)
+    (sends_cut held failed _ (35 ∷ 86 ∷ 50 ∷ 10 ∷ []) (rows_text entries) c.from_residual.ensures.1 c.in_err-put.ensures.sends.err c.in_err-put.ensures.sends.begins)
 
 pub returns-in_err-write_rows-clause-sends : goal.returns-in_err-write_rows-clause-sends
 returns-in_err-write_rows-clause-sends g c =
-    let told = g.S.Sink.told in
     let held = g.S.Sink.held in
     let failed = g.S.Sink.has_failed in
     let entries = c.args.self.now.kept.entries in
     let is_new : (c.args.self.now.unsaved == 0) ≡ false = search rules in
-    let Saved : Bool → Type 0 = λ none. Sends told held failed (if none then [] else saved_text entries) c.args.sink.now c.write_rows.new.sink c.from_residual-in_err-write_rows.result in
+    let Saved : Bool → Type 0 = λ none. Sends held failed (if none then [] else saved_text entries) c.args.sink.now c.write_rows.new.sink c.from_residual-in_err-write_rows.result in
     subst Saved (sym is_new)
-    (sends_then told held failed (35 ∷ 86 ∷ 50 ∷ 10 ∷ []) (rows_text entries) c.in_ok-put.ensures.sends.sent c.in_ok-put.ensures.sends.works
-    (sends_refused told held failed _ (rows_text entries) c.from_residual-in_err-write_rows.ensures.1 c.in_err-write_rows.ensures.sends.err c.in_err-write_rows.ensures.sends.begins))
+    (sends_then held failed (35 ∷ 86 ∷ 50 ∷ 10 ∷ []) (rows_text entries) c.in_ok-put.ensures.sends.sent c.in_ok-put.ensures.sends.works
+    (sends_refused held failed _ (rows_text entries) c.from_residual-in_err-write_rows.ensures.1 c.in_err-write_rows.ensures.sends.err c.in_err-write_rows.ensures.sends.begins))

@@ -9,11 +9,10 @@ use Rattle.line_help.proofs.file_history.FileHistory.write_rows.Goals as goal
 
 pub loop-index-init : goal.loop-index-init
 loop-index-init g c =
-    underway_start g.S.Sink.told g.S.Sink.held g.S.Sink.has_failed (rows_text (drop c.args.first c.args.self.now.kept.entries)) c.args.sink.now
+    underway_start g.S.Sink.held g.S.Sink.has_failed (rows_text (drop c.args.first c.args.self.now.kept.entries)) c.args.sink.now
 
 pub loop-index-preserved : goal.loop-index-preserved
 loop-index-preserved g c =
-    let told = g.S.Sink.told in
     let held = g.S.Sink.held in
     let failed = g.S.Sink.has_failed in
     let entries = c.args.self.now.kept.entries in
@@ -21,13 +20,12 @@ loop-index-preserved g c =
     let other = string_bytes c.index.result.now in
     let inside : at < length entries = search rules in
     let entry : c.as_str.result.now ≡ get_or entries at other = search rules in
-    let Took : List ℕ → Type 0 = λ entry. Takes told held c.loop-index.sink c.write_row.new.sink (row_of entry) in
-    piece_sent told held failed row_of entries (rows_text (drop c.args.first entries)) at other inside c.loop-index.invariant
+    let Took : List ℕ → Type 0 = λ entry. Takes held c.loop-index.sink c.write_row.new.sink (row_of entry) in
+    piece_sent held failed row_of entries (rows_text (drop c.args.first entries)) at other inside c.loop-index.invariant
     (subst Took entry c.in_ok-write_row.ensures.sends.sent) c.in_ok-write_row.ensures.sends.works
 
 pub returns-in_err-write_row-clause-sends : goal.returns-in_err-write_row-clause-sends
 returns-in_err-write_row-clause-sends g c =
-    let told = g.S.Sink.told in
     let held = g.S.Sink.held in
     let failed = g.S.Sink.has_failed in
     let entries = c.args.self.now.kept.entries in
@@ -35,18 +33,17 @@ returns-in_err-write_row-clause-sends g c =
     let other = string_bytes c.index.result.now in
     let inside : at < length entries = search rules in
     let entry : c.as_str.result.now ≡ get_or entries at other = search rules in
-    let Took : List ℕ → Type 0 = λ entry. TakesSome told held c.loop-index.sink c.write_row.new.sink (row_of entry) in
+    let Took : List ℕ → Type 0 = λ entry. TakesSome held c.loop-index.sink c.write_row.new.sink (row_of entry) in
     let rows = rows_text (drop c.args.first entries) in
-    sends_refused told held failed _ rows c.from_residual.ensures.1 c.in_err-write_row.ensures.sends.err
-    (piece_refused told held failed row_of entries rows at other inside c.loop-index.invariant (subst Took entry c.in_err-write_row.ensures.sends.begins))
+    sends_refused held failed _ rows c.from_residual.ensures.1 c.in_err-write_row.ensures.sends.err
+    (piece_refused held failed row_of entries rows at other inside c.loop-index.invariant (subst Took entry c.in_err-write_row.ensures.sends.begins))
 
 pub returns-clause-sends : goal.returns-clause-sends
 returns-clause-sends g c =
-    let told = g.S.Sink.told in
     let held = g.S.Sink.held in
     let failed = g.S.Sink.has_failed in
     let entries = c.args.self.now.kept.entries in
     let at = c.loop-index.index in
     let rows = rows_text (drop c.args.first entries) in
     let all : length entries ≤ at = search rules in
-    sends_flushed told held failed rows (pieces_sent told held failed row_of entries rows at all c.loop-index.invariant) c.loop-index.invariant.works c.pass_on.ensures.sends
+    sends_flushed held failed rows (pieces_sent held failed row_of entries rows at all c.loop-index.invariant) c.loop-index.invariant.works c.pass_on.ensures.sends

@@ -5,5 +5,5 @@ use Rattle.line_screen.proofs.drawing.sequences.clear.Goals as goal
 
 pub returns : goal.returns
 returns g c =
-    sends_flushed g.D.Sink.told g.D.Sink.held g.D.Sink.has_failed (clearing_bytes c.args.row)
+    sends_flushed g.D.Sink.held g.D.Sink.has_failed (clearing_bytes c.args.row)
     c.in_ok-send_cleared.ensures.sent c.in_ok-send_cleared.ensures.works c.flush.ensures

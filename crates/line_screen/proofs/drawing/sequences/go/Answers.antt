@@ -5,5 +5,5 @@ use Rattle.line_screen.proofs.drawing.sequences.go.Goals as goal
 
 pub returns : goal.returns
 returns g c =
-    sends_flushed g.D.Sink.told g.D.Sink.held g.D.Sink.has_failed (move_bytes c.args.old c.args.new)
+    sends_flushed g.D.Sink.held g.D.Sink.has_failed (move_bytes c.args.old c.args.new)
     c.in_ok-send_move.ensures.sent c.in_ok-send_move.ensures.works c.flush.ensures

@@ -14,7 +14,7 @@ returns-in-Some g c =
     let cluster = c.args.cluster.now in
     let wide = cluster_width c.args.grid.mode columns in
     let Item : DrawnItem → Type 0 = λ item. SendsTo (sent_one columns item col) (col_after_one columns item col) columns
-    g.D.Sink.told g.D.Sink.held g.D.Sink.has_failed c.args.sink.now c.send_wide.new.sink c.send_wide.result in
+    g.D.Sink.held g.D.Sink.has_failed c.args.sink.now c.send_wide.new.sink c.send_wide.result in
     let Wide : Option ℕ → Type 0 = λ width. Item (drawn_cluster cluster width) in
     let Either : Bool → Type 0 = λ letter. Item (if letter then Letter (slice_index cluster 0) else drawn_cluster cluster (wide cluster)) in
     subst Either c.if-is_letter.ensures (subst Wide (sym c.in-Some.is ∙ c.cluster_columns.ensures) c.send_wide.ensures)
@@ -26,7 +26,7 @@ returns-in-None g c =
     let cluster = c.args.cluster.now in
     let wide = cluster_width c.args.grid.mode columns in
     let Item : DrawnItem → Type 0 = λ item. SendsTo (sent_one columns item col) (col_after_one columns item col) columns
-    g.D.Sink.told g.D.Sink.held g.D.Sink.has_failed c.args.sink.now c.send_wide-in-None.new.sink c.send_wide-in-None.result in
+    g.D.Sink.held g.D.Sink.has_failed c.args.sink.now c.send_wide-in-None.new.sink c.send_wide-in-None.result in
     let Wide : Option ℕ → Type 0 = λ width. Item (drawn_cluster cluster width) in
     let Either : Bool → Type 0 = λ letter. Item (if letter then Letter (slice_index cluster 0) else drawn_cluster cluster (wide cluster)) in
     subst Either c.if-is_letter.ensures (subst Wide (sym c.in-None.is ∙ c.cluster_columns.ensures) c.send_wide-in-None.ensures)

@@ -8,24 +8,22 @@ use Rattle.line_screen.proofs.drawing.text.send_next_row.Goals as goal
 
 pub returns-in_err-send : goal.returns-in_err-send
 returns-in_err-send g c =
-    let told = g.D.Sink.told in
     let held = g.D.Sink.held in
     let failed = g.D.Sink.has_failed in
     let columns = c.args.grid.columns in
     let wide = cluster_width c.args.grid.mode columns in
     let row = row_items wide c.args.row.now in
-    let Row : Bool → Type 0 = λ first. SendsItems (next_items wide first c.args.row.now) c.args.start columns told held failed c.args.sink.now c.send.new.sink c.from_residual.result in
+    let Row : Bool → Type 0 = λ first. SendsItems (next_items wide first c.args.row.now) c.args.start columns held failed c.args.sink.now c.send.new.sink c.from_residual.result in
     subst Row (sym c.if-is_first.false)
-    (sends_to_cut told held failed _ (col_after columns row 0) columns row_break (sent columns row 0) c.from_residual.ensures.1 c.in_err-send.ensures.err c.in_err-send.ensures.begins)
+    (sends_to_cut held failed _ (col_after columns row 0) columns row_break (sent columns row 0) c.from_residual.ensures.1 c.in_err-send.ensures.err c.in_err-send.ensures.begins)
 
 pub returns : goal.returns
 returns g c =
-    let told = g.D.Sink.told in
     let held = g.D.Sink.held in
     let failed = g.D.Sink.has_failed in
     let columns = c.args.grid.columns in
     let wide = cluster_width c.args.grid.mode columns in
     let row = row_items wide c.args.row.now in
-    let Row : Bool → Type 0 = λ first. SendsItems (next_items wide first c.args.row.now) c.args.start columns told held failed c.args.sink.now c.send_row-2.new.sink c.send_row-2.result in
+    let Row : Bool → Type 0 = λ first. SendsItems (next_items wide first c.args.row.now) c.args.start columns held failed c.args.sink.now c.send_row-2.new.sink c.send_row-2.result in
     subst Row (sym c.if-is_first.false)
-    (sends_to_then told held failed (col_after columns row 0) columns row_break (sent columns row 0) c.in_ok-send.ensures.sent c.in_ok-send.ensures.works c.send_row-2.ensures)
+    (sends_to_then held failed (col_after columns row 0) columns row_break (sent columns row 0) c.in_ok-send.ensures.sent c.in_ok-send.ensures.works c.send_row-2.ensures)

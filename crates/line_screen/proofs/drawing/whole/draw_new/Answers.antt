@@ -10,4 +10,4 @@ returns g c =
     let wide = cluster_width c.args.grid.mode columns in
     let shown = c.args.shown in
     let drawn = drawing columns wide shown.prompt.now shown.line.now shown.info.now shown.end shown.cursor in
-    sends_flushed g.D.Sink.told g.D.Sink.held g.D.Sink.has_failed drawn c.in_ok-send_drawing.ensures.sent c.in_ok-send_drawing.ensures.works c.flush.ensures
+    sends_flushed g.D.Sink.held g.D.Sink.has_failed drawn c.in_ok-send_drawing.ensures.sent c.in_ok-send_drawing.ensures.works c.flush.ensures

@@ -10,7 +10,7 @@ returns-in_err-send_cleared g c =
     let wide = cluster_width c.args.grid.mode columns in
     let shown = c.args.shown in
     let drawn = drawing columns wide shown.prompt.now shown.line.now shown.info.now shown.end shown.cursor in
-    sends_cut g.D.Sink.told g.D.Sink.held g.D.Sink.has_failed _ (clearing_bytes c.args.row) drawn
+    sends_cut g.D.Sink.held g.D.Sink.has_failed _ (clearing_bytes c.args.row) drawn
     c.from_residual.ensures.1 c.in_err-send_cleared.ensures.err c.in_err-send_cleared.ensures.begins
 
 pub returns : goal.returns
@@ -19,5 +19,5 @@ returns g c =
     let wide = cluster_width c.args.grid.mode columns in
     let shown = c.args.shown in
     let drawn = drawing columns wide shown.prompt.now shown.line.now shown.info.now shown.end shown.cursor in
-    sends_then g.D.Sink.told g.D.Sink.held g.D.Sink.has_failed (clearing_bytes c.args.row) drawn
+    sends_then g.D.Sink.held g.D.Sink.has_failed (clearing_bytes c.args.row) drawn
     c.in_ok-send_cleared.ensures.sent c.in_ok-send_cleared.ensures.works c.draw_new.ensures

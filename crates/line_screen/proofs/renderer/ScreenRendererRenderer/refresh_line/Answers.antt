@@ -5,5 +5,5 @@ use Rattle.line_screen.proofs.renderer.ScreenRendererRenderer.refresh_line.Goals
 
 pub returns : goal.returns
 returns g c =
-    makes_call g.D.Sink.told g.D.Sink.held g.D.Sink.has_failed _ c.args.self.now c.draw.new.sink _ c.draw.result c.answer.result
+    makes_call g.D.Sink.held g.D.Sink.has_failed _ c.args.self.now c.draw.new.sink _ c.draw.result c.answer.result
     (search rules) c.draw.ensures c.answer.ensures
