@@ -1,18 +1,20 @@
 -- What a command makes of a state and of the ring.
 use Rattle.std.specs.Prelude.{◌≡◌, ◌⊎◌, Bool, true, false, Result, Ok, Err}
 use Rattle.line_config.specs.declared.errors.ReadlineError.{ReadlineError}
-use Rattle.line_help.specs.declared.completion as completions
-use Rattle.line_help.specs.declared.hint as hints
-use Rattle.line_help.specs.declared.highlight as highlights
-use Rattle.line_help.specs.declared.validate as verdicts
-use Rattle.line_help.specs.declared.history as histories
+use Rattle.line_help.specs.declared.completion.Completer as completers
+use Rattle.line_help.specs.declared.completion.Candidate as candidates
+use Rattle.line_help.specs.declared.hint.Hinter as hinters
+use Rattle.line_help.specs.declared.hint.Hint as hints
+use Rattle.line_help.specs.declared.highlight.Highlighter as highlighters
+use Rattle.line_help.specs.declared.validate.Validator as validators
+use Rattle.line_help.specs.declared.history.History as histories
 use Rattle.line_keys.specs.declared.command.Cmd.{Cmd}
 use Rattle.line_keys.specs.declared.command.Cmd.TheVariants.{AcceptLine, AcceptOrInsertLine, EndOfFile, Interrupt, Kill, Replace, ViYankTo}
 use Rattle.line_record.specs.Ring.{Ring}
 use Rattle.line_editor.specs.Commands.{Means, effect, ring_after_command, LeavesRing, outcome}
 use Rattle.line_editor.specs.States.{value_of, setting_of, Does}
 use Rattle.line_editor.specs.declared.commands.Status.{Status}
-use Rattle.line_editor.specs.declared.renderer as renderers
+use Rattle.line_editor.specs.declared.renderer.Renderer as renderers
 use Rattle.line_editor.specs.declared.state.State.{State}
 
 -- a command that neither ends a line nor kills
@@ -26,11 +28,11 @@ is_obeyed (Replace movement text) = false
 is_obeyed (ViYankTo movement) = false
 is_obeyed cmd = true
 
-module _ {Out H Hi K T : Type 0} {renderer : renderers.Renderer.Ghosts Out}
-    {completer : completions.Completer.Ghosts H K} {candidate : completions.Candidate.Ghosts K}
-    {hinter : hints.Hinter.Ghosts H T} {hint : hints.Hint.Ghosts T}
-    {highlighter : highlights.Highlighter.Ghosts H} {validator : verdicts.Validator.Ghosts H}
-    {history : histories.History.Ghosts Hi} where
+module _ {Out H Hi K T : Type 0} {renderer : renderers.Ghosts Out}
+    {completer : completers.Ghosts H K} {candidate : candidates.Ghosts K}
+    {hinter : hinters.Ghosts H T} {hint : hints.Ghosts T}
+    {highlighter : highlighters.Ghosts H} {validator : validators.Ghosts H}
+    {history : histories.Ghosts Hi} where
   -- the command was done whole, and ends as it says
   pub record Done (m : Means) (cmd : Cmd)
       (s t : State Out H Hi K T renderer completer candidate hinter hint highlighter validator

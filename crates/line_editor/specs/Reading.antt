@@ -2,11 +2,13 @@
 -- of it.
 use Rattle.std.specs.Prelude.{◌≡◌, ◌⊎◌, ⊤, ℕ, ◌<◌, ◌≤◌, List, ◌∷◌, Option, None, Result, Ok, Err, flat_map, IsTrue, IfErr, OnOk}
 use Rattle.line_config.specs.declared.errors.ReadlineError.{ReadlineError}
-use Rattle.line_help.specs.declared.completion as completions
-use Rattle.line_help.specs.declared.hint as hints
-use Rattle.line_help.specs.declared.highlight as highlights
-use Rattle.line_help.specs.declared.validate as verdicts
-use Rattle.line_help.specs.declared.history as histories
+use Rattle.line_help.specs.declared.completion.Completer as completers
+use Rattle.line_help.specs.declared.completion.Candidate as candidates
+use Rattle.line_help.specs.declared.hint.Hinter as hinters
+use Rattle.line_help.specs.declared.hint.Hint as hints
+use Rattle.line_help.specs.declared.highlight.Highlighter as highlighters
+use Rattle.line_help.specs.declared.validate.Validator as validators
+use Rattle.line_help.specs.declared.history.History as histories
 use Rattle.line_keys.specs.Answers.{Custom}
 use Rattle.line_keys.specs.Coming.{Coming}
 use Rattle.line_keys.specs.Feeds.{KeyFeed}
@@ -20,7 +22,7 @@ use Rattle.line_editor.specs.Sights.{info_after}
 use Rattle.line_editor.specs.States.{value_of, setting_of, Does}
 use Rattle.line_editor.specs.Turning.{Doing, Cut, Cause}
 use Rattle.line_editor.specs.Values.{Value, Setting, Transition}
-use Rattle.line_editor.specs.declared.renderer as renderers
+use Rattle.line_editor.specs.declared.renderer.Renderer as renderers
 use Rattle.line_editor.specs.declared.state.State.{State}
 
 -- a line by what it begins with
@@ -57,11 +59,11 @@ abbrev pub text_or : {A : Type 0} → Result A ReadlineError → List ℕ → Re
 text_or (Ok x) text = Ok text
 text_or (Err e) text = Err e
 
-module _ {Out H Hi K T : Type 0} {renderer : renderers.Renderer.Ghosts Out}
-    {completer : completions.Completer.Ghosts H K} {candidate : completions.Candidate.Ghosts K}
-    {hinter : hints.Hinter.Ghosts H T} {hint : hints.Hint.Ghosts T}
-    {highlighter : highlights.Highlighter.Ghosts H} {validator : verdicts.Validator.Ghosts H}
-    {history : histories.History.Ghosts Hi} where
+module _ {Out H Hi K T : Type 0} {renderer : renderers.Ghosts Out}
+    {completer : completers.Ghosts H K} {candidate : candidates.Ghosts K}
+    {hinter : hinters.Ghosts H T} {hint : hints.Ghosts T}
+    {highlighter : highlighters.Ghosts H} {validator : validators.Ghosts H}
+    {history : histories.Ghosts Hi} where
   -- it was read whole, and ends as it says
   pub record Read {A : Type 0} (line : Telling)
       (s t : State Out H Hi K T renderer completer candidate hinter hint highlighter validator

@@ -1,14 +1,16 @@
 -- A state that a line begins with.
 use Rattle.std.specs.Prelude.{◌≡◌, ℕ, true, false, [], length, Option, None, List}
-use Rattle.line_help.specs.declared.completion as completions
-use Rattle.line_help.specs.declared.hint as hints
-use Rattle.line_help.specs.declared.highlight as highlights
-use Rattle.line_help.specs.declared.validate as verdicts
-use Rattle.line_help.specs.declared.history as histories
+use Rattle.line_help.specs.declared.completion.Completer as completers
+use Rattle.line_help.specs.declared.completion.Candidate as candidates
+use Rattle.line_help.specs.declared.hint.Hinter as hinters
+use Rattle.line_help.specs.declared.hint.Hint as hints
+use Rattle.line_help.specs.declared.highlight.Highlighter as highlighters
+use Rattle.line_help.specs.declared.validate.Validator as validators
+use Rattle.line_help.specs.declared.history.History as histories
 use Rattle.line_editor.specs.Redraws.{fresh}
 use Rattle.line_editor.specs.States.{value_of}
 use Rattle.line_editor.specs.Values.{Value, Setting}
-use Rattle.line_editor.specs.declared.renderer as renderers
+use Rattle.line_editor.specs.declared.renderer.Renderer as renderers
 use Rattle.line_editor.specs.declared.state.State.{State}
 
 -- an empty line that grows as it needs to, at a place of the history
@@ -26,11 +28,11 @@ empty_at history = record {
 abbrev pub first_value : Setting → Value
 first_value s = empty_at (length s.entries)
 
-module _ {Out H Hi K T : Type 0} {renderer : renderers.Renderer.Ghosts Out}
-    {completer : completions.Completer.Ghosts H K} {candidate : completions.Candidate.Ghosts K}
-    {hinter : hints.Hinter.Ghosts H T} {hint : hints.Hint.Ghosts T}
-    {highlighter : highlights.Highlighter.Ghosts H} {validator : verdicts.Validator.Ghosts H}
-    {history : histories.History.Ghosts Hi} where
+module _ {Out H Hi K T : Type 0} {renderer : renderers.Ghosts Out}
+    {completer : completers.Ghosts H K} {candidate : candidates.Ghosts K}
+    {hinter : hinters.Ghosts H T} {hint : hints.Ghosts T}
+    {highlighter : highlighters.Ghosts H} {validator : validators.Ghosts H}
+    {history : histories.Ghosts Hi} where
   -- nothing is drawn, and nothing typed
   pub record Starts (out : Out) (prompt : List ℕ) (helper : Option H) (entries : Hi) (place : ℕ)
       (s : State Out H Hi K T renderer completer candidate hinter hint highlighter validator

@@ -5,16 +5,18 @@ use Rattle.line_buffer.specs.Cells.{origin}
 use Rattle.line_config.specs.declared.errors.ReadlineError.{ReadlineError}
 use Rattle.line_config.specs.declared.errors.ReadlineError.TheVariants.{Display, Helper, Memory}
 use Rattle.line_keys.specs.Replies.{Reply, fails}
-use Rattle.line_help.specs.declared.completion as completions
-use Rattle.line_help.specs.declared.hint as hints
-use Rattle.line_help.specs.declared.highlight as highlights
-use Rattle.line_help.specs.declared.validate as verdicts
-use Rattle.line_help.specs.declared.history as histories
+use Rattle.line_help.specs.declared.completion.Completer as completers
+use Rattle.line_help.specs.declared.completion.Candidate as candidates
+use Rattle.line_help.specs.declared.hint.Hinter as hinters
+use Rattle.line_help.specs.declared.hint.Hint as hints
+use Rattle.line_help.specs.declared.highlight.Highlighter as highlighters
+use Rattle.line_help.specs.declared.validate.Validator as validators
+use Rattle.line_help.specs.declared.history.History as histories
 use Rattle.line_record.specs.Items.{held_on}
 use Rattle.line_editor.specs.Calls.{MadeIn, Begun, IsAsked}
 use Rattle.line_editor.specs.Redraws.{asked}
 use Rattle.line_editor.specs.Values.{Value, Setting, Hooks, hooks_by, Transition, IsFailing}
-use Rattle.line_editor.specs.declared.renderer as renderers
+use Rattle.line_editor.specs.declared.renderer.Renderer as renderers
 use Rattle.line_editor.specs.declared.state.State.{State}
 
 -- a call of a hook answers where it doesn't fail, or one of its faults: Helper where it fails, Memory
@@ -41,16 +43,16 @@ reason_of failed hook Memory = ⊤
 reason_of failed hook why = ⊥
 
 -- what the hooks of a helper give, by its traits
-abbrev pub hooks_of : {H K T : Type 0} → completions.Completer.Ghosts H K
-    → hints.Hinter.Ghosts H T → verdicts.Validator.Ghosts H → H → Hooks
+abbrev pub hooks_of : {H K T : Type 0} → completers.Ghosts H K
+    → hinters.Ghosts H T → validators.Ghosts H → H → Hooks
 hooks_of completer hinter validator =
     hooks_by hinter.hint_of validator.verdict_of completer.completion_of completer.update_of
 
-module _ {Out H Hi K T : Type 0} {renderer : renderers.Renderer.Ghosts Out}
-    {completer : completions.Completer.Ghosts H K} {candidate : completions.Candidate.Ghosts K}
-    {hinter : hints.Hinter.Ghosts H T} {hint : hints.Hint.Ghosts T}
-    {highlighter : highlights.Highlighter.Ghosts H} {validator : verdicts.Validator.Ghosts H}
-    {history : histories.History.Ghosts Hi} where
+module _ {Out H Hi K T : Type 0} {renderer : renderers.Ghosts Out}
+    {completer : completers.Ghosts H K} {candidate : candidates.Ghosts K}
+    {hinter : hinters.Ghosts H T} {hint : hints.Ghosts T}
+    {highlighter : highlighters.Ghosts H} {validator : validators.Ghosts H}
+    {history : histories.Ghosts Hi} where
   abbrev pub value_of :
       State Out H Hi K T renderer completer candidate hinter hint highlighter validator history
       → Value

@@ -3,11 +3,13 @@
 use Rattle.std.specs.Prelude.{◌≡◌, ◌⊎◌, ⊤, ℕ, ◌<◌, ◌≤◌, Bool, List, Result, Ok, Err, IsTrue, IfErr, OnOk}
 use Rattle.line_config.specs.declared.errors.ReadlineError.{ReadlineError}
 use Rattle.line_config.specs.declared.errors.ReadlineError.TheVariants.{Eof, Interrupted, NotUtf8, PasteOutOfPlace, Reader, Display, Lines, HistoryText, Helper, Handler, Memory}
-use Rattle.line_help.specs.declared.completion as completions
-use Rattle.line_help.specs.declared.hint as hints
-use Rattle.line_help.specs.declared.highlight as highlights
-use Rattle.line_help.specs.declared.validate as verdicts
-use Rattle.line_help.specs.declared.history as histories
+use Rattle.line_help.specs.declared.completion.Completer as completers
+use Rattle.line_help.specs.declared.completion.Candidate as candidates
+use Rattle.line_help.specs.declared.hint.Hinter as hinters
+use Rattle.line_help.specs.declared.hint.Hint as hints
+use Rattle.line_help.specs.declared.highlight.Highlighter as highlighters
+use Rattle.line_help.specs.declared.validate.Validator as validators
+use Rattle.line_help.specs.declared.history.History as histories
 use Rattle.line_keys.specs.Answers.{Custom, HandlerFails}
 use Rattle.line_keys.specs.Coming.{Coming}
 use Rattle.line_keys.specs.Feeds.{KeyFeed}
@@ -18,7 +20,7 @@ use Rattle.line_editor.specs.Lines.{Turned, turn_of}
 use Rattle.line_editor.specs.States.{value_of, setting_of, Stays, Reason, Does}
 use Rattle.line_editor.specs.Values.{Value, Setting, IsFailing}
 use Rattle.line_editor.specs.declared.commands.Status.{Status}
-use Rattle.line_editor.specs.declared.renderer as renderers
+use Rattle.line_editor.specs.declared.renderer.Renderer as renderers
 use Rattle.line_editor.specs.declared.state.State.{State}
 
 -- a turn by what it begins with
@@ -46,11 +48,11 @@ cause_of custom failed hook feed Helper = hook
 cause_of custom failed hook feed Handler = HandlerFails custom
 cause_of custom failed hook feed Memory = ⊤
 
-module _ {Out H Hi K T : Type 0} {renderer : renderers.Renderer.Ghosts Out}
-    {completer : completions.Completer.Ghosts H K} {candidate : completions.Candidate.Ghosts K}
-    {hinter : hints.Hinter.Ghosts H T} {hint : hints.Hint.Ghosts T}
-    {highlighter : highlights.Highlighter.Ghosts H} {validator : verdicts.Validator.Ghosts H}
-    {history : histories.History.Ghosts Hi} where
+module _ {Out H Hi K T : Type 0} {renderer : renderers.Ghosts Out}
+    {completer : completers.Ghosts H K} {candidate : candidates.Ghosts K}
+    {hinter : hinters.Ghosts H T} {hint : hints.Ghosts T}
+    {highlighter : highlighters.Ghosts H} {validator : validators.Ghosts H}
+    {history : histories.Ghosts Hi} where
   -- a fault came, which no input gives: the first of these acts were done, and it cut them
   pub record Cut {A : Type 0} (acts : Doing)
       (s t : State Out H Hi K T renderer completer candidate hinter hint highlighter validator
