@@ -14,7 +14,7 @@ use Rattle.line_keys.proofs.Following.{then_stops, then_follows, ends_follow, as
 use Rattle.line_editor.specs.Lines.{begins_group, with_group_begun, line_phrase}
 use Rattle.line_editor.proofs.DoesLemmas.{is_err}
 
-abbrev pub by_group : Bool → Cmd → Script Cmd
+abbrev by_group : Bool → Cmd → Script Cmd
 by_group b cmd = if b then Asks DoingInsert (λ seen. Ends (Ok cmd)) else Ends (Ok cmd)
 
 module _ {S : Type 0} (d : KnownDisplay S) (custom : Custom) where

@@ -91,9 +91,8 @@ module _ {Out H Hi K T : Type 0} {renderer : renderers.Renderer.Ghosts Out}
       (result : Result Status ReadlineError) : Type 0 where
     pub goes : IsTrue feed'.told →
         Whole (turning custom indent input ring feed.coming) s t ring' input' feed'.coming result
-        ⊎ Cut
-        (turn_doing custom indent input ring
-        feed.coming) s t feed.coming feed'.coming ring ring' result
+        ⊎ Cut (turn_doing custom indent input ring feed.coming)
+        s t feed.coming feed'.coming ring ring' result
     pub told : IsTrue feed'.told → IsTrue feed.told
     pub keeps : feed'.bound ≤ feed.bound
     pub falls : OnOk result (feed'.bound < feed.bound)
