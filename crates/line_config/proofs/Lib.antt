@@ -1,5 +1,6 @@
 pub mod BufferLemmas
 pub mod FeedLemmas
+pub mod ForetoldLemmas
 pub mod KnownLemmas
 pub mod Lent
 pub mod NotesLemmas

@@ -1,5 +1,5 @@
 -- Bytes that are said of a device beforehand, held against what its reads gave.
-use Rattle.std.specs.Prelude.{ℕ, ◌==◌, Bool, true, false, if◌then◌else◌, List, [], ◌∷◌, Option, Some, None}
+use Rattle.std.specs.Prelude.{IsTrue, ℕ, ◌==◌, Bool, true, false, if◌then◌else◌, List, [], ◌∷◌, Option, Some, None}
 use Rattle.line_config.specs.declared.device.Last.{Last}
 use Rattle.line_config.specs.declared.device.Last.TheVariants.{End, Failed}
 
@@ -17,3 +17,12 @@ agrees (Some left) last None = true
 agrees (Some []) End (Some End) = true
 agrees (Some []) Failed (Some Failed) = true
 agrees (Some left) last met = false
+
+-- what stands after the bytes, where the reads met this
+abbrev pub last_met : Option Last → Last
+last_met None = End
+last_met (Some last) = last
+
+-- what reads gave, and the end or the failure that they met, agree with themselves
+abbrev pub EachRunAgrees : Type 0
+EachRunAgrees = (given : List ℕ) (met : Option Last) → IsTrue (agrees (left_of given given) (last_met met) met)

@@ -10,6 +10,7 @@ pub mod configurer;
 pub mod device;
 pub mod errors;
 pub mod foretold;
+pub mod laws;
 pub mod log;
 pub mod memory;
 pub mod recorded;
