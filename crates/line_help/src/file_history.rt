@@ -110,7 +110,8 @@ impl FileHistory {
     /// before. Then none is new. Where the sink fails the history stays as it is, and the sink has
     /// taken a beginning of the rows.
     pub fn append_to<S: Sink>(&mut self, sink: &mut S) -> Result<(), ReadlineError>
-        ensures sends { Sends S.held S.has_failed (text_to_append self.old) sink.old sink.new result }
+        ensures sends { Sends S.held S.has_failed (text_to_append self.old) sink.old sink.new
+            result }
         ensures saved { OnOk result (self.new ≡ all_saved self.old) }
         ensures kept { OnErr result (self.new ≡ self.old) }
         ensures fault { IfErr result (λ e. e ≡ HistoryText) }

@@ -20,10 +20,10 @@ pub enum Event {
 /// A source of keys and pasted texts.
 ///
 /// `feed` is what is known of it. Where it is `told`, what its reads gave so far is what was said
-/// of it, and `coming` is what of that is still to come: so each call's answer is known where the
-/// reader is told after it. `bound` falls with each key and each paste, so that every loop which
-/// reads ends. `reason` is what has happened to the reader where it refuses a call. `kept` is what
-/// it has read ahead.
+/// of it, and `coming` is what is still to come of that: so the answer of a call is known where the
+/// reader is told after the call. `bound` falls with each key and each paste, so that every loop
+/// which reads ends. `reason` is what has happened to the reader where it refuses a call. `kept` is
+/// what it has read ahead.
 ///
 /// A refusal other than the end of input is for good: every later call is refused in the same way.
 pub trait RawReader {
