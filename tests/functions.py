@@ -63,7 +63,7 @@ def impl_of(head):
     head = re.split(r"\bwhere\b", head)[0]
     trait, found, of = head.partition(" for ")
     trait, of = (trait, of) if found else ("", head)
-    return "impl", named(of.strip(), parameters), words(trait, parameters)
+    return "impl", named(of.strip(), parameters) + ("" if found else given(of, parameters)), words(trait, parameters)
 
 
 def named(of, parameters):
@@ -72,6 +72,12 @@ def named(of, parameters):
         count = len([it for it in without_generics(of).strip("()").split(",") if it.strip()])
         return f"Tuple{count}" if count else "Unit"
     return "Any" if of in parameters else words(without_generics(of), ())
+
+
+def given(of, parameters):
+    """What stands behind a type's name where its own impl is not for all its arguments: these, each with a plus before it."""
+    arguments = re.findall(r"\w+", re.sub(r"\b\w+::|'\w+\b", "", of.strip().partition("<")[2]))
+    return "" if {*arguments} <= {*parameters} else "".join(f"+{it}" for it in arguments)
 
 
 def words(path, parameters):
@@ -166,5 +172,5 @@ class Sources:
             return "::".join([*here, function.name])
         kind, of, trait = function.owner
         # A type's own methods stand in its module, wherever their impl is.
-        home = here if kind == "trait" or trait else [self.crate, *self.homes.get(of, function.module)]
+        home = here if kind == "trait" or trait else [self.crate, *self.homes.get(of.partition("+")[0], function.module)]
         return "::".join([*home, of + trait, function.name])

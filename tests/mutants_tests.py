@@ -449,6 +449,8 @@ impl Show for (u8, u16) { fn show(&self) {} }
 impl Show for () { fn show(&self) {} }
 impl Show for &str { fn show(&self) {} }
 impl<T: Drop> Show for T { fn show(&self) {} }
+impl<'a, T, const N: usize> Kept<'a, T, N> { fn own(&self) {} }
+impl<T> Kept<T, crate::Pair> { fn made() {} }
 pub trait Show {
     ghost seen : { ℕ }
     fn show(&self) ensures { { a } ≡ { b } };
@@ -460,7 +462,8 @@ mod inner { fn f() { fn g() {} } }
     found = [sources.path(it).removeprefix("small::") for it in sources.found["src/at/place.rt"]]
     same("paths", found, [
         "Pair::other", "at::place::KeptFromVecRef::from", "at::place::Tuple2Show::show", "at::place::UnitShow::show",
-        "at::place::RefStrShow::show", "at::place::AnyShow::show", "at::place::Show::shown", "at::place::inner::f",
+        "at::place::RefStrShow::show", "at::place::AnyShow::show", "at::place::Kept::own", "at::place::Kept+T+Pair::made",
+        "at::place::Show::shown", "at::place::inner::f",
     ])
 
 
