@@ -136,7 +136,7 @@ impl<S: Source + Drop, H: Helper + Drop, D: Sink + Drop, L: Sink + Drop> Desk<S,
     ghost use Rattle.line_keys.specs.Answers.{custom_of};
     ghost use Rattle.line_editor.specs.Running.{helping_by};
     ghost use Rattle.keyline.specs.Desks.{TakesLine, TakesLines};
-ghost use Rattle.keyline.specs.Known.{known_by};
+    ghost use Rattle.keyline.specs.Known.{known_by};
 
     /// Reads a line, draws it, and keeps and writes it where it is accepted.
     fn one_line<B: Decides>(

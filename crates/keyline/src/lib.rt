@@ -21,8 +21,8 @@ pub use ending::Ending;
 pub use line_buffer::{ChangeListener, LineBuffer};
 pub use line_config::{
     Behavior, BellStyle, Builder, ColorMode, CompletionType, Config, Configurer, DeviceFailed,
-    EditMode, Foretold, HistoryDuplicates, HookFault, Last, ReadSource, ReadlineError, Sink, SliceSource,
-    Source, VecSink, WriteSink,
+    EditMode, Foretold, HistoryDuplicates, HookFault, Last, ReadSource, ReadlineError, Sink,
+    SliceSource, Source, VecSink, WriteSink,
 };
 pub use line_editor::{
     Anchor, At, CharSearch, Direction, GraphemeClusterMode, Movement, RepeatCount, Unit, Word,

@@ -70,15 +70,23 @@ fn run(rt: &HostRuntime, options: &Options) -> ExitCode
     };
     match play::<Brand>(rt, options, words, old.as_slice()) {
         Ok(played) => ended(rt, kept(rt, options, played.ending, &played.text)),
-        Err(ReadlineError::HistoryText | ReadlineError::Reader) =>
-            not_loaded(rt, "history does not load", NO_HISTORY),
+        Err(ReadlineError::HistoryText | ReadlineError::Reader) => not_loaded(
+            rt,
+            "history does not load",
+            NO_HISTORY,
+        ),
         Err(why) => ended(rt, Ending::from(why)),
     }
 }
 
 /// What the program has after its session: keys were read from standard input, drawings and lines
 /// were written to standard error and standard output, and the history's text is in memory.
-type Played<K> = Ended<ReadSource<StdinLock<'static>, K>, WriteSink<Stderr>, WriteSink<Stdout>, VecSink>;
+type Played<K> = Ended<
+    ReadSource<StdinLock<'static>, K>,
+    WriteSink<Stderr>,
+    WriteSink<Stdout>,
+    VecSink,
+>;
 
 /// The session. For all bytes of `K` that agree with what the reads of standard input gave, the
 /// writes of standard output and standard error took the lines and the display bytes of the session
