@@ -4,7 +4,8 @@
 
 use keyline::{
     Bindings, Cmd, Config, Ending, Event, EventHandler, HelperParts, KeyEvent,
-    MatchingBracketValidator, Movement, ReadSource, ReadlineError, Session, SliceSource, WriteSink,
+    MatchingBracketValidator, Movement, ReadlineError, Session, SliceSource, WriteSink,
+    standard_devices,
 };
 use std::alloc::Global;
 use std::io;
@@ -30,6 +31,7 @@ fn helper() -> HelperParts<(), (), (), MatchingBracketValidator> {
 
 fn play(rt: &HostRuntime) -> Result<Ending, ReadlineError> {
     let alloc = rt.alloc();
+    let (keys, display, lines) = standard_devices(rt.stdin(), rt.stderr(), rt.stdout());
     let session = Session::open(
         alloc,
         Config::default(),
@@ -37,10 +39,10 @@ fn play(rt: &HostRuntime) -> Result<Ending, ReadlineError> {
         SliceSource::new(b""),
         Some(helper()),
         "? ",
-        ReadSource::new(rt.reader()),
+        keys,
         80,
-        WriteSink::new(rt.stderr()),
-        WriteSink::new(rt.stdout()),
+        display,
+        lines,
         WriteSink::new(io::sink()),
     )?;
     Ok(session.run().ending)
