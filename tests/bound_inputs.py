@@ -25,9 +25,9 @@ KEYS.update({"Delete": b"\x1b[3~", "Insert": b"\x1b[2~", "PageUp": b"\x1b[5~", "
 KEYS.update({"C-Left": b"\x1b[1;5D", "A-Right": b"\x1b[1;3C", "S-Up": b"\x1b[1;2A", "F1": b"\x1bOP", "F5": b"\x1b[15~"})
 KEYS.update({"UnknownEscSeq": b"\x1b[99~", "PasteEnd": PASTED, "PasteStart": PASTE, "C-H": b"\x08", "C-M": b"\r", "C-I": b"\t"})
 NAMES = list(KEYS)
-# The one that accepts a session's last line: nothing else is bound to it.
-ACCEPTING = "F12"
-KEYS[ACCEPTING] = b"\x1b[24~"
+# The one that accepts a session's last line: nothing else is bound to it, and no session has it.
+ACCEPTING = "ʘ"
+KEYS[ACCEPTING] = ACCEPTING.encode()
 # Those that begin a sequence which is reached.
 FIRST = ["C-X", "C-X", "C-X", "F5", "F1", "S-Up", "PageUp", "Insert", "C-O", "C-V", "A-Q", "C-A-Z", "UnknownEscSeq"]
 
@@ -145,7 +145,7 @@ def shorter_words(word):
             if less:
                 yield f"bind:{'→'.join(less)}⇒{command}"
     elif name in ("prompt", "loaded", "hint", "taken", "message", "offers"):
-        for less in without_parts(meant(rest)):
+        for less in without_parts(meant(rest).decode(errors="surrogateescape")):
             yield f"{name}:{noted(less)}"
     elif found and rest.isdigit() and int(rest) > 2:
         yield f"{name}:2"

@@ -23,7 +23,8 @@ import tempfile
 
 from checks import HUNG, PROGRAM, run_all, shim
 from display import Unjudged
-from hunting import Fault, hunted, is_text, judge_open_line, rows_pass, same, saved_after, shown_lines, tell, test_of
+from hunting import (MUCH, Fault, hunted, is_text, judge_open_line, most_judged, rows_pass, same, same_as_one, saved_after,
+                     shown_lines, tell, test_of)
 from inputs import ENTER, KINDS, PASTE, PASTED, Session, large_pastes
 
 # Sessions that are played each time before the hunt: what it found once, and ends of what it looks for.
@@ -46,8 +47,8 @@ ROWS = [
 # The words of each status that is no fault of a device.
 ENDINGS = {0: b"", 130: b"", 3: b"keyline: input is not UTF-8\n", 4: b"keyline: paste out of place\n",
            5: b"keyline: history does not load\n", 6: b"keyline: words do not load\n"}
-# Seconds of processor that a session may take.
-PATIENCE = 60
+# What a session may take: seconds of processor, bytes of memory, and bytes of what it writes into one stream.
+LIMITS = {resource.RLIMIT_CPU: 60, resource.RLIMIT_AS: 2_000_000_000, resource.RLIMIT_FSIZE: 64_000_000}
 # Of how many sessions one is a large paste, and how many keys such a one has at least.
 SELDOM, SHORT = 3000, 100_000
 
@@ -102,7 +103,8 @@ class Player:
     @staticmethod
     def wait(program):
         try:
-            resource.prlimit(program, resource.RLIMIT_CPU, (PATIENCE, PATIENCE))
+            for kind, most in LIMITS.items():
+                resource.prlimit(program, kind, (most, most))
         except ProcessLookupError:
             pass
         signal.signal(signal.SIGALRM, lambda *_: os.kill(program, signal.SIGKILL))
@@ -125,7 +127,7 @@ class Player:
         """Plays a session in both ways, and raises what is wrong with it."""
         whole = self.play(session, False)
         if whole.status == -signal.SIGXFSZ:
-            raise Unjudged("more than there is room for")
+            raise Unjudged(MUCH)
         if whole != (pieces := self.play(session, True)):
             tell("reads", f"one byte a read leaves another run: {pieces!r} for {whole!r}")
         shown = judge_run(session, whole)
@@ -168,10 +170,10 @@ def judge_run(session, ran):
     reasons = {0: True, 130: b"\x03" in keys or b"\x1c" in keys, 3: not is_text(keys), 4: PASTE in keys}
     if not reasons.get(ran.status, False):
         tell("ending", f"status {ran.status} of keys that have no reason for it")
-    lines, shown = shown_lines(session, display, ran.lines)
-    saved = saved_after(session.history, lines)
-    left = session.history if saved is None else saved
-    same("history", ran.files, {} if left is None else {"history": left})
+    ways, shown = shown_lines(session, display, ran.lines)
+    saved = [saved_after(session.history, lines) for lines in ways]
+    left = [session.history if text is None else text for text in saved]
+    same_as_one("history", ran.files, [{} if text is None else {"history": text} for text in left])
     return shown
 
 
@@ -194,7 +196,7 @@ def main(words):
     print(f"seed {given.seed}", flush=True)
     shim("one_byte")
     hunts = hunted(Player, session_of(given.seed), given.seconds)
-    run_all([rows_pass(Player, ROWS), *(test_of(kind, hunts) for kind in [*KINDS, large_pastes])])
+    run_all([rows_pass(Player, ROWS), *(test_of(kind, hunts) for kind in [*KINDS, large_pastes]), most_judged(hunts)])
 
 
 if __name__ == "__main__":

@@ -13,6 +13,8 @@ line, it tells what the line was that stood open: prompt, line and a hint or mes
 of it. What fails is cut down, and printed as a row for ROWS.
 """
 import argparse
+import collections
+import contextlib
 import dataclasses
 import hashlib
 import itertools
@@ -23,8 +25,9 @@ import subprocess
 from bound_inputs import ACCEPTING, KEYS, KINDS, Session, noted_keys
 from checks import built, run_all
 from display import Unjudged
-from hunting import Fault, hunted, is_text, judge_open_line, rows_pass, same, saved_after, shown_lines, tell, test_of
-from inputs import PASTE
+from hunting import (MUCH, Fault, hunted, is_text, judge_open_line, most_judged, rows_pass, same, same_as_one, saved_after,
+                     shown_lines, tell, test_of)
+from inputs import ESC, PASTE
 from sessions import key
 
 PROGRAM = built("sessions_program")
@@ -51,12 +54,17 @@ ab Esc c Enter = nothing
 👩🏽‹e2›‹80›‹8d›💻 a Enter = nothing
 : advised hint:b␊c columns:4
 a é Left = nothing
+: adding columns:3 advised verdict:Invalid later:ValidTold later-from:4 message:漢
+abc Enter Enter 漢 Enter Enter = nothing
 : reads:2,interrupted,1.. prompt:漢␊
 ‹e6›‹bc›‹a2› Left a Enter = nothing
 """
 
-# Seconds of processor that a batch of sessions may take, and how many one has.
-PATIENCE, BATCH = 100, 40
+# How many sessions a run of the program plays; what it may take, in seconds of processor and bytes of memory; and how many
+# bytes of what it tells of one way are read. A session that leaves more isn't judged.
+BATCH, LIMITS, LONGEST = 40, {resource.RLIMIT_CPU: 100, resource.RLIMIT_AS: 64_000_000}, 2_000_000
+# How the program ends where it finds no memory for what it tells.
+WANTS_MEMORY = b"Error: memory allocation failed\n"
 
 
 @dataclasses.dataclass(frozen=True)
@@ -69,14 +77,67 @@ class Left:
     display: bytes = b""
 
 
-def limit():
-    """Leaves a program so many seconds of processor."""
-    resource.setrlimit(resource.RLIMIT_CPU, (PATIENCE, PATIENCE))
+TOO_LONG = Left("too long")
 
 
-def left_of(row):
-    ending, *parts = row.split(" .")
-    return Left(ending, *map(bytes.fromhex, parts))
+def rows_for(session):
+    """A session's rows: with its keys in one read, as its own word cuts them, and with a key more that accepts the line."""
+    others = " ".join(word for word in session.words if not word.startswith("reads:"))
+    ways = [("", b""), (session.cut(), b""), (f"bind:{ACCEPTING}⇒AcceptLine", KEYS[ACCEPTING])]
+    return "".join(f"\n: {others} {word}\n{noted_keys(session.keys + key)} = nothing" for word, key in ways)
+
+
+class Run:
+    """A run of the program, which plays sessions in their three ways. What it tells of each is read as it comes."""
+
+    def __init__(self, sessions):
+        self.program = subprocess.Popen([PROGRAM, "each"], **dict.fromkeys(("stdin", "stdout", "stderr"), subprocess.PIPE))
+        for kind, most in LIMITS.items():
+            resource.prlimit(self.program.pid, kind, (most, most))
+        # It reads all before it tells anything.
+        with contextlib.suppress(BrokenPipeError), self.program.stdin as rows:
+            rows.write("".join(map(rows_for, sessions)).encode())
+
+    def __enter__(self):
+        return self
+
+    def __exit__(self, *_):
+        self.program.kill()
+        self.program.wait()
+        self.program.stdout.close()
+        self.program.stderr.close()
+
+    def left(self):
+        """What the next way left, None at the end."""
+        row = self.program.stdout.readline(LONGEST)
+        if row.endswith(b"\n"):
+            ending, *parts = row[:-1].decode().split(" .")
+            return Left(ending, *map(bytes.fromhex, parts))
+        while row and not row.endswith(b"\n"):
+            row = self.program.stdout.readline(LONGEST)
+        return TOO_LONG if row else None
+
+    def fault(self):
+        """Why it told no more."""
+        said = self.program.stderr.read(1000)
+        status = self.program.wait()
+        if said.endswith(WANTS_MEMORY):
+            return Unjudged(MUCH)
+        return Fault("program", f"status {status}, {said!r}")
+
+
+def played(sessions):
+    """What is wrong with each of these sessions, or why it can't be judged. It stops before one that isn't told, where that
+    isn't the only one."""
+    with Run(sessions) as run:
+        for session in sessions:
+            ways = [run.left() for _ in range(3)]
+            if None not in ways:
+                yield found_of(session, *ways)
+                continue
+            if len(sessions) == 1:
+                yield run.fault()
+            return
 
 
 class Player:
@@ -89,35 +150,16 @@ class Player:
         pass
 
     @staticmethod
-    def play(sessions):
-        """What these sessions leave, each in its three ways, and the run; where that was cut off, some are missing."""
-        rows = []
-        for session in sessions:
-            others = " ".join(word for word in session.words if not word.startswith("reads:"))
-            ways = [("", b""), (session.cut(), b""), (f"bind:{ACCEPTING}⇒AcceptLine", KEYS[ACCEPTING])]
-            rows += [f"\n: {others} {word}\n{noted_keys(session.keys + key)} = nothing" for word, key in ways]
-        ran = subprocess.run([PROGRAM, "each"], input="".join(rows).encode(), capture_output=True, preexec_fn=limit)
-        told = ran.stdout.decode().split("\n")[:-1]
-        return list(map(left_of, told)), ran
-
-    def faults(self, sessions):
+    def faults(sessions):
         """Each of these sessions, and what is wrong with it, or why it can't be judged."""
         sessions = iter(sessions)
-        while batch := list(itertools.islice(sessions, BATCH)):
-            left, ran = self.play(batch)
-            if ran.returncode != 0 or len(left) != 3 * len(batch):
-                yield from self.apart(batch, ran)
-                continue
-            for at, session in enumerate(batch):
-                yield session, found_of(session, *left[3 * at:3 * at + 3])
-
-    def apart(self, batch, ran):
-        """The sessions of a batch that the program didn't end, each by itself."""
-        if len(batch) == 1:
-            yield batch[0], Fault("program", f"status {ran.returncode}, {ran.stderr[-200:]!r}")
-            return
-        for session in batch:
-            yield from self.faults([session])
+        while batch := collections.deque(itertools.islice(sessions, BATCH)):
+            while batch:
+                for found in played(tuple(batch)):
+                    yield batch.popleft(), found
+                if batch:
+                    alone = batch.popleft()
+                    yield alone, next(played((alone,)))
 
 
 def found_of(session, whole, pieces, accepted):
@@ -130,18 +172,20 @@ def found_of(session, whole, pieces, accepted):
 
 
 def judge(session, whole, pieces, accepted):
-    if whole.ending == "Memory" and not has_reason(session, "Memory"):
-        raise Unjudged("more than there is room for")
+    is_short = "Memory" in (whole.ending, pieces.ending) and (whole != pieces or not has_reason(session, "Memory"))
+    if is_short or TOO_LONG in (whole, pieces, accepted):
+        raise Unjudged(MUCH)
     if whole != pieces:
         tell("reads", f"other reads leave another run: {pieces!r} for {whole!r}")
     if not is_text(session.history):
         return same("ending", whole, Left("unopened HistoryText"))
     if not has_reason(session, whole.ending):
         tell("ending", f"{whole.ending} of words and keys that have no reason for it")
-    lines, shown = shown_lines(session, whole.display, whole.lines, whole.ending not in ("Helper", "Memory"))
-    saved = saved_after(session.history, lines) if "adding" in session.words else None
-    same("history", whole.saved, saved or b"")
-    if (whole.ending, accepted.ending) == ("Eof", "Eof"):
+    ways, shown = shown_lines(session, whole.display, whole.lines, whole.ending not in ("Helper", "Memory"))
+    saved = [saved_after(session.history, lines) if "adding" in session.words else None for lines in ways]
+    same_as_one("history", whole.saved, [text or b"" for text in saved])
+    # (an Esc at the input's end is another key with one more behind it)
+    if (whole.ending, accepted.ending) == ("Eof", "Eof") and not session.keys.endswith(ESC):
         judge_open_line(session, shown, whole.lines, accepted.lines)
     return None
 
@@ -191,7 +235,7 @@ def main():
     given = parser.parse_args()
     print(f"seed {given.seed}", flush=True)
     hunts = hunted(Player, session_of(given.seed), given.seconds)
-    run_all([rows_pass(Player, list(rows_of(ROWS))), *(test_of(kind, hunts) for kind in KINDS)])
+    run_all([rows_pass(Player, list(rows_of(ROWS))), *(test_of(kind, hunts) for kind in KINDS), most_judged(hunts)])
 
 
 if __name__ == "__main__":

@@ -4,7 +4,6 @@ import itertools
 import os
 import pickle
 import re
-import resource
 import sys
 import time
 import traceback
@@ -15,10 +14,10 @@ from display import REDRAWN, Display, Drawing, Meaningless, Unjudged
 COUNT = re.compile(r"\(arg: -?\d+\) ")
 # Lines that a history keeps.
 KEPT = 100
-# Bytes that a session may write into one stream, and hold.
-ROOM, SPACE = 64_000_000, 2_000_000_000
-# How many faults end a hunt.
-ENOUGH = 3
+# Why a session isn't judged that is too large.
+MUCH = "more than there is room for"
+# How many faults end a hunt, for how many seconds one is cut down, and of how many sessions one at most isn't judged.
+ENOUGH, CUTTING, FEW = 3, 60, 50
 
 
 class Fault(Exception):
@@ -37,6 +36,11 @@ def same(kind, found, expected):
         tell(kind, f"expected {expected!r}, found {found!r}")
 
 
+def same_as_one(kind, found, expected):
+    if found not in expected:
+        tell(kind, f"expected {expected[0]!r}, found {found!r}")
+
+
 def is_text(data):
     try:
         data.decode()
@@ -46,39 +50,54 @@ def is_text(data):
 
 
 def shown_lines(session, display, lines, is_drawn=True):
-    """The lines that were written, as the display shows them, each where it ends, and what it shows at last; all else on it is as
-    it must be. The line that was begun may be undrawn, where a helper failed."""
+    """In which ways what was written falls into lines, as the display shows them, each where it ends, and what it shows at last;
+    all else on it is as it must be. The line that was begun may be undrawn, where a helper failed."""
     if lines and not (lines.endswith(b"\n") and is_text(lines)):
         tell("lines", f"not whole: {lines[-60:]!r}")
-    text, found, ends = lines.decode(), [], display.count(b"\r\n" + REDRAWN)
+    text, ways, ends = lines.decode(), {0: [[]]}, display.count(b"\r\n" + REDRAWN)
     shown = Display(session.columns, session.clusters)
     try:
-        for _ in shown.read(display):
-            line = ended_line(session, shown, text, len(found) + 1 == ends)
-            found.append(line)
-            text = text[len(line) + 1:]
+        for number, _ in enumerate(shown.read(display), 1):
+            ways = with_one_more(session, shown, text, ways, number == ends)
             shown.top = shown.cursor[0]
     except Meaningless as fault:
         tell("display", str(fault))
-    if text:
-        tell("lines", f"the display shows the end of none of {text!r}")
+    if len(text) not in ways:
+        tell("lines", f"the display shows the end of none of {text[min(ways):]!r}")
     if is_drawn and not shows_prompt(session, shown):
         tell("display", f"at the end it shows no prompt, but {pictured(shown)}")
-    return found, shown
+    return ways[len(text)], shown
 
 
-def ended_line(session, shown, text, is_last):
-    """The line at a text's beginning that the display shows: up to its first newline, or a later one, as lines hold some."""
-    ends = [len(text) - 1] if is_last else (at for at, char in enumerate(text) if char == "\n")
-    for end in itertools.islice(ends, 1000):
-        if end >= 0 and is_shown(session, shown, text[:end]):
-            return text[:end]
-    return tell("cells", f"of {text[:200]!r} the display shows no line, but {pictured(shown)}")
+def with_one_more(session, shown, text, ways, is_last):
+    """The ways in which a text falls into lines up to each place, with one line more, which the display shows."""
+    found = {}
+    for begun, before in ways.items():
+        for end in shown_ends(session, shown, text, begun, is_last):
+            found.setdefault(end + 1, []).extend([*way, text[begun:end]] for way in before)
+    if not found:
+        tell("cells", f"of {text[min(ways):][:200]!r} the display shows no line, but {pictured(shown)}")
+    return found
 
 
-def is_shown(session, shown, line):
-    """Whether the display shows prompt and line from its top on, and a message at most, and the cursor is in the row below."""
-    drawn = Drawing(session.columns, session.prompt, line, clusters=session.clusters)
+def shown_ends(session, shown, text, begun, is_last):
+    """Where the lines end that begin at a place in a text and that the display shows: at its first newline, or at a later one, as
+    lines hold some. Where two drawings look alike there are several."""
+    drawn, drawn_to = Drawing(session.columns, session.prompt, clusters=session.clusters), begun
+    for end in [len(text) - 1] if is_last else (found.start() for found in re.compile("\n").finditer(text, begun)):
+        if end < begun:
+            return
+        drawn.draw(text[drawn_to:end])
+        drawn_to = end
+        if is_shown(session, shown, text[begun:end], drawn):
+            yield end
+        if shown.top + drawn.place[0] + 1 >= shown.cursor[0]:
+            return
+
+
+def is_shown(session, shown, line, drawn):
+    """Whether the display shows the drawing of prompt and line from its top on, and a message at most, and the cursor is in the
+    row below."""
     return any(shown.below(shown.top) == each.below(0) and shown.cursor == (shown.top + each.place[0] + 1, 0)
                for each in (drawn, *session.with_message(shown, line, drawn.place)))
 
@@ -155,13 +174,13 @@ def without_parts(parts):
         size //= 2
 
 
-def cut_down(player, session, fault, tries=3000):
-    """The smallest session found that fails in the same way, and how."""
-    begun = True
+def cut_down(player, session, fault):
+    """The smallest session found in some time that fails in the same way, and how."""
+    begun, end = True, time.monotonic() + CUTTING
     while begun:
         begun = False
-        for less, other in player.faults(itertools.islice(session.shorter(), tries)):
-            tries -= 1
+        in_time = itertools.takewhile(lambda _: time.monotonic() < end, session.shorter())
+        for less, other in player.faults(in_time):
             if other is not None and other.args[0] == fault.args[0]:
                 session, fault, begun = less, other, True
                 break
@@ -176,7 +195,7 @@ class Hunt:
 
     def play(self, player, session_at, numbers, end):
         """Plays the sessions of these numbers, as a player takes them, until the end."""
-        names = []
+        names = collections.deque()
 
         def sessions():
             for number in numbers:
@@ -186,8 +205,8 @@ class Hunt:
                 names.append((kind.__name__, number))
                 yield session
 
-        for at, (session, fault) in enumerate(player.faults(sessions())):
-            name, number = names[at]
+        for session, fault in player.faults(sessions()):
+            name, number = names.popleft()
             self.played[name] += 1
             if isinstance(fault, Unjudged):
                 self.unjudged[str(fault)] += 1
@@ -203,8 +222,6 @@ def hunted(player, session_at, seconds):
         report, told = os.pipe()
         if os.fork() == 0:
             try:
-                resource.setrlimit(resource.RLIMIT_FSIZE, (ROOM, ROOM))
-                resource.setrlimit(resource.RLIMIT_AS, (SPACE, SPACE))
                 with player() as plays:
                     found = pickle.dumps(Hunt().play(plays, session_at, itertools.count(number, count), end))
                 with open(told, "wb") as out:
@@ -252,3 +269,15 @@ def test_of(kind, hunts):
 
     test.__name__ = kind.__name__
     return test
+
+
+def most_judged(hunts):
+    """A test that fails where many sessions weren't judged."""
+
+    def most_sessions_are_judged():
+        played = sum(sum(hunt.played.values()) for hunt in hunts)
+        unjudged = sum(sum(hunt.unjudged.values()) for hunt in hunts)
+        if unjudged * FEW > played:
+            raise Failed(f"{unjudged} of {played} are not")
+
+    return most_sessions_are_judged
