@@ -182,6 +182,13 @@ def shown_cluster(cluster, columns, counted):
     return (cluster, width(cluster, counted))
 
 
+def counted_row(row):
+    """A row's number, where rows are counted."""
+    if row > MOST_ROWS:
+        raise Unjudged("more rows than are counted")
+    return row
+
+
 class Rows:
     """Rows of cells: each has its columns that aren't blank, with a cluster, or with INSIDE for the rest of one."""
 
@@ -191,8 +198,7 @@ class Rows:
         self.columns, self.counted, self.rows = columns, clusters, []
 
     def row(self, number):
-        if number > MOST_ROWS:
-            raise Unjudged("more rows than are counted")
+        counted_row(number)
         while len(self.rows) <= number:
             self.rows.append({})
         return self.rows[number]
@@ -228,7 +234,7 @@ class Drawing(Rows):
     def draw(self, text):
         for number, piece in enumerate(text.split("\n")):
             if number:
-                self.place = (self.place[0] + 1, 0)
+                self.place = (counted_row(self.place[0] + 1), 0)
             if PRINTABLE.match(piece):
                 self.lay((char, 1) for char in piece)
             else:
@@ -306,7 +312,7 @@ class Display(Rows):
             col += by if way == b"C" else -by
         if row < 0 or not 0 <= col < self.columns:
             self.tell(f"a move by {by} {way.decode()} goes out of the display")
-        self.cursor = (row, col)
+        self.cursor = (counted_row(row), col)
 
     def stay_inside(self):
         if self.cursor[1] == self.columns:
@@ -320,7 +326,7 @@ class Display(Rows):
             return
         self.stay_inside()
         if word == b"\n":
-            self.cursor = (row + 1, col)
+            self.cursor = (counted_row(row + 1), col)
         elif word == b"\x1b[H":
             self.cursor, self.homed = (0, 0), True
         elif word != b"\x07":

@@ -18,6 +18,8 @@ KEPT = 100
 MUCH = "more than there is room for"
 # How many faults end a hunt, for how many seconds one is cut down, and of how many sessions one at most isn't judged.
 ENOUGH, CUTTING, FEW = 3, 60, 50
+# In how many ways what was written may fall into lines that look alike.
+ALIKE = 1000
 
 
 class Fault(Exception):
@@ -75,6 +77,8 @@ def with_one_more(session, shown, text, ways, is_last):
     for begun, before in ways.items():
         for end in shown_ends(session, shown, text, begun, is_last):
             found.setdefault(end + 1, []).extend([*way, text[begun:end]] for way in before)
+    if sum(map(len, found.values())) > ALIKE:
+        raise Unjudged("lines that look alike in too many ways")
     if not found:
         tell("cells", f"of {text[min(ways):][:200]!r} the display shows no line, but {pictured(shown)}")
     return found
