@@ -212,10 +212,10 @@ def check_logs(checks):
 
 
 def check_kit(checks):
-    """README: the kit that the repository is proved with is the one that is here."""
+    """README: the kit that is here is one of those that the repository is proved with."""
     version = subprocess.run(["rt", "version"], capture_output=True, text=True, check=True).stdout.strip()
     told = [it for line in lines_of("README.md") for it in re.findall(r"`(rattle-kit-[^`]*)`", line)]
-    checks.expect(told == [version], f"README: it names the kit {', '.join(told) or 'nowhere'}, and rt version says {version}")
+    checks.expect(version in told, f"README: it names the kits {', '.join(told) or 'nowhere'}, and rt version says {version}")
 
 
 def crates_listed():
