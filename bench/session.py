@@ -123,4 +123,5 @@ def main(program):
         print(f"{name}: {whole(program, keys, lines)}", flush=True)
 
 
-main(sys.argv[1])
+if __name__ == "__main__":
+    main(sys.argv[1])

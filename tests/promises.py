@@ -1,84 +1,24 @@
 #!/usr/bin/env python3
-"""What README and docs/ name is there: each call, clause, law and definition, each named wrong body, and the kit. And what
-no document can say for a proof: that nothing but the log's own walks sets what the log has.
+"""What README and docs/ name is there: each call, clause, law and definition, each named wrong body, each file and line that is
+linked, and the kit; and docs/PROMISES.md names each law and each public call of the libraries. And what no document can say
+for a proof: that nothing but the log's own walks sets what the log has.
 
-A row's place is written `crate` and then its calls: `Type::call`, `Trait::call`, `call` or `laws::law`, each followed by the
-names of its clauses in parentheses where only some of them carry the promise.
+    tests/promises.py            checks
+    tests/promises.py --write    writes docs/NAMES.md anew, and the numbers of the lines that are linked, and then checks
+
+A row's place is written `crate` and then its calls: `Type::call`, `Trait::call`, `Type`, `call` or `laws::law`, each followed by
+the names of its clauses in parentheses where only some of them carry the promise.
 """
 import os
 import re
 import subprocess
 import sys
 
-TOP = os.path.dirname(os.path.dirname(os.path.realpath(__file__)))
-OWNER = re.compile(r"(?:pub(?:\([^)]*\))? )?(?:trait (\w+)|impl(?:<.*?>)? (?:(.+?) for )?(.+?) ?(?:where\b.*)?\{?\Z)")
-CALL = re.compile(r"\s*(?:pub(?:\([^)]*\))? )?(?:const )?fn (\w+)")
-CLAUSE = re.compile(r"\s*(?:requires|ensures)\*?(?: (\w+))? \{")
-DEFINED = re.compile(r"^(  |)((?:abbrev |unfoldable )?)pub ((?:data |record )?)(\S+)(?= :| \(| \{|$)", re.M)
+from names import CRATES, LIBRARIES, NAMES, TOP, Crate, files_under, line_of, lines_of, names_text
+
 WORD = re.compile(r"`([^`]+)`|[()]")
-
-
-def lines_of(*path):
-    with open(os.path.join(TOP, *path), encoding="utf-8") as it:
-        return it.read().splitlines()
-
-
-def files_under(folder, ending):
-    for at, _, names in sorted(os.walk(os.path.join(TOP, folder))):
-        yield from (os.path.relpath(os.path.join(at, name), TOP) for name in sorted(names) if name.endswith(ending))
-
-
-def last_word(name):
-    """The type's own name, without its path, parameters and borrow."""
-    name = re.sub(r"<.*", "", name.replace("&'a ", "").replace("&", ""))
-    return name.split("::")[-1].strip()
-
-
-def definitions(text):
-    """The public definitions of a file of specs/, and not the fields of its records, in their order."""
-    found = {}
-    for indent, way, kind, name in DEFINED.findall(text):
-        if way or kind or re.search(rf"^{indent}{re.escape(name)}(?: .*)? =", text, re.M):
-            found[name] = True
-    return list(found)
-
-
-class Crate:
-    """The calls of a crate with the names of their clauses, its laws, its types, and the definitions in its specs/."""
-
-    def __init__(self, name):
-        self.calls, self.laws, self.types, self.specs = {}, set(), set(), {}
-        for file in files_under(f"crates/{name}/src", ".rt"):
-            self.read_source(file, file.endswith("/laws.rt"))
-        for file in files_under(f"crates/{name}/specs", ".antt"):
-            if not file.endswith("/Lib.antt"):
-                self.specs["specs/" + os.path.basename(file).removesuffix(".antt")] = definitions("\n".join(lines_of(file)))
-
-    def read_source(self, file, is_laws):
-        owners, clauses = [], set()
-        for line in lines_of(file):
-            owner, call, clause = OWNER.match(line), CALL.match(line), CLAUSE.match(line)
-            if line.startswith("}"):
-                owners = []
-            elif owner:
-                owners = [last_word(name) for name in owner.groups() if name]
-            self.types.update(re.findall(r"\A(?:pub(?:\([^)]*\))? )?(?:struct|enum|trait|type) (\w+)", line))
-            if call:
-                clauses = set()
-                for name in [f"{owner}::{call[1]}" for owner in owners] or [call[1]]:
-                    self.calls.setdefault(name, []).append(clauses)
-                if is_laws:
-                    self.laws.add(call[1])
-            elif clause and clause[1]:
-                clauses.add(clause[1])
-
-    def lacks(self, name, clauses):
-        """What of a call, a type or a law and its clauses isn't there."""
-        if name.startswith("laws::"):
-            return [] if name.removeprefix("laws::") in self.laws else [name]
-        if name not in self.calls:
-            return [] if name in self.types and not clauses else [name]
-        return [f"{name} ({clause})" for clause in clauses if not any(clause in it for it in self.calls[name])]
+LINK = re.compile(r"\[([^\]\n]+)\]\(([^)#\s]+)(?:#(L\d+|[\w-]+))?\)")
+WEB = re.compile(r"\w+:")
 
 
 class Checks:
@@ -126,18 +66,20 @@ def section(lines, head):
 
 
 def check_promises(checks, crates):
-    """README: each place of a promise, and that no law is missing."""
+    """docs/PROMISES.md: each place of a promise, and that no law and no public call of a library is missing."""
     named = set()
-    for promise, where, _ in tables(section(lines_of("README.md"), "## What is proved")):
+    for promise, where, _ in tables(section(lines_of("docs", "PROMISES.md"), "## What is proved")):
         found = places(where)
-        checks.expect(found, f"README: no place is named of: {promise}")
+        checks.expect(found, f"PROMISES: no place is named of: {promise}")
         for crate, call, clauses in found:
             lacking = crates[crate].lacks(call, clauses) if crate else [f"{call} without a crate"]
-            checks.expect(not lacking, f"README: not in {crate}: {', '.join(lacking)}")
+            checks.expect(not lacking, f"PROMISES: not in {crate}: {', '.join(lacking)}")
             named.add((crate, call.removeprefix("laws::")))
     for name, crate in crates.items():
         for law in sorted(crate.laws):
-            checks.expect((name, law) in named, f"README: the law {law} of {name} isn't named")
+            checks.expect((name, law) in named, f"PROMISES: the law {law} of {name} isn't named")
+        for call, words in crate.public_calls() if name in LIBRARIES else ():
+            checks.expect(any((name, word) in named for word in words), f"PROMISES: {call} of {name} isn't named, nor is its type")
 
 
 def check_crates(checks):
@@ -152,27 +94,51 @@ def check_crates(checks):
 
 
 def check_definitions(checks, crates):
-    """docs/DEFINITIONS.md: a row for each file of definitions, that names each of them and none besides, and contracts that are there."""
-    lines = lines_of("docs", "DEFINITIONS.md")
-    for name, crate in crates.items():
-        if name not in LIBRARIES or not crate.specs:
-            continue
-        head = f"## `{name}`"
-        if head not in lines:
-            checks.expect(False, f"DEFINITIONS: no section for {name}")
-            continue
-        left = {file: set(defined) for file, defined in crate.specs.items()}
-        for standard, words, contracts in tables(section(lines, head)):
-            file, *named = re.findall(r"`([^`]+)`", words)
-            defined = left.pop(file, set())
-            for word in named:
-                checks.expect(word in defined, f"DEFINITIONS: {file} of {name} defines no {word}")
-            lacking = sorted(defined.difference(named))
-            checks.expect(not lacking, f"DEFINITIONS: the row of {file} of {name} lacks {', '.join(lacking)}")
-            for _, call, clauses in places(contracts):
-                lacking = crate.lacks(call, clauses)
-                checks.expect(not lacking, f"DEFINITIONS: not in {name}: {', '.join(lacking)}")
-        checks.expect(not left, f"DEFINITIONS: {name} has no row for {', '.join(sorted(left))}")
+    """docs/NAMES.md is what the sources make of it, and docs/DEFINITIONS.md says of no file that it follows a standard which
+    isn't there."""
+    stale = "\n".join(lines_of(*NAMES)) + "\n" != names_text(crates)
+    checks.expect(not stale, "NAMES: it isn't what the sources give; tests/promises.py --write makes it anew")
+    for standard, where in tables(section(lines_of("docs", "DEFINITIONS.md"), "## Standards")):
+        for crate, file, _ in places(where):
+            checks.expect(crate and file in crates[crate].specs, f"DEFINITIONS: {crate} has no {file}, which is to follow {standard}")
+
+
+def documents():
+    yield "README.md"
+    yield "bench/README.md"
+    yield from files_under("docs", ".md")
+
+
+def check_links(checks):
+    """Each link of a document leads to a file. The definition that its words name stands there, at the line that is named."""
+    for document in documents():
+        for words, to, part in LINK.findall("\n".join(lines_of(document))):
+            path = os.path.relpath(os.path.normpath(os.path.join(TOP, os.path.dirname(document), to)), TOP)
+            if WEB.match(to) or not os.path.exists(os.path.join(TOP, path)):
+                checks.expect(WEB.match(to), f"{document}: there is no {path}, which is linked")
+            elif part.startswith("L") or path.endswith((".antt", ".rt")) and " " not in words:
+                name, at = words.strip("`"), None
+                at = 1 if name.startswith("specs/") else line_of(path, name)
+                checks.expect(at and part in ("", f"L{at}"), f"{document}: {name} stands in line {at} of {path}, and not in {part}")
+
+
+def write(crates):
+    """Writes docs/NAMES.md, and the numbers of the lines that are linked."""
+    with open(os.path.join(TOP, *NAMES), "w", encoding="utf-8") as it:
+        it.write(names_text(crates))
+    for document in documents():
+        folder = os.path.dirname(document)
+
+        def linked(link):
+            path = os.path.normpath(os.path.join(folder, link[2]))
+            at = line_of(path, link[1].strip("`")) if (link[3] or "").startswith("L") and os.path.exists(os.path.join(TOP, path)) else None
+            return f"[{link[1]}]({link[2]}#L{at})" if at else link[0]
+
+        text = "\n".join(lines_of(document)) + "\n"
+        renewed = LINK.sub(linked, text)
+        if renewed != text:
+            with open(os.path.join(TOP, document), "w", encoding="utf-8") as it:
+                it.write(renewed)
 
 
 def check_wrong_bodies(checks):
@@ -218,30 +184,20 @@ def check_kit(checks):
     checks.expect(version in told, f"README: it names the kits {', '.join(told) or 'nowhere'}, and rt version says {version}")
 
 
-def crates_listed():
-    """The crates of crates.txt, each with the libraries that it stands on, and those that stand before the tests."""
-    listed, before_tests, tests = {}, [], False
-    for line in lines_of("crates.txt"):
-        name, colon, on = line.partition(":")
-        tests = tests or line.startswith("# Tests")
-        if colon and not line.startswith("#"):
-            listed[name.split()[0]] = on.split()
-            before_tests += [] if tests else [name.split()[0]]
-    return listed, before_tests
-
-
-CRATES, LIBRARIES = crates_listed()
 LOG = "crates/line_config/src/log.rt"
 NOTING = {LOG, *(f"crates/line_config/src/{name}.rt" for name in ("adapters", "lib", "recorded"))}
 WALKS = {f"crates/line_config/proofs/{of}/Proof.antt" for of in ("configurer/ConfigConfigurer/config_mut", "log/Log/new", "log/Log/note")}
 
 
-def main():
+def main(words):
     checks = Checks()
     crates = {name: Crate(name) for name in CRATES if os.path.isdir(os.path.join(TOP, "crates", name))}
+    if words == ["--write"]:
+        write(crates)
     check_promises(checks, crates)
     check_crates(checks)
     check_definitions(checks, crates)
+    check_links(checks)
     check_wrong_bodies(checks)
     check_parts(checks)
     check_logs(checks)
@@ -251,4 +207,4 @@ def main():
 
 
 if __name__ == "__main__":
-    sys.exit(main())
+    sys.exit(main(sys.argv[1:]))

@@ -46,6 +46,10 @@ impl<'p, 'h, Out: Renderer, H: Helper + Drop, Hi: History> State<'p, 'h, Out, H,
 
     /// Kills what a movement names; the ring is told first, the record last. At the end of the line
     /// what was killed is erased where that is enough.
+    ///
+    /// Where memory for the kill is refused, the line and its record stay; so does the ring, but for
+    /// the killed text where the record alone refused it. Where the hint or the drawing is refused,
+    /// the kill is made.
     pub fn edit_kill(
         &mut self,
         movement: &Movement,
