@@ -10,6 +10,7 @@ CALL = re.compile(r"\s*(pub )?(?:pub\([^)]*\) )?(?:const )?fn (\w+)")
 CLAUSE = re.compile(r"\s*(?:requires|ensures)\*?(?: (\w+))? \{")
 TYPE = re.compile(r"\A(?:pub(?:\([^)]*\))? )?(?:struct|enum|trait|type) (\w+)")
 DEFINED = re.compile(r"^(  |)((?:abbrev |unfoldable )?)pub ((?:data |record )?)(\S+)(?= :| \(| \{|$)", re.M)
+MODULE = re.compile(r"^pub mod (\w+);", re.M)
 HANDED = re.compile(r"^pub use (\w+)(?:::\w+)*::(?:\{([^}]*)\}|(\w+));", re.M)
 CITED = re.compile(r"\bghost use Rattle\.(\w+)\.specs\.(\w+)(?=[. ])")
 
@@ -69,7 +70,7 @@ class Crate:
         for file in files_under(f"crates/{name}/specs", ".antt"):
             if not file.endswith("/Lib.antt"):
                 self.specs["specs/" + os.path.basename(file).removesuffix(".antt")] = definitions("\n".join(lines_of(file)))
-        self.handed_out = self.read_handed_out()
+        self.modules, self.handed_out = self.read_library()
 
     def read_source(self, file, is_laws):
         owners, clauses = [], set()
@@ -89,23 +90,24 @@ class Crate:
                 for name in names:
                     self.calls.setdefault(name, []).append(clauses)
                 if call[1] and not is_laws:
-                    self.public[names[-1]] = (owners, call[2])
+                    self.public[names[-1]] = (part, owners, call[2])
                 if is_laws:
                     self.laws.add(call[2])
             elif clause and clause[1]:
                 clauses.add(clause[1])
 
-    def read_handed_out(self):
-        """The names of its own that the library hands out."""
+    def read_library(self):
+        """The library's public modules, and the names of its own that it hands out."""
         if not os.path.isfile(os.path.join(TOP, "crates", self.name, "src", "lib.rt")):
-            return set()
-        found = HANDED.findall("\n".join(lines_of("crates", self.name, "src", "lib.rt")))
-        return {name.strip() for module, many, one in found if module not in CRATES for name in (many or one).split(",")} - {""}
+            return set(), set()
+        text = "\n".join(lines_of("crates", self.name, "src", "lib.rt"))
+        handed = [(many or one).split(",") for module, many, one in HANDED.findall(text) if module not in CRATES]
+        return set(MODULE.findall(text)), {name.strip() for names in handed for name in names} - {""}
 
     def public_calls(self):
-        """Each public call of what the library hands out, with the names by which it may be named: its own, or its type's."""
-        for name, (owners, call) in sorted(self.public.items()):
-            if self.handed_out.intersection(owners or [call]):
+        """Each public call of the library, with the names by which it may be named: its own, or its type's."""
+        for name, (part, owners, call) in sorted(self.public.items()):
+            if part in self.modules or self.handed_out.intersection(owners or [call]):
                 yield name, {name, *owners, *(f"{owner}::{call}" for owner in owners)}
 
     def lacks(self, name, clauses):
@@ -128,6 +130,12 @@ def about(path):
     return (first[0] if first else " ".join(words)).rstrip(".:").replace("|", "\\|")
 
 
+def about_crate(name):
+    """What the first lines of a library say of it."""
+    words = [line.removeprefix("//!").strip() for line in lines_of("crates", name, "src", "lib.rt") if line.startswith("//!")]
+    return " ".join(words[: words.index("")] if "" in words else words)
+
+
 def cited_in(crate, spec, crates):
     """The files of src/ that cite a file of definitions: its own crate's, and then the other crates."""
     own = [f"`{part}`" for part in crate.cites.get((crate.name, spec), {})]
@@ -141,7 +149,7 @@ def names_text(crates):
     for name in LIBRARIES:
         if name not in crates or not crates[name].specs:
             continue
-        parts.append(f"## `{name}`\n\n| File | About | Definitions | Cited in |\n|---|---|---|---|")
+        parts.append(f"## `{name}`\n\n{about_crate(name)}\n\n| File | About | Definitions | Cited in |\n|---|---|---|---|")
         for file, defined in crates[name].specs.items():
             path = f"crates/{name}/{file}.antt"
             words = ", ".join(f"`{it}`" for it in defined)

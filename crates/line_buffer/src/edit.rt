@@ -68,8 +68,8 @@ impl LineBuffer {
         Ok(at_end)
     }
 
-    /// Takes a range out, with the cursor at its start. The range begins and ends between
-    /// characters.
+    /// Takes a range out, with the cursor at its start; the listener is told `Forward`. The range
+    /// begins and ends between characters.
     pub fn delete_range<D: DeleteListener>(
         &mut self,
         alloc: Global,
