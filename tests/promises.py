@@ -18,6 +18,7 @@ from names import CRATES, LIBRARIES, NAMES, TOP, Crate, files_under, line_of, li
 
 WORD = re.compile(r"`([^`]+)`|[()]")
 LINK = re.compile(r"\[([^\]\n]+)\]\(([^)#\s]+)(?:#(L\d+|[\w-]+))?\)")
+LINE = re.compile(r"L\d+")
 WEB = re.compile(r"\w+:")
 
 
@@ -79,7 +80,8 @@ def check_promises(checks, crates):
         for law in sorted(crate.laws):
             checks.expect((name, law) in named, f"PROMISES: the law {law} of {name} isn't named")
         for call, words in crate.public_calls() if name in LIBRARIES else ():
-            checks.expect(any((name, word) in named for word in words), f"PROMISES: {call} of {name} isn't named, nor is its type")
+            is_named = any((name, word) in named for word in words)
+            checks.expect(is_named, f"PROMISES: {call} of {name} isn't named, nor is its type")
 
 
 def check_crates(checks):
@@ -100,7 +102,8 @@ def check_definitions(checks, crates):
     checks.expect(not stale, "NAMES: it isn't what the sources give; tests/promises.py --write makes it anew")
     for standard, where in tables(section(lines_of("docs", "DEFINITIONS.md"), "## Standards")):
         for crate, file, _ in places(where):
-            checks.expect(crate and file in crates[crate].specs, f"DEFINITIONS: {crate} has no {file}, which is to follow {standard}")
+            is_there = crate and file in crates[crate].specs
+            checks.expect(is_there, f"DEFINITIONS: {crate} has no {file}, which is to follow {standard}")
 
 
 def documents():
@@ -109,17 +112,27 @@ def documents():
     yield from files_under("docs", ".md")
 
 
+def target(document, to):
+    """The path from the top of what a document links."""
+    return os.path.normpath(os.path.join(os.path.dirname(document), to))
+
+
+def place_of(words, path):
+    """The line of a linked file that the link's words name. The words may also name the file itself."""
+    name = words.strip("`")
+    return 1 if name.startswith("specs/") else line_of(path, name)
+
+
 def check_links(checks):
     """Each link of a document leads to a file. The definition that its words name stands there, at the line that is named."""
     for document in documents():
         for words, to, part in LINK.findall("\n".join(lines_of(document))):
-            path = os.path.relpath(os.path.normpath(os.path.join(TOP, os.path.dirname(document), to)), TOP)
+            path = target(document, to)
             if WEB.match(to) or not os.path.exists(os.path.join(TOP, path)):
                 checks.expect(WEB.match(to), f"{document}: there is no {path}, which is linked")
-            elif part.startswith("L") or path.endswith((".antt", ".rt")) and " " not in words:
-                name, at = words.strip("`"), None
-                at = 1 if name.startswith("specs/") else line_of(path, name)
-                checks.expect(at and part in ("", f"L{at}"), f"{document}: {name} stands in line {at} of {path}, and not in {part}")
+            elif LINE.fullmatch(part) or path.endswith((".antt", ".rt")) and " " not in words:
+                at = place_of(words, path)
+                checks.expect(at and part in ("", f"L{at}"), f"{document}: {words} stands in line {at} of {path}, not {part}")
 
 
 def write(crates):
@@ -127,18 +140,19 @@ def write(crates):
     with open(os.path.join(TOP, *NAMES), "w", encoding="utf-8") as it:
         it.write(names_text(crates))
     for document in documents():
-        folder = os.path.dirname(document)
-
-        def linked(link):
-            path = os.path.normpath(os.path.join(folder, link[2]))
-            at = line_of(path, link[1].strip("`")) if (link[3] or "").startswith("L") and os.path.exists(os.path.join(TOP, path)) else None
-            return f"[{link[1]}]({link[2]}#L{at})" if at else link[0]
-
         text = "\n".join(lines_of(document)) + "\n"
-        renewed = LINK.sub(linked, text)
+        renewed = LINK.sub(lambda link: with_line(document, link), text)
         if renewed != text:
             with open(os.path.join(TOP, document), "w", encoding="utf-8") as it:
                 it.write(renewed)
+
+
+def with_line(document, link):
+    """A link with the number of its line as it is now, where it has one."""
+    words, to, part = link.groups()
+    path = target(document, to)
+    at = LINE.fullmatch(part or "") and os.path.exists(os.path.join(TOP, path)) and place_of(words, path)
+    return f"[{words}]({to}#L{at})" if at else link[0]
 
 
 def check_wrong_bodies(checks):
@@ -177,8 +191,9 @@ def check_logs(checks):
             checks.expect(name not in told or file in NOTING or not re.search(r"\bLog\b", text), f"{file}: it names a log")
 
 
-def check_kit(checks):
-    """README: the kit that is here is one of those that the repository is proved with."""
+def check_readme(checks):
+    """README: it is short, and the kit that is here is one of those that the repository is proved with."""
+    checks.expect(os.path.getsize(os.path.join(TOP, "README.md")) <= 12 * 1024, "README: it has more than 12 KB")
     version = subprocess.run(["rt", "version"], capture_output=True, text=True, check=True).stdout.strip()
     told = [it for line in lines_of("README.md") for it in re.findall(r"`(rattle-kit-[^`]*)`", line)]
     checks.expect(version in told, f"README: it names the kits {', '.join(told) or 'nowhere'}, and rt version says {version}")
@@ -201,7 +216,7 @@ def main(words):
     check_wrong_bodies(checks)
     check_parts(checks)
     check_logs(checks)
-    check_kit(checks)
+    check_readme(checks)
     print(f"{checks.passed} passed, {checks.failed} failed")
     return checks.failed > 0
 
