@@ -14,7 +14,7 @@ use keyline::{
     VecSink, WriteSink, load_words, parse,
 };
 use std::env;
-use std::io::{ErrorKind, Stderr, StdinLock, Stdout};
+use std::io::{ErrorKind, IsTerminal, Stderr, StdinLock, Stdout};
 use std::marker::Brand;
 use std::process::ExitCode;
 
@@ -26,6 +26,10 @@ const NO_HISTORY: u8 = 5;
 
 /// The status where words don't load.
 const NO_WORDS: u8 = 6;
+
+/// What a terminal is sent before the words at a fault, so that they have a row of their own: a new
+/// row, with nothing there or below of a line that was left open.
+const NEW_ROW: &str = "\n\x1b[J";
 
 fn main(rt: HostRuntime) -> ExitCode {
     let words: Vec<String> = match env::args(&rt).and_then(|words| Ok(words.collect(rt.alloc())?)) {
@@ -153,7 +157,12 @@ fn not_loaded(rt: &HostRuntime, what: &str, status: u8) -> ExitCode {
 /// Says how the session ended, where that was a fault.
 fn ended(rt: &HostRuntime, ending: Ending) -> ExitCode {
     if !matches!(ending, Ending::Eof | Ending::Interrupted) {
-        let _ = eprintln!(rt; "keyline: {}", ending.text());
+        let before = if rt.stderr().is_terminal() {
+            NEW_ROW
+        } else {
+            ""
+        };
+        let _ = eprintln!(rt; "{before}keyline: {}", ending.text());
     }
     ExitCode::from(ending.status())
 }
