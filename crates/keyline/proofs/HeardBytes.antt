@@ -1,11 +1,11 @@
 -- Bytes after which the source fails read as the first keys and pastes of more bytes.
-use Rattle.std.proofs.Common.{◌≡◌, ◌⊎◌, inl, inr, ℕ, Bool, true, false, ◌||◌, nat_lt, ◌==◌, if◌then◌else◌, List, [], ◌∷◌, ◌++◌, take, Option, Some, None, refl, sym, ap, ◌∙◌, subst, arith, true≢false, eqb-true}
+use Rattle.std.proofs.Common.{◌≡◌, inl, inr, ℕ, Bool, true, false, ◌||◌, nat_lt, ◌==◌, if◌then◌else◌, List, [], ◌∷◌, ◌++◌, take, Option, Some, None, refl, sym, ap, ◌∙◌, subst, true≢false, eqb-true}
 use Rattle.std.specs.Prelude.{⊤, slice_index, codes, ◌&&◌, ◌+◌}
 use Rattle.line_config.specs.declared.device.Last.{Last}
-use Rattle.line_config.specs.declared.device.Last.TheVariants.{End, Failed}
+use Rattle.line_config.specs.declared.device.Last.TheVariants.{Failed}
 use Rattle.line_config.specs.declared.settings.EditMode.{EditMode}
 use Rattle.line_config.specs.declared.settings.EditMode.TheVariants.{Emacs, Vi}
-use Rattle.line_keys.specs.Coming.{Coming, Pressed, Pasted, CutOff, Ends as NoMore, Refused, LastItem}
+use Rattle.line_keys.specs.Coming.{Coming, Pressed, Pasted, CutOff, Ends as NoMore, Refused}
 use Rattle.line_keys.specs.Coming.LastItem.{End as EndItem}
 use Rattle.line_keys.specs.Keys.{key_of, none, alt}
 use Rattle.line_screen.specs.Input.{Chars, Next, Over, Stop, AtEnd, AtBad, AtFailure, Torn, Inside, Continuation, chars_of, in_char, char_then, is_scalar, lead_in, lead_rows, value_with, after_byte}

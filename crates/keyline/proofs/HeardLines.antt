@@ -3,24 +3,23 @@ use Rattle.std.proofs.Common.{◌≡◌, ◌⊎◌, inl, inr, ℕ, zero, suc, Bo
 use Rattle.std.specs.Prelude.{⊤, OnOk, IfErr, flat_map}
 use Rattle.std.proofs.lemmas.Grind.{flat_map-append}
 use Rattle.line_config.specs.declared.errors.ReadlineError.{ReadlineError}
-use Rattle.line_config.specs.declared.errors.ReadlineError.TheVariants.{Memory}
 use Rattle.line_help.specs.History.{Filed}
 use Rattle.line_keys.specs.Answers.{Custom}
-use Rattle.line_keys.specs.Coming.{Coming, Pressed, Pasted, CutOff, Ends as NoMore, Refused, LastItem, behind, left_by}
+use Rattle.line_keys.specs.Coming.{Coming, Pressed, Pasted, CutOff, Ends as NoMore, Refused, behind, left_by}
 use Rattle.line_keys.specs.Coming.LastItem.{End as EndItem, Bad, Failed}
 use Rattle.line_keys.specs.Feeds.{InputItem, Key, Paste}
 use Rattle.line_keys.specs.InputStates.{new_input}
 use Rattle.line_keys.specs.Phrase.{phrase}
 use Rattle.line_keys.specs.Phrases.{Input, Script, Ends, Needs, Asks, Reads, Becomes}
-use Rattle.line_keys.specs.Refreshing.{Shown, Ask}
+use Rattle.line_keys.specs.Refreshing.{Shown}
 use Rattle.line_keys.specs.Refreshing.Ask.{DoingInsert}
 use Rattle.line_keys.specs.declared.command.Cmd.{Cmd}
 use Rattle.line_record.specs.Ring.{Ring}
 use Rattle.line_editor.specs.Asks.{shown_in, ask_effect}
 use Rattle.line_editor.specs.Commands.{means_of, effect}
-use Rattle.line_editor.specs.Courses.{Turn, Open, Accept, Last, breaks_after, redraws_in}
+use Rattle.line_editor.specs.Courses.{Turn, Open, breaks_after, redraws_in}
 use Rattle.line_editor.specs.Drawing.{refreshed}
-use Rattle.line_editor.specs.Lines.{Enacted, Turned, Told, enacted, behind_ask, begins_group, with_group_begun, line_phrase, phrase_enacted, reset_by, turned_by, turn_of, opened_by, after_turn, line_from, line_of, drawn_first}
+use Rattle.line_editor.specs.Lines.{Enacted, Turned, Told, enacted, behind_ask, begins_group, with_group_begun, line_phrase, phrase_enacted, reset_by, turned_by, turn_of, opened_by, after_turn, line_from, line_of}
 use Rattle.line_editor.specs.Redraws.{Redraw, asked, fresh}
 use Rattle.line_editor.specs.Sights.{sight_of, info_after}
 use Rattle.line_editor.specs.Starts.{first_value}
@@ -32,7 +31,7 @@ use Rattle.line_screen.specs.Calls.{Screen, bytes_of, ruler_of}
 use Rattle.line_screen.specs.Drawing.{break_if}
 use Rattle.keyline.specs.FewerKeys.{IsBeginning, LinesBegin, SessionsBegin}
 use Rattle.keyline.specs.Sessions.{Given, SessionState, Report, line_in, setting_in, after_line, history_after, line_reported, line_bytes, breaks, display_bytes, session}
-use Rattle.keyline.proofs.HeardSteps.{Agrees, Alike, Hears, answer_to, agrees_left, then_hears}
+use Rattle.keyline.proofs.HeardSteps.{Alike, Hears, answer_to, agrees_left, then_hears}
 use Rattle.keyline.proofs.HeardTables.{phrase_hears}
 use Rattle.keyline.proofs.HeardBytes.{NeverEnds, Opens, bytes_open}
 
