@@ -4,6 +4,10 @@ pub mod DeedLaw
 pub mod DeedLemmas
 pub mod DeskLemmas
 pub mod EditLemmas
+pub mod HeardBytes
+pub mod HeardLines
+pub mod HeardSteps
+pub mod HeardTables
 pub mod OneByteLemmas
 pub mod OptionsLemmas
 pub mod PasteLemmas

@@ -4,6 +4,7 @@ pub mod Deeds
 pub mod Desks
 pub mod Edits
 pub mod Endings
+pub mod FewerKeys
 pub mod Known
 pub mod OneByte
 pub mod Options

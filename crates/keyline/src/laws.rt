@@ -8,6 +8,7 @@ ghost use Rattle.line_editor.specs.Running.{helping_by};
 ghost use Rattle.line_screen.specs.Calls.{screen_of};
 ghost use Rattle.keyline.specs.Cutting.{CutsAreFree};
 ghost use Rattle.keyline.specs.Deeds.{DeedsTell};
+ghost use Rattle.keyline.specs.FewerKeys.{LinesBegin, SessionsBegin};
 ghost use Rattle.keyline.specs.Known.{known_by};
 ghost use Rattle.keyline.specs.OneByte.{LayoutsTell, OneByte};
 ghost use Rattle.keyline.specs.Pasting.{PastesAreAccepted, PastedLinesAreAccepted};
@@ -93,4 +94,11 @@ pub fn cutting()
 pub fn paste()
     ensures phrases { PastesAreAccepted }
     ensures lines { PastedLinesAreAccepted }
+{}
+
+/// What is sent for fewer keys is a beginning of what is sent for more, and so are the lines: of a
+/// source that fails after its bytes, against one that gives more bytes, in a line and in a session.
+pub fn fewer_keys()
+    ensures lines { LinesBegin }
+    ensures sessions { SessionsBegin }
 {}
