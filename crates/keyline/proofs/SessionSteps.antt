@@ -30,27 +30,27 @@ remembered_more : (adds : Bool) (text : List ℕ) (lines : List (List ℕ)) (h :
 remembered_more true text lines h = refl
 remembered_more false text lines h = refl
 
-fault_by : (r : Result (Unit {0}) ReadlineError) (e d : ReadlineError) → r ≡ Err e → r ≡ Err d → e ≡ d
+fault_by : (r : Result (List ℕ) ReadlineError) (e d : ReadlineError) → r ≡ Err e → r ≡ Err d → e ≡ d
 fault_by r e d one other = cc
 
-ok_not_err : (u : Unit {0}) (e : ReadlineError) → Ok u ≡ Err e → ⊥
+ok_not_err : (u : List ℕ) (e : ReadlineError) → Ok u ≡ Err e → ⊥
 ok_not_err u e same = absurd (cc)
 
 module _ {D L : Type 0} (shown : D → List ℕ) (written_in : L → List ℕ) (g : Given) where
   abbrev adds : Bool
   adds = g.config.auto_add_history
 
-  abbrev Whole : Told → Result (List ℕ) ReadlineError → Work D L → Work D L → Result (Unit {0}) ReadlineError → Type 0
+  abbrev Whole : Told → Result (List ℕ) ReadlineError → Work D L → Work D L → Result (List ℕ) ReadlineError → Type 0
   Whole t o old new result = LineWhole shown written_in adds (line_bytes g.screen t) o old new result
 
   abbrev All : Report → List SessionDeed → Coming → Work D L → Work D L → Coming → ReadlineError → Type 0
   All report deeds coming old new left why = Reads shown written_in g report deeds coming old new left why
 
   -- an accepted line, and then a session
-  then_reads : (t : Told) (o : Result (List ℕ) ReadlineError) (later : Report) (deeds more : List SessionDeed) (c c' : Coming) (old mid new : Work D L) (left : Coming) (why : ReadlineError)
-      → Whole t o old mid (Ok (tt {0})) → Done shown written_in adds deeds c old mid c' → All later more c' mid new left why
+  then_reads : (said : List ℕ) (t : Told) (o : Result (List ℕ) ReadlineError) (later : Report) (deeds more : List SessionDeed) (c c' : Coming) (old mid new : Work D L) (left : Coming) (why : ReadlineError)
+      → Whole t o old mid (Ok said) → Done shown written_in adds deeds c old mid c' → All later more c' mid new left why
       → All (line_reported t o later) (deeds ++ deeds_after o more) c old new left why
-  then_reads t (Ok text) later deeds more c c' old mid new left why w d (inl (r, helped)) = inl (
+  then_reads said t (Ok text) later deeds more c c' old mid new left why w d (inl (r, helped)) = inl (
     record {
       why_is = r.why_is;
       rest_is = r.rest_is;
@@ -62,14 +62,14 @@ module _ {D L : Type 0} (shown : D → List ℕ) (written_in : L → List ℕ) (
     },
     answers_both deeds more d.helped helped,
   )
-  then_reads t (Ok text) later deeds more c c' old mid new left why w d (inr r) =
+  then_reads said t (Ok text) later deeds more c c' old mid new left why w d (inr r) =
       inr (cut_after shown written_in adds deeds more c c' old mid new left why d r)
-  then_reads t (Err e) later deeds more c c' old mid new left why w d r = absurd (ok_not_err (tt {0}) e w.result_is)
+  then_reads said t (Err e) later deeds more c c' old mid new left why w d r = absurd (ok_not_err said e w.result_is)
 
   -- the line that ends the session
   ends_reads : (t : Told) (o : Result (List ℕ) ReadlineError) (later : Report) (deeds more : List SessionDeed) (c : Coming) (old new : Work D L) (left : Coming) (e : ReadlineError)
       → Whole t o old new (Err e) → HelperAnswers deeds → left ≡ t.rest → All (line_reported t o later) (deeds ++ deeds_after o more) c old new left e
-  ends_reads t (Ok text) later deeds more c old new left e w helped rest = absurd (ok_not_err (tt {0}) e (sym w.result_is))
+  ends_reads t (Ok text) later deeds more c old new left e w helped rest = absurd (ok_not_err text e (sym w.result_is))
   ends_reads t (Err d) later deeds more c old new left e w helped rest = inl (
     record {
       why_is = fault_by (Err e) e d refl w.result_is;
@@ -118,13 +118,13 @@ module _ {S H D L : Type 0} (k : Known S D L) where
   }
 
   -- what a line makes of what is to come
-  abbrev LinedAt : Given → ℕ → Desk S H D L → Desk S H D L → Result (Unit {0}) ReadlineError → Type 0
+  abbrev LinedAt : Given → ℕ → Desk S H D L → Desk S H D L → Result (List ℕ) ReadlineError → Type 0
   LinedAt g n now next result = let x = session_state_of k now in Lined k g (line_in n g x) (line_deeds n g x) now next result
 
   -- a line that was accepted, and a session after it
-  line_on : (g : Given) (n : ℕ) (now next : Desk S H D L) → LinedAt g (suc n) now next (Ok (tt {0}))
+  line_on : (said : List ℕ) (g : Given) (n : ℕ) (now next : Desk S H D L) → LinedAt g (suc n) now next (Ok said)
       → (end : Work D L) (left : Coming) (why : ReadlineError) → Onwards k g n next end left why → Onwards k g (suc n) now end left why
-  line_on g n now next (inl w) end left why r =
+  line_on said g n now next (inl w) end left why r =
       let x = session_state_of k now in
       let t = line_in (suc n) g x in
       let y = after_line g t x in
@@ -132,10 +132,10 @@ module _ {S H D L : Type 0} (k : Known S D L) where
       let Q : Report → Type 0 = λ report. Reads k.shown k.written_in g report (session_deeds (suc n) g x) x.coming (work_of k now) end left why in
       let R : List SessionDeed → Type 0 = λ deeds. Reads k.shown k.written_in g (line_reported t t.outcome (session n g y)) deeds x.coming (work_of k now) end left why in
       subst Q (sym (session_step n g x)) (subst R (sym (deeds_step n g x))
-      (then_reads k.shown k.written_in g t t.outcome (session n g y) (line_deeds (suc n) g x) (session_deeds n g y) x.coming y.coming
+      (then_reads k.shown k.written_in g said t t.outcome (session n g y) (line_deeds (suc n) g x) (session_deeds n g y) x.coming y.coming
       (work_of k now) (work_of k next) end left why w.0
-      (done_line k.shown k.written_in g.config.auto_add_history (suc n) g x t (work_of k now) (work_of k next) (Ok (tt {0})) refl w.0 w.1) (subst X w.2 r)))
-  line_on g n now next (inr c) end left why r = absurd (ok_not_err (tt {0}) c.fault c.result_is)
+      (done_line k.shown k.written_in g.config.auto_add_history (suc n) g x t (work_of k now) (work_of k next) (Ok said) refl w.0 w.1) (subst X w.2 r)))
+  line_on said g n now next (inr c) end left why r = absurd (ok_not_err said c.fault c.result_is)
 
   -- a line that wasn't
   line_off : (g : Given) (n : ℕ) (now next : Desk S H D L) (e : ReadlineError) → LinedAt g (suc n) now next (Err e)
@@ -159,9 +159,9 @@ module _ {S H D L : Type 0} (k : Known S D L) where
           cut_reads k.shown k.written_in g (line_reported t t.outcome (session n g (after_line g t x))) (line_deeds (suc n) g x)
           (deeds_after t.outcome (session_deeds n g (after_line g t x))) (feed_of k now).coming (work_of k now) (work_of k next) (feed_of k next).coming e c
 
-  pub onward_line : (g g' g'' : Given) (first now next : Desk S H D L) → Onward k g g' first now
-      → TakesLine k g' g'' now next (Ok (tt {0})) → Onward k g g'' first next
-  onward_line g g' g'' first now next before line = record {
+  pub onward_line : (said : List ℕ) (g g' g'' : Given) (first now next : Desk S H D L) → Onward k g g' first now
+      → TakesLine k g' g'' now next (Ok said) → Onward k g g'' first next
+  onward_line said g g' g'' first now next before line = record {
     told = λ t. before.told (line.told t);
     given = λ t. line.given t ∙ before.given (line.told t);
     custom = line.custom ∙ before.custom;
@@ -174,11 +174,11 @@ module _ {S H D L : Type 0} (k : Known S D L) where
           → (m' : ℕ) × ((feed_of k next).bound < m') × ((end : Work D L) (left : Coming) (why : ReadlineError) → Onwards k g m' next end left why → Q end left why)
       went t zero b so = absurd (search arith)
       went t (suc m) b {Q} so =
-          let P : Given → Type 0 = λ g. LinedAt g (suc m) now next (Ok (tt {0})) in
+          let P : Given → Type 0 = λ g. LinedAt g (suc m) now next (Ok said) in
           let lined = subst P (before.given (line.told t)) (line.goes t (suc m) b) in (
             m,
             lower (feed_of k next).bound (feed_of k now).bound m line.falls b,
-            λ end left why r. so end left why (line_on g m now next lined end left why r),
+            λ end left why r. so end left why (line_on said g m now next lined end left why r),
           )
 
   pub onward_end : (g g' g'' : Given) (first now next : Desk S H D L) (e : ReadlineError) → Onward k g g' first now → TakesLine k g' g'' now next (Err e)
@@ -199,14 +199,14 @@ module _ {S H D L : Type 0} (k : Known S D L) where
       reason_kept _ r = r
 
   -- the same by what the line answered
-  pub onward_ok : (g g' g'' : Given) (first now next : Desk S H D L) (result : Result (Unit {0}) ReadlineError) (u : Unit {0}) → result ≡ Ok u → Onward k g g' first now
+  pub onward_ok : (g g' g'' : Given) (first now next : Desk S H D L) (result : Result (List ℕ) ReadlineError) (u : List ℕ) → result ≡ Ok u → Onward k g g' first now
       → TakesLine k g' g'' now next result → Onward k g g'' first next
   onward_ok g g' g'' first now next result u is before line =
-      let P : Result (Unit {0}) ReadlineError → Type 0 = λ result. TakesLine k g' g'' now next result in
-      onward_line g g' g'' first now next before (subst P is line)
+      let P : Result (List ℕ) ReadlineError → Type 0 = λ result. TakesLine k g' g'' now next result in
+      onward_line u g g' g'' first now next before (subst P is line)
 
-  pub onward_err : (g g' g'' : Given) (first now next : Desk S H D L) (result : Result (Unit {0}) ReadlineError) (e : ReadlineError) → result ≡ Err e → Onward k g g' first now
+  pub onward_err : (g g' g'' : Given) (first now next : Desk S H D L) (result : Result (List ℕ) ReadlineError) (e : ReadlineError) → result ≡ Err e → Onward k g g' first now
       → TakesLine k g' g'' now next result → TakesLines k g first next e
   onward_err g g' g'' first now next result e is before line =
-      let P : Result (Unit {0}) ReadlineError → Type 0 = λ result. TakesLine k g' g'' now next result in
+      let P : Result (List ℕ) ReadlineError → Type 0 = λ result. TakesLine k g' g'' now next result in
       onward_end g g' g'' first now next e before (subst P is line)

@@ -27,7 +27,7 @@ module _ {S H D L : Type 0} (k : Known S D L) where
       (k.show_failed (sink_of d.out)) (k.write_failed d.lines) e
 
   abbrev pub Lined : Given → Told → List SessionDeed → Desk S H D L → Desk S H D L
-      → Result (Unit {0}) ReadlineError → Type 0
+      → Result (List ℕ) ReadlineError → Type 0
   Lined g t deeds old new result =
       (LineWhole k.shown k.written_in g.config.auto_add_history
       (line_bytes g.screen t) t.outcome (work_of old) (work_of new) result
@@ -37,7 +37,7 @@ module _ {S H D L : Type 0} (k : Known S D L) where
 
   -- THE relation of a line
   pub record TakesLine (g g' : Given) (old new : Desk S H D L)
-      (result : Result (Unit {0}) ReadlineError) : Type 0 where
+      (result : Result (List ℕ) ReadlineError) : Type 0 where
     pub goes : IsTrue (feed_of new).told → (n : ℕ) → (feed_of old).bound < n
         → let x = session_state_of old in
         Lined g (line_in n g x) (line_deeds n g x) old new result

@@ -7,7 +7,7 @@ use Rattle.line_config.specs.Sending.{AppendsSome, Takes}
 use Rattle.line_help.specs.History.{Filed, all_saved}
 use Rattle.line_help.specs.HistoryText.{text_to_save}
 use Rattle.line_keys.specs.Answers.{HandlerFails}
-use Rattle.line_keys.specs.Coming.{Coming, made_of, left_by}
+use Rattle.line_keys.specs.Coming.{Coming, left_by}
 use Rattle.keyline.specs.Deeds.{SessionDeed, Draws, Helped, Hears, Keeps, Writes, HelperAnswers, bytes_drawn, left_of_deeds, lines_kept, lines_written}
 use Rattle.keyline.specs.Sessions.{Given, Report, remembered, history_after, line_text, lines_text, display_bytes}
 
@@ -100,15 +100,15 @@ module _ {D L : Type 0} (shown : D → List ℕ) (written_in : L → List ℕ) w
 
   -- drawn by these bytes, kept and written as its outcome says
   pub record LineWhole (adds : Bool) (bytes : List ℕ) (outcome : Result (List ℕ) ReadlineError)
-      (old new : Work D L) (result : Result (Unit {0}) ReadlineError) : Type 0 where
-    pub result_is : result ≡ made_of (λ text. tt {0}) outcome
+      (old new : Work D L) (result : Result (List ℕ) ReadlineError) : Type 0 where
+    pub result_is : result ≡ outcome
     pub history_is : new.history ≡ history_after adds outcome old.history
     pub drawn : Takes shown old.display new.display bytes
     pub wrote : Takes written_in old.lines new.lines (lines_text (accepted_of outcome))
 
   -- a fault cut its deeds
   pub record LineCut (adds : Bool) (deeds : List SessionDeed) (coming : Coming) (old new : Work D L)
-      (left : Coming) (result : Result (Unit {0}) ReadlineError) : Type 0 where
+      (left : Coming) (result : Result (List ℕ) ReadlineError) : Type 0 where
     pub fault : ReadlineError
     pub result_is : result ≡ Err fault
     pub goes : Cut adds deeds coming old new left fault

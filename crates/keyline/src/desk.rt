@@ -67,20 +67,23 @@ fn remember(
 /// Draws the end of an accepted line, keeps the line and writes it.
 fn keep<D: Sink + Drop, L: Sink>(
     alloc: Global,
-    text: &str,
+    text: String,
     adds: bool,
     out: &mut ScreenRenderer<D>,
     history: &mut FileHistory,
     lines: &mut L,
-) -> Result<(), ReadlineError>
-    ensures closes { Closes D.held D.has_failed L.held L.has_failed adds (Ok text.now)
+) -> Result<String, ReadlineError>
+    ensures closes { Closes D.held D.has_failed L.held L.has_failed adds (Ok (string_bytes text))
         (work (sink_of out.old) lines.old history.old)
-        (work (sink_of out.new) lines.new history.new) result }
+        (work (sink_of out.new) lines.new history.new) (made_of string_bytes result) }
     ensures screen { screen_of out.new ≡ screen_of out.old }
 {
     out.write_and_flush("\r\n")?;
-    remember(alloc, history, text, adds)?;
-    write_line(lines, text)
+    remember(alloc, history, text.as_str(), adds)?;
+    match write_line(lines, text.as_str()) {
+        Ok(()) => Ok(text),
+        Err(why) => Err(why),
+    }
 }
 
 /// Draws the end of a line, and keeps and writes it where it is accepted.
@@ -91,15 +94,15 @@ fn close<D: Sink + Drop, L: Sink>(
     out: &mut ScreenRenderer<D>,
     history: &mut FileHistory,
     lines: &mut L,
-) -> Result<(), ReadlineError>
+) -> Result<String, ReadlineError>
     ensures closes { Closes D.held D.has_failed L.held L.has_failed adds
         (made_of string_bytes outcome)
         (work (sink_of out.old) lines.old history.old)
-        (work (sink_of out.new) lines.new history.new) result }
+        (work (sink_of out.new) lines.new history.new) (made_of string_bytes result) }
     ensures screen { screen_of out.new ≡ screen_of out.old }
 {
     match outcome {
-        Ok(text) => keep(alloc, text.as_str(), adds, out, history, lines),
+        Ok(text) => keep(alloc, text, adds, out, history, lines),
         Err(why) => {
             if breaks_after(why) {
                 out.write_and_flush("\r\n")?;
@@ -120,10 +123,10 @@ pub(crate) struct Desk<S: Source, H, D: Sink, L: Sink> {
     pub(crate) lines: L,
 }
 
-/// A desk after a line, and whether a line was accepted.
+/// A desk after a line, and the line's text or why there is none.
 pub(crate) struct Lined<S: Source, H, D: Sink, L: Sink> {
     pub(crate) desk: Desk<S, H, D, L>,
-    pub(crate) outcome: Result<(), ReadlineError>,
+    pub(crate) outcome: Result<String, ReadlineError>,
 }
 
 /// A desk after the last line, and why there is no further one.
@@ -139,7 +142,7 @@ impl<S: Source + Drop, H: Helper + Drop, D: Sink + Drop, L: Sink + Drop> Desk<S,
     ghost use Rattle.keyline.specs.Known.{known_by};
 
     /// Reads a line, draws it, and keeps and writes it where it is accepted.
-    fn one_line<B: Decides>(
+    pub(crate) fn one_line<B: Decides>(
         self,
         alloc: Global,
         config: &Config,
@@ -152,7 +155,7 @@ impl<S: Source + Drop, H: Helper + Drop, D: Sink + Drop, L: Sink + Drop> Desk<S,
             let known = known_by S.feed D.held D.has_failed L.held L.has_failed in
             TakesLine known (given (screen_of self.out) (helps self.helper))
             (given (screen_of result.desk.out) (helps result.desk.helper))
-            self result.desk result.outcome }
+            self result.desk (made_of string_bytes result.outcome) }
     {
         let Desk {
             mut reader,
@@ -213,7 +216,7 @@ impl<S: Source + Drop, H: Helper + Drop, D: Sink + Drop, L: Sink + Drop> Desk<S,
             } = desk.one_line(alloc, config, bindings, prompt);
             desk = next;
             match outcome {
-                Ok(()) => {}
+                Ok(_) => {}
                 Err(why) => return Stopped { desk, why },
             }
         }

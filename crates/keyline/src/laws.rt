@@ -20,7 +20,7 @@ ghost use Rattle.keyline.specs.Shows.{DrawingsShow};
 use crate::session::{Ended, Session};
 use line_config::{Sink, Source};
 use line_help::Helper;
-use line_keys::{Decides, EventHandler};
+use line_keys::Decides;
 
 /// Over a source that gives what was said, whatever is asked of it, as one over memory does: what a
 /// session draws, writes and saves is that of its keys, and nothing has to be seen of what they gave.
@@ -30,9 +30,10 @@ pub fn always_told<
     D: Sink + Drop,
     L: Sink + Drop,
     T: Sink + Drop,
->(session: Session<S, H, D, L, T>) -> Ended<S, D, L, T>
+    B: Decides,
+>(session: Session<S, H, D, L, T, B>) -> Ended<S, D, L, T>
     requires { AlwaysTold S.feed }
-    ensures { let custom = custom_of session.bindings ⟦<EventHandler as Decides>⟧.decides in
+    ensures { let custom = custom_of session.bindings B.decides in
         let helps = helping_by H.hint_of H.verdict_of H.completion_of H.update_of H.marks in
         let given = given_by session.config custom (string_bytes session.prompt)
         (screen_of session.desk.out) (helps session.desk.helper) in
