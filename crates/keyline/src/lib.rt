@@ -14,6 +14,7 @@ mod help;
 pub mod laws;
 pub mod options;
 pub mod program;
+pub mod prompter;
 pub mod session;
 
 pub use edit_helper::EditHelper;
