@@ -24,14 +24,14 @@ breaks_by {A} f o e b is same broken =
     let P : Result A ReadlineError → Type 0 = λ o. IfErr (made_of f o) (λ e. breaks_after e ≡ true) in subst P (sym is) (sym same ∙ broken)
 
 module _ {D L : Type 0} (shown : D → List ℕ) (show_failed : D → Bool) (written_in : L → List ℕ) (write_failed : L → Bool) where
-  abbrev Ends : Bool → Result (List ℕ) ReadlineError → Work D L → Work D L → Result (Unit {0}) ReadlineError → Type 0
+  abbrev Ends : Bool → Result (List ℕ) ReadlineError → Work D L → Work D L → Result (List ℕ) ReadlineError → Type 0
   Ends adds outcome old new result = Closes shown show_failed written_in write_failed adds outcome old new result
 
   abbrev Breaks : Result (List ℕ) ReadlineError → Type 0
   Breaks outcome = IfErr outcome (λ e. breaks_after e ≡ true)
 
   -- a line that gets a new row isn't one that stays
-  stays_not : (outcome : Result (List ℕ) ReadlineError) (old new : Work D L) (result : Result (Unit {0}) ReadlineError)
+  stays_not : (outcome : Result (List ℕ) ReadlineError) (old new : Work D L) (result : Result (List ℕ) ReadlineError)
       → Breaks outcome → IfErr outcome (λ e. breaks_after e ≡ false → (new ≡ old) × (result ≡ Err e))
   stays_not (Ok text) old new result p = tt
   stays_not (Err e) old new result p = λ other. absurd (true_not_false (breaks_after e) p other)
@@ -41,7 +41,7 @@ module _ {D L : Type 0} (shown : D → List ℕ) (show_failed : D → Bool) (wri
   new_row (Err e) p = sym (ap break_if p)
 
   -- the display failed
-  pub closes_undrawn : (adds : Bool) (outcome : Result (List ℕ) ReadlineError) (d d' : D) (l : L) (h : Filed) (result : Result (Unit {0}) ReadlineError) (e : ReadlineError)
+  pub closes_undrawn : (adds : Bool) (outcome : Result (List ℕ) ReadlineError) (d d' : D) (l : L) (h : Filed) (result : Result (List ℕ) ReadlineError) (e : ReadlineError)
       → Breaks outcome → result ≡ Err e → e ≡ Display → IsTrue (show_failed d') → TakesSome shown d d' row_break → Ends adds outcome (work d l h) (work d' l h) result
   closes_undrawn adds outcome d d' l h result e breaks is display failed some =
       let now : result ≡ Err Display = is ∙ ap (λ e. Err e) display in
@@ -53,12 +53,12 @@ module _ {D L : Type 0} (shown : D → List ℕ) (show_failed : D → Bool) (wri
               (subst (TakesSome shown d d') (new_row outcome breaks) some) refl refl;
         });
         stays = stays_not outcome (work d l h) (work d' l h) result breaks;
-        reason = let P : Result (Unit {0}) ReadlineError → Type 0 = λ r. IfErr r (CloseReason outcome (show_failed d) (show_failed d') (write_failed l)) in
+        reason = let P : Result (List ℕ) ReadlineError → Type 0 = λ r. IfErr r (CloseReason outcome (show_failed d) (show_failed d') (write_failed l)) in
             subst P (sym now) (inr (inl (refl, failed)));
       }
 
   -- the history could take no line
-  pub closes_unkept : (adds : Bool) (text : List ℕ) (d d' : D) (l : L) (h h' : Filed) (result : Result (Unit {0}) ReadlineError) (e : ReadlineError)
+  pub closes_unkept : (adds : Bool) (text : List ℕ) (d d' : D) (l : L) (h h' : Filed) (result : Result (List ℕ) ReadlineError) (e : ReadlineError)
       → Takes shown d d' row_break → result ≡ Err e → e ≡ Memory → IsTrue adds → h' ≡ h → Ends adds (Ok text) (work d l h) (work d' l h') result
   closes_unkept adds text d d' l h h' result e drawn is memory adding kept =
       let now : result ≡ Err Memory = is ∙ ap (λ e. Err e) memory in
@@ -80,15 +80,15 @@ module _ {D L : Type 0} (shown : D → List ℕ) (show_failed : D → Bool) (wri
           };
         });
         stays = tt;
-        reason = let P : Result (Unit {0}) ReadlineError → Type 0 = λ r. IfErr r (CloseReason (Ok text) (show_failed d) (show_failed d') (write_failed l)) in
+        reason = let P : Result (List ℕ) ReadlineError → Type 0 = λ r. IfErr r (CloseReason (Ok text) (show_failed d) (show_failed d') (write_failed l)) in
             subst P (sym now) (inr (inr (inr refl)));
       }
 
   -- the line's text and newline were written, or torn
-  pub closes_written : (adds : Bool) (text : List ℕ) (d d' : D) (l l' : L) (h h' : Filed) (result : Result (Unit {0}) ReadlineError)
+  pub closes_written : (adds : Bool) (text : List ℕ) (d d' : D) (l l' : L) (h h' : Filed) (written : Result (Unit {0}) ReadlineError)
       → Takes shown d d' row_break → h' ≡ remembered adds (text ∷ []) h
-      → Sends written_in write_failed (line_text text) l l' result → IfErr result (λ e. e ≡ Lines)
-      → Ends adds (Ok text) (work d l h) (work d' l' h') result
+      → Sends written_in write_failed (line_text text) l l' written → IfErr written (λ e. e ≡ Lines)
+      → Ends adds (Ok text) (work d l h) (work d' l' h') (made_of (λ u. text) written)
   closes_written adds text d d' l l' h h' (Ok u) drawn kept wrote named = record {
     goes = inl (record {
       result_is = refl;
@@ -121,6 +121,18 @@ module _ {D L : Type 0} (shown : D → List ℕ) (show_failed : D → Bool) (wri
         stays = tt;
         reason = inr (inr (inl (named, wrote.err)));
       }
+
+  -- the same, where the line is handed back
+  pub closes_handed : (adds : Bool) (text kept_text written_text : List ℕ) (d d' : D) (l l' : L) (h h' : Filed) (written : Result (Unit {0}) ReadlineError) (result : Result (List ℕ) ReadlineError)
+      → kept_text ≡ text → written_text ≡ text → made_of (λ u. text) written ≡ result
+      → Takes shown d d' row_break → h' ≡ remembered adds (kept_text ∷ []) h
+      → Sends written_in write_failed (line_text written_text) l l' written → IfErr written (λ e. e ≡ Lines)
+      → Ends adds (Ok text) (work d l h) (work d' l' h') result
+  closes_handed adds text kept_text written_text d d' l l' h h' written result kept_is written_is is drawn kept wrote named =
+      let K : List ℕ → Type 0 = λ t. h' ≡ remembered adds (t ∷ []) h in
+      let W : List ℕ → Type 0 = λ t. Sends written_in write_failed (line_text t) l l' written in
+      let E : Result (List ℕ) ReadlineError → Type 0 = Ends adds (Ok text) (work d l h) (work d' l' h') in
+      subst E is (closes_written adds text d d' l l' h h' written drawn (subst K kept_is kept) (subst W written_is wrote) named)
 
   -- no line was accepted
   pub closes_other : (adds : Bool) (e : ReadlineError) (d d' : D) (l : L) (h : Filed)

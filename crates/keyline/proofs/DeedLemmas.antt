@@ -474,7 +474,7 @@ module _ {D L : Type 0} (shown : D → List ℕ) (written_in : L → List ℕ) (
       }
 
   -- a line that was drawn, kept and written is its deeds
-  pub done_line : (n : ℕ) (g : Given) (x : SessionState) (t : Told) (old mid : Work D L) (result : Result (Unit {0}) ReadlineError) → line_in n g x ≡ t
+  pub done_line : (n : ℕ) (g : Given) (x : SessionState) (t : Told) (old mid : Work D L) (result : Result (List ℕ) ReadlineError) → line_in n g x ≡ t
       → LineWhole shown written_in adds (line_bytes g.screen t) t.outcome old mid result → HelperAnswers (line_deeds n g x)
       → AllDone (line_deeds n g x) x.coming old mid t.rest
   done_line n g x t old mid result is w helped =

@@ -61,19 +61,19 @@ err_given : {A : Type 0} (o : Result A ReadlineError) (f : A → List ℕ) (e : 
 err_given (Ok x) f e P p is = absurd (cc)
 err_given (Err d) f e P p is = let same : d ≡ e = cc in subst P same p
 
-ok_given : {A : Type 0} (o : Result A ReadlineError) (f : A → List ℕ) (result : Result (Unit {0}) ReadlineError) (P : Type 0) → OnOk o P → result ≡ made_of (λ text. tt {0}) (made_of f o) → OnOk result P
+ok_given : {A : Type 0} (o : Result A ReadlineError) (f : A → List ℕ) (result : Result (List ℕ) ReadlineError) (P : Type 0) → OnOk o P → result ≡ made_of f o → OnOk result P
 ok_given (Ok x) f (Ok u) P p is = p
 ok_given (Ok x) f (Err e) P p is = tt
 ok_given (Err d) f (Ok u) P p is = absurd (cc)
 ok_given (Err d) f (Err e) P p is = tt
 
-ok_of_cut : (result : Result (Unit {0}) ReadlineError) (e : ReadlineError) (P : Type 0) → result ≡ Err e → OnOk result P
+ok_of_cut : (result : Result (List ℕ) ReadlineError) (e : ReadlineError) (P : Type 0) → result ≡ Err e → OnOk result P
 ok_of_cut (Ok u) e P is = absurd (cc)
 ok_of_cut (Err d) e P is = tt
 
 module _ {D L : Type 0} (shown : D → List ℕ) (written_in : L → List ℕ) where
   -- the line's drawings, and then its end
-  whole_then : (adds : Bool) (first second : List ℕ) (outcome : Result (List ℕ) ReadlineError) (d d1 d2 : D) (l l2 : L) (h h2 : Filed) (result : Result (Unit {0}) ReadlineError)
+  whole_then : (adds : Bool) (first second : List ℕ) (outcome : Result (List ℕ) ReadlineError) (d d1 d2 : D) (l l2 : L) (h h2 : Filed) (result : Result (List ℕ) ReadlineError)
       → Takes shown d d1 first → LineWhole shown written_in adds second outcome (work d1 l h) (work d2 l2 h2) result
       → LineWhole shown written_in adds (first ++ second) outcome (work d l h) (work d2 l2 h2) result
   whole_then adds first second outcome d d1 d2 l l2 h h2 result drawn c = record {
@@ -122,7 +122,7 @@ module _ {S H D L K T : Type 0} (k : Known S D L) (helps : Option H → Helping)
   screen_stays runs t =
       let n = suc (feed_of k old).bound in screen_by n (runs.goes t n (le_refl _))
 
-  module _ (out : ScreenRenderer D) (history : Filed) (lines : L) (result : Result (Unit {0}) ReadlineError) where
+  module _ (out : ScreenRenderer D) (history : Filed) (lines : L) (result : Result (List ℕ) ReadlineError) where
     abbrev Ends : Result (List ℕ) ReadlineError → Type 0
     Ends outcome = Closes k.shown k.show_failed k.written_in k.write_failed config.auto_add_history outcome
         (work (sink_of ran.out) old.lines old.history) (work (sink_of out) lines history) result
@@ -238,7 +238,7 @@ module _ {S H D L K T : Type 0} (k : Known S D L) (helps : Option H → Helping)
       reason = if_err result closes.reason;
     }
       where
-        if_err : (r : Result (Unit {0}) ReadlineError) → IfErr r (CloseReason (outcome_of ran) (k.show_failed (sink_of ran.out)) (k.show_failed (sink_of out)) (k.write_failed lines))
+        if_err : (r : Result (List ℕ) ReadlineError) → IfErr r (CloseReason (outcome_of ran) (k.show_failed (sink_of ran.out)) (k.show_failed (sink_of out)) (k.write_failed lines))
             → IfErr r (DeskReason k given new)
         if_err (Ok u) p = tt
         if_err (Err e) p = reason_of_close runs e p

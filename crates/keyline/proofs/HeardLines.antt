@@ -30,7 +30,7 @@ use Rattle.line_editor.proofs.DoesLemmas.{asked_both}
 use Rattle.line_screen.specs.Calls.{Screen, bytes_of, ruler_of}
 use Rattle.line_screen.specs.Drawing.{break_if}
 use Rattle.keyline.specs.FewerKeys.{IsBeginning, LinesBegin, SessionsBegin}
-use Rattle.keyline.specs.Sessions.{Given, SessionState, Report, line_in, setting_in, after_line, history_after, line_reported, line_bytes, breaks, display_bytes, session}
+use Rattle.keyline.specs.Sessions.{Given, SessionState, Report, line_in, setting_in, after_line, history_after, line_reported, line_bytes, breaks, display_bytes, LineGiven, for_line, screens_for, session_by}
 use Rattle.keyline.proofs.HeardSteps.{Alike, Hears, answer_to, agrees_left, then_hears}
 use Rattle.keyline.proofs.HeardTables.{phrase_hears}
 use Rattle.keyline.proofs.HeardBytes.{NeverEnds, Opens, bytes_open}
@@ -326,38 +326,42 @@ state_at ring history coming = record { ring = ring; history = history; coming =
 in_goes : (n : ℕ) (g : Given) (ring : Ring) (history : Filed) (h c : Coming) → Opens h c → LineGoes (line_in n g (state_at ring history h)) (line_in n g (state_at ring history c))
 in_goes n g ring history h c on = line_goes n (setting_in g history.kept.entries) g.custom g.config.indent_size (new_input g.config.edit_mode) ring h c on
 
-record Begins (g : Given) (fewer all : Report) : Type 0 where
-  drawn : IsBeginning (display_bytes g.screen fewer) (display_bytes g.screen all)
+-- of lines, each on the screen of its number
+record Begins (s : ℕ → Screen) (fewer all : Report) : Type 0 where
+  drawn : IsBeginning (display_bytes s fewer.told) (display_bytes s all.told)
   accepted : IsBeginning fewer.accepted all.accepted
+
+abbrev from_next : (ℕ → Screen) → ℕ → Screen
+from_next s line = s (suc line)
 
 -- both go on by the same text
 then_begins : {A : Type 0} (xs ys zs : List A) → IsBeginning ys zs → IsBeginning (xs ++ ys) (xs ++ zs)
 then_begins xs ys zs begins = (begins.0, ap (λ r. xs ++ r) begins.1 ∙ sym (append_assoc xs ys begins.0))
 
-reported_bytes : (s : Screen) (u : Told) (o : Result (List ℕ) ReadlineError) (later : Report) → IsBeginning (line_bytes s u) (display_bytes s (line_reported u o later))
-reported_bytes s u (Ok text) later = (display_bytes s later, refl)
+reported_bytes : (s : ℕ → Screen) (u : Told) (o : Result (List ℕ) ReadlineError) (later : Report) → IsBeginning (line_bytes (s 0) u) (display_bytes s (line_reported u o later).told)
+reported_bytes s u (Ok text) later = (display_bytes (from_next s) later.told, refl)
 reported_bytes s u (Err e) later = ([], refl)
 
-stopped_begins : (g : Given) (t u : Told) (o : Result (List ℕ) ReadlineError) (one other : Report) → StoppedLine t u
-    → Begins g (line_reported t t.outcome one) (line_reported u o other)
-stopped_begins g t u o one other cut =
-    let more = reported_bytes g.screen u o other in
-    let begins = further (line_bytes g.screen t) (line_bytes g.screen u) more.0 (stopped_bytes g.screen t u cut) in
-    subst (λ x. Begins g (line_reported t x one) (line_reported u o other)) (sym cut.outcome) (record {
-      drawn = subst (λ x. IsBeginning x (display_bytes g.screen (line_reported u o other))) (sym (append-nil (line_bytes g.screen t)))
-          (subst (λ x. IsBeginning (line_bytes g.screen t) x) (sym more.1) begins);
+stopped_begins : (s : ℕ → Screen) (t u : Told) (o : Result (List ℕ) ReadlineError) (one other : Report) → StoppedLine t u
+    → Begins s (line_reported t t.outcome one) (line_reported u o other)
+stopped_begins s t u o one other cut =
+    let more = reported_bytes s u o other in
+    let begins = further (line_bytes (s 0) t) (line_bytes (s 0) u) more.0 (stopped_bytes (s 0) t u cut) in
+    subst (λ x. Begins s (line_reported t x one) (line_reported u o other)) (sym cut.outcome) (record {
+      drawn = subst (λ x. IsBeginning x (display_bytes s (line_reported u o other).told)) (sym (append-nil (line_bytes (s 0) t)))
+          (subst (λ x. IsBeginning (line_bytes (s 0) t) x) (sym more.1) begins);
       accepted = ((line_reported u o other).accepted, refl);
     })
 
-module _ (g : Given) (t u : Told) (same : SameLine t u) where
-  same_begins : (o : Result (List ℕ) ReadlineError) (one other : Report) → OnOk o (Begins g one other) → Begins g (line_reported t o one) (line_reported u o other)
+module _ (s : ℕ → Screen) (t u : Told) (same : SameLine t u) where
+  same_begins : (o : Result (List ℕ) ReadlineError) (one other : Report) → OnOk o (Begins (from_next s) one other) → Begins s (line_reported t o one) (line_reported u o other)
   same_begins (Ok text) one other later = record {
-    drawn = subst (λ x. IsBeginning (line_bytes g.screen t ++ display_bytes g.screen one) (x ++ display_bytes g.screen other)) (same_bytes g.screen t u same)
-        (then_begins (line_bytes g.screen t) (display_bytes g.screen one) (display_bytes g.screen other) later.drawn);
+    drawn = subst (λ x. IsBeginning (line_bytes (s 0) t ++ display_bytes (from_next s) one.told) (x ++ display_bytes (from_next s) other.told)) (same_bytes (s 0) t u same)
+        (then_begins (line_bytes (s 0) t) (display_bytes (from_next s) one.told) (display_bytes (from_next s) other.told) later.drawn);
     accepted = then_begins (text ∷ []) one.accepted other.accepted later.accepted;
   }
   same_begins (Err e) one other later = record {
-    drawn = subst (λ x. IsBeginning (line_bytes g.screen t ++ []) (x ++ [])) (same_bytes g.screen t u same) ([], sym (append-nil (line_bytes g.screen t ++ [])));
+    drawn = subst (λ x. IsBeginning (line_bytes (s 0) t ++ []) (x ++ [])) (same_bytes (s 0) t u same) ([], sym (append-nil (line_bytes (s 0) t ++ [])));
     accepted = ([], refl);
   }
 
@@ -365,23 +369,26 @@ on_any : {A E P : Type 0} (o : Result A E) → P → OnOk o P
 on_any (Ok x) p = p
 on_any (Err e) p = tt
 
-session_begins : (n : ℕ) (g : Given) (ring : Ring) (history : Filed) (h c : Coming) → Opens h c → Begins g (session n g (state_at ring history h)) (session n g (state_at ring history c))
-unfolding session
-session_begins zero g ring history h c on = record { drawn = ([], refl); accepted = ([], refl) }
-session_begins (suc n) g ring history h c on =
+session_begins : (n : ℕ) (g : Given) (at : ℕ → LineGiven) (ring : Ring) (history : Filed) (h c : Coming) → Opens h c
+    → Begins (screens_for g at) (session_by n g at (state_at ring history h)) (session_by n g at (state_at ring history c))
+unfolding session_by
+session_begins zero g at ring history h c on = record { drawn = ([], refl); accepted = ([], refl) }
+session_begins (suc n) g at ring history h c on =
     let x = state_at ring history h in
     let y = state_at ring history c in
-    let t = line_in (suc n) g x in
-    let u = line_in (suc n) g y in
-    let B : Report → Type 0 = Begins g (line_reported t t.outcome (session n g (after_line g t x))) in
-    elim (in_goes (suc n) g ring history h c on) [
-      | inr cut ↦ stopped_begins g t u u.outcome (session n g (after_line g t x)) (session n g (after_line g u y)) cut
+    let s = screens_for g at in
+    let next = λ line. at (suc line) in
+    let t = line_in (suc n) (for_line g (at 0)) x in
+    let u = line_in (suc n) (for_line g (at 0)) y in
+    let B : Report → Type 0 = Begins s (line_reported t t.outcome (session_by n g next (after_line g t x))) in
+    elim (in_goes (suc n) (for_line g (at 0)) ring history h c on) [
+      | inr cut ↦ stopped_begins s t u u.outcome (session_by n g next (after_line g t x)) (session_by n g next (after_line g u y)) cut
       | inl same ↦
           let kept = history_after g.config.auto_add_history t.outcome history in
-          let later = session_begins n g t.ring kept t.rest u.rest same.rest in
-          subst (λ o. B (line_reported u o (session n g (state_at u.ring (history_after g.config.auto_add_history o history) u.rest)))) same.outcome
-          (subst (λ r. B (line_reported u t.outcome (session n g (state_at r kept u.rest)))) same.ring
-          (same_begins g t u same t.outcome (session n g (after_line g t x)) (session n g (state_at t.ring kept u.rest)) (on_any t.outcome later)))
+          let later = session_begins n g next t.ring kept t.rest u.rest same.rest in
+          subst (λ o. B (line_reported u o (session_by n g next (state_at u.ring (history_after g.config.auto_add_history o history) u.rest)))) same.outcome
+          (subst (λ r. B (line_reported u t.outcome (session_by n g next (state_at r kept u.rest)))) same.ring
+          (same_begins s t u same t.outcome (session_by n g next (after_line g t x)) (session_by n g next (state_at t.ring kept u.rest)) (on_any t.outcome later)))
     ]
 
 -- ---- the laws
@@ -391,5 +398,6 @@ lines_begin n g ring history mode bytes more last =
     line_begins g.screen _ _ (in_goes n g ring history _ _ (bytes_open mode bytes more last))
 
 pub sessions_begin : SessionsBegin
-sessions_begin n g ring history mode bytes more last =
-    let begins = session_begins n g ring history _ _ (bytes_open mode bytes more last) in (begins.drawn, begins.accepted)
+sessions_begin n g at ring history mode bytes more last =
+    let begins = session_begins n g at ring history _ _ (bytes_open mode bytes more last) in
+    (begins.drawn, begins.accepted)

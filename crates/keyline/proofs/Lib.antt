@@ -8,6 +8,7 @@ pub mod HeardBytes
 pub mod HeardLines
 pub mod HeardSteps
 pub mod HeardTables
+pub mod LinesLemmas
 pub mod OneByteLemmas
 pub mod OptionsLemmas
 pub mod PasteLemmas

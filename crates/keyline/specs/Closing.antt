@@ -25,7 +25,7 @@ CloseReason outcome was_failed display lines e =
 pub record Closes {D L : Type 0} (shown : D → List ℕ) (show_failed : D → Bool)
     (written_in : L → List ℕ) (write_failed : L → Bool) (adds : Bool)
     (outcome : Result (List ℕ) ReadlineError) (old new : Work D L)
-    (result : Result (Unit {0}) ReadlineError) : Type 0 where
+    (result : Result (List ℕ) ReadlineError) : Type 0 where
   pub goes : LineWhole shown written_in adds
       (break_if (breaks outcome)) outcome old new
       result

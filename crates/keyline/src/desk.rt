@@ -67,20 +67,23 @@ fn remember(
 /// Draws the end of an accepted line, keeps the line and writes it.
 fn keep<D: Sink + Drop, L: Sink>(
     alloc: Global,
-    text: &str,
+    text: String,
     adds: bool,
     out: &mut ScreenRenderer<D>,
     history: &mut FileHistory,
     lines: &mut L,
-) -> Result<(), ReadlineError>
-    ensures closes { Closes D.held D.has_failed L.held L.has_failed adds (Ok text.now)
+) -> Result<String, ReadlineError>
+    ensures closes { Closes D.held D.has_failed L.held L.has_failed adds (Ok (string_bytes text))
         (work (sink_of out.old) lines.old history.old)
-        (work (sink_of out.new) lines.new history.new) result }
+        (work (sink_of out.new) lines.new history.new) (made_of string_bytes result) }
     ensures screen { screen_of out.new ≡ screen_of out.old }
 {
     out.write_and_flush("\r\n")?;
-    remember(alloc, history, text, adds)?;
-    write_line(lines, text)
+    remember(alloc, history, text.as_str(), adds)?;
+    match write_line(lines, text.as_str()) {
+        Ok(()) => Ok(text),
+        Err(why) => Err(why),
+    }
 }
 
 /// Draws the end of a line, and keeps and writes it where it is accepted.
@@ -91,15 +94,15 @@ fn close<D: Sink + Drop, L: Sink>(
     out: &mut ScreenRenderer<D>,
     history: &mut FileHistory,
     lines: &mut L,
-) -> Result<(), ReadlineError>
+) -> Result<String, ReadlineError>
     ensures closes { Closes D.held D.has_failed L.held L.has_failed adds
         (made_of string_bytes outcome)
         (work (sink_of out.old) lines.old history.old)
-        (work (sink_of out.new) lines.new history.new) result }
+        (work (sink_of out.new) lines.new history.new) (made_of string_bytes result) }
     ensures screen { screen_of out.new ≡ screen_of out.old }
 {
     match outcome {
-        Ok(text) => keep(alloc, text.as_str(), adds, out, history, lines),
+        Ok(text) => keep(alloc, text, adds, out, history, lines),
         Err(why) => {
             if breaks_after(why) {
                 out.write_and_flush("\r\n")?;
@@ -120,26 +123,20 @@ pub(crate) struct Desk<S: Source, H, D: Sink, L: Sink> {
     pub(crate) lines: L,
 }
 
-/// A desk after a line, and whether a line was accepted.
+/// A desk after a line, and the line's text or why there is none.
 pub(crate) struct Lined<S: Source, H, D: Sink, L: Sink> {
     pub(crate) desk: Desk<S, H, D, L>,
-    pub(crate) outcome: Result<(), ReadlineError>,
-}
-
-/// A desk after the last line, and why there is no further one.
-pub(crate) struct Stopped<S: Source, H, D: Sink, L: Sink> {
-    pub(crate) desk: Desk<S, H, D, L>,
-    pub(crate) why: ReadlineError,
+    pub(crate) outcome: Result<String, ReadlineError>,
 }
 
 impl<S: Source + Drop, H: Helper + Drop, D: Sink + Drop, L: Sink + Drop> Desk<S, H, D, L> {
     ghost use Rattle.line_keys.specs.Answers.{custom_of};
     ghost use Rattle.line_editor.specs.Running.{helping_by};
-    ghost use Rattle.keyline.specs.Desks.{TakesLine, TakesLines};
+    ghost use Rattle.keyline.specs.Desks.{TakesLine};
     ghost use Rattle.keyline.specs.Known.{known_by};
 
     /// Reads a line, draws it, and keeps and writes it where it is accepted.
-    fn one_line<B: Decides>(
+    pub(crate) fn one_line<B: Decides>(
         self,
         alloc: Global,
         config: &Config,
@@ -152,7 +149,7 @@ impl<S: Source + Drop, H: Helper + Drop, D: Sink + Drop, L: Sink + Drop> Desk<S,
             let known = known_by S.feed D.held D.has_failed L.held L.has_failed in
             TakesLine known (given (screen_of self.out) (helps self.helper))
             (given (screen_of result.desk.out) (helps result.desk.helper))
-            self result.desk result.outcome }
+            self result.desk (made_of string_bytes result.outcome) }
     {
         let Desk {
             mut reader,
@@ -188,34 +185,5 @@ impl<S: Source + Drop, H: Helper + Drop, D: Sink + Drop, L: Sink + Drop> Desk<S,
             lines,
         };
         Lined { desk, outcome }
-    }
-
-    /// Reads lines until there is none, and says why.
-    pub(crate) fn read_lines<B: Decides>(
-        self,
-        alloc: Global,
-        config: &Config,
-        bindings: &EventMap<B>,
-        prompt: &str,
-    ) -> Stopped<S, H, D, L>
-        ensures { let custom = custom_of bindings.now B.decides in
-            let helps = helping_by H.hint_of H.verdict_of H.completion_of H.update_of H.marks in
-            let given = given_by config.now custom prompt.now in
-            let known = known_by S.feed D.held D.has_failed L.held L.has_failed in
-            TakesLines known (given (screen_of self.out) (helps self.helper))
-            self result.desk result.why }
-    {
-        let mut desk = self;
-        loop {
-            let Lined {
-                desk: next,
-                outcome,
-            } = desk.one_line(alloc, config, bindings, prompt);
-            desk = next;
-            match outcome {
-                Ok(()) => {}
-                Err(why) => return Stopped { desk, why },
-            }
-        }
     }
 }

@@ -8,6 +8,7 @@ ghost use Rattle.line_editor.specs.Running.{helping_by};
 ghost use Rattle.line_screen.specs.Calls.{screen_of};
 ghost use Rattle.keyline.specs.Cutting.{CutsAreFree};
 ghost use Rattle.keyline.specs.Deeds.{DeedsTell};
+ghost use Rattle.keyline.specs.Desks.{TakesLines};
 ghost use Rattle.keyline.specs.FewerKeys.{LinesBegin, SessionsBegin};
 ghost use Rattle.keyline.specs.Known.{known_by};
 ghost use Rattle.keyline.specs.OneByte.{LayoutsTell, OneByte};
@@ -18,10 +19,11 @@ ghost use Rattle.keyline.specs.SessionShows.{SessionsShow};
 ghost use Rattle.keyline.specs.Sessions.{given_by};
 ghost use Rattle.keyline.specs.Shows.{DrawingsShow};
 
-use crate::session::{Ended, Session};
-use line_config::{Sink, Source};
+use crate::prompter::Prompter;
+use crate::session::{Ended, LineRead, Session};
+use line_config::{ReadlineError, Sink, Source};
 use line_help::Helper;
-use line_keys::{Decides, EventHandler};
+use line_keys::Decides;
 
 /// Over a source that gives what was said, whatever is asked of it, as one over memory does: what a
 /// session draws, writes and saves is that of its keys, and nothing has to be seen of what they gave.
@@ -31,9 +33,10 @@ pub fn always_told<
     D: Sink + Drop,
     L: Sink + Drop,
     T: Sink + Drop,
->(session: Session<S, H, D, L, T>) -> Ended<S, D, L, T>
+    B: Decides,
+>(session: Session<S, H, D, L, T, B>) -> Ended<S, D, L, T>
     requires { AlwaysTold S.feed }
-    ensures { let custom = custom_of session.bindings ⟦<EventHandler as Decides>⟧.decides in
+    ensures { let custom = custom_of session.bindings B.decides in
         let helps = helping_by H.hint_of H.verdict_of H.completion_of H.update_of H.marks in
         let given = given_by session.config custom (string_bytes session.prompt)
         (screen_of session.desk.out) (helps session.desk.helper) in
@@ -41,6 +44,41 @@ pub fn always_told<
         AlwaysPlays known T.held T.has_failed given session.desk session.text result }
 {
     session.run()
+}
+
+/// `read_line`, called until it refuses, with a prompt and columns for each line: the lines, the
+/// history and the display bytes are those of the session for which these are handed in. `run` is
+/// the case of one prompt, on one screen.
+pub fn lines<
+    S: Source + Drop,
+    H: Helper + Drop,
+    D: Sink + Drop,
+    L: Sink + Drop,
+    T: Sink + Drop,
+    B: Decides,
+    P: Prompter + Drop,
+>(session: Session<S, H, D, L, T, B>, prompter: P) -> (Session<S, H, D, L, T, B>, ReadlineError)
+    ensures { let custom = custom_of session.bindings B.decides in
+        let helps = helping_by H.hint_of H.verdict_of H.completion_of H.update_of H.marks in
+        let given = given_by session.config custom (string_bytes session.prompt)
+        (screen_of session.desk.out) (helps session.desk.helper) in
+        let known = known_by S.feed D.held D.has_failed L.held L.has_failed in
+        TakesLines known given (P.lines prompter) session.desk result.0.desk result.1 }
+{
+    let mut session = session;
+    let mut prompter = prompter;
+    loop {
+        session.set_columns(prompter.columns());
+        let LineRead {
+            session: next,
+            line,
+        } = session.read_line(prompter.prompt());
+        session = next;
+        match line {
+            Ok(_) => prompter.advance(),
+            Err(why) => return (session, why),
+        }
+    }
 }
 
 /// The bytes up to each moment of a session show its value at its top, as one drawing from nothing,

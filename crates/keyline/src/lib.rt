@@ -14,6 +14,7 @@ mod help;
 pub mod laws;
 pub mod options;
 pub mod program;
+pub mod prompter;
 pub mod session;
 
 pub use edit_helper::EditHelper;
@@ -36,9 +37,9 @@ pub use line_help::{
     load_words, update_line,
 };
 pub use line_keys::{
-    Bindings, Cmd, CmdKind, ConditionalEventHandler, Event, EventContext, EventHandler, InputMode,
-    Invoke, KeyCode, KeyEvent, Keys, Modifiers, Text,
+    Bindings, Cmd, CmdKind, ConditionalEventHandler, Decides, Event, EventContext, EventHandler,
+    EventMap, InputMode, Invoke, KeyCode, KeyEvent, Keys, Modifiers, Text,
 };
 pub use options::{Options, Parsed, parse};
 pub use program::{edit, play, standard_devices};
-pub use session::{Ended, Session, Unopened};
+pub use session::{Ended, LineRead, Session, Unopened};

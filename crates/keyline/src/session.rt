@@ -1,25 +1,30 @@
 //! Sessions: from key bytes to accepted lines, a history and display bytes.
 
-ghost use Rattle.std.specs.Prelude.{◌≡◌, ◌≤◌, IfErr, IfOk, IsTrue, false, string_bytes};
+ghost use Rattle.std.specs.Prelude.{◌≡◌, ◌≤◌, Bool, IfErr, IfOk, IsTrue, OnErr, OnOk, false, not, string_bytes};
+ghost use Rattle.line_config.specs.declared.errors.ReadlineError.TheVariants.{Memory};
+ghost use Rattle.line_help.specs.History.{filed_with, ignored};
 ghost use Rattle.line_keys.specs.Answers.{custom_of};
+ghost use Rattle.line_keys.specs.Coming.{made_of};
 ghost use Rattle.line_editor.specs.Running.{helping_by};
-ghost use Rattle.line_screen.specs.Calls.{screen_of};
-ghost use Rattle.keyline.specs.Desks.{session_state_of};
+ghost use Rattle.line_screen.specs.Calls.{screen_of, sink_of};
+ghost use Rattle.line_screen.specs.Reader.{kept_of, source_of};
+ghost use Rattle.keyline.specs.Desks.{TakesLine, session_state_of};
+ghost use Rattle.keyline.specs.Endings.{ending_of};
 ghost use Rattle.keyline.specs.Known.{known_by};
 ghost use Rattle.keyline.specs.Playing.{Saves, ending_after};
 ghost use Rattle.keyline.specs.Plays.{Begins, LoadRefused, Loaded, Opens, Plays, Remains, Unopens};
 ghost use Rattle.keyline.specs.SessionShows.{Displays};
 ghost use Rattle.keyline.specs.Sessions.{given_by};
 
-use crate::desk::{Desk, Stopped};
+use crate::desk::{Desk, Lined};
 use crate::ending::Ending;
 use line_config::{Config, ReadlineError, Sink, Source};
-use line_help::{FileHistory, Helper};
-use line_keys::{Bindings, Decides, EventHandler};
+use line_help::{FileHistory, Helper, History};
+use line_keys::{Decides, EventHandler, EventMap};
 use line_record::KillRing;
 use line_screen::{KeyReader, ScreenRenderer};
 use std::alloc::Global;
-use std::fmt;
+use std::{fmt, mem};
 
 /// The slots of a session's kill ring.
 const KILL_RING_SIZE: usize = 60;
@@ -27,10 +32,10 @@ const KILL_RING_SIZE: usize = 60;
 /// A session that is open: it reads keys from a source, draws on a display, writes accepted lines
 /// to a sink, and keeps them in a history whose text goes to another.
 #[derive(Drop)]
-pub struct Session<S: Source, H, D: Sink, L: Sink, T: Sink> {
+pub struct Session<S: Source, H, D: Sink, L: Sink, T: Sink, B: Decides = EventHandler> {
     alloc: Global,
     config: Config,
-    bindings: Bindings,
+    bindings: EventMap<B>,
     prompt: String,
     desk: Desk<S, H, D, L>,
     text: T,
@@ -113,6 +118,13 @@ pub struct Ended<S, D, L, T> {
     pub text: T,
 }
 
+/// A session after a line, and the line that was accepted, or why there is none.
+#[derive(Drop)]
+pub struct LineRead<S: Source, H, D: Sink, L: Sink, T: Sink, B: Decides = EventHandler> {
+    pub session: Session<S, H, D, L, T, B>,
+    pub line: Result<String, ReadlineError>,
+}
+
 /// A new history, with the text of a source loaded into it.
 fn load<F: Source>(
     alloc: Global,
@@ -186,7 +198,7 @@ fn ending_after(why: ReadlineError, saved: bool) -> ReadlineError
     }
 }
 
-impl<S: Source, H: Helper, D: Sink, L: Sink, T: Sink> Session<S, H, D, L, T>
+impl<S: Source, H: Helper, D: Sink, L: Sink, T: Sink, B: Decides> Session<S, H, D, L, T, B>
 where
     S: Drop,
     H: Drop,
@@ -201,7 +213,7 @@ where
     pub fn open<F: Source + Drop>(
         alloc: Global,
         config: Config,
-        bindings: Bindings,
+        bindings: EventMap<B>,
         history: F,
         helper: Option<H>,
         prompt: &str,
@@ -253,39 +265,99 @@ where
         })
     }
 
-    /// Reads lines, draws and writes them, until the input or a fault ends it. The history is saved
-    /// once, after every ending.
+    /// Reads the next line, drawn behind this prompt. An accepted line is added to the history where
+    /// the settings say so, written, and handed back.
+    ///
+    /// After each answer a further line may be asked for: after `Interrupted`, which Ctrl-C gives,
+    /// it begins with the ring and the history that were; after `Eof` it ends at once again, unless
+    /// the source has more to give.
     #[inline(never)]
-    pub fn run(self) -> Ended<S, D, L, T>
-        ensures plays { let custom = custom_of self.bindings ⟦<EventHandler as Decides>⟧.decides in
+    pub fn read_line(self, prompt: &str) -> LineRead<S, H, D, L, T, B>
+        ensures line { let custom = custom_of self.bindings B.decides in
             let helps = helping_by H.hint_of H.verdict_of H.completion_of H.update_of H.marks in
-            let given = given_by self.config custom (string_bytes self.prompt)
-            (screen_of self.desk.out) (helps self.desk.helper) in
+            let given = given_by self.config custom prompt.now in
             let known = known_by S.feed D.held D.has_failed L.held L.has_failed in
-            Plays known T.held T.has_failed given self.desk self.text result }
-        ensures shows { let custom = custom_of self.bindings ⟦<EventHandler as Decides>⟧.decides in
-            let helps = helping_by H.hint_of H.verdict_of H.completion_of H.update_of H.marks in
-            let given = given_by self.config custom (string_bytes self.prompt)
-            (screen_of self.desk.out) (helps self.desk.helper) in
-            let known = known_by S.feed D.held D.has_failed L.held L.has_failed in
-            Displays given (session_state_of known self.desk) }
+            let next = result.session.desk in
+            TakesLine known (given (screen_of self.desk.out) (helps self.desk.helper))
+            (given (screen_of next.out) (helps next.helper)) self.desk next
+            (made_of string_bytes result.line) }
+        ensures others { result.session ≡ record self { desk = result.session.desk } }
     {
         let Session {
             alloc,
             config,
             bindings,
-            prompt,
+            prompt: own,
             desk,
-            mut text,
+            text,
         } = self;
-        let Stopped { desk, why } = desk.read_lines(alloc, &config, &bindings, prompt.as_str());
+        let Lined { desk, outcome } = desk.one_line(alloc, &config, &bindings, prompt);
+        LineRead {
+            session: Session {
+                alloc,
+                config,
+                bindings,
+                prompt: own,
+                desk,
+                text,
+            },
+            line: outcome,
+        }
+    }
+
+    /// From now on rows of the display have so many columns. Nothing is drawn.
+    pub fn set_columns(&mut self, columns: u16)
+        requires { (2 ≤ columns) × (columns ≤ 1000) }
+        ensures screen { screen_of self.new.desk.out
+            ≡ record (screen_of self.old.desk.out) { columns = columns } }
+        ensures display { sink_of self.new.desk.out ≡ sink_of self.old.desk.out }
+        ensures others { self.new ≡ record self.old {
+          desk = record self.old.desk { out = self.new.desk.out };
+        } }
+    {
+        self.desk.out.set_columns(columns);
+    }
+
+    /// Adds a line to the history, whatever the settings say of accepted lines, and answers whether
+    /// it did: some lines are ignored, as `History::add` says.
+    pub fn add_history_entry(&mut self, line: &str) -> Result<bool, ReadlineError>
+        ensures answer { let kept = self.old.desk.history.kept in
+            IfOk result (λ b. b ≡ not (ignored kept.settings kept.entries line.now)) }
+        ensures added { OnOk result (self.new ≡ record self.old {
+          desk = record self.old.desk { history = filed_with self.old.desk.history line.now };
+        }) }
+        ensures kept { OnErr result (self.new ≡ self.old) }
+        ensures fault { IfErr result (λ e. e ≡ Memory) }
+    {
+        self.desk.history.add(self.alloc, line)
+    }
+
+    /// The history so far.
+    pub fn history(&self) -> &FileHistory
+        ensures { result.now ≡ self.now.desk.history }
+    {
+        &self.desk.history
+    }
+
+    /// Ends the session, for this reason: saves the history, where an entry is new, and hands back
+    /// the devices. A history that isn't saved counts where no fault came before.
+    #[inline(never)]
+    pub fn finish(self, why: ReadlineError) -> Ended<S, D, L, T>
+        ensures saves { (saved : Bool)
+            × Saves T.held T.has_failed self.desk.history result.history self.text result.text saved
+            × (result.ending ≡ ending_of (ending_after why saved)) }
+        ensures source { result.source ≡ source_of self.desk.reader }
+        ensures ahead { result.ahead ≡ kept_of self.desk.reader }
+        ensures display { result.display ≡ sink_of self.desk.out }
+        ensures lines { result.lines ≡ self.desk.lines }
+    {
+        let Session { desk, mut text, .. } = self;
         let Desk {
             reader,
             out,
-            helper: _,
             mut history,
-            ring: _,
             lines,
+            ..
         } = desk;
         let saved = save(&mut history, &mut text);
         let ending = Ending::from(ending_after(why, saved));
@@ -298,6 +370,39 @@ where
             display: out.into_sink(),
             lines,
             text,
+        }
+    }
+
+    /// Reads lines, draws and writes them, until the input or a fault ends it. The history is saved
+    /// once, after every ending.
+    #[inline(never)]
+    pub fn run(self) -> Ended<S, D, L, T>
+        ensures plays { let custom = custom_of self.bindings B.decides in
+            let helps = helping_by H.hint_of H.verdict_of H.completion_of H.update_of H.marks in
+            let given = given_by self.config custom (string_bytes self.prompt)
+            (screen_of self.desk.out) (helps self.desk.helper) in
+            let known = known_by S.feed D.held D.has_failed L.held L.has_failed in
+            Plays known T.held T.has_failed given self.desk self.text result }
+        ensures shows { let custom = custom_of self.bindings B.decides in
+            let helps = helping_by H.hint_of H.verdict_of H.completion_of H.update_of H.marks in
+            let given = given_by self.config custom (string_bytes self.prompt)
+            (screen_of self.desk.out) (helps self.desk.helper) in
+            let known = known_by S.feed D.held D.has_failed L.held L.has_failed in
+            Displays given (session_state_of known self.desk) }
+    {
+        let mut session = self;
+        let empty = String::new(session.alloc);
+        let prompt = mem::replace(&mut session.prompt, empty);
+        loop {
+            let LineRead {
+                session: next,
+                line,
+            } = session.read_line(prompt.as_str());
+            session = next;
+            match line {
+                Ok(_) => {}
+                Err(why) => return session.finish(why),
+            }
         }
     }
 }

@@ -48,6 +48,17 @@ impl<D: Sink> ScreenRenderer<D> {
         }
     }
 
+    /// From now on rows have so many columns. Nothing is written.
+    pub fn set_columns(&mut self, columns: Unit)
+        requires low { 2 ≤ columns }
+        requires high { columns ≤ 1000 }
+        ensures sink { sink_of self.new ≡ sink_of self.old }
+        ensures screen { screen_of self.new
+            ≡ record (screen_of self.old) { columns = columns } }
+    {
+        self.grid.columns = columns;
+    }
+
     /// The sink, with what was written to it.
     pub fn into_sink(self) -> D
         ensures { result ≡ sink_of self }

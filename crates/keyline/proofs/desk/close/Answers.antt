@@ -1,5 +1,7 @@
 -- The new row after an ending was refused.
-use Rattle.std.proofs.Common.{◌∙◌}
+use Rattle.std.proofs.Common.{◌∙◌, ap}
+use Rattle.std.specs.Prelude.{string_bytes}
+use Rattle.line_keys.specs.Coming.{made_of}
 use Rattle.std.proofs.lemmas.Result.{err_from_is_err_and}
 use Rattle.keyline.proofs.CloseLemmas.{breaks_by, closes_undrawn}
 use Rattle.keyline.proofs.desk.close.Goals as goal
@@ -8,5 +10,5 @@ pub returns-in_err-write_and_flush-in-Err-clause-closes : goal.returns-in_err-wr
 returns-in_err-write_and_flush-in-Err-clause-closes g c =
     let p = err_from_is_err_and c.from_residual.result c.from_residual.ensures.1 in
     closes_undrawn g.D.Sink.held g.D.Sink.has_failed g.L.Sink.held g.L.Sink.has_failed
-    c.args.adds _ _ _ _ _ c.from_residual.result p.0 (breaks_by _ c.args.outcome c.in-Err.why c.breaks_after.result c.in-Err.is c.breaks_after.ensures c.if-breaks_after.true)
-    p.1 (p.2 ∙ c.in_err-write_and_flush-in-Err.ensures.fault) c.in_err-write_and_flush-in-Err.ensures.failed c.in_err-write_and_flush-in-Err.ensures.refused.begins
+    c.args.adds _ _ _ _ _ _ p.0 (breaks_by _ c.args.outcome c.in-Err.why c.breaks_after.result c.in-Err.is c.breaks_after.ensures c.if-breaks_after.true)
+    (ap (made_of string_bytes) p.1) (p.2 ∙ c.in_err-write_and_flush-in-Err.ensures.fault) c.in_err-write_and_flush-in-Err.ensures.failed c.in_err-write_and_flush-in-Err.ensures.refused.begins
