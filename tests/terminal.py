@@ -8,6 +8,7 @@ takes the terminal while the job is stopped. Run it by ./test, or alone once `rt
 import contextlib
 import fcntl
 import os
+import random
 import resource
 import select
 import shutil
@@ -553,6 +554,29 @@ def a_program_that_does_not_stop():
         terminal.expect(b"b")
 
 
+def signals_in_any_order():
+    """However many come to the job or to the script alone, it ends by the one that ends it, with the terminal put back."""
+    ends = (signal.SIGHUP, signal.SIGINT, signal.SIGQUIT, signal.SIGTERM, signal.SIGUSR1)
+    others = (signal.SIGTSTP, signal.SIGCONT, signal.SIGTTIN, signal.SIGCHLD, signal.SIGWINCH)
+    for seed in range(30):
+        rng = random.Random(seed)
+        end = rng.choice(ends)
+        numbers = [*rng.choices(others, k=rng.randrange(60)), end, *rng.choices(others, k=rng.randrange(20))]
+        with of_others(["cat"]) as terminal:
+            terminal.type(b"a")
+            terminal.expect(b"a")
+            terminal.go_on(IN_FRONT * 1000)
+            with contextlib.suppress(ProcessLookupError):
+                for number in numbers:
+                    rng.choice((os.kill, os.killpg))(terminal.job, number)
+            while (report := terminal.next_report()) == "stopped":
+                pass
+            same("report", report, f"ended {128 + end}")
+            terminal.expect_put_back()
+            os.write(terminal.slave, b"|")
+            terminal.display.expect_end_of(UNMARKED + b"|")
+
+
 def ended_behind_another_that_it_asked():
     """A job that is continued behind another asks for the terminal, which stays as the other has it."""
     with of_others(["cat"]) as terminal:
@@ -602,6 +626,9 @@ def a_program_that_is_missing():
 def any_program_without_a_terminal():
     ran = subprocess.run([ON_TERMINAL, "cat"], input=b"a\r", capture_output=True, timeout=HUNG)
     same("what comes", (ran.stdout, ran.stderr, ran.returncode), (b"a\r", b"", 0))
+    ran = subprocess.run([ON_TERMINAL, "env"], stdin=subprocess.DEVNULL, env={"PATH": os.environ["PATH"]},
+                         capture_output=True, timeout=HUNG)
+    same("whether the locale is set", b"LC_" in ran.stdout, False)
     ran = subprocess.run([ON_TERMINAL], stdin=subprocess.DEVNULL, capture_output=True, timeout=HUNG)
     same("without a program", (ran.stdout, ran.stderr, ran.returncode), (b"", b"usage: on_terminal PROGRAM ARGUMENT..\n", 2))
 
@@ -634,6 +661,7 @@ if __name__ == "__main__":
         signals_that_any_program_answers,
         a_program_that_stops_itself,
         a_program_that_does_not_stop,
+        signals_in_any_order,
         ended_behind_another_that_it_asked,
         a_program_that_goes_on,
         a_program_of_any_name,
