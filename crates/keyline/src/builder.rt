@@ -1,0 +1,304 @@
+//! A session from what is wanted of it, and the program's defaults for the rest.
+
+ghost use Rattle.std.specs.Prelude.{◌≡◌, ◌≤◌, IfErr, IfOk, None, Some, [], codes, false, string_bytes};
+ghost use Rattle.line_config.specs.Adapters.{gave, taken};
+ghost use Rattle.line_config.specs.Feed.{fresh_feed};
+ghost use Rattle.line_config.specs.declared.device.Last.TheVariants.{End};
+ghost use Rattle.keyline.specs.Edits.{standard_config};
+ghost use Rattle.keyline.specs.Plays.{Opens, Unopens};
+
+use crate::session::{Session, Unopened};
+use line_config::{Config, ReadSource, Sink, SliceSource, Source, WriteSink};
+use line_help::Helper;
+use line_keys::{Decides, EventHandler, EventMap};
+use std::alloc::Global;
+use std::io::{self, Input, Stderr, StdinLock};
+
+/// What a session is to be opened on. Where nothing else is said: the settings of the program with
+/// the keys of Emacs, nothing bound, no helper, the prompt `> ` and rows of 80 columns, a history
+/// that begins empty and isn't saved, and lines that are written nowhere.
+#[derive(Drop)]
+pub struct SessionBuilder<'p, F, S, H, D, L, T, B: Decides = EventHandler> {
+    alloc: Global,
+    config: Config,
+    bindings: EventMap<B>,
+    history: F,
+    helper: Option<H>,
+    prompt: &'p str,
+    source: S,
+    columns: u16,
+    display: D,
+    lines: L,
+    text: T,
+}
+
+/// One over devices of which the source of keys and the display alone are said.
+pub type DefaultBuilder<'p, S, D> = SessionBuilder<
+    'p,
+    SliceSource<'static>,
+    S,
+    (),
+    D,
+    WriteSink<io::Sink>,
+    WriteSink<io::Sink>,
+>;
+
+/// One over the standard streams.
+pub type StandardBuilder<'p> = DefaultBuilder<
+    'p,
+    ReadSource<StdinLock<'static>>,
+    WriteSink<Stderr>,
+>;
+
+impl<'p> StandardBuilder<'p> {
+    /// Keys from standard input, and the display on standard error.
+    pub fn standard(rt: &HostRuntime) -> Self
+        ensures keys { (⟦<ReadSource<StdinLock<'static>> as Source>⟧.feed result.source).failed ≡ false }
+        ensures display { ⟦<WriteSink<Stderr> as Sink>⟧.has_failed result.display ≡ false }
+        ensures lines { ⟦<WriteSink<io::Sink> as Sink>⟧.has_failed result.lines ≡ false }
+        ensures text { ⟦<WriteSink<io::Sink> as Sink>⟧.has_failed result.text ≡ false }
+        ensures history { ⟦<SliceSource<'static> as Source>⟧.feed result.history ≡ fresh_feed [] End }
+        ensures columns { result.columns ≡ 80 }
+    {
+        SessionBuilder::new(
+            rt.alloc(),
+            ReadSource::new(rt.stdin().reader()),
+            WriteSink::new(rt.stderr()),
+        )
+    }
+}
+
+/// The settings: each accepted line is kept in the history.
+fn standard_config() -> Config
+    ensures { result ≡ standard_config }
+{
+    Config::builder().auto_add_history(true).build()
+}
+
+impl<'p, S: Source + Drop, D: Sink + Drop> DefaultBuilder<'p, S, D> {
+    /// Over this source of keys and this display.
+    pub fn new(alloc: Global, source: S, display: D) -> Self
+        ensures config { result.config ≡ standard_config }
+        ensures bindings { result.bindings ≡ [] }
+        ensures helper { result.helper ≡ None }
+        ensures prompt { result.prompt.now ≡ codes "> " }
+        ensures columns { result.columns ≡ 80 }
+        ensures devices { (result.source ≡ source) × (result.display ≡ display) }
+        ensures history { ⟦<SliceSource<'static> as Source>⟧.feed result.history ≡ fresh_feed [] End }
+        ensures lines { ⟦<WriteSink<io::Sink> as Sink>⟧.has_failed result.lines ≡ false }
+        ensures text { ⟦<WriteSink<io::Sink> as Sink>⟧.has_failed result.text ≡ false }
+    {
+        SessionBuilder {
+            alloc,
+            config: standard_config(),
+            bindings: EventMap::new(alloc).unwrap(),
+            history: SliceSource::new(b""),
+            helper: None,
+            prompt: "> ",
+            source,
+            columns: 80,
+            display,
+            lines: WriteSink::new(io::sink()),
+            text: WriteSink::new(io::sink()),
+        }
+    }
+}
+
+impl<'p, F, S, H, D, L, T, B: Decides> SessionBuilder<'p, F, S, H, D, L, T, B>
+where
+    F: Source + Drop,
+    S: Source + Drop,
+    H: Drop,
+    D: Sink + Drop,
+    L: Sink + Drop,
+    T: Sink + Drop,
+{
+    /// The settings.
+    pub fn config(self, config: Config) -> Self
+        ensures { result ≡ record self { config = config } }
+    {
+        SessionBuilder { config, ..self }
+    }
+
+    /// What stands before each line of `Session::run`. `Session::read_line` is given one of its own.
+    pub fn prompt(self, prompt: &'p str) -> Self
+        ensures { result ≡ record self { prompt = prompt } }
+    {
+        SessionBuilder { prompt, ..self }
+    }
+
+    /// Columns of a row, 2 to 1,000.
+    pub fn columns(self, columns: u16) -> Self
+        ensures { result ≡ record self { columns = columns } }
+    {
+        SessionBuilder { columns, ..self }
+    }
+
+    /// What the keys do besides the tables.
+    pub fn bindings<C: Decides>(
+        self,
+        bindings: EventMap<C>,
+    ) -> SessionBuilder<'p, F, S, H, D, L, T, C>
+        ensures { result ≡ record {
+          alloc = self.alloc;
+          config = self.config;
+          bindings = bindings;
+          history = self.history;
+          helper = self.helper;
+          prompt = self.prompt;
+          source = self.source;
+          columns = self.columns;
+          display = self.display;
+          lines = self.lines;
+          text = self.text;
+        } }
+    {
+        SessionBuilder {
+            alloc: self.alloc,
+            config: self.config,
+            bindings,
+            history: self.history,
+            helper: self.helper,
+            prompt: self.prompt,
+            source: self.source,
+            columns: self.columns,
+            display: self.display,
+            lines: self.lines,
+            text: self.text,
+        }
+    }
+
+    /// What helps.
+    pub fn helper<G: Helper + Drop>(self, helper: G) -> SessionBuilder<'p, F, S, G, D, L, T, B>
+        ensures { result ≡ record {
+          alloc = self.alloc;
+          config = self.config;
+          bindings = self.bindings;
+          history = self.history;
+          helper = Some helper;
+          prompt = self.prompt;
+          source = self.source;
+          columns = self.columns;
+          display = self.display;
+          lines = self.lines;
+          text = self.text;
+        } }
+    {
+        SessionBuilder {
+            alloc: self.alloc,
+            config: self.config,
+            bindings: self.bindings,
+            history: self.history,
+            helper: Some(helper),
+            prompt: self.prompt,
+            source: self.source,
+            columns: self.columns,
+            display: self.display,
+            lines: self.lines,
+            text: self.text,
+        }
+    }
+
+    /// Where accepted lines are written.
+    pub fn lines<M: Sink + Drop>(self, lines: M) -> SessionBuilder<'p, F, S, H, D, M, T, B>
+        ensures { result ≡ record {
+          alloc = self.alloc;
+          config = self.config;
+          bindings = self.bindings;
+          history = self.history;
+          helper = self.helper;
+          prompt = self.prompt;
+          source = self.source;
+          columns = self.columns;
+          display = self.display;
+          lines = lines;
+          text = self.text;
+        } }
+    {
+        SessionBuilder {
+            alloc: self.alloc,
+            config: self.config,
+            bindings: self.bindings,
+            history: self.history,
+            helper: self.helper,
+            prompt: self.prompt,
+            source: self.source,
+            columns: self.columns,
+            display: self.display,
+            lines,
+            text: self.text,
+        }
+    }
+
+    /// Where the history's text is loaded from, and where it is saved to where an entry is new.
+    pub fn history<G: Source + Drop, U: Sink + Drop>(
+        self,
+        history: G,
+        text: U,
+    ) -> SessionBuilder<'p, G, S, H, D, L, U, B>
+        ensures { result ≡ record {
+          alloc = self.alloc;
+          config = self.config;
+          bindings = self.bindings;
+          history = history;
+          helper = self.helper;
+          prompt = self.prompt;
+          source = self.source;
+          columns = self.columns;
+          display = self.display;
+          lines = self.lines;
+          text = text;
+        } }
+    {
+        SessionBuilder {
+            alloc: self.alloc,
+            config: self.config,
+            bindings: self.bindings,
+            history,
+            helper: self.helper,
+            prompt: self.prompt,
+            source: self.source,
+            columns: self.columns,
+            display: self.display,
+            lines: self.lines,
+            text,
+        }
+    }
+
+    /// Opens the session, as `Session::open` does.
+    pub fn open(self) -> Result<Session<S, H, D, L, T, B>, Unopened<F, S, D, L, T>>
+    where
+        H: Helper,
+        requires columns { (2 ≤ self.columns) × (self.columns ≤ 1000) }
+        requires history { (F.feed self.history).failed ≡ false }
+        requires source { (S.feed self.source).failed ≡ false }
+        requires display { D.has_failed self.display ≡ false }
+        requires lines { L.has_failed self.lines ≡ false }
+        requires text { T.has_failed self.text ≡ false }
+        ensures desk { IfOk result (λ s. Opens F.feed S.feed self.config self.history self.helper
+            self.source self.columns self.display self.lines s.desk) }
+        ensures config { IfOk result (λ s. s.config ≡ self.config) }
+        ensures bindings { IfOk result (λ s. s.bindings ≡ self.bindings) }
+        ensures prompt { IfOk result (λ s. string_bytes s.prompt ≡ self.prompt.now) }
+        ensures text { IfOk result (λ s. s.text ≡ self.text) }
+        ensures refused { IfErr result (Unopens F.feed self.config self.history self.source
+            self.display self.lines self.text) }
+    {
+        let SessionBuilder {
+            alloc,
+            config,
+            bindings,
+            history,
+            helper,
+            prompt,
+            source,
+            columns,
+            display,
+            lines,
+            text,
+        } = self;
+        Session::open(
+            alloc, config, bindings, history, helper, prompt, source, columns, display, lines, text,
+        )
+    }
+}
