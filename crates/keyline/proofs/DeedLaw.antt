@@ -12,42 +12,45 @@ use Rattle.line_screen.specs.Calls.{Screen}
 use Rattle.line_keys.specs.Coming.{Coming}
 use Rattle.keyline.specs.Deeds.{SessionDeed, Draws, Helped, Hears, Keeps, Writes, bytes_drawn, left_of_deeds, lines_kept, lines_written, call_deeds, act_deeds, acts_in, close_deeds, line_deeds, deeds_after, session_deeds, AreFirst, DeedsTell}
 use Rattle.keyline.specs.Playing.{accepted_of}
-use Rattle.keyline.specs.Sessions.{Given, SessionState, Report, line_in, after_line, line_reported, line_bytes, display_bytes, session}
+use Rattle.keyline.specs.Sessions.{Given, LineGiven, SessionState, Report, for_line, line_in, after_line, line_reported, line_bytes, display_bytes, screens_for, session_by}
 use Rattle.keyline.specs.Shows.{drawn_by}
 use Rattle.keyline.proofs.DeedLemmas.{drawn_both, left_both, kept_both, written_both, deeds_drawn, deeds_left, deeds_kept, deeds_written}
 
 -- ---- what all of them come to
 
-record Tells (s : Screen) (coming : Coming) (deeds : List SessionDeed) (report : Report) : Type 0 where
-  drawn : bytes_drawn deeds ≡ display_bytes s report
+record Tells (at : ℕ → Screen) (coming : Coming) (deeds : List SessionDeed) (report : Report) : Type 0 where
+  drawn : bytes_drawn deeds ≡ display_bytes at report.told
   left : left_of_deeds coming deeds ≡ report.rest
   kept : lines_kept deeds ≡ report.accepted
   written : lines_written deeds ≡ report.accepted
 
 -- a line's, and then those of what comes after it
-tells_then : (s : Screen) (c : Coming) (t : Told) (o : Result (List ℕ) ReadlineError) (deeds more : List SessionDeed) (later : Report)
-    → bytes_drawn deeds ≡ line_bytes s t → left_of_deeds c deeds ≡ t.rest → lines_kept deeds ≡ accepted_of o → lines_written deeds ≡ accepted_of o
-    → Tells s t.rest more later → Tells s c (deeds ++ deeds_after o more) (line_reported t o later)
-tells_then s c t (Ok text) deeds more later drawn left kept written r = record {
-  drawn = drawn_both deeds more ∙ (ap (λ bytes. bytes ++ bytes_drawn more) drawn ∙ ap (λ bytes. line_bytes s t ++ bytes) r.drawn);
+tells_then : (at : ℕ → Screen) (c : Coming) (t : Told) (o : Result (List ℕ) ReadlineError) (deeds more : List SessionDeed) (later : Report)
+    → bytes_drawn deeds ≡ line_bytes (at 0) t → left_of_deeds c deeds ≡ t.rest → lines_kept deeds ≡ accepted_of o → lines_written deeds ≡ accepted_of o
+    → Tells (λ line. at (suc line)) t.rest more later → Tells at c (deeds ++ deeds_after o more) (line_reported t o later)
+tells_then at c t (Ok text) deeds more later drawn left kept written r = record {
+  drawn = drawn_both deeds more ∙ (ap (λ bytes. bytes ++ bytes_drawn more) drawn ∙ ap (λ bytes. line_bytes (at 0) t ++ bytes) r.drawn);
   left = left_both c deeds more ∙ (ap (λ here. left_of_deeds here more) left ∙ r.left);
   kept = kept_both deeds more ∙ (ap (λ lines. lines ++ lines_kept more) kept ∙ ap (λ lines. text ∷ lines) r.kept);
   written = written_both deeds more ∙ (ap (λ lines. lines ++ lines_written more) written ∙ ap (λ lines. text ∷ lines) r.written);
 }
-tells_then s c t (Err e) deeds more later drawn left kept written r = record {
+tells_then at c t (Err e) deeds more later drawn left kept written r = record {
   drawn = drawn_both deeds [] ∙ ap (λ bytes. bytes ++ []) drawn;
   left = left_both c deeds [] ∙ left;
   kept = kept_both deeds [] ∙ ap (λ lines. lines ++ []) kept;
   written = written_both deeds [] ∙ ap (λ lines. lines ++ []) written;
 }
 
-told : (n : ℕ) (g : Given) (x : SessionState) → Tells g.screen x.coming (session_deeds n g x) (session n g x)
-unfolding session session_deeds
-told zero g x = record { drawn = refl; left = refl; kept = refl; written = refl }
-told (suc n) g x =
-    let t = line_in (suc n) g x in
-    tells_then g.screen x.coming t t.outcome (line_deeds (suc n) g x) (session_deeds n g (after_line g t x)) (session n g (after_line g t x))
-    (deeds_drawn (suc n) g x) (deeds_left (suc n) g x) (deeds_kept (suc n) g x) (deeds_written (suc n) g x) (told n g (after_line g t x))
+told : (n : ℕ) (g : Given) (at : ℕ → LineGiven) (x : SessionState) → Tells (screens_for g at) x.coming (session_deeds n g at x) (session_by n g at x)
+unfolding session_by session_deeds
+told zero g at x = record { drawn = refl; left = refl; kept = refl; written = refl }
+told (suc n) g at x =
+    let first = for_line g (at 0) in
+    let later : ℕ → LineGiven = λ line. at (suc line) in
+    let t = line_in (suc n) first x in
+    let y = after_line g t x in
+    tells_then (screens_for g at) x.coming t t.outcome (line_deeds (suc n) first x) (session_deeds n g later y) (session_by n g later y)
+    (deeds_drawn (suc n) first x) (deeds_left (suc n) first x) (deeds_kept (suc n) first x) (deeds_written (suc n) first x) (told n g later y)
 
 -- ---- what the first of them come to: a line is written right after it was kept
 
@@ -96,16 +99,19 @@ ordered_close : (o : Result (List ℕ) ReadlineError) (more : List SessionDeed) 
 ordered_close (Ok text) more is = (refl, (refl, is))
 ordered_close (Err e) more is = tt
 
-ordered : (n : ℕ) (g : Given) (x : SessionState) → Ordered [] (session_deeds n g x)
+ordered : (n : ℕ) (g : Given) (at : ℕ → LineGiven) (x : SessionState) → Ordered [] (session_deeds n g at x)
 unfolding session_deeds
-ordered zero g x = tt
-ordered (suc n) g x =
-    let t = line_in (suc n) g x in
-    let acts = acts_in (suc n) g x in
-    let l = fresh g.screen.mode in
-    let more = deeds_after t.outcome (session_deeds n g (after_line g t x)) in
-    subst (λ deeds. Ordered [] deeds) (sym (append_assoc (act_deeds g.screen l acts) (close_deeds t.outcome) more))
-    (ordered_acts g.screen l acts (close_deeds t.outcome ++ more) (ordered_close t.outcome (session_deeds n g (after_line g t x)) (ordered n g (after_line g t x))))
+ordered zero g at x = tt
+ordered (suc n) g at x =
+    let first = for_line g (at 0) in
+    let s = first.screen in
+    let later : ℕ → LineGiven = λ line. at (suc line) in
+    let t = line_in (suc n) first x in
+    let acts = acts_in (suc n) first x in
+    let l = fresh s.mode in
+    let others = session_deeds n g later (after_line g t x) in
+    subst (λ deeds. Ordered [] deeds) (sym (append_assoc (act_deeds s l acts) (close_deeds t.outcome) (deeds_after t.outcome others)))
+    (ordered_acts s l acts (close_deeds t.outcome ++ deeds_after t.outcome others) (ordered_close t.outcome others (ordered n g later (after_line g t x))))
 
 are_first : (lines : List (List ℕ)) (deeds done next : List SessionDeed) → Ordered [] deeds → lines_kept deeds ≡ lines → deeds ≡ done ++ next → AreFirst done lines
 are_first lines deeds done next is kept split =
@@ -119,6 +125,11 @@ are_first lines deeds done next is kept split =
     }
 
 pub deeds_tell : DeedsTell
-deeds_tell n g x =
-    let all = told n g x in
-    (all.drawn, all.left, all.kept, all.written, λ done next split. are_first (session n g x).accepted (session_deeds n g x) done next (ordered n g x) all.kept split)
+deeds_tell n g at x =
+    let all = told n g at x in (
+      all.drawn,
+      all.left,
+      all.kept,
+      all.written,
+      λ done next split. are_first (session_by n g at x).accepted (session_deeds n g at x) done next (ordered n g at x) all.kept split,
+    )

@@ -4,6 +4,7 @@ pub mod DeedLaw
 pub mod DeedLemmas
 pub mod DeskLemmas
 pub mod EditLemmas
+pub mod LinesLemmas
 pub mod OneByteLemmas
 pub mod OptionsLemmas
 pub mod PasteLemmas

@@ -15,7 +15,6 @@ use Rattle.line_record.specs.Ring.{Ring, new_ring}
 use Rattle.line_screen.specs.Calls.{Screen, screen_of}
 use Rattle.line_screen.specs.Reader.{coming_in, kept_of, source_of}
 use Rattle.line_screen.specs.Unread.{kept_count}
-use Rattle.keyline.specs.Deeds.{SessionDeed, session_deeds}
 use Rattle.keyline.specs.Desks.{feed_of, session_state_of, work_of}
 use Rattle.keyline.specs.Known.{Known}
 use Rattle.keyline.specs.Edits.{EditHelper, EditsByOptions, config_of, edit_helping, given_to, helper_of, nothing_bound}
@@ -23,7 +22,7 @@ use Rattle.keyline.specs.Played.{PlaysBytes, bytes_work, program_given, program_
 use Rattle.keyline.specs.Playing.{Reads, SessionReason, Work}
 use Rattle.keyline.specs.Plays.{loaded_from, loads}
 use Rattle.keyline.specs.SessionShows.{Displays}
-use Rattle.keyline.specs.Sessions.{Given, Report, SessionState, given_by, coming_from, session}
+use Rattle.keyline.specs.Sessions.{Given, SessionState, given_by, coming_from, each}
 use Rattle.keyline.specs.declared.desk.Desk.{Desk}
 use Rattle.keyline.specs.declared.options.Options.{Options}
 use Rattle.keyline.specs.declared.session.Ended.{Ended}
@@ -67,11 +66,11 @@ took_all : {D : Type 0} (held : D → List ℕ) (old new : D) (bytes now : List 
 took_all held old new bytes now none same takes = same ∙ takes ∙ ap (λ front. front ++ bytes) none
 
 module _ {D L : Type 0} (shown : D → List ℕ) (written_in : L → List ℕ) where
-  as_bytes : (g : Given) (report : Report) (deeds : List SessionDeed) (coming : Coming) (old new : Work D L) (left : Coming) (why : ReadlineError) (drawn wrote : List ℕ)
+  as_bytes : (n : ℕ) (g : Given) (x : SessionState) (old new : Work D L) (left : Coming) (why : ReadlineError) (drawn wrote : List ℕ)
       → shown old.display ≡ [] → drawn ≡ shown new.display → written_in old.lines ≡ [] → wrote ≡ written_in new.lines
-      → Reads shown written_in g report deeds coming old new left why
-      → Reads (λ d. d) (λ l. l) g report deeds coming (bytes_work [] [] old.history) (bytes_work drawn wrote new.history) left why
-  as_bytes g report deeds coming old new left why drawn wrote none drawn_is bare wrote_is (inl (w, helped)) = inl (
+      → Reads shown written_in n g (each g) x old new left why
+      → Reads (λ d. d) (λ l. l) n g (each g) x (bytes_work [] [] old.history) (bytes_work drawn wrote new.history) left why
+  as_bytes n g x old new left why drawn wrote none drawn_is bare wrote_is (inl (w, helped)) = inl (
     record {
       why_is = w.why_is;
       rest_is = w.rest_is;
@@ -81,7 +80,7 @@ module _ {D L : Type 0} (shown : D → List ℕ) (written_in : L → List ℕ) w
     },
     helped,
   )
-  as_bytes g report deeds coming old new left why drawn wrote none drawn_is bare wrote_is (inr c) = inr (record {
+  as_bytes n g x old new left why drawn wrote none drawn_is bare wrote_is (inr c) = inr (record {
     done = c.done;
     next = c.next;
     first = c.first;
@@ -133,13 +132,13 @@ module _ {F S D L T : Type 0} (text_of : F → Feed) (k : Known S D L) (held : T
         goes = λ n low.
             let went = plays.goes agrees n (below (2 ^ 63) (kept_count (kept_of desk.reader)) (feed_of k desk).bound n (ap kept_count opens.kept) bound low) in
             let G : Given → SessionState → Type 0 = λ g x.
-            Reads k.shown k.written_in g (session n g x) (session_deeds n g x) x.coming (work_of k desk) end left plays.why in
+            Reads k.shown k.written_in n g (each g) x (work_of k desk) end left plays.why in
             let r = subst (λ (x : SessionState). G g x) start_is (subst (λ (g : Given). G g (session_state_of k desk)) given_is went) in
             let H : Filed → Type 0 = λ h.
-            Reads (λ (d : List ℕ). d) (λ (l : List ℕ). l) g (session n g start) (session_deeds n g start) start.coming (bytes_work [] [] h)
+            Reads (λ (d : List ℕ). d) (λ (l : List ℕ). l) n g (each g) start (bytes_work [] [] h)
             (bytes_work (k.shown display') (k.written_in lines') plays.kept) left plays.why in
             subst H history_is
-            (as_bytes k.shown k.written_in g (session n g start) (session_deeds n g start) start.coming (work_of k desk) end left plays.why
+            (as_bytes k.shown k.written_in n g start (work_of k desk) end left plays.why
             (k.shown display') (k.written_in lines')
             (ap k.shown opens.display_is ∙ none) drawn_is (ap k.written_in opens.lines_are ∙ bare) wrote_is r);
         shows =

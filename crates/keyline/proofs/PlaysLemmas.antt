@@ -4,19 +4,18 @@ use Rattle.line_config.specs.declared.errors.ReadlineError.{ReadlineError}
 use Rattle.line_help.specs.History.{Filed}
 use Rattle.line_screen.specs.Calls.{sink_of}
 use Rattle.line_screen.specs.Reader.{coming_in, kept_of, source_of}
-use Rattle.keyline.specs.Deeds.{session_deeds}
 use Rattle.keyline.specs.Desks.{TakesLines, feed_of, session_state_of, work_of}
 use Rattle.keyline.specs.Known.{Known}
 use Rattle.keyline.specs.Endings.{ending_of}
 use Rattle.keyline.specs.Playing.{SessionReason, Reads, Saves, ending_after}
 use Rattle.keyline.specs.Plays.{Plays}
-use Rattle.keyline.specs.Sessions.{Given, session}
+use Rattle.keyline.specs.Sessions.{Given, each}
 use Rattle.keyline.specs.declared.desk.Desk.{Desk}
 use Rattle.keyline.specs.declared.ending.Ending.{Ending}
 
 pub plays : {S H D L T : Type 0} (k : Known S D L) (held : T → List ℕ) (failed : T → Bool) (g : Given) (desk end : Desk S H D L)
     (why : ReadlineError) (history : Filed) (text text' : T) (saved : Bool) (ending : Ending) (source : S) (ahead : Option ℕ) (display : D)
-    → TakesLines k g desk end why → Saves held failed end.history history text text' saved → ending ≡ ending_of (ending_after why saved)
+    → TakesLines k g (each g) desk end why → Saves held failed end.history history text text' saved → ending ≡ ending_of (ending_after why saved)
     → source ≡ source_of end.reader → ahead ≡ kept_of end.reader → display ≡ sink_of end.out
     → Plays {H = H} k held failed g desk text (record { ending = ending; history = history; source = source; ahead = ahead; display = display; lines = end.lines; text = text' })
 plays {S} {H} {D} {L} {T} k held failed g desk end why history text text' saved ending source ahead display lines saves is source_is ahead_is display_is = record {
@@ -27,8 +26,7 @@ plays {S} {H} {D} {L} {T} k held failed g desk end why history text text' saved 
   why = why;
   saved = saved;
   goes = λ t n b.
-      let x = session_state_of k desk in
-      let P : D → Type 0 = λ display. Reads k.shown k.written_in g (session n g x) (session_deeds n g x) x.coming (work_of k desk)
+      let P : D → Type 0 = λ display. Reads k.shown k.written_in n g (each g) (session_state_of k desk) (work_of k desk)
       (record { display = display; lines = end.lines; history = end.history }) (coming_in k.feed end.reader) why in
       subst P (sym display_is) (lines.goes (subst (λ (s : S). IsTrue (k.feed s).told) source_is t) n b);
   saves = saves;

@@ -13,7 +13,7 @@ use Rattle.line_keys.specs.InputStates.{new_input}
 use Rattle.line_screen.specs.Calls.{Screen, bytes_of, ruler_of}
 use Rattle.line_screen.specs.Drawing.{row_break, break_if}
 use Rattle.keyline.specs.SessionShows.{parts_of, all_of, SessionsShow}
-use Rattle.keyline.specs.Sessions.{Given, SessionState, Report, setting_in, line_in, after_line, line_reported, session, turns_of, breaks, line_bytes, display_bytes}
+use Rattle.keyline.specs.Sessions.{Given, SessionState, Report, setting_in, line_in, after_line, line_reported, session, session_by, turns_of, breaks, line_bytes, display_bytes}
 use Rattle.keyline.specs.Shows.{drawn_by, bytes_for}
 use Rattle.keyline.proofs.ShowCourse.{flat_both, drawings_show}
 
@@ -71,7 +71,7 @@ module _ (s : Screen) where
 
 record Shown (g : Given) (r : Report) : Type 0 where
   course : TurnsLead g.prompt no_sight (turns_of r)
-  bytes : all_of (parts_of g.screen (fresh g.screen.mode) (turns_of r)) ≡ display_bytes g.screen r
+  bytes : all_of (parts_of g.screen (fresh g.screen.mode) (turns_of r)) ≡ display_bytes (λ line. g.screen) r.told
 
 -- a line, and what comes after it
 line_shown : (g : Given) (t : Told) (later : Report) (o : Result (List ℕ) ReadlineError) → t.outcome ≡ o → TurnsLead g.prompt no_sight t.turns → EndsLine t.outcome t.turns → Shown g later → Shown g (line_reported t o later)
@@ -98,7 +98,7 @@ line_shown g t later (Err e) is course ends rest =
     }
 
 session_shown : (n : ℕ) (g : Given) (x : SessionState) → Shown g (session n g x)
-unfolding session
+unfolding session_by
 session_shown zero g x = record { course = tt; bytes = refl }
 session_shown (suc n) g x =
     let t = line_in (suc n) g x in

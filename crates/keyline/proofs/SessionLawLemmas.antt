@@ -6,7 +6,7 @@ use Rattle.line_help.specs.History.{Filed, nothing_filed, ignored, filed_with_al
 use Rattle.line_help.proofs.NewestLemmas.{all_new, length-newest, newest_behind}
 use Rattle.line_keys.specs.InputStates.{new_input}
 use Rattle.keyline.specs.SessionLaws.{at_columns, prompt_column, ColumnsAreFree, taken_of, LastAreKept}
-use Rattle.keyline.specs.Sessions.{Given, SessionState, setting_in, line_in, after_line, line_reported, session}
+use Rattle.keyline.specs.Sessions.{Given, SessionState, setting_in, line_in, after_line, line_reported, session, session_by}
 
 -- ---- columns
 
@@ -18,7 +18,7 @@ unfolding setting_at
 line_same n g x columns e = ap (λ column. line_of n (setting_at g x.history.kept.entries column) g.custom g.config.indent_size (new_input g.config.edit_mode) x.ring x.coming) e
 
 pub columns_are_free : ColumnsAreFree
-unfolding session
+unfolding session_by
 columns_are_free zero g x columns e = refl
 columns_are_free (suc n) g x columns e =
     let other = at_columns columns g in
@@ -58,4 +58,4 @@ kept_from (line ∷ lines) filed few = by_test (ignored filed.kept.settings file
         ∙ ap (newest max) (append_assoc entries (line ∷ []) (taken_of (next false) lines))
 
 pub last_are_kept : LastAreKept
-last_are_kept n g x settings = kept_from (session n g x).accepted (nothing_filed settings) (omega arith)
+last_are_kept n g at x settings = kept_from (session_by n g at x).accepted (nothing_filed settings) (omega arith)

@@ -10,7 +10,7 @@ use Rattle.line_editor.specs.Running.{acts_meant}
 use Rattle.line_keys.specs.Coming.{Coming}
 use Rattle.line_screen.specs.Calls.{Screen, bytes_of}
 use Rattle.line_screen.specs.Drawing.{break_if}
-use Rattle.keyline.specs.Sessions.{Given, SessionState, line_in, setting_in, after_line, breaks, display_bytes, session}
+use Rattle.keyline.specs.Sessions.{Given, LineGiven, SessionState, for_line, line_in, setting_in, after_line, breaks, display_bytes, screens_for, session_by}
 use Rattle.keyline.specs.Shows.{drawn_by}
 
 pub data SessionDeed : Type 0 where
@@ -96,11 +96,12 @@ abbrev pub deeds_after : Result (List ℕ) ReadlineError → List SessionDeed �
 deeds_after (Ok text) later = later
 deeds_after (Err e) later = []
 
-unfoldable pub session_deeds : ℕ → Given → SessionState → List SessionDeed
-session_deeds zero g x = []
-session_deeds (suc n) g x =
-    let t = line_in (suc n) g x in
-    line_deeds (suc n) g x ++ deeds_after t.outcome (session_deeds n g (after_line g t x))
+unfoldable pub session_deeds : ℕ → Given → (ℕ → LineGiven) → SessionState → List SessionDeed
+session_deeds zero g at x = []
+session_deeds (suc n) g at x =
+    let first = for_line g (at 0) in let t = line_in (suc n) first x in
+    line_deeds (suc n) first x
+    ++ deeds_after t.outcome (session_deeds n g (λ line. at (suc line)) (after_line g t x))
 
 -- ---- what they have to do with the session's report
 
@@ -116,9 +117,9 @@ pub record AreFirst (done : List SessionDeed) (lines : List (List ℕ)) : Type 0
 -- a session's deeds come to its report, and any first ones of them to the first of its lines
 abbrev pub DeedsTell : Type 0
 DeedsTell =
-    (n : ℕ) (g : Given) (x : SessionState) → let deeds = session_deeds n g x in
-    let report = session n g x in
-    (bytes_drawn deeds ≡ display_bytes g.screen report)
+    (n : ℕ) (g : Given) (at : ℕ → LineGiven) (x : SessionState) →
+    let deeds = session_deeds n g at x in let report = session_by n g at x in
+    (bytes_drawn deeds ≡ display_bytes (screens_for g at) report.told)
     × (left_of_deeds x.coming deeds ≡ report.rest)
     × (lines_kept deeds ≡ report.accepted)
     × (lines_written deeds ≡ report.accepted)

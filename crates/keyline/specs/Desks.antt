@@ -5,10 +5,10 @@ use Rattle.line_keys.specs.Feeds.{KeyFeed}
 use Rattle.line_editor.specs.Lines.{Told}
 use Rattle.line_screen.specs.Calls.{sink_of}
 use Rattle.line_screen.specs.Reader.{items_of, source_of}
-use Rattle.keyline.specs.Deeds.{SessionDeed, HelperAnswers, line_deeds, session_deeds}
+use Rattle.keyline.specs.Deeds.{SessionDeed, HelperAnswers, line_deeds}
 use Rattle.keyline.specs.Known.{Known}
 use Rattle.keyline.specs.Playing.{Work, SessionReason, LineWhole, LineCut, Reads}
-use Rattle.keyline.specs.Sessions.{Given, SessionState, line_in, after_line, line_bytes, session}
+use Rattle.keyline.specs.Sessions.{Given, LineGiven, SessionState, line_in, after_line, line_bytes}
 use Rattle.keyline.specs.declared.desk.Desk.{Desk}
 
 module _ {S H D L : Type 0} (k : Known S D L) where
@@ -47,10 +47,10 @@ module _ {S H D L : Type 0} (k : Known S D L) where
     pub falls : OnOk result ((feed_of new).bound < (feed_of old).bound)
     pub reason : IfErr result (DeskReason g new)
 
-  -- THE relation of all lines
-  pub record TakesLines (g : Given) (old new : Desk S H D L) (why : ReadlineError) : Type 0 where
+  -- THE relation of lines until one is refused, with what is handed in for each
+  pub record TakesLines (g : Given) (at : ℕ → LineGiven) (old new : Desk S H D L)
+      (why : ReadlineError) : Type 0 where
     pub goes : IsTrue (feed_of new).told → (n : ℕ) → (feed_of old).bound < n
-        → let x = session_state_of old in
-        Reads k.shown k.written_in g (session n g x) (session_deeds n g x) (feed_of old).coming
-        (work_of old) (work_of new) (feed_of new).coming why
+        → Reads k.shown k.written_in n g at (session_state_of old) (work_of old) (work_of new)
+        (feed_of new).coming why
     pub reason : DeskReason g new why

@@ -13,14 +13,13 @@ use Rattle.line_config.specs.declared.errors.ReadlineError.{ReadlineError}
 use Rattle.line_help.specs.History.{Filed}
 use Rattle.line_help.specs.HistoryText.{text_to_save}
 use Rattle.line_keys.specs.Coming.{Coming}
-use Rattle.keyline.specs.Deeds.{session_deeds}
 use Rattle.keyline.specs.Known.{Known}
 use Rattle.keyline.specs.Edits.{config_of, edit_helping, helper_of, nothing_bound}
 use Rattle.keyline.specs.Endings.{ending_of}
 use Rattle.keyline.specs.Playing.{Reads, SessionReason, Work, ending_after}
 use Rattle.keyline.specs.Plays.{loaded_from, loads}
 use Rattle.keyline.specs.SessionShows.{Displays}
-use Rattle.keyline.specs.Sessions.{Given, SessionState, given_by, at_first, coming_from, session}
+use Rattle.keyline.specs.Sessions.{Given, SessionState, given_by, at_first, coming_from, each}
 use Rattle.keyline.specs.declared.ending.Ending.{Ending}
 use Rattle.keyline.specs.declared.options.Options.{Options}
 use Rattle.keyline.specs.declared.session.Ended.{Ended}
@@ -86,8 +85,8 @@ pub record PlaysBytes (options : Options) (words : Option (List (List ℕ))) (ol
   pub loaded : IsOk (loads (config_of options) (fresh_feed old End))
   pub goes : (n : ℕ) → 2 ^ 63 < n → let g = program_given options words in
       let start = program_start options old bytes last in
-      Reads (λ drawn. drawn) (λ wrote. wrote) g (session n g start) (session_deeds n g start)
-      start.coming (bytes_work [] [] start.history) (bytes_work seen.drawn seen.wrote kept) left why
+      Reads (λ drawn. drawn) (λ wrote. wrote) n g (each g) start (bytes_work [] [] start.history)
+      (bytes_work seen.drawn seen.wrote kept) left why
   pub shows : Displays (program_given options words) (program_start options old bytes last)
   pub done : saved ≡ true → seen.text ≡ text_to_save kept
   pub refused : saved ≡ false → IsTrue seen.text_failed

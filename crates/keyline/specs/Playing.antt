@@ -8,8 +8,8 @@ use Rattle.line_help.specs.History.{Filed, all_saved}
 use Rattle.line_help.specs.HistoryText.{text_to_save}
 use Rattle.line_keys.specs.Answers.{HandlerFails}
 use Rattle.line_keys.specs.Coming.{Coming, left_by}
-use Rattle.keyline.specs.Deeds.{SessionDeed, Draws, Helped, Hears, Keeps, Writes, HelperAnswers, bytes_drawn, left_of_deeds, lines_kept, lines_written}
-use Rattle.keyline.specs.Sessions.{Given, Report, remembered, history_after, line_text, lines_text, display_bytes}
+use Rattle.keyline.specs.Deeds.{SessionDeed, Draws, Helped, Hears, Keeps, Writes, HelperAnswers, bytes_drawn, left_of_deeds, lines_kept, lines_written, session_deeds}
+use Rattle.keyline.specs.Sessions.{Given, LineGiven, SessionState, Report, remembered, history_after, line_text, lines_text, display_bytes, screens_for, session_by}
 
 -- why lines are read no further: what was given, or a device that has failed. Where a helper fails
 -- the deeds say
@@ -117,20 +117,26 @@ module _ {D L : Type 0} (shown : D → List ℕ) (written_in : L → List ℕ) w
 
   -- every line was read, drawn, kept and written; the lines end as the definition says, and what is
   -- left to come is what it leaves
-  pub record Whole (g : Given) (report : Report) (old new : Work D L) (left : Coming)
-      (why : ReadlineError) : Type 0 where
+  pub record Whole (g : Given) (at : ℕ → LineGiven) (report : Report) (old new : Work D L)
+      (left : Coming) (why : ReadlineError) : Type 0 where
     pub why_is : why ≡ report.ending
     pub rest_is : left ≡ report.rest
     pub history_is : new.history ≡ remembered g.config.auto_add_history report.accepted old.history
-    pub drawn : Takes shown old.display new.display (display_bytes g.screen report)
+    pub drawn : Takes shown old.display new.display
+        (display_bytes (screens_for g at) report.told)
     pub wrote : Takes written_in old.lines new.lines (lines_text report.accepted)
 
   -- whole, with a helper that gave an answer wherever it was asked, or a fault cut its deeds
-  abbrev pub Reads : Given → Report → List SessionDeed → Coming → Work D L → Work D L → Coming
-      → ReadlineError → Type 0
-  Reads g report deeds coming old new left why =
-      (Whole g report old new left why × HelperAnswers deeds)
+  abbrev pub ReadsAs : Given → (ℕ → LineGiven) → Report → List SessionDeed → Coming → Work D L
+      → Work D L → Coming → ReadlineError → Type 0
+  ReadsAs g at report deeds coming old new left why =
+      (Whole g at report old new left why × HelperAnswers deeds)
       ⊎ Cut g.config.auto_add_history deeds coming old new left why
+
+  abbrev pub Reads : ℕ → Given → (ℕ → LineGiven) → SessionState → Work D L → Work D L → Coming
+      → ReadlineError → Type 0
+  Reads n g at x old new left why =
+      ReadsAs g at (session_by n g at x) (session_deeds n g at x) x.coming old new left why
 
 -- ---- the end
 

@@ -10,12 +10,11 @@ use Rattle.line_record.specs.Ring.{new_ring}
 use Rattle.line_screen.specs.Calls.{screen_of, sink_of}
 use Rattle.line_screen.specs.Reader.{coming_in, kept_of, source_of}
 use Rattle.line_screen.specs.declared.reading.reader.KeyReader.{KeyReader}
-use Rattle.keyline.specs.Deeds.{session_deeds}
 use Rattle.keyline.specs.Desks.{feed_of, session_state_of, work_of}
 use Rattle.keyline.specs.Known.{Known}
 use Rattle.keyline.specs.Endings.{ending_of}
 use Rattle.keyline.specs.Playing.{SessionReason, Reads, Saves, ending_after}
-use Rattle.keyline.specs.Sessions.{Given, coming_from, session}
+use Rattle.keyline.specs.Sessions.{Given, coming_from, each}
 use Rattle.keyline.specs.declared.desk.Desk.{Desk}
 use Rattle.keyline.specs.declared.session.Beginning.{Beginning}
 use Rattle.keyline.specs.declared.session.Ended.{Ended}
@@ -105,8 +104,7 @@ pub record Plays {S H D L T : Type 0} (k : Known S D L) (held : T → List ℕ) 
   pub saved : Bool
   -- where the source gave what was said, with more fuel than it has keys and pastes
   pub goes : IsTrue (k.feed ended.source).told → (n : ℕ) → (feed_of k desk).bound < n
-      → let x = session_state_of k desk in
-      Reads k.shown k.written_in g (session n g x) (session_deeds n g x) x.coming (work_of k desk)
+      → Reads k.shown k.written_in n g (each g) (session_state_of k desk) (work_of k desk)
       (record { display = ended.display; lines = ended.lines; history = kept })
       (coming_in k.feed reader) why
   pub source_is : ended.source ≡ source_of reader
@@ -121,7 +119,7 @@ pub record AlwaysPlays {S H D L T : Type 0} (k : Known S D L) (held : T → List
     (failed : T → Bool) (g : Given) (desk : Desk S H D L) (text : T) (ended : Ended S D L T)
     : Type 0 where
   pub plays : Plays k held failed g desk text ended
-  pub goes : (n : ℕ) → (feed_of k desk).bound < n → let x = session_state_of k desk in
-      Reads k.shown k.written_in g (session n g x) (session_deeds n g x) x.coming (work_of k desk)
+  pub goes : (n : ℕ) → (feed_of k desk).bound < n
+      → Reads k.shown k.written_in n g (each g) (session_state_of k desk) (work_of k desk)
       (record { display = ended.display; lines = ended.lines; history = plays.kept })
       (coming_in k.feed plays.reader) plays.why

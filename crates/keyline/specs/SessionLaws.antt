@@ -3,7 +3,7 @@ use Rattle.std.specs.Prelude.{◌≡◌, ℕ, true, if◌then◌else◌, List, [
 use Rattle.line_buffer.specs.Cells.{origin}
 use Rattle.line_help.specs.History.{Settings, Filed, nothing_filed, ignored, filed_with, newest}
 use Rattle.line_screen.specs.Measure.{measure_of}
-use Rattle.keyline.specs.Sessions.{Given, SessionState, session, remembered}
+use Rattle.keyline.specs.Sessions.{Given, LineGiven, SessionState, session, session_by, remembered}
 
 -- the same on rows of so many columns
 abbrev pub at_columns : ℕ → Given → Given
@@ -30,6 +30,6 @@ taken_of filed (line ∷ lines) =
 -- a history that began empty holds the last of the accepted lines that weren't ignored, in order
 abbrev pub LastAreKept : Type 0
 LastAreKept =
-    (n : ℕ) (g : Given) (x : SessionState) (settings : Settings) →
-    let lines = (session n g x).accepted in let empty = nothing_filed settings in
+    (n : ℕ) (g : Given) (at : ℕ → LineGiven) (x : SessionState) (settings : Settings) →
+    let lines = (session_by n g at x).accepted in let empty = nothing_filed settings in
     (remembered true lines empty).kept.entries ≡ newest settings.max_len (taken_of empty lines)

@@ -29,7 +29,7 @@ abbrev pub Displays : Given → SessionState → Type 0
 Displays g x =
     (n : ℕ) → let turns = turns_of (session n g x) in let s = g.screen in
     TurnsLead g.prompt no_sight turns
-    × (all_of (parts_of s (fresh s.mode) turns) ≡ display_bytes s (session n g x))
+    × (all_of (parts_of s (fresh s.mode) turns) ≡ display_bytes (λ line. s) (session n g x).told)
     × (LowTurns s no_sight turns → EachShown s [] 0 [] (fresh s.mode) turns)
 
 abbrev pub SessionsShow : Type 0

@@ -38,6 +38,19 @@ given_by config custom prompt screen helping = record {
   helping = helping;
 }
 
+-- what is handed in for one of its lines: a prompt, and the columns of the screen's rows
+pub record LineGiven : Type 0 where
+  pub prompt : List ℕ
+  pub columns : ℕ
+
+abbrev pub for_line : Given → LineGiven → Given
+for_line g line =
+    record g { prompt = line.prompt; screen = record g.screen { columns = line.columns } }
+
+-- the same for each line
+abbrev pub each : Given → ℕ → LineGiven
+each g line = record { prompt = g.prompt; columns = g.screen.columns }
+
 -- what goes on from line to line
 pub record SessionState : Type 0 where
   pub ring : Ring
@@ -97,11 +110,16 @@ abbrev pub line_reported : Told → Result (List ℕ) ReadlineError → Report �
 line_reported t (Ok text) later = then_line t text later
 line_reported t (Err e) later = record { told = t ∷ []; accepted = []; ending = e; rest = t.rest }
 
-unfoldable pub session : ℕ → Given → SessionState → Report
-session zero g x = record { told = []; accepted = []; ending = Memory; rest = x.coming }
-session (suc n) g x =
-    let t = line_in (suc n) g x in
-    line_reported t t.outcome (session n g (after_line g t x))
+-- a session of lines for which this is handed in, by their number
+unfoldable pub session_by : ℕ → Given → (ℕ → LineGiven) → SessionState → Report
+session_by zero g at x = record { told = []; accepted = []; ending = Memory; rest = x.coming }
+session_by (suc n) g at x =
+    let t = line_in (suc n) (for_line g (at 0)) x in
+    line_reported t t.outcome (session_by n g (λ line. at (suc line)) (after_line g t x))
+
+-- a session of one prompt, on one screen
+abbrev pub session : ℕ → Given → SessionState → Report
+session n g x = session_by n g (each g) x
 
 -- ---- what is written and drawn
 
@@ -123,8 +141,14 @@ breaks (Err e) = breaks_after e
 abbrev pub line_bytes : Screen → Told → List ℕ
 line_bytes s t = flat_map (bytes_of s) (calls_of s t) ++ break_if (breaks t.outcome)
 
-abbrev pub display_bytes : Screen → Report → List ℕ
-display_bytes s report = flat_map (line_bytes s) report.told
+-- of lines, each on the screen of its number
+abbrev pub display_bytes : (ℕ → Screen) → List Told → List ℕ
+display_bytes at [] = []
+display_bytes at (t ∷ told) =
+    line_bytes (at 0) t ++ display_bytes (λ line. at (suc line)) told
+
+abbrev pub screens_for : Given → (ℕ → LineGiven) → ℕ → Screen
+screens_for g at line = (for_line g (at line)).screen
 
 -- the turns of all lines in order; the moments are those that leave their line open
 abbrev pub turns_of : Report → List Turn

@@ -129,16 +129,10 @@ pub(crate) struct Lined<S: Source, H, D: Sink, L: Sink> {
     pub(crate) outcome: Result<String, ReadlineError>,
 }
 
-/// A desk after the last line, and why there is no further one.
-pub(crate) struct Stopped<S: Source, H, D: Sink, L: Sink> {
-    pub(crate) desk: Desk<S, H, D, L>,
-    pub(crate) why: ReadlineError,
-}
-
 impl<S: Source + Drop, H: Helper + Drop, D: Sink + Drop, L: Sink + Drop> Desk<S, H, D, L> {
     ghost use Rattle.line_keys.specs.Answers.{custom_of};
     ghost use Rattle.line_editor.specs.Running.{helping_by};
-    ghost use Rattle.keyline.specs.Desks.{TakesLine, TakesLines};
+    ghost use Rattle.keyline.specs.Desks.{TakesLine};
     ghost use Rattle.keyline.specs.Known.{known_by};
 
     /// Reads a line, draws it, and keeps and writes it where it is accepted.
@@ -191,34 +185,5 @@ impl<S: Source + Drop, H: Helper + Drop, D: Sink + Drop, L: Sink + Drop> Desk<S,
             lines,
         };
         Lined { desk, outcome }
-    }
-
-    /// Reads lines until there is none, and says why.
-    pub(crate) fn read_lines<B: Decides>(
-        self,
-        alloc: Global,
-        config: &Config,
-        bindings: &EventMap<B>,
-        prompt: &str,
-    ) -> Stopped<S, H, D, L>
-        ensures { let custom = custom_of bindings.now B.decides in
-            let helps = helping_by H.hint_of H.verdict_of H.completion_of H.update_of H.marks in
-            let given = given_by config.now custom prompt.now in
-            let known = known_by S.feed D.held D.has_failed L.held L.has_failed in
-            TakesLines known (given (screen_of self.out) (helps self.helper))
-            self result.desk result.why }
-    {
-        let mut desk = self;
-        loop {
-            let Lined {
-                desk: next,
-                outcome,
-            } = desk.one_line(alloc, config, bindings, prompt);
-            desk = next;
-            match outcome {
-                Ok(_) => {}
-                Err(why) => return Stopped { desk, why },
-            }
-        }
     }
 }

@@ -8,6 +8,7 @@ ghost use Rattle.line_editor.specs.Running.{helping_by};
 ghost use Rattle.line_screen.specs.Calls.{screen_of};
 ghost use Rattle.keyline.specs.Cutting.{CutsAreFree};
 ghost use Rattle.keyline.specs.Deeds.{DeedsTell};
+ghost use Rattle.keyline.specs.Desks.{TakesLines};
 ghost use Rattle.keyline.specs.Known.{known_by};
 ghost use Rattle.keyline.specs.OneByte.{LayoutsTell, OneByte};
 ghost use Rattle.keyline.specs.Pasting.{PastesAreAccepted, PastedLinesAreAccepted};
@@ -17,8 +18,8 @@ ghost use Rattle.keyline.specs.SessionShows.{SessionsShow};
 ghost use Rattle.keyline.specs.Sessions.{given_by};
 ghost use Rattle.keyline.specs.Shows.{DrawingsShow};
 
-use crate::session::{Ended, Session};
-use line_config::{Sink, Source};
+use crate::session::{Ended, LineRead, Session};
+use line_config::{ReadlineError, Sink, Source};
 use line_help::Helper;
 use line_keys::Decides;
 
@@ -41,6 +42,61 @@ pub fn always_told<
         AlwaysPlays known T.held T.has_failed given session.desk session.text result }
 {
     session.run()
+}
+
+/// Who says what is handed in for each line: its prompt, and the columns of the display's rows.
+pub trait Prompter {
+    ghost use Rattle.std.specs.Prelude.{◌≡◌, ◌≤◌, ℕ, suc};
+    ghost use Rattle.keyline.specs.Sessions.{LineGiven};
+
+    ghost lines: { Self → ℕ → LineGiven };
+
+    /// The next line's prompt.
+    fn prompt(&self) -> &str
+        ensures { result.now ≡ (lines self.now 0).prompt };
+
+    fn columns(&self) -> u16
+        ensures columns { result ≡ (lines self.now 0).columns }
+        ensures drawable { (2 ≤ result) × (result ≤ 1000) };
+
+    /// Goes on to the line after it.
+    fn advance(&mut self)
+        ensures { lines self.new ≡ (λ line. lines self.old (suc line)) };
+}
+
+/// `read_line`, called until it refuses, with a prompt and columns for each line: the lines, the
+/// history and the display bytes are those of the session for which these are handed in. `run` is
+/// the case of one prompt, on one screen.
+pub fn lines<
+    S: Source + Drop,
+    H: Helper + Drop,
+    D: Sink + Drop,
+    L: Sink + Drop,
+    T: Sink + Drop,
+    B: Decides,
+    P: Prompter + Drop,
+>(session: Session<S, H, D, L, T, B>, prompter: P) -> (Session<S, H, D, L, T, B>, ReadlineError)
+    ensures { let custom = custom_of session.bindings B.decides in
+        let helps = helping_by H.hint_of H.verdict_of H.completion_of H.update_of H.marks in
+        let given = given_by session.config custom (string_bytes session.prompt)
+        (screen_of session.desk.out) (helps session.desk.helper) in
+        let known = known_by S.feed D.held D.has_failed L.held L.has_failed in
+        TakesLines known given (P.lines prompter) session.desk result.0.desk result.1 }
+{
+    let mut session = session;
+    let mut prompter = prompter;
+    loop {
+        session.set_columns(prompter.columns());
+        let LineRead {
+            session: next,
+            line,
+        } = session.read_line(prompter.prompt());
+        session = next;
+        if let Err(why) = line {
+            return (session, why);
+        }
+        prompter.advance();
+    }
 }
 
 /// The bytes up to each moment of a session show its value at its top, as one drawing from nothing,

@@ -16,7 +16,7 @@ ghost use Rattle.keyline.specs.Plays.{Begins, LoadRefused, Loaded, Opens, Plays,
 ghost use Rattle.keyline.specs.SessionShows.{Displays};
 ghost use Rattle.keyline.specs.Sessions.{given_by};
 
-use crate::desk::{Desk, Lined, Stopped};
+use crate::desk::{Desk, Lined};
 use crate::ending::Ending;
 use line_config::{Config, ReadlineError, Sink, Source};
 use line_help::{FileHistory, Helper, History};
@@ -24,7 +24,7 @@ use line_keys::{Decides, EventHandler, EventMap};
 use line_record::KillRing;
 use line_screen::{KeyReader, ScreenRenderer};
 use std::alloc::Global;
-use std::fmt;
+use std::{fmt, mem};
 
 /// The slots of a session's kill ring.
 const KILL_RING_SIZE: usize = 60;
@@ -390,34 +390,18 @@ where
             let known = known_by S.feed D.held D.has_failed L.held L.has_failed in
             Displays given (session_state_of known self.desk) }
     {
-        let Session {
-            alloc,
-            config,
-            bindings,
-            prompt,
-            desk,
-            mut text,
-        } = self;
-        let Stopped { desk, why } = desk.read_lines(alloc, &config, &bindings, prompt.as_str());
-        let Desk {
-            reader,
-            out,
-            helper: _,
-            mut history,
-            ring: _,
-            lines,
-        } = desk;
-        let saved = save(&mut history, &mut text);
-        let ending = Ending::from(ending_after(why, saved));
-        let (source, ahead) = reader.into_parts();
-        Ended {
-            ending,
-            history,
-            source,
-            ahead,
-            display: out.into_sink(),
-            lines,
-            text,
+        let mut session = self;
+        let empty = String::new(session.alloc);
+        let prompt = mem::replace(&mut session.prompt, empty);
+        loop {
+            let LineRead {
+                session: next,
+                line,
+            } = session.read_line(prompt.as_str());
+            session = next;
+            if let Err(why) = line {
+                return session.finish(why);
+            }
         }
     }
 }
