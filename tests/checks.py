@@ -12,6 +12,8 @@ import traceback
 
 TOP = os.path.dirname(os.path.dirname(os.path.realpath(__file__)))
 SCRIPT = os.path.join(TOP, "keyline")
+# What the script runs the program by on a terminal, and anyone else's.
+ON_TERMINAL = os.path.join(TOP, "on_terminal")
 # What the script answers by where nothing is built yet.
 ANSWERS = os.path.join(TOP, "answers")
 
@@ -59,6 +61,7 @@ def placed_script():
     folder = tempfile.TemporaryDirectory(prefix="keyline-gate-")
     atexit.register(folder.cleanup)
     script = shutil.copy(SCRIPT, folder.name)
+    shutil.copy(ON_TERMINAL, folder.name)
     source = os.path.join(folder.name, "crates", "keyline_program", "src")
     os.makedirs(source)
     os.mkdir(os.path.join(folder.name, "bin"))

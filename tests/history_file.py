@@ -209,7 +209,7 @@ def ended_by(number):
 
 
 def killed_in_mid_line():
-    """A signal ends the program: the lines before stand, and the old history is whole."""
+    """Where keys come from no terminal a signal ends the program: the lines before stand, and the old history is whole."""
     for number in (signal.SIGTERM, signal.SIGHUP, signal.SIGINT, signal.SIGQUIT, signal.SIGKILL):
         with folder_with("history", OLD) as (folder, path):
             with Running([PROGRAM, "--history", path], preexec_fn=lambda: ended_by(number)) as program:

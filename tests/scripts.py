@@ -6,7 +6,7 @@ import sys
 
 TOP = os.path.dirname(os.path.dirname(os.path.realpath(__file__)))
 FOLDERS = ("answers", "bench", "tests")
-SHELL = (".ci/run", "bench/run", "keyline", "test")
+SHELL = (".ci/run", "bench/run", "keyline", "on_terminal", "test")
 
 
 def python(path):

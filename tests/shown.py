@@ -43,6 +43,21 @@ def key(word):
     return meant(word).encode()
 
 
+def deed(words):
+    """What is done to a terminal: keys are sent to it, or it is told to paste a text."""
+    word, _, text = words.partition(" ")
+    if word == "paste:":
+        return lambda terminal: paste(terminal, meant(text))
+    keys = b"".join(map(key, words.split()))
+    return lambda terminal: terminal.ask("send-keys", "-H", *(f"{byte:02x}" for byte in keys))
+
+
+def paste(terminal, text):
+    """Has tmux paste, as a user of it does: between marks where they are asked for, each newline as a Return."""
+    terminal.ask("set-buffer", "--", text)
+    terminal.ask("paste-buffer", "-p")
+
+
 def width(text):
     """The columns of a text."""
     return sum(0 if unicodedata.combining(c) else 2 if unicodedata.east_asian_width(c) in "WF" else 1 for c in text)
@@ -80,7 +95,7 @@ class Session:
             self.lines = "".join(f"{meant(text)}\n" for text in rest.split())
         elif " = " in line:
             keys, shown = line.split(" = ", 1)
-            self.steps.append((line, b"".join(map(key, keys.split())), pictured(shown)))
+            self.steps.append((line, deed(keys), pictured(shown)))
 
     def argument(self, name, default):
         return self.arguments[self.arguments.index(name) + 1] if name in self.arguments else default
@@ -89,8 +104,8 @@ class Session:
         until_taken(terminal)
         prompt = self.argument("--prompt", "> ")
         expect(terminal, "before the first key", pictured(f"{prompt}|"))
-        for line, keys, wanted in self.steps:
-            terminal.ask("send-keys", "-H", *(f"{byte:02x}" for byte in keys))
+        for line, does, wanted in self.steps:
+            does(terminal)
             expect(terminal, line, wanted)
         terminal.ask("send-keys", "-H", "03")
 

@@ -1,9 +1,11 @@
 #!/usr/bin/env python3
-"""./keyline on a terminal: what is shown, and that the terminal is put back on every way out.
+"""./keyline on a terminal, and programs that aren't ours by ./on_terminal: what is shown, that pastes are marked, that the
+terminal is put back on every way out, and what stands then.
 
-A process of its own leads the terminal's session as a shell does: it runs ./keyline as a job in the foreground, and
+A process of its own leads the terminal's session as a shell does: it runs the program as a job in the foreground, and
 takes the terminal while the job is stopped. Run it by ./test, or alone once `rt ci` or ./keyline has built the program.
 """
+import contextlib
 import fcntl
 import os
 import resource
@@ -14,9 +16,15 @@ import tempfile
 import termios
 import time
 
-from checks import CTRL_D, ENTER, HUNG, LEFT, NEW_ROW, PROGRAM, Failed, Incoming, drawing, placed_script, run_all, same
+from checks import (CTRL_D, ENTER, HUNG, LEFT, NEW_ROW, ON_TERMINAL, PROGRAM, Failed, Incoming, drawing, placed_script,
+                    run_all, same)
 
 SCRIPT = placed_script()
+# Pastes come between marks from here on, or no more.
+MARKED, UNMARKED = b"\x1b[?2004h", b"\x1b[?2004l"
+# Where a job that is stopped goes on: with the terminal, or without it.
+IN_FRONT, BEHIND = b"f", b"b"
+OLD = b"#V2\nold\n"
 
 
 def shown(display):
@@ -24,12 +32,13 @@ def shown(display):
     return display.replace(b"\n", b"\r\n")
 
 
-def lead(slave, reports, orders, arguments, lines):
-    """Leads the session, and never returns. It reports each stop and the end; each order lets the job go on. Where a file
-    is named for the lines, they don't go to the terminal."""
+def lead(slave, reports, orders, command, files):
+    """Leads the session, and never returns. It reports each stop and the end; each order lets the job go on. A stream for
+    which a file is named doesn't go to the terminal."""
     os.setsid()
     fcntl.ioctl(slave, termios.TIOCSCTTY, 0)
-    signal.signal(signal.SIGTTOU, signal.SIG_IGN)
+    for name in ("TTOU", "HUP"):
+        signal.signal(getattr(signal, f"SIG{name}"), signal.SIG_IGN)
     job = os.fork()
     if job == 0:
         os.setpgid(0, 0)
@@ -41,28 +50,35 @@ def lead(slave, reports, orders, arguments, lines):
         resource.setrlimit(resource.RLIMIT_CORE, (0, 0))
         for stream in range(3):
             os.dup2(slave, stream)
-        if lines:
-            os.dup2(os.open(lines, os.O_WRONLY | os.O_CREAT, 0o600), 1)
-        os.execv(SCRIPT, [SCRIPT, *arguments])
+        for stream, file in files.items():
+            os.dup2(os.open(file, os.O_WRONLY | os.O_CREAT, 0o600), stream)
+        os.execv(command[0], command)
+    signal.signal(signal.SIGHUP, lambda *_: hand_on(job))
     os.write(reports, b"%d\n" % job)
     while True:
         _, status = os.waitpid(job, os.WUNTRACED)
         if os.WIFSTOPPED(status):
             os.tcsetpgrp(slave, os.getpgrp())
             os.write(reports, b"stopped\n")
-            os.read(orders, 1)
-            os.tcsetpgrp(slave, job)
+            if os.read(orders, 1) == IN_FRONT:
+                os.tcsetpgrp(slave, job)
             os.killpg(job, signal.SIGCONT)
         else:
             os.write(reports, b"ended %d\n" % os.waitstatus_to_exitcode(status))
             os._exit(0)
 
 
-class Terminal:
-    """A terminal with ./keyline on it."""
+def hand_on(job):
+    """A shell tells its jobs that the window is closed."""
+    with contextlib.suppress(ProcessLookupError):
+        os.killpg(job, signal.SIGHUP)
 
-    def __init__(self, columns=80, arguments=(), lines=None):
-        self.columns, self.arguments, self.lines = columns, arguments, lines
+
+class Terminal:
+    """A terminal with ./keyline on it, or with another command. `files` has the streams that go to files."""
+
+    def __init__(self, columns=80, arguments=(), files=None, command=None):
+        self.columns, self.command, self.files = columns, command or [SCRIPT, *arguments], files or {}
 
     def __enter__(self):
         self.master, self.slave = os.openpty()
@@ -73,7 +89,8 @@ class Terminal:
         self.leader = os.fork()
         if self.leader == 0:
             try:
-                lead(self.slave, reports, orders, self.arguments, self.lines)
+                os.close(self.master)
+                lead(self.slave, reports, orders, self.command, self.files)
             finally:
                 os._exit(127)
         os.close(reports)
@@ -81,6 +98,7 @@ class Terminal:
         self.display = Incoming(self.master)
         self.reports = Incoming(report)
         self.job = int(self.next_report())
+        self.expect(MARKED)
         return self
 
     def __exit__(self, *_):
@@ -90,7 +108,8 @@ class Terminal:
             except ProcessLookupError:
                 pass
         os.waitpid(self.leader, 0)
-        for descriptor in (self.master, self.slave, self.order, self.reports.descriptor):
+        self.close_window()
+        for descriptor in (self.slave, self.order, self.reports.descriptor):
             os.close(descriptor)
 
     def next_report(self):
@@ -106,6 +125,23 @@ class Terminal:
 
     def expect(self, display):
         self.display.expect(shown(display))
+
+    def close_window(self):
+        if self.master is not None:
+            os.close(self.master)
+            self.master = None
+
+    def stop(self):
+        self.type(b"\x1a")
+        self.expect_stopped()
+
+    def expect_stopped(self):
+        same("report", self.next_report(), "stopped")
+        self.expect(UNMARKED)
+        self.expect_put_back()
+
+    def go_on(self, where):
+        os.write(self.order, where)
 
     def program(self):
         """The process of the program, which the script has started."""
@@ -128,19 +164,56 @@ class Terminal:
             if time.monotonic() > deadline:
                 raise Failed("hung: the terminal is not taken again")
             time.sleep(0.01)
+        self.expect(MARKED)
         self.expect_taken()
 
     def expect_put_back(self):
         same("the terminal's settings", termios.tcgetattr(self.slave), self.found)
 
-    def expect_ended(self, status):
-        same("report", self.next_report(), f"ended {status}")
+    def expect_ended(self, status, last=b""):
+        """Waits for the end, with `last` as the last of what is shown, and no more marks for pastes."""
+        self.expect_gone(status)
         self.expect_put_back()
+        os.write(self.slave, b"|")
+        self.expect(last + UNMARKED + b"|")
+
+    def expect_gone(self, *statuses):
+        ended = self.next_report()
+        same(f"whether one of {statuses} is the status of {ended}", ended in [f"ended {it}" for it in statuses], True)
         try:
             os.killpg(self.job, 0)
         except ProcessLookupError:
             return
         raise Failed("a process of the job still runs")
+
+
+class Kept:
+    """A folder with a history, and what a session left in it."""
+
+    def __init__(self, folder):
+        self.lines, self.history = (os.path.join(folder, name) for name in ("lines", "history"))
+        self.folder = folder
+        with open(self.history, "wb") as file:
+            file.write(OLD)
+
+    def expect(self, lines, history):
+        found = {}
+        for name in os.listdir(self.folder):
+            with open(os.path.join(self.folder, name), "rb") as file:
+                found[name] = file.read()
+        same("files", found, {"lines": lines, "history": history})
+
+
+@contextlib.contextmanager
+def in_mid_line():
+    """A session with a history in the middle of its second line, and its folder."""
+    with tempfile.TemporaryDirectory() as folder:
+        kept = Kept(folder)
+        with Terminal(arguments=["--history", kept.history], files={1: kept.lines}) as terminal:
+            terminal.expect(drawing(b""))
+            terminal.type(b"ab\rcd")
+            terminal.expect(b"ab" + NEW_ROW + drawing(b"") + b"cd")
+            yield terminal, kept
 
 
 def a_line_typed_edited_and_accepted():
@@ -154,8 +227,7 @@ def a_line_typed_edited_and_accepted():
         terminal.type(ENTER)
         terminal.expect(b"\x1b[1C" + NEW_ROW + b"abc\n" + drawing(b""))
         terminal.type(CTRL_D)
-        terminal.expect(NEW_ROW)
-        terminal.expect_ended(0)
+        terminal.expect_ended(0, NEW_ROW)
 
 
 def bytes_that_a_terminal_would_keep():
@@ -165,25 +237,21 @@ def bytes_that_a_terminal_would_keep():
         terminal.type(b"a\x11\x12\x13\x16\x0fb\n")
         terminal.expect(b"ab" + NEW_ROW + b"ab\n" + drawing(b""))
         terminal.type(CTRL_D)
-        terminal.expect_ended(0)
+        terminal.expect_ended(0, NEW_ROW)
 
 
-def ended_by(send, status):
+def ended_by(send, status, last):
     with Terminal() as terminal:
         terminal.expect(drawing(b""))
         terminal.type(b"a")
         terminal.expect(b"a")
         send(terminal)
-        terminal.expect_ended(status)
+        terminal.expect_ended(status, last)
 
 
 def interrupt_typed():
     """Ctrl-C is a key."""
-    with Terminal() as terminal:
-        terminal.expect(drawing(b""))
-        terminal.type(b"a\x03")
-        terminal.expect(b"a" + NEW_ROW)
-        terminal.expect_ended(130)
+    ended_by(lambda terminal: terminal.type(b"\x03"), 130, NEW_ROW)
 
 
 def the_width_at_the_start():
@@ -194,76 +262,215 @@ def the_width_at_the_start():
         with Terminal(columns, arguments) as terminal:
             terminal.expect(drawing(b""))
             terminal.type(b"abcdef\x03")
-            terminal.expect(ran.stderr[len(drawing(b"")):])
-            terminal.expect_ended(130)
+            terminal.expect_ended(130, ran.stderr[len(drawing(b"")):])
+
+
+def a_paste_between_marks():
+    """What is pasted is one text, a newline and a Ctrl-C in it too."""
+    ran = subprocess.run([PROGRAM], input=b"\x1b[200~one\rt\x03wo\x1b[201~\r", capture_output=True, timeout=HUNG)
+    with Terminal() as terminal:
+        terminal.expect(drawing(b""))
+        terminal.type(b"\x1b[200~one\rt\x03wo\x1b[201~\r")
+        row, text = drawing(b""), b"one\nt\x03wo\n"
+        terminal.expect(ran.stderr[len(row):ran.stderr.rindex(row)] + text + row)
+        terminal.type(CTRL_D)
+        terminal.expect_ended(0, NEW_ROW)
+
+
+def marks_where_the_display_is_no_terminal():
+    with tempfile.TemporaryDirectory() as folder:
+        with Terminal(files={2: os.path.join(folder, "display")}) as terminal:
+            terminal.type(b"a\r")
+            terminal.expect(b"a\n")
+            terminal.type(CTRL_D)
+            terminal.expect_ended(0)
 
 
 def quit_typed():
-    ended_by(lambda terminal: terminal.type(b"\x1c"), 131)
+    ended_by(lambda terminal: terminal.type(b"\x1c"), 131, b"\n")
 
 
-def signals_to_the_script():
-    for number in (signal.SIGINT, signal.SIGTERM, signal.SIGHUP, signal.SIGQUIT):
-        ended_by(lambda terminal: os.kill(terminal.job, number), 128 + number)
+def signals_that_end_the_program():
+    for number in (signal.SIGINT, signal.SIGQUIT):
+        ended_by(lambda terminal: os.kill(terminal.job, number), 128 + number, b"\n")
+    ended_by(lambda terminal: os.killpg(terminal.job, signal.SIGINT), 130, b"\n")
 
 
-def signals_to_the_job():
-    for number in (signal.SIGINT, signal.SIGTERM, signal.SIGHUP):
-        ended_by(lambda terminal: os.killpg(terminal.job, number), 128 + number)
-
-
-def signals_in_mid_line():
-    """The lines before stand, the old history is whole, and nothing is left beside it."""
-    old = b"#V2\nold\n"
+def signals_that_end_the_input():
+    """Lines accepted stand, the history is saved, and nothing is left beside it."""
     for number in (signal.SIGTERM, signal.SIGHUP):
         for send in (os.kill, os.killpg):
-            with tempfile.TemporaryDirectory() as folder:
-                lines, history = (os.path.join(folder, name) for name in ("lines", "history"))
-                with open(history, "wb") as file:
-                    file.write(old)
-                with Terminal(arguments=["--history", history], lines=lines) as terminal:
-                    terminal.expect(drawing(b""))
-                    terminal.type(b"ab\rcd")
-                    terminal.expect(b"ab" + NEW_ROW + drawing(b"") + b"cd")
-                    send(terminal.job, number)
-                    terminal.expect_ended(128 + number)
-                found = {}
-                for name in os.listdir(folder):
-                    with open(os.path.join(folder, name), "rb") as file:
-                        found[name] = file.read()
-                same("files", found, {"lines": b"ab\n", "history": old})
+            with in_mid_line() as (terminal, kept):
+                send(terminal.job, number)
+                terminal.expect_ended(128 + number, NEW_ROW)
+                kept.expect(b"ab\n", OLD + b"ab\n")
+
+
+def keys_before_a_signal():
+    """What was typed before the input's end is read."""
+    with in_mid_line() as (terminal, kept):
+        os.kill(terminal.program(), signal.SIGSTOP)
+        terminal.type(b"e\rf")
+        os.kill(terminal.job, signal.SIGTERM)
+        terminal.expect_ended(143, b"e" + NEW_ROW + drawing(b"") + b"f" + NEW_ROW)
+        kept.expect(b"ab\ncde\n", OLD + b"ab\ncde\n")
+
+
+def a_window_that_is_closed():
+    """The program may end, with a display that fails, before the signal comes."""
+    with in_mid_line() as (terminal, kept):
+        terminal.close_window()
+        terminal.expect_gone(1, 129)
+        kept.expect(b"ab\n", OLD + b"ab\n")
 
 
 def the_program_killed():
-    for number in (signal.SIGKILL, signal.SIGTERM, signal.SIGSEGV):
-        ended_by(lambda terminal: os.kill(terminal.program(), number), 128 + number)
+    for number in (signal.SIGKILL, signal.SIGINT, signal.SIGSEGV):
+        ended_by(lambda terminal: os.kill(terminal.program(), number), 128 + number, b"")
 
 
 def stopped_and_continued():
     with Terminal() as terminal:
         terminal.expect(drawing(b""))
         for _ in range(2):
-            terminal.type(b"\x1a")
-            same("report", terminal.next_report(), "stopped")
-            terminal.expect_put_back()
-            os.write(terminal.order, b".")
+            terminal.stop()
+            terminal.go_on(IN_FRONT)
             terminal.wait_until_taken()
         terminal.type(b"a")
         terminal.expect(b"a")
         terminal.type(ENTER)
         terminal.expect(NEW_ROW + b"a\n" + drawing(b""))
         terminal.type(CTRL_D)
-        terminal.expect_ended(0)
+        terminal.expect_ended(0, NEW_ROW)
+
+
+def continued_behind_another():
+    """The terminal isn't taken from the job that has it: the job stops again."""
+    with Terminal() as terminal:
+        terminal.expect(drawing(b""))
+        terminal.stop()
+        terminal.go_on(BEHIND)
+        same("report", terminal.next_report(), "stopped")
+        terminal.expect_put_back()
+        terminal.go_on(IN_FRONT)
+        terminal.wait_until_taken()
+        # It goes on for the second time.
+        terminal.expect(MARKED)
+        terminal.type(CTRL_D)
+        terminal.expect_ended(0, NEW_ROW)
 
 
 def stopped_and_then_ended():
-    with Terminal() as terminal:
-        terminal.expect(drawing(b""))
-        terminal.type(b"\x1a")
-        same("report", terminal.next_report(), "stopped")
+    for number in (signal.SIGTERM, signal.SIGHUP):
+        with in_mid_line() as (terminal, kept):
+            terminal.stop()
+            os.kill(terminal.job, number)
+            terminal.go_on(IN_FRONT)
+            terminal.expect_ended(128 + number, NEW_ROW)
+            kept.expect(b"ab\n", OLD + b"ab\n")
+
+
+def ended_behind_another():
+    """Without the terminal no input ends: the program is killed, the terminal stays as it is, and so does the history."""
+    with in_mid_line() as (terminal, kept):
+        terminal.stop()
+        os.killpg(terminal.job, signal.SIGTERM)
+        terminal.go_on(BEHIND)
+        terminal.expect_gone(143)
+        terminal.expect_put_back()
+        kept.expect(b"ab\n", OLD)
+
+
+def stopped_in_a_window_that_is_closed():
+    with in_mid_line() as (terminal, kept):
+        terminal.stop()
+        terminal.close_window()
+        terminal.go_on(BEHIND)
+        terminal.expect_gone(1, 129)
+        kept.expect(b"ab\n", OLD + b"ab\n")
+
+
+# It tells each byte that comes, ends by `q` with a status of its own and else with its input, and says so in a file.
+TELLER = """
+import os, sys
+while byte := os.read(0, 1):
+    os.write(2, b"%d " % byte[0])
+    if byte == b"q":
+        sys.exit(7)
+with open(sys.argv[1], "w") as it:
+    it.write(" ".join(sys.argv[2:]))
+"""
+# It doesn't heed the end of its input, and has an answer to SIGTERM alone.
+STUBBORN = """
+import os, signal, sys, time
+signal.signal(signal.SIGTERM, lambda *_: (os.write(2, b"told "), sys.exit(0)))
+os.write(2, b"on ")
+while True:
+    time.sleep(100)
+"""
+
+
+def of_others(command, **more):
+    return Terminal(command=[ON_TERMINAL, *command], **more)
+
+
+def any_program():
+    """Each byte reaches it at once and is shown by itself alone."""
+    with of_others(["cat"]) as terminal:
+        terminal.expect_taken()
+        for key in (b"a", b"\x03", b"\r", b"\x04"):
+            terminal.type(key)
+            terminal.expect(key)
+        terminal.stop()
+        terminal.go_on(IN_FRONT)
+        terminal.wait_until_taken()
+        terminal.type(b"b")
+        terminal.expect(b"b")
         os.kill(terminal.job, signal.SIGTERM)
-        os.write(terminal.order, b".")
         terminal.expect_ended(143)
+
+
+def the_end_of_any_program():
+    """Its status, its arguments as they are, and the end of its input at a signal and at a closed window."""
+    with tempfile.TemporaryDirectory() as folder:
+        said = os.path.join(folder, "said")
+        command = ["python3", "-c", TELLER, said, "a b", "*", ""]
+        with of_others(command) as terminal:
+            terminal.type(b"aq")
+            terminal.expect_ended(7, b"97 113 ")
+        ends = [(lambda it: os.kill(it.job, signal.SIGTERM), (143,)), (lambda it: os.killpg(it.job, signal.SIGHUP), (129,)),
+                (Terminal.close_window, (0, 129))]
+        for end, statuses in ends:
+            with of_others(command) as terminal:
+                terminal.type(b"a")
+                terminal.expect(b"97 ")
+                end(terminal)
+                terminal.expect_gone(*statuses)
+            with open(said, encoding="utf-8") as it:
+                same("what it says at the end", it.read(), "a b * ")
+            os.remove(said)
+
+
+def a_program_that_goes_on():
+    """It has an answer to the signal, or is killed."""
+    for number, last in ((signal.SIGTERM, b"told "), (signal.SIGHUP, b"\n")):
+        with of_others(["python3", "-c", STUBBORN]) as terminal:
+            terminal.expect(b"on ")
+            os.kill(terminal.job, number)
+            terminal.expect_ended(128 + number, last)
+
+
+def a_program_that_is_missing():
+    with tempfile.TemporaryDirectory() as folder:
+        with of_others([os.path.join(folder, "none")], files={2: os.path.join(folder, "told")}) as terminal:
+            terminal.expect_ended(127)
+
+
+def any_program_without_a_terminal():
+    ran = subprocess.run([ON_TERMINAL, "cat"], input=b"a\r", capture_output=True, timeout=HUNG)
+    same("what comes", (ran.stdout, ran.stderr, ran.returncode), (b"a\r", b"", 0))
+    ran = subprocess.run([ON_TERMINAL], stdin=subprocess.DEVNULL, capture_output=True, timeout=HUNG)
+    same("without a program", (ran.stdout, ran.stderr, ran.returncode), (b"", b"usage: on_terminal PROGRAM ARGUMENT..\n", 2))
 
 
 if __name__ == "__main__":
@@ -272,11 +479,22 @@ if __name__ == "__main__":
         bytes_that_a_terminal_would_keep,
         interrupt_typed,
         the_width_at_the_start,
+        a_paste_between_marks,
+        marks_where_the_display_is_no_terminal,
         quit_typed,
-        signals_to_the_script,
-        signals_to_the_job,
-        signals_in_mid_line,
+        signals_that_end_the_program,
+        signals_that_end_the_input,
+        keys_before_a_signal,
+        a_window_that_is_closed,
         the_program_killed,
         stopped_and_continued,
+        continued_behind_another,
         stopped_and_then_ended,
+        ended_behind_another,
+        stopped_in_a_window_that_is_closed,
+        any_program,
+        the_end_of_any_program,
+        a_program_that_goes_on,
+        a_program_that_is_missing,
+        any_program_without_a_terminal,
     ])
