@@ -8,14 +8,11 @@ import shlex
 import sys
 import tempfile
 
-from checks import CTRL_D, ENTER, built, run_all
+from checks import CTRL_D, ENTER, ON_TERMINAL, built, run_all
 from drawings import Terminal
 from shown import expect, until_taken
 
 PROGRAM = built("sql_console")
-
-# Each byte that is typed reaches the program at once, and as it is.
-TAKEN = "stty -icanon -echo -icrnl -iexten intr undef min 1 time 0"
 
 CTRL_C = b"\x03"
 TAB = b"\t"
@@ -28,8 +25,8 @@ MADE_ROWS = ["sql> CREATE TABLE note (title, stars);", "0 changed"]
 def plays(*steps):
     """Types each step, and compares the rows that are shown then and the cursor's place, after the last one by default."""
     with tempfile.TemporaryDirectory() as folder:
-        program = f"{TAKEN}; {shlex.quote(PROGRAM)}; ended=$?; stty sane; echo ended $ended; exec sleep 120"
-        terminal = Terminal(folder, 60, program)
+        run = " ".join(map(shlex.quote, [ON_TERMINAL, PROGRAM]))
+        terminal = Terminal(folder, 60, f"{run}; echo ended $?; exec sleep 120")
         try:
             until_taken(terminal)
             expect(terminal, "before the first key", (["sql>"], (0, 5)))

@@ -18,7 +18,7 @@ pub mod options;
 pub mod program;
 pub mod session;
 
-pub use builder::SessionBuilder;
+pub use builder::{DefaultBuilder, SessionBuilder, StandardBuilder};
 pub use edit_helper::EditHelper;
 pub use editor::LineEditor;
 pub use ending::Ending;
