@@ -4,7 +4,7 @@
 
 use keyline::{
     Bindings, Cmd, Ending, Event, EventHandler, HelperParts, KeyEvent, MatchingBracketValidator,
-    Movement, ReadlineError, SessionBuilder, WriteSink,
+    Movement, ReadlineError, WriteSink, standard_builder,
 };
 use std::alloc::Global;
 use std::process::ExitCode;
@@ -28,7 +28,7 @@ fn helper() -> HelperParts<(), (), (), MatchingBracketValidator> {
 }
 
 fn play(rt: &HostRuntime) -> Result<Ending, ReadlineError> {
-    let session = SessionBuilder::standard(rt)
+    let session = standard_builder(rt)
         .bindings(bindings(rt.alloc())?)
         .helper(helper())
         .prompt("? ")

@@ -22,8 +22,8 @@ module _ {S H D L T B : Type 0} where
   with_helper helper s = record s { desk = record s.desk { helper = helper } }
 
   -- a line was read, as of a session
-  pub record ReadsOn (k : Known S D L) (given : Session S H D L T B → Given)
-      (old new : Session S H D L T B) (ended : Option ReadlineError)
+  pub record ReadsOn (k : Known S D L) (old new : Session S H D L T B)
+      (given : Session S H D L T B → Given) (ended : Option ReadlineError)
       (result : Result (List ℕ) ReadlineError) : Type 0 where
     pub takes : TakesLine k (given old) (given new) old.desk new.desk result
     pub others : new ≡ record old { desk = new.desk }
@@ -31,11 +31,11 @@ module _ {S H D L T B : Type 0} where
 
   -- THE relation of a call: an editor that has ended answers so again, and nothing was read, drawn
   -- or written; else a line was read
-  abbrev pub ReadsLine : Known S D L → (Session S H D L T B → Given) → LineEditor S H D L T B
-      → LineEditor S H D L T B → Result (List ℕ) ReadlineError → Type 0
-  ReadsLine k given old new result = MatchOption old.ended
-      (IfSome old.session (λ s. IsSomeAnd new.session (λ t.
-      ReadsOn k given s t new.ended result)))
+  abbrev pub ReadsLine : Known S D L → LineEditor S H D L T B → LineEditor S H D L T B
+      → (Session S H D L T B → Given) → Result (List ℕ) ReadlineError → Type 0
+  ReadsLine k old new given result = MatchOption old.ended
+      (IfSome old.session.value (λ s. IsSomeAnd new.session.value (λ t.
+      ReadsOn k s t given new.ended result)))
       (λ why. (result ≡ Err why) × (new ≡ old))
 
   -- a session has ended for this reason: its history was saved, and its devices come back

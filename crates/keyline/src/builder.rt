@@ -32,41 +32,25 @@ pub struct SessionBuilder<'p, F, S, H, D, L, T, B: Decides = EventHandler> {
     text: T,
 }
 
-/// One over devices of which the source of keys and the display alone are said.
+/// A sink that keeps nothing.
+pub type Nowhere = WriteSink<io::Sink>;
+
+/// A builder of which the source of keys and the display alone are said.
 pub type DefaultBuilder<'p, S, D> = SessionBuilder<
     'p,
     SliceSource<'static>,
     S,
     (),
     D,
-    WriteSink<io::Sink>,
-    WriteSink<io::Sink>,
+    Nowhere,
+    Nowhere,
 >;
 
-/// One over the standard streams.
-pub type StandardBuilder<'p> = DefaultBuilder<
-    'p,
-    ReadSource<StdinLock<'static>>,
-    WriteSink<Stderr>,
->;
+/// Keys from standard input.
+pub type StandardKeys = ReadSource<StdinLock<'static>>;
 
-impl<'p> StandardBuilder<'p> {
-    /// Keys from standard input, and the display on standard error.
-    pub fn standard(rt: &HostRuntime) -> Self
-        ensures keys { (⟦<ReadSource<StdinLock<'static>> as Source>⟧.feed result.source).failed ≡ false }
-        ensures display { ⟦<WriteSink<Stderr> as Sink>⟧.has_failed result.display ≡ false }
-        ensures lines { ⟦<WriteSink<io::Sink> as Sink>⟧.has_failed result.lines ≡ false }
-        ensures text { ⟦<WriteSink<io::Sink> as Sink>⟧.has_failed result.text ≡ false }
-        ensures history { ⟦<SliceSource<'static> as Source>⟧.feed result.history ≡ fresh_feed [] End }
-        ensures columns { result.columns ≡ 80 }
-    {
-        SessionBuilder::new(
-            rt.alloc(),
-            ReadSource::new(rt.stdin().reader()),
-            WriteSink::new(rt.stderr()),
-        )
-    }
-}
+/// A builder over the standard streams.
+pub type StandardBuilder<'p> = DefaultBuilder<'p, StandardKeys, WriteSink<Stderr>>;
 
 /// The settings: each accepted line is kept in the history.
 fn standard_config() -> Config
@@ -75,33 +59,51 @@ fn standard_config() -> Config
     Config::builder().auto_add_history(true).build()
 }
 
-impl<'p, S: Source + Drop, D: Sink + Drop> DefaultBuilder<'p, S, D> {
-    /// Over this source of keys and this display.
-    pub fn new(alloc: Global, source: S, display: D) -> Self
-        ensures config { result.config ≡ standard_config }
-        ensures bindings { result.bindings ≡ [] }
-        ensures helper { result.helper ≡ None }
-        ensures prompt { result.prompt.now ≡ codes "> " }
-        ensures columns { result.columns ≡ 80 }
-        ensures devices { (result.source ≡ source) × (result.display ≡ display) }
-        ensures history { ⟦<SliceSource<'static> as Source>⟧.feed result.history ≡ fresh_feed [] End }
-        ensures lines { ⟦<WriteSink<io::Sink> as Sink>⟧.has_failed result.lines ≡ false }
-        ensures text { ⟦<WriteSink<io::Sink> as Sink>⟧.has_failed result.text ≡ false }
-    {
-        SessionBuilder {
-            alloc,
-            config: standard_config(),
-            bindings: EventMap::new(alloc).unwrap(),
-            history: SliceSource::new(b""),
-            helper: None,
-            prompt: "> ",
-            source,
-            columns: 80,
-            display,
-            lines: WriteSink::new(io::sink()),
-            text: WriteSink::new(io::sink()),
-        }
+/// Over this source of keys and this display.
+pub fn session_builder<'p, S: Source + Drop, D: Sink + Drop>(
+    alloc: Global,
+    source: S,
+    display: D,
+) -> DefaultBuilder<'p, S, D>
+    ensures config { result.config ≡ standard_config }
+    ensures bindings { result.bindings ≡ [] }
+    ensures helper { result.helper ≡ None }
+    ensures prompt { result.prompt.now ≡ codes "> " }
+    ensures columns { result.columns ≡ 80 }
+    ensures devices { (result.source ≡ source) × (result.display ≡ display) }
+    ensures history { ⟦<SliceSource<'static> as Source>⟧.feed result.history ≡ fresh_feed [] End }
+    ensures lines { ⟦<Nowhere as Sink>⟧.has_failed result.lines ≡ false }
+    ensures text { ⟦<Nowhere as Sink>⟧.has_failed result.text ≡ false }
+{
+    SessionBuilder {
+        alloc,
+        config: standard_config(),
+        bindings: EventMap::new(alloc).unwrap(),
+        history: SliceSource::new(b""),
+        helper: None,
+        prompt: "> ",
+        source,
+        columns: 80,
+        display,
+        lines: WriteSink::new(io::sink()),
+        text: WriteSink::new(io::sink()),
     }
+}
+
+/// Keys from standard input, and the display on standard error.
+pub fn standard_builder<'p>(rt: &HostRuntime) -> StandardBuilder<'p>
+    ensures keys { (⟦<StandardKeys as Source>⟧.feed result.source).failed ≡ false }
+    ensures display { ⟦<WriteSink<Stderr> as Sink>⟧.has_failed result.display ≡ false }
+    ensures lines { ⟦<Nowhere as Sink>⟧.has_failed result.lines ≡ false }
+    ensures text { ⟦<Nowhere as Sink>⟧.has_failed result.text ≡ false }
+    ensures history { ⟦<SliceSource<'static> as Source>⟧.feed result.history ≡ fresh_feed [] End }
+    ensures columns { result.columns ≡ 80 }
+{
+    session_builder(
+        rt.alloc(),
+        ReadSource::new(rt.stdin().reader()),
+        WriteSink::new(rt.stderr()),
+    )
 }
 
 impl<'p, F, S, H, D, L, T, B: Decides> SessionBuilder<'p, F, S, H, D, L, T, B>

@@ -17,14 +17,19 @@ use line_config::{ReadlineError, Sink, Source};
 use line_help::{FileHistory, Helper};
 use line_keys::{Decides, EventHandler};
 
+/// A value, which is taken out only while it is used by value.
+#[derive(Drop)]
+pub(crate) struct Held<A> {
+    value: Option<A>,
+    ghost here: { IsSome value },
+}
+
 /// Hands out the lines of a session, one at each call.
 #[derive(Drop)]
 pub struct LineEditor<S: Source, H, D: Sink, L: Sink, T: Sink, B: Decides = EventHandler> {
-    // Taken out while a line is read.
-    session: Option<Session<S, H, D, L, T, B>>,
+    session: Held<Session<S, H, D, L, T, B>>,
     // Why there is no further line.
     ended: Option<ReadlineError>,
-    ghost here: { IsSome session },
 }
 
 /// Why there is no line after this answer, if there is none.
@@ -49,11 +54,13 @@ where
 
     /// The lines of this session.
     pub fn new(session: Session<S, H, D, L, T, B>) -> Self
-        ensures session { result.session ≡ Some session }
+        ensures session { result.session.value ≡ Some session }
         ensures ended { result.ended ≡ None }
     {
         LineEditor {
-            session: Some(session),
+            session: Held {
+                value: Some(session),
+            },
             ended: None,
         }
     }
@@ -63,19 +70,19 @@ where
     /// the editor, which from then on answers it again and leaves its devices alone.
     pub fn read_line(&mut self, prompt: &str) -> Result<String, ReadlineError>
         ensures { let helps = helping_by H.hint_of H.verdict_of H.completion_of H.update_of H.marks in
-            let given = λ s. given_by s.config (custom_of s.bindings B.decides) prompt.now
-            (screen_of s.desk.out) (helps s.desk.helper) in
             let known = known_by S.feed D.held D.has_failed L.held L.has_failed in
-            ReadsLine known given self.old self.new (made_of string_bytes result) }
+            ReadsLine known self.old self.new (λ s. given_by s.config
+            (custom_of s.bindings B.decides) prompt.now (screen_of s.desk.out)
+            (helps s.desk.helper)) (made_of string_bytes result) }
     {
         if let Some(why) = self.ended {
             return Err(why);
         }
-        let Some(session) = self.session.take() else {
+        let Some(session) = self.session.value.take() else {
             unreachable!();
         };
         let LineRead { session, line } = session.read_line(prompt);
-        self.session = Some(session);
+        self.session.value = Some(session);
         self.ended = ended_by(&line);
         line
     }
@@ -83,15 +90,15 @@ where
     /// Adds a line to the history, whatever the settings say of accepted lines, and answers whether
     /// it did, as `Session::add_history_entry` does.
     pub fn add_history_entry(&mut self, line: &str) -> Result<bool, ReadlineError>
-        ensures answer { IfSome self.old.session (λ s. let kept = s.desk.history.kept in
+        ensures answer { IfSome self.old.session.value (λ s. let kept = s.desk.history.kept in
             IfOk result (λ b. b ≡ not (ignored kept.settings kept.entries line.now))) }
-        ensures added { OnOk result (self.new.session
-            ≡ option_map (with_entry line.now) self.old.session) }
-        ensures kept { OnErr result (self.new.session ≡ self.old.session) }
+        ensures added { OnOk result (self.new.session.value
+            ≡ option_map (with_entry line.now) self.old.session.value) }
+        ensures kept { OnErr result (self.new.session.value ≡ self.old.session.value) }
         ensures ended { self.new.ended ≡ self.old.ended }
         ensures fault { IfErr result (λ e. e ≡ Memory) }
     {
-        match &mut self.session {
+        match &mut self.session.value {
             Some(session) => session.add_history_entry(line),
             None => unreachable!(),
         }
@@ -99,9 +106,9 @@ where
 
     /// The history so far.
     pub fn history(&self) -> &FileHistory
-        ensures { IfSome self.now.session (λ s. result.now ≡ s.desk.history) }
+        ensures { IfSome self.now.session.value (λ s. result.now ≡ s.desk.history) }
     {
-        match &self.session {
+        match &self.session.value {
             Some(session) => session.history(),
             None => unreachable!(),
         }
@@ -109,10 +116,10 @@ where
 
     /// What helps from the next line on.
     pub fn set_helper(&mut self, helper: Option<H>)
-        ensures session { self.new.session ≡ option_map (with_helper helper) self.old.session }
+        ensures session { self.new.session.value ≡ option_map (with_helper helper) self.old.session.value }
         ensures ended { self.new.ended ≡ self.old.ended }
     {
-        match &mut self.session {
+        match &mut self.session.value {
             Some(session) => session.desk.helper = helper,
             None => unreachable!(),
         }
@@ -122,11 +129,12 @@ where
     /// the history, where an entry is new, and hands back the devices.
     pub fn finish(self) -> Ended<S, D, L, T>
         ensures { let why = option_map_or (λ e. e) self.ended Eof in
-            IfSome self.session (λ s. Finishes T.held T.has_failed s why result) }
+            IfSome self.session.value (λ s. Finishes T.held T.has_failed s why result) }
     {
         let LineEditor { session, ended } = self;
         let why = ended.unwrap_or(ReadlineError::Eof);
-        match session {
+        let Held { value } = session;
+        match value {
             Some(session) => session.finish(why),
             None => unreachable!(),
         }

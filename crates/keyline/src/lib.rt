@@ -18,7 +18,10 @@ pub mod options;
 pub mod program;
 pub mod session;
 
-pub use builder::{DefaultBuilder, SessionBuilder, StandardBuilder};
+pub use builder::{
+    DefaultBuilder, Nowhere, SessionBuilder, StandardBuilder, StandardKeys, session_builder,
+    standard_builder,
+};
 pub use edit_helper::EditHelper;
 pub use editor::LineEditor;
 pub use ending::Ending;

@@ -6,7 +6,7 @@ mod statements;
 mod table;
 
 use crate::statements::Statements;
-use keyline::{Ending, HelperParts, LineEditor, ReadlineError, SessionBuilder, WordCompleter};
+use keyline::{Ending, HelperParts, LineEditor, ReadlineError, WordCompleter, standard_builder};
 use sqlite::Connection;
 use std::process::ExitCode;
 
@@ -24,9 +24,7 @@ fn helper(tables: Vec<String>) -> HelperParts<WordCompleter, (), (), Statements>
 fn console(rt: &HostRuntime) -> Result<Ending, ReadlineError> {
     let alloc = rt.alloc();
     let mut conn = Connection::open_in_memory(alloc)?;
-    let session = SessionBuilder::standard(rt)
-        .helper(helper(Vec::new(alloc)))
-        .open()?;
+    let session = standard_builder(rt).helper(helper(Vec::new(alloc))).open()?;
     let mut editor = LineEditor::new(session);
     let mut statement = String::new(alloc);
     for _ in 0..u64::MAX {
