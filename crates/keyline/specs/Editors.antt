@@ -1,5 +1,6 @@
 -- An editor: a session that is asked for one line at each call, until a refusal ends it.
-use Rattle.std.specs.Prelude.{◌≡◌, ℕ, Bool, List, Option, Result, Err, MatchOption, IfSome, IsSomeAnd}
+use Rattle.std.specs.Prelude.{◌≡◌, ℕ, Bool, List, Option, Result, Err, MatchOption, IfSome}
+use Rattle.std.specs.Prelude.{IsSomeAnd}
 use Rattle.line_config.specs.declared.errors.ReadlineError.{ReadlineError}
 use Rattle.line_help.specs.History.{filed_with}
 use Rattle.line_screen.specs.Calls.{sink_of}

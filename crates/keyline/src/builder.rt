@@ -1,7 +1,6 @@
 //! A session from what is wanted of it, and the program's defaults for the rest.
 
 ghost use Rattle.std.specs.Prelude.{◌≡◌, ◌≤◌, IfErr, IfOk, None, Some, [], codes, false, string_bytes};
-ghost use Rattle.line_config.specs.Adapters.{gave, taken};
 ghost use Rattle.line_config.specs.Feed.{fresh_feed};
 ghost use Rattle.line_config.specs.declared.device.Last.TheVariants.{End};
 ghost use Rattle.keyline.specs.Edits.{standard_config};
@@ -117,21 +116,21 @@ where
 {
     /// The settings.
     pub fn config(self, config: Config) -> Self
-        ensures { result ≡ record self { config = config } }
+        ensures { result ≡ record self.entry { config = config } }
     {
         SessionBuilder { config, ..self }
     }
 
-    /// What stands before each line of `Session::run`. `Session::read_line` is given one of its own.
+    /// What stands before each line of `Session::run`; `Session::read_line` is handed one.
     pub fn prompt(self, prompt: &'p str) -> Self
-        ensures { result ≡ record self { prompt = prompt } }
+        ensures { result ≡ record self.entry { prompt = prompt.entry } }
     {
         SessionBuilder { prompt, ..self }
     }
 
     /// Columns of a row, 2 to 1,000.
     pub fn columns(self, columns: u16) -> Self
-        ensures { result ≡ record self { columns = columns } }
+        ensures { result ≡ record self.entry { columns = columns } }
     {
         SessionBuilder { columns, ..self }
     }
@@ -142,17 +141,17 @@ where
         bindings: EventMap<C>,
     ) -> SessionBuilder<'p, F, S, H, D, L, T, C>
         ensures { result ≡ record {
-          alloc = self.alloc;
-          config = self.config;
+          alloc = self.entry.alloc;
+          config = self.entry.config;
           bindings = bindings;
-          history = self.history;
-          helper = self.helper;
-          prompt = self.prompt;
-          source = self.source;
-          columns = self.columns;
-          display = self.display;
-          lines = self.lines;
-          text = self.text;
+          history = self.entry.history;
+          helper = self.entry.helper;
+          prompt = self.entry.prompt;
+          source = self.entry.source;
+          columns = self.entry.columns;
+          display = self.entry.display;
+          lines = self.entry.lines;
+          text = self.entry.text;
         } }
     {
         SessionBuilder {
@@ -173,17 +172,17 @@ where
     /// What helps.
     pub fn helper<G: Helper + Drop>(self, helper: G) -> SessionBuilder<'p, F, S, G, D, L, T, B>
         ensures { result ≡ record {
-          alloc = self.alloc;
-          config = self.config;
-          bindings = self.bindings;
-          history = self.history;
+          alloc = self.entry.alloc;
+          config = self.entry.config;
+          bindings = self.entry.bindings;
+          history = self.entry.history;
           helper = Some helper;
-          prompt = self.prompt;
-          source = self.source;
-          columns = self.columns;
-          display = self.display;
-          lines = self.lines;
-          text = self.text;
+          prompt = self.entry.prompt;
+          source = self.entry.source;
+          columns = self.entry.columns;
+          display = self.entry.display;
+          lines = self.entry.lines;
+          text = self.entry.text;
         } }
     {
         SessionBuilder {
@@ -204,17 +203,17 @@ where
     /// Where accepted lines are written.
     pub fn lines<M: Sink + Drop>(self, lines: M) -> SessionBuilder<'p, F, S, H, D, M, T, B>
         ensures { result ≡ record {
-          alloc = self.alloc;
-          config = self.config;
-          bindings = self.bindings;
-          history = self.history;
-          helper = self.helper;
-          prompt = self.prompt;
-          source = self.source;
-          columns = self.columns;
-          display = self.display;
+          alloc = self.entry.alloc;
+          config = self.entry.config;
+          bindings = self.entry.bindings;
+          history = self.entry.history;
+          helper = self.entry.helper;
+          prompt = self.entry.prompt;
+          source = self.entry.source;
+          columns = self.entry.columns;
+          display = self.entry.display;
           lines = lines;
-          text = self.text;
+          text = self.entry.text;
         } }
     {
         SessionBuilder {
@@ -239,16 +238,16 @@ where
         text: U,
     ) -> SessionBuilder<'p, G, S, H, D, L, U, B>
         ensures { result ≡ record {
-          alloc = self.alloc;
-          config = self.config;
-          bindings = self.bindings;
+          alloc = self.entry.alloc;
+          config = self.entry.config;
+          bindings = self.entry.bindings;
           history = history;
-          helper = self.helper;
-          prompt = self.prompt;
-          source = self.source;
-          columns = self.columns;
-          display = self.display;
-          lines = self.lines;
+          helper = self.entry.helper;
+          prompt = self.entry.prompt;
+          source = self.entry.source;
+          columns = self.entry.columns;
+          display = self.entry.display;
+          lines = self.entry.lines;
           text = text;
         } }
     {
@@ -277,14 +276,15 @@ where
         requires display { D.has_failed self.display ≡ false }
         requires lines { L.has_failed self.lines ≡ false }
         requires text { T.has_failed self.text ≡ false }
-        ensures desk { IfOk result (λ s. Opens F.feed S.feed self.config self.history self.helper
-            self.source self.columns self.display self.lines s.desk) }
-        ensures config { IfOk result (λ s. s.config ≡ self.config) }
-        ensures bindings { IfOk result (λ s. s.bindings ≡ self.bindings) }
-        ensures prompt { IfOk result (λ s. string_bytes s.prompt ≡ self.prompt.now) }
-        ensures text { IfOk result (λ s. s.text ≡ self.text) }
-        ensures refused { IfErr result (Unopens F.feed self.config self.history self.source
-            self.display self.lines self.text) }
+        ensures desk { let b = self.entry in
+            IfOk result (λ s. Opens F.feed S.feed b.config b.history b.helper b.source b.columns
+            b.display b.lines s.desk) }
+        ensures config { IfOk result (λ s. s.config ≡ self.entry.config) }
+        ensures bindings { IfOk result (λ s. s.bindings ≡ self.entry.bindings) }
+        ensures prompt { IfOk result (λ s. string_bytes s.prompt ≡ self.entry.prompt.now) }
+        ensures text { IfOk result (λ s. s.text ≡ self.entry.text) }
+        ensures refused { let b = self.entry in
+            IfErr result (Unopens F.feed b.config b.history b.source b.display b.lines b.text) }
     {
         let SessionBuilder {
             alloc,

@@ -1,6 +1,6 @@
 //! A line at a time, by `&mut self`.
 
-ghost use Rattle.std.specs.Prelude.{◌≡◌, ◌≤◌, IfErr, IfOk, IfSome, IsSome, None, OnErr, OnOk, Some, not, option_map, string_bytes};
+ghost use Rattle.std.specs.Prelude.{◌≡◌, IfErr, IfOk, IfSome, IsSome, None, OnErr, OnOk, Some, not, option_map, string_bytes};
 ghost use Rattle.std.specs.Option.{option_map_or};
 ghost use Rattle.line_config.specs.declared.errors.ReadlineError.TheVariants.{Eof, Memory};
 ghost use Rattle.line_help.specs.History.{ignored};
@@ -69,7 +69,8 @@ where
     /// `Interrupted`, which Ctrl-C gives, the next call begins a new line. Every other refusal ends
     /// the editor, which from then on answers it again and leaves its devices alone.
     pub fn read_line(&mut self, prompt: &str) -> Result<String, ReadlineError>
-        ensures { let helps = helping_by H.hint_of H.verdict_of H.completion_of H.update_of H.marks in
+        ensures { let helps =
+            helping_by H.hint_of H.verdict_of H.completion_of H.update_of H.marks in
             let known = known_by S.feed D.held D.has_failed L.held L.has_failed in
             ReadsLine known self.old self.new (λ s. given_by s.config
             (custom_of s.bindings B.decides) prompt.now (screen_of s.desk.out)
@@ -78,11 +79,12 @@ where
         if let Some(why) = self.ended {
             return Err(why);
         }
-        let Some(session) = self.session.value.take() else {
+        let slot = &mut self.session.value;
+        let Some(session) = slot.take() else {
             unreachable!();
         };
         let LineRead { session, line } = session.read_line(prompt);
-        self.session.value = Some(session);
+        *slot = Some(session);
         self.ended = ended_by(&line);
         line
     }
@@ -116,7 +118,8 @@ where
 
     /// What helps from the next line on.
     pub fn set_helper(&mut self, helper: Option<H>)
-        ensures session { self.new.session.value ≡ option_map (with_helper helper) self.old.session.value }
+        ensures session { self.new.session.value
+            ≡ option_map (with_helper helper) self.old.session.value }
         ensures ended { self.new.ended ≡ self.old.ended }
     {
         match &mut self.session.value {

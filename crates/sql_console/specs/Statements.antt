@@ -1,5 +1,6 @@
 -- Whether a line of the console is whole.
-use Rattle.std.specs.Prelude.{ℕ, ◌-◌, ◌==◌, ◌||◌, Bool, if◌then◌else◌, List, None, length, slice_index}
+use Rattle.std.specs.Prelude.{ℕ, ◌-◌, ◌==◌, ◌||◌, Bool, if◌then◌else◌, List, length, slice_index}
+use Rattle.std.specs.Prelude.{None}
 use Rattle.line_help.specs.declared.validate.ValidationResult.{ValidationResult}
 use Rattle.line_help.specs.declared.validate.ValidationResult.TheVariants.{Incomplete, Valid}
 

@@ -7,8 +7,8 @@ ghost use Rattle.sql_console.specs.Statements.{is_whole, statement_verdict};
 use keyline::{HookFault, ValidationContext, ValidationResult, Validator};
 use std::alloc::Global;
 
-/// A line goes on, row after row, until it ends in a semicolon. An empty row hands over those before
-/// it, and a word for the console itself, which begins with a dot, is whole at once.
+/// A line goes on, row after row, until it ends in a semicolon. An empty row hands over those
+/// before it, and a word for the console itself, which begins with a dot, is whole at once.
 #[derive(Clone, Copy, Debug, Drop)]
 pub(crate) struct Statements;
 
