@@ -11,6 +11,9 @@ use Rattle.keyline.specs.Sessions.{Given, LineGiven, each, for_line}
 use Rattle.keyline.specs.declared.desk.Desk.{Desk}
 use Rattle.keyline.proofs.SessionSteps.{Onward, Onwards, onward_nowhere, onward_ok, onward_err}
 
+pub along : {A B : Type 0} {x y : A} → x ≡ y → (f : A → B) → f x ≡ f y
+along same f = ap f same
+
 -- ---- one prompt
 
 -- lines were taken, and this is handed in for the next one

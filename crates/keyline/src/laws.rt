@@ -18,6 +18,7 @@ ghost use Rattle.keyline.specs.SessionShows.{SessionsShow};
 ghost use Rattle.keyline.specs.Sessions.{given_by};
 ghost use Rattle.keyline.specs.Shows.{DrawingsShow};
 
+use crate::prompter::Prompter;
 use crate::session::{Ended, LineRead, Session};
 use line_config::{ReadlineError, Sink, Source};
 use line_help::Helper;
@@ -42,26 +43,6 @@ pub fn always_told<
         AlwaysPlays known T.held T.has_failed given session.desk session.text result }
 {
     session.run()
-}
-
-/// Who says what is handed in for each line: its prompt, and the columns of the display's rows.
-pub trait Prompter {
-    ghost use Rattle.std.specs.Prelude.{◌≡◌, ◌≤◌, ℕ, suc};
-    ghost use Rattle.keyline.specs.Sessions.{LineGiven};
-
-    ghost lines: { Self → ℕ → LineGiven };
-
-    /// The next line's prompt.
-    fn prompt(&self) -> &str
-        ensures { result.now ≡ (lines self.now 0).prompt };
-
-    fn columns(&self) -> u16
-        ensures columns { result ≡ (lines self.now 0).columns }
-        ensures drawable { (2 ≤ result) × (result ≤ 1000) };
-
-    /// Goes on to the line after it.
-    fn advance(&mut self)
-        ensures { lines self.new ≡ (λ line. lines self.old (suc line)) };
 }
 
 /// `read_line`, called until it refuses, with a prompt and columns for each line: the lines, the
@@ -92,10 +73,10 @@ pub fn lines<
             line,
         } = session.read_line(prompter.prompt());
         session = next;
-        if let Err(why) = line {
-            return (session, why);
+        match line {
+            Ok(_) => prompter.advance(),
+            Err(why) => return (session, why),
         }
-        prompter.advance();
     }
 }
 

@@ -16,6 +16,7 @@ mod help;
 pub mod laws;
 pub mod options;
 pub mod program;
+pub mod prompter;
 pub mod session;
 
 pub use builder::{

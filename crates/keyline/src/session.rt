@@ -399,8 +399,9 @@ where
                 line,
             } = session.read_line(prompt.as_str());
             session = next;
-            if let Err(why) = line {
-                return session.finish(why);
+            match line {
+                Ok(_) => {}
+                Err(why) => return session.finish(why),
             }
         }
     }

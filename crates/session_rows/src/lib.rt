@@ -1,5 +1,5 @@
-//! Whole sessions as rows of text: their notation, and what plays them. A row is played twice: over memory, and over a
-//! reader that gives a byte at a read.
+//! Whole sessions as rows of text: their notation, and what plays them. A row is played over memory, by `run` and by
+//! `read_line`, and over a reader that gives a byte at a read.
 #![tactic(auto)]
 
 pub mod advice;

@@ -10,9 +10,19 @@ use keyline::{EditMode, GraphemeClusterMode};
 use stand_ins::tables::meant_bytes;
 use std::alloc::{AllocError, Global};
 
+/// How the lines of a session are asked for.
+#[derive(Clone, Copy, PartialEq, Eq)]
+pub enum Asking {
+    /// By `run`.
+    Run,
+    /// By `read_line`, until a line is refused, and then by `finish`.
+    ReadLine,
+}
+
 /// What a session is opened with.
 #[derive(Clone, Copy)]
 pub struct Setting<'a> {
+    pub asking: Asking,
     pub mode: EditMode,
     pub adding: bool,
     pub helped: bool,
@@ -75,6 +85,7 @@ pub fn setting_of(words: &str) -> Setting<'_> {
     let digits = after(words, "columns:").unwrap_or("80");
     let prompt = if has(words, "bare") { "" } else { "> " };
     Setting {
+        asking: Asking::Run,
         mode: if has(words, "vi") {
             EditMode::Vi
         } else {

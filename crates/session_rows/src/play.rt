@@ -7,12 +7,12 @@ use crate::aide::aide_of;
 use crate::bound::{Action, Bound, bound_by};
 use crate::faults::{Faults, faults_of, sink_of};
 use crate::notation::{
-    Row, Setting, display_meant, field, lines_meant, number_after, row_of, setting_of, text_meant,
-    typed,
+    Asking, Row, Setting, display_meant, field, lines_meant, number_after, row_of, setting_of,
+    text_meant, typed,
 };
 use keyline::{
-    Bindings, Config, Ended, Ending, EventHandler, Helper, ReadSource, ReadlineError, Session,
-    Sink, SliceSource, Source, VecSink,
+    Bindings, Config, Decides, Ended, Ending, EventHandler, Helper, LineRead, ReadSource,
+    ReadlineError, Session, Sink, SliceSource, Source, VecSink,
 };
 use stand_ins::devices::{Pieces, Turns};
 use stand_ins::tables::{meant_bytes, pictured_bytes};
@@ -38,6 +38,35 @@ fn config_of(setting: &Setting<'_>) -> Result<Config, ReadlineError> {
     Ok(config)
 }
 
+/// A session to its ending, by `read_line` and `finish`. Each line that is handed back is put into `handed`.
+fn asked<H: Helper, S: Source + Drop, D: Sink + Drop, L: Sink + Drop, T: Sink + Drop, B: Decides>(
+    session: Session<S, H, D, L, T, B>,
+    prompt: &str,
+    handed: &mut Vec<u8>,
+) -> Result<Ended<S, D, L, T>, AllocError>
+where
+    H: Drop,
+{
+    let mut session = session;
+    for _ in 0..u64::MAX {
+        let LineRead {
+            session: next,
+            line,
+        } = session.read_line(prompt);
+        match line {
+            Ok(line) => put_line(handed, line.as_str())?,
+            Err(why) => return Ok(next.finish(why)),
+        }
+        session = next;
+    }
+    Ok(session.finish(ReadlineError::Eof))
+}
+
+fn put_line(lines: &mut Vec<u8>, line: &str) -> Result<(), AllocError> {
+    lines.extend_from_slice(line.as_bytes())?;
+    lines.extend_from_slice(b"\n")
+}
+
 /// A session with a helper over these devices, run to its ending; or why none was opened.
 fn ended_with<H: Helper, S: Source + Drop, D: Sink + Drop, L: Sink + Drop, T: Sink + Drop>(
     alloc: Global,
@@ -47,6 +76,7 @@ fn ended_with<H: Helper, S: Source + Drop, D: Sink + Drop, L: Sink + Drop, T: Si
     display: D,
     lines: L,
     text: T,
+    handed: &mut Vec<u8>,
 ) -> Result<Ended<S, D, L, T>, ReadlineError>
 where
     H: Drop,
@@ -80,10 +110,37 @@ where
         lines,
         text,
     )?;
-    Ok(session.run())
+    match setting.asking {
+        Asking::Run => Ok(session.run()),
+        Asking::ReadLine => Ok(asked(session, prompt.as_str(), handed)?),
+    }
 }
 
-/// A session over these devices, run to its ending; or why none was opened.
+/// A session over these devices, to its ending, and what was handed back of it; or why none was opened.
+fn handed_back<S: Source + Drop, D: Sink + Drop, L: Sink + Drop, T: Sink + Drop>(
+    alloc: Global,
+    setting: &Setting<'_>,
+    source: S,
+    display: D,
+    lines: L,
+    text: T,
+    handed: &mut Vec<u8>,
+) -> Result<Ended<S, D, L, T>, ReadlineError>
+    requires source { (S.feed source).failed ≡ false }
+    requires display { D.has_failed display ≡ false }
+    requires lines { L.has_failed lines ≡ false }
+    requires text { T.has_failed text ≡ false }
+{
+    if setting.advised {
+        let texts = texts_of(alloc, setting.all)?;
+        let aide = Some(texts.adviser(setting.all));
+        return ended_with(alloc, setting, aide, source, display, lines, text, handed);
+    }
+    let aide = aide_of(alloc, setting)?;
+    ended_with(alloc, setting, aide, source, display, lines, text, handed)
+}
+
+/// A session over these devices, to its ending; or why none was opened.
 pub fn ended<S: Source + Drop, D: Sink + Drop, L: Sink + Drop, T: Sink + Drop>(
     alloc: Global,
     setting: &Setting<'_>,
@@ -97,13 +154,26 @@ pub fn ended<S: Source + Drop, D: Sink + Drop, L: Sink + Drop, T: Sink + Drop>(
     requires lines { L.has_failed lines ≡ false }
     requires text { T.has_failed text ≡ false }
 {
-    if setting.advised {
-        let texts = texts_of(alloc, setting.all)?;
-        let adviser = texts.adviser(setting.all);
-        return ended_with(alloc, setting, Some(adviser), source, display, lines, text);
+    let mut handed = Vec::new(alloc);
+    handed_back(alloc, setting, source, display, lines, text, &mut handed)
+}
+
+/// The lines that a session left, by what its sink of lines holds: where they are handed back these are the same, but for
+/// one that the sink tore.
+fn lines_left(
+    alloc: Global,
+    setting: &Setting<'_>,
+    ending: Ending,
+    held: &[u8],
+    handed: &[u8],
+) -> Result<Vec<u8>, AllocError> {
+    let mut lines = Vec::from_slice(alloc, held)?;
+    let torn = ending == Ending::Lines && held.starts_with(handed);
+    if setting.asking == Asking::ReadLine && !torn && held != handed {
+        lines.extend_from_slice(b" handed back: ")?;
+        lines.extend_from_slice(handed)?;
     }
-    let aide = aide_of(alloc, setting)?;
-    ended_with(alloc, setting, aide, source, display, lines, text)
+    Ok(lines)
 }
 
 /// What a session left in sinks that fail.
@@ -115,11 +185,16 @@ fn left_in_trays<S: Source + Drop>(
 ) -> Result<Left, ReadlineError>
     requires { (S.feed source).failed ≡ false }
 {
-    let (display, lines) = (sink_of(faults.display), sink_of(faults.lines));
-    let end = ended(alloc, setting, source, display, lines, sink_of(faults.text))?;
+    let (display, lines, text) = (
+        sink_of(faults.display),
+        sink_of(faults.lines),
+        sink_of(faults.text),
+    );
+    let mut handed = Vec::new(alloc);
+    let end = handed_back(alloc, setting, source, display, lines, text, &mut handed)?;
     Ok(Left {
         ending: end.ending,
-        lines: Vec::from_slice(alloc, end.lines.bytes())?,
+        lines: lines_left(alloc, setting, end.ending, end.lines.bytes(), &handed)?,
         saved: Vec::from_slice(alloc, end.text.bytes())?,
         shown: Vec::from_slice(alloc, end.display.bytes())?,
     })
@@ -142,10 +217,11 @@ pub fn left_of<S: Source + Drop>(
         VecSink::new(alloc),
         VecSink::new(alloc),
     );
-    let end = ended(alloc, setting, source, display, lines, text)?;
+    let mut handed = Vec::new(alloc);
+    let end = handed_back(alloc, setting, source, display, lines, text, &mut handed)?;
     Ok(Left {
         ending: end.ending,
-        lines: end.lines.into_bytes(),
+        lines: lines_left(alloc, setting, end.ending, end.lines.bytes(), &handed)?,
         saved: end.text.into_bytes(),
         shown: end.display.into_bytes(),
     })
@@ -229,21 +305,35 @@ fn left_by_reads(alloc: Global, setting: &Setting<'_>, keys: &str) -> Result<Lef
     left_of(alloc, setting, ReadSource::new(reader))
 }
 
-/// Plays a row over memory, and then a byte at a read; what was found, where it isn't what the row says.
+/// What was found, where it isn't what the row says.
+fn unless_wanted(
+    alloc: Global,
+    setting: &Setting<'_>,
+    left: &Left,
+    row: Row<'_>,
+) -> Result<Option<String>, AllocError> {
+    if is_wanted(alloc, setting, left, row)? {
+        return Ok(None);
+    }
+    Ok(Some(told(alloc, left)?))
+}
+
+/// Plays a row over memory, by `run` and by `read_line`, and then a byte at a read; what was found, where it isn't what the
+/// row says.
 fn differs(
     alloc: Global,
     setting: &Setting<'_>,
     row: Row<'_>,
 ) -> Result<Option<String>, ReadlineError> {
-    let left = left_over_memory(alloc, setting, row.keys)?;
-    if !is_wanted(alloc, setting, &left, row)? {
-        return Ok(Some(told(alloc, &left)?));
+    for asking in [Asking::Run, Asking::ReadLine] {
+        let setting = Setting { asking, ..*setting };
+        let left = left_over_memory(alloc, &setting, row.keys)?;
+        if let Some(found) = unless_wanted(alloc, &setting, &left, row)? {
+            return Ok(Some(found));
+        }
     }
     let left = left_by_reads(alloc, setting, row.keys)?;
-    if is_wanted(alloc, setting, &left, row)? {
-        return Ok(None);
-    }
-    Ok(Some(told(alloc, &left)?))
+    Ok(unless_wanted(alloc, setting, &left, row)?)
 }
 
 /// What came of the sessions of a table.

@@ -14,6 +14,8 @@ mod faults;
 #[cfg(test)]
 mod fixtures;
 #[cfg(test)]
+mod lines;
+#[cfg(test)]
 mod reading;
 #[cfg(test)]
 mod sessions;

@@ -9,8 +9,8 @@ use Rattle.keyline.specs.Sessions.{given_by}
 use Rattle.keyline.proofs.LinesLemmas.{Asking}
 use Rattle.keyline.proofs.laws.lines.Given as goal
 
-abbrev pub invariant-loop-why : goal.invariant-loop-why
-invariant-loop-why g l =
+abbrev pub invariant-loop-prompter : goal.invariant-loop-prompter
+invariant-loop-prompter g l =
     let k = known_by g.S.Source.feed g.D.Sink.held g.D.Sink.has_failed g.L.Sink.held g.L.Sink.has_failed in
     let helps = helping_by g.H.Hinter.hint_of g.H.Validator.verdict_of g.H.Completer.completion_of g.H.Completer.update_of g.H.Highlighter.marks in
     let decides = g.B.Decides.decides in
@@ -20,6 +20,6 @@ invariant-loop-why g l =
     (given_by l.session.config (custom_of l.session.bindings decides) (string_bytes l.session.prompt) (screen_of l.session.desk.out) (helps l.session.desk.helper))
     (g.P.Prompter.lines l.fn.prompter) (g.P.Prompter.lines l.prompter) first.desk l.session.desk
 
-abbrev pub decreases-loop-why : goal.decreases-loop-why
-decreases-loop-why g l =
+abbrev pub decreases-loop-prompter : goal.decreases-loop-prompter
+decreases-loop-prompter g l =
     (feed_of (known_by g.S.Source.feed g.D.Sink.held g.D.Sink.has_failed g.L.Sink.held g.L.Sink.has_failed) l.session.desk).bound

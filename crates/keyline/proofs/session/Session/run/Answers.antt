@@ -1,0 +1,57 @@
+-- Lines follow on lines, and the last one ends the session.
+use Rattle.std.proofs.Common.{List, ℕ, refl, subst, ap, ◌∙◌}
+use Rattle.std.specs.Prelude.{string_bytes}
+use Rattle.line_editor.specs.Running.{helping_by}
+use Rattle.line_keys.specs.Answers.{custom_of}
+use Rattle.line_keys.specs.Coming.{made_of}
+use Rattle.line_screen.specs.Calls.{screen_of}
+use Rattle.line_screen.proofs.CallLemmas.{columns_in}
+use Rattle.keyline.specs.Desks.{TakesLine}
+use Rattle.keyline.specs.Known.{known_by}
+use Rattle.keyline.specs.Sessions.{given_by}
+use Rattle.keyline.proofs.LinesLemmas.{along, underway_nowhere, underway_ok, underway_err}
+use Rattle.keyline.proofs.PlaysLemmas.{plays}
+use Rattle.keyline.proofs.SessionCourse.{sessions_show}
+use Rattle.keyline.proofs.session.Session.run.Goals as goal
+
+pub loop-why-init : goal.loop-why-init
+loop-why-init g c = (underway_nowhere _ _ _, refl)
+
+pub returns-in-Err : goal.returns-in-Err
+returns-in-Err g c =
+    let k = known_by g.S.Source.feed g.D.Sink.held g.D.Sink.has_failed g.L.Sink.held g.L.Sink.has_failed in
+    let helps = helping_by g.H.Hinter.hint_of g.H.Validator.verdict_of g.H.Completer.completion_of g.H.Completer.update_of g.H.Highlighter.marks in
+    let self = c.args.self in
+    let now = c.loop-why.session in
+    let next = c.read_line-next.result.session in
+    let custom = custom_of now.bindings g.B.Decides.decides in
+    let P : List ℕ → Type 0 = λ p.
+    TakesLine k (given_by now.config custom p (screen_of now.desk.out) (helps now.desk.helper)) (given_by now.config custom p (screen_of next.desk.out) (helps next.desk.helper))
+    now.desk next.desk (made_of string_bytes c.read_line-next.result.line) in
+    let line = subst P (c.as_str.ensures.value ∙ ap string_bytes c.replace-prompt.ensures.value) c.read_line-next.ensures.line in
+    let lines = underway_err k _ _ _ self.desk now.desk next.desk _ c.loop-why.invariant.0 line c.in-Err.why (ap (made_of string_bytes) c.in-Err.is) in
+    let text = along {y = record now { desk = next.desk }} c.read_line-next.ensures.others (λ s. s.text) ∙ c.loop-why.invariant.1 in
+    let columns = columns_in self.desk.out in
+    record {
+      shows = sessions_show _ _ columns.0 columns.1;
+      plays = plays k g.T.Sink.held g.T.Sink.has_failed _ self.desk next.desk c.in-Err.why self.text next.text c.finish.result text lines c.finish.ensures.saves
+          c.finish.ensures.source c.finish.ensures.ahead c.finish.ensures.display c.finish.ensures.lines;
+    }
+
+pub loop-why-preserved-in-Ok : goal.loop-why-preserved-in-Ok
+loop-why-preserved-in-Ok g c =
+    let k = known_by g.S.Source.feed g.D.Sink.held g.D.Sink.has_failed g.L.Sink.held g.L.Sink.has_failed in
+    let helps = helping_by g.H.Hinter.hint_of g.H.Validator.verdict_of g.H.Completer.completion_of g.H.Completer.update_of g.H.Highlighter.marks in
+    let self = c.args.self in
+    let now = c.loop-why.session in
+    let next = c.read_line-next.result.session in
+    let others = c.read_line-next.ensures.others in
+    let custom = custom_of now.bindings g.B.Decides.decides in
+    let P : List ℕ → Type 0 = λ p.
+    TakesLine k (given_by now.config custom p (screen_of now.desk.out) (helps now.desk.helper)) (given_by now.config custom p (screen_of next.desk.out) (helps next.desk.helper))
+    now.desk next.desk (made_of string_bytes c.read_line-next.result.line) in
+    let line = subst P (c.as_str.ensures.value ∙ ap string_bytes c.replace-prompt.ensures.value) c.read_line-next.ensures.line in (
+      underway_ok k _ _ _ self.desk now.desk next.desk _ c.loop-why.invariant.0 line _ (ap (made_of string_bytes) c.in-Ok.is) _
+          (along {y = record now { desk = next.desk }} others (λ s. given_by s.config (custom_of s.bindings g.B.Decides.decides) (string_bytes self.prompt) (screen_of next.desk.out) (helps next.desk.helper))),
+      along {y = record now { desk = next.desk }} others (λ s. s.text) ∙ c.loop-why.invariant.1,
+    )

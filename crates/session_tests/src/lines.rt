@@ -1,0 +1,125 @@
+//! Lines that are handed back, each with columns and a prompt of its own; what one begins with after the refusal of another;
+//! and entries that a history is given by hand.
+
+use keyline::{Bindings, Config, History, LineRead, ReadlineError, Session, SliceSource, VecSink};
+use session_rows::notation::{display_meant, typed};
+use stand_ins::rows::{Player, rows_hold};
+use stand_ins::tables::{meant_bytes, pictured_bytes};
+use std::alloc::{AllocError, Global};
+use std::test::Fail;
+
+/// Tells a line, or why there is none.
+fn tell(said: &mut String, line: &Result<String, ReadlineError>) -> Result<(), AllocError> {
+    match line {
+        Ok(line) => write!(said, " {line}"),
+        Err(why) => write!(said, " {why:?}"),
+    }
+}
+
+/// The columns and the prompt of a word, as `80` or `4:ab␠`.
+fn asked_by(alloc: Global, word: &str) -> Result<(u16, String), AllocError> {
+    let (columns, prompt) = word.split_once(':').unwrap_or((word, ">␠"));
+    let columns: u16 = columns.parse().unwrap_or(80);
+    match String::from_utf8(meant_bytes(alloc, prompt)?) {
+        Ok(prompt) => Ok((columns.max(2).min(1000), prompt)),
+        Err(_) => Ok((columns.max(2).min(1000), String::new(alloc))),
+    }
+}
+
+/// Asks for a line for each of these words, tells what is answered, and then ends the session; the display's bytes.
+fn asked(
+    alloc: Global,
+    words: &str,
+    keys: &[u8],
+    said: &mut String,
+) -> Result<Vec<u8>, ReadlineError> {
+    let mut session = Session::open(
+        alloc,
+        Config::builder().auto_add_history(true).build(),
+        Bindings::new(alloc)?,
+        SliceSource::new(b""),
+        None::<()>,
+        "the session's own ",
+        SliceSource::new(keys),
+        80,
+        VecSink::new(alloc),
+        VecSink::new(alloc),
+        VecSink::new(alloc),
+    )?;
+    for word in words.split_whitespace() {
+        let (columns, prompt) = asked_by(alloc, word)?;
+        session.set_columns(columns);
+        let LineRead {
+            session: next,
+            line,
+        } = session.read_line(prompt.as_str());
+        session = next;
+        tell(said, &line)?;
+    }
+    let end = session.finish(ReadlineError::Eof);
+    Ok(end.display.into_bytes())
+}
+
+/// Asks as the words before ` | ` say; the keys stand after it, and where the display is looked at, its bytes behind them.
+struct Asked;
+
+impl Player for Asked {
+    fn play(&mut self, alloc: Global, call: &str) -> Result<String, Fail> {
+        let (words, rest) = call.split_once(" | ").unwrap_or((call, ""));
+        let (keys, shown) = rest.split_once(" | ").unwrap_or((rest, ""));
+        let mut said = String::new(alloc);
+        let display = asked(alloc, words, &typed(alloc, keys)?, &mut said)?;
+        if !shown.is_empty() && display != display_meant(alloc, shown)? {
+            said.push_str(" shows ")?;
+            said.push_str(pictured_bytes(alloc, &display)?.as_str())?;
+        }
+        Ok(String::from_str(alloc, said.as_str().trim())?)
+    }
+}
+
+#[test]
+fn lines_asked_for(rt: HostRuntime) -> Result<(), Fail> {
+    let rows = "
+        80 80 | ab Enter cd Enter = ab cd
+        80 80 80 | ab Enter = ab Eof Eof
+        80 80 | ab C-d Enter c Enter = ab c
+        80 80 | C-d a Enter = Eof a
+
+        80 80 | ab C-u C-c C-y Enter = Interrupted ab
+        80 80 80 | a Enter b C-c Up Enter = a Interrupted a
+        80 80 80 80 | a C-c b Enter Up Enter C-d = Interrupted b b Eof
+        80 80 | ab C-c C-_ c Enter | {} a b ␍␊ {} c ␍␊ = Interrupted c
+        80 | C-c | {} ␍␊ = Interrupted
+
+        4 80 | abc Enter abc Enter | {} a {ab␍␊} c ␍␊ {} a b c ␍␊ = abc abc
+        80 4 | ab Enter ab Left Enter | {} a b ␍␊ {} a {ab␍␊} ␛[1A␛[3C ␛[1B␛[3D␍␊ = ab ab
+        4 80 | ab C-c a Enter | {} a {ab␍␊} ␍␊ {} a ␍␊ = Interrupted a
+        80:a␠ 80:b␠ | x Enter y Enter | ␍␛[J␛[ma␠␛[m␛[m␛[m x ␍␊ ␍␛[J␛[mb␠␛[m␛[m␛[m y ␍␊ = x y
+        ";
+    rows_hold(rt.alloc(), &mut Asked, rows)
+}
+
+/// What a history holds that a session is given by hand, and what each call answers.
+#[test]
+fn entries_given_by_hand(rt: HostRuntime) -> Result<(), Fail> {
+    let alloc = rt.alloc();
+    let mut session = Session::open(
+        alloc,
+        Config::builder().build(),
+        Bindings::new(alloc)?,
+        SliceSource::new(b"a\n"),
+        None::<()>,
+        "> ",
+        SliceSource::new(b"\x10\x10\r"),
+        80,
+        VecSink::new(alloc),
+        VecSink::new(alloc),
+        VecSink::new(alloc),
+    )?;
+    assert_eq!(rt; session.add_history_entry("b"), Ok(true));
+    assert_eq!(rt; session.add_history_entry("b"), Ok(false));
+    assert_eq!(rt; session.history().len(), 2);
+    let read = session.read_line("> ");
+    assert!(rt; read.line == Ok(String::from_str(alloc, "a")?));
+    Ok(())
+}
