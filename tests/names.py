@@ -17,7 +17,7 @@ CITED = re.compile(r"\bghost use Rattle\.(\w+)\.specs\.(\w+)(?=[. ])")
 NAMES = ("docs", "NAMES.md")
 HEAD = """# Names
 
-Each file of definitions in the `specs/` of a library, with what it is about, the definitions in it, and which files of which
+Each file of definitions in the `specs/` of a library or a program, with what it is about, the definitions in it, and which files of which
 crates' `src/` cite them in their contracts. `tests/promises.py --write` makes this list of the sources, and `tests/promises.py`
 fails where it is stale. [DEFINITIONS.md](DEFINITIONS.md) says which standards the definitions follow, and where to begin.
 """
@@ -60,6 +60,10 @@ def crates_listed():
     return listed, before_tests
 
 
+def has_library(name):
+    return os.path.isfile(os.path.join(TOP, "crates", name, "src", "lib.rt"))
+
+
 class Crate:
     """The calls of a crate with the names of their clauses, its laws, its types, what it hands out, and its definitions."""
 
@@ -98,7 +102,7 @@ class Crate:
 
     def read_library(self):
         """The library's public modules, and the names of its own that it hands out."""
-        if not os.path.isfile(os.path.join(TOP, "crates", self.name, "src", "lib.rt")):
+        if not has_library(self.name):
             return set(), set()
         text = "\n".join(lines_of("crates", self.name, "src", "lib.rt"))
         handed = [(many or one).split(",") for module, many, one in HANDED.findall(text) if module not in CRATES]
@@ -131,8 +135,9 @@ def about(path):
 
 
 def about_crate(name):
-    """What the first lines of a library say of it."""
-    words = [line.removeprefix("//!").strip() for line in lines_of("crates", name, "src", "lib.rt") if line.startswith("//!")]
+    """What the first lines of a crate say of it."""
+    root = "lib.rt" if has_library(name) else "main.rt"
+    words = [line.removeprefix("//!").strip() for line in lines_of("crates", name, "src", root) if line.startswith("//!")]
     return " ".join(words[: words.index("")] if "" in words else words)
 
 

@@ -3,12 +3,10 @@
 #![tactic(auto)]
 
 use keyline::{
-    Bindings, Cmd, Config, Ending, Event, EventHandler, HelperParts, KeyEvent,
-    MatchingBracketValidator, Movement, ReadlineError, Session, SliceSource, WriteSink,
-    standard_devices,
+    Bindings, Cmd, Ending, Event, EventHandler, HelperParts, KeyEvent, MatchingBracketValidator,
+    Movement, ReadlineError, WriteSink, standard_builder,
 };
 use std::alloc::Global;
-use std::io;
 use std::process::ExitCode;
 
 /// What the keys do besides the tables.
@@ -30,21 +28,12 @@ fn helper() -> HelperParts<(), (), (), MatchingBracketValidator> {
 }
 
 fn play(rt: &HostRuntime) -> Result<Ending, ReadlineError> {
-    let alloc = rt.alloc();
-    let (keys, display, lines) = standard_devices(rt.stdin(), rt.stderr(), rt.stdout());
-    let session = Session::open(
-        alloc,
-        Config::default(),
-        bindings(alloc)?,
-        SliceSource::new(b""),
-        Some(helper()),
-        "? ",
-        keys,
-        80,
-        display,
-        lines,
-        WriteSink::new(io::sink()),
-    )?;
+    let session = standard_builder(rt)
+        .bindings(bindings(rt.alloc())?)
+        .helper(helper())
+        .prompt("? ")
+        .lines(WriteSink::new(rt.stdout()))
+        .open()?;
     Ok(session.run().ending)
 }
 

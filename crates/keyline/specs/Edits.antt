@@ -26,6 +26,10 @@ use Rattle.keyline.specs.declared.desk.Desk.{Desk}
 use Rattle.keyline.specs.declared.options.Options.{Options}
 use Rattle.keyline.specs.declared.session.Ended.{Ended}
 
+-- where nothing else is said: each accepted line is kept
+abbrev pub standard_config : Config
+standard_config = record default_config { auto_add_history = true }
+
 -- each accepted line is kept
 abbrev pub config_of : Options → Config
 config_of options = record default_config {

@@ -1,5 +1,5 @@
 -- The endings of a session: the status of a program that ends with it, and its words.
-use Rattle.std.specs.Prelude.{ℕ, List, codes}
+use Rattle.std.specs.Prelude.{ℕ, List, Option, Some, None, Result, Ok, Err, codes}
 use Rattle.line_config.specs.declared.errors.ReadlineError.{ReadlineError}
 use Rattle.line_config.specs.declared.errors.ReadlineError.TheVariants as Refusal
 use Rattle.keyline.specs.declared.ending.Ending.{Ending}
@@ -38,3 +38,9 @@ ending_of Refusal.HistoryText = HistoryText
 ending_of Refusal.Helper = Helper
 ending_of Refusal.Handler = Handler
 ending_of Refusal.Memory = Memory
+
+-- why there is no line after this answer, if there is none: after an interruption there is
+abbrev pub ended_by : Result (List ℕ) ReadlineError → Option ReadlineError
+ended_by (Err Refusal.Interrupted) = None
+ended_by (Err why) = Some why
+ended_by (Ok text) = None

@@ -2,6 +2,7 @@ pub mod Closing
 pub mod Cutting
 pub mod Deeds
 pub mod Desks
+pub mod Editors
 pub mod Edits
 pub mod Endings
 pub mod FewerKeys

@@ -7,8 +7,10 @@
 //! by the definitions in `specs/`. All that a call of it needs is handed on here.
 #![tactic(auto)]
 
+pub mod builder;
 mod desk;
 pub mod edit_helper;
+pub mod editor;
 pub mod ending;
 mod help;
 pub mod laws;
@@ -17,7 +19,12 @@ pub mod program;
 pub mod prompter;
 pub mod session;
 
+pub use builder::{
+    DefaultBuilder, Nowhere, SessionBuilder, StandardBuilder, StandardKeys, session_builder,
+    standard_builder,
+};
 pub use edit_helper::EditHelper;
+pub use editor::LineEditor;
 pub use ending::Ending;
 pub use line_buffer::{ChangeListener, LineBuffer};
 pub use line_config::{

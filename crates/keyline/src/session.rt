@@ -37,7 +37,7 @@ pub struct Session<S: Source, H, D: Sink, L: Sink, T: Sink, B: Decides = EventHa
     config: Config,
     bindings: EventMap<B>,
     prompt: String,
-    desk: Desk<S, H, D, L>,
+    pub(crate) desk: Desk<S, H, D, L>,
     text: T,
 }
 

@@ -8,6 +8,8 @@ mod command_lines;
 #[cfg(test)]
 mod completing;
 #[cfg(test)]
+mod editors;
+#[cfg(test)]
 mod endings;
 #[cfg(test)]
 mod faults;

@@ -1,0 +1,16 @@
+//! A first program: it says each line again, until Ctrl-D or the end of the input.
+#![tactic(auto)]
+
+use keyline::{LineEditor, ReadlineError, standard_builder};
+
+fn main(rt: HostRuntime) -> Result<(), ReadlineError> {
+    let mut editor = LineEditor::new(standard_builder(&rt).open()?);
+    for _ in 0..u64::MAX {
+        match editor.read_line("> ") {
+            Ok(line) => println!(rt; "{line}").map_err(|_| ReadlineError::Lines)?,
+            Err(ReadlineError::Eof) => break,
+            Err(why) => return Err(why),
+        }
+    }
+    Ok(())
+}

@@ -1,0 +1,306 @@
+//! A session from what is wanted of it, and the program's defaults for the rest.
+
+ghost use Rattle.std.specs.Prelude.{◌≡◌, ◌≤◌, IfErr, IfOk, None, Some, [], codes, false, string_bytes};
+ghost use Rattle.line_config.specs.Feed.{fresh_feed};
+ghost use Rattle.line_config.specs.declared.device.Last.TheVariants.{End};
+ghost use Rattle.keyline.specs.Edits.{standard_config};
+ghost use Rattle.keyline.specs.Plays.{Opens, Unopens};
+
+use crate::session::{Session, Unopened};
+use line_config::{Config, ReadSource, Sink, SliceSource, Source, WriteSink};
+use line_help::Helper;
+use line_keys::{Decides, EventHandler, EventMap};
+use std::alloc::Global;
+use std::io::{self, Input, Stderr, StdinLock};
+
+/// What a session is to be opened on. Where nothing else is said: the settings of the program with
+/// the keys of Emacs, nothing bound, no helper, the prompt `> ` and rows of 80 columns, a history
+/// that begins empty and isn't saved, and lines that are written nowhere.
+#[derive(Drop)]
+pub struct SessionBuilder<'p, F, S, H, D, L, T, B: Decides = EventHandler> {
+    alloc: Global,
+    config: Config,
+    bindings: EventMap<B>,
+    history: F,
+    helper: Option<H>,
+    prompt: &'p str,
+    source: S,
+    columns: u16,
+    display: D,
+    lines: L,
+    text: T,
+}
+
+/// A sink that keeps nothing.
+pub type Nowhere = WriteSink<io::Sink>;
+
+/// A builder of which the source of keys and the display alone are said.
+pub type DefaultBuilder<'p, S, D> = SessionBuilder<
+    'p,
+    SliceSource<'static>,
+    S,
+    (),
+    D,
+    Nowhere,
+    Nowhere,
+>;
+
+/// Keys from standard input.
+pub type StandardKeys = ReadSource<StdinLock<'static>>;
+
+/// A builder over the standard streams.
+pub type StandardBuilder<'p> = DefaultBuilder<'p, StandardKeys, WriteSink<Stderr>>;
+
+/// The settings: each accepted line is kept in the history.
+fn standard_config() -> Config
+    ensures { result ≡ standard_config }
+{
+    Config::builder().auto_add_history(true).build()
+}
+
+/// Over this source of keys and this display.
+pub fn session_builder<'p, S: Source + Drop, D: Sink + Drop>(
+    alloc: Global,
+    source: S,
+    display: D,
+) -> DefaultBuilder<'p, S, D>
+    ensures config { result.config ≡ standard_config }
+    ensures bindings { result.bindings ≡ [] }
+    ensures helper { result.helper ≡ None }
+    ensures prompt { result.prompt.now ≡ codes "> " }
+    ensures columns { result.columns ≡ 80 }
+    ensures devices { (result.source ≡ source) × (result.display ≡ display) }
+    ensures history { ⟦<SliceSource<'static> as Source>⟧.feed result.history ≡ fresh_feed [] End }
+    ensures lines { ⟦<Nowhere as Sink>⟧.has_failed result.lines ≡ false }
+    ensures text { ⟦<Nowhere as Sink>⟧.has_failed result.text ≡ false }
+{
+    SessionBuilder {
+        alloc,
+        config: standard_config(),
+        bindings: EventMap::new(alloc).unwrap(),
+        history: SliceSource::new(b""),
+        helper: None,
+        prompt: "> ",
+        source,
+        columns: 80,
+        display,
+        lines: WriteSink::new(io::sink()),
+        text: WriteSink::new(io::sink()),
+    }
+}
+
+/// Keys from standard input, and the display on standard error.
+pub fn standard_builder<'p>(rt: &HostRuntime) -> StandardBuilder<'p>
+    ensures keys { (⟦<StandardKeys as Source>⟧.feed result.source).failed ≡ false }
+    ensures display { ⟦<WriteSink<Stderr> as Sink>⟧.has_failed result.display ≡ false }
+    ensures lines { ⟦<Nowhere as Sink>⟧.has_failed result.lines ≡ false }
+    ensures text { ⟦<Nowhere as Sink>⟧.has_failed result.text ≡ false }
+    ensures history { ⟦<SliceSource<'static> as Source>⟧.feed result.history ≡ fresh_feed [] End }
+    ensures columns { result.columns ≡ 80 }
+{
+    session_builder(
+        rt.alloc(),
+        ReadSource::new(rt.stdin().reader()),
+        WriteSink::new(rt.stderr()),
+    )
+}
+
+impl<'p, F, S, H, D, L, T, B: Decides> SessionBuilder<'p, F, S, H, D, L, T, B>
+where
+    F: Source + Drop,
+    S: Source + Drop,
+    H: Drop,
+    D: Sink + Drop,
+    L: Sink + Drop,
+    T: Sink + Drop,
+{
+    /// The settings.
+    pub fn config(self, config: Config) -> Self
+        ensures { result ≡ record self.entry { config = config } }
+    {
+        SessionBuilder { config, ..self }
+    }
+
+    /// What stands before each line of `Session::run`; `Session::read_line` is handed one.
+    pub fn prompt(self, prompt: &'p str) -> Self
+        ensures { result ≡ record self.entry { prompt = prompt.entry } }
+    {
+        SessionBuilder { prompt, ..self }
+    }
+
+    /// Columns of a row, 2 to 1,000.
+    pub fn columns(self, columns: u16) -> Self
+        ensures { result ≡ record self.entry { columns = columns } }
+    {
+        SessionBuilder { columns, ..self }
+    }
+
+    /// What the keys do besides the tables.
+    pub fn bindings<C: Decides>(
+        self,
+        bindings: EventMap<C>,
+    ) -> SessionBuilder<'p, F, S, H, D, L, T, C>
+        ensures { result ≡ record {
+          alloc = self.entry.alloc;
+          config = self.entry.config;
+          bindings = bindings;
+          history = self.entry.history;
+          helper = self.entry.helper;
+          prompt = self.entry.prompt;
+          source = self.entry.source;
+          columns = self.entry.columns;
+          display = self.entry.display;
+          lines = self.entry.lines;
+          text = self.entry.text;
+        } }
+    {
+        SessionBuilder {
+            alloc: self.alloc,
+            config: self.config,
+            bindings,
+            history: self.history,
+            helper: self.helper,
+            prompt: self.prompt,
+            source: self.source,
+            columns: self.columns,
+            display: self.display,
+            lines: self.lines,
+            text: self.text,
+        }
+    }
+
+    /// What helps.
+    pub fn helper<G: Helper + Drop>(self, helper: G) -> SessionBuilder<'p, F, S, G, D, L, T, B>
+        ensures { result ≡ record {
+          alloc = self.entry.alloc;
+          config = self.entry.config;
+          bindings = self.entry.bindings;
+          history = self.entry.history;
+          helper = Some helper;
+          prompt = self.entry.prompt;
+          source = self.entry.source;
+          columns = self.entry.columns;
+          display = self.entry.display;
+          lines = self.entry.lines;
+          text = self.entry.text;
+        } }
+    {
+        SessionBuilder {
+            alloc: self.alloc,
+            config: self.config,
+            bindings: self.bindings,
+            history: self.history,
+            helper: Some(helper),
+            prompt: self.prompt,
+            source: self.source,
+            columns: self.columns,
+            display: self.display,
+            lines: self.lines,
+            text: self.text,
+        }
+    }
+
+    /// Where accepted lines are written.
+    pub fn lines<M: Sink + Drop>(self, lines: M) -> SessionBuilder<'p, F, S, H, D, M, T, B>
+        ensures { result ≡ record {
+          alloc = self.entry.alloc;
+          config = self.entry.config;
+          bindings = self.entry.bindings;
+          history = self.entry.history;
+          helper = self.entry.helper;
+          prompt = self.entry.prompt;
+          source = self.entry.source;
+          columns = self.entry.columns;
+          display = self.entry.display;
+          lines = lines;
+          text = self.entry.text;
+        } }
+    {
+        SessionBuilder {
+            alloc: self.alloc,
+            config: self.config,
+            bindings: self.bindings,
+            history: self.history,
+            helper: self.helper,
+            prompt: self.prompt,
+            source: self.source,
+            columns: self.columns,
+            display: self.display,
+            lines,
+            text: self.text,
+        }
+    }
+
+    /// Where the history's text is loaded from, and where it is saved to where an entry is new.
+    pub fn history<G: Source + Drop, U: Sink + Drop>(
+        self,
+        history: G,
+        text: U,
+    ) -> SessionBuilder<'p, G, S, H, D, L, U, B>
+        ensures { result ≡ record {
+          alloc = self.entry.alloc;
+          config = self.entry.config;
+          bindings = self.entry.bindings;
+          history = history;
+          helper = self.entry.helper;
+          prompt = self.entry.prompt;
+          source = self.entry.source;
+          columns = self.entry.columns;
+          display = self.entry.display;
+          lines = self.entry.lines;
+          text = text;
+        } }
+    {
+        SessionBuilder {
+            alloc: self.alloc,
+            config: self.config,
+            bindings: self.bindings,
+            history,
+            helper: self.helper,
+            prompt: self.prompt,
+            source: self.source,
+            columns: self.columns,
+            display: self.display,
+            lines: self.lines,
+            text,
+        }
+    }
+
+    /// Opens the session, as `Session::open` does.
+    pub fn open(self) -> Result<Session<S, H, D, L, T, B>, Unopened<F, S, D, L, T>>
+    where
+        H: Helper,
+        requires columns { (2 ≤ self.columns) × (self.columns ≤ 1000) }
+        requires history { (F.feed self.history).failed ≡ false }
+        requires source { (S.feed self.source).failed ≡ false }
+        requires display { D.has_failed self.display ≡ false }
+        requires lines { L.has_failed self.lines ≡ false }
+        requires text { T.has_failed self.text ≡ false }
+        ensures desk { let b = self.entry in
+            IfOk result (λ s. Opens F.feed S.feed b.config b.history b.helper b.source b.columns
+            b.display b.lines s.desk) }
+        ensures config { IfOk result (λ s. s.config ≡ self.entry.config) }
+        ensures bindings { IfOk result (λ s. s.bindings ≡ self.entry.bindings) }
+        ensures prompt { IfOk result (λ s. string_bytes s.prompt ≡ self.entry.prompt.now) }
+        ensures text { IfOk result (λ s. s.text ≡ self.entry.text) }
+        ensures refused { let b = self.entry in
+            IfErr result (Unopens F.feed b.config b.history b.source b.display b.lines b.text) }
+    {
+        let SessionBuilder {
+            alloc,
+            config,
+            bindings,
+            history,
+            helper,
+            prompt,
+            source,
+            columns,
+            display,
+            lines,
+            text,
+        } = self;
+        Session::open(
+            alloc, config, bindings, history, helper, prompt, source, columns, display, lines, text,
+        )
+    }
+}

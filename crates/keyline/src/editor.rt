@@ -1,0 +1,145 @@
+//! A line at a time, by `&mut self`.
+
+ghost use Rattle.std.specs.Prelude.{◌≡◌, IfErr, IfOk, IfSome, IsSome, None, OnErr, OnOk, Some, not, option_map, string_bytes};
+ghost use Rattle.std.specs.Option.{option_map_or};
+ghost use Rattle.line_config.specs.declared.errors.ReadlineError.TheVariants.{Eof, Memory};
+ghost use Rattle.line_help.specs.History.{ignored};
+ghost use Rattle.line_keys.specs.Answers.{custom_of};
+ghost use Rattle.line_keys.specs.Coming.{made_of};
+ghost use Rattle.line_editor.specs.Running.{helping_by};
+ghost use Rattle.line_screen.specs.Calls.{screen_of};
+ghost use Rattle.keyline.specs.Endings.{ended_by};
+ghost use Rattle.keyline.specs.Known.{known_by};
+ghost use Rattle.keyline.specs.Sessions.{given_by};
+
+use crate::session::{Ended, LineRead, Session};
+use line_config::{ReadlineError, Sink, Source};
+use line_help::{FileHistory, Helper};
+use line_keys::{Decides, EventHandler};
+
+/// A value, which is taken out only while it is used by value.
+#[derive(Drop)]
+pub(crate) struct Held<A> {
+    value: Option<A>,
+    ghost here: { IsSome value },
+}
+
+/// Hands out the lines of a session, one at each call.
+#[derive(Drop)]
+pub struct LineEditor<S: Source, H, D: Sink, L: Sink, T: Sink, B: Decides = EventHandler> {
+    session: Held<Session<S, H, D, L, T, B>>,
+    // Why there is no further line.
+    ended: Option<ReadlineError>,
+}
+
+/// Why there is no line after this answer, if there is none.
+fn ended_by(line: &Result<String, ReadlineError>) -> Option<ReadlineError>
+    ensures { result ≡ ended_by (made_of string_bytes line.now) }
+{
+    match line {
+        Ok(_) | Err(ReadlineError::Interrupted) => None,
+        Err(why) => Some(*why),
+    }
+}
+
+impl<S: Source, H: Helper, D: Sink, L: Sink, T: Sink, B: Decides> LineEditor<S, H, D, L, T, B>
+where
+    S: Drop,
+    H: Drop,
+    D: Drop,
+    L: Drop,
+    T: Drop,
+{
+    ghost use Rattle.keyline.specs.Editors.{Finishes, ReadsLine, with_entry, with_helper};
+
+    /// The lines of this session.
+    pub fn new(session: Session<S, H, D, L, T, B>) -> Self
+        ensures session { result.session.value ≡ Some session }
+        ensures ended { result.ended ≡ None }
+    {
+        LineEditor {
+            session: Held {
+                value: Some(session),
+            },
+            ended: None,
+        }
+    }
+
+    /// Reads the next line, drawn behind this prompt, as `Session::read_line` does. After
+    /// `Interrupted`, which Ctrl-C gives, the next call begins a new line. Every other refusal ends
+    /// the editor, which from then on answers it again and leaves its devices alone.
+    pub fn read_line(&mut self, prompt: &str) -> Result<String, ReadlineError>
+        ensures { let helps =
+            helping_by H.hint_of H.verdict_of H.completion_of H.update_of H.marks in
+            let known = known_by S.feed D.held D.has_failed L.held L.has_failed in
+            ReadsLine known self.old self.new (λ s. given_by s.config
+            (custom_of s.bindings B.decides) prompt.now (screen_of s.desk.out)
+            (helps s.desk.helper)) (made_of string_bytes result) }
+    {
+        if let Some(why) = self.ended {
+            return Err(why);
+        }
+        let slot = &mut self.session.value;
+        let Some(session) = slot.take() else {
+            unreachable!();
+        };
+        let LineRead { session, line } = session.read_line(prompt);
+        *slot = Some(session);
+        self.ended = ended_by(&line);
+        line
+    }
+
+    /// Adds a line to the history, whatever the settings say of accepted lines, and answers whether
+    /// it did, as `Session::add_history_entry` does.
+    pub fn add_history_entry(&mut self, line: &str) -> Result<bool, ReadlineError>
+        ensures answer { IfSome self.old.session.value (λ s. let kept = s.desk.history.kept in
+            IfOk result (λ b. b ≡ not (ignored kept.settings kept.entries line.now))) }
+        ensures added { OnOk result (self.new.session.value
+            ≡ option_map (with_entry line.now) self.old.session.value) }
+        ensures kept { OnErr result (self.new.session.value ≡ self.old.session.value) }
+        ensures ended { self.new.ended ≡ self.old.ended }
+        ensures fault { IfErr result (λ e. e ≡ Memory) }
+    {
+        match &mut self.session.value {
+            Some(session) => session.add_history_entry(line),
+            None => unreachable!(),
+        }
+    }
+
+    /// The history so far.
+    pub fn history(&self) -> &FileHistory
+        ensures { IfSome self.now.session.value (λ s. result.now ≡ s.desk.history) }
+    {
+        match &self.session.value {
+            Some(session) => session.history(),
+            None => unreachable!(),
+        }
+    }
+
+    /// What helps from the next line on.
+    pub fn set_helper(&mut self, helper: Option<H>)
+        ensures session { self.new.session.value
+            ≡ option_map (with_helper helper) self.old.session.value }
+        ensures ended { self.new.ended ≡ self.old.ended }
+    {
+        match &mut self.session.value {
+            Some(session) => session.desk.helper = helper,
+            None => unreachable!(),
+        }
+    }
+
+    /// Ends the session, for the reason that ended the editor, or as the end of input does: saves
+    /// the history, where an entry is new, and hands back the devices.
+    pub fn finish(self) -> Ended<S, D, L, T>
+        ensures { let why = option_map_or (λ e. e) self.ended Eof in
+            IfSome self.session.value (λ s. Finishes T.held T.has_failed s why result) }
+    {
+        let LineEditor { session, ended } = self;
+        let why = ended.unwrap_or(ReadlineError::Eof);
+        let Held { value } = session;
+        match value {
+            Some(session) => session.finish(why),
+            None => unreachable!(),
+        }
+    }
+}

@@ -1,0 +1,90 @@
+//! What a statement gives.
+
+use crate::table;
+use keyline::ReadlineError;
+use sqlite::{Connection, Error, MemStore, Row};
+use sqlite_value::value::ValueRef;
+use std::alloc::{AllocError, Global};
+
+/// The names of the tables; none where they can't be read.
+pub(crate) fn tables(alloc: Global, conn: &mut Connection<MemStore>) -> Vec<String> {
+    match try_tables(alloc, conn) {
+        Ok(names) => names,
+        Err(_) => Vec::new(alloc),
+    }
+}
+
+fn try_tables(alloc: Global, conn: &mut Connection<MemStore>) -> Result<Vec<String>, Error> {
+    let mut names = Vec::new(alloc);
+    for row in conn.query_all("SELECT name FROM sqlite_schema WHERE type = 'table'", &[])? {
+        names.push(row.get(0)?)?;
+    }
+    Ok(names)
+}
+
+/// Runs a statement and prints its rows, how many it changed, or why it was refused.
+pub(crate) fn print(
+    rt: &HostRuntime,
+    conn: &mut Connection<MemStore>,
+    sql: &str,
+) -> Result<(), ReadlineError> {
+    let printed = match run(rt.alloc(), conn, sql) {
+        Ok(Answer::Rows(rows)) => table::print(rt, rows.as_slice()),
+        Ok(Answer::Changed(rows)) => println!(rt; "{rows} changed"),
+        Err(error) => println!(rt; "error: {error}"),
+    };
+    match printed {
+        Ok(()) => Ok(()),
+        Err(_) => Err(ReadlineError::Lines),
+    }
+}
+
+#[derive(Drop)]
+enum Answer {
+    /// The names of the columns, and then the rows.
+    Rows(Vec<Vec<String>>),
+    /// The number of rows that were changed.
+    Changed(usize),
+}
+
+fn run(alloc: Global, conn: &mut Connection<MemStore>, sql: &str) -> Result<Answer, Error> {
+    let statement = conn.prepare(sql)?;
+    if statement.column_count() == 0 {
+        return Ok(Answer::Changed(statement.execute(conn, &[])?));
+    }
+    let mut head = Vec::new(alloc);
+    for name in statement.column_names() {
+        head.push(text_of(alloc, name.as_slice())?)?;
+    }
+    let mut rows = Vec::new(alloc);
+    rows.push(head)?;
+    for row in statement.query_all(conn, &[])? {
+        rows.push(cells_of(alloc, &row)?)?;
+    }
+    Ok(Answer::Rows(rows))
+}
+
+fn cells_of(alloc: Global, row: &Row) -> Result<Vec<String>, Error> {
+    let mut cells = Vec::new(alloc);
+    for at in 0..row.column_count() {
+        cells.push(cell_of(alloc, row.get_ref(at)?)?)?;
+    }
+    Ok(cells)
+}
+
+fn cell_of(alloc: Global, value: ValueRef<'_>) -> Result<String, AllocError> {
+    match value {
+        ValueRef::Null => String::from_str(alloc, "NULL"),
+        ValueRef::Int(number) => format!(in alloc; "{number}"),
+        ValueRef::Real(number) => format!(in alloc; "{number}"),
+        ValueRef::Text(text) | ValueRef::Blob(text) => text_of(alloc, text),
+    }
+}
+
+/// The text that these bytes are, or how many they are.
+fn text_of(alloc: Global, bytes: &[u8]) -> Result<String, AllocError> {
+    match str::from_utf8(bytes) {
+        Ok(text) => String::from_str(alloc, text),
+        Err(_) => format!(in alloc; "({} bytes)", bytes.len()),
+    }
+}
