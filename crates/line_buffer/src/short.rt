@@ -43,9 +43,12 @@ pub fn short_kill(end: Position, killed: &str) -> Option<Position>
 pub fn is_printable_text(text: &str) -> bool
     ensures { result ≡ list_all is_printable text.now }
 {
-    text.as_bytes()
-        .iter()
-        .all(|byte| 0x20 <= *byte && *byte < 0x7F)
+    let bytes = text.as_bytes();
+    let mut all = true;
+    for byte in bytes {
+        all &= 0x20 <= *byte && *byte < 0x7F;
+    }
+    all
 }
 
 /// A printable character of ASCII.

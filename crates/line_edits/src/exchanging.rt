@@ -1,5 +1,5 @@
 //! Clusters exchanged for characters.
-ghost use Rattle.std.specs.Prelude.{◌≡◌, ◌≤◌, true, length, is_some, IsCharBoundary};
+ghost use Rattle.std.specs.Prelude.{◌≡◌, ◌≤◌, true, length, is_some, IsCharBoundary, OnErr};
 ghost use Rattle.unicode_segmentation.specs.Grapheme.{graphemes};
 ghost use Rattle.line_buffer.specs.Clusters.{place_forward};
 ghost use Rattle.line_record.specs.Items.{ItemsStand};
@@ -8,7 +8,7 @@ ghost use Rattle.line_edits.specs.Plain.{is_plain};
 ghost use Rattle.line_edits.specs.Written.{Edits, Writes};
 
 use crate::inserting::insert_told;
-use crate::plain::is_plain;
+use crate::plain::{is_plain, is_printable};
 use line_buffer::{LineBuffer, OutOfMemory, RepeatCount};
 use line_record::Changeset;
 use std::alloc::Global;
@@ -114,7 +114,8 @@ fn put_over(
     requires order { line.old.place ≤ end }
     requires boundary { IsCharBoundary line.old.text end }
     requires stand { ItemsStand changes.old line.old.text }
-    ensures { Writes (put_over ch end) tt line.old line.new changes.old changes.new result }
+    ensures writes { Writes (put_over ch end) tt line.old line.new changes.old changes.new result }
+    ensures kept { OnErr result (line.new ≡ line.old) }
 {
     let _text = line.as_str();
     let at = line.pos();
@@ -140,8 +141,10 @@ pub fn overwrite(
     let Some(end) = line.next_pos(1) else {
         return Ok(false);
     };
-    let done = put_over(alloc, line, changes, ch, end);
+    put_over(alloc, line, changes, ch, end)?;
+    if *plain && is_printable(ch) {
+        return Ok(true);
+    }
     *plain = is_plain(line.as_str());
-    done?;
     Ok(true)
 }

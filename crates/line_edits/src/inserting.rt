@@ -78,13 +78,17 @@ pub fn insert_text(
     plain: &mut bool,
     text: &str,
 ) -> Result<(), OutOfMemory>
-    requires { ItemsStand changes.old line.old.text }
+    requires stand { ItemsStand changes.old line.old.text }
+    requires plain { plain.old ≡ is_plain line.old.text }
     ensures { Edits (put_behind text.now) tt
         line.old line.new changes.old changes.new plain.new result }
 {
-    let done = text_told(alloc, line, changes, text);
+    text_told(alloc, line, changes, text)?;
+    if *plain && is_plain(text) {
+        return Ok(());
+    }
     *plain = is_plain(line.as_str());
-    done
+    Ok(())
 }
 
 fn yank_told(
@@ -113,14 +117,18 @@ pub fn yank(
     text: &str,
     n: RepeatCount,
 ) -> Result<Option<bool>, OutOfMemory>
-    requires { ItemsStand changes.old line.old.text }
+    requires stand { ItemsStand changes.old line.old.text }
+    requires plain { plain.old ≡ is_plain line.old.text }
     ensures writes { Edits (text_yanked text.now n) (yanked_in text.now n line.old).answer
         line.old line.new changes.old changes.new plain.new result }
     ensures refused { OnErr result (is_some (yanked_in text.now n line.old).answer ≡ true) }
 {
-    let done = yank_told(alloc, line, changes, text, n);
+    let put = yank_told(alloc, line, changes, text, n)?;
+    if *plain && is_plain(text) {
+        return Ok(put);
+    }
     *plain = is_plain(line.as_str());
-    done
+    Ok(put)
 }
 
 fn pop_told(

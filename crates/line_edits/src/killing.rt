@@ -5,6 +5,7 @@ ghost use Rattle.line_record.specs.Items.{ItemsStand};
 ghost use Rattle.line_record.specs.Names.{SameNames};
 ghost use Rattle.line_record.specs.Ring.{ring_all};
 ghost use Rattle.line_edits.specs.Edits.{range_killed, TookOrNot};
+ghost use Rattle.line_edits.specs.Plain.{is_plain};
 ghost use Rattle.line_edits.specs.Written.{Edits, Writes};
 
 use crate::plain::is_plain;
@@ -28,6 +29,7 @@ fn kill_told(
     ensures refused_ring { OnErr result
         (TookOrNot movement.now line.old both.old.first.now both.new.first.now) }
     ensures names { SameNames both.old.first both.old.second both.new.first both.new.second }
+    ensures kept { OnErr result (line.new ≡ line.old) }
     ensures shrinks { length line.new.text ≤ length line.old.text }
 {
     let _text = line.as_str();
@@ -44,7 +46,8 @@ pub fn kill(
     ring: &mut KillRing,
     movement: &Movement,
 ) -> Result<bool, OutOfMemory>
-    requires { ItemsStand changes.old line.old.text }
+    requires stand { ItemsStand changes.old line.old.text }
+    requires plain { plain.old ≡ is_plain line.old.text }
     ensures writes { Edits (range_killed movement.now) (is_some (range_of movement.now line.old))
         line.old line.new changes.old changes.new plain.new result }
     ensures ring { OnOk result (ring.new ≡ ring_all (kill_events movement.now line.old) ring.old) }
@@ -57,6 +60,8 @@ pub fn kill(
         second: changes,
     };
     let killed = kill_told(alloc, line, &mut both, movement);
-    *plain = is_plain(line.as_str());
+    if !*plain {
+        *plain = is_plain(line.as_str());
+    }
     killed
 }

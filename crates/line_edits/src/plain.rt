@@ -16,9 +16,12 @@ pub fn is_printable(c: char) -> bool
 pub fn is_plain(text: &str) -> bool
     ensures { result ≡ is_plain text.now }
 {
-    text.as_bytes()
-        .iter()
-        .all(|byte| *byte == b'\n' || (0x20 <= *byte && *byte < 0x7F))
+    let bytes = text.as_bytes();
+    let mut all = true;
+    for byte in bytes {
+        all &= *byte == b'\n' || (0x20 <= *byte && *byte < 0x7F);
+    }
+    all
 }
 
 /// From which place on a text is printable ASCII to its end.

@@ -4,8 +4,8 @@ use Rattle.line_record.specs.Items.{held_on}
 use Rattle.line_edits.proofs.WrittenLemmas.{recorded_one}
 use Rattle.line_edits.proofs.exchanging.put_over.Goals as goal
 
-pub returns : goal.returns
-returns c =
+pub returns-clause-writes : goal.returns-clause-writes
+returns-clause-writes c =
     let told = c.in_ok-replace.ensures.told.on _ _ c.requires.stand c.as_str-text.ensures.utf8 c.in_ok-replace.ensures.replays in
     record {
       answers = refl;

@@ -1,0 +1,13 @@
+use Rattle.std.proofs.Common.{◌≡◌, true, sym, ap, ◌∙◌}
+use Rattle.line_edits.specs.Plain.{is_plain}
+use Rattle.line_edits.proofs.PlainLemmas.{put_behind_plain}
+use Rattle.line_edits.proofs.inserting.insert_text.Goals as goal
+
+pub returns-then-is_plain : goal.returns-then-is_plain
+returns-then-is_plain c =
+    let plain : is_plain c.args.line.now.text ≡ true = sym c.requires.plain ∙ c.if-plain.true in
+    let added : is_plain c.args.text.now ≡ true = sym c.is_plain.ensures ∙ c.if-is_plain.true in
+    record {
+      writes = c.in_ok-text_told.ensures.writes;
+      plain_is = c.if-plain.true ∙ sym (ap (λ l. is_plain l.text) c.in_ok-text_told.ensures.writes.line ∙ put_behind_plain c.args.text.now c.args.line.now plain added);
+    }
