@@ -6,8 +6,10 @@ pub mod KeyReads
 pub mod Normal
 mod PhraseRows
 pub mod Places
+mod Played
 pub mod Remembering
 mod Rows
+pub mod SameEventsLemmas
 pub mod Settling
 pub mod Steps
 pub mod Turns

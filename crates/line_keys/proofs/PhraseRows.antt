@@ -24,10 +24,10 @@ use Rattle.line_keys.specs.Handling.{Meaning}
 use Rattle.line_keys.specs.Keys.{key_with, modifiers_of, none, ctrl, alt}
 use Rattle.line_keys.specs.Phrase.{phrase}
 use Rattle.line_keys.specs.Phrases.{Input}
-use Rattle.line_keys.specs.Played.{Played, played}
 use Rattle.line_keys.specs.Refreshing.{Shown, Line, Prompted}
 use Rattle.line_keys.specs.Replies.{gives_at_once}
 use Rattle.line_keys.specs.SameEvents.{same_event}
+use Rattle.line_keys.proofs.Played.{Played, played}
 
 abbrev emacs : Input
 emacs = record { mode = Emacs; input_mode = Inserting; last = Noop; search = None }

@@ -1,7 +1,6 @@
 -- A phrase that gives a command leaves the session's own prompt: every count ends in a drawing of the line.
-use Rattle.std.proofs.Common.{◌≡◌, ℕ, Bool, true, false, List, [], ◌∷◌, ◌++◌, refl, sym, ap, true≢false, if◌then◌else◌}
+use Rattle.std.proofs.Common.{ℕ, Bool, true, false, List, [], ◌∷◌, ◌++◌, refl, sym, true≢false, if◌then◌else◌}
 use Rattle.std.specs.Prelude.{Option, Some, None, Result, Ok, Err}
-use Rattle.std.specs.List.{FoldsTo}
 use Rattle.line_config.specs.declared.errors.ReadlineError.{ReadlineError}
 use Rattle.line_config.specs.declared.settings.EditMode.{EditMode}
 use Rattle.line_config.specs.declared.settings.EditMode.TheVariants.{Emacs, Vi}
@@ -22,13 +21,10 @@ use Rattle.line_keys.specs.Feeds.{InputItem, Key, Paste}
 use Rattle.line_keys.specs.Phrase.{phrase, phrase_from}
 use Rattle.line_keys.specs.Phrases.{Input, Script, Ends, Needs, Asks, Reads, Becomes, Part, answered, and_then, read_by, with_read, decided_by, deciding, needing, after}
 use Rattle.line_keys.specs.Redone.{anew, anew_or}
-use Rattle.line_keys.specs.Refreshing.{Shown, Ask}
-use Rattle.line_keys.specs.Refreshing.{KnownDisplay}
+use Rattle.line_keys.specs.Refreshing.{Shown}
 use Rattle.line_keys.specs.Replies.{Reply}
-use Rattle.line_keys.specs.Follows.{Goes}
-use Rattle.line_keys.specs.Settled.{own_by, own_after, Settles}
+use Rattle.line_keys.specs.Settled.{own_by, Settles}
 use Rattle.std.specs.Prelude.{ℤ}
-use Rattle.std.proofs.Common.{inl, inr}
 use Rattle.line_buffer.specs.declared.types.Movement.TheVariants.{WholeLine}
 use Rattle.line_keys.specs.declared.command.Cmd.TheVariants.{Noop}
 use Rattle.line_keys.specs.declared.command.InputMode.TheVariants.{Command}
@@ -263,23 +259,3 @@ from_settles Vi custom i w k c = either_settles (takes_commands i.input_mode) (v
 
 pub phrase_settles : (custom : Custom) (i : Input) (w : Shown) (c : Coming) → Settles true (phrase custom i w c)
 phrase_settles custom i w c = read_settles Key (phrase_from i.mode custom i w) (λ k rest. from_settles i.mode custom i w k rest) (key_at c) (behind c)
-
--- ---- what a call asks that follows such steps
-
-abbrev is_ok : {X : Type 0} → Result X ReadlineError → Bool
-is_ok (Ok x) = true
-is_ok (Err e) = false
-
-pub goes_settled : {S X : Type 0} (d : KnownDisplay S) (own : Bool) (s : Script X) (w w' : S) (i i' : Input) (c c' : Coming) (x : X) → Settles own s
-    → Goes d s w i c (Ok x) w' i' c' → (asks : List Ask) × FoldsTo d.asked w asks w' × (own_after own asks ≡ true)
-goes_settled d own (Ends (Ok y)) w w' i i' c c' x is goes = ([], sym goes.1, is)
-goes_settled d own (Ends (Err e)) w w' i i' c c' x is goes = absurd (true≢false (ap is_ok goes.0))
-goes_settled d own (Needs later) w w' i i' c c' x is (inl goes) = goes_settled d own later w w' i i' c c' x is goes
-goes_settled d own (Needs later) w w' i i' c c' x is (inr cut) = absurd (true≢false (ap is_ok cut.0))
-goes_settled d own (Asks ask later) w w' i i' c c' x is (inl (seen, made, goes)) =
-    let rest = goes_settled d (own_by own ask) (later (d.shown seen)) seen w' i i' c c' x (is (d.shown seen)) goes in
-    (ask ∷ rest.0, (seen, made, rest.1), rest.2)
-goes_settled d own (Asks ask later) w w' i i' c c' x is (inr (e, fault, why, cut, kept, stays)) = absurd (true≢false (ap is_ok cut))
-goes_settled d own (Reads item rest later) w w' i i' c c' x is (inl goes) = goes_settled d own later w w' i i' rest c' x is goes
-goes_settled d own (Reads item rest later) w w' i i' c c' x is (inr (e, fault, cut)) = absurd (true≢false (ap is_ok cut.0))
-goes_settled d own (Becomes kept later) w w' i i' c c' x is goes = goes_settled d own later w w' kept i' c c' x is goes

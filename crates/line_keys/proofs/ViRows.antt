@@ -21,11 +21,11 @@ use Rattle.line_keys.specs.Keys.{key_with, none, alt}
 use Rattle.line_keys.specs.Phrase.{phrase}
 use Rattle.line_keys.specs.Feeds.{Key, Paste}
 use Rattle.line_keys.specs.Phrases.{Input, Ends as Ends_with, Needs, Reads, Becomes}
-use Rattle.line_keys.specs.Played.{Played, played}
 use Rattle.line_keys.specs.Vi.{vi_command, vi_counted, command_table, vi_insert, insert_table}
 use Rattle.line_keys.specs.ViMotions.{motion_of}
 use Rattle.line_keys.specs.ViTables.{deed_of, insert_deed}
 use Rattle.line_keys.specs.Refreshing.{Shown, Line, Prompted, DoneInserting}
+use Rattle.line_keys.proofs.Played.{Played, played}
 
 abbrev nothing_bound : Custom
 nothing_bound = record { answers = λ e. None; begins = λ keys. false }

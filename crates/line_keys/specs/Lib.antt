@@ -18,7 +18,6 @@ pub mod Modes
 pub mod Movements
 pub mod Phrase
 pub mod Phrases
-pub mod Played
 pub mod Redone
 pub mod Refreshing
 pub mod Replies

@@ -1,5 +1,5 @@
 -- Which prompt stands after the asks of a phrase: the session's own, or that of a count.
-use Rattle.std.specs.Prelude.{⊤, Bool, true, false, IsTrue, List, [], ◌∷◌, Ok, Err}
+use Rattle.std.specs.Prelude.{⊤, Bool, true, false, IsTrue, Ok, Err}
 use Rattle.line_keys.specs.Phrases.{Script, Ends, Needs, Asks, Reads, Becomes}
 use Rattle.line_keys.specs.Refreshing.{Shown, Ask, Line, Message, Prompted, DoingInsert, DoneInserting}
 
@@ -10,10 +10,6 @@ own_by own (Message text kind) = true
 own_by own (Prompted prompt) = false
 own_by own DoingInsert = own
 own_by own DoneInserting = own
-
-abbrev pub own_after : Bool → List Ask → Bool
-own_after own [] = own
-own_after own (ask ∷ asks) = own_after (own_by own ask) asks
 
 -- wherever the steps lead to an answer that is no refusal, the session's own prompt stands
 abbrev pub Settles : {X : Type 0} → Bool → Script X → Type 0

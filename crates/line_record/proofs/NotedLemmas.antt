@@ -10,7 +10,7 @@ use Rattle.line_buffer.specs.declared.types.Direction.{Direction}
 use Rattle.line_record.specs.Edit.{Edit, place_of, removed_of, added_of, taken_back, exchanged_at, StandsAt, StandsIn}
 use Rattle.line_record.specs.Edit.Edit.{Inserted, Deleted, Replaced}
 use Rattle.line_record.specs.Held.{Held, step_of, stepped, stepped_on, stepped_if, recorded_in, change_of, joined_to, is_one_alphanumeric}
-use Rattle.line_record.specs.Items.{Item, Items, done_held, DoneStand, ItemsStand, held_on, ahead_on, noted, noted_on, noted_if, told_of, record_after, ahead_after, Recorded, RecordedIn}
+use Rattle.line_record.specs.Items.{Item, Items, done_held, DoneStand, ItemsStand, held_on, ahead_on, noted, noted_on, noted_if, told_of, ahead_after, Recorded, RecordedIn}
 use Rattle.line_record.specs.Items.Item.{Open, Lone, Group}
 use Rattle.line_record.specs.Stored.{event_of}
 use Rattle.line_record.specs.declared.report.Report.{Report}
@@ -200,6 +200,15 @@ recorded_same e s before after h i r a = record {
   held = ap (held_on s) i ∙ sym r;
   ahead = ap (ahead_on s) i ∙ sym a;
 }
+
+-- the record after an event; the marks of killing are nothing to it
+abbrev pub record_after : Event → Items → Items
+record_after StartKilling s = s
+record_after StopKilling s = s
+record_after (Delete at text direction) s = told_of (Delete at text direction) s
+record_after (InsertChar at c) s = told_of (InsertChar at c) s
+record_after (InsertStr at text) s = told_of (InsertStr at text) s
+record_after (Replace at before after) s = told_of (Replace at before after) s
 
 -- noting an event is what the record of texts asks for
 pub noted_recorded : (e : Event) (s : Items) → RecordedIn s e (record_after e s)

@@ -186,15 +186,6 @@ noted_if e (Some c) items = noted e c items
 abbrev pub told_of : Event → Items → Items
 told_of e s = record { done = noted_if e (change_of e) s.done; undone = [] }
 
--- the record after an event; the marks of killing are nothing to it
-abbrev pub record_after : Event → Items → Items
-record_after StartKilling s = s
-record_after StopKilling s = s
-record_after (Delete at text direction) s = told_of (Delete at text direction) s
-record_after (InsertChar at c) s = told_of (InsertChar at c) s
-record_after (InsertStr at text) s = told_of (InsertStr at text) s
-record_after (Replace at before after) s = told_of (Replace at before after) s
-
 -- a change that isn't empty may be refused, and the record stays as it was
 abbrev pub record_refuses : Items → Event → Items → Type 0
 record_refuses s e t = (t ≡ s) × (is_some (change_of e) ≡ true)

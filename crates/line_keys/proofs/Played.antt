@@ -1,5 +1,5 @@
--- A phrase played to its end, where nothing fails: its answer, what is kept, what was asked in
--- order, and what is left to come.
+-- A phrase played to its end, where nothing fails, for worked rows: its answer, what is kept, what was
+-- asked in order, and what is left to come.
 use Rattle.std.specs.Prelude.{List, [], ◌∷◌, Result}
 use Rattle.line_config.specs.declared.errors.ReadlineError.{ReadlineError}
 use Rattle.line_keys.specs.Coming.{Coming}
