@@ -1,8 +1,8 @@
 -- Escapes: one step of reading them back, for each character.
 use Rattle.std.proofs.Common.{◌≡◌, ◌≢◌, ℕ, suc, ◌<◌, Bool, true, false, List, [], ◌∷◌, ◌++◌, length, refl, sym, ◌∙◌, ap, get_or, arith, Option, Some, None, option_map, append_assoc}
-use Rattle.std.specs.Prelude.{encode_utf8, ◌==◌, ◌||◌, unwrap_or}
+use Rattle.std.specs.Prelude.{encode_utf8, ◌==◌, unwrap_or}
 use Rattle.std.specs.List.{list_any}
-use Rattle.std.proofs.lemmas.Bool.{ne_eqb, eqb-false}
+use Rattle.std.proofs.lemmas.Bool.{ne_eqb, eqb-false, or_parts}
 use Rattle.std.proofs.lemmas.List.{append-nil}
 use Rattle.std.proofs.lemmas.Str.{inside_one, length-encode, len_utf8_bounds}
 use lib.Utf8.{encode}
@@ -76,14 +76,10 @@ pub ruleset escape_steps = (plain_char, backslash_taken, newline_read, backslash
 
 -- ---- a row without a backslash
 
-neither : (a b : Bool) → (a || b) ≡ false → (a ≡ false) × (b ≡ false)
-neither true b h = absurd (cc)
-neither false b h = (refl, h)
-
 plain_row : (row : List ℕ) → list_any (λ b. b == 92) row ≡ false → unescaped_row row ≡ Some row
 plain_row [] h = refl
 plain_row (b ∷ bs) h =
-    let parts = neither (b == 92) (list_any (λ b. b == 92) bs) h in
+    let parts = or_parts (b == 92) (list_any (λ b. b == 92) bs) h in
     plain_byte b bs (eqb-false b 92 parts.0) ∙ ap (λ o. option_map (λ text. b ∷ text) o) (plain_row bs parts.1)
 
 pub no_backslash : (row : List ℕ) → list_any (λ b. b == 92) row ≡ false → entry_of true row ≡ row
