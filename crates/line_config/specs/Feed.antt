@@ -1,5 +1,5 @@
 -- What is known of a source, and what its calls make of that.
-use Rattle.std.specs.Prelude.{◌≡◌, ℕ, ◌<◌, ◌≤◌, Bool, true, false, is_err, IsErr, IsTrue, List, [], ◌++◌, length, option_to_list, Option, Some, None, Result, Ok, IfOk, IfSome, OnErr}
+use Rattle.std.specs.Prelude.{◌≡◌, ℕ, ◌+◌, ◌<◌, ◌≤◌, Bool, true, false, is_err, IsErr, IsTrue, List, [], ◌++◌, length, option_to_list, Option, Some, None, Result, Ok, IfOk, IfSome, OnErr}
 use Rattle.line_config.specs.declared.device.DeviceFailed.{DeviceFailed}
 use Rattle.line_config.specs.declared.device.Last.{Last}
 use Rattle.line_config.specs.declared.device.Last.TheVariants.{End}
@@ -48,6 +48,13 @@ pub record GivesByte (old new : Feed) (result : Result (Option ℕ) DeviceFailed
 -- to come
 abbrev pub Gives : Feed → Feed → List ℕ → Type 0
 Gives old new bytes = IsTrue new.told → IsTrue old.told × (old.coming ≡ bytes ++ new.coming)
+
+-- a source gave bytes that were there
+pub record GivesBytes (old new : Feed) (bytes : List ℕ) : Type 0 where
+  pub gives : Gives old new bytes
+  pub last : new.last ≡ old.last
+  pub failed : new.failed ≡ old.failed
+  pub falls : new.bound + length bytes ≤ old.bound
 
 -- a source reads on where nothing is left of what it read before: what it is said to give stays; and
 -- where the read gave nothing, nothing is to come, and it met what is said to stand there

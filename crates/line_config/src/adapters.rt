@@ -3,7 +3,7 @@ ghost use Rattle.std.specs.Prelude.{◌≡◌, ◌++◌, ◌-◌, ◌^◌, ◌�
 ghost use Rattle.std.specs.Io.KnownBytes.{Appends};
 ghost use Rattle.line_config.specs.Sending.{AppendsSome, Takes};
 ghost use Rattle.line_config.specs.Buffer.{bytes_in};
-ghost use Rattle.line_config.specs.Feed.{Fills, GivesByte};
+ghost use Rattle.line_config.specs.Feed.{Fills, GivesByte, GivesBytes};
 ghost use Rattle.line_config.specs.Recorded.{Notes};
 ghost use Rattle.line_config.specs.declared.device.Last.TheVariants.{End, Failed};
 
@@ -137,6 +137,8 @@ impl<R: Read, K: Foretold> Source for ReadSource<R, K> {
 
     ghost feed = { λ s. source_feed K.bytes K.last s };
 
+    ghost buffered = { unread_of };
+
     fn next_byte(&mut self) -> Result<Option<u8>, DeviceFailed>
         ensures byte { GivesByte (source_feed K.bytes K.last self.old)
             (source_feed K.bytes K.last self.new) result }
@@ -159,6 +161,19 @@ impl<R: Read, K: Foretold> Source for ReadSource<R, K> {
             }
             (None, _) => Ok(None),
         }
+    }
+
+    fn buffer(&self) -> &[u8] {
+        self.unread.as_slice()
+    }
+
+    fn consume(&mut self, amount: usize)
+        requires { amount ≤ length (unread_of self.old) }
+        ensures bytes { GivesBytes (source_feed K.bytes K.last self.old)
+            (source_feed K.bytes K.last self.new) (take amount (unread_of self.old)) }
+        ensures reader { Asks R.remaining (take amount (unread_of self.old)) self.old self.new }
+    {
+        self.unread.consume(amount);
     }
 
     fn failed(&self) -> bool {

@@ -1,5 +1,5 @@
 //! The fixed array of an adapter: what it holds stands between two places in it.
-ghost use Rattle.std.specs.Prelude.{◌≡◌, IsTrue, ◌+◌, ◌-◌, ◌≤◌, ◌<◌, [], ◌++◌, length, take, min, option_to_list, OnOk, OnErr, IsNone, ◌↔◌};
+ghost use Rattle.std.specs.Prelude.{◌≡◌, IsTrue, ◌+◌, ◌-◌, ◌≤◌, ◌<◌, [], ◌++◌, length, take, drop, min, option_to_list, OnOk, OnErr, IsNone, ◌↔◌};
 ghost use Rattle.std.specs.Io.KnownBytes.{Consumes, IsAtEnd};
 ghost use Rattle.line_config.specs.Recorded.{Notes, took};
 
@@ -61,6 +61,14 @@ impl<const N: usize> Buffer<N> {
         let first = *self.as_slice().first()?;
         self.start += 1;
         Some(first)
+    }
+
+    /// Gives the first bytes that it holds, so many.
+    pub(crate) fn consume(&mut self, amount: usize)
+        requires { amount ≤ length (bytes_in self.old) }
+        ensures { bytes_in self.new ≡ drop amount (bytes_in self.old) }
+    {
+        self.start += amount;
     }
 
     /// Takes what one read gives.

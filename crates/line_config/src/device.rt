@@ -1,6 +1,6 @@
 //! Where bytes come from and go to: the traits `Source` and `Sink`.
-ghost use Rattle.std.specs.Prelude.{◌≡◌, ◌++◌, ℕ, Bool, List, IsTrue, OnOk, IsErr, is_err};
-ghost use Rattle.line_config.specs.Feed.{Feed, GivesByte};
+ghost use Rattle.std.specs.Prelude.{◌≡◌, ◌≤◌, ◌++◌, ℕ, Bool, List, IsTrue, OnOk, IsErr, is_err, length, take};
+ghost use Rattle.line_config.specs.Feed.{Feed, GivesByte, GivesBytes};
 ghost use Rattle.line_config.specs.Sending.{AppendsSome};
 
 use thiserror::Error;
@@ -27,10 +27,23 @@ pub struct DeviceFailed;
 pub trait Source {
     ghost feed: { Self → Feed };
 
+    // The bytes that it can give at once.
+    ghost buffered: { Self → List ℕ };
+
     /// The next byte, or `None` at the end of the input. A source that has failed fails at every
     /// later call.
     fn next_byte(&mut self) -> Result<Option<u8>, DeviceFailed>
         ensures { GivesByte (feed self.old) (feed self.new) result };
+
+    /// The next bytes, as far as they are there without asking for more: none where a source gives
+    /// each byte as it is asked.
+    fn buffer(&self) -> &[u8]
+        ensures { result.now ≡ buffered self.now };
+
+    /// Takes so many of the bytes that are there.
+    fn consume(&mut self, amount: usize)
+        requires { amount ≤ length (buffered self.old) }
+        ensures { GivesBytes (feed self.old) (feed self.new) (take amount (buffered self.old)) };
 
     /// Whether the source has failed.
     fn failed(&self) -> bool

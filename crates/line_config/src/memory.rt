@@ -50,6 +50,8 @@ impl<'a> Source for SliceSource<'a> {
       failed = s.failed;
     } };
 
+    ghost buffered = { λ s. s.bytes.now };
+
     fn next_byte(&mut self) -> Result<Option<u8>, DeviceFailed> {
         if let Some((first, rest)) = self.bytes.split_first() {
             self.bytes = rest;
@@ -62,6 +64,14 @@ impl<'a> Source for SliceSource<'a> {
                 Err(DeviceFailed)
             }
         }
+    }
+
+    fn buffer(&self) -> &[u8] {
+        self.bytes
+    }
+
+    fn consume(&mut self, amount: usize) {
+        self.bytes = &self.bytes[amount..];
     }
 
     fn failed(&self) -> bool {

@@ -1,11 +1,12 @@
 -- Escapes: one step of reading them back, for each character.
 use Rattle.std.proofs.Common.{◌≡◌, ◌≢◌, ℕ, suc, ◌<◌, Bool, true, false, List, [], ◌∷◌, ◌++◌, length, refl, sym, ◌∙◌, ap, get_or, arith, Option, Some, None, option_map, append_assoc}
-use Rattle.std.specs.Prelude.{encode_utf8}
-use Rattle.std.proofs.lemmas.Bool.{ne_eqb}
+use Rattle.std.specs.Prelude.{encode_utf8, ◌==◌, unwrap_or}
+use Rattle.std.specs.List.{list_any}
+use Rattle.std.proofs.lemmas.Bool.{ne_eqb, eqb-false, or_parts}
 use Rattle.std.proofs.lemmas.List.{append-nil}
 use Rattle.std.proofs.lemmas.Str.{inside_one, length-encode, len_utf8_bounds}
 use lib.Utf8.{encode}
-use Rattle.line_help.specs.HistoryText.{unescaped_row}
+use Rattle.line_help.specs.HistoryText.{unescaped_row, entry_of}
 
 -- what is still to be read where a backslash was taken or not
 abbrev pub pending : Bool → List ℕ → List ℕ
@@ -72,3 +73,14 @@ pub begun : (out row rest : List ℕ) → out ≡ [] → rest ≡ row → unesca
 begun out row rest e f = rw (e, f) (sym (from_nothing (unescaped_row row)))
 
 pub ruleset escape_steps = (plain_char, backslash_taken, newline_read, backslash_read, wrong_char, from_nothing)
+
+-- ---- a row without a backslash
+
+plain_row : (row : List ℕ) → list_any (λ b. b == 92) row ≡ false → unescaped_row row ≡ Some row
+plain_row [] h = refl
+plain_row (b ∷ bs) h =
+    let parts = or_parts (b == 92) (list_any (λ b. b == 92) bs) h in
+    plain_byte b bs (eqb-false b 92 parts.0) ∙ ap (λ o. option_map (λ text. b ∷ text) o) (plain_row bs parts.1)
+
+pub no_backslash : (row : List ℕ) → list_any (λ b. b == 92) row ≡ false → entry_of true row ≡ row
+no_backslash row h = ap (λ o. unwrap_or o row) (plain_row row h)

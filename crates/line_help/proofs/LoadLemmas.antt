@@ -1,7 +1,7 @@
 -- Loading: one row after the other.
 use Rattle.std.proofs.Common.{◌≡◌, ℕ, ◌<◌, Bool, true, false, List, [], ◌∷◌, ◌++◌, length, refl, sym, ◌∙◌, ap, arith, append_assoc}
 use Rattle.std.specs.Prelude.{Result, if◌then◌else◌, ◌&&◌, not, IsUtf8, IfErr, Ok, Err, IsOk, bytes_eq}
-use Rattle.std.specs.Result.{is_ok, MatchResult}
+use Rattle.std.specs.Result.{is_ok, MatchResult, OnOk}
 use Rattle.std.specs.Str.{is_utf8, chars}
 use Rattle.std.proofs.lemmas.Str.{IsUtf8-from_is_utf8, is_utf8-from_IsUtf8, IsUtf8-nil}
 use Rattle.std.proofs.lemmas.Slice.Eq.{bytes_eq-Decides}
@@ -98,6 +98,10 @@ good_if_memory false e = cc
 bad_if_not : (good : Bool) → (if good then Memory else HistoryText) ≡ HistoryText → good ≡ false
 bad_if_not true e = cc
 bad_if_not false e = refl
+
+pub good_text : (row : List ℕ) (result : Result Bool ReadlineError) → is_utf8 row ≡ true → OnOk result (is_utf8 row ≡ true)
+good_text row (Ok b) utf8 = utf8
+good_text row (Err why) utf8 = tt
 
 pub good_fault : (row : List ℕ) (result : Result Bool ReadlineError) → is_utf8 row ≡ true → IfErr result (λ e. e ≡ Memory) → IfErr result (λ e. e ≡ row_fault row)
 good_fault row (Ok b) utf8 e = tt

@@ -1,21 +1,52 @@
 -- Rows of a text: a row up to its newline, the last row, a row that a failure cuts off.
-use Rattle.std.proofs.Common.{◌≡◌, ◌≢◌, ℕ, suc, ◌-◌, ◌<◌, Bool, true, false, List, [], ◌∷◌, ◌++◌, length, take, refl, sym, ap, ◌∙◌, append_assoc, get_or, arith}
-use Rattle.std.specs.Prelude.{if◌then◌else◌, ◌||◌, ◌&&◌, ◌==◌, not}
-use Rattle.std.specs.List.{list_any}
+use Rattle.std.proofs.Common.{◌≡◌, ◌≢◌, ℕ, suc, ◌+◌, ◌-◌, ◌<◌, Bool, true, false, List, [], ◌∷◌, ◌++◌, length, take, refl, sym, ap, ◌∙◌, append_assoc, get_or, Option, Some, None, arith}
+use Rattle.std.specs.Prelude.{if◌then◌else◌, ◌||◌, ◌&&◌, ◌==◌, not, unwrap_or}
+use Rattle.std.specs.List.{list_any, position_or_len}
 use Rattle.std.specs.Str.{is_utf8}
 use Rattle.std.proofs.lemmas.List.{append-nil}
-use Rattle.std.proofs.lemmas.Bool.{eq-eqb, ne_eqb}
+use Rattle.std.proofs.lemmas.List.Sums.{position_or_len_is}
+use Rattle.std.proofs.lemmas.List.Folds.{list_any-append}
+use Rattle.std.proofs.lemmas.Bool.{eq-eqb, ne_eqb, or_from, or_parts}
+use mathlib.Core.Bool.{cond}
+use Rattle.memchr.specs.Find.{IsFirstByte, is_byte}
+use Rattle.line_config.specs.Feed.{Feed}
 use Rattle.line_config.specs.declared.device.Last.{Last}
 use Rattle.line_config.specs.declared.device.Last.TheVariants.{End, Failed}
-use Rattle.line_help.specs.HistoryText.{text_rows, onto, without_return, begins_with_newline, GoodUpTo, ReadsGood}
+use Rattle.line_help.specs.HistoryText.{TakesPiece, text_rows, onto, without_return, begins_with_newline, GoodUpTo, ReadsGood}
 
 -- no newline stands among these bytes
 abbrev pub has_newline : List ℕ → Bool
 has_newline bytes = list_any (λ b. b == 10) bytes
 
-neither : (a b : Bool) → (a || b) ≡ false → (a ≡ false) × (b ≡ false)
-neither true b h = cc
-neither false b h = (refl, h)
+-- ---- what stands before the first newline
+
+is_false : (b : Bool) → ¬ (b ≡ true) → b ≡ false
+is_false true never = absurd (never refl)
+is_false false never = refl
+
+pub newline_at : (xs : List ℕ) (found : Option ℕ) → IsFirstByte (is_byte 10) xs found → unwrap_or found (length xs) ≡ position_or_len (λ b. b == 10) xs
+newline_at xs None nowhere =
+    sym (position_or_len_is (λ b. b == 10) xs (length xs) 0 (omega arith) (λ k below. is_false _ (nowhere k (omega arith) below)) (λ below. absurd (omega arith)))
+newline_at xs (Some k) first =
+    sym (position_or_len_is (λ b. b == 10) xs k 0 (omega (arith, first.0.high)) (λ j below. is_false _ (first.0.before j (omega arith) below)) (λ below. first.1))
+
+pub front_free : (p : ℕ → Bool) (xs : List ℕ) → list_any p (take (position_or_len p xs) xs) ≡ false
+front_free p [] = refl
+front_free p (x ∷ xs) = by_first (p x) refl (front_free p xs)
+  where
+    by_first : (b : Bool) → p x ≡ b → list_any p (take (position_or_len p xs) xs) ≡ false → list_any p (take (cond (not b) (1 + position_or_len p xs) 0) (x ∷ xs)) ≡ false
+    by_first true e rest = refl
+    by_first false e rest =
+        let more : 1 + position_or_len p xs ≡ suc (position_or_len p xs) = omega arith in
+        ap (λ k. list_any p (take k (x ∷ xs))) more ∙ or_from (p x) (list_any p (take (position_or_len p xs) xs)) e rest
+
+pub no_piece : (feed : Feed) (row : List ℕ) → TakesPiece feed feed row row
+no_piece feed row = record {
+  piece = [];
+  given = record { gives = λ told. (told, refl); last = refl; failed = refl; falls = omega arith };
+  row = sym (append-nil row);
+  inside = refl;
+}
 
 pub last_return : (xs : List ℕ) → 0 < length xs → get_or xs (length xs - 1) 0 ≡ 13 → without_return xs ≡ take (length xs - 1) xs
 last_return [] some e = absurd (omega arith)
@@ -67,26 +98,26 @@ cut_byte b inner false false e h = rw e refl
 
 pub cut_row : (last : Last) (xs rest : List ℕ) → has_newline xs ≡ false → text_rows last (xs ++ 10 ∷ rest) ≡ without_return xs ∷ text_rows last rest
 cut_row last [] rest none = refl
-cut_row last (b ∷ []) rest none = one_byte last b (text_rows last rest) (b == 10) (b == 13) (neither (b == 10) false none).0
+cut_row last (b ∷ []) rest none = one_byte last b (text_rows last rest) (b == 10) (b == 13) (or_parts (b == 10) false none).0
 cut_row last (b ∷ (c ∷ xs)) rest none =
-    let h = (neither (b == 10) (has_newline (c ∷ xs)) none).0 in
-    let k = (neither (b == 10) (has_newline (c ∷ xs)) none).1 in
-    let m = (neither (c == 10) (has_newline xs) k).0 in
+    let h = (or_parts (b == 10) (has_newline (c ∷ xs)) none).0 in
+    let k = (or_parts (b == 10) (has_newline (c ∷ xs)) none).1 in
+    let m = (or_parts (c == 10) (has_newline xs) k).0 in
     more_bytes last b (text_rows last (c ∷ (xs ++ 10 ∷ rest))) (without_return (c ∷ xs)) (text_rows last rest) (b == 10) (b == 13) (c == 10) (cut_row last (c ∷ xs) rest k) h m
 
 pub last_row : (b : ℕ) (xs : List ℕ) → has_newline (b ∷ xs) ≡ false → text_rows End (b ∷ xs) ≡ (b ∷ xs) ∷ []
-last_row b [] none = sole_byte b (b == 10) (b == 13) (neither (b == 10) false none).0
+last_row b [] none = sole_byte b (b == 10) (b == 13) (or_parts (b == 10) false none).0
 last_row b (c ∷ xs) none =
-    let h = (neither (b == 10) (has_newline (c ∷ xs)) none).0 in
-    let k = (neither (b == 10) (has_newline (c ∷ xs)) none).1 in
-    let m = (neither (c == 10) (has_newline xs) k).0 in
+    let h = (or_parts (b == 10) (has_newline (c ∷ xs)) none).0 in
+    let k = (or_parts (b == 10) (has_newline (c ∷ xs)) none).1 in
+    let m = (or_parts (c == 10) (has_newline xs) k).0 in
     more_bytes End b (text_rows End (c ∷ xs)) (c ∷ xs) [] (b == 10) (b == 13) (c == 10) (last_row c xs k) h m
 
 pub cut_off : (xs : List ℕ) → has_newline xs ≡ false → text_rows Failed xs ≡ []
 cut_off [] none = refl
 cut_off (b ∷ xs) none =
-    let h = (neither (b == 10) (has_newline xs) none).0 in
-    let k = (neither (b == 10) (has_newline xs) none).1 in
+    let h = (or_parts (b == 10) (has_newline xs) none).0 in
+    let k = (or_parts (b == 10) (has_newline xs) none).1 in
     cut_byte b (text_rows Failed xs) (b == 10) (b == 13 && begins_with_newline xs) (cut_off xs k) h
 
 nothing_behind : (xs ys : List ℕ) → [] ≡ xs ++ ys → ys ≡ []
@@ -104,14 +135,24 @@ row_reads xs coming none utf8 later r = record {
 one_more : (xs : List ℕ) (b : ℕ) → has_newline xs ≡ false → b ≢ 10 → has_newline (xs ++ (b ∷ [])) ≡ false
 one_more [] b none other = rw (ne_eqb b 10 other) refl
 one_more (x ∷ xs) b none other =
-    let both = neither (x == 10) (has_newline xs) none in
+    let both = or_parts (x == 10) (has_newline xs) none in
     rw both.0 (one_more xs b both.1 other)
+
+pub more_free : (xs ys : List ℕ) → has_newline xs ≡ false → has_newline ys ≡ false → has_newline (xs ++ ys) ≡ false
+more_free xs ys one two = list_any-append (λ b. b == 10) xs ys ∙ or_from (has_newline xs) (has_newline ys) one two
 
 pub part_reads : (xs coming : List ℕ) (b : ℕ) → has_newline xs ≡ false → b ≢ 10 → ReadsGood (xs ++ (b ∷ coming)) coming
 part_reads xs coming b none other = record {
   read = xs ++ (b ∷ []);
   split = sym (append_assoc xs (b ∷ []) coming);
   good = rw (cut_off (xs ++ (b ∷ [])) (one_more xs b none other)) refl;
+}
+
+pub pieces_read : (xs piece coming : List ℕ) (b : ℕ) → has_newline xs ≡ false → b ≢ 10 → has_newline piece ≡ false → ReadsGood (xs ++ (b ∷ (piece ++ coming))) coming
+pieces_read xs piece coming b none other inside = record {
+  read = xs ++ (b ∷ piece);
+  split = sym (append_assoc xs (b ∷ piece) coming);
+  good = rw (cut_off (xs ++ (b ∷ piece)) (more_free xs (b ∷ piece) none (or_from (b == 10) (has_newline piece) (ne_eqb b 10 other) inside))) refl;
 }
 
 pub none_read : (coming : List ℕ) → ReadsGood coming coming

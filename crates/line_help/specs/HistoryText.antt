@@ -1,6 +1,8 @@
 -- The text of a history: what is saved of a list of entries, and which list a text gives.
 use Rattle.std.specs.Prelude.{◌≡◌, ℕ, ◌==◌, ◌&&◌, Bool, true, false, if◌then◌else◌, List, [], ◌∷◌, ◌++◌, flat_map, bytes_eq, codes, Option, Some, None, option_map, unwrap_or, Result, Ok, Err}
+use Rattle.std.specs.List.{list_any}
 use Rattle.std.specs.Str.{is_utf8}
+use Rattle.line_config.specs.Feed.{Feed, GivesBytes}
 use Rattle.line_config.specs.declared.device.Last.{Last}
 use Rattle.line_config.specs.declared.device.Last.TheVariants.{End, Failed}
 use Rattle.line_config.specs.declared.errors.ReadlineError.{ReadlineError}
@@ -106,6 +108,13 @@ texts_of (row ∷ rows) = texts_behind (bytes_eq row header) rows (row ∷ rows)
 -- the texts that loading adds of a text that isn't refused
 abbrev pub loaded_texts : Last → List ℕ → List (List ℕ)
 loaded_texts last text = texts_of (good_rows (text_rows last text))
+
+-- bytes of a row were taken that were there, as many as stood before a newline
+pub record TakesPiece (old new : Feed) (before after : List ℕ) : Type 0 where
+  pub piece : List ℕ
+  pub given : GivesBytes old new piece
+  pub row : after ≡ before ++ piece
+  pub inside : list_any (λ b. b == 10) piece ≡ false
 
 -- whether a row isn't UTF-8
 abbrev pub has_bad_row : List (List ℕ) → Bool

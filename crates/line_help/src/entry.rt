@@ -18,7 +18,7 @@ impl Model for Entry {
 }
 
 impl Entry {
-    ghost use Rattle.std.specs.Prelude.{◌≡◌, IfOk, string_bytes};
+    ghost use Rattle.std.specs.Prelude.{◌≡◌, IfOk, MatchResult, string_bytes};
 
     pub(crate) fn new(text: String) -> Self
         ensures { result ≡ string_bytes text }
@@ -32,6 +32,23 @@ impl Entry {
         Ok(Entry {
             text: String::from_str(alloc, text)?,
         })
+    }
+
+    /// An entry of a text in the memory of this one, where that is neither too small nor more than
+    /// four times as much as the text takes; else this one comes back.
+    pub(crate) fn replaced(self, text: &str) -> Result<Self, Self>
+        ensures { MatchResult result (λ e. e ≡ text.now) (λ e. e ≡ self) }
+    {
+        let mut kept = self.text;
+        let room = kept.capacity();
+        if room < text.len() || text.len() < room / 4 {
+            return Err(Entry { text: kept });
+        }
+        kept.clear();
+        match kept.push_str(text) {
+            Ok(()) => Ok(Entry { text: kept }),
+            Err(_) => Err(Entry { text: kept }),
+        }
     }
 
     pub(crate) fn text(&self) -> &String

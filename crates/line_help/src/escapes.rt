@@ -1,5 +1,6 @@
 //! Escapes in a saved history: a newline stands as `\n`, a backslash as two.
-ghost use Rattle.std.specs.Prelude.{◌≡◌, [], IfOk, IfErr, option_map, string_bytes};
+ghost use Rattle.std.specs.Prelude.{◌≡◌, ◌==◌, [], IfOk, IfErr, option_map, unwrap_or, string_bytes};
+ghost use Rattle.std.specs.List.{list_any};
 ghost use Rattle.line_config.specs.Sending.{Sends};
 ghost use Rattle.line_config.specs.declared.errors.ReadlineError.TheVariants.{HistoryText};
 ghost use Rattle.line_help.specs.HistoryText.{escaped_byte, row_of, unescaped_row, entry_of};
@@ -77,14 +78,27 @@ pub(crate) fn unescaped(alloc: Global, row: &str) -> Result<Option<String>, Allo
     Ok(Some(text))
 }
 
-/// The entry that a row gives: the row as it stands where it has no escapes, or a wrong one.
-pub(crate) fn entry_of(alloc: Global, row: &str, escapes: bool) -> Result<String, AllocError>
-    ensures { IfOk result (λ entry. string_bytes entry ≡ entry_of escapes row.now) }
+/// Whether a backslash stands in a row.
+fn has_backslash(row: &str) -> bool
+    ensures { result ≡ list_any (λ b. b == 92) row.now }
 {
-    if escapes {
-        if let Some(text) = unescaped(alloc, row)? {
-            return Ok(text);
-        }
+    row.as_bytes().contains(&b'\\')
+}
+
+/// The entry of a row, where it isn't the row as it stands: a row stands for itself where it has no
+/// escapes, or a wrong one.
+#[tactic(auto, using(crate::proofs::EscapeLemmas::no_backslash))]
+pub(crate) fn unescaped_entry(
+    alloc: Global,
+    row: &str,
+    escapes: bool,
+) -> Result<Option<String>, AllocError>
+    ensures { IfOk result (λ text. unwrap_or (option_map string_bytes text) row.now
+        ≡ entry_of escapes row.now) }
+{
+    if escapes && has_backslash(row) {
+        unescaped(alloc, row)
+    } else {
+        Ok(None)
     }
-    String::from_str(alloc, row)
 }

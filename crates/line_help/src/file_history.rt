@@ -1,6 +1,6 @@
 //! A history that is loaded and saved.
 
-use crate::escapes::{entry_of, pass_on, put, write_row};
+use crate::escapes::{pass_on, put, unescaped_entry, write_row};
 use crate::history::History;
 use crate::history_iter::HistoryIter;
 use crate::memory_history::MemHistory;
@@ -274,9 +274,10 @@ impl FileHistory {
             return Ok(true);
         }
         let text = str::from_utf8(row).map_err(|_| ReadlineError::HistoryText)?;
-        let entry = entry_of(alloc, text, escapes)?;
-        let added = self.add_owned(alloc, entry)?;
-        Ok(added)
+        match unescaped_entry(alloc, text, escapes)? {
+            Some(entry) => self.add_owned(alloc, entry),
+            None => self.add(alloc, text),
+        }
     }
 
     // Takes the first row: the header, or a row without escapes. Answers whether it is the header.

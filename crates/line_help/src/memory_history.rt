@@ -37,7 +37,7 @@ impl Model for MemHistory {
 }
 
 impl MemHistory {
-    ghost use Rattle.std.specs.Prelude.{◌≡◌, ◌<◌, IfErr, OnOk, OnErr};
+    ghost use Rattle.std.specs.Prelude.{◌≡◌, ◌<◌, [], ◌∷◌, ◌++◌, drop, IsTrue, IsFalse, IfErr, OnOk, OnErr};
     ghost use Rattle.line_config.specs.Config.{default_config};
     ghost use Rattle.line_config.specs.declared.errors.ReadlineError.TheVariants.{Memory};
     ghost use Rattle.line_help.specs.History.{settings_of, nothing_kept, entries_with, newest, newest_is, ignored};
@@ -90,6 +90,42 @@ impl MemHistory {
             || line.is_empty()
             || (self.ignore_space && begins_with_space(line))
             || (self.ignore_dups && self.newest_is(line))
+    }
+
+    // Puts a text after the entries, in the memory of the oldest one, which goes. Answers whether it
+    // fits there; where it doesn't all stays.
+    fn replace_oldest(&mut self, text: &str) -> bool
+        ensures replaced { IsTrue result
+            → self.new.entries ≡ drop 1 (self.old.entries ++ text.now ∷ []) }
+        ensures settings { self.new.settings ≡ self.old.settings }
+        ensures kept { IsFalse result → self.new ≡ self.old }
+    {
+        let Some(oldest) = self.entries.pop_front() else {
+            return false;
+        };
+        match oldest.replaced(text) {
+            Ok(entry) => {
+                self.entries.push_back_reserved(entry);
+                true
+            }
+            Err(oldest) => {
+                self.entries.push_front_reserved(oldest);
+                false
+            }
+        }
+    }
+
+    // Puts a copy of a text after the entries. The oldest one goes where there are too many.
+    fn insert_copy(&mut self, alloc: Global, text: &str) -> Result<(), ReadlineError>
+        requires { 0 < self.old.settings.max_len }
+        ensures entries { OnOk result (self.new ≡ entries_with self.old text.now) }
+        ensures kept { OnErr result (self.new ≡ self.old) }
+        ensures fault { IfErr result (λ e. e ≡ Memory) }
+    {
+        if self.entries.len() == self.max_len && self.replace_oldest(text) {
+            return Ok(());
+        }
+        self.insert(Entry::copied(alloc, text)?)
     }
 
     // Puts an entry after the others. The oldest one goes where there are too many.
@@ -185,7 +221,7 @@ impl History for MemHistory {
         if self.ignores(line) {
             return Ok(false);
         }
-        self.insert(Entry::copied(alloc, line)?)?;
+        self.insert_copy(alloc, line)?;
         Ok(true)
     }
 

@@ -1,11 +1,14 @@
 //! Rows of a text that comes from a source.
-ghost use Rattle.std.specs.Prelude.{◌≡◌, ◌<◌, ◌≤◌, ◌⊎◌, is_err, List, [], ◌∷◌, true, false, if◌then◌else◌, IsTrue, IfOk, IfErr, IfSome, Ok, Err, None, option_to_list, ◌++◌};
+ghost use Rattle.std.specs.Prelude.{◌≡◌, ◌<◌, ◌≤◌, ◌⊎◌, ◌==◌, is_err, List, [], ◌∷◌, true, false, if◌then◌else◌, IsTrue, IfOk, IfErr, IfSome, Ok, Err, None, option_to_list, ◌++◌};
 ghost use Rattle.std.specs.Str.{is_utf8};
+ghost use Rattle.std.specs.List.{position_or_len};
 ghost use Rattle.line_config.specs.declared.device.Last.TheVariants.{End, Failed};
 ghost use Rattle.line_config.specs.declared.errors.ReadlineError.TheVariants.{Memory, Reader};
-ghost use Rattle.line_help.specs.HistoryText.{text_rows, says_reader, without_return, GoodUpTo, ReadsGood};
+ghost use Rattle.line_help.specs.HistoryText.{TakesPiece, text_rows, says_reader, without_return, GoodUpTo, ReadsGood};
 
 use line_config::{ReadlineError, Source};
+use memchr::memchr;
+use std::alloc::AllocError;
 
 /// Takes the carriage return at the end off, if there is one.
 #[tactic(auto, using(crate::proofs::RowLemmas::endings))]
@@ -35,6 +38,26 @@ fn next_byte<S: Source>(source: &mut S) -> Result<Option<u8>, ReadlineError>
     ensures keeps { (S.feed source.new).bound ≤ (S.feed source.old).bound }
 {
     source.next_byte().map_err(|_| ReadlineError::Reader)
+}
+
+/// How many bytes stand before the first newline.
+#[tactic(auto, using(crate::proofs::RowLemmas::newline_at))]
+fn row_len(bytes: &[u8]) -> usize
+    ensures { result ≡ position_or_len (λ b. b == 10) bytes.now }
+{
+    memchr(b'\n', bytes).unwrap_or(bytes.len())
+}
+
+/// Takes what the source has of a row without being asked for more. Where that is refused for want
+/// of memory it takes nothing.
+fn take_piece<S: Source>(source: &mut S, row: &mut Vec<u8>) -> Result<(), AllocError>
+    ensures { TakesPiece (S.feed source.old) (S.feed source.new) row.old.items row.new.items }
+{
+    let bytes = source.buffer();
+    let count = row_len(bytes);
+    row.extend_from_slice(&bytes[..count])?;
+    source.consume(count);
+    Ok(())
 }
 
 /// Reads the next row, which a newline or the end of the text ends, and answers whether there is
@@ -69,6 +92,7 @@ pub(crate) fn read_row<S: Source>(source: &mut S, row: &mut Vec<u8>) -> Result<b
             return Ok(true);
         }
         row.push(byte)?;
+        take_piece(source, row)?;
     }
     Ok(!row.is_empty())
 }

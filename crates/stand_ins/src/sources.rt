@@ -1,6 +1,6 @@
 //! A source of the tests, which fails as they ask.
 
-ghost use Rattle.std.specs.Prelude.{◌≡◌, nat_lt, if◌then◌else◌, false, length, take, true, IsTrue};
+ghost use Rattle.std.specs.Prelude.{◌≡◌, nat_lt, if◌then◌else◌, false, length, take, true, IsTrue, []};
 ghost use Rattle.line_config.specs.declared.device.Last.TheVariants.{End, Failed};
 
 use line_config::{DeviceFailed, Source};
@@ -48,6 +48,8 @@ impl Source for Faltering<'_> {
       failed = s.failed;
     } };
 
+    ghost buffered = { λ s. [] };
+
     fn next_byte(&mut self) -> Result<Option<u8>, DeviceFailed> {
         if self.failed || self.calls_left == 0 {
             self.asked_again = self.failed;
@@ -61,6 +63,12 @@ impl Source for Faltering<'_> {
         self.bytes = rest;
         Ok(Some(*first))
     }
+
+    fn buffer(&self) -> &[u8] {
+        &[]
+    }
+
+    fn consume(&mut self, _amount: usize) {}
 
     fn failed(&self) -> bool {
         self.failed

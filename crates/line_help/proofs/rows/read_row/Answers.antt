@@ -1,6 +1,6 @@
 use Rattle.std.proofs.Common.{◌≡◌, ◌∙◌, sym, ap, Ok, Err, length, vec_len, rules}
 use Rattle.std.proofs.lemmas.List.{append-nil}
-use Rattle.line_help.proofs.RowLemmas.{at_end, cut_off, row_reads, part_reads, last_reads}
+use Rattle.line_help.proofs.RowLemmas.{at_end, cut_off, row_reads, part_reads, pieces_read, last_reads}
 use Rattle.line_help.proofs.rows.read_row.Goals as goal
 
 pub returns-in_err-byte-clause-cut : goal.returns-in_err-byte-clause-cut
@@ -35,3 +35,11 @@ returns-clause-good g c told whole utf8 later r =
     let none = c.in_ok-byte.ensures.end told (ap (λ x. Ok x) c.in_default.is) in
     let after = sym (rw c.in_default.is at c.in_ok-byte.ensures.byte told) ∙ none.0 in
     rw (c.loop-byte.invariant.split (c.in_ok-byte.ensures.told told), none.0, append-nil) (last_reads c.loop-byte.row.items c.loop-byte.invariant.inside later (rw after at r))
+
+pub returns-in_err-take_piece-clause-memory : goal.returns-in_err-take_piece-clause-memory
+returns-in_err-take_piece-clause-memory g c told h =
+    let piece = c.take_piece.ensures in
+    let given = piece.given.gives told in
+    let rest = rw c.in-Some.is at c.in_ok-byte.ensures.byte given.0 in
+    rw (c.loop-byte.invariant.split (c.in_ok-byte.ensures.told given.0), rest, given.1)
+    (pieces_read c.loop-byte.row.items piece.piece (g.S.Source.feed c.take_piece.new.source).coming c.in-Some.byte c.loop-byte.invariant.inside c.if-byte-eq10.false piece.inside)

@@ -1,16 +1,12 @@
 use Rattle.std.specs.Result.{is_ok}
 use Rattle.std.proofs.Common.{◌≡◌, ◌∙◌, sym, ap, length, rules}
-use Rattle.line_help.proofs.LoadLemmas.{empty_is_utf8, read_utf8, unread_utf8, good_fault, bad_fault}
+use Rattle.line_help.proofs.LoadLemmas.{empty_is_utf8, read_utf8, unread_utf8, good_text, good_fault, bad_fault}
 use Rattle.line_help.proofs.file_history.FileHistory.add_row.Goals as goal
 
 pub returns-then-is_empty-clause-text : goal.returns-then-is_empty-clause-text
 returns-then-is_empty-clause-text c =
     let none : length c.args.row.now ≡ 0 = search rules in
     empty_is_utf8 c.args.row.now none
-
-pub returns-clause-text : goal.returns-clause-text
-returns-clause-text c =
-    read_utf8 _ _ c.args.row.now c.from_utf8.result c.from_utf8.ensures.cases (sym c.map_err.ensures.variant ∙ ap is_ok c.in_ok-text.was) (λ text p. p.1)
 
 pub returns-in_err-text-clause-fault : goal.returns-in_err-text-clause-fault
 returns-in_err-text-clause-fault c =
@@ -24,7 +20,22 @@ returns-in_err-entry-clause-fault c =
     let utf8 = read_utf8 _ _ c.args.row.now c.from_utf8.result c.from_utf8.ensures.cases (sym c.map_err.ensures.variant ∙ ap is_ok c.in_ok-text.was) (λ text p. p.1) in
     good_fault c.args.row.now c.from_residual-in_err-entry.result utf8 (search rules)
 
-pub returns-in_err-added-clause-fault : goal.returns-in_err-added-clause-fault
-returns-in_err-added-clause-fault c =
+pub returns-in-Some-clause-text : goal.returns-in-Some-clause-text
+returns-in-Some-clause-text c =
     let utf8 = read_utf8 _ _ c.args.row.now c.from_utf8.result c.from_utf8.ensures.cases (sym c.map_err.ensures.variant ∙ ap is_ok c.in_ok-text.was) (λ text p. p.1) in
-    good_fault c.args.row.now c.from_residual-in_err-added.result utf8 (search rules)
+    good_text c.args.row.now c.add_owned.result utf8
+
+pub returns-in-Some-clause-fault : goal.returns-in-Some-clause-fault
+returns-in-Some-clause-fault c =
+    let utf8 = read_utf8 _ _ c.args.row.now c.from_utf8.result c.from_utf8.ensures.cases (sym c.map_err.ensures.variant ∙ ap is_ok c.in_ok-text.was) (λ text p. p.1) in
+    good_fault c.args.row.now c.add_owned.result utf8 c.add_owned.ensures.fault
+
+pub returns-in-None-clause-text : goal.returns-in-None-clause-text
+returns-in-None-clause-text c =
+    let utf8 = read_utf8 _ _ c.args.row.now c.from_utf8.result c.from_utf8.ensures.cases (sym c.map_err.ensures.variant ∙ ap is_ok c.in_ok-text.was) (λ text p. p.1) in
+    good_text c.args.row.now c.add.result utf8
+
+pub returns-in-None-clause-fault : goal.returns-in-None-clause-fault
+returns-in-None-clause-fault c =
+    let utf8 = read_utf8 _ _ c.args.row.now c.from_utf8.result c.from_utf8.ensures.cases (sym c.map_err.ensures.variant ∙ ap is_ok c.in_ok-text.was) (λ text p. p.1) in
+    good_fault c.args.row.now c.add.result utf8 c.add.ensures.fault
