@@ -50,6 +50,13 @@ impl<H: Drop> EventMap<H> {
         })
     }
 
+    /// Whether nothing is bound.
+    pub(crate) fn is_empty(&self) -> bool
+        ensures { IsTrue result ↔ (self.now ≡ []) }
+    {
+        self.entries.is_empty()
+    }
+
     /// Binds an event in its normal form, and gives back what it was bound to. Where that is
     /// refused for want of memory, all stays as it is.
     pub fn bind_sequence(&mut self, event: Event, handler: H) -> Result<Option<H>, ReadlineError>

@@ -19,6 +19,7 @@ pub mod Onward
 pub mod Outcomes
 pub mod Owed
 pub mod Pasting
+pub mod PrintableRuns
 pub mod ReadChars
 pub mod ReaderRules
 mod Rows

@@ -29,7 +29,7 @@ pub record Leads {R : Type 0} (d d' : List ℕ → Last → R) (before after : L
 pub leads_is : {R : Type 0} (d d' : List ℕ → Last → R) (a b : List ℕ) (last : Last) → Leads d d' a b → d a last ≡ d' b last
 leads_is d d' a b last l = ap (λ bytes. d bytes last) l.split ∙ l.same b last
 
-leads_then : {R : Type 0} (d d' d'' : List ℕ → Last → R) (a b c : List ℕ) → Leads d d' a b → Leads d' d'' b c → Leads d d'' a c
+pub leads_then : {R : Type 0} (d d' d'' : List ℕ → Last → R) (a b c : List ℕ) → Leads d d' a b → Leads d' d'' b c → Leads d d'' a c
 leads_then d d' d'' a b c one two =
     record {
       read = one.read ++ two.read;

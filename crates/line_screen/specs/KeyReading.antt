@@ -1,12 +1,14 @@
 -- What a call that reads a part of a key or a pasted text makes of the reader, whether it is
 -- answered or refused.
-use Rattle.std.specs.Prelude.{◌≡◌, ℕ, ◌≤◌, false, IsTrue, List, [], ◌⊎◌, None, Result, Ok, Err, IfOk, IfErr, OnErr}
+use Rattle.std.specs.Prelude.{◌≡◌, ℕ, ◌≤◌, Bool, true, false, IsTrue, List, [], ◌++◌, ◌⊎◌, None, Result, Ok, Err, IfOk, IfErr, OnErr}
+use Rattle.std.specs.List.{list_all}
+use Rattle.line_buffer.specs.Short.{is_printable}
 use Rattle.line_config.specs.declared.device.Last.{Last}
 use Rattle.line_config.specs.declared.device.Last.TheVariants.{End}
 use Rattle.line_config.specs.declared.errors.ReadlineError.{ReadlineError}
 use Rattle.line_config.specs.declared.errors.ReadlineError.TheVariants.{Eof, Reader}
 use Rattle.line_config.specs.declared.settings.EditMode.{EditMode}
-use Rattle.line_config.specs.Feed.{Feed}
+use Rattle.line_config.specs.Feed.{Feed, GivesBytes}
 use Rattle.line_config.specs.Refusals.{Met}
 use Rattle.line_keys.specs.declared.key.KeyEvent.{KeyEvent}
 use Rattle.line_keys.specs.Faults.{IsReaderRefusal}
@@ -81,3 +83,17 @@ abbrev pub ReadsText : {S : Type 0} → (S → Feed) → (List ℕ → Last → 
     → Result (List ℕ) ReadlineError → Type 0
 ReadsText feed definition old new result = ReadsPart feed Paste text_answer IsReaderRefusal
     definition old new result
+
+-- printable characters of ASCII that were there are taken, and stand at a text's end; after a CR
+-- none is
+pub record TakesRun {S : Type 0} (feed : S → Feed) (after_return : Bool) (old new : KeyReader S)
+    (before after : List ℕ) : Type 0 where
+  pub run : List ℕ
+  pub given : GivesBytes (feed_in feed old) (feed_in feed new) run
+  pub text : after ≡ before ++ run
+  pub printable : list_all is_printable run ≡ true
+  pub none : after_return ≡ true → run ≡ []
+  pub kept : kept_of new ≡ kept_of old
+  pub mode : new.mode ≡ old.mode
+  pub past : new.refused ≡ old.refused
+  pub owed : new.owed ≡ old.owed

@@ -44,6 +44,9 @@ impl<D: Decides> InputState<'_, D> {
         ensures { let s = situation_in self.now D.decides (W.display.shown wrt.now) n positive in
             Decision (custom_answer s key) result }
     {
+        if self.custom_bindings.is_empty() {
+            return Ok(None);
+        }
         match self.custom_bindings.entry_of(key) {
             Some((event, handler)) => self.decided(alloc, wrt, handler, event, n, positive),
             None => self.any_binding(alloc, wrt, key, n, positive),

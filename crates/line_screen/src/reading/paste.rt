@@ -1,6 +1,8 @@
 //! The text between the marks of a bracketed paste.
 
-ghost use Rattle.std.specs.Prelude.{◌≡◌, ◌<◌, OnOk, string_bytes, slice_index, take};
+ghost use Rattle.std.specs.Prelude.{◌≡◌, ◌<◌, ◌≤◌, OnOk, true, length, string_bytes, slice_index, take};
+ghost use Rattle.std.specs.List.{list_all, prefix_len};
+ghost use Rattle.line_buffer.specs.Short.{is_printable};
 ghost use Rattle.line_screen.specs.KeyGrammar.{marker, put};
 
 use std::alloc::AllocError;
@@ -32,6 +34,29 @@ pub(crate) fn marker_front(count: u8) -> &'static str
         3 => "\x1b[2",
         4 => "\x1b[20",
         _ => "\x1b[201",
+    }
+}
+
+/// How many bytes at the front are printable characters of ASCII.
+fn printable_count(bytes: &[u8]) -> usize
+    ensures value { result ≡ prefix_len is_printable bytes.now }
+    ensures bound { result ≤ length bytes.now }
+{
+    bytes
+        .iter()
+        .take_while(|byte| 0x20 <= **byte && **byte < 0x7F)
+        .count()
+}
+
+/// The printable characters of ASCII at the front of some bytes.
+pub(crate) fn printable_front(bytes: &[u8]) -> &str
+    ensures front { result.now ≡ take (length result.now) bytes.now }
+    ensures printable { list_all is_printable result.now ≡ true }
+{
+    let count = printable_count(bytes);
+    match str::from_utf8(&bytes[..count]) {
+        Ok(run) => run,
+        Err(_) => "",
     }
 }
 

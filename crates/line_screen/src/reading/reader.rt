@@ -4,11 +4,11 @@ ghost use Rattle.std.specs.Prelude.{◌≡◌, ◌<◌, None, IsTrue, OnOk, fals
 ghost use Rattle.line_screen.specs.Lasting.{lasts};
 
 use crate::reading::lookahead::Lookahead;
-use crate::reading::paste::{marker_char, marker_front, put_char};
+use crate::reading::paste::{marker_char, marker_front, printable_front, put_char};
 use crate::reading::sequence::{Parameters, announces_paste, ended_by, plain_key, third_code};
 use line_config::{EditMode, ReadlineError, Source};
 use line_keys::{KeyEvent, Modifiers, Text};
-use std::alloc::Global;
+use std::alloc::{AllocError, Global};
 
 /// Reads keys and pasted texts of a source of bytes.
 #[derive(Drop)]
@@ -59,8 +59,8 @@ impl<S> KeyReader<S> {
 }
 
 impl<S: Source> KeyReader<S> {
-    ghost use Rattle.std.specs.Prelude.{codes};
-    ghost use Rattle.line_screen.specs.KeyReading.{ReadsKey, ReadsSequence, ReadsText, KeepsFor, IsEsc, key_from, escape_from, text_from};
+    ghost use Rattle.std.specs.Prelude.{codes, string_bytes};
+    ghost use Rattle.line_screen.specs.KeyReading.{ReadsKey, ReadsSequence, ReadsText, TakesRun, KeepsFor, IsEsc, key_from, escape_from, text_from};
     ghost use Rattle.line_screen.specs.Reader.{feed_in, kept_of};
 
     /// The key of ESC `O` and a character.
@@ -158,6 +158,22 @@ impl<S: Source> KeyReader<S> {
         Ok(KeyEvent::new(c, Modifiers::NONE))
     }
 
+    /// Takes what is there of a run of printable ASCII in a pasted text, without asking for more.
+    /// After a CR it takes none, as an LF that follows is no character of its own.
+    fn take_run(&mut self, text: &mut String, after_return: bool) -> Result<(), AllocError>
+        ensures { TakesRun S.feed after_return self.old self.new (string_bytes text.old)
+            (string_bytes text.new) }
+    {
+        if after_return || self.bytes.kept.is_some() {
+            return Ok(());
+        }
+        let run = printable_front(self.bytes.source.buffer());
+        text.push_str(run)?;
+        let count = run.len();
+        self.bytes.source.consume(count);
+        Ok(())
+    }
+
     /// The pasted text, up to the end mark.
     pub(crate) fn pasted_text(&mut self, alloc: Global) -> Result<Text, ReadlineError>
         requires { self.old.owed ≡ false }
@@ -186,6 +202,7 @@ impl<S: Source> KeyReader<S> {
                 put_char(&mut text, after_return && matched == 0, c)?;
                 after_return = c == '\r';
                 matched = 0;
+                self.take_run(&mut text, after_return)?;
             }
         }
     }

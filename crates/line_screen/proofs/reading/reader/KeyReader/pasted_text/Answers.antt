@@ -7,6 +7,7 @@ use Rattle.line_screen.specs.KeyGrammar.{Paste, text_answer, in_paste, marker, p
 use Rattle.line_screen.specs.Input.{chars_of}
 use Rattle.line_screen.specs.KeyReading.{text_from}
 use Rattle.line_screen.proofs.Onward.{on_char, on_stops}
+use Rattle.line_screen.proofs.PrintableRuns.{on_run}
 use Rattle.line_screen.proofs.Outcomes.{key_refusal}
 use Rattle.line_screen.proofs.Steps.{paste_mark, paste_escape, paste_other}
 use Rattle.line_screen.proofs.Stopping.{paste_refused, paste_left}
@@ -59,10 +60,12 @@ loop-text-preserved g c =
     let next = string_bytes c.put_char.new.text in
     let code = c.in_ok-c.c in
     let longer : put (text ++ take l.matched marker) (l.after_return && (l.matched == 0)) code ≡ next = grind (arith, common_steps) in (
-      on_char g.S.Source.feed (text_from mode) (in_paste mode text l.after_return l.matched)
+      on_run g.S.Source.feed (text_from mode) mode next (string_bytes c.take_run.new.text) (code == 0x0D) c.args.self.now _ c.take_run.new.self
+          (on_char g.S.Source.feed (text_from mode) (in_paste mode text l.after_return l.matched)
           (λ bytes last. in_paste mode next (code == 0x0D) 0 (chars_of bytes last)) code c.args.self.now l.self _
           l.invariant.0 c.in_ok-c.ensures.reads refl refl refl
           (λ bytes last. paste_other mode text l.after_return l.matched code (λ mark. omega (arith, c.marker_char.ensures)) (λ esc. omega arith) bytes last
-          ∙ ap (λ t. in_paste mode t (code == 0x0D) 0 (chars_of bytes last)) longer),
+          ∙ ap (λ t. in_paste mode t (code == 0x0D) 0 (chars_of bytes last)) longer))
+          c.take_run.ensures,
       lit< tt,
     )
