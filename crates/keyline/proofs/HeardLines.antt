@@ -22,8 +22,7 @@ use Rattle.line_editor.specs.Drawing.{refreshed}
 use Rattle.line_editor.specs.Lines.{Enacted, Turned, Told, enacted, behind_ask, begins_group, with_group_begun, line_phrase, phrase_enacted, reset_by, turned_by, turn_of, opened_by, after_turn, line_from, line_of}
 use Rattle.line_editor.specs.Redraws.{Redraw, asked, fresh}
 use Rattle.line_editor.specs.Sights.{sight_of, info_after}
-use Rattle.line_editor.specs.Starts.{first_value}
-use Rattle.line_editor.specs.Values.{Value, Setting, Effect}
+use Rattle.line_editor.specs.Values.{Value, Setting, Effect, first_value}
 use Rattle.line_editor.specs.declared.commands.Status.{Status}
 use Rattle.line_editor.specs.declared.commands.Status.TheVariants.{Proceed, Submit}
 use Rattle.line_editor.proofs.DoesLemmas.{asked_both}

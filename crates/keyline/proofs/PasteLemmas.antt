@@ -44,8 +44,7 @@ use Rattle.line_editor.specs.Drawing.{refreshed}
 use Rattle.line_editor.specs.Lines.{Enacted, Told, Turned, enacted, with_group_begun, phrase_enacted, reset_by, turned_by, turn_of, after_turn, line_from, line_of}
 use Rattle.line_editor.specs.Moving.{cursor_moved_if}
 use Rattle.line_editor.specs.Sights.{info_after}
-use Rattle.line_editor.specs.Starts.{empty_at, first_value}
-use Rattle.line_editor.specs.Values.{Setting, Value, unchanged, rewritten, at_line}
+use Rattle.line_editor.specs.Values.{Setting, Value, empty_at, first_value, unchanged, rewritten, at_line}
 use Rattle.line_editor.specs.Yanking.{behind_yank, yanked_by, yank_text}
 use Rattle.line_screen.specs.KeyGrammar.{coming_of}
 use Rattle.line_screen.specs.Pasting.{paste_start, with_newlines}

@@ -18,7 +18,7 @@ use Rattle.line_screen.specs.Unread.{kept_count}
 use Rattle.keyline.specs.Desks.{feed_of, session_state_of, work_of}
 use Rattle.keyline.specs.Known.{Known}
 use Rattle.keyline.specs.Edits.{EditHelper, EditsByOptions, config_of, edit_helping, given_to, helper_of, nothing_bound}
-use Rattle.keyline.specs.Played.{PlaysBytes, bytes_work, program_given, program_start, seen_of}
+use Rattle.keyline.specs.Played.{PlaysBytes, bytes_work, program_given, program_start}
 use Rattle.keyline.specs.Playing.{Reads, SessionReason, Work}
 use Rattle.keyline.specs.Plays.{loaded_from, loads}
 use Rattle.keyline.specs.SessionShows.{Displays}
@@ -101,7 +101,7 @@ module _ {F S D L T : Type 0} (text_of : F → Feed) (k : Known S D L) (held : T
       → k.shown display ≡ [] → k.written_in lines ≡ [] → held text ≡ []
       → k.shown display' ≡ k.shown ended.display → (IsTrue (k.show_failed ended.display) → IsTrue (k.show_failed display'))
       → k.written_in lines' ≡ k.written_in ended.lines → (IsTrue (k.write_failed ended.lines) → IsTrue (k.write_failed lines'))
-      → IsTrue (k.feed ended.source).told → PlaysBytes options words old bytes last (seen_of k held failed (record ended { display = display'; lines = lines' }))
+      → IsTrue (k.feed ended.source).told → PlaysBytes k held failed options words old bytes last (record ended { display = display'; lines = lines' })
   played options words old bytes last history source display lines text ended display' lines' edits always text_is coming_is last_is bound_is none bare blank drawn_is shows wrote_is writes agrees =
       let desk = edits.desk in
       let opens = edits.opens in

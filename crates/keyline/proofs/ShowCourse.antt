@@ -12,8 +12,8 @@ use Rattle.line_screen.specs.Drawing.{row_break, break_if, next_row}
 use Rattle.line_screen.specs.Laws.{widths}
 use Rattle.line_screen.specs.Showing.{finish_of, cursor_of, above}
 use Rattle.line_screen.proofs.LawLemmas.{start_is_empty, shown_is_meant, line_ends_anywhere, ended_line_stays}
-use Rattle.keyline.specs.Shows.{picture, place_in, LowAll, LowTurns, top_by, top_after, next_top, above_by, above_after, drawn_by, bytes_for, HasMeaning, MomentShown, EachShown, DrawingsShow}
-use Rattle.keyline.proofs.ShowSteps.{view_in, Holds, fresh_holds, step}
+use Rattle.keyline.specs.Shows.{picture, LowAll, LowTurns, top_by, top_after, next_top, above_by, above_after, drawn_by, bytes_for, HasMeaning, MomentShown, EachShown, DrawingsShow}
+use Rattle.keyline.proofs.ShowSteps.{place_in, view_in, Holds, fresh_holds, step}
 
 pub flat_both : {A B : Type 0} (f : A → List B) (xs ys : List A) → flat_map f (xs ++ ys) ≡ flat_map f xs ++ flat_map f ys
 flat_both f [] ys = refl

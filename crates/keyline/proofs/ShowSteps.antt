@@ -26,7 +26,11 @@ use Rattle.line_screen.proofs.LawLemmas.{calls_lead, place_is_free, measures_go_
 use Rattle.line_screen.proofs.Leading.{line_items, line_cursor, over_again}
 use Rattle.line_screen.proofs.ListLemmas.{filter_none, list_all_true}
 use Rattle.line_screen.proofs.ShortLemmas.{typing_leads, killing_leads}
-use Rattle.keyline.specs.Shows.{picture, place_in, Low, top_by, above_by}
+use Rattle.keyline.specs.Shows.{picture, Low, top_by, above_by}
+
+-- the cursor's cell, counted from the top: its place in the line, or the drawing's end
+abbrev pub place_in : Screen → Sight → Position
+place_in s x = if x.ended then finish_of s.columns (widths s) (picture x) else cursor_of s.columns (widths s) (picture x)
 
 abbrev pub view_in : Screen → ℕ → Sight → View
 view_in s top x = record { shown = picture x; top = top; place = place_in s x }

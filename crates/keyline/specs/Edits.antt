@@ -14,7 +14,6 @@ use Rattle.line_help.specs.declared.bracket_validator.MatchingBracketValidator.{
 use Rattle.line_help.specs.declared.helper_parts.HelperParts.{HelperParts}
 use Rattle.line_help.specs.declared.validate.ValidationResult.TheVariants.{Valid}
 use Rattle.line_keys.specs.Answers.{Custom}
-use Rattle.line_keys.specs.Coming.{Coming}
 use Rattle.line_editor.specs.Running.{Helping, helping_by}
 use Rattle.line_screen.specs.Calls.{screen_of}
 use Rattle.keyline.specs.Desks.{session_state_of}

@@ -20,34 +20,8 @@ use Rattle.keyline.specs.Playing.{Reads, SessionReason, Work, ending_after}
 use Rattle.keyline.specs.Plays.{loaded_from, loads}
 use Rattle.keyline.specs.SessionShows.{Displays}
 use Rattle.keyline.specs.Sessions.{Given, SessionState, given_by, at_first, coming_from, each}
-use Rattle.keyline.specs.declared.ending.Ending.{Ending}
 use Rattle.keyline.specs.declared.options.Options.{Options}
 use Rattle.keyline.specs.declared.session.Ended.{Ended}
-
--- what is seen of a session that has ended: the bytes that its display and its sink of lines took,
--- the text of its history, the ending, and which of its devices have failed
-pub record Seen : Type 0 where
-  pub drawn : List ℕ
-  pub wrote : List ℕ
-  pub text : List ℕ
-  pub ending : Ending
-  pub source_failed : Bool
-  pub display_failed : Bool
-  pub lines_failed : Bool
-  pub text_failed : Bool
-
-abbrev pub seen_of : {S D L T : Type 0} → Known S D L → (T → List ℕ) → (T → Bool) → Ended S D L T
-    → Seen
-seen_of k held failed ended = record {
-  drawn = k.shown ended.display;
-  wrote = k.written_in ended.lines;
-  text = held ended.text;
-  ending = ended.ending;
-  source_failed = (k.feed ended.source).failed;
-  display_failed = k.show_failed ended.display;
-  lines_failed = k.write_failed ended.lines;
-  text_failed = failed ended.text;
-}
 
 -- what these options and words hand in for a session
 abbrev pub program_given : Options → Option (List (List ℕ)) → Given
@@ -74,8 +48,9 @@ bytes_work drawn wrote history = record { display = drawn; lines = wrote; histor
 -- THE session of these options and words, of a history's text, and of all these bytes with this
 -- after them: what is drawn, written and saved are its bytes, its lines and its history, or a
 -- beginning of them where a fault cut it
-pub record PlaysBytes (options : Options) (words : Option (List (List ℕ))) (old bytes : List ℕ)
-    (last : Last) (seen : Seen) : Type 0 where
+pub record PlaysBytes {S D L T : Type 0} (known : Known S D L) (held : T → List ℕ)
+    (failed : T → Bool) (options : Options) (words : Option (List (List ℕ))) (old bytes : List ℕ)
+    (last : Last) (ended : Ended S D L T) : Type 0 where
   -- the history as the lines left it, what is left to come, why there was no further line, and
   -- whether the history was saved
   pub kept : Filed
@@ -86,14 +61,14 @@ pub record PlaysBytes (options : Options) (words : Option (List (List ℕ))) (ol
   pub goes : (n : ℕ) → 2 ^ 63 < n → let g = program_given options words in
       let start = program_start options old bytes last in
       Reads (λ drawn. drawn) (λ wrote. wrote) n g (each g) start (bytes_work [] [] start.history)
-      (bytes_work seen.drawn seen.wrote kept) left why
+      (bytes_work (known.shown ended.display) (known.written_in ended.lines) kept) left why
   pub shows : Displays (program_given options words) (program_start options old bytes last)
-  pub done : saved ≡ true → seen.text ≡ text_to_save kept
-  pub refused : saved ≡ false → IsTrue seen.text_failed
-      × AppendsSome [] (text_to_save kept) seen.text
-  pub ending_is : seen.ending ≡ ending_of (ending_after why saved)
-  pub reason : SessionReason (program_given options words) seen.source_failed seen.display_failed
-      seen.lines_failed why
+  pub done : saved ≡ true → held ended.text ≡ text_to_save kept
+  pub refused : saved ≡ false → IsTrue (failed ended.text)
+      × AppendsSome [] (text_to_save kept) (held ended.text)
+  pub ending_is : ended.ending ≡ ending_of (ending_after why saved)
+  pub reason : SessionReason (program_given options words) (known.feed ended.source).failed
+      (known.show_failed ended.display) (known.write_failed ended.lines) why
 
 -- THE relation of the program's session, over a reader and two writers: where what the reads gave
 -- agrees with the bytes that are said of them, the session is that of these bytes; and a writer
@@ -103,7 +78,7 @@ pub record PlaysOver {R K E W T : Type 0}
     (failed : T → Bool) (options : Options) (words : Option (List (List ℕ))) (old bytes : List ℕ)
     (last : Last) (ended : Ended (ReadSource R K) (WriteSink E) (WriteSink W) T) : Type 0 where
   pub plays : IsTrue (agrees (left_of bytes (gave ended.source)) last (met ended.source))
-      → PlaysBytes options words old bytes last (seen_of known held failed ended)
+      → PlaysBytes known held failed options words old bytes last ended
   pub drawn : known.show_failed ended.display ≡ false
       → sent_of ended.display ≡ taken ended.display
   pub written : known.write_failed ended.lines ≡ false → sent_of ended.lines ≡ taken ended.lines

@@ -2,7 +2,6 @@
 use Rattle.std.specs.Prelude.{◌≡◌, ⊤, ℕ, ◌+◌, ◌≤◌, Bool, true, false, if◌then◌else◌, List, [], ◌∷◌, ◌++◌, Some}
 use Rattle.std.specs.List.{filter, flat_map}
 use Rattle.line_buffer.specs.declared.layout.Layout.{Layout}
-use Rattle.line_buffer.specs.declared.layout.Position.{Position}
 use Rattle.line_editor.specs.Courses.{Turn, Open, Accept, Last, TurnsLead}
 use Rattle.line_editor.specs.Redraws.{Redraw, Asked, asked, fresh, info_text}
 use Rattle.line_editor.specs.Redraws.Redraw.{Cleared}
@@ -17,12 +16,6 @@ use Rattle.line_screen.specs.Showing.{Picture, Shows, finish_of, cursor_of, abov
 
 abbrev pub picture : Sight → Picture
 picture x = record { prompt = x.prompt; line = x.line; place = x.place; info = info_text x.info }
-
--- the cursor's cell, counted from the top: its place in the line, or the drawing's end
-abbrev pub place_in : Screen → Sight → Position
-place_in s x =
-    if x.ended then finish_of s.columns (widths s) (picture x)
-    else cursor_of s.columns (widths s) (picture x)
 
 -- ---- the premise: rows are counted to 65,535
 

@@ -42,6 +42,13 @@ feed_of all last given unread met count failed = record {
 abbrev pub source_feed : {R K : Type 0} → List ℕ → Last → ReadSource R K → Feed
 source_feed all last s = feed_of all last s.log.bytes (bytes_in s.unread) s.met s.count s.failed
 
+-- a source over this reader, of which nothing was read yet
+pub record IsUnread {R K : Type 0} (reader : R) (s : ReadSource R K) : Type 0 where
+  pub reader_is : reader_of s ≡ reader
+  pub unread : unread_of s ≡ []
+  pub none_given : gave s ≡ []
+  pub none_met : met s ≡ None
+
 -- the byte of a call of a source
 abbrev pub given_by : Result (Option ℕ) DeviceFailed → List ℕ
 given_by (Ok byte) = option_to_list byte
@@ -76,3 +83,9 @@ unsent_of s = bytes_in s.unsent
 -- all that it took
 abbrev pub taken : {W : Type 0} → WriteSink W → List ℕ
 taken s = sent_of s ++ unsent_of s
+
+-- a sink over this writer that took nothing yet
+pub record IsUnused {W : Type 0} (writer : W) (s : WriteSink W) : Type 0 where
+  pub writer_is : writer_of s ≡ writer
+  pub sent : sent_of s ≡ []
+  pub unsent : unsent_of s ≡ []

@@ -1,5 +1,5 @@
 -- The refusals: their texts, and which of them are faults.
-use Rattle.std.specs.Prelude.{ℕ, List, Bool, true, false, IsTrue, IsFalse, Result, Ok, Err, codes, ⊤}
+use Rattle.std.specs.Prelude.{ℕ, List, Bool, true, false, IsFalse, Result, Ok, Err, codes, ⊤}
 use Rattle.line_config.specs.declared.errors.ReadlineError.{ReadlineError}
 use Rattle.line_config.specs.declared.errors.ReadlineError.TheVariants.{Eof, Interrupted, NotUtf8, PasteOutOfPlace, Reader, Display, Lines, HistoryText, Helper, Handler, Memory}
 
@@ -26,9 +26,6 @@ is_fault NotUtf8 = false
 is_fault PasteOutOfPlace = false
 is_fault Reader = false
 is_fault why = true
-
-abbrev pub IsFault : ReadlineError → Type 0
-IsFault refusal = IsTrue (is_fault refusal)
 
 abbrev pub IsMet : ReadlineError → Type 0
 IsMet refusal = IsFalse (is_fault refusal)

@@ -1,5 +1,5 @@
 //! Devices over std's readers and writers, each with a fixed array.
-ghost use Rattle.std.specs.Prelude.{◌≡◌, ◌++◌, ◌-◌, ◌^◌, ◌≤◌, ◌<◌, [], false, length, take, is_err, is_some, IsErr, IsTrue, Ok, Some, None, IfOk, OnOk, OnErr};
+ghost use Rattle.std.specs.Prelude.{◌≡◌, ◌++◌, ◌^◌, ◌≤◌, ◌<◌, [], false, length, take, is_err, is_some, IsErr, IsTrue, Ok, Some, None, IfOk, OnOk, OnErr};
 ghost use Rattle.std.specs.Io.KnownBytes.{Appends};
 ghost use Rattle.line_config.specs.Sending.{AppendsSome, Takes};
 ghost use Rattle.line_config.specs.Buffer.{bytes_in};
@@ -44,14 +44,11 @@ pub struct ReadSource<R, K = Brand> {
 }
 
 impl<R: Read> ReadSource<R, Brand> {
-    ghost use Rattle.line_config.specs.Adapters.{reader_of, unread_of, gave, met};
+    ghost use Rattle.line_config.specs.Adapters.{IsUnread};
 
     /// A source that gives what the reader gives.
     pub fn new(reader: R) -> Self
-        ensures reader { reader_of result ≡ reader }
-        ensures unread { unread_of result ≡ [] }
-        ensures gave { gave result ≡ [] }
-        ensures met { met result ≡ None }
+        ensures reader { IsUnread reader result }
         ensures bound { (⟦<ReadSource<R, Brand> as Source>⟧.feed result).bound ≡ 2 ^ 63 }
         ensures fresh { (⟦<ReadSource<R, Brand> as Source>⟧.feed result).failed ≡ false }
     {
@@ -60,15 +57,12 @@ impl<R: Read> ReadSource<R, Brand> {
 }
 
 impl<R: Read, K: Foretold> ReadSource<R, K> {
-    ghost use Rattle.line_config.specs.Adapters.{Asks, given_by, reader_of, unread_of, gave, met, source_feed};
+    ghost use Rattle.line_config.specs.Adapters.{Asks, IsUnread, reader_of, unread_of, met, source_feed};
 
     /// A source that gives what the reader gives, of which it is said that these are the bytes of
     /// `K`.
     pub fn foretold(reader: R) -> Self
-        ensures reader { reader_of result ≡ reader }
-        ensures unread { unread_of result ≡ [] }
-        ensures gave { gave result ≡ [] }
-        ensures met { met result ≡ None }
+        ensures reader { IsUnread reader result }
         ensures bound { (⟦<ReadSource<R, K> as Source>⟧.feed result).bound ≡ 2 ^ 63 }
         ensures fresh { (⟦<ReadSource<R, K> as Source>⟧.feed result).failed ≡ false }
     {
@@ -195,13 +189,11 @@ pub struct WriteSink<W> {
 }
 
 impl<W: Write> WriteSink<W> {
-    ghost use Rattle.line_config.specs.Adapters.{recorded_of, writer_of, sent_of, unsent_of, taken};
+    ghost use Rattle.line_config.specs.Adapters.{IsUnused, recorded_of, writer_of, unsent_of, taken};
 
     /// A sink that sends to the writer.
     pub fn new(writer: W) -> Self
-        ensures writer { writer_of result ≡ writer }
-        ensures sent { sent_of result ≡ [] }
-        ensures unsent { unsent_of result ≡ [] }
+        ensures writer { IsUnused writer result }
         ensures fresh { ⟦<WriteSink<W> as Sink>⟧.has_failed result ≡ false }
     {
         WriteSink {
@@ -252,8 +244,6 @@ impl<W: Write> WriteSink<W> {
         ensures takes { taken self.new ≡ taken self.old }
         ensures sent { OnOk result (unsent_of self.new ≡ []) }
         ensures writer { Notes W.contents (recorded_of self.old) (recorded_of self.new) }
-        ensures told { OnOk result (Appends (W.contents (writer_of self.old))
-            (W.contents (writer_of self.new)) (unsent_of self.old)) }
     {
         self.unsent.send_to(&mut self.writer)?;
         flush_retrying(&mut self.writer)
@@ -284,6 +274,7 @@ impl<W: Write> Sink for WriteSink<W> {
         gathered
     }
 
+    #[tactic(auto, using(crate::proofs::NotesLemmas::on_notes))]
     fn flush(&mut self) -> Result<(), DeviceFailed>
         ensures held { taken self.new ≡ taken self.old }
         ensures failure { self.new.failed ≡ is_err result }

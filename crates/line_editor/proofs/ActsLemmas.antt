@@ -19,8 +19,7 @@ use Rattle.line_editor.specs.Drawing.{refreshed}
 use Rattle.line_editor.specs.Lines.{Enacted, enacted, line_phrase, phrase_enacted, Told, Turned, turned_by, turn_of, after_turn, line_from, line_of}
 use Rattle.line_editor.specs.Redraws.{Redraw, Asked, asked, then_asked, nothing_asked}
 use Rattle.line_editor.specs.Sights.{info_after}
-use Rattle.line_editor.specs.Starts.{first_value}
-use Rattle.line_editor.specs.Values.{Value, Setting, Effect}
+use Rattle.line_editor.specs.Values.{Value, Setting, Effect, first_value}
 use Rattle.line_editor.specs.declared.commands.Status.{Status}
 use Rattle.line_editor.specs.declared.commands.Status.TheVariants.{Proceed, Submit}
 use Rattle.line_editor.proofs.BegunLemmas.{begun_none, folds_apart}

@@ -21,11 +21,9 @@ use Rattle.line_editor.specs.Accepting.{accepts}
 use Rattle.line_editor.specs.Acts.{Act, Obeys, stage, CutIn, script_acts, command_acts, turn_acts}
 use Rattle.line_editor.specs.Asks.{shown_in}
 use Rattle.line_editor.specs.Commands.{Means, means_of, effect, ring_after_command, ring_without_text, LeavesRing, outcome}
-use Rattle.line_editor.specs.Displays.{display_of}
-use Rattle.line_editor.specs.Executing.{Done, Executes}
 use Rattle.line_editor.specs.Lines.{Enacted, enacted, line_phrase, phrase_enacted, Turned, turned_by, turn_of, reset_by}
-use Rattle.line_editor.specs.States.{value_of, setting_of, Reason, Does}
-use Rattle.line_editor.specs.Turning.{Doing, Cut, Cause, Whole, turning, turn_doing, Takes}
+use Rattle.line_editor.specs.States.{value_of, setting_of, display_of, Reason, Does}
+use Rattle.line_editor.specs.Turning.{Doing, Done, Executes, Cut, Cause, Whole, turning, turn_doing, Takes}
 use Rattle.line_editor.specs.Values.{Value, Setting, Transition, then_do}
 use Rattle.line_editor.specs.declared.commands.Status.{Status}
 use Rattle.line_editor.specs.declared.commands.Status.TheVariants.{Proceed, Submit}

@@ -17,10 +17,9 @@ use Rattle.line_record.specs.Ring.{Ring}
 use Rattle.line_editor.specs.Acts.{Act, Sees, Gets, Stage, stage, SeenInPart, CutIn, script_acts}
 use Rattle.line_editor.specs.Calls.{Ruler, MadeIn}
 use Rattle.line_editor.specs.Asks.{shown_in, ask_effect}
-use Rattle.line_editor.specs.Displays.{display_of}
 use Rattle.line_editor.specs.Lines.{Enacted, enacted}
 use Rattle.line_editor.specs.Redraws.{asked}
-use Rattle.line_editor.specs.States.{value_of, setting_of, Stays, Reason, Does}
+use Rattle.line_editor.specs.States.{value_of, setting_of, display_of, Stays, Reason, Does}
 use Rattle.line_editor.specs.Turning.{Doing, Cut}
 use Rattle.line_editor.specs.Values.{Value, Setting, Effect, Transition, unchanged, then_do}
 use Rattle.line_editor.specs.declared.renderer as renderers

@@ -20,9 +20,8 @@ use Rattle.line_editor.specs.Drawing.{asked_anew, refreshed}
 use Rattle.line_editor.specs.Leads.{Leads, CommandLeads, LinesLead}
 use Rattle.line_editor.specs.Lines.{Enacted, enacted, begins_group, with_group_begun, line_phrase, phrase_enacted, reset_by, Turned, turned_by, turn_of, Told, after_turn, line_from, line_of}
 use Rattle.line_editor.specs.Sights.{Sight, no_sight, sight_with, sight_of, ended_sight, sight_all, FitsAll, Turns, info_after}
-use Rattle.line_editor.specs.Starts.{first_value}
 use Rattle.line_editor.specs.Redraws.Redraw.{Drawn}
-use Rattle.line_editor.specs.Values.{Value, Setting, Effect, hint_reply, helped, shown_hint}
+use Rattle.line_editor.specs.Values.{Value, Setting, Effect, first_value, hint_reply, helped, shown_hint}
 use Rattle.line_editor.specs.declared.commands.Status.{Status}
 use Rattle.line_editor.specs.declared.commands.Status.TheVariants.{Proceed, Submit}
 use Rattle.line_editor.proofs.CommandsLead.{asks_lead, commands_lead, submitting_leads}

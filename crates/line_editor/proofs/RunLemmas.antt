@@ -27,10 +27,9 @@ use Rattle.line_editor.specs.Lines.{Told, line_of}
 use Rattle.line_editor.specs.Reading.{Telling, drawn_and_turned, line_doing, text_or, Read, Reading, ReadsLine}
 use Rattle.line_editor.specs.Redraws.{asked, fresh}
 use Rattle.line_editor.specs.Running.{Helping, helping_by, setting_by, line_meant, acts_meant, line_calls, outcome_of, WholeLine, CutLine, Runs}
-use Rattle.line_editor.specs.Starts.{empty_at, first_value, Starts}
-use Rattle.line_editor.specs.States.{hooks_of, value_of, setting_of, reason_of, Reason, Stays}
+use Rattle.line_editor.specs.States.{hooks_of, value_of, setting_of, reason_of, Reason, Stays, Starts}
 use Rattle.line_editor.specs.Turning.{Doing, Cut, cause_of, Cause}
-use Rattle.line_editor.specs.Values.{Setting, Hooks, IsFailing}
+use Rattle.line_editor.specs.Values.{Setting, Hooks, IsFailing, empty_at, first_value}
 use Rattle.line_editor.specs.declared.ran.Ran.{Ran}
 use Rattle.line_editor.specs.declared.renderer as renderers
 use Rattle.line_editor.specs.declared.state.State.{State}

@@ -16,8 +16,7 @@ use Rattle.line_editor.specs.Commands.{means_of, effect, ring_after_command, rin
 use Rattle.line_editor.specs.Drawing.{refreshed}
 use Rattle.line_editor.specs.Lines.{Enacted, line_phrase, phrase_enacted, reset_by, Turned, turn_of}
 use Rattle.line_editor.specs.Redraws.{Redraw, asked}
-use Rattle.line_editor.specs.Starts.{first_value}
-use Rattle.line_editor.specs.Values.{Value, Setting}
+use Rattle.line_editor.specs.Values.{Value, Setting, first_value}
 use Rattle.line_editor.specs.declared.commands.Status.{Status}
 use Rattle.line_editor.specs.declared.commands.Status.TheVariants.{Proceed, Submit}
 

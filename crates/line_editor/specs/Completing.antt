@@ -9,7 +9,7 @@ use Rattle.line_help.specs.CommonPrefix.{longest_common_prefix}
 use Rattle.line_help.specs.Completion.{Completion, nothing_offered}
 use Rattle.line_keys.specs.Replies.{Reply}
 use Rattle.line_editor.specs.Drawing.{beeped, refreshed}
-use Rattle.line_editor.specs.Values.{Value, Setting, Transition, unchanged, then_do, rewritten, helped, completion_reply, update_reply}
+use Rattle.line_editor.specs.Values.{Transition, unchanged, then_do, rewritten, helped, completion_reply, update_reply}
 
 -- ---- what is put in place of the word
 

@@ -5,9 +5,7 @@ pub mod Calls
 pub mod Commands
 pub mod Completing
 pub mod Courses
-pub mod Displays
 pub mod Drawing
-pub mod Executing
 pub mod Hinting
 pub mod Inserting
 pub mod Killing
@@ -21,7 +19,6 @@ pub mod Returns
 pub mod Rewording
 pub mod Running
 pub mod Sights
-pub mod Starts
 pub mod States
 pub mod UndoAll
 pub mod Values

@@ -18,9 +18,8 @@ use Rattle.line_editor.specs.Asks.{shown_in, ask_effect}
 use Rattle.line_editor.specs.Commands.{means_of, effect, ring_after_command, outcome}
 use Rattle.line_editor.specs.Courses.{Turn, Open, Accept, Last, breaks_after}
 use Rattle.line_editor.specs.Drawing.{refreshed}
-use Rattle.line_editor.specs.Starts.{first_value}
 use Rattle.line_editor.specs.Sights.{sight_of, ended_sight, info_after}
-use Rattle.line_editor.specs.Values.{Value, Setting, Effect, unchanged, then_do}
+use Rattle.line_editor.specs.Values.{Value, Setting, Effect, first_value, unchanged, then_do}
 use Rattle.line_editor.specs.declared.commands.Status.{Status}
 use Rattle.line_editor.specs.declared.commands.Status.TheVariants.{Proceed, Submit}
 

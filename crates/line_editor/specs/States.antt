@@ -1,9 +1,11 @@
--- What a state holds, as a value; what was handed in for it; and what an edit makes of it.
-use Rattle.std.specs.Prelude.{◌≡◌, ⊤, Bool, false, if◌then◌else◌, Option, None, Some, option_map, Result, string_bytes, IsTrue, IsFalse, IfErr, OnOk}
+-- What a state holds, as a value; what was handed in for it; what an edit makes of it; and how a
+-- line begins.
+use Rattle.std.specs.Prelude.{◌≡◌, ⊤, ℕ, Bool, false, if◌then◌else◌, List, Option, None, Some, option_map, Result, Ok, Err, string_bytes, IsTrue, IsFalse, IfErr, OnOk}
 use Rattle.std.specs.List.{FoldsTo}
 use Rattle.line_buffer.specs.Cells.{origin}
 use Rattle.line_config.specs.declared.errors.ReadlineError.{ReadlineError}
 use Rattle.line_config.specs.declared.errors.ReadlineError.TheVariants.{Display, Helper, Memory}
+use Rattle.line_keys.specs.Refreshing.{KnownDisplay}
 use Rattle.line_keys.specs.Replies.{Reply, fails}
 use Rattle.line_help.specs.declared.completion.Completer as completers
 use Rattle.line_help.specs.declared.completion.Candidate as candidates
@@ -13,9 +15,10 @@ use Rattle.line_help.specs.declared.highlight.Highlighter as highlighters
 use Rattle.line_help.specs.declared.validate.Validator as validators
 use Rattle.line_help.specs.declared.history.History as histories
 use Rattle.line_record.specs.Items.{held_on}
+use Rattle.line_editor.specs.Asks.{shown_in, ask_effect}
 use Rattle.line_editor.specs.Calls.{MadeIn, Begun, IsAsked}
-use Rattle.line_editor.specs.Redraws.{asked}
-use Rattle.line_editor.specs.Values.{Value, Setting, Hooks, hooks_by, Transition, IsFailing}
+use Rattle.line_editor.specs.Redraws.{asked, fresh}
+use Rattle.line_editor.specs.Values.{Value, Setting, Hooks, empty_at, hooks_by, Transition, IsFailing}
 use Rattle.line_editor.specs.declared.renderer.Renderer as renderers
 use Rattle.line_editor.specs.declared.state.State.{State}
 
@@ -124,3 +127,23 @@ module _ {Out H Hi K T : Type 0} {renderer : renderers.Ghosts Out}
   Shows edit s =
       IsAsked (asked (renderer.canvas.ruler s.out) s.layout
       (edit (setting_of s) (value_of s)).redraws).calls
+
+  -- as a display of the key tables: an ask is an edit; one that is refused is one that was begun
+  abbrev pub display_of : KnownDisplay
+      (State Out H Hi K T renderer completer candidate hinter hint highlighter validator history)
+  display_of = record {
+    shown = λ s. shown_in (value_of s);
+    asked = λ s ask t. Does {A = Unit {0}} (ask_effect ask) s t (Ok (tt {0}));
+    refused = λ s ask e t. Does {A = Unit {0}} (ask_effect ask) s t (Err e);
+  }
+
+  -- nothing is drawn, and nothing typed
+  pub record Starts (out : Out) (prompt : List ℕ) (helper : Option H) (entries : Hi) (place : ℕ)
+      (s : State Out H Hi K T renderer completer candidate hinter hint highlighter validator
+      history) : Type 0 where
+    pub value : value_of s ≡ empty_at place
+    pub layout : s.layout ≡ fresh (renderer.canvas.ruler out).mode
+    pub out_is : s.out ≡ out
+    pub prompt_is : s.prompt.now ≡ prompt
+    pub helper_is : s.helper ≡ helper
+    pub history_is : s.ctx.history.now ≡ entries

@@ -1,6 +1,6 @@
--- What a turn makes of a state, of the ring and of what comes: all that the definition says, or a
--- beginning of it.
-use Rattle.std.specs.Prelude.{◌≡◌, ◌⊎◌, ⊤, ℕ, ◌<◌, ◌≤◌, Bool, List, Result, Ok, Err, IsTrue, IfErr, OnOk}
+-- What a command makes of a state and of the ring, and a turn also of what comes: all that the
+-- definition says, or a beginning of it.
+use Rattle.std.specs.Prelude.{◌≡◌, ◌⊎◌, ⊤, ℕ, ◌<◌, ◌≤◌, Bool, true, false, List, Result, Ok, Err, IsTrue, IfErr, OnOk}
 use Rattle.line_config.specs.declared.errors.ReadlineError.{ReadlineError}
 use Rattle.line_config.specs.declared.errors.ReadlineError.TheVariants.{Eof, Interrupted, NotUtf8, PasteOutOfPlace, Reader, Display, Lines, HistoryText, Helper, Handler, Memory}
 use Rattle.line_help.specs.declared.completion.Completer as completers
@@ -14,14 +14,28 @@ use Rattle.line_keys.specs.Answers.{Custom, HandlerFails}
 use Rattle.line_keys.specs.Coming.{Coming}
 use Rattle.line_keys.specs.Feeds.{KeyFeed}
 use Rattle.line_keys.specs.Phrases.{Input}
+use Rattle.line_keys.specs.declared.command.Cmd.{Cmd}
+use Rattle.line_keys.specs.declared.command.Cmd.TheVariants.{AcceptLine, AcceptOrInsertLine, EndOfFile, Interrupt, Kill, Replace, ViYankTo}
 use Rattle.line_record.specs.Ring.{Ring}
 use Rattle.line_editor.specs.Acts.{Act, turn_acts, stage, CutIn}
+use Rattle.line_editor.specs.Commands.{Means, effect, ring_after_command, LeavesRing, outcome}
 use Rattle.line_editor.specs.Lines.{Turned, turn_of}
 use Rattle.line_editor.specs.States.{value_of, setting_of, Stays, Reason, Does}
 use Rattle.line_editor.specs.Values.{Value, Setting, IsFailing}
 use Rattle.line_editor.specs.declared.commands.Status.{Status}
 use Rattle.line_editor.specs.declared.renderer.Renderer as renderers
 use Rattle.line_editor.specs.declared.state.State.{State}
+
+-- a command that neither ends a line nor kills
+abbrev pub is_obeyed : Cmd → Bool
+is_obeyed EndOfFile = false
+is_obeyed AcceptLine = false
+is_obeyed (AcceptOrInsertLine middle) = false
+is_obeyed Interrupt = false
+is_obeyed (Kill movement) = false
+is_obeyed (Replace movement text) = false
+is_obeyed (ViYankTo movement) = false
+is_obeyed cmd = true
 
 -- a turn by what it begins with
 abbrev pub turning : Custom → ℕ → Input → Ring → Coming → Setting → Value → Turned
@@ -53,6 +67,23 @@ module _ {Out H Hi K T : Type 0} {renderer : renderers.Ghosts Out}
     {hinter : hinters.Ghosts H T} {hint : hints.Ghosts T}
     {highlighter : highlighters.Ghosts H} {validator : validators.Ghosts H}
     {history : histories.Ghosts Hi} where
+  -- the command was done whole, and ends as it says
+  pub record Done (m : Means) (cmd : Cmd)
+      (s t : State Out H Hi K T renderer completer candidate hinter hint highlighter validator
+      history) (ring : Ring) (result : Result Status ReadlineError) : Type 0 where
+    pub does : Does {A = Unit {0}} (effect m cmd) s t (Ok (tt {0}))
+    pub outcome_is : result ≡ outcome m cmd (setting_of s) (value_of s)
+    pub ring_is : ring ≡ ring_after_command cmd (value_of s) m.ring
+
+  -- done whole, or cut by a fault
+  abbrev pub Executes : Means → Cmd
+      → State Out H Hi K T renderer completer candidate hinter hint highlighter validator history
+      → State Out H Hi K T renderer completer candidate hinter hint highlighter validator history
+      → Ring → Result Status ReadlineError → Type 0
+  Executes m cmd s t ring result =
+      Done m cmd s t ring result ⊎ ((e : ReadlineError) × (result ≡ Err e)
+      × Does {A = Unit {0}} (effect m cmd) s t (Err e) × LeavesRing cmd (value_of s) m.ring ring e)
+
   -- a fault came, which no input gives: the first of these acts were done, and it cut them
   pub record Cut {A : Type 0} (acts : Doing)
       (s t : State Out H Hi K T renderer completer candidate hinter hint highlighter validator

@@ -1,5 +1,5 @@
 -- The editor's value, what is handed in for a line, and what an edit makes of the one by the other.
-use Rattle.std.specs.Prelude.{◌⊎◌, ⊤, ℕ, Bool, false, List, [], ◌∷◌, ◌++◌, Option, Some, None, length, ◌==◌, if◌then◌else◌, option_map, IsTrue, IsSomeAnd}
+use Rattle.std.specs.Prelude.{◌⊎◌, ⊤, ℕ, Bool, true, false, List, [], ◌∷◌, ◌++◌, Option, Some, None, length, ◌==◌, if◌then◌else◌, option_map, IsTrue, IsSomeAnd}
 use Rattle.line_buffer.specs.Line.{Line}
 use Rattle.line_buffer.specs.declared.layout.GraphemeClusterMode.{GraphemeClusterMode}
 use Rattle.line_edits.specs.Written.{Written}
@@ -26,6 +26,17 @@ pub record Value : Type 0 where
   pub hint : Option Hinted
   -- a character was highlighted when this was last asked
   pub marked : Bool
+
+-- an empty line that grows as it needs to, at a place of the history
+abbrev pub empty_at : ℕ → Value
+empty_at history = record {
+  line = record { text = []; place = 0; growth = true; limit = 4096 };
+  held = [];
+  saved = record { text = []; place = 0 };
+  history = history;
+  hint = None;
+  marked = false;
+}
 
 -- what the hooks of a helper give
 pub record Hooks : Type 0 where
@@ -55,6 +66,10 @@ pub record Setting : Type 0 where
   pub marks : Option (List ℕ → ℕ → CmdKind → Bool)
   -- the history, oldest first
   pub entries : List (List ℕ)
+
+-- a line begins at the history's end
+abbrev pub first_value : Setting → Value
+first_value s = empty_at (length s.entries)
 
 pub record Effect : Type 0 where
   pub value : Value

@@ -39,7 +39,7 @@ impl<'p, 'h, Out: Renderer, H: Helper + Drop, Hi: History> Invoke for State<'p, 
 
 #[tactic(auto, using(crate::proofs::RefusedLemmas::refused_is_drawing))]
 impl<'p, 'h, Out: Renderer, H: Helper + Drop, Hi: History> Refresher for State<'p, 'h, Out, H, Hi> {
-    ghost use Rattle.line_editor.specs.Displays.{display_of};
+    ghost use Rattle.line_editor.specs.States.{display_of};
 
     ghost display = { display_of };
 

@@ -23,8 +23,7 @@ pub(crate) fn empty_line(alloc: Global) -> Result<LineBuffer, ReadlineError>
 }
 
 impl<'p, 'h, Out: Renderer, H: Helper + Drop, Hi: History> State<'p, 'h, Out, H, Hi> {
-    ghost use Rattle.line_editor.specs.States.{value_of};
-    ghost use Rattle.line_editor.specs.Starts.{Starts};
+    ghost use Rattle.line_editor.specs.States.{value_of, Starts};
     ghost use Rattle.line_keys.specs.declared.command.CmdKind.TheVariants.{Other};
 
     /// The state of an empty line with nothing drawn, at a place in the history.

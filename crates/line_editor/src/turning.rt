@@ -29,8 +29,7 @@ pub(crate) fn reset_for(ring: &mut KillRing, cmd: &Cmd)
 
 impl<'p, 'h, Out: Renderer, H: Helper + Drop, Hi: History> State<'p, 'h, Out, H, Hi> {
     ghost use Rattle.line_editor.specs.Asks.{shown_in};
-    ghost use Rattle.line_editor.specs.Displays.{display_of};
-    ghost use Rattle.line_editor.specs.States.{value_of};
+    ghost use Rattle.line_editor.specs.States.{value_of, display_of};
 
     /// The next command: the keys and pastes that it is made of are read, and no more. A group is
     /// begun where it changes a range for what is typed next.

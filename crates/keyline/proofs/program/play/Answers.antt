@@ -10,8 +10,8 @@ returns-clause-plays g c = record {
       played _ _ _ _ c.args.options.now (texts_of c.args.words) c.args.old.now g.K.Foretold.bytes g.K.Foretold.last
       c.new.result c.foretold-source.result c.new-2.result c.new-3.result c.new-4.result c.in_ok-played.played c.flush.new.self c.flush-2.new.self
       c.in_ok-played.ensures.edits (λ s. refl) c.new.ensures
-      (fresh_coming g.K.Foretold.bytes _ _ c.foretold-source.ensures.unread c.foretold-source.ensures.gave) refl c.foretold-source.ensures.bound
-      (fresh_sink _ _ c.new-2.ensures.sent c.new-2.ensures.unsent) (fresh_sink _ _ c.new-3.ensures.sent c.new-3.ensures.unsent) c.new-4.ensures.empty
+      (fresh_coming g.K.Foretold.bytes _ _ c.foretold-source.ensures.reader.unread c.foretold-source.ensures.reader.none_given) refl c.foretold-source.ensures.bound
+      (fresh_sink _ _ c.new-2.ensures.writer.sent c.new-2.ensures.writer.unsent) (fresh_sink _ _ c.new-3.ensures.writer.sent c.new-3.ensures.writer.unsent) c.new-4.ensures.empty
       c.flush.ensures.held (fails_still c.flush.result _ _ c.flush.ensures.failure c.flush.ensures.for_good)
       c.flush-2.ensures.held (fails_still c.flush-2.result _ _ c.flush-2.ensures.failure c.flush-2.ensures.for_good) agrees;
   drawn = λ works. handed_on c.flush.result _ c.flush.ensures.failure works c.flush.ensures.passed_on ∙ sym c.flush.ensures.held;
