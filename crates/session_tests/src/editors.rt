@@ -1,7 +1,7 @@
 //! Editors that are asked for one line at each call.
 
 use keyline::{Ending, LineEditor, SliceSource, Source, VecSink, session_builder};
-use stand_ins::rows::{Player, rows_hold};
+use stand_ins::rows::{Player, rows_hold, trimmed};
 use std::alloc::{AllocError, Global};
 use std::test::Fail;
 
@@ -38,7 +38,7 @@ impl Player for Asking {
         match call {
             "read" => Ok(self.line(alloc, word)?),
             "add" => Ok(format!(in alloc; "{}", self.editor.add_history_entry(word)?)?),
-            _ => Ok(self.entries(alloc)?),
+            _ => trimmed(alloc, self.entries(alloc)?.as_str()),
         }
     }
 }
