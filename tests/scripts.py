@@ -6,7 +6,8 @@ import sys
 
 TOP = os.path.dirname(os.path.dirname(os.path.realpath(__file__)))
 FOLDERS = ("answers", "bench", "tests")
-SHELL = (".ci/run", "bench/run", "keyline", "on_terminal", "test")
+SHELL = (".ci/run", "bench/run", "keyline", "test")
+PYTHON = ("on_terminal",)
 
 
 def python(path):
@@ -25,7 +26,7 @@ def c(path):
 def main():
     files = [os.path.join(TOP, folder, it) for folder in FOLDERS for it in sorted(os.listdir(os.path.join(TOP, folder)))]
     parts = [(python, it) for it in files if it.endswith(".py")] + [(c, it) for it in files if it.endswith(".c")]
-    parts += [(shell, os.path.join(TOP, it)) for it in SHELL]
+    parts += [(shell, os.path.join(TOP, it)) for it in SHELL] + [(python, os.path.join(TOP, it)) for it in PYTHON]
     failed = 0
     for reads, path in parts:
         try:

@@ -8,7 +8,10 @@ takes the terminal while the job is stopped. Run it by ./test, or alone once `rt
 import contextlib
 import fcntl
 import os
+import random
 import resource
+import select
+import shutil
 import signal
 import struct
 import subprocess
@@ -30,6 +33,14 @@ OLD = b"#V2\nold\n"
 def shown(display):
     """What a terminal gets where it turns each newline that is written into CR LF."""
     return display.replace(b"\n", b"\r\n")
+
+
+def wait_until(what, holds):
+    deadline = time.monotonic() + HUNG
+    while not holds():
+        if time.monotonic() > deadline:
+            raise Failed(f"hung before {what}")
+        time.sleep(0.01)
 
 
 def lead(slave, reports, orders, command, files):
@@ -159,11 +170,7 @@ class Terminal:
         same("bytes and time of a read", (now[6][termios.VMIN], now[6][termios.VTIME]), (1, 0))
 
     def wait_until_taken(self):
-        deadline = time.monotonic() + HUNG
-        while termios.tcgetattr(self.slave)[3] & termios.ICANON:
-            if time.monotonic() > deadline:
-                raise Failed("hung: the terminal is not taken again")
-            time.sleep(0.01)
+        wait_until("the terminal is taken again", lambda: not termios.tcgetattr(self.slave)[3] & termios.ICANON)
         self.expect(MARKED)
         self.expect_taken()
 
@@ -277,6 +284,16 @@ def a_paste_between_marks():
         terminal.expect_ended(0, NEW_ROW)
 
 
+def words_at_a_fault():
+    """They have a row of their own, and nothing of the line is below it."""
+    for keys, words, status in [(b"ab\x18\x1b[200~c\x1b[201~", b"paste out of place", 4),
+                                (b"ab\xff", b"input is not UTF-8", 3)]:
+        with Terminal() as terminal:
+            terminal.expect(drawing(b""))
+            terminal.type(keys)
+            terminal.expect_ended(status, b"ab\n\x1b[Jkeyline: " + words + b"\n")
+
+
 def marks_where_the_display_is_no_terminal():
     with tempfile.TemporaryDirectory() as folder:
         with Terminal(files={2: os.path.join(folder, "display")}) as terminal:
@@ -307,11 +324,13 @@ def signals_that_end_the_input():
 
 
 def keys_before_a_signal():
-    """What was typed before the input's end is read."""
+    """What was typed before the input's end is read, also by a program that is slow to read, as its display is held up."""
     with in_mid_line() as (terminal, kept):
-        os.kill(terminal.program(), signal.SIGSTOP)
+        termios.tcflow(terminal.slave, termios.TCOOFF)
         terminal.type(b"e\rf")
         os.kill(terminal.job, signal.SIGTERM)
+        wait_until("the input is at its end", lambda: termios.tcgetattr(terminal.slave)[6][termios.VMIN] == 0)
+        termios.tcflow(terminal.slave, termios.TCOON)
         terminal.expect_ended(143, b"e" + NEW_ROW + drawing(b"") + b"f" + NEW_ROW)
         kept.expect(b"ab\ncde\n", OLD + b"ab\ncde\n")
 
@@ -354,8 +373,6 @@ def continued_behind_another():
         terminal.expect_put_back()
         terminal.go_on(IN_FRONT)
         terminal.wait_until_taken()
-        # It goes on for the second time.
-        terminal.expect(MARKED)
         terminal.type(CTRL_D)
         terminal.expect_ended(0, NEW_ROW)
 
@@ -390,15 +407,19 @@ def stopped_in_a_window_that_is_closed():
         kept.expect(b"ab\n", OLD + b"ab\n")
 
 
-# It tells each byte that comes, ends by `q` with a status of its own and else with its input, and says so in a file.
+# It tells each byte that comes, ends by `q` with a status of its own and else with its input, and says how in a file.
 TELLER = """
 import os, sys
-while byte := os.read(0, 1):
-    os.write(2, b"%d " % byte[0])
-    if byte == b"q":
-        sys.exit(7)
+how = "ended"
+try:
+    while byte := os.read(0, 1):
+        os.write(2, b"%d " % byte[0])
+        if byte == b"q":
+            sys.exit(7)
+except OSError:
+    how = "failed"
 with open(sys.argv[1], "w") as it:
-    it.write(" ".join(sys.argv[2:]))
+    it.write(" ".join([how, *sys.argv[2:]]))
 """
 # It doesn't heed the end of its input, and has an answer to SIGTERM alone.
 STUBBORN = """
@@ -410,8 +431,28 @@ while True:
 """
 
 
+# It has an answer to SIGQUIT that it gives once, and ends with the next byte.
+ANSWERING = """
+import os, signal, sys
+def answer(*_):
+    signal.signal(signal.SIGQUIT, signal.SIG_IGN)
+    os.write(2, b"told ")
+signal.signal(signal.SIGQUIT, answer)
+os.write(2, b"on ")
+os.read(0, 1)
+sys.exit(5)
+"""
+
 def of_others(command, **more):
     return Terminal(command=[ON_TERMINAL, *command], **more)
+
+
+def taken_from(path):
+    """The text of a file, which is removed."""
+    with open(path, encoding="utf-8") as it:
+        text = it.read()
+    os.remove(path)
+    return text
 
 
 def any_program():
@@ -431,24 +472,129 @@ def any_program():
 
 
 def the_end_of_any_program():
-    """Its status, its arguments as they are, and the end of its input at a signal and at a closed window."""
+    """Its status, its arguments as they are, and the end of its input at a signal."""
     with tempfile.TemporaryDirectory() as folder:
         said = os.path.join(folder, "said")
         command = ["python3", "-c", TELLER, said, "a b", "*", ""]
         with of_others(command) as terminal:
             terminal.type(b"aq")
             terminal.expect_ended(7, b"97 113 ")
-        ends = [(lambda it: os.kill(it.job, signal.SIGTERM), (143,)), (lambda it: os.killpg(it.job, signal.SIGHUP), (129,)),
-                (Terminal.close_window, (0, 129))]
-        for end, statuses in ends:
+        for send, number in [(os.kill, signal.SIGTERM), (os.killpg, signal.SIGHUP)]:
             with of_others(command) as terminal:
                 terminal.type(b"a")
                 terminal.expect(b"97 ")
-                end(terminal)
-                terminal.expect_gone(*statuses)
-            with open(said, encoding="utf-8") as it:
-                same("what it says at the end", it.read(), "a b * ")
-            os.remove(said)
+                send(terminal.job, number)
+                terminal.expect_ended(128 + number)
+            same("what it says at the end", taken_from(said), "ended a b * ")
+
+
+def any_program_in_a_window_that_is_closed():
+    """A read that waits then fails, as the system has it, and one that begins later ends. The program may end first."""
+    with tempfile.TemporaryDirectory() as folder:
+        said = os.path.join(folder, "said")
+        with of_others(["python3", "-c", TELLER, said]) as terminal:
+            terminal.type(b"a")
+            terminal.expect(b"97 ")
+            terminal.close_window()
+            terminal.expect_gone(0, 129)
+        same("whether its input is at an end", taken_from(said) in ("ended", "failed"), True)
+
+
+def keys_that_are_left():
+    """What a program doesn't read is there for the next one."""
+    with tempfile.TemporaryDirectory() as folder:
+        with of_others(["python3", "-c", TELLER, os.path.join(folder, "said")]) as terminal:
+            terminal.type(b"qrest\r")
+            terminal.expect_ended(7, b"113 ")
+            same("whether there is more", select.select([terminal.slave], [], [], HUNG)[0], [terminal.slave])
+            same("what is left", os.read(terminal.slave, 100), b"rest\r")
+
+
+def what_a_program_has_started():
+    """The end of the input is there for whoever reads it."""
+    with of_others(["sh", "-c", "cat; echo over >&2"]) as terminal:
+        terminal.type(b"a")
+        terminal.expect(b"a")
+        os.kill(terminal.job, signal.SIGTERM)
+        terminal.expect_ended(143, b"over\n")
+
+
+def signals_that_any_program_answers():
+    """One that has no answer ends by them, and one that has goes on, and ends as it likes."""
+    for number in (signal.SIGUSR1, signal.SIGALRM, signal.SIGPROF, signal.SIGPWR):
+        with of_others(["cat"]) as terminal:
+            terminal.type(b"a")
+            terminal.expect(b"a")
+            os.kill(terminal.job, number)
+            terminal.expect_ended(128 + number, b"\n")
+    with of_others(["python3", "-c", ANSWERING]) as terminal:
+        terminal.expect(b"on ")
+        terminal.type(b"\x1c")
+        terminal.expect(b"told ")
+        terminal.type(b"a")
+        terminal.expect_ended(5)
+
+
+def a_program_that_stops_itself():
+    """The job stops with it, and goes on with it."""
+    with of_others(["sh", "-c", "kill -s STOP $$; read -r _; exit 7"]) as terminal:
+        terminal.expect_stopped()
+        terminal.go_on(IN_FRONT)
+        terminal.wait_until_taken()
+        terminal.type(b"\n")
+        terminal.expect_ended(7)
+
+
+def a_program_that_does_not_stop():
+    """It goes on in front, as the terminal's key is its own to answer."""
+    with of_others(["sh", "-c", "trap '' TSTP; echo on >&2; cat"]) as terminal:
+        terminal.expect(b"on\n")
+        terminal.type(b"\x1ab")
+        terminal.expect(b"b")
+        os.kill(terminal.job, signal.SIGTERM)
+        terminal.expect_ended(143)
+
+
+def signals_in_any_order():
+    """However many come to the job or to the script alone, it ends by the one that ends it, with the terminal put back."""
+    ends = (signal.SIGHUP, signal.SIGINT, signal.SIGQUIT, signal.SIGTERM, signal.SIGUSR1)
+    others = (signal.SIGTSTP, signal.SIGCONT, signal.SIGTTIN, signal.SIGCHLD, signal.SIGWINCH)
+    for seed in range(30):
+        rng = random.Random(seed)
+        end = rng.choice(ends)
+        numbers = [*rng.choices(others, k=rng.randrange(60)), end, *rng.choices(others, k=rng.randrange(20))]
+        with of_others(["cat"]) as terminal:
+            terminal.type(b"a")
+            terminal.expect(b"a")
+            terminal.go_on(IN_FRONT * 1000)
+            with contextlib.suppress(ProcessLookupError):
+                for number in numbers:
+                    rng.choice((os.kill, os.killpg))(terminal.job, number)
+            while (report := terminal.next_report()) == "stopped":
+                pass
+            same("report", report, f"ended {128 + end}")
+            terminal.expect_put_back()
+            os.write(terminal.slave, b"|")
+            terminal.display.expect_end_of(UNMARKED + b"|")
+
+
+def ended_behind_another_that_it_asked():
+    """A job that is continued behind another asks for the terminal, which stays as the other has it."""
+    with of_others(["cat"]) as terminal:
+        terminal.type(b"a")
+        terminal.expect(b"a")
+        terminal.stop()
+        others = termios.tcgetattr(terminal.slave)
+        others[3] &= ~termios.ECHO
+        termios.tcsetattr(terminal.slave, termios.TCSANOW, others)
+        terminal.go_on(BEHIND)
+        same("report", terminal.next_report(), "stopped")
+        os.killpg(terminal.job, signal.SIGTERM)
+        terminal.go_on(BEHIND)
+        terminal.expect_gone(143)
+        same("the terminal's settings", termios.tcgetattr(terminal.slave), others)
+        os.write(terminal.slave, b"|")
+        terminal.expect(b"|")
 
 
 def a_program_that_goes_on():
@@ -460,6 +606,18 @@ def a_program_that_goes_on():
             terminal.expect_ended(128 + number, last)
 
 
+def a_program_of_any_name():
+    """Also one that reads as an assignment or an option."""
+    with tempfile.TemporaryDirectory() as folder:
+        for name in ("a=b", "-a b"):
+            program = os.path.join(folder, name)
+            with open(program, "w", encoding="utf-8") as it:
+                it.write("#!/bin/sh\nexit 5\n")
+            os.chmod(program, 0o755)
+            with Terminal(command=[shutil.which("env"), f"PATH={folder}:{os.environ['PATH']}", ON_TERMINAL, name]) as terminal:
+                terminal.expect_ended(5)
+
+
 def a_program_that_is_missing():
     with tempfile.TemporaryDirectory() as folder:
         with of_others([os.path.join(folder, "none")], files={2: os.path.join(folder, "told")}) as terminal:
@@ -469,6 +627,9 @@ def a_program_that_is_missing():
 def any_program_without_a_terminal():
     ran = subprocess.run([ON_TERMINAL, "cat"], input=b"a\r", capture_output=True, timeout=HUNG)
     same("what comes", (ran.stdout, ran.stderr, ran.returncode), (b"a\r", b"", 0))
+    ran = subprocess.run([ON_TERMINAL, "env"], stdin=subprocess.DEVNULL, env={"PATH": os.environ["PATH"]},
+                         capture_output=True, timeout=HUNG)
+    same("whether the locale is set", b"LC_" in ran.stdout, False)
     ran = subprocess.run([ON_TERMINAL], stdin=subprocess.DEVNULL, capture_output=True, timeout=HUNG)
     same("without a program", (ran.stdout, ran.stderr, ran.returncode), (b"", b"usage: on_terminal PROGRAM ARGUMENT..\n", 2))
 
@@ -480,6 +641,7 @@ if __name__ == "__main__":
         interrupt_typed,
         the_width_at_the_start,
         a_paste_between_marks,
+        words_at_a_fault,
         marks_where_the_display_is_no_terminal,
         quit_typed,
         signals_that_end_the_program,
@@ -494,7 +656,16 @@ if __name__ == "__main__":
         stopped_in_a_window_that_is_closed,
         any_program,
         the_end_of_any_program,
+        any_program_in_a_window_that_is_closed,
+        keys_that_are_left,
+        what_a_program_has_started,
+        signals_that_any_program_answers,
+        a_program_that_stops_itself,
+        a_program_that_does_not_stop,
+        signals_in_any_order,
+        ended_behind_another_that_it_asked,
         a_program_that_goes_on,
+        a_program_of_any_name,
         a_program_that_is_missing,
         any_program_without_a_terminal,
     ])
