@@ -549,9 +549,10 @@ def a_program_that_does_not_stop():
     """It goes on in front, as the terminal's key is its own to answer."""
     with of_others(["sh", "-c", "trap '' TSTP; echo on >&2; cat"]) as terminal:
         terminal.expect(b"on\n")
-        for key in (b"a", b"\x1a", b"b"):
-            terminal.type(key)
+        terminal.type(b"\x1ab")
         terminal.expect(b"b")
+        os.kill(terminal.job, signal.SIGTERM)
+        terminal.expect_ended(143)
 
 
 def signals_in_any_order():
