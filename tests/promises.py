@@ -192,8 +192,12 @@ def check_logs(checks):
 
 
 def check_readme(checks):
-    """README: it is short, and the kit that is here is one of those that the repository is proved with."""
+    """README: it is short, the programs that it shows are those of the crates, and the kit that is here is one of those that
+    the repository is proved with."""
     checks.expect(os.path.getsize(os.path.join(TOP, "README.md")) <= 12 * 1024, "README: it has more than 12 KB")
+    programs = ["\n".join(lines_of(file)) for file in files_under("crates", "main.rt")]
+    for shown in re.findall(r"^```rust\n(.*?)\n```$", "\n".join(lines_of("README.md")), re.M | re.S):
+        checks.expect(any(shown in it for it in programs), f"README: no program has what it shows: {shown[:60]}")
     version = subprocess.run(["rt", "version"], capture_output=True, text=True, check=True).stdout.strip()
     told = [it for line in lines_of("README.md") for it in re.findall(r"`(rattle-kit-[^`]*)`", line)]
     checks.expect(version in told, f"README: it names the kits {', '.join(told) or 'nowhere'}, and rt version says {version}")

@@ -2,7 +2,7 @@
 
 ghost use Rattle.std.specs.Prelude.{◌≡◌, false};
 ghost use Rattle.line_keys.specs.Replies.{gives_at_once};
-ghost use Rattle.sql_console.specs.Statements.{is_whole, statement_verdict};
+ghost use Rattle.sql_console.specs.Statements.{ends_line, is_whole, statement_verdict};
 
 use keyline::{HookFault, ValidationContext, ValidationResult, Validator};
 use std::alloc::Global;
@@ -12,10 +12,16 @@ use std::alloc::Global;
 #[derive(Clone, Copy, Debug, Drop)]
 pub(crate) struct Statements;
 
+fn ends_line(byte: u8) -> bool
+    ensures { result ≡ ends_line byte }
+{
+    byte == b';' || byte == b'\n'
+}
+
 fn is_whole(text: &[u8]) -> bool
     ensures { result ≡ is_whole text.now }
 {
-    text.is_empty() || text[0] == b'.' || matches!(text[text.len() - 1], b';' | b'\n')
+    text.is_empty() || text[0] == b'.' || ends_line(text[text.len() - 1])
 }
 
 impl Validator for Statements {
