@@ -1,6 +1,7 @@
 //! The part of the text that a movement names.
 
 use crate::line_buffer::LineBuffer;
+use crate::short::are_printable;
 use crate::types::{CharSearch, Direction, Movement, RepeatCount};
 
 /// A part of the text that is taken out, in byte places, and the way in which it goes.
@@ -12,8 +13,10 @@ pub struct Span {
 }
 
 impl LineBuffer {
-    ghost use Rattle.std.specs.Prelude.{◌≡◌, ◌≤◌, IfSome, IsCharBoundary, option_map};
-    ghost use Rattle.line_buffer.specs.Range.{IsSpanOf, up_to_cursor, from_cursor, around_cursor, to_row_end, from_row_start, search_range, range_of, copied_range};
+    ghost use Rattle.std.specs.Prelude.{◌≡◌, ◌≤◌, length, drop, IfSome, IsCharBoundary, option_map};
+    ghost use Rattle.std.specs.List.{list_all};
+    ghost use Rattle.line_buffer.specs.Range.{IsSpanOf, up_to_cursor, from_cursor, around_cursor, to_row_end, from_row_start, search_range, range_of, copied_range, kill_line};
+    ghost use Rattle.line_buffer.specs.Short.{is_printable};
 
     /// What lies between an earlier place and the cursor.
     fn back_to(&self, found: Option<usize>) -> Option<Span>
@@ -157,6 +160,20 @@ impl LineBuffer {
             Movement::BeginningOfBuffer => self.back_to(Some(0)),
             Movement::EndOfBuffer if self.is_cursor_at_end() => None,
             Movement::EndOfBuffer => self.on_to(Some(self.len())),
+        }
+    }
+
+    /// Whether as many bytes as a kill by the movement takes are printable ASCII at the text's end.
+    pub fn has_printable_end(&self, movement: &Movement) -> bool
+        ensures { result ≡ list_all is_printable
+            (drop (length (kill_line movement.now self.now).text) self.now.text) }
+    {
+        match self.range_of(movement) {
+            Some(span) => {
+                let kept = self.len() - (span.upto - span.from);
+                are_printable(&self.buf.as_bytes()[kept..])
+            }
+            None => true,
         }
     }
 

@@ -43,7 +43,13 @@ pub fn short_kill(end: Position, killed: &str) -> Option<Position>
 pub fn is_printable_text(text: &str) -> bool
     ensures { result ≡ list_all is_printable text.now }
 {
-    let bytes = text.as_bytes();
+    are_printable(text.as_bytes())
+}
+
+/// Each byte is a printable character of ASCII.
+pub(crate) fn are_printable(bytes: &[u8]) -> bool
+    ensures { result ≡ list_all is_printable bytes.now }
+{
     let mut all = true;
     for byte in bytes {
         all &= 0x20 <= *byte && *byte < 0x7F;

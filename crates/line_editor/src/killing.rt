@@ -7,7 +7,7 @@ use crate::renderer::Renderer;
 use crate::state::State;
 use line_buffer::{Mode, Movement};
 use line_config::ReadlineError;
-use line_edits::{kill, printable_from};
+use line_edits::kill;
 use line_help::{Helper, History};
 use line_keys::Text;
 use line_record::KillRing;
@@ -64,7 +64,7 @@ impl<'p, 'h, Out: Renderer, H: Helper + Drop, Hi: History> State<'p, 'h, Out, H,
     {
         let was_bare = self.is_bare();
         let before = self.line.len();
-        let printable_start = printable_from(self.line.as_str());
+        let printable = self.line.has_printable_end(movement);
         let killed = kill(
             self.alloc,
             &mut self.line,
@@ -77,7 +77,6 @@ impl<'p, 'h, Out: Renderer, H: Helper + Drop, Hi: History> State<'p, 'h, Out, H,
             return Ok(());
         }
         let count = before - self.line.len();
-        let printable = printable_start <= self.line.len();
         self.show_killed(count, printable, was_bare)
     }
 

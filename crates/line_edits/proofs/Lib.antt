@@ -1,4 +1,3 @@
 pub mod PlainLemmas
 pub mod RingLemmas
-pub mod TailLemmas
 pub mod WrittenLemmas

@@ -1,9 +1,10 @@
 //! Clusters and words exchanged, words in other letters, rows moved in and out.
-ghost use Rattle.std.specs.Prelude.{is_some};
+ghost use Rattle.std.specs.Prelude.{◌≡◌, is_some};
 ghost use Rattle.line_buffer.specs.LetterCase.{word_to_edit};
 ghost use Rattle.line_buffer.specs.Transpositions.{transposes_chars, transposes_words};
 ghost use Rattle.line_record.specs.Items.{ItemsStand};
 ghost use Rattle.line_edits.specs.Edits.{chars_transposed, transpose_chars_in_group, words_transposed, transpose_words_in_group, word_edited, edit_word_in_group, indented};
+ghost use Rattle.line_edits.specs.Plain.{is_plain};
 ghost use Rattle.line_edits.specs.Written.{Edits, Writes};
 
 use crate::plain::is_plain;
@@ -178,11 +179,15 @@ pub fn indent(
     amount: u8,
     dedent: bool,
 ) -> Result<(), OutOfMemory>
-    requires { ItemsStand changes.old line.old.text }
+    requires stand { ItemsStand changes.old line.old.text }
+    requires plain { plain.old ≡ is_plain line.old.text }
     ensures { Edits (indented movement.now amount dedent) tt
         line.old line.new changes.old changes.new plain.new result }
 {
     let done = rows_told(alloc, line, changes, movement, amount, dedent);
+    if *plain && done.is_ok() {
+        return done;
+    }
     *plain = is_plain(line.as_str());
     done
 }
