@@ -12,7 +12,7 @@ import sys
 
 TOP = os.path.dirname(os.path.dirname(os.path.realpath(__file__)))
 OWNER = re.compile(r"(?:pub(?:\([^)]*\))? )?(?:trait (\w+)|impl(?:<.*?>)? (?:(.+?) for )?(.+?) ?(?:where\b.*)?\{?\Z)")
-CALL = re.compile(r"\s*(?:pub(?:\([^)]*\))? )?(?:const )?fn (\w+)")
+CALL = re.compile(r"\s*(?:pub(?:\([^)]*\))? )?(?:const |extern \"C\" )?fn (\w+)")
 CLAUSE = re.compile(r"\s*(?:requires|ensures)\*?(?: (\w+))? \{")
 DEFINED = re.compile(r"^(  |)((?:abbrev |unfoldable )?)pub ((?:data |record )?)(\S+)(?= :| \(| \{|$)", re.M)
 WORD = re.compile(r"`([^`]+)`|[()]")
