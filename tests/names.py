@@ -6,7 +6,7 @@ import re
 
 TOP = os.path.dirname(os.path.dirname(os.path.realpath(__file__)))
 OWNER = re.compile(r"(?:pub(?:\([^)]*\))? )?(?:trait (\w+)|impl(?:<.*?>)? (?:(.+?) for )?(.+?) ?(?:where\b.*)?\{?\Z)")
-CALL = re.compile(r"\s*(pub )?(?:pub\([^)]*\) )?(?:const )?fn (\w+)")
+CALL = re.compile(r"\s*(pub )?(?:pub\([^)]*\) )?(?:const |extern \"C\" )?fn (\w+)")
 CLAUSE = re.compile(r"\s*(?:requires|ensures)\*?(?: (\w+))? \{")
 TYPE = re.compile(r"\A(?:pub(?:\([^)]*\))? )?(?:struct|enum|trait|type) (\w+)")
 DEFINED = re.compile(r"^(  |)((?:abbrev |unfoldable )?)pub ((?:data |record )?)(\S+)(?= :| \(| \{|$)", re.M)

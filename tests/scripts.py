@@ -5,7 +5,7 @@ import subprocess
 import sys
 
 TOP = os.path.dirname(os.path.dirname(os.path.realpath(__file__)))
-FOLDERS = ("answers", "bench", "tests")
+FOLDERS = ("answers", "bench", "crates/keyline_c/c", "tests")
 SHELL = (".ci/run", "bench/run", "keyline", "test")
 PYTHON = ("on_terminal",)
 

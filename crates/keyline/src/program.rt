@@ -22,7 +22,7 @@ use std::alloc::Global;
 use std::io::{Input, Read, Stderr, Stdin, StdinLock, Stdout, Write};
 
 /// The settings of options: each accepted line is kept in the history.
-fn config_of(options: &Options) -> Config
+pub fn config_of(options: &Options) -> Config
     ensures { result ≡ config_of options.now }
 {
     Config::builder()
@@ -32,7 +32,7 @@ fn config_of(options: &Options) -> Config
 }
 
 /// What helps: these words complete, and brackets are validated where the options say so.
-fn helper_of(options: &Options, words: Option<Vec<String>>) -> Option<EditHelper>
+pub fn helper_of(options: &Options, words: Option<Vec<String>>) -> Option<EditHelper>
     ensures { result ≡ helper_of options.now (texts_of words) }
 {
     if !options.brackets && words.is_none() {

@@ -40,7 +40,7 @@ impl Model for KillRing {
 }
 
 impl KillRing {
-    ghost use Rattle.std.specs.Prelude.{◌≡◌, IfOk, OnOk, OnErr, ◌<◌, ◌≤◌, length, option_copied, option_map, slice_get};
+    ghost use Rattle.std.specs.Prelude.{◌≡◌, IfOk, OnOk, OnErr, ◌<◌, ◌≤◌, length, map, option_copied, option_map, slice_get, string_bytes};
     ghost use Rattle.line_record.specs.Ring.{new_ring, slot_after, killed, yanked, turned, exchanged};
     ghost use Rattle.line_record.specs.declared.kill_ring.Action.TheVariants.{Other};
     ghost use Rattle.std.specs.Borrow.{sem};
@@ -97,6 +97,20 @@ impl KillRing {
             return 0;
         }
         self.index + 1
+    }
+
+    /// The killed texts, slot by slot.
+    pub fn texts(&self) -> &[String]
+        ensures { map string_bytes result.now ≡ self.now.slots }
+    {
+        &self.slots
+    }
+
+    /// The present slot, which a yank gives; 0 where none is filled.
+    pub fn place(&self) -> usize
+        ensures { result ≡ self.now.place }
+    {
+        self.index
     }
 
     /// Lends the text of the present slot.

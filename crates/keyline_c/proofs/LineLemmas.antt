@@ -1,0 +1,104 @@
+-- What `run` leaves, and then the line's end.
+use Rattle.std.proofs.Common.{◌≡◌, inl, inr, ℕ, Bool, true, List, [], ◌++◌, Option, None, length, ◌+◌, arith, Result, Ok, Err, refl, sym, ap, ◌∙◌, subst, IsTrue}
+use Rattle.std.specs.Prelude.{flat_map, IfErr, String, string_bytes}
+use Rattle.std.specs.Global.{Global}
+use Rattle.line_config.specs.Feed.{Feed, fresh_feed}
+use Rattle.line_config.specs.declared.config.Config.{Config}
+use Rattle.line_config.specs.declared.device.Last.{Last}
+use Rattle.line_config.specs.declared.errors.ReadlineError.{ReadlineError}
+use Rattle.line_config.specs.declared.errors.ReadlineError.TheVariants.{Display, Helper, Memory}
+use Rattle.line_config.specs.declared.memory.VecSink.{VecSink}
+use Rattle.line_editor.specs.Lines.{Told}
+use Rattle.line_editor.specs.Running.{Helping, Runs, WholeLine, outcome_of, line_calls}
+use Rattle.line_editor.specs.States.{reason_of}
+use Rattle.line_editor.specs.declared.ran.Ran.{Ran}
+use Rattle.line_help.specs.History.{Filed}
+use Rattle.line_keys.specs.Answers.{Custom}
+use Rattle.line_keys.specs.Coming.{Coming, made_of}
+use Rattle.line_keys.specs.Feeds.{KeyFeed}
+use Rattle.line_record.specs.Ring.{Ring}
+use Rattle.line_screen.specs.Calls.{Screen, bytes_of, canvas_of, screen_of, sink_of, ruler_of}
+use Rattle.line_screen.specs.Unread.{kept_count, with_kept}
+use Rattle.line_screen.specs.Drawing.{break_if}
+use Rattle.line_screen.specs.declared.renderer.ScreenRenderer.{ScreenRenderer}
+use Rattle.line_screen.proofs.CallLemmas.{sent_in_all}
+use Rattle.keyline.specs.Edits.{EditHelper, config_of, edit_helping, helper_of, nothing_bound}
+use Rattle.keyline.specs.declared.options.Options.{Options}
+use Rattle.keyline.specs.FewerKeys.{state_over}
+use Rattle.keyline.specs.Sessions.{coming_from, Given, SessionState, breaks, given_by, history_after, line_in}
+use Rattle.keyline_c.specs.Lines.{Ends, IsWant, LeftBy, ReadsLine, given_by_options}
+use Rattle.keyline_c.specs.declared.line.Left.{Left}
+
+wanting : (failed : Bool) (hook : Type 0) (e : ReadlineError) → reason_of failed hook e → IsWant e
+wanting failed hook Memory is = inl refl
+wanting failed hook Display is = inr (inl refl)
+wanting failed hook Helper is = inr (inr refl)
+wanting failed hook _ is = absurd is
+
+wants : (o : Result (String Global) ReadlineError) (e : ReadlineError) → made_of string_bytes o ≡ Err e → IsWant e → IfErr o IsWant
+wants (Ok x) e is want = absurd (cc)
+wants (Err d) e is want = let same : d ≡ e = cc in subst IsWant (sym same) want
+
+module _ {H K T : Type 0} (held : VecSink → List ℕ) (failed : VecSink → Bool) (helps : Option H → Helping) (config : Config) (custom : Custom) (prompt : List ℕ) (helper : Option H)
+    (old : ScreenRenderer VecSink) (display : VecSink) (ring ring' : Ring) (history history' : Filed) (feed feed' : KeyFeed) (ran : Ran (ScreenRenderer VecSink) H K T) (left : Left) where
+  abbrev given : Given
+  given = given_by config custom prompt (screen_of old) (helps helper)
+
+  abbrev state : SessionState
+  state = record { ring = ring; history = history; coming = feed.coming }
+
+  module _ (ends : Ends held (outcome_of ran) (sink_of ran.out) display history history') (fresh : held (sink_of old) ≡ []) (adds : config.auto_add_history ≡ true)
+      (outcome_is : left.outcome ≡ ran.outcome) (display_is : left.display ≡ display) (ring_is : left.ring ≡ ring') (history_is : left.history ≡ history') where
+    left_whole : (t : Told) → WholeLine (canvas_of held failed) t old ran.out ring' feed'.coming (outcome_of ran) → LeftBy held given t history left
+    left_whole t w =
+        let calls = line_calls (ruler_of (screen_of old)) t.turns in
+        let sent_bytes : List ℕ = flat_map (bytes_of (screen_of old)) calls in
+        let sent = sent_in_all held failed calls old ran.out w.calls in
+        record {
+          outcome_is = ap (made_of string_bytes) outcome_is ∙ w.outcome_is;
+          drawn = ap held display_is ∙ (ends.drawn ∙ (ap (λ o. held (sink_of ran.out) ++ break_if (breaks o)) w.outcome_is
+              ∙ (ap (λ bytes. bytes ++ break_if (breaks t.outcome)) sent.takes
+              ∙ ap (λ bytes. (bytes ++ sent_bytes) ++ break_if (breaks t.outcome)) fresh)));
+          ring_is = ring_is ∙ w.ring_is;
+          history_is = history_is ∙ (ends.kept ∙ (ap (λ o. history_after true o history) w.outcome_is ∙ ap (λ b. history_after b t.outcome history) (sym adds)));
+        }
+
+    pub reads_line : Runs (canvas_of held failed) helps custom prompt helper history.kept.entries config old ring feed ran ring' feed' → IsTrue feed'.told
+        → ReadsLine held given state feed.bound left
+    reads_line runs told = record {
+      goes = λ n b. elim (runs.goes told n b) [
+        | inl w ↦ inl (left_whole (line_in n given state) w)
+        | inr cut ↦ inr (wants left.outcome cut.fault (ap (made_of string_bytes) outcome_is ∙ cut.outcome_is) (wanting _ _ cut.fault cut.cause))
+      ];
+    }
+
+-- what a reader begins with
+pub bound_at : (kept : Option ℕ) (f g : Feed) (keys : List ℕ) (last : Last) → kept ≡ None → f ≡ g → g ≡ fresh_feed keys last → (with_kept kept f).bound ≡ length keys
+bound_at kept f g keys last none same fresh =
+    let zero_more : length keys + kept_count None ≡ length keys = search arith in
+    ap (λ k. (with_kept k f).bound) none ∙ (ap (λ (x : Feed). x.bound + kept_count None) (same ∙ fresh) ∙ zero_more)
+
+-- the same by the options of the line
+pub line_read : {K T : Type 0} (held : VecSink → List ℕ) (failed : VecSink → Bool) (options : Options) (words : Option (List (List ℕ))) (keys : List ℕ) (last : Last) (config : Config) (custom : Custom) (prompt : List ℕ)
+    (helper : Option EditHelper) (old : ScreenRenderer VecSink) (display : VecSink) (ring ring' : Ring) (history history' : Filed) (feed feed' : KeyFeed) (ran : Ran (ScreenRenderer VecSink) EditHelper K T) (left : Left)
+    → Runs (canvas_of held failed) edit_helping custom prompt helper history.kept.entries config old ring feed ran ring' feed' → IsTrue feed'.told
+    → Ends held (outcome_of ran) (sink_of ran.out) display history history' → held (sink_of old) ≡ []
+    → config ≡ config_of options → custom ≡ nothing_bound → prompt ≡ string_bytes options.prompt → helper ≡ helper_of options words
+    → screen_of old ≡ record { columns = options.columns; mode = config.grapheme_cluster_mode; bell = config.bell_style }
+    → feed.coming ≡ coming_from options.mode keys last → feed.bound ≡ length keys
+    → left.outcome ≡ ran.outcome → left.display ≡ display → left.ring ≡ ring' → left.history ≡ history'
+    → ReadsLine held (given_by_options options words) (state_over ring history options.mode keys last) (length keys) left
+line_read held failed options words keys last config custom prompt helper old display ring ring' history history' feed feed' ran left runs told ends fresh config_is custom_is prompt_is helper_is screen_is coming_is bound_is a b d e =
+    let adds : config.auto_add_history ≡ true = ap (λ (x : Config). x.auto_add_history) config_is in
+    let read = reads_line held failed edit_helping config custom prompt helper old display ring ring' history history' feed feed' ran left ends fresh adds a b d e runs told in
+    let columns : Config → Screen = λ x. record { columns = options.columns; mode = x.grapheme_cluster_mode; bell = x.bell_style } in
+    let given_is : given_by config custom prompt (screen_of old) (edit_helping helper) ≡ given_by_options options words =
+    ap (λ (x : Screen). given_by config custom prompt x (edit_helping helper)) screen_is
+    ∙ (ap (λ (x : Config). given_by x custom prompt (columns x) (edit_helping helper)) config_is
+    ∙ (ap (λ (x : Custom). given_by (config_of options) x prompt (columns (config_of options)) (edit_helping helper)) custom_is
+    ∙ (ap (λ (x : List ℕ). given_by (config_of options) nothing_bound x (columns (config_of options)) (edit_helping helper)) prompt_is
+    ∙ ap (λ (x : Option EditHelper). given_by (config_of options) nothing_bound (string_bytes options.prompt) (columns (config_of options)) (edit_helping x)) helper_is))) in
+    let at : Given → Coming → ℕ → Type 0 = λ g c n. ReadsLine held g (record { ring = ring; history = history; coming = c }) n left in
+    subst (λ g. at g (coming_from options.mode keys last) (length keys)) given_is
+    (subst (λ c. at (given_by config custom prompt (screen_of old) (edit_helping helper)) c (length keys)) coming_is
+    (subst (λ n. at (given_by config custom prompt (screen_of old) (edit_helping helper)) feed.coming n) bound_is read))

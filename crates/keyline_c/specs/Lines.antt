@@ -1,0 +1,55 @@
+-- A line of the keys so far: what is handed in for it, and what it leaves.
+use Rattle.std.specs.Prelude.{◌≡◌, ◌⊎◌, ℕ, ◌<◌, ◌++◌, Bool, true, if◌then◌else◌, List, Option, Result, IfErr, string_bytes}
+use Rattle.line_config.specs.Config.{default_config}
+use Rattle.line_config.specs.declared.device.Last.{Last}
+use Rattle.line_config.specs.declared.device.Last.TheVariants.{End, Failed}
+use Rattle.line_config.specs.declared.errors.ReadlineError.{ReadlineError}
+use Rattle.line_config.specs.declared.errors.ReadlineError.TheVariants.{Display, Helper, Memory}
+use Rattle.line_config.specs.declared.memory.VecSink.{VecSink}
+use Rattle.line_editor.specs.Lines.{Told}
+use Rattle.line_help.specs.History.{Filed}
+use Rattle.line_keys.specs.Coming.{made_of}
+use Rattle.line_screen.specs.Drawing.{break_if}
+use Rattle.keyline.specs.Edits.{config_of, helper_of, edit_helping, nothing_bound}
+use Rattle.keyline.specs.Sessions.{Given, SessionState, breaks, given_by, history_after, line_bytes, line_in}
+use Rattle.keyline.specs.declared.options.Options.{Options}
+use Rattle.keyline_c.specs.declared.line.Left.{Left}
+
+-- what is handed in for a line by these options and words
+abbrev pub given_by_options : Options → Option (List (List ℕ)) → Given
+given_by_options options words =
+    given_by (config_of options) nothing_bound (string_bytes options.prompt)
+    (record {
+      columns = options.columns;
+      mode = default_config.grapheme_cluster_mode;
+      bell = default_config.bell_style;
+    })
+    (edit_helping (helper_of options words))
+
+-- what stands after the keys: their end, or the failure that says that more are wanted
+abbrev pub last_of : Bool → Last
+last_of ended = if ended then End else Failed
+
+-- memory was wanting: for the line, for its display bytes, or for what helps
+abbrev pub IsWant : ReadlineError → Type 0
+IsWant e = (e ≡ Memory) ⊎ ((e ≡ Display) ⊎ (e ≡ Helper))
+
+-- where memory was not wanting, all is left as the line says
+pub record LeftBy (held : VecSink → List ℕ) (g : Given) (t : Told) (old : Filed) (left : Left)
+    : Type 0 where
+  pub outcome_is : made_of string_bytes left.outcome ≡ t.outcome
+  pub drawn : held left.display ≡ line_bytes g.screen t
+  pub ring_is : left.ring ≡ t.ring
+  pub history_is : left.history ≡ history_after g.config.auto_add_history t.outcome old
+
+-- THE relation of a line. More fuel than the source has bytes is enough
+pub record ReadsLine (held : VecSink → List ℕ) (g : Given) (x : SessionState) (bound : ℕ)
+    (left : Left) : Type 0 where
+  pub goes : (n : ℕ) → bound < n
+      → LeftBy held g (line_in n g x) x.history left ⊎ IfErr left.outcome IsWant
+
+-- the end of a line: a new row where it says so, and an accepted one in the history
+pub record Ends (held : VecSink → List ℕ) (outcome : Result (List ℕ) ReadlineError)
+    (old new : VecSink) (history history' : Filed) : Type 0 where
+  pub drawn : held new ≡ held old ++ break_if (breaks outcome)
+  pub kept : history' ≡ history_after true outcome history

@@ -1,0 +1,261 @@
+//! The call that C makes.
+
+ghost use Rattle.std.specs.Prelude.{◌≡◌, ◌≤◌, IfOk, length};
+
+use crate::line::{Left, read_line};
+use crate::ring::{Slots, ring_of, slots_of};
+use crate::room::{put, put_numbers};
+use crate::status::{Status, status_of};
+use keyline::{
+    EditMode, FileHistory, Options, ReadlineError, SliceSource, VecSink, config_of, load_words,
+};
+use std::alloc::Global;
+
+/// How a line is read. All but `ended` and `sent` stays while a line is typed.
+#[repr(C)]
+#[derive(Drop)]
+pub struct KeylineOptions {
+    /// The columns of a row, 2 to 1,000.
+    pub columns: u16,
+    /// The keymap: 0 is Emacs', 1 is Vi's.
+    pub mode: u8,
+    /// Whether a line with an open bracket goes on.
+    pub brackets: bool,
+    /// Whether no key comes after these.
+    pub ended: bool,
+    /// How many display bytes of this line were given before.
+    pub sent: usize,
+    /// The present slot of the kill ring.
+    pub place: usize,
+}
+
+/// What a call answers. Where the status says that a text has no room, the lengths are those that it
+/// needs.
+#[repr(C)]
+#[derive(Drop)]
+pub struct KeylineStep {
+    /// How it ended.
+    pub status: u8,
+    /// The display bytes that are new.
+    pub display: usize,
+    /// The display bytes of this line so far.
+    pub sent: usize,
+    /// The bytes of the line.
+    pub line: usize,
+    /// The key bytes that the line took; those after them are the next one's.
+    pub keys: usize,
+    /// The bytes of the history's new text; none where no entry is new.
+    pub history: usize,
+    /// The bytes of the kill ring's texts.
+    pub kills: usize,
+    /// Its slots that are filled.
+    pub slots: usize,
+    /// The present one.
+    pub place: usize,
+}
+
+/// What is handed in of texts.
+#[derive(Drop)]
+struct Handed<'k> {
+    keys: &'k [u8],
+    prompt: &'k [u8],
+    words: &'k [u8],
+    history: &'k [u8],
+    kills: &'k [u8],
+    ends: &'k [usize],
+}
+
+/// Where texts are put.
+#[derive(Drop)]
+struct Rooms<'r> {
+    display: &'r mut [u8],
+    line: &'r mut [u8],
+    history: &'r mut [u8],
+    kills: &'r mut [u8],
+    ends: &'r mut [usize],
+}
+
+fn mode_of(code: u8) -> Option<EditMode> {
+    match code {
+        0 => Some(EditMode::Emacs),
+        1 => Some(EditMode::Vi),
+        _ => None,
+    }
+}
+
+/// The options of a line, where they can be meant.
+fn options_of(alloc: Global, options: &KeylineOptions, prompt: &[u8]) -> Result<Options, Status>
+    ensures { IfOk result (λ o. (2 ≤ o.columns) × (o.columns ≤ 1000)) }
+{
+    let mode = mode_of(options.mode).ok_or(Status::Argument)?;
+    if options.columns < 2 || options.columns > 1000 {
+        return Err(Status::Argument);
+    }
+    Ok(Options {
+        mode,
+        columns: options.columns,
+        prompt: String::from_str(alloc, str::from_utf8(prompt)?)?,
+        history: None,
+        words: None,
+        brackets: options.brackets,
+    })
+}
+
+/// The words of a text, one a row; without a text nothing completes.
+fn words_of(alloc: Global, text: &[u8]) -> Result<Option<Vec<String>>, Status> {
+    if text.is_empty() {
+        return Ok(None);
+    }
+    Ok(Some(load_words(alloc, &mut SliceSource::new(text))?))
+}
+
+/// The history of a text.
+fn history_of(alloc: Global, options: &Options, text: &[u8]) -> Result<FileHistory, Status> {
+    let mut history = FileHistory::with_config(alloc, &config_of(options));
+    history.load_from(alloc, &mut SliceSource::new(text))?;
+    Ok(history)
+}
+
+/// Reads the line of these keys.
+fn play(alloc: Global, options: &KeylineOptions, handed: &Handed<'_>) -> Result<Left, Status> {
+    let chosen = options_of(alloc, options, handed.prompt)?;
+    let words = words_of(alloc, handed.words)?;
+    let history = history_of(alloc, &chosen, handed.history)?;
+    let ring = ring_of(alloc, handed.kills, handed.ends, options.place)?;
+    let (keys, ended) = (handed.keys, options.ended);
+    Ok(read_line(alloc, &chosen, words, history, ring, keys, ended)?)
+}
+
+/// Gives the display bytes that are new.
+fn give_display(
+    bytes: &[u8],
+    sent: usize,
+    room: &mut [u8],
+    step: &mut KeylineStep,
+) -> Result<(), Status>
+    ensures { length room.new ≡ length room.old }
+{
+    let fresh = bytes.get(sent..).ok_or(Status::Argument)?;
+    step.display = fresh.len();
+    step.sent = bytes.len();
+    put(fresh, room).ok_or(Status::Room)
+}
+
+/// Gives what is left of a line that has ended.
+fn give_rest(
+    text: &[u8],
+    history: &[u8],
+    slots: &Slots,
+    rooms: &mut Rooms<'_>,
+) -> Result<(), Status> {
+    put(text, rooms.line).ok_or(Status::Room)?;
+    put(history, rooms.history).ok_or(Status::Room)?;
+    put(&slots.texts, rooms.kills).ok_or(Status::Room)?;
+    put_numbers(&slots.ends, rooms.ends).ok_or(Status::Room)
+}
+
+/// The text of a line; empty where there is none.
+fn text_of(outcome: &Result<String, ReadlineError>) -> &str {
+    match outcome {
+        Ok(text) => text.as_str(),
+        Err(_) => "",
+    }
+}
+
+/// The text of a history, where an entry is new.
+fn saved(alloc: Global, history: FileHistory) -> Result<Vec<u8>, Status> {
+    let mut history = history;
+    let mut text = VecSink::new(alloc);
+    match history.save_to(&mut text) {
+        Ok(()) => Ok(text.into_bytes()),
+        Err(_) => Err(Status::Memory),
+    }
+}
+
+/// Gives what a line left, and answers how it ended.
+fn give(
+    alloc: Global,
+    options: &KeylineOptions,
+    keys: usize,
+    left: Left,
+    rooms: &mut Rooms<'_>,
+    step: &mut KeylineStep,
+) -> Result<Status, Status> {
+    let status = status_of(&left.outcome);
+    match status {
+        Status::Memory => return Err(status),
+        Status::More => {
+            give_display(left.display.bytes(), options.sent, rooms.display, step)?;
+            return Ok(status);
+        }
+        _ => {}
+    }
+    let text = text_of(&left.outcome);
+    let history = saved(alloc, left.history)?;
+    let slots = slots_of(alloc, &left.ring)?;
+    step.line = text.len();
+    step.keys = keys.saturating_sub(left.rest);
+    step.history = history.len();
+    step.kills = slots.texts.len();
+    step.slots = slots.ends.len();
+    step.place = slots.place;
+    give_display(left.display.bytes(), options.sent, rooms.display, step)?;
+    give_rest(text.as_bytes(), &history, &slots, rooms)?;
+    Ok(status)
+}
+
+/// The line of these keys, as far as they go. `words` has a word in each row, for Tab; `history` is
+/// a history's text; `kills` and `ends` are the kill ring. Each room takes what its name says.
+///
+/// The numbers of a status, and what a caller does at each, are in `keyline.h`.
+#[unsafe(no_mangle)]
+pub extern "C" fn keyline_line_checked(
+    alloc: Global,
+    options: &KeylineOptions,
+    keys: &[u8],
+    prompt: &[u8],
+    words: &[u8],
+    history: &[u8],
+    kills: &[u8],
+    ends: &[usize],
+    display_room: &mut [u8],
+    line_room: &mut [u8],
+    history_room: &mut [u8],
+    kills_room: &mut [u8],
+    ends_room: &mut [usize],
+    step: &mut KeylineStep,
+) {
+    *step = KeylineStep {
+        status: 0,
+        display: 0,
+        sent: options.sent,
+        line: 0,
+        keys: 0,
+        history: 0,
+        kills: 0,
+        slots: 0,
+        place: 0,
+    };
+    let handed = Handed {
+        keys,
+        prompt,
+        words,
+        history,
+        kills,
+        ends,
+    };
+    let mut rooms = Rooms {
+        display: display_room,
+        line: line_room,
+        history: history_room,
+        kills: kills_room,
+        ends: ends_room,
+    };
+    let status = match play(alloc, options, &handed) {
+        Ok(left) => match give(alloc, options, keys.len(), left, &mut rooms, step) {
+            Ok(status) | Err(status) => status,
+        },
+        Err(status) => status,
+    };
+    step.status = status.code();
+}

@@ -1,0 +1,183 @@
+//! A line over memory.
+
+ghost use Rattle.std.specs.Prelude.{[], ◌≡◌, ◌≤◌, IfErr, IfOk, OnOk, length, string_bytes, true};
+ghost use Rattle.line_config.specs.Feed.{fresh_feed};
+ghost use Rattle.line_config.specs.Sending.{Takes};
+ghost use Rattle.line_keys.specs.Coming.{made_of};
+ghost use Rattle.line_screen.specs.Calls.{screen_of, sink_of};
+ghost use Rattle.line_screen.specs.Drawing.{row_break};
+ghost use Rattle.keyline.specs.Edits.{texts_of};
+ghost use Rattle.keyline.specs.FewerKeys.{state_over};
+ghost use Rattle.keyline.specs.Sessions.{breaks, history_after};
+ghost use Rattle.keyline_c.specs.Lines.{Ends, IsWant, ReadsLine, given_by_options, last_of};
+
+use keyline::{
+    Bindings, Config, FileHistory, History, Options, ReadlineError, Sink, SliceSource, Source,
+    VecSink, config_of, helper_of,
+};
+use line_editor::{Ran, Renderer, run};
+use line_record::KillRing;
+use line_screen::{KeyReader, ScreenRenderer};
+use std::alloc::Global;
+
+/// What a line left.
+#[derive(Drop)]
+pub(crate) struct Left {
+    pub(crate) outcome: Result<String, ReadlineError>,
+    /// The display bytes.
+    pub(crate) display: VecSink,
+    pub(crate) history: FileHistory,
+    pub(crate) ring: KillRing,
+    /// The bytes of the keys that come after the line.
+    pub(crate) rest: usize,
+}
+
+/// The keys, and after them the end, or the failure that says that more are wanted.
+fn source_of<'k>(keys: &'k [u8], ended: bool) -> SliceSource<'k>
+    ensures { ⟦<SliceSource<'k> as Source>⟧.feed result
+        ≡ fresh_feed keys.entry.now (last_of ended) }
+{
+    if ended {
+        SliceSource::new(keys)
+    } else {
+        SliceSource::failing_after(keys)
+    }
+}
+
+/// A display over memory, of the options' columns.
+fn screen(alloc: Global, options: &Options, config: &Config) -> ScreenRenderer<VecSink>
+    requires { (2 ≤ options.now.columns) × (options.now.columns ≤ 1000) }
+    ensures empty { ⟦<VecSink as Sink>⟧.held (sink_of result) ≡ [] }
+    ensures screen { screen_of result ≡ record {
+      columns = options.now.columns;
+      mode = config.now.grapheme_cluster_mode;
+      bell = config.now.bell_style;
+    } }
+{
+    ScreenRenderer::new(
+        VecSink::new(alloc),
+        options.columns,
+        config.grapheme_cluster_mode(),
+        config.bell_style(),
+    )
+}
+
+/// How many bytes a source still gives, of so many at most.
+fn count_rest(source: SliceSource<'_>, most: usize) -> usize {
+    let mut source = source;
+    for count in 0..most {
+        let Ok(Some(_)) = source.next_byte() else {
+            return count;
+        };
+    }
+    most
+}
+
+/// Whether the display gets a new row where a line ends so.
+fn breaks(outcome: &Result<String, ReadlineError>) -> bool
+    ensures { result ≡ breaks (made_of string_bytes outcome.now) }
+{
+    matches!(
+        outcome,
+        Ok(_) | Err(ReadlineError::Eof | ReadlineError::Interrupted)
+    )
+}
+
+/// Draws a new row.
+fn break_row(out: &mut ScreenRenderer<VecSink>) -> Result<(), ReadlineError>
+    ensures row { OnOk result (Takes ⟦<VecSink as Sink>⟧.held (sink_of out.old) (sink_of out.new)
+        row_break) }
+    ensures fault { IfErr result IsWant }
+{
+    out.write_and_flush("\r\n")
+}
+
+/// Keeps an accepted line in the history.
+fn keep(
+    alloc: Global,
+    outcome: &Result<String, ReadlineError>,
+    history: &mut FileHistory,
+) -> Result<(), ReadlineError>
+    ensures kept { OnOk result (history.new
+        ≡ history_after true (made_of string_bytes outcome.now) history.old) }
+    ensures fault { IfErr result IsWant }
+{
+    if let Ok(text) = outcome {
+        history.add(alloc, text.as_str())?;
+    }
+    Ok(())
+}
+
+/// Draws the end of a line, and keeps it where it is accepted.
+fn close(
+    alloc: Global,
+    outcome: &Result<String, ReadlineError>,
+    out: &mut ScreenRenderer<VecSink>,
+    history: &mut FileHistory,
+) -> Result<(), ReadlineError>
+    ensures ends { OnOk result (Ends ⟦<VecSink as Sink>⟧.held (made_of string_bytes outcome.now)
+        (sink_of out.old) (sink_of out.new) history.old history.new) }
+    ensures fault { IfErr result IsWant }
+{
+    if breaks(outcome) {
+        break_row(out)?;
+    }
+    keep(alloc, outcome, history)
+}
+
+/// Reads a line, draws it, and keeps it in the history where it is accepted. Refused where memory is
+/// wanting for its end.
+pub(crate) fn read_line<'k>(
+    alloc: Global,
+    options: &Options,
+    words: Option<Vec<String>>,
+    history: FileHistory,
+    ring: KillRing,
+    keys: &'k [u8],
+    ended: bool,
+) -> Result<Left, ReadlineError>
+    requires { (2 ≤ options.now.columns) × (options.now.columns ≤ 1000) }
+    ensures reads { let given = given_by_options options.now (texts_of words) in
+        let state = state_over ring history options.now.mode keys.entry.now (last_of ended) in
+        IfOk result (ReadsLine ⟦<VecSink as Sink>⟧.held given state (length keys.entry.now)) }
+    ensures fault { IfErr result IsWant }
+{
+    let config = config_of(options);
+    let bindings = Bindings::new(alloc).unwrap();
+    let mut history = history;
+    let mut ring = ring;
+    let mut reader = KeyReader::new(source_of(keys, ended), options.mode);
+    let out = screen(alloc, options, &config);
+    let helper = helper_of(options, words);
+    let prompt = options.prompt.as_str();
+    let Ran {
+        mut out,
+        outcome,
+        ..
+    } = run(
+        alloc,
+        &mut reader,
+        out,
+        prompt,
+        helper,
+        &history,
+        &config,
+        &bindings,
+        &mut ring,
+    );
+    close(alloc, &outcome, &mut out, &mut history)?;
+    let (source, ahead) = reader.into_parts();
+    let rest = count_rest(source, keys.len());
+    let rest = if ahead.is_some() {
+        rest.saturating_add(1)
+    } else {
+        rest
+    };
+    Ok(Left {
+        outcome,
+        display: out.into_sink(),
+        history,
+        ring,
+        rest,
+    })
+}

@@ -1,0 +1,230 @@
+/* Calls of keyline.h by its letter: rooms of just the size, arguments that can't be meant, and what goes on from line to
+ * line. It prints what failed, and then how much passed and how much failed. */
+#include "../crates/keyline_c/c/keyline.h"
+#include <stdio.h>
+#include <stdlib.h>
+#include <string.h>
+
+static int passed, failed;
+
+static void hold(bool holds, const char *what)
+{
+    if (holds) passed += 1;
+    else failed += 1, printf("FAILED: %s\n", what);
+}
+
+/* A call, with rooms of their own from malloc, so that a byte beyond them is seen. */
+struct call {
+    struct keyline_options options;
+    struct keyline_given given;
+    struct keyline_room room;
+    struct keyline_step step;
+    void *history, *kills, *ends; /* what a line before left */
+};
+
+static struct keyline_text text(const char *bytes)
+{
+    return (struct keyline_text){(const uint8_t *)bytes, strlen(bytes)};
+}
+
+static struct keyline_space space(size_t size)
+{
+    return (struct keyline_space){size > 0 ? malloc(size) : NULL, size};
+}
+
+static struct call call(const char *keys)
+{
+    struct call c = {.options = {.columns = 80}, .given = {.keys = text(keys), .prompt = text("> ")}};
+    c.room = (struct keyline_room){space(4096), space(4096), space(4096), space(4096), malloc(KEYLINE_SLOTS * sizeof(size_t))};
+    return c;
+}
+
+static void drop(struct call *c)
+{
+    free(c->room.display.bytes), free(c->room.line.bytes), free(c->room.history.bytes), free(c->room.kills.bytes), free(c->room.ends);
+    free(c->history), free(c->kills), free(c->ends);
+}
+
+static uint8_t made(struct call *c)
+{
+    keyline_line(&c->options, &c->given, &c->room, &c->step);
+    return c->step.status;
+}
+
+/* The status of one call of these keys, after a change of it. */
+#define STATUS(what, keys, change, status) \
+    do { \
+        struct call c = call(keys); \
+        struct keyline_room room = c.room; \
+        change; \
+        hold(made(&c) == (status), what); \
+        c.room = room; \
+        drop(&c); \
+    } while (0)
+
+/* Whether the line is this one. */
+static bool is_line(struct call *c, const char *line)
+{
+    return c->step.status == KEYLINE_LINE && c->step.line == strlen(line) && memcmp(c->room.line.bytes, line, c->step.line) == 0;
+}
+
+/* Begins the next line with what the call left. */
+static void go_on(struct call *c, const char *keys)
+{
+    if (c->step.history > 0) {
+        free(c->history);
+        c->history = c->room.history.bytes;
+        c->given.history = (struct keyline_text){c->history, c->step.history};
+        c->room.history = space(4096);
+    }
+    free(c->kills), free(c->ends);
+    c->kills = c->room.kills.bytes;
+    c->ends = c->room.ends;
+    c->given.kills = (struct keyline_text){c->kills, c->step.kills};
+    c->given.ends = c->ends;
+    c->given.slots = c->step.slots;
+    c->room.kills = space(4096);
+    c->room.ends = malloc(KEYLINE_SLOTS * sizeof(size_t));
+    c->options.place = c->step.place;
+    c->options.sent = 0;
+    c->given.keys = text(keys);
+}
+
+static void bad_arguments(void)
+{
+    static const size_t past[] = {9}, back[] = {3, 2}, inside[] = {1, 2};
+    STATUS("no column", "", c.options.columns = 0, KEYLINE_ARGUMENT);
+    STATUS("one column", "", c.options.columns = 1, KEYLINE_ARGUMENT);
+    STATUS("two columns", "", c.options.columns = 2, KEYLINE_MORE);
+    STATUS("1,000 columns", "", c.options.columns = 1000, KEYLINE_MORE);
+    STATUS("1,001 columns", "", c.options.columns = 1001, KEYLINE_ARGUMENT);
+    STATUS("65,535 columns", "", c.options.columns = 65535, KEYLINE_ARGUMENT);
+    STATUS("Vi", "", c.options.mode = KEYLINE_VI, KEYLINE_MORE);
+    STATUS("no mode", "", c.options.mode = 2, KEYLINE_ARGUMENT);
+    STATUS("no mode by far", "", c.options.mode = 255, KEYLINE_ARGUMENT);
+    STATUS("more sent than there is", "", c.options.sent = 4096, KEYLINE_ARGUMENT);
+    STATUS("a prompt that is no UTF-8", "", c.given.prompt = text("\xff"), KEYLINE_ARGUMENT);
+    STATUS("words that are no UTF-8", "", c.given.words = text("a\n\xff\n"), KEYLINE_ARGUMENT);
+    STATUS("a history that is no UTF-8", "", c.given.history = text("a\n\xff\n"), KEYLINE_ARGUMENT);
+    STATUS("kills that are no UTF-8", "", (c.given.kills = text("\xff\xff"), c.given.ends = inside, c.given.slots = 2), KEYLINE_ARGUMENT);
+    STATUS("a kill in mid-character", "", (c.given.kills = text("\u00e9"), c.given.ends = inside, c.given.slots = 2), KEYLINE_ARGUMENT);
+    STATUS("a kill past the texts", "", (c.given.kills = text("abc"), c.given.ends = past, c.given.slots = 1), KEYLINE_ARGUMENT);
+    STATUS("kills that go back", "", (c.given.kills = text("abc"), c.given.ends = back, c.given.slots = 2), KEYLINE_ARGUMENT);
+    STATUS("a place without a slot", "", c.options.place = 1, KEYLINE_ARGUMENT);
+    STATUS("a place past the slots", "", (c.given.kills = text("abc"), c.given.ends = inside, c.given.slots = 2, c.options.place = 2), KEYLINE_ARGUMENT);
+    STATUS("more slots than there are", "", (c.given.ends = c.room.ends, c.given.slots = KEYLINE_SLOTS + 1), KEYLINE_ARGUMENT);
+    STATUS("slots without ends", "", c.given.slots = 1, KEYLINE_ARGUMENT);
+    STATUS("keys without a pointer", "", c.given.keys = ((struct keyline_text){NULL, 1}), KEYLINE_ARGUMENT);
+    STATUS("a prompt without a pointer", "", c.given.prompt = ((struct keyline_text){NULL, 1}), KEYLINE_ARGUMENT);
+    STATUS("words without a pointer", "", c.given.words = ((struct keyline_text){NULL, 1}), KEYLINE_ARGUMENT);
+    STATUS("a history without a pointer", "", c.given.history = ((struct keyline_text){NULL, 1}), KEYLINE_ARGUMENT);
+    STATUS("kills without a pointer", "", c.given.kills = ((struct keyline_text){NULL, 1}), KEYLINE_ARGUMENT);
+    STATUS("a length that none can have", "", c.given.prompt.length = SIZE_MAX, KEYLINE_ARGUMENT);
+    STATUS("a display without a pointer", "", c.room.display.bytes = NULL, KEYLINE_ARGUMENT);
+    STATUS("a line without a pointer", "", c.room.line.bytes = NULL, KEYLINE_ARGUMENT);
+    STATUS("a history's room without a pointer", "", c.room.history.bytes = NULL, KEYLINE_ARGUMENT);
+    STATUS("room for kills without a pointer", "", c.room.kills.bytes = NULL, KEYLINE_ARGUMENT);
+    STATUS("room for ends without a pointer", "", c.room.ends = NULL, KEYLINE_ARGUMENT);
+    STATUS("a room that none can have", "", c.room.line.size = SIZE_MAX, KEYLINE_ARGUMENT);
+    struct call c = call("");
+    keyline_line(NULL, &c.given, &c.room, &c.step);
+    hold(c.step.status == KEYLINE_ARGUMENT, "no options");
+    keyline_line(&c.options, NULL, &c.room, &c.step);
+    hold(c.step.status == KEYLINE_ARGUMENT, "nothing given");
+    keyline_line(&c.options, &c.given, NULL, &c.step);
+    hold(c.step.status == KEYLINE_ARGUMENT, "no rooms");
+    keyline_line(&c.options, &c.given, &c.room, NULL);
+    drop(&c);
+}
+
+static void endings(void)
+{
+    STATUS("no key", "", (void)0, KEYLINE_MORE);
+    STATUS("no key, without pointers", "", (c.given.keys = (struct keyline_text){0}, c.given.prompt = (struct keyline_text){0}), KEYLINE_MORE);
+    STATUS("half a key", "\x1b[", (void)0, KEYLINE_MORE);
+    STATUS("half a character", "\xc3", (void)0, KEYLINE_MORE);
+    STATUS("a line", "ab\r", (void)0, KEYLINE_LINE);
+    STATUS("Ctrl-C", "ab\x03", (void)0, KEYLINE_INTERRUPTED);
+    STATUS("Ctrl-D", "\x04", (void)0, KEYLINE_END);
+    STATUS("the keys' end", "ab", c.options.ended = true, KEYLINE_END);
+    STATUS("no character", "\xff", (void)0, KEYLINE_NOT_UTF8);
+    STATUS("a paste in the middle of two keys", "\x18\x1b[200~x\x1b[201~", (void)0, KEYLINE_PASTE_OUT_OF_PLACE);
+    STATUS("an open bracket", "(\r", c.options.brackets = true, KEYLINE_MORE);
+    STATUS("an open bracket that may stand", "(\r", (void)0, KEYLINE_LINE);
+}
+
+/* What was sent for fewer keys is the beginning of what is sent for more. */
+static void beginnings(const char *keys, uint8_t mode)
+{
+    struct call all = call(keys);
+    size_t count = all.given.keys.length, sent = 0;
+    all.options.mode = mode;
+    made(&all);
+    for (size_t n = 0; n < count; n++) {
+        struct call c = call(keys);
+        c.given.keys.length = n;
+        c.options.mode = mode;
+        c.options.sent = sent;
+        hold(made(&c) == KEYLINE_MORE && c.step.sent == sent + c.step.display && c.step.sent <= all.step.sent &&
+                 memcmp(c.room.display.bytes, all.room.display.bytes + sent, c.step.display) == 0,
+             "display bytes of fewer keys");
+        sent = c.step.sent;
+        drop(&c);
+    }
+    drop(&all);
+}
+
+/* A room that is too small, and then one of just the size. */
+static void rooms(void)
+{
+    struct call c = call("one \x15two\rrest");
+    hold(made(&c) == KEYLINE_LINE && is_line(&c, "two") && c.step.keys == 9, "a line, and the keys that are left");
+    struct keyline_step all = c.step;
+    for (int which = 0; which < 4; which++) {
+        struct call small = call("one \x15two\rrest");
+        struct keyline_space *it = which == 0 ? &small.room.display : which == 1 ? &small.room.line : which == 2 ? &small.room.history : &small.room.kills;
+        size_t size = which == 0 ? all.display : which == 1 ? all.line : which == 2 ? all.history : all.kills;
+        free(it->bytes);
+        *it = space(size - 1);
+        hold(made(&small) == KEYLINE_ROOM, "a room of a byte too few");
+        hold(small.step.display == all.display && small.step.line == all.line && small.step.history == all.history && small.step.kills == all.kills, "the lengths that are needed");
+        free(it->bytes);
+        *it = space(size);
+        hold(made(&small) == KEYLINE_LINE && is_line(&small, "two"), "a room of just the size");
+        drop(&small);
+    }
+    drop(&c);
+}
+
+static void lines(void)
+{
+    struct call c = call("one \x15two\r");
+    hold(made(&c) == KEYLINE_LINE && is_line(&c, "two"), "a line after a kill");
+    hold(c.step.slots == 1 && c.step.kills == 4 && memcmp(c.room.kills.bytes, "one ", 4) == 0, "the kill ring");
+    go_on(&c, "\x19\r");
+    hold(made(&c) == KEYLINE_LINE && is_line(&c, "one "), "a kill of the line before, yanked");
+    go_on(&c, "\x10\x10\r");
+    hold(made(&c) == KEYLINE_LINE && is_line(&c, "two"), "the line before the last");
+    go_on(&c, "gone\x17\x03");
+    hold(made(&c) == KEYLINE_INTERRUPTED && c.step.slots == 2 && c.step.place == 1, "the ring after Ctrl-C");
+    go_on(&c, "\x19\x1by\r");
+    hold(made(&c) == KEYLINE_LINE && is_line(&c, "one ") && c.step.place == 0, "a ring that is turned");
+    go_on(&c, "\x19\r");
+    hold(made(&c) == KEYLINE_LINE && is_line(&c, "one "), "and stays so");
+    go_on(&c, "be\t\r");
+    c.given.words = text("alpha\nbeta\n");
+    hold(made(&c) == KEYLINE_LINE && is_line(&c, "beta"), "a word that Tab completes");
+    drop(&c);
+}
+
+int main(void)
+{
+    bad_arguments();
+    endings();
+    beginnings("ab\x1b[Dc\u00e9\x1b[200~p\rq\x1b[201~\x01\x0b\x19\x1f\r", KEYLINE_EMACS);
+    beginnings("one two\x1b" "bdwu0fnx3p\x1b" "A!\r", KEYLINE_VI);
+    rooms();
+    lines();
+    printf("%d passed, %d failed\n", passed, failed);
+    return failed > 0;
+}
