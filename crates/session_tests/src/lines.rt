@@ -61,6 +61,7 @@ fn asked(
 }
 
 /// Asks as the words before ` | ` say; the keys stand after it, and where the display is looked at, its bytes behind them.
+#[derive(Drop)]
 struct Asked;
 
 impl Player for Asked {
