@@ -2,8 +2,8 @@
 """Lines for programs in C: `libkeyline_c.a`, with crates/keyline_c/c/keyline.h, under tests/c_calls.c and the console of
 crates/keyline_c/c/console.c: on pipes, against the program `keyline` by the same keys, on tmux and under valgrind.
 
-`rt ci` proves the crate and leaves the libraries that it stands on; `rt lib` makes the archive of them. `--built` takes the
-archive as it is.
+`rt ci` proves the crate and leaves the libraries that it stands on. Of them the archive is built here, since `rt lib` would
+prove them all again. `--built` takes the archive as it is.
 """
 import os
 import pathlib
@@ -16,6 +16,8 @@ import tempfile
 import time
 
 from checks import HUNG, PROGRAM, TOP, Failed, run_all, same, shim
+from mutants import Checker
+from wrong_bodies import below, crates_of
 
 CRATE = os.path.join(TOP, "crates", "keyline_c")
 ARCHIVE = os.path.join(CRATE, "out", "libkeyline_c.a")
@@ -45,10 +47,26 @@ EMACS = [
 VI = [b"ab\rcd\r", b"one two\x1bbdwu0x3p\r", b"a b c\x1bcWx\x1b.\r\x1bpk\r", b"dd\x1bdd\ri\x1bP\r"]
 
 
+def build_archive():
+    """Proves the crate over the libraries that `rt ci` has left, and builds it."""
+    uses = crates_of(TOP)
+    rlib = Checker(TOP, uses).rlib
+    words = [os.path.join(KIT, "bin", "rattle"), "build", "--crate-name", "keyline_c", "src/lib.rt", "--crate-type", "staticlib"]
+    for name in ["std", *uses["keyline_c"]]:
+        words += ["--extern", f"{name}={rlib(name)}"]
+    for folder in [os.path.join(KIT, "rlibs"), *(os.path.dirname(rlib(it)) for it in below(uses, "keyline_c"))]:
+        words += ["-L", f"dependency={folder}"]
+    words += ["--antt-project", os.path.join(KIT, "rattle", "logic", "antt-project.json")]
+    words += ["--logic-built", os.path.join(KIT, "logic_built"), "--links", "keyline_c=", "--jobs", "2"]
+    words += ["--toolchain", os.path.join(KIT, "toolchain"), "--backend", "llvm", "-o", ARCHIVE]
+    os.makedirs(os.path.dirname(ARCHIVE), exist_ok=True)
+    subprocess.run(words, cwd=CRATE, check=True, stdout=subprocess.DEVNULL)
+
+
 def made():
     """The two programs, linked with the archive."""
     if "--built" not in sys.argv:
-        subprocess.run(["rt", "lib"], cwd=CRATE, check=True, stdout=subprocess.DEVNULL)
+        build_archive()
     os.makedirs(os.path.dirname(CONSOLE), exist_ok=True)
     for program, source in ((CONSOLE, os.path.join(CRATE, "c", "console.c")), (CALLS, os.path.join(TOP, "tests", "c_calls.c"))):
         words = ["gcc", "-Wall", "-Wextra", "-Werror", "-O2", "-g", "-I", os.path.join(CRATE, "c"), "-o", program]

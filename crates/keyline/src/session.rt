@@ -133,8 +133,7 @@ fn load<F: Source>(
 ) -> Result<FileHistory, ReadlineError>
     ensures loaded { IfOk result (Loaded (IsTrue (F.feed source.new).told) config.now
         (F.feed source.old)) }
-    ensures fault { IfErr result (LoadRefused config.now (F.feed source.old)
-        (F.feed source.new)) }
+    ensures fault { IfErr result (LoadRefused config.now (F.feed source.old) (F.feed source.new)) }
     ensures remains { Remains (F.feed source.old) (F.feed source.new) }
 {
     let mut history = FileHistory::with_config(alloc, config);
@@ -160,8 +159,7 @@ fn begin<F: Source>(
     requires { (F.feed source.old).failed ≡ false }
     ensures ok { IfOk result (Begins (IsTrue (F.feed source.new).told) config.now prompt.now
         (F.feed source.old)) }
-    ensures fault { IfErr result (LoadRefused config.now (F.feed source.old)
-        (F.feed source.new)) }
+    ensures fault { IfErr result (LoadRefused config.now (F.feed source.old) (F.feed source.new)) }
     ensures remains { Remains (F.feed source.old) (F.feed source.new) }
 {
     let prompt = String::from_str(alloc, prompt)?;
