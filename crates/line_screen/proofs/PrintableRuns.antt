@@ -1,5 +1,5 @@
 -- Printable characters of a pasted text, taken several at once.
-use Rattle.std.proofs.Common.{◌≡◌, ℕ, suc, ◌+◌, ◌≤◌, ◌<◌, ◌==◌, ◌&&◌, Bool, true, false, List, [], ◌∷◌, ◌++◌, Option, Some, None, take, length, refl, sym, ap, ◌∙◌, append_assoc, append-nil, arith}
+use Rattle.std.proofs.Common.{◌≡◌, ℕ, suc, ◌+◌, ◌<◌, ◌==◌, ◌&&◌, Bool, true, false, List, [], ◌∷◌, ◌++◌, Option, None, take, refl, sym, ap, ◌∙◌, append_assoc, append-nil, arith}
 use Rattle.std.specs.List.{list_all, prefix_len}
 use Rattle.std.proofs.lemmas.Bool.{and_from, and_parts}
 use Rattle.std.proofs.lemmas.Bool.Decides.{nat_tests}
@@ -12,7 +12,7 @@ use Rattle.line_screen.specs.declared.reading.reader.KeyReader.{KeyReader}
 use Rattle.line_screen.specs.Input.{Next, chars_of}
 use Rattle.line_screen.specs.KeyGrammar.{Readings, in_paste, marker, put}
 use Rattle.line_screen.specs.KeyReading.{TakesRun}
-use Rattle.line_screen.specs.Reader.{feed_in, left_in, kept_of}
+use Rattle.line_screen.specs.Reader.{left_in}
 use Rattle.line_screen.specs.Unread.{with_kept}
 use Rattle.line_screen.proofs.EncodedChars.{encode_one}
 use Rattle.line_screen.proofs.Onward.{leads_then, On}

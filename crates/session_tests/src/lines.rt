@@ -27,7 +27,7 @@ fn asked_by(alloc: Global, word: &str) -> Result<(u16, String), AllocError> {
 }
 
 /// Asks for a line for each of these words, tells what is answered, and then ends the session; the display's bytes.
-fn asked(
+fn ask_for(
     alloc: Global,
     words: &str,
     keys: &[u8],
@@ -69,7 +69,7 @@ impl Player for Asked {
         let (words, rest) = call.split_once(" | ").unwrap_or((call, ""));
         let (keys, shown) = rest.split_once(" | ").unwrap_or((rest, ""));
         let mut said = String::new(alloc);
-        let display = asked(alloc, words, &typed(alloc, keys)?, &mut said)?;
+        let display = ask_for(alloc, words, &typed(alloc, keys)?, &mut said)?;
         if !shown.is_empty() && display != display_meant(alloc, shown)? {
             said.push_str(" shows ")?;
             said.push_str(pictured_bytes(alloc, &display)?.as_str())?;
