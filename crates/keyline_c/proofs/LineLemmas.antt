@@ -2,7 +2,6 @@
 use Rattle.std.proofs.Common.{◌≡◌, inl, inr, ℕ, Bool, true, List, [], ◌++◌, Option, None, length, ◌+◌, arith, Result, Ok, Err, refl, sym, ap, ◌∙◌, subst, IsTrue}
 use Rattle.std.specs.Prelude.{flat_map, IfErr, String, string_bytes}
 use Rattle.std.specs.Global.{Global}
-use Rattle.line_config.specs.Feed.{Feed, fresh_feed}
 use Rattle.line_config.specs.declared.config.Config.{Config}
 use Rattle.line_config.specs.declared.device.Last.{Last}
 use Rattle.line_config.specs.declared.errors.ReadlineError.{ReadlineError}
@@ -18,7 +17,7 @@ use Rattle.line_keys.specs.Coming.{Coming, made_of}
 use Rattle.line_keys.specs.Feeds.{KeyFeed}
 use Rattle.line_record.specs.Ring.{Ring}
 use Rattle.line_screen.specs.Calls.{Screen, bytes_of, canvas_of, screen_of, sink_of, ruler_of}
-use Rattle.line_screen.specs.Unread.{kept_count, with_kept}
+use Rattle.line_screen.specs.Unread.{kept_count}
 use Rattle.line_screen.specs.Drawing.{break_if}
 use Rattle.line_screen.specs.declared.renderer.ScreenRenderer.{ScreenRenderer}
 use Rattle.line_screen.proofs.CallLemmas.{sent_in_all}
@@ -72,11 +71,11 @@ module _ {H K T : Type 0} (held : VecSink → List ℕ) (failed : VecSink → Bo
       ];
     }
 
--- what a reader begins with
-pub bound_at : (kept : Option ℕ) (f g : Feed) (keys : List ℕ) (last : Last) → kept ≡ None → f ≡ g → g ≡ fresh_feed keys last → (with_kept kept f).bound ≡ length keys
-bound_at kept f g keys last none same fresh =
+-- a reader that keeps no byte reads no more than its source has
+pub bound_at : (kept : Option ℕ) (count : ℕ) (keys : List ℕ) → kept ≡ None → count ≡ length keys → count + kept_count kept ≡ length keys
+bound_at kept count keys none is =
     let zero_more : length keys + kept_count None ≡ length keys = search arith in
-    ap (λ k. (with_kept k f).bound) none ∙ (ap (λ (x : Feed). x.bound + kept_count None) (same ∙ fresh) ∙ zero_more)
+    ap (λ k. count + kept_count k) none ∙ (ap (λ n. n + kept_count None) is ∙ zero_more)
 
 -- the same by the options of the line
 pub line_read : {K T : Type 0} (held : VecSink → List ℕ) (failed : VecSink → Bool) (options : Options) (words : Option (List (List ℕ))) (keys : List ℕ) (last : Last) (config : Config) (custom : Custom) (prompt : List ℕ)

@@ -181,25 +181,32 @@ fn give(
     rooms: &mut Rooms<'_>,
     step: &mut KeylineStep,
 ) -> Result<Status, Status> {
-    let status = status_of(&left.outcome);
+    let Left {
+        outcome,
+        display,
+        history,
+        ring,
+        rest,
+    } = left;
+    let status = status_of(&outcome);
     match status {
         Status::Memory => return Err(status),
         Status::More => {
-            give_display(left.display.bytes(), options.sent, rooms.display, step)?;
+            give_display(display.bytes(), options.sent, rooms.display, step)?;
             return Ok(status);
         }
         _ => {}
     }
-    let text = text_of(&left.outcome);
-    let history = saved(alloc, left.history)?;
-    let slots = slots_of(alloc, &left.ring)?;
+    let history = saved(alloc, history)?;
+    let slots = slots_of(alloc, &ring)?;
+    let text = text_of(&outcome);
     step.line = text.len();
-    step.keys = keys.saturating_sub(left.rest);
+    step.keys = keys.saturating_sub(rest);
     step.history = history.len();
     step.kills = slots.texts.len();
     step.slots = slots.ends.len();
     step.place = slots.place;
-    give_display(left.display.bytes(), options.sent, rooms.display, step)?;
+    give_display(display.bytes(), options.sent, rooms.display, step)?;
     give_rest(text.as_bytes(), &history, &slots, rooms)?;
     Ok(status)
 }

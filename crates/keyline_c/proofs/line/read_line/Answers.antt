@@ -1,7 +1,8 @@
 -- What `run` leaves of the keys, by the options.
-use Rattle.std.proofs.Common.{◌≡◌, [], refl, ◌∙◌, ap}
+use Rattle.std.proofs.Common.{◌≡◌, [], refl, ◌∙◌, ap, length}
 use Rattle.std.proofs.lemmas.Result.{MatchResult-at_ok}
 use Rattle.line_config.specs.Feed.{Feed}
+use Rattle.line_config.specs.declared.memory.SliceSource.{SliceSource}
 use Rattle.keyline.specs.Edits.{texts_of}
 use Rattle.keyline.specs.Sessions.{coming_from}
 use Rattle.keyline.proofs.EditLemmas.{none_bound}
@@ -17,5 +18,6 @@ returns-clause-reads c =
     c.run-out.ensures refl c.in_ok-close.ensures.ends c.screen-out.ensures.empty
     c.config_of-config.ensures bound c.as_str-prompt.ensures.value c.helper_of-helper.ensures c.screen-out.ensures.screen
     (c.new-reader.ensures.coming (ap (λ (f : Feed). f.failed) c.source_of.ensures) ∙ ap (λ (f : Feed). coming_from c.args.options.now.mode f.coming f.last) c.source_of.ensures)
-    (bound_at _ _ _ _ _ c.new-reader.ensures.kept (ap _ c.new-reader.ensures.source) c.source_of.ensures)
+    (bound_at _ _ _ c.new-reader.ensures.kept
+    (ap (λ (s : SliceSource). length s.bytes.now) c.new-reader.ensures.source ∙ ap (λ (f : Feed). f.bound) c.source_of.ensures))
     refl c.into_sink.ensures refl refl
