@@ -21,8 +21,8 @@ fn asked_by(alloc: Global, word: &str) -> Result<(u16, String), AllocError> {
     let (columns, prompt) = word.split_once(':').unwrap_or((word, ">␠"));
     let columns: u16 = columns.parse().unwrap_or(80);
     match String::from_utf8(meant_bytes(alloc, prompt)?) {
-        Ok(prompt) => Ok((columns.max(2).min(1000), prompt)),
-        Err(_) => Ok((columns.max(2).min(1000), String::new(alloc))),
+        Ok(prompt) => Ok((columns, prompt)),
+        Err(_) => Ok((columns, String::new(alloc))),
     }
 }
 
@@ -48,7 +48,7 @@ fn ask_for(
     )?;
     for word in words.split_whitespace() {
         let (columns, prompt) = asked_by(alloc, word)?;
-        session.set_columns(columns);
+        session.set_columns(columns.max(2).min(1000));
         let LineRead {
             session: next,
             line,
