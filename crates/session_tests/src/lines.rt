@@ -1,7 +1,10 @@
 //! Lines that are handed back, each with columns and a prompt of its own; what one begins with after the refusal of another;
 //! and entries that a history is given by hand.
 
-use keyline::{Bindings, Config, History, LineRead, ReadlineError, Session, SliceSource, VecSink};
+use keyline::prompter::Prompter;
+use keyline::{
+    Bindings, Config, History, LineRead, ReadlineError, Session, SliceSource, VecSink, laws,
+};
 use session_rows::notation::{display_meant, typed};
 use stand_ins::rows::{Player, rows_hold};
 use stand_ins::tables::{meant_bytes, pictured_bytes};
@@ -122,5 +125,49 @@ fn entries_given_by_hand(rt: HostRuntime) -> Result<(), Fail> {
     assert_eq!(rt; session.history().len(), 2);
     let read = session.read_line("> ");
     assert!(rt; read.line == Ok(String::from_str(alloc, "a")?));
+    Ok(())
+}
+
+/// The same for each line.
+#[derive(Drop)]
+struct Arrow;
+
+impl Prompter for Arrow {
+    ghost use Rattle.std.specs.Prelude.{◌∷◌, []};
+
+    ghost lines = { λ arrow line. record { prompt = 0x3E ∷ []; columns = 4 } };
+
+    fn prompt(&self) -> &str {
+        ">"
+    }
+
+    fn columns(&self) -> u16 {
+        4
+    }
+
+    fn advance(&mut self) {}
+}
+
+/// The law of lines, over a prompter.
+#[test]
+fn lines_until_one_is_refused(rt: HostRuntime) -> Result<(), Fail> {
+    let alloc = rt.alloc();
+    let session = Session::open(
+        alloc,
+        Config::builder().build(),
+        Bindings::new(alloc)?,
+        SliceSource::new(b""),
+        None::<()>,
+        "> ",
+        SliceSource::new(b"abc\rd\r"),
+        80,
+        VecSink::new(alloc),
+        VecSink::new(alloc),
+        VecSink::new(alloc),
+    )?;
+    let (session, why) = laws::lines(session, Arrow);
+    assert_eq!(rt; why, ReadlineError::Eof);
+    let end = session.finish(why);
+    assert!(rt; end.lines.bytes() == b"abc\nd\n".as_slice());
     Ok(())
 }
