@@ -106,7 +106,7 @@ def ctrl_c_gives_up_a_line_and_the_rows_before_it():
     plays(
         (b"SELECT 1" + ENTER + ENTER, ["sql> SELECT 1", "", "...>"], (2, 5)),
         (b"AS" + CTRL_C, ["sql> SELECT 1", "", "...> AS", "sql>"], (3, 5)),
-        (b"SELECT 2;" + ENTER, ["sql> SELECT 1", "", "...> AS", "sql> SELECT 2;", "| 2 |", "|---|", "| 2 |"], (7, 0)),
+        (b"SELECT 2;" + ENTER, ["sql> SELECT 1", "", "...> AS", "sql> SELECT 2;", "| 2 |", "|---|", "| 2 |", "sql>"], (7, 5)),
     )
 
 
