@@ -8,6 +8,8 @@ TOP = os.path.dirname(os.path.dirname(os.path.realpath(__file__)))
 OWNER = re.compile(r"(?:pub(?:\([^)]*\))? )?(?:trait (\w+)|impl(?:<.*?>)? (?:(.+?) for )?(.+?) ?(?:where\b.*)?\{?\Z)")
 CALL = re.compile(r"\s*(pub )?(?:pub\([^)]*\) )?(?:const |extern \"C\" )?fn (\w+)")
 CLAUSE = re.compile(r"\s*(?:requires|ensures)\*?(?: (\w+))? \{")
+BODY = re.compile(r"\s*(?:requires|ensures|ghost|where)\b|.*[{;]\Z")
+REFUSES = re.compile(r"-> (?:\w+::)*Result<")
 TYPE = re.compile(r"\A(?:pub(?:\([^)]*\))? )?(?:struct|enum|trait|type) (\w+)")
 DEFINED = re.compile(r"^(  |)((?:abbrev |unfoldable )?)pub ((?:data |record )?)(\S+)(?= :| \(| \{|$)", re.M)
 MODULE = re.compile(r"^pub mod (\w+);", re.M)
@@ -69,6 +71,7 @@ class Crate:
 
     def __init__(self, name):
         self.name, self.calls, self.laws, self.types, self.public, self.specs, self.cites = name, {}, set(), set(), {}, {}, {}
+        self.refusing = {}
         for file in files_under(f"crates/{name}/src", ".rt"):
             self.read_source(file, file.endswith("/laws.rt"))
         for file in files_under(f"crates/{name}/specs", ".antt"):
@@ -77,7 +80,7 @@ class Crate:
         self.modules, self.handed_out = self.read_library()
 
     def read_source(self, file, is_laws):
-        owners, clauses = [], set()
+        owners, clauses, is_shared, head = [], set(), False, None
         part = file.split("/src/")[1].removesuffix(".rt")
         for line in lines_of(file):
             owner, call, clause = OWNER.match(line), CALL.match(line), CLAUSE.match(line)
@@ -85,6 +88,7 @@ class Crate:
                 owners = []
             elif owner:
                 owners = [last_word(name) for name in owner.groups() if name]
+                is_shared = line.startswith("pub trait ")
             self.types.update(TYPE.findall(line))
             for cited in CITED.findall(line):
                 self.cites.setdefault(cited, {})[part] = True
@@ -97,7 +101,12 @@ class Crate:
                     self.public[names[-1]] = (part, owners, call[2])
                 if is_laws:
                     self.laws.add(call[2])
-            elif clause and clause[1]:
+                head = (part, owners, call[2]) if (call[1] or is_shared and owners) and not is_laws else None
+            if head and REFUSES.search(line):
+                self.refusing["::".join([*owners[-1:], head[2]])] = head
+            if BODY.match(line):
+                head = None
+            if clause and clause[1] and not call:
                 clauses.add(clause[1])
 
     def read_library(self):
@@ -105,7 +114,7 @@ class Crate:
         if not has_library(self.name):
             return set(), set()
         text = "\n".join(lines_of("crates", self.name, "src", "lib.rt"))
-        handed = [(many or one).split(",") for module, many, one in HANDED.findall(text) if module not in CRATES]
+        handed = [(many or one).split(",") for module, many, one in HANDED.findall(text) if module not in {*CRATES} - {self.name}]
         return set(MODULE.findall(text)), {name.strip() for names in handed for name in names} - {""}
 
     def public_calls(self):
@@ -113,6 +122,12 @@ class Crate:
         for name, (part, owners, call) in sorted(self.public.items()):
             if part in self.modules or self.handed_out.intersection(owners or [call]):
                 yield name, {name, *owners, *(f"{owner}::{call}" for owner in owners)}
+
+    def refusing_calls(self):
+        """Each call of the library that answers a `Result`, its own or that of a trait which it hands out."""
+        for name, (part, owners, call) in sorted(self.refusing.items()):
+            if part in self.modules or self.handed_out.intersection(owners or [call]):
+                yield name
 
     def lacks(self, name, clauses):
         """What of a call, a type or a law and its clauses isn't there."""

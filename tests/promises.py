@@ -1,7 +1,7 @@
 #!/usr/bin/env python3
 """What README and docs/ name is there: each call, clause, law and definition, each named wrong body, each file and line that is
-linked, and the kit; and docs/PROMISES.md names each law and each public call of the libraries. And what no document can say
-for a proof: that nothing but the log's own walks sets what the log has.
+linked, and the kit; docs/PROMISES.md names each law and each public call of the libraries, and docs/REFUSALS.md each call that
+answers a `Result`. And what no document can say for a proof: that nothing but the log's own walks sets what the log has.
 
     tests/promises.py            checks
     tests/promises.py --write    writes docs/NAMES.md anew, and the numbers of the lines that are linked, and then checks
@@ -82,6 +82,35 @@ def check_promises(checks, crates):
         for call, words in crate.public_calls() if name in LIBRARIES else ():
             is_named = any((name, word) in named for word in words)
             checks.expect(is_named, f"PROMISES: {call} of {name} isn't named, nor is its type")
+
+
+def calls_of(cell):
+    """The calls of a row of docs/REFUSALS.md: the type stands before the first call of a type alone."""
+    owner, found = None, []
+    for name in re.findall(r"`([^`]+)`", cell):
+        of, colon, call = name.rpartition("::")
+        owner = of if colon else owner
+        found.append((owner, call))
+    return found
+
+
+def check_refusals(checks, crates):
+    """docs/REFUSALS.md: a row for each call that answers a `Result`, each of its calls is one, and has the clauses that are named."""
+    lines = lines_of("docs", "REFUSALS.md")
+    for crate in (crates[name] for name in LIBRARIES if name in crates):
+        refusing, named = set(crate.refusing_calls()), set()
+        if not refusing:
+            continue
+        for cells in tables(section(lines, f"## `{crate.name}`")):
+            clauses = re.findall(r"`([^`]+)`", cells[-1])
+            for owner, call in calls_of(cells[0]):
+                name = next((it for it in (f"{owner}::{call}", call) if it in refusing), None)
+                checks.expect(name, f"REFUSALS: {crate.name} has no {call} that answers a Result")
+                lacking = crate.lacks(name, clauses) if name else []
+                checks.expect(not lacking, f"REFUSALS: not in {crate.name}: {', '.join(lacking)}")
+                named.add(name)
+        for name in sorted(refusing - named):
+            checks.expect(False, f"REFUSALS: {name} of {crate.name} has no row")
 
 
 def check_crates(checks):
@@ -214,6 +243,7 @@ def main(words):
     if words == ["--write"]:
         write(crates)
     check_promises(checks, crates)
+    check_refusals(checks, crates)
     check_crates(checks)
     check_definitions(checks, crates)
     check_links(checks)
