@@ -4,5 +4,7 @@ pub mod ForetoldLemmas
 pub mod KnownLemmas
 pub mod Lent
 pub mod NotesLemmas
+pub mod PlayedLaws
 pub mod SaidLemmas
+pub mod ScriptLaws
 pub mod Taking

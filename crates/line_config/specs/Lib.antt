@@ -4,6 +4,8 @@ pub mod Config
 pub mod Device
 pub mod Feed
 pub mod Foretold
+pub mod Played
 pub mod Recorded
 pub mod Refusals
+pub mod Scripts
 pub mod Sending
