@@ -220,7 +220,7 @@ impl<H: Highlighter> Player for Asked<H> {
 
 #[test]
 fn texts_highlighted(rt: HostRuntime) -> Result<(), Fail> {
-    let highlighter = MatchingBracketHighlighter::new();
+    let highlighter = MatchingBracketHighlighter::default();
     rows_hold(rt.alloc(), &mut Asked { highlighter }, HIGHLIGHTED)?;
     let highlighter = Box::new(rt.alloc(), ())?;
     rows_hold(rt.alloc(), &mut Asked { highlighter }, NOTHING_HIGHLIGHTED)

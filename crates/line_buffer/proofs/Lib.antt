@@ -1,4 +1,5 @@
 pub mod ChainLemmas
+pub mod ClusterLemmas
 pub mod ColumnLemmas
 mod ColumnRows
 pub mod CutLaws

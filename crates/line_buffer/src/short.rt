@@ -1,6 +1,6 @@
 //! The short ways: what is drawn at the end of a line without drawing the line anew.
 
-ghost use Rattle.std.specs.Prelude.{◌≡◌};
+ghost use Rattle.std.specs.Prelude.{◌≡◌, ◌<◌, true};
 ghost use Rattle.std.specs.List.{list_all};
 ghost use Rattle.line_buffer.specs.Short.{is_printable, behind_typed, before_killed};
 
@@ -58,8 +58,9 @@ pub(crate) fn are_printable(bytes: &[u8]) -> bool
 }
 
 /// A printable character of ASCII.
-fn is_printable(c: char) -> bool
-    ensures { result ≡ is_printable c }
+pub fn is_printable(c: char) -> bool
+    ensures value { result ≡ is_printable c }
+    ensures ascii { result ≡ true → c < 127 }
 {
     ' ' <= c && c <= '~'
 }

@@ -1,22 +1,14 @@
 //! Clusters and words exchanged with the ones before them.
 
-ghost use Rattle.std.specs.Prelude.{◌≡◌, ◌≤◌, true, length, IfOk, IsCharBoundary, string_bytes};
-ghost use Rattle.unicode_segmentation.specs.Grapheme.{graphemes};
+ghost use Rattle.std.specs.Prelude.{◌≡◌, ◌≤◌, IfOk, IsCharBoundary, string_bytes};
 ghost use Rattle.line_buffer.specs.Transpositions.{later_first};
 
+use crate::clusters::clusters_up_to;
 use crate::line_buffer::{LineBuffer, OutOfMemory};
 use crate::listener::ChangeListener;
 use crate::types::{At, RepeatCount, Word};
 use std::alloc::Global;
 use std::ops::Range;
-use unicode_segmentation::UnicodeSegmentation;
-
-/// The number of grapheme clusters of a text.
-fn cluster_count(text: &str) -> usize
-    ensures { result ≡ length (graphemes true text.now) }
-{
-    text.graphemes(true).count()
-}
 
 /// Two neighbouring parts of a text, the later one first.
 fn later_first(
@@ -50,9 +42,8 @@ impl LineBuffer {
     fn has_two_clusters(&self) -> bool
         ensures { result ≡ nat_lt 1 (clusters_around self.now) }
     {
-        let before = cluster_count(&self.buf[..self.pos]);
-        let after = cluster_count(&self.buf[self.pos..]);
-        before.saturating_add(after) > 1
+        let before = clusters_up_to(&self.buf[..self.pos], 2);
+        before > 1 || before + clusters_up_to(&self.buf[self.pos..], 2) > 1
     }
 
     /// Where the two clusters at the cursor start, meet and end; at the text's end those are the

@@ -4,9 +4,9 @@ ghost use Rattle.line_editor.specs.Inserting.{may_be_typed};
 
 use crate::renderer::Renderer;
 use crate::state::State;
-use line_buffer::RepeatCount;
+use line_buffer::{RepeatCount, is_printable};
 use line_config::ReadlineError;
-use line_edits::{insert_char, insert_text, is_printable, overwrite, replace_chars};
+use line_edits::{insert_char, insert_text, overwrite, replace_chars};
 use line_help::{Helper, History};
 
 /// Whether what was typed is all that is to be drawn: a printable character at the end of a

@@ -1,6 +1,5 @@
 //! Clusters exchanged for characters.
-ghost use Rattle.std.specs.Prelude.{◌≡◌, ◌≤◌, true, length, is_some, IsCharBoundary, OnErr};
-ghost use Rattle.unicode_segmentation.specs.Grapheme.{graphemes};
+ghost use Rattle.std.specs.Prelude.{◌≡◌, ◌≤◌, is_some, IsCharBoundary, OnErr};
 ghost use Rattle.line_buffer.specs.Clusters.{place_forward};
 ghost use Rattle.line_record.specs.Items.{ItemsStand};
 ghost use Rattle.line_edits.specs.Edits.{deleted, clusters_after, exchanged_for, chars_replaced, replaced_if_any, put_over, overwritten};
@@ -8,28 +7,16 @@ ghost use Rattle.line_edits.specs.Plain.{is_plain};
 ghost use Rattle.line_edits.specs.Written.{Edits, Writes};
 
 use crate::inserting::insert_told;
-use crate::plain::{is_plain, is_printable};
-use line_buffer::{LineBuffer, OutOfMemory, RepeatCount};
+use crate::plain::is_plain;
+use line_buffer::{LineBuffer, OutOfMemory, RepeatCount, clusters_up_to, is_printable};
 use line_record::Changeset;
 use std::alloc::Global;
-use unicode_segmentation::UnicodeSegmentation;
-
-/// The number of grapheme clusters of a text.
-fn cluster_count(text: &str) -> usize
-    ensures { result ≡ length (graphemes true text.now) }
-{
-    text.graphemes(true).count()
-}
 
 /// How many of `n` clusters stand after the cursor.
 fn clusters_after(line: &LineBuffer, n: RepeatCount) -> RepeatCount
     ensures value { result ≡ clusters_after n line.now }
 {
-    let count = cluster_count(&line.as_str()[line.pos()..]);
-    if count < usize::from(n) {
-        return count as RepeatCount;
-    }
-    n
+    clusters_up_to(&line.as_str()[line.pos()..], usize::from(n)) as RepeatCount
 }
 
 fn delete_told(

@@ -6,8 +6,8 @@ ghost use Rattle.line_edits.specs.Edits.{char_typed, text_yanked, popped, put_be
 ghost use Rattle.line_edits.specs.Plain.{is_plain};
 ghost use Rattle.line_edits.specs.Written.{Edits, Writes};
 
-use crate::plain::{is_plain, is_printable};
-use line_buffer::{LineBuffer, OutOfMemory, RepeatCount};
+use crate::plain::is_plain;
+use line_buffer::{LineBuffer, OutOfMemory, RepeatCount, is_printable};
 use line_record::Changeset;
 use std::alloc::Global;
 

@@ -14,6 +14,6 @@ pub mod rewriting;
 pub use exchanging::{overwrite, replace_chars};
 pub use inserting::{insert_char, insert_text, yank, yank_pop};
 pub use killing::kill;
-pub use plain::{is_plain, is_printable};
+pub use plain::is_plain;
 pub use rewording::{edit_word, indent, transpose_chars, transpose_words};
 pub use rewriting::{undo, update, update_grouped};

@@ -1,15 +1,6 @@
 //! Printable ASCII and newlines.
-ghost use Rattle.std.specs.Prelude.{◌≡◌, ◌<◌, true};
-ghost use Rattle.line_buffer.specs.Short.{is_printable};
+ghost use Rattle.std.specs.Prelude.{◌≡◌};
 ghost use Rattle.line_edits.specs.Plain.{is_plain};
-
-/// Whether a character is a printable one of ASCII.
-pub fn is_printable(c: char) -> bool
-    ensures value { result ≡ is_printable c }
-    ensures ascii { result ≡ true → c < 127 }
-{
-    ' ' <= c && c <= '~'
-}
 
 /// Whether a text is printable ASCII and newlines.
 pub fn is_plain(text: &str) -> bool

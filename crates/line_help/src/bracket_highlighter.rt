@@ -49,6 +49,14 @@ impl MatchingBracketHighlighter {
     }
 }
 
+impl Default for MatchingBracketHighlighter {
+    ghost is_default = { λ h. h ≡ None };
+
+    fn default() -> Self {
+        MatchingBracketHighlighter::new()
+    }
+}
+
 #[tactic(auto, using(crate::proofs::HighlightLemmas::plain))]
 impl Highlighter for MatchingBracketHighlighter {
     ghost marks = { λ self line pos kind. is_some (kept_bracket line pos kind) };

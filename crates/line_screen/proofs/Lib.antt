@@ -1,3 +1,4 @@
+pub mod ApartLemmas
 pub mod CallLemmas
 pub mod ControlLemmas
 pub mod Draws

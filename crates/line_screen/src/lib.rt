@@ -1,6 +1,7 @@
 //! The terminal's two sides: bytes to keys, and drawings to bytes with what they mean on a display.
 #![tactic(auto)]
 
+mod characters;
 pub(crate) mod drawing;
 pub(crate) mod grid;
 pub mod laws;

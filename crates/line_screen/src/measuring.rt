@@ -1,6 +1,6 @@
 //! Where the drawing of a text ends.
 
-ghost use Rattle.std.specs.Prelude.{◌≡◌, ◌≤◌, ◌<◌, ◌+◌, ◌==◌, ◌∷◌, [], true, length, map};
+ghost use Rattle.std.specs.Prelude.{◌≡◌, ◌≤◌, ◌<◌, ◌+◌, ◌==◌, ◌∷◌, [], true, length, map, chars, encode_utf8};
 ghost use Rattle.std.specs.List.{list_all};
 ghost use Rattle.unicode_segmentation.specs.Grapheme.{graphemes};
 ghost use Rattle.line_screen.specs.Display.{right};
@@ -8,6 +8,7 @@ ghost use Rattle.line_screen.specs.Drawing.{drawn_item, row_items, next_items, t
 ghost use Rattle.line_screen.specs.Drawing.DrawnItem.{Letter, NewRow};
 ghost use Rattle.line_screen.specs.Measure.{cluster_width, saturated, measure_of, Comes};
 
+use crate::characters::chars_are_clusters;
 use crate::grid::{Grid, is_letter};
 use line_buffer::{GraphemeClusterMode, Position, Unit, is_printable_text};
 use unicode_segmentation::UnicodeSegmentation;
@@ -105,6 +106,30 @@ fn after_clusters(grid: Grid, from: Position, row: &str) -> Position
     at
 }
 
+fn after_char(grid: Grid, at: Position, c: char) -> Position
+    requires inside { at.col < grid.columns }
+    ensures { let wide = cluster_width grid.mode grid.columns in
+        Comes grid.columns
+        (place_after grid.columns (drawn_item wide (encode_utf8 c) ∷ []) at) result }
+{
+    let mut bytes = [0; 4];
+    after_cluster(grid, at, c.encode_utf8(&mut bytes))
+}
+
+fn after_chars(grid: Grid, from: Position, row: &str) -> Position
+    requires inside { from.col < grid.columns }
+    requires clusters { graphemes true row.now ≡ map encode_utf8 (chars row.now) }
+    ensures { let item = drawn_item (cluster_width grid.mode grid.columns) in
+        Comes grid.columns
+        (place_after grid.columns (map item (graphemes true row.now)) from) result }
+{
+    let mut at = from;
+    for character in row.chars() {
+        at = after_char(grid, at, character);
+    }
+    at
+}
+
 fn after_row(grid: Grid, from: Position, row: &str) -> Position
     requires inside { from.col < grid.columns }
     ensures { let items = row_items (cluster_width grid.mode grid.columns) row.now in
@@ -112,6 +137,8 @@ fn after_row(grid: Grid, from: Position, row: &str) -> Position
 {
     if is_printable_text(row) {
         after_letters(grid, from, row.as_bytes())
+    } else if chars_are_clusters(row) {
+        after_chars(grid, from, row)
     } else {
         after_clusters(grid, from, row)
     }

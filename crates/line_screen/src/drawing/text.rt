@@ -1,6 +1,6 @@
 //! A text on rows of cells: a full row is left at once, and what doesn't fit goes to the next row.
 
-ghost use Rattle.std.specs.Prelude.{◌≡◌, ◌≤◌, ◌<◌, ◌∷◌, ◌==◌, ◌+◌, nat_le, true, IsTrue, OnOk, OnErr, IfOk, length, map};
+ghost use Rattle.std.specs.Prelude.{◌≡◌, ◌≤◌, ◌<◌, ◌∷◌, ◌==◌, ◌+◌, nat_le, true, IsTrue, OnOk, OnErr, IfOk, length, map, chars, encode_utf8};
 ghost use Rattle.std.specs.List.{list_all};
 ghost use Rattle.unicode_segmentation.specs.Grapheme.{graphemes};
 ghost use Rattle.line_screen.specs.Display.{is_printable};
@@ -10,6 +10,7 @@ ghost use Rattle.line_screen.specs.Measure.{cluster_width};
 ghost use Rattle.line_config.specs.Sending.{Sends};
 ghost use Rattle.line_screen.specs.Sending.{SendsTo, SendsItems};
 
+use crate::characters::chars_are_clusters;
 use crate::drawing::sequences::send;
 use crate::grid::{Grid, is_letter};
 use line_buffer::{Unit, is_printable_text};
@@ -156,6 +157,38 @@ fn send_clusters<D: Sink>(
     Ok(col)
 }
 
+/// A character that is a cluster of its own.
+fn send_char<D: Sink>(sink: &mut D, grid: Grid, col: Unit, c: char) -> Result<Unit, DeviceFailed>
+    requires inside { col < grid.columns }
+    ensures { SendsTo (sent_one grid.columns
+        (drawn_item (cluster_width grid.mode grid.columns) (encode_utf8 c)) col)
+        (col_after_one grid.columns
+        (drawn_item (cluster_width grid.mode grid.columns) (encode_utf8 c)) col)
+        grid.columns D.held D.has_failed sink.old sink.new result }
+{
+    let mut bytes = [0; 4];
+    send_cluster(sink, grid, col, c.encode_utf8(&mut bytes))
+}
+
+fn send_chars<D: Sink>(
+    sink: &mut D,
+    grid: Grid,
+    start: Unit,
+    row: &str,
+) -> Result<Unit, DeviceFailed>
+    requires inside { start < grid.columns }
+    requires clusters { graphemes true row.now ≡ map encode_utf8 (chars row.now) }
+    ensures { SendsItems (map (drawn_item (cluster_width grid.mode grid.columns))
+        (graphemes true row.now)) start
+        grid.columns D.held D.has_failed sink.old sink.new result }
+{
+    let mut col = start;
+    for character in row.chars() {
+        col = send_char(sink, grid, col, character)?;
+    }
+    Ok(col)
+}
+
 /// A row of the text: by characters where all are printable ASCII, else by clusters.
 fn send_row<D: Sink>(sink: &mut D, grid: Grid, start: Unit, row: &str) -> Result<Unit, DeviceFailed>
     requires inside { start < grid.columns }
@@ -164,6 +197,8 @@ fn send_row<D: Sink>(sink: &mut D, grid: Grid, start: Unit, row: &str) -> Result
 {
     if is_printable_text(row) {
         send_letters(sink, grid, start, row.as_bytes())
+    } else if chars_are_clusters(row) {
+        send_chars(sink, grid, start, row)
     } else {
         send_clusters(sink, grid, start, row)
     }

@@ -1,0 +1,72 @@
+"""What keys cost that look at clusters: the built program, its display and lines thrown away.
+
+Called by `bench/run clusters` with the built program. Each key is pressed a hundred times in a line of each of two sizes,
+less a session that has the line alone: by instructions where valgrind is there, else by the processor's time.
+"""
+import os
+import re
+import shutil
+import subprocess
+import sys
+import tempfile
+
+HOME, RIGHT, TRANSPOSE, ESCAPE, ENTER = b"\x01", b"\x1b[C", b"\x14", b"\x1b", b"\r"
+HAN = "漢".encode()
+KEYS = 100
+
+
+def pasted(text):
+    """Sent as a paste, so that the line is drawn once."""
+    return b"\x1b[200~" + text + b"\x1b[201~"
+
+
+# What is pressed, in which mode, of which characters the line is, what stands before the keys, each key, and the line's sizes.
+CASES = [
+    ("Ctrl-T at the front of a line", "emacs", b"a", HOME + RIGHT, TRANSPOSE, (1_000, 10_000)),
+    ("Vi's r and a character there", "vi", b"a", ESCAPE + b"0", b"rb", (1_000, 10_000)),
+    ("Vi's x there", "vi", b"a", ESCAPE + b"0", b"x", (1_000, 10_000)),
+    ("a letter typed after Han", "emacs", HAN, b"", b"b", (300, 3_000)),
+    ("Han typed after Han", "emacs", HAN, b"", HAN, (300, 3_000)),
+]
+
+
+def instructions(command, keys):
+    """How many instructions a session makes, by callgrind."""
+    made = subprocess.run(
+        ["valgrind", "--tool=callgrind", "--callgrind-out-file=/dev/null", *command],
+        input=keys, stdout=subprocess.DEVNULL, stderr=subprocess.PIPE, check=True,
+    )
+    return int(re.findall(rb"Collected : (\d+)", made.stderr)[-1])
+
+
+def microseconds(command, keys):
+    """The processor's time for a session, the shortest of five."""
+    return min(once(command, keys) for _ in range(5))
+
+
+def once(command, keys):
+    with tempfile.TemporaryFile() as source:
+        source.write(keys)
+        source.seek(0)
+        with subprocess.Popen(command, stdin=source, stdout=subprocess.DEVNULL, stderr=subprocess.DEVNULL) as session:
+            _, status, used = os.wait4(session.pid, 0)
+            session.returncode = os.waitstatus_to_exitcode(status)
+    if session.returncode != 0:
+        sys.exit(f"bench/clusters.py: the program ended with status {session.returncode}")
+    return 1e6 * (used.ru_utime + used.ru_stime)
+
+
+def main(program):
+    cost, unit = (instructions, "instructions") if shutil.which("valgrind") else (microseconds, "microseconds")
+    for name, mode, character, before, key, sizes in CASES:
+        costs = []
+        for size in sizes:
+            command = [program, f"--mode={mode}", "--columns=1000"]
+            line = pasted(character * size) + before
+            more = cost(command, line + KEYS * key + ENTER) - cost(command, line + ENTER)
+            costs.append(f"{size} characters: {more / KEYS:,.0f}")
+        print(f"{name}: {', '.join(costs)} {unit} a key", flush=True)
+
+
+if __name__ == "__main__":
+    main(sys.argv[1])
