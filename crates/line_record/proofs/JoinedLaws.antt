@@ -5,9 +5,9 @@ use Rattle.line_buffer.specs.Event.{Event}
 use Rattle.line_buffer.specs.Replay.{Reports, StopsAmong}
 use Rattle.line_buffer.proofs.ReplayLemmas.{stops_wanting}
 use Rattle.line_record.specs.declared.joined.Joined.{Joined}
-use Rattle.line_record.specs.Items.{Items, ItemsStand, RecordedIn, record_refuses, held_on}
+use Rattle.line_record.specs.Items.{Items, ItemsStand, RecordedIn, record_refuses, held_on, ahead_on}
 use Rattle.line_record.specs.Names.{SameNames}
-use Rattle.line_record.specs.Runs.{recorded_all}
+use Rattle.line_record.specs.Runs.{recorded_all, ahead_all}
 use Rattle.line_record.specs.Together.{joined_takes, joined_refuses, RefusalsLeaveNoUnmadeChange}
 use Rattle.line_record.proofs.RunLemmas.{part_told, part_stopped, kept_by_all}
 
@@ -20,6 +20,7 @@ refusals_leave_no_unmade_change {A} first first_refuses closing events s t befor
     record {
       stand = both.0.stand;
       held = both.0.held ∙ ap (recorded_all closing after) both.1.held;
+      ahead = both.0.ahead ∙ ap (ahead_all closing) both.1.ahead;
     }
 
 -- the record's changes stand on the line's text, where both were told, and where one refused
@@ -31,6 +32,10 @@ joined_stand {A} first h u r = (part_told (joined_takes first RecordedIn) (λ j.
 pub joined_held : {A : Type 0} (first : A → Event → A → Type 0) {events : List Event} {s t : Joined A Items} {before after : List ℕ} → ItemsStand s.second.now before → IsUtf8 before
     → Reports (joined_takes first RecordedIn) events s t before after → held_on t.second.now after ≡ recorded_all events before (held_on s.second.now before)
 joined_held first h u r = (part_told (joined_takes first RecordedIn) (λ j. j.second.now) (λ x e y k. k.1.1) h u r).held
+
+pub joined_ahead : {A : Type 0} (first : A → Event → A → Type 0) {events : List Event} {s t : Joined A Items} {before after : List ℕ} → ItemsStand s.second.now before → IsUtf8 before
+    → Reports (joined_takes first RecordedIn) events s t before after → ahead_on t.second.now after ≡ ahead_all events (ahead_on s.second.now before)
+joined_ahead first h u r = (part_told (joined_takes first RecordedIn) (λ j. j.second.now) (λ x e y k. k.1.1) h u r).ahead
 
 pub joined_stand_refused : {A : Type 0} (first first_refuses : A → Event → A → Type 0) {closing events : List Event} {s t : Joined A Items} {before after : List ℕ}
     → ItemsStand s.second.now before → IsUtf8 before

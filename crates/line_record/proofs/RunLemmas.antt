@@ -5,9 +5,9 @@ use Rattle.line_buffer.specs.Event.{Event}
 use Rattle.line_buffer.specs.Event.Event.{StartKilling, StopKilling, Delete, InsertChar, InsertStr, Replace}
 use Rattle.line_buffer.specs.Replayed.{replayed, replayed_all}
 use Rattle.line_buffer.specs.Replay.{Swaps, Replays, ReplaysAll, TakesAll, Reports, StopsAmong, wants_or}
-use Rattle.line_record.specs.Held.{Held, recorded_in}
-use Rattle.line_record.specs.Items.{Items, ItemsStand, held_on, RecordedIn, record_refuses}
-use Rattle.line_record.specs.Runs.{recorded_all}
+use Rattle.line_record.specs.Held.{Held, Undone, recorded_in}
+use Rattle.line_record.specs.Items.{Items, ItemsStand, held_on, ahead_on, ahead_after, RecordedIn, record_refuses}
+use Rattle.line_record.specs.Runs.{recorded_all, ahead_all}
 use Rattle.line_record.proofs.Exchange.{exchanged}
 
 pub replayed_all-nil : (text : List ℕ) → replayed_all [] text ≡ text
@@ -25,6 +25,14 @@ recorded_all-nil text held = refl
 pub recorded_all-cons : (e : Event) (es : List Event) (text : List ℕ) (held : List Held) → recorded_all (e ∷ es) text held ≡ recorded_all es (replayed e text) (recorded_in e text held)
 unfolding recorded_all
 recorded_all-cons e es text held = refl
+
+pub ahead_all-nil : (ahead : List Undone) → ahead_all [] ahead ≡ ahead
+unfolding ahead_all
+ahead_all-nil ahead = refl
+
+pub ahead_all-cons : (e : Event) (es : List Event) (ahead : List Undone) → ahead_all (e ∷ es) ahead ≡ ahead_all es (ahead_after e ahead)
+unfolding ahead_all
+ahead_all-cons e es ahead = refl
 
 -- the text that an event leaves
 pub replayed_is : (e : Event) (before after : List ℕ) → Replays e before after → after ≡ replayed e before
@@ -47,10 +55,11 @@ replayed_utf8 (InsertChar at c) before after u r = swapped_utf8 u r
 replayed_utf8 (InsertStr at text) before after u r = swapped_utf8 u r
 replayed_utf8 (Replace at from to) before after u r = swapped_utf8 u r
 
--- the record after events
+-- the record after events, and what can be redone
 pub record RecordedAll (events : List Event) (s t : Items) (before after : List ℕ) : Type 0 where
   pub stand : ItemsStand t after
   pub held : held_on t after ≡ recorded_all events before (held_on s before)
+  pub ahead : ahead_on t after ≡ ahead_all events (ahead_on s before)
   pub text : after ≡ replayed_all events before
   pub utf8 : IsUtf8 after
 
@@ -61,6 +70,7 @@ module _ {S : Type 0} (takes : S → Event → S → Type 0) (part : S → Items
   all_recorded [] s t before after told replays h u = record {
     stand = subst (λ x. ItemsStand (part x) after) (sym told) (subst (ItemsStand (part s)) (sym replays) h);
     held = ap (λ x. held_on (part x) after) told ∙ ap (held_on (part s)) replays ∙ sym (recorded_all-nil before (held_on (part s) before));
+    ahead = ap (λ x. ahead_on (part x) after) told ∙ ap (ahead_on (part s)) replays ∙ sym (ahead_all-nil (ahead_on (part s) before));
     text = replays ∙ sym (replayed_all-nil before);
     utf8 = subst IsUtf8 (sym replays) u;
   }
@@ -72,6 +82,7 @@ module _ {S : Type 0} (takes : S → Event → S → Type 0) (part : S → Items
         stand = rest.stand;
         held = rest.held ∙ ap (recorded_all es between) first.held ∙ ap (λ x. recorded_all es x (recorded_in e before (held_on (part s) before))) is
             ∙ sym (recorded_all-cons e es before (held_on (part s) before));
+        ahead = rest.ahead ∙ ap (ahead_all es) first.ahead ∙ sym (ahead_all-cons e es (ahead_on (part s) before));
         text = rest.text ∙ ap (replayed_all es) is ∙ sym (replayed_all-cons e es before);
         utf8 = rest.utf8;
       }
@@ -97,6 +108,10 @@ told_stand h u r = (part_told RecordedIn (λ x. x) (λ s e t k. k) h u r).stand
 pub told_held : {events : List Event} {s t : Items} {before after : List ℕ} → ItemsStand s before → IsUtf8 before → Reports RecordedIn events s t before after
     → held_on t after ≡ recorded_all events before (held_on s before)
 told_held h u r = (part_told RecordedIn (λ x. x) (λ s e t k. k) h u r).held
+
+pub told_ahead : {events : List Event} {s t : Items} {before after : List ℕ} → ItemsStand s before → IsUtf8 before → Reports RecordedIn events s t before after
+    → ahead_on t after ≡ ahead_all events (ahead_on s before)
+told_ahead h u r = (part_told RecordedIn (λ x. x) (λ s e t k. k) h u r).ahead
 
 pub stopped_stand : {closing events : List Event} {s t : Items} {before after : List ℕ} → ItemsStand s before → IsUtf8 before
     → StopsAmong RecordedIn (wants_or record_refuses) closing events s t before after → ItemsStand t after

@@ -4,9 +4,9 @@ use Rattle.std.specs.Prelude.{◌≡◌, ◌⊎◌, ℕ, List, IsUtf8}
 use Rattle.line_buffer.specs.Event.{Event}
 use Rattle.line_buffer.specs.Replay.{StopsAmong, wants_or}
 use Rattle.line_record.specs.declared.joined.Joined.{Joined}
-use Rattle.line_record.specs.Items.{Items, ItemsStand, RecordedIn, record_refuses, held_on}
+use Rattle.line_record.specs.Items.{Items, ItemsStand, RecordedIn, record_refuses, held_on, ahead_on}
 use Rattle.line_record.specs.Names.{SameNames}
-use Rattle.line_record.specs.Runs.{recorded_all}
+use Rattle.line_record.specs.Runs.{recorded_all, ahead_all}
 
 module _ {A B : Type 0} where
   abbrev pub joined_takes : (A → Event → A → Type 0) → (B → Event → B → Type 0) → Joined A B → Event
@@ -24,7 +24,7 @@ module _ {A B : Type 0} where
       ⊎ (first s.first.now e t.first.now × second_refuses s.second.now e t.second.now))
 
 -- a call of several events that was refused, seen from a record that is told last: it holds the
--- changes that the line made, and no other
+-- changes that the line made, and no other, and what those leave of what can be redone
 pub record HoldsWhatWasMade {S : Type 0} {takes refuses : S → Event → S
     → Type 0} {closing events : List Event} {s t : S} {before after : List ℕ}
     (part : S → Items) (call : StopsAmong takes refuses closing events s t before after) : Type 0
@@ -32,6 +32,8 @@ pub record HoldsWhatWasMade {S : Type 0} {takes refuses : S → Event → S
     pub stand : ItemsStand (part t) after
     pub held : held_on (part t) after
         ≡ recorded_all closing after (recorded_all call.done before (held_on (part s) before))
+    pub ahead : ahead_on (part t) after
+        ≡ ahead_all closing (ahead_all call.done (ahead_on (part s) before))
 
 abbrev pub RefusalsLeaveNoUnmadeChange : {A : Type 0} → (A → Event → A → Type 0)
     → (A → Event → A → Type 0) → Type 0
