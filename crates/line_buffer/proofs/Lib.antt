@@ -12,6 +12,7 @@ pub mod IndentLaws
 pub mod IndentLemmas
 pub mod InsertionLemmas
 pub mod JoinLemmas
+pub mod KeptLemmas
 pub mod LeftLemmas
 pub mod LetterCaseLemmas
 pub mod ListedRanges

@@ -1,30 +1,23 @@
 -- The walk over the rows that are moved: what was told so far, and what is still to come.
 use Rattle.std.proofs.Common.{◌≡◌, ℕ, ◌+◌, ◌-◌, ◌<◌, ◌≤◌, Bool, true, false, List, [], ◌∷◌, ◌++◌, inl, inr, length, get_or, take, drop, refl, sym, ap, ◌∙◌, subst, arith, append_assoc}
-use Rattle.std.specs.Prelude.{Result, Ok, Err, OnErr, IsUtf8, IsCharBoundary, slice_range}
+use Rattle.std.specs.Prelude.{IsUtf8, IsCharBoundary, slice_range}
 use Rattle.std.specs.List.{prefix_len}
 use Rattle.std.proofs.lemmas.List.{length-drop, drop-drop, drop-take, take-take, take_all, get_or-take, get_or-drop}
 use Rattle.std.proofs.lemmas.List.Edits.{length-between}
 use Rattle.std.proofs.lemmas.Str.{IsCharBoundary-from_drop, IsCharBoundary-after_ascii, IsUtf8-drop}
 use Rattle.line_buffer.specs.declared.types.Movement.{Movement}
+use Rattle.line_buffer.specs.Edit.{StopsAt}
 use Rattle.line_buffer.specs.Event.{Event}
 use Rattle.line_buffer.specs.Indent.{rows_covered, spaces, indent_events, rows_of, row_event, row_len, row_events}
 use Rattle.line_buffer.specs.Line.{Line}
-use Rattle.line_buffer.specs.Replay.{Replays, Reports, TellsOfChange, StopsAmong, wants_or}
-use Rattle.line_buffer.specs.Replayed.{carried_line, carried_all, LeftAmong}
+use Rattle.line_buffer.specs.Replay.{Replays, Reports, TellsOfChange, wants_or}
+use Rattle.line_buffer.specs.Replayed.{carried_line, carried_all}
 use Rattle.line_buffer.specs.Rows.{is_in_row, row_start, row_end}
 use Rattle.line_buffer.specs.Settings.{SameSettings}
 use Rattle.line_buffer.proofs.IndentLemmas.{rows_last, rows_more}
-use Rattle.line_buffer.proofs.ReplayLemmas.{on_refusal, reports_one, reports_then, reports_nothing, stops_later, stops_at_once}
+use Rattle.line_buffer.proofs.LeftLemmas.{carried_all-one, carried_all-append, stopped_as, stopped_first, stopped_later}
+use Rattle.line_buffer.proofs.ReplayLemmas.{reports_one, reports_then, reports_nothing}
 use Rattle.line_buffer.proofs.RowLemmas.{prefix_len-stops}
-
-carried_all-append : (es fs : List Event) (l : Line) → carried_all (es ++ fs) l ≡ carried_all fs (carried_all es l)
-unfolding carried_all
-carried_all-append [] fs l = refl
-carried_all-append (e ∷ es) fs l = carried_all-append es fs (carried_line e l)
-
-carried_all-one : (e : Event) (l : Line) → carried_all (e ∷ []) l ≡ carried_line e l
-unfolding carried_all
-carried_all-one e l = refl
 
 row_events-first : (margin : List ℕ) (dedent : Bool) (at : ℕ) (row : List ℕ) (rows : List (List ℕ))
     → row_events margin dedent at (row ∷ rows) ≡ row_event margin dedent at row ∷ row_events margin dedent (at + row_len margin dedent row + 1) rows
@@ -120,24 +113,13 @@ module _ {S : Type 0} (takes refuses : S → Event → S → Type 0) (margin : L
   row_is : take width rows ≡ row
   row_is = take-take width (last - at) (drop at m.text) (omega (arith, short, size)) ∙ ap (λ k. take k (drop at m.text)) (let k : width ≡ end - at = omega (arith, ends) in k)
 
-  -- the row was refused, or no memory was found for it
-  pub row_stops : {T E : Type 0} (r : Result T E) (u : S) (n : Line) → wants_or refuses t (row_event margin dedent at row) u → n ≡ m
-      → OnErr r (StopsAmong takes (wants_or refuses) [] all s u l.text n.text)
-  row_stops {T} {E} r u n h same =
+  -- the row was refused, or no memory was found for it: the line is what those before it made
+  pub row_stops : (u : S) (n : Line) → wants_or refuses t (row_event margin dedent at row) u → n ≡ m → StopsAt takes (wants_or refuses) [] all s u l n
+  row_stops u n h same =
       let first = row_events-some margin dedent at rows in
       let here : row_events margin dedent at (rows_of rows) ≡ row_event margin dedent at row ∷ first.0 = first.1 ∙ ap (λ x. row_event margin dedent at x ∷ first.0) row_is in
-      elim r as (λ r. OnErr r (StopsAmong takes (wants_or refuses) [] all s u l.text n.text)) [
-        | Ok x ↦ tt
-        | Err x ↦ subst (λ es. StopsAmong takes (wants_or refuses) [] es s u l.text n.text) (sym w.split)
-            (stops_later w.reported (stops_at_once takes (wants_or refuses) _ first.0 (row_event margin dedent at row) t u m.text n.text here (row_event_tells margin dedent at row) h (ap (λ l. l.text) same)))
-      ]
-
-  -- and the line is what those before it made
-  pub row_left : {T E : Type 0} (r : Result T E) (n : Line) → n ≡ m → OnErr r (LeftAmong all l n)
-  row_left r n same =
-      let first = row_events-some margin dedent at rows in
-      let here : row_events margin dedent at (rows_of rows) ≡ row_event margin dedent at row ∷ first.0 = first.1 ∙ ap (λ x. row_event margin dedent at x ∷ first.0) row_is in
-      on_refusal r (record { made = w.done; next = row_event margin dedent at row; others = first.0; split = w.split ∙ ap (λ es. w.done ++ es) here; line = same ∙ w.line })
+      stopped_as (sym w.split) refl
+      (stopped_later w.reported w.line (stopped_first takes (wants_or refuses) _ first.0 (row_event margin dedent at row) t u m n here (row_event_tells margin dedent at row) h same))
 
   module _ (u : S) (n : Line) (changed : ℕ) (told : takes t (row_event margin dedent at row) u) (replays : Replays (row_event margin dedent at row) m.text n.text)
       (line : n ≡ carried_line (row_event margin dedent at row) m) (answer : changed ≡ at + row_len margin dedent row) where

@@ -1,26 +1,16 @@
--- Two parts of a text later_first, the later one first.
-use Rattle.std.proofs.Common.{◌≡◌, ℕ, ◌+◌, ◌-◌, ◌≤◌, List, [], ◌∷◌, ◌++◌, length, take, drop, sym, ap, ◌∙◌, subst, arith, append_assoc, length-append}
-use Rattle.std.specs.Prelude.{true, not, nat_lt, ◌==◌, IsUtf8, IsCharBoundary, slice_range}
+-- Two parts of a text exchanged, the later one first.
+use Rattle.std.proofs.Common.{◌≡◌, ℕ, ◌+◌, ◌-◌, ◌≤◌, List, [], ◌∷◌, ◌++◌, length, take, drop, sym, ap, ◌∙◌, arith, append_assoc, length-append}
+use Rattle.std.specs.Prelude.{true, not, nat_lt, ◌==◌, IsUtf8, IsCharBoundary}
 use Rattle.std.specs.List.{replace_range}
 use Rattle.std.proofs.lemmas.List.{length-take-le, length-drop, drop-append-le}
 use Rattle.std.proofs.lemmas.Bool.{and_from}
 use Rattle.std.proofs.lemmas.Bool.Decides.{nat_tests}
 use Rattle.std.proofs.lemmas.Str.{IsUtf8-drop}
-use Rattle.line_buffer.specs.Event.{Event}
-use Rattle.line_buffer.specs.Replay.{Replays, StopsAmong, replacement}
+use Rattle.line_buffer.specs.Replay.{replacement}
 use Rattle.line_buffer.specs.Line.{Line}
-use Rattle.line_buffer.specs.Transpositions.{Pair, clusters_around, between_clusters, clusters_at, later_first, transposes_chars, transpose_chars_events}
+use Rattle.line_buffer.specs.Transpositions.{clusters_around, between_clusters, clusters_at, later_first, transposes_chars, transpose_chars_events}
 use Rattle.line_buffer.proofs.CutLemmas.{at_seam}
-use Rattle.line_buffer.proofs.ReplayLemmas.{reports_one, stops_later, if_true}
-
--- the second exchange was refused
-pub swap_stops : {S : Type 0} (takes refuses : S → Event → S → Type 0) (p : Pair) (text added b : List ℕ) (later : List Event) (s t u : S) (c : List ℕ)
-    → added ≡ slice_range text p.first_start p.first_end
-    → takes s (replacement p.second_start p.second_end added text) t → Replays (replacement p.second_start p.second_end added text) text b → StopsAmong takes refuses [] later t u b c
-    → StopsAmong takes refuses [] (replacement p.second_start p.second_end (slice_range text p.first_start p.first_end) text ∷ later) s u text c
-swap_stops takes refuses p text added b later s t u c e told replays stopped =
-    subst (λ x. StopsAmong takes refuses [] (replacement p.second_start p.second_end x text ∷ later) s u text c) e
-    (stops_later (reports_one takes _ s t text b told replays) stopped)
+use Rattle.line_buffer.proofs.ReplayLemmas.{if_true}
 
 -- after the first cluster, with another at hand
 pub transposes : (l : Line) (pos : ℕ) → pos ≡ l.place → (pos ≡ 0 → ⊥) → true ≡ nat_lt 1 (clusters_around l) → transposes_chars l ≡ true

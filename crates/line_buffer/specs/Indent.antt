@@ -1,11 +1,12 @@
 -- Rows moved in or out by spaces.
-use Rattle.std.specs.Prelude.{ℕ, ◌+◌, ◌-◌, ◌==◌, Bool, if◌then◌else◌, List, [], ◌∷◌, length, take, take_while, slice_range, chars, encode_utf8_all, unwrap_or}
+use Rattle.std.specs.Prelude.{⊤, ℕ, ◌+◌, ◌-◌, ◌==◌, Bool, true, if◌then◌else◌, List, [], ◌∷◌, length, take, take_while, slice_range, chars, encode_utf8_all, unwrap_or}
 use Rattle.std.specs.List.{slice_split, repeat}
 use Rattle.std.specs.Char.{is_whitespace}
 use Rattle.line_buffer.specs.declared.types.Direction.TheVariants.{Forward}
 use Rattle.line_buffer.specs.declared.types.Movement.{Movement}
 use Rattle.line_buffer.specs.declared.types.Movement.TheVariants.{BackwardWord, ForwardWord, LineUp, LineDown, WholeBuffer, BeginningOfBuffer, EndOfBuffer}
 use Rattle.line_buffer.specs.Clusters.{nth_or_last}
+use Rattle.line_buffer.specs.Edit.{Edit, carrying}
 use Rattle.line_buffer.specs.Event.{Event}
 use Rattle.line_buffer.specs.Event.Event.{Delete}
 use Rattle.line_buffer.specs.Line.{Line}
@@ -52,6 +53,11 @@ row_events margin dedent at (row ∷ rows) =
     row_event margin dedent at row
     ∷ row_events margin dedent (at + row_len margin dedent row + 1) rows
 
+-- the rows between two places moved
+abbrev pub change_rows : List ℕ → Bool → ℕ → ℕ → Line → Edit ⊤
+change_rows margin dedent from upto l =
+    carrying tt (row_events margin dedent from (rows_of (slice_range l.text from upto))) l
+
 abbrev pub spaces : ℕ → List ℕ
 spaces amount = repeat amount (32 ∷ [])
 
@@ -63,3 +69,6 @@ indent_events movement amount dedent l =
 
 abbrev pub indent_line : Movement → ℕ → Bool → Line → Line
 indent_line movement amount dedent l = carried_all (indent_events movement amount dedent l) l
+
+abbrev pub indent : Movement → ℕ → Bool → Line → Edit Bool
+indent movement amount dedent l = carrying true (indent_events movement amount dedent l) l

@@ -1,7 +1,8 @@
--- Texts that are put in: what is answered, what is told, and the line afterwards.
-use Rattle.std.specs.Prelude.{ℕ, zero, suc, ◌+◌, ◌-◌, ◌==◌, Bool, not, ◌&&◌, ◌||◌, nat_le, nat_lt, if◌then◌else◌, slice_index, List, [], ◌∷◌, length, take, min, Option, None, Some, encode_utf8}
+-- Texts that are put in.
+use Rattle.std.specs.Prelude.{⊤, ℕ, zero, suc, ◌+◌, ◌-◌, ◌==◌, Bool, not, ◌&&◌, ◌||◌, nat_le, nat_lt, if◌then◌else◌, slice_index, List, [], ◌∷◌, length, take, min, Option, None, Some, encode_utf8}
 use Rattle.std.specs.List.{insert_slice, repeat}
 use Rattle.line_buffer.specs.declared.types.Direction.TheVariants.{Forward}
+use Rattle.line_buffer.specs.Edit.{Edit}
 use Rattle.line_buffer.specs.Event.{Event}
 use Rattle.line_buffer.specs.Event.Event.{InsertChar}
 use Rattle.line_buffer.specs.Line.{Line, cut_out}
@@ -34,11 +35,13 @@ abbrev pub update_line : List ℕ → ℕ → Line → Line
 update_line text pos l =
     record l { text = kept_text text l; place = min pos (length (kept_text text l)) }
 
--- what a call that may find no room answers, what it tells, and the line that it leaves
-pub record Insertion : Type 0 where
-  pub answer : Option Bool
-  pub events : List Event
-  pub line : Line
+abbrev pub update : List ℕ → ℕ → Line → Edit ⊤
+update text pos l =
+    record { answer = tt; events = update_events text l; line = update_line text pos l }
+
+-- an edit that may find no room
+abbrev pub Insertion : Type 0
+Insertion = Edit (Option Bool)
 
 -- nothing is put in
 abbrev pub no_insertion : Line → Insertion

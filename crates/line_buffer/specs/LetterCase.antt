@@ -1,5 +1,5 @@
 -- The letters of a word in another case.
-use Rattle.std.specs.Prelude.{ℕ, ◌+◌, List, [], ◌∷◌, ◌++◌, length, take, drop, slice_range, find, Option, None, Some, option_map, unwrap_or}
+use Rattle.std.specs.Prelude.{ℕ, ◌+◌, List, [], ◌∷◌, ◌++◌, length, take, drop, slice_range, find, Bool, is_some, Option, None, Some, option_map, unwrap_or}
 use Rattle.std.specs.List.{last_or}
 use Rattle.std.specs.Str.{str_to_ascii_lowercase, str_to_ascii_uppercase}
 use Rattle.line_buffer.specs.declared.types.At.TheVariants.{AfterEnd}
@@ -7,6 +7,7 @@ use Rattle.line_buffer.specs.declared.types.Word.TheVariants.{Emacs}
 use Rattle.line_buffer.specs.declared.types.WordAction.{WordAction}
 use Rattle.line_buffer.specs.declared.types.WordAction.TheVariants.{Capitalize, Lowercase, Uppercase}
 use Rattle.line_buffer.specs.Clusters.{clusters}
+use Rattle.line_buffer.specs.Edit.{Edit}
 use Rattle.line_buffer.specs.Event.{Event}
 use Rattle.line_buffer.specs.Line.{Line, text_after, replaced}
 use Rattle.line_buffer.specs.Replay.{replacement}
@@ -58,3 +59,10 @@ edit_word_events action l = recase_events action (word_to_edit l) l
 
 abbrev pub edit_word_line : WordAction → Line → Line
 edit_word_line action l = recase_line action (word_to_edit l) l
+
+abbrev pub edit_word : WordAction → Line → Edit Bool
+edit_word action l = record {
+  answer = is_some (word_to_edit l);
+  events = edit_word_events action l;
+  line = edit_word_line action l;
+}

@@ -2,6 +2,7 @@ pub mod CellOrder
 pub mod Cells
 pub mod Clusters
 pub mod Columns
+pub mod Edit
 pub mod Event
 pub mod Hits
 pub mod Indent

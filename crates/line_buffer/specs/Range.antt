@@ -1,5 +1,5 @@
 -- The part of a text that a movement names, and what it makes of a line to take that part out.
-use Rattle.std.specs.Prelude.{ℕ, ◌+◌, ◌-◌, ◌≤◌, ◌==◌, nat_lt, Bool, true, false, if◌then◌else◌, List, [], ◌∷◌, ◌++◌, length, slice_range, Option, None, Some, option_map, encode_utf8, IsCharBoundary}
+use Rattle.std.specs.Prelude.{ℕ, ◌+◌, ◌-◌, ◌≤◌, ◌==◌, nat_lt, Bool, true, false, if◌then◌else◌, List, [], ◌∷◌, ◌++◌, length, slice_range, Option, None, Some, is_some, option_map, encode_utf8, IsCharBoundary}
 use Rattle.line_buffer.specs.declared.range.Span.{Span}
 use Rattle.line_buffer.specs.declared.types.CharSearch.{CharSearch}
 use Rattle.line_buffer.specs.declared.types.CharSearch.TheVariants.{Forward as Onto, ForwardBefore, Backward as BackOnto, BackwardAfter}
@@ -7,6 +7,7 @@ use Rattle.line_buffer.specs.declared.types.Direction.TheVariants.{Forward, Back
 use Rattle.line_buffer.specs.declared.types.Movement.{Movement}
 use Rattle.line_buffer.specs.declared.types.Movement.TheVariants.{WholeLine, BeginningOfLine, EndOfLine, BackwardWord, ForwardWord, ViCharSearch, ViFirstPrint, BackwardChar, ForwardChar, LineUp, LineDown, WholeBuffer, BeginningOfBuffer, EndOfBuffer}
 use Rattle.line_buffer.specs.Clusters.{place_forward, place_backward}
+use Rattle.line_buffer.specs.Edit.{Edit}
 use Rattle.line_buffer.specs.Event.{Event}
 use Rattle.line_buffer.specs.Event.Event.{StartKilling, StopKilling}
 use Rattle.line_buffer.specs.Hits.{hit}
@@ -100,6 +101,23 @@ abbrev pub deletion_line : Option Span → Line → Line
 deletion_line None l = l
 deletion_line (Some span) l = cut_out span.from span.upto l
 
+abbrev pub deletion_of : Option Span → Line → Edit Bool
+deletion_of span l =
+    record { answer = is_some span; events = deletion_events span l; line = deletion_line span l }
+
+abbrev pub deletion_by : Movement → Line → Edit Bool
+deletion_by movement l = deletion_of (range_of movement l) l
+
+-- n clusters after the cursor, which are answered
+abbrev pub delete : ℕ → Line → Edit (Option (List ℕ))
+delete n l =
+    let span = range_of (ForwardChar n) l in
+    record {
+      answer = option_map (λ s. span_text s l) span;
+      events = deletion_events span l;
+      line = deletion_line span l;
+    }
+
 abbrev pub goes_by_clusters : Movement → Bool
 goes_by_clusters (BackwardChar n) = true
 goes_by_clusters (ForwardChar n) = true
@@ -117,3 +135,10 @@ kill_closing movement = if goes_by_clusters movement then [] else StopKilling �
 
 abbrev pub kill_line : Movement → Line → Line
 kill_line movement l = deletion_line (range_of movement l) l
+
+abbrev pub kill : Movement → Line → Edit Bool
+kill movement l = record {
+  answer = is_some (range_of movement l);
+  events = kill_events movement l;
+  line = kill_line movement l;
+}

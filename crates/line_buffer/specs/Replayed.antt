@@ -1,5 +1,5 @@
 -- Events as functions of a text, and of a cursor that keeps its place in the text.
-use Rattle.std.specs.Prelude.{◌≡◌, ℕ, ◌+◌, ◌-◌, min, nat_le, if◌then◌else◌, List, [], ◌∷◌, ◌++◌, length, encode_utf8}
+use Rattle.std.specs.Prelude.{ℕ, ◌+◌, ◌-◌, min, nat_le, if◌then◌else◌, List, [], ◌∷◌, length, encode_utf8}
 use Rattle.std.specs.List.{replace_range}
 use Rattle.line_buffer.specs.Event.{Event}
 use Rattle.line_buffer.specs.Event.Event.{StartKilling, StopKilling, Delete, InsertChar, InsertStr, Replace}
@@ -31,11 +31,3 @@ carried_line e l = record l { text = replayed e l.text; place = carried e l.plac
 unfoldable pub carried_all : List Event → Line → Line
 carried_all [] l = l
 carried_all (e ∷ es) l = carried_all es (carried_line e l)
-
--- a line as the first of these events leave it, of which one at least was not made
-pub record LeftAmong (events : List Event) (before after : Line) : Type 0 where
-  pub made : List Event
-  pub next : Event
-  pub others : List Event
-  pub split : events ≡ made ++ next ∷ others
-  pub line : after ≡ carried_all made before

@@ -1,16 +1,17 @@
--- Two parts of a text later_first: the clusters at the cursor, and the words around it.
-use Rattle.std.specs.Prelude.{ℕ, ◌+◌, ◌==◌, ◌&&◌, not, nat_lt, nat_le, true, Bool, if◌then◌else◌, List, [], ◌∷◌, ◌++◌, length, slice_range}
+-- Two parts of a text exchanged: the clusters at the cursor, and the words around it.
+use Rattle.std.specs.Prelude.{⊤, ℕ, ◌+◌, ◌==◌, ◌&&◌, not, nat_lt, nat_le, true, Bool, if◌then◌else◌, List, [], ◌∷◌, ◌++◌, length, slice_range}
 use Rattle.std.specs.List.{replace_range}
 use Rattle.unicode_segmentation.specs.Grapheme.{graphemes}
 use Rattle.line_buffer.specs.declared.types.At.TheVariants.{AfterEnd}
 use Rattle.line_buffer.specs.declared.types.Word.TheVariants.{Emacs}
 use Rattle.line_buffer.specs.Clusters.{place_forward, place_backward}
+use Rattle.line_buffer.specs.Edit.{Edit}
 use Rattle.line_buffer.specs.Event.{Event}
 use Rattle.line_buffer.specs.Line.{Line, text_before, text_after, moved_to, replaced}
 use Rattle.line_buffer.specs.Replay.{replacement}
 use Rattle.line_buffer.specs.Words.{prev_word, next_word}
 
--- the cursor between the two clusters that are later_first: one cluster back where it stands at the
+-- the cursor between the two clusters that are exchanged: one cluster back where it stands at the
 -- text's end
 abbrev pub between_clusters : Line → Line
 between_clusters l = if l.place == length l.text then moved_to (place_backward 1 l) l else l
@@ -43,6 +44,13 @@ transpose_chars_line l =
     let parts = clusters_at (between_clusters l) in
     if transposes_chars l then replaced parts.0 parts.2 (later_first parts l.text) l else l
 
+abbrev pub transpose_chars : Line → Edit Bool
+transpose_chars l = record {
+  answer = transposes_chars l;
+  events = transpose_chars_events l;
+  line = transpose_chars_line l;
+}
+
 -- the cursor after the n-th later end of a word, and at the n-th earlier start of one
 unfoldable pub after_words : ℕ → Line → Line
 after_words n l = moved_to (next_word AfterEnd Emacs n l) l
@@ -50,12 +58,10 @@ after_words n l = moved_to (next_word AfterEnd Emacs n l) l
 unfoldable pub before_words : ℕ → Line → Line
 before_words n l = moved_to (prev_word Emacs n l) l
 
--- two parts of a text
+-- two parts of a text, each by its start and its end
 pub record Pair : Type 0 where
-  pub first_start : ℕ
-  pub first_end : ℕ
-  pub second_start : ℕ
-  pub second_end : ℕ
+  pub first : ℕ × ℕ
+  pub second : ℕ × ℕ
 
 abbrev pub second_word : ℕ → Line → Line
 second_word n l = before_words 1 (after_words n l)
@@ -66,34 +72,35 @@ first_word n l = before_words n (second_word n l)
 -- the word at or after the cursor, the n-th by its end, and the one n words before it
 abbrev pub words_around : ℕ → Line → Pair
 words_around n l = record {
-  first_start = (first_word n l).place;
-  first_end = (after_words 1 (first_word n l)).place;
-  second_start = (second_word n l).place;
-  second_end = (after_words n l).place;
+  first = ((first_word n l).place, (after_words 1 (first_word n l)).place);
+  second = ((second_word n l).place, (after_words n l).place);
 }
 
--- the later part is later_first first, so that the earlier one still stands where it stood
+-- the later part is exchanged first, so that the earlier one still stands where it stood
 abbrev pub swap_events : Pair → List ℕ → List Event
 swap_events p text =
-    let first = slice_range text p.first_start p.first_end in
-    let second = slice_range text p.second_start p.second_end in
-    replacement p.second_start p.second_end first text
-    ∷ (replacement p.first_start p.first_end second
-    (replace_range text p.second_start p.second_end first) ∷ [])
+    let first = slice_range text p.first.0 p.first.1 in
+    let second = slice_range text p.second.0 p.second.1 in
+    replacement p.second.0 p.second.1 first text
+    ∷ (replacement p.first.0 p.first.1 second
+    (replace_range text p.second.0 p.second.1 first) ∷ [])
 
 -- the cursor after both
 abbrev pub swap_line : Pair → Line → Line
 swap_line p l =
-    let first = slice_range l.text p.first_start p.first_end in
-    let second = slice_range l.text p.second_start p.second_end in
+    let first = slice_range l.text p.first.0 p.first.1 in
+    let second = slice_range l.text p.second.0 p.second.1 in
     record l {
       text = replace_range
-          (replace_range l.text p.second_start p.second_end first) p.first_start p.first_end second;
-      place = p.second_end;
+          (replace_range l.text p.second.0 p.second.1 first) p.first.0 p.first.1 second;
+      place = p.second.1;
     }
 
+abbrev pub swap : Pair → Line → Edit ⊤
+swap p l = record { answer = tt; events = swap_events p l.text; line = swap_line p l }
+
 abbrev pub are_apart : Pair → Bool
-are_apart p = not (p.first_start == p.second_start) && nat_le p.first_end p.second_start
+are_apart p = not (p.first.0 == p.second.0) && nat_le p.first.1 p.second.0
 
 abbrev pub transposes_words : ℕ → Line → Bool
 transposes_words n l = are_apart (words_around n l)
@@ -106,3 +113,14 @@ transpose_words_events n l =
 abbrev pub transpose_words_line : ℕ → Line → Line
 transpose_words_line n l =
     if transposes_words n l then swap_line (words_around n l) l else after_words 1 (first_word n l)
+
+abbrev pub transpose_words : ℕ → Line → Edit Bool
+transpose_words n l = record {
+  answer = transposes_words n l;
+  events = transpose_words_events n l;
+  line = transpose_words_line n l;
+}
+
+-- the line at which these events begin: the cursor has moved
+abbrev pub before_transposed : ℕ → Line → Line
+before_transposed n l = record l { place = (words_around n l).first.1 }

@@ -20,10 +20,12 @@ fn goes_by_clusters(movement: &Movement) -> bool
 }
 
 impl LineBuffer {
-    ghost use Rattle.std.specs.Prelude.{◌≡◌, ◌≤◌, [], slice_range, IsCharBoundary, length, is_some, option_map, string_bytes, true, IfSome, IfOk, OnOk, OnErr};
-    ghost use Rattle.line_buffer.specs.declared.types.Movement.TheVariants.{BeginningOfLine, EndOfLine, BackwardWord, ForwardWord, ViCharSearch, BackwardChar, ForwardChar, BeginningOfBuffer, EndOfBuffer};
-    ghost use Rattle.line_buffer.specs.Range.{IsSpanOf, range_of, copied_range, span_text, deletion_events, deletion_line, kill_events, kill_closing, kill_line};
-    ghost use Rattle.line_buffer.specs.Replay.{Reports, StopsAmong, wants_or};
+    ghost use Rattle.std.specs.Prelude.{◌≡◌, ◌≤◌, [], slice_range, IsCharBoundary, is_some, option_map, string_bytes, true, IfSome, IfOk, OnErr};
+    ghost use Rattle.std.specs.Result.{result_map_both};
+    ghost use Rattle.line_buffer.specs.declared.types.Movement.TheVariants.{BeginningOfLine, EndOfLine, BackwardWord, ForwardWord, ViCharSearch, BackwardChar, BeginningOfBuffer, EndOfBuffer};
+    ghost use Rattle.line_buffer.specs.Edit.{CutsLine};
+    ghost use Rattle.line_buffer.specs.Range.{IsSpanOf, copied_range, span_text, deletion_of, deletion_by, delete, kill, kill_closing};
+    ghost use Rattle.line_buffer.specs.Replay.{wants_or};
 
     /// Takes a part out, if there is one.
     fn delete_span<D: DeleteListener>(
@@ -33,14 +35,8 @@ impl LineBuffer {
         dl: &mut D,
     ) -> Result<bool, OutOfMemory>
         requires { IfSome span (λ s. IsSpanOf self.old.text s) }
-        ensures answer { IfOk result (λ b. b ≡ is_some span) }
-        ensures told { OnOk result (Reports D.takes (deletion_events span self.old) dl.old dl.new
-            self.old.text self.new.text) }
-        ensures line { OnOk result (self.new ≡ deletion_line span self.old) }
-        ensures shrinks { length self.new.text ≤ length self.old.text }
-        ensures stopped { OnErr result (StopsAmong D.takes D.refuses []
-            (deletion_events span self.old) dl.old dl.new self.old.text self.new.text) }
-        ensures kept { OnErr result (self.new ≡ self.old) }
+        ensures { CutsLine D.takes D.refuses [] (deletion_of span self.old)
+            dl.old dl.new self.old self.new result }
     {
         let Some(span) = span else {
             return Ok(false);
@@ -56,16 +52,8 @@ impl LineBuffer {
         movement: &Movement,
         dl: &mut D,
     ) -> Result<bool, OutOfMemory>
-        ensures answer { IfOk result (λ b. b ≡ is_some (range_of movement.now self.old)) }
-        ensures told { OnOk result (Reports D.takes (deletion_events
-            (range_of movement.now self.old) self.old) dl.old dl.new self.old.text self.new.text) }
-        ensures line { OnOk result (self.new ≡ deletion_line (range_of movement.now self.old)
-            self.old) }
-        ensures shrinks { length self.new.text ≤ length self.old.text }
-        ensures stopped { OnErr result (StopsAmong D.takes D.refuses []
-            (deletion_events (range_of movement.now self.old) self.old) dl.old dl.new self.old.text
-            self.new.text) }
-        ensures kept { OnErr result (self.new ≡ self.old) }
+        ensures { CutsLine D.takes D.refuses [] (deletion_by movement.now self.old)
+            dl.old dl.new self.old self.new result }
     {
         let span = self.range_of(movement);
         self.delete_span(alloc, span, dl)
@@ -79,18 +67,8 @@ impl LineBuffer {
         n: RepeatCount,
         dl: &mut D,
     ) -> Result<Option<String>, OutOfMemory>
-        ensures answer { IfOk result (λ t. option_map string_bytes t ≡ option_map
-            (λ s. span_text s self.old) (range_of (ForwardChar n) self.old)) }
-        ensures told { OnOk result (Reports D.takes (deletion_events
-            (range_of (ForwardChar n) self.old) self.old) dl.old dl.new
-            self.old.text self.new.text) }
-        ensures line { OnOk result (self.new ≡ deletion_line (range_of (ForwardChar n) self.old)
-            self.old) }
-        ensures shrinks { length self.new.text ≤ length self.old.text }
-        ensures stopped { OnErr result (StopsAmong D.takes (wants_or D.refuses) []
-            (deletion_events (range_of (ForwardChar n) self.old) self.old) dl.old dl.new
-            self.old.text self.new.text) }
-        ensures kept { OnErr result (self.new ≡ self.old) }
+        ensures { CutsLine D.takes (wants_or D.refuses) [] (delete n self.old) dl.old dl.new
+            self.old self.new (result_map_both (option_map string_bytes) (λ e. e) result) }
     {
         let span = self.range_of(&Movement::ForwardChar(n));
         let text = self.copy_span(alloc, span)?;
@@ -106,17 +84,8 @@ impl LineBuffer {
         n: RepeatCount,
         dl: &mut D,
     ) -> Result<bool, OutOfMemory>
-        ensures answer { IfOk result (λ b. b ≡ is_some (range_of (BackwardChar n) self.old)) }
-        ensures told { OnOk result (Reports D.takes (deletion_events
-            (range_of (BackwardChar n) self.old) self.old) dl.old dl.new self.old.text
-            self.new.text) }
-        ensures line { OnOk result (self.new ≡ deletion_line (range_of (BackwardChar n) self.old)
-            self.old) }
-        ensures shrinks { length self.new.text ≤ length self.old.text }
-        ensures stopped { OnErr result (StopsAmong D.takes D.refuses []
-            (deletion_events (range_of (BackwardChar n) self.old) self.old) dl.old dl.new
-            self.old.text self.new.text) }
-        ensures kept { OnErr result (self.new ≡ self.old) }
+        ensures { CutsLine D.takes D.refuses [] (deletion_by (BackwardChar n) self.old)
+            dl.old dl.new self.old self.new result }
     {
         self.delete_by(alloc, &Movement::BackwardChar(n), dl)
     }
@@ -127,16 +96,8 @@ impl LineBuffer {
         alloc: Global,
         dl: &mut D,
     ) -> Result<bool, OutOfMemory>
-        ensures answer { IfOk result (λ b. b ≡ is_some (range_of EndOfLine self.old)) }
-        ensures told { OnOk result (Reports D.takes (deletion_events (range_of EndOfLine self.old)
-            self.old) dl.old dl.new self.old.text self.new.text) }
-        ensures line { OnOk result (self.new ≡ deletion_line (range_of EndOfLine self.old)
-            self.old) }
-        ensures shrinks { length self.new.text ≤ length self.old.text }
-        ensures stopped { OnErr result (StopsAmong D.takes D.refuses []
-            (deletion_events (range_of EndOfLine self.old) self.old) dl.old dl.new self.old.text
-            self.new.text) }
-        ensures kept { OnErr result (self.new ≡ self.old) }
+        ensures { CutsLine D.takes D.refuses [] (deletion_by EndOfLine self.old)
+            dl.old dl.new self.old self.new result }
     {
         self.delete_by(alloc, &Movement::EndOfLine, dl)
     }
@@ -147,16 +108,8 @@ impl LineBuffer {
         alloc: Global,
         dl: &mut D,
     ) -> Result<bool, OutOfMemory>
-        ensures answer { IfOk result (λ b. b ≡ is_some (range_of EndOfBuffer self.old)) }
-        ensures told { OnOk result (Reports D.takes (deletion_events (range_of EndOfBuffer self.old)
-            self.old) dl.old dl.new self.old.text self.new.text) }
-        ensures line { OnOk result (self.new ≡ deletion_line (range_of EndOfBuffer self.old)
-            self.old) }
-        ensures shrinks { length self.new.text ≤ length self.old.text }
-        ensures stopped { OnErr result (StopsAmong D.takes D.refuses []
-            (deletion_events (range_of EndOfBuffer self.old) self.old) dl.old dl.new self.old.text
-            self.new.text) }
-        ensures kept { OnErr result (self.new ≡ self.old) }
+        ensures { CutsLine D.takes D.refuses [] (deletion_by EndOfBuffer self.old)
+            dl.old dl.new self.old self.new result }
     {
         self.delete_by(alloc, &Movement::EndOfBuffer, dl)
     }
@@ -168,17 +121,8 @@ impl LineBuffer {
         alloc: Global,
         dl: &mut D,
     ) -> Result<bool, OutOfMemory>
-        ensures answer { IfOk result (λ b. b ≡ is_some (range_of BeginningOfLine self.old)) }
-        ensures told { OnOk result (Reports D.takes (deletion_events
-            (range_of BeginningOfLine self.old) self.old) dl.old dl.new
-            self.old.text self.new.text) }
-        ensures line { OnOk result (self.new ≡ deletion_line (range_of BeginningOfLine self.old)
-            self.old) }
-        ensures shrinks { length self.new.text ≤ length self.old.text }
-        ensures stopped { OnErr result (StopsAmong D.takes D.refuses []
-            (deletion_events (range_of BeginningOfLine self.old) self.old) dl.old dl.new
-            self.old.text self.new.text) }
-        ensures kept { OnErr result (self.new ≡ self.old) }
+        ensures { CutsLine D.takes D.refuses [] (deletion_by BeginningOfLine self.old)
+            dl.old dl.new self.old self.new result }
     {
         self.delete_by(alloc, &Movement::BeginningOfLine, dl)
     }
@@ -189,17 +133,8 @@ impl LineBuffer {
         alloc: Global,
         dl: &mut D,
     ) -> Result<bool, OutOfMemory>
-        ensures answer { IfOk result (λ b. b ≡ is_some (range_of BeginningOfBuffer self.old)) }
-        ensures told { OnOk result (Reports D.takes (deletion_events
-            (range_of BeginningOfBuffer self.old) self.old) dl.old dl.new self.old.text
-            self.new.text) }
-        ensures line { OnOk result (self.new ≡ deletion_line (range_of BeginningOfBuffer self.old)
-            self.old) }
-        ensures shrinks { length self.new.text ≤ length self.old.text }
-        ensures stopped { OnErr result (StopsAmong D.takes D.refuses []
-            (deletion_events (range_of BeginningOfBuffer self.old) self.old) dl.old dl.new
-            self.old.text self.new.text) }
-        ensures kept { OnErr result (self.new ≡ self.old) }
+        ensures { CutsLine D.takes D.refuses [] (deletion_by BeginningOfBuffer self.old)
+            dl.old dl.new self.old self.new result }
     {
         self.delete_by(alloc, &Movement::BeginningOfBuffer, dl)
     }
@@ -212,17 +147,8 @@ impl LineBuffer {
         n: RepeatCount,
         dl: &mut D,
     ) -> Result<bool, OutOfMemory>
-        ensures answer { IfOk result (λ b. b ≡ is_some (range_of (BackwardWord n word) self.old)) }
-        ensures told { OnOk result (Reports D.takes (deletion_events
-            (range_of (BackwardWord n word) self.old) self.old) dl.old dl.new self.old.text
-            self.new.text) }
-        ensures line { OnOk result (self.new ≡ deletion_line
-            (range_of (BackwardWord n word) self.old) self.old) }
-        ensures shrinks { length self.new.text ≤ length self.old.text }
-        ensures stopped { OnErr result (StopsAmong D.takes D.refuses []
-            (deletion_events (range_of (BackwardWord n word) self.old) self.old) dl.old dl.new
-            self.old.text self.new.text) }
-        ensures kept { OnErr result (self.new ≡ self.old) }
+        ensures { CutsLine D.takes D.refuses [] (deletion_by (BackwardWord n word) self.old)
+            dl.old dl.new self.old self.new result }
     {
         self.delete_by(alloc, &Movement::BackwardWord(n, word), dl)
     }
@@ -236,18 +162,8 @@ impl LineBuffer {
         n: RepeatCount,
         dl: &mut D,
     ) -> Result<bool, OutOfMemory>
-        ensures answer { IfOk result (λ b. b ≡ is_some (range_of (ForwardWord n at word)
-            self.old)) }
-        ensures told { OnOk result (Reports D.takes (deletion_events
-            (range_of (ForwardWord n at word) self.old) self.old) dl.old dl.new self.old.text
-            self.new.text) }
-        ensures line { OnOk result (self.new ≡ deletion_line
-            (range_of (ForwardWord n at word) self.old) self.old) }
-        ensures shrinks { length self.new.text ≤ length self.old.text }
-        ensures stopped { OnErr result (StopsAmong D.takes D.refuses []
-            (deletion_events (range_of (ForwardWord n at word) self.old) self.old) dl.old dl.new
-            self.old.text self.new.text) }
-        ensures kept { OnErr result (self.new ≡ self.old) }
+        ensures { CutsLine D.takes D.refuses [] (deletion_by (ForwardWord n at word) self.old)
+            dl.old dl.new self.old self.new result }
     {
         self.delete_by(alloc, &Movement::ForwardWord(n, at, word), dl)
     }
@@ -261,18 +177,8 @@ impl LineBuffer {
         n: RepeatCount,
         dl: &mut D,
     ) -> Result<bool, OutOfMemory>
-        ensures answer { IfOk result (λ b. b ≡ is_some (range_of (ViCharSearch n search)
-            self.old)) }
-        ensures told { OnOk result (Reports D.takes (deletion_events
-            (range_of (ViCharSearch n search) self.old) self.old) dl.old dl.new self.old.text
-            self.new.text) }
-        ensures line { OnOk result (self.new ≡ deletion_line
-            (range_of (ViCharSearch n search) self.old) self.old) }
-        ensures shrinks { length self.new.text ≤ length self.old.text }
-        ensures stopped { OnErr result (StopsAmong D.takes D.refuses []
-            (deletion_events (range_of (ViCharSearch n search) self.old) self.old) dl.old dl.new
-            self.old.text self.new.text) }
-        ensures kept { OnErr result (self.new ≡ self.old) }
+        ensures { CutsLine D.takes D.refuses [] (deletion_by (ViCharSearch n search) self.old)
+            dl.old dl.new self.old self.new result }
     {
         self.delete_by(alloc, &Movement::ViCharSearch(n, search), dl)
     }
@@ -285,14 +191,8 @@ impl LineBuffer {
         movement: &Movement,
         dl: &mut D,
     ) -> Result<bool, OutOfMemory>
-        ensures answer { IfOk result (λ b. b ≡ is_some (range_of movement.now self.old)) }
-        ensures told { OnOk result (Reports D.takes (kill_events movement.now self.old) dl.old
-            dl.new self.old.text self.new.text) }
-        ensures line { OnOk result (self.new ≡ kill_line movement.now self.old) }
-        ensures shrinks { length self.new.text ≤ length self.old.text }
-        ensures stopped { OnErr result (StopsAmong D.takes D.refuses (kill_closing movement.now)
-            (kill_events movement.now self.old) dl.old dl.new self.old.text self.new.text) }
-        ensures kept { OnErr result (self.new ≡ self.old) }
+        ensures { CutsLine D.takes D.refuses (kill_closing movement.now) (kill movement.now self.old)
+            dl.old dl.new self.old self.new result }
     {
         if goes_by_clusters(movement) {
             return self.delete_by(alloc, movement, dl);

@@ -7,10 +7,11 @@ use std::alloc::Global;
 use std::ops::Range;
 
 impl LineBuffer {
-    ghost use Rattle.std.specs.Prelude.{◌≡◌, ◌==◌, ◌≤◌, length, IfOk, OnOk, OnErr, IsCharBoundary};
+    ghost use Rattle.std.specs.Prelude.{◌≡◌, ◌==◌, ◌≤◌, length, IfOk, IsCharBoundary};
     ghost use Rattle.std.specs.List.{insert_slice};
+    ghost use Rattle.line_buffer.specs.Edit.{ChangesLine};
     ghost use Rattle.line_buffer.specs.Line.{replaced, cut_out, put_in};
-    ghost use Rattle.line_buffer.specs.Replay.{Replays, deletion, insertion, replacement, wants_or};
+    ghost use Rattle.line_buffer.specs.Replay.{deletion, insertion, replacement, wants_or};
     ghost use Rattle.line_buffer.specs.declared.types.Direction.TheVariants.{Forward};
 
     /// Puts `text` in place of a range, with the cursor after it. The range, in bytes, begins and
@@ -25,14 +26,9 @@ impl LineBuffer {
         requires order { range.start ≤ range.end }
         requires start { IsCharBoundary self.old.text range.start }
         requires end { IsCharBoundary self.old.text range.end }
-        ensures told { OnOk result (C.takes cl.old (replacement range.start range.end text.now
-            self.old.text) cl.new) }
-        ensures replays { OnOk result (Replays (replacement range.start range.end text.now
-            self.old.text) self.old.text self.new.text) }
-        ensures line { OnOk result (self.new ≡ replaced range.start range.end text.now self.old) }
-        ensures refused { OnErr result (wants_or C.refuses cl.old
-            (replacement range.start range.end text.now self.old.text) cl.new) }
-        ensures kept { OnErr result (self.new ≡ self.old) }
+        ensures { ChangesLine C.takes (wants_or C.refuses)
+            (replacement range.start range.end text.now self.old.text)
+            (replaced range.start range.end text.now self.old) cl.old cl.new self.old self.new result }
     {
         self.buf.reserve(text.len())?;
         cl.replace(alloc, range.start, &self.buf[range.start..range.end], text)?;
@@ -53,13 +49,8 @@ impl LineBuffer {
         requires at { IsCharBoundary self.old.text idx }
         requires cursor { IsCharBoundary (insert_slice self.old.text idx text.now) self.old.place }
         ensures answer { IfOk result (λ at_end. at_end ≡ (idx == length self.old.text)) }
-        ensures told { OnOk result (C.takes cl.old (insertion idx text.now) cl.new) }
-        ensures replays { OnOk result (Replays (insertion idx text.now) self.old.text
-            self.new.text) }
-        ensures line { OnOk result (self.new ≡ put_in idx text.now self.old) }
-        ensures refused { OnErr result (wants_or C.refuses cl.old
-            (insertion idx text.now) cl.new) }
-        ensures kept { OnErr result (self.new ≡ self.old) }
+        ensures edits { ChangesLine C.takes (wants_or C.refuses) (insertion idx text.now)
+            (put_in idx text.now self.old) cl.old cl.new self.old self.new result }
     {
         let at_end = idx == self.buf.len();
         self.buf.reserve(text.len())?;
@@ -79,14 +70,9 @@ impl LineBuffer {
         requires order { range.start ≤ range.end }
         requires start { IsCharBoundary self.old.text range.start }
         requires end { IsCharBoundary self.old.text range.end }
-        ensures told { OnOk result (D.takes dl.old (deletion range.start range.end Forward
-            self.old.text) dl.new) }
-        ensures replays { OnOk result (Replays (deletion range.start range.end Forward
-            self.old.text) self.old.text self.new.text) }
-        ensures line { OnOk result (self.new ≡ cut_out range.start range.end self.old) }
-        ensures refused { OnErr result (D.refuses dl.old
-            (deletion range.start range.end Forward self.old.text) dl.new) }
-        ensures kept { OnErr result (self.new ≡ self.old) }
+        ensures { ChangesLine D.takes D.refuses
+            (deletion range.start range.end Forward self.old.text)
+            (cut_out range.start range.end self.old) dl.old dl.new self.old self.new result }
     {
         self.delete_directed(alloc, range, Direction::Forward, dl)
     }
@@ -102,14 +88,9 @@ impl LineBuffer {
         requires order { range.start ≤ range.end }
         requires start { IsCharBoundary self.old.text range.start }
         requires end { IsCharBoundary self.old.text range.end }
-        ensures told { OnOk result (D.takes dl.old (deletion range.start range.end direction
-            self.old.text) dl.new) }
-        ensures replays { OnOk result (Replays (deletion range.start range.end direction
-            self.old.text) self.old.text self.new.text) }
-        ensures line { OnOk result (self.new ≡ cut_out range.start range.end self.old) }
-        ensures refused { OnErr result (D.refuses dl.old
-            (deletion range.start range.end direction self.old.text) dl.new) }
-        ensures kept { OnErr result (self.new ≡ self.old) }
+        ensures { ChangesLine D.takes D.refuses
+            (deletion range.start range.end direction self.old.text)
+            (cut_out range.start range.end self.old) dl.old dl.new self.old self.new result }
     {
         dl.delete(
             alloc,

@@ -27,13 +27,13 @@ fn leading_len(row: &str, count: usize) -> usize
 }
 
 impl<'a> GapBuffer<'a> {
-    ghost use Rattle.std.specs.Prelude.{◌≡◌, ◌+◌, ◌≤◌, [], length, slice_range, drop, IfOk, OnOk, OnErr, IsCharBoundary};
-    ghost use Rattle.line_buffer.specs.Indent.{leading, rows_of, row_event, row_len, row_events};
-    ghost use Rattle.line_buffer.specs.Settings.{SameSettings};
-    ghost use Rattle.line_buffer.specs.Replay.{Replays, Reports, StopsAmong, wants_or};
+    ghost use Rattle.std.specs.Prelude.{◌≡◌, ◌+◌, ◌≤◌, [], length, slice_range, drop, IfOk, OnErr, IsCharBoundary};
     ghost use Rattle.std.specs.List.{prefix_len};
+    ghost use Rattle.line_buffer.specs.Edit.{EditsLine, ChangesLine};
+    ghost use Rattle.line_buffer.specs.Indent.{leading, row_event, row_len, change_rows};
+    ghost use Rattle.line_buffer.specs.Replay.{wants_or};
+    ghost use Rattle.line_buffer.specs.Replayed.{carried_line};
     ghost use Rattle.line_buffer.specs.Rows.{is_in_row};
-    ghost use Rattle.line_buffer.specs.Replayed.{carried_line, carried_all, LeftAmong};
 
     /// Gives the row between the gap and a place its margin, or takes one away, and answers where
     /// the row ends then.
@@ -52,16 +52,12 @@ impl<'a> GapBuffer<'a> {
         ensures gap { IfOk result (λ e. self.new.1 ≤ e) }
         ensures bound { IfOk result (λ e. e ≤ length self.new.0.text) }
         ensures rest { IfOk result (λ e. drop e self.new.0.text ≡ drop end self.old.0.text) }
-        ensures told { OnOk result (C.takes cl.old (row_event margin.now dedent self.old.1
-            (slice_range self.old.0.text self.old.1 end)) cl.new) }
-        ensures replays { OnOk result (Replays (row_event margin.now dedent self.old.1
-            (slice_range self.old.0.text self.old.1 end)) self.old.0.text self.new.0.text) }
-        ensures line { OnOk result (self.new.0 ≡ carried_line (row_event margin.now dedent
-            self.old.1 (slice_range self.old.0.text self.old.1 end)) self.old.0) }
-        ensures refused { OnErr result (wants_or C.refuses cl.old
+        ensures edits { ChangesLine C.takes (wants_or C.refuses)
             (row_event margin.now dedent self.old.1 (slice_range self.old.0.text self.old.1 end))
-            cl.new) }
-        ensures kept { OnErr result (self.new ≡ self.old) }
+            (carried_line (row_event margin.now dedent self.old.1
+            (slice_range self.old.0.text self.old.1 end)) self.old.0)
+            cl.old cl.new self.old.0 self.new.0 result }
+        ensures stays { OnErr result (self.new.1 ≡ self.old.1) }
     {
         let gap = self.gap();
         if dedent {
@@ -115,19 +111,9 @@ impl<'a> GapBuffer<'a> {
     ) -> Result<(), OutOfMemory>
         requires order { self.old.1 ≤ upto }
         requires end { IsCharBoundary self.old.0.text upto }
-        ensures told { OnOk result (Reports C.takes (row_events margin.now dedent self.old.1
-            (rows_of (slice_range self.old.0.text self.old.1 upto))) cl.old cl.new self.old.0.text
-            self.new.0.text) }
-        ensures line { OnOk result (self.new.0 ≡ carried_all
-            (row_events margin.now dedent self.old.1
-            (rows_of (slice_range self.old.0.text self.old.1 upto))) self.old.0) }
-        ensures stopped { OnErr result (StopsAmong C.takes (wants_or C.refuses) []
-            (row_events margin.now dedent self.old.1
-            (rows_of (slice_range self.old.0.text self.old.1 upto))) cl.old cl.new self.old.0.text
-            self.new.0.text) }
-        ensures carried { OnErr result (LeftAmong (row_events margin.now dedent self.old.1
-            (rows_of (slice_range self.old.0.text self.old.1 upto))) self.old.0 self.new.0) }
-        ensures settings { SameSettings self.old.0 self.new.0 }
+        ensures { EditsLine C.takes (wants_or C.refuses) []
+            (change_rows margin.now dedent self.old.1 upto self.old.0)
+            cl.old cl.new self.old.0 self.new.0 result }
     {
         // Its contract says that it stands between characters.
         let _gap = self.gap();
@@ -150,12 +136,11 @@ impl<'a> GapBuffer<'a> {
 }
 
 impl LineBuffer {
-    ghost use Rattle.std.specs.Prelude.{◌≡◌, ◌≤◌, true, [], slice_range, IfOk, OnOk, OnErr, IsCharBoundary};
-    ghost use Rattle.line_buffer.specs.Indent.{rows_covered, rows_of, row_events, indent_events, indent_line};
-    ghost use Rattle.line_buffer.specs.Settings.{SameSettings};
-    ghost use Rattle.line_buffer.specs.Replay.{Reports, StopsAmong, wants_or};
+    ghost use Rattle.std.specs.Prelude.{◌≡◌, ◌≤◌, [], IsCharBoundary};
+    ghost use Rattle.line_buffer.specs.Edit.{EditsLine};
+    ghost use Rattle.line_buffer.specs.Indent.{rows_covered, change_rows, indent};
+    ghost use Rattle.line_buffer.specs.Replay.{wants_or};
     ghost use Rattle.line_buffer.specs.Rows.{row_start, row_end};
-    ghost use Rattle.line_buffer.specs.Replayed.{carried_all, LeftAmong};
 
     /// Gives each row between two places its margin, or takes one away, the first row first.
     fn change_rows<C: ChangeListener>(
@@ -169,19 +154,9 @@ impl LineBuffer {
         requires order { rows.start ≤ rows.end }
         requires start { IsCharBoundary self.old.text rows.start }
         requires end { IsCharBoundary self.old.text rows.end }
-        ensures told { OnOk result (Reports C.takes (row_events margin.now dedent rows.start
-            (rows_of (slice_range self.old.text rows.start rows.end))) cl.old cl.new self.old.text
-            self.new.text) }
-        ensures line { OnOk result (self.new ≡ carried_all
-            (row_events margin.now dedent rows.start
-            (rows_of (slice_range self.old.text rows.start rows.end))) self.old) }
-        ensures stopped { OnErr result (StopsAmong C.takes (wants_or C.refuses) []
-            (row_events margin.now dedent rows.start
-            (rows_of (slice_range self.old.text rows.start rows.end))) cl.old cl.new self.old.text
-            self.new.text) }
-        ensures carried { OnErr result (LeftAmong (row_events margin.now dedent rows.start
-            (rows_of (slice_range self.old.text rows.start rows.end))) self.old self.new) }
-        ensures settings { SameSettings self.old self.new }
+        ensures { EditsLine C.takes (wants_or C.refuses) []
+            (change_rows margin.now dedent rows.start rows.end self.old)
+            cl.old cl.new self.old self.new result }
     {
         let mut changed = GapBuffer::new(alloc, self)?;
         changed.advance(rows.start);
@@ -247,16 +222,8 @@ impl LineBuffer {
         dedent: bool,
         cl: &mut C,
     ) -> Result<bool, OutOfMemory>
-        ensures answer { IfOk result (λ b. b ≡ true) }
-        ensures told { OnOk result (Reports C.takes (indent_events movement.now amount dedent
-            self.old) cl.old cl.new self.old.text self.new.text) }
-        ensures line { OnOk result (self.new ≡ indent_line movement.now amount dedent self.old) }
-        ensures stopped { OnErr result (StopsAmong C.takes (wants_or C.refuses) []
-            (indent_events movement.now amount dedent self.old) cl.old cl.new self.old.text
-            self.new.text) }
-        ensures carried { OnErr result (LeftAmong (indent_events movement.now amount dedent
-            self.old) self.old self.new) }
-        ensures settings { SameSettings self.old self.new }
+        ensures { EditsLine C.takes (wants_or C.refuses) []
+            (indent movement.now amount dedent self.old) cl.old cl.new self.old self.new result }
     {
         let (from, upto) = self.rows_covered(movement);
         let rows = self.row_start_of(from)..self.row_end_of(upto);

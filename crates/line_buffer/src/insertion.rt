@@ -21,16 +21,14 @@ fn last_cut(text: &str, room: usize) -> usize
     end
 }
 
-#[tactic(auto, using(crate::proofs::ReplayLemmas::stops_at_once))]
 impl LineBuffer {
-    ghost use Rattle.std.specs.Prelude.{◌≡◌, ℕ, ◌≤◌, ◌-◌, ◌==◌, true, [], length, min, IsUtf8, IfOk, OnOk, OnErr, IsCharBoundary, encode_utf8};
+    ghost use Rattle.std.specs.Prelude.{◌≡◌, ℕ, ◌≤◌, ◌-◌, ◌==◌, true, [], length, min, IsUtf8, IfOk, IsCharBoundary, encode_utf8};
     ghost use Rattle.std.specs.List.{repeat};
     ghost use Rattle.line_buffer.specs.declared.types.Direction.TheVariants.{Forward};
+    ghost use Rattle.line_buffer.specs.Edit.{EditsLine, ChangesLine};
     ghost use Rattle.line_buffer.specs.Event.Event.{InsertChar};
-    ghost use Rattle.line_buffer.specs.Insertions.{has_room, kept_text, update_events, update_line, put_at_cursor, insertion_by, insertion_of, can_take_before, without_before, insert, yank, yank_pop};
-    ghost use Rattle.line_buffer.specs.Settings.{SameSettings};
-    ghost use Rattle.line_buffer.specs.Replay.{Replays, Reports, StopsAmong, deletion, insertion, wants_or};
-    ghost use Rattle.line_buffer.specs.Replayed.{LeftAmong};
+    ghost use Rattle.line_buffer.specs.Insertions.{has_room, kept_text, update, put_at_cursor, insertion_by, insertion_of, can_take_before, without_before, insert, yank, yank_pop};
+    ghost use Rattle.line_buffer.specs.Replay.{deletion, insertion, wants_or};
 
     /// So many bytes more may be put in by the calls that look at the limit.
     fn has_room(&self, count: usize) -> bool
@@ -73,14 +71,9 @@ impl LineBuffer {
         alloc: Global,
         dl: &mut D,
     ) -> Result<(), OutOfMemory>
-        ensures told { OnOk result (D.takes dl.old (deletion 0 (length self.old.text) Forward
-            self.old.text) dl.new) }
-        ensures replays { OnOk result (Replays (deletion 0 (length self.old.text) Forward
-            self.old.text) self.old.text self.new.text) }
-        ensures line { OnOk result (self.new ≡ record self.old { text = []; place = 0 }) }
-        ensures refused { OnErr result (D.refuses dl.old
-            (deletion 0 (length self.old.text) Forward self.old.text) dl.new) }
-        ensures kept { OnErr result (self.new ≡ self.old) }
+        ensures { ChangesLine D.takes D.refuses
+            (deletion 0 (length self.old.text) Forward self.old.text)
+            (record self.old { text = []; place = 0 }) dl.old dl.new self.old self.new result }
     {
         // Its contract says that the text is UTF-8.
         let _text = self.as_str();
@@ -97,14 +90,9 @@ impl LineBuffer {
     ) -> Result<(), OutOfMemory>
         requires count { count ≤ self.old.place }
         requires start { IsCharBoundary self.old.text (self.old.place - count) }
-        ensures told { OnOk result (D.takes dl.old (deletion (self.old.place - count) self.old.place
-            Forward self.old.text) dl.new) }
-        ensures replays { OnOk result (Replays (deletion (self.old.place - count) self.old.place
-            Forward self.old.text) self.old.text self.new.text) }
-        ensures line { OnOk result (self.new ≡ without_before count self.old) }
-        ensures refused { OnErr result (D.refuses dl.old
-            (deletion (self.old.place - count) self.old.place Forward self.old.text) dl.new) }
-        ensures kept { OnErr result (self.new ≡ self.old) }
+        ensures { ChangesLine D.takes D.refuses
+            (deletion (self.old.place - count) self.old.place Forward self.old.text)
+            (without_before count self.old) dl.old dl.new self.old self.new result }
     {
         let end = self.pos();
         self.delete_range(alloc, end - count..end, dl)
@@ -120,14 +108,8 @@ impl LineBuffer {
         cl: &mut C,
     ) -> Result<(), OutOfMemory>
         requires { IsCharBoundary text.now pos }
-        ensures told { OnOk result (Reports C.takes (update_events text.now self.old) cl.old cl.new
-            self.old.text self.new.text) }
-        ensures line { OnOk result (self.new ≡ update_line text.now pos self.old) }
-        ensures stopped { OnErr result (StopsAmong C.takes (wants_or C.refuses) []
-            (update_events text.now self.old) cl.old cl.new self.old.text self.new.text) }
-        ensures carried { OnErr result (LeftAmong (update_events text.now self.old) self.old
-            self.new) }
-        ensures settings { SameSettings self.old self.new }
+        ensures { EditsLine C.takes (wants_or C.refuses) [] (update text.now pos self.old)
+            cl.old cl.new self.old self.new result }
     {
         // Its contract says that it stands between characters.
         let _place = self.pos();
@@ -146,13 +128,9 @@ impl LineBuffer {
         cl: &mut C,
     ) -> Result<bool, OutOfMemory>
         ensures answer { IfOk result (λ at_end. at_end ≡ (self.old.place == length self.old.text)) }
-        ensures told { OnOk result (C.takes cl.old (insertion self.old.place text.now) cl.new) }
-        ensures replays { OnOk result (Replays (insertion self.old.place text.now) self.old.text
-            self.new.text) }
-        ensures line { OnOk result (self.new ≡ put_at_cursor text.now self.old) }
-        ensures refused { OnErr result (wants_or C.refuses cl.old
-            (insertion self.old.place text.now) cl.new) }
-        ensures kept { OnErr result (self.new ≡ self.old) }
+        ensures edits { ChangesLine C.takes (wants_or C.refuses)
+            (insertion self.old.place text.now) (put_at_cursor text.now self.old)
+            cl.old cl.new self.old self.new result }
     {
         // Its contract says that the text is UTF-8.
         let _text = self.as_str();
@@ -171,13 +149,8 @@ impl LineBuffer {
         ch: char,
         cl: &mut C,
     ) -> Result<(), OutOfMemory>
-        ensures told { OnOk result (C.takes cl.old (InsertChar self.old.place ch) cl.new) }
-        ensures replays { OnOk result (Replays (InsertChar self.old.place ch) self.old.text
-            self.new.text) }
-        ensures line { OnOk result (self.new ≡ put_at_cursor (encode_utf8 ch) self.old) }
-        ensures refused { OnErr result (wants_or C.refuses cl.old
-            (InsertChar self.old.place ch) cl.new) }
-        ensures kept { OnErr result (self.new ≡ self.old) }
+        ensures { ChangesLine C.takes (wants_or C.refuses) (InsertChar self.old.place ch)
+            (put_at_cursor (encode_utf8 ch) self.old) cl.old cl.new self.old self.new result }
     {
         self.buf.reserve(ch.len_utf8())?;
         cl.insert_char(alloc, self.pos, ch)?;
@@ -193,17 +166,9 @@ impl LineBuffer {
         text: &str,
         cl: &mut C,
     ) -> Result<Option<bool>, OutOfMemory>
-        ensures answer { IfOk result (λ a. a ≡ (insertion_by (insertion self.old.place text.now)
-            text.now self.old).answer) }
-        ensures told { OnOk result (Reports C.takes (insertion_by
-            (insertion self.old.place text.now) text.now self.old).events cl.old cl.new
-            self.old.text self.new.text) }
-        ensures line { OnOk result (self.new ≡ (insertion_by (insertion self.old.place text.now)
-            text.now self.old).line) }
-        ensures stopped { OnErr result (StopsAmong C.takes (wants_or C.refuses) []
-            (insertion_by (insertion self.old.place text.now) text.now self.old).events cl.old
-            cl.new self.old.text self.new.text) }
-        ensures kept { OnErr result (self.new ≡ self.old) }
+        ensures { EditsLine C.takes (wants_or C.refuses) []
+            (insertion_by (insertion self.old.place text.now) text.now self.old)
+            cl.old cl.new self.old self.new result }
     {
         if !self.has_room(text.len()) {
             return Ok(None);
@@ -220,13 +185,8 @@ impl LineBuffer {
         n: RepeatCount,
         cl: &mut C,
     ) -> Result<Option<bool>, OutOfMemory>
-        ensures answer { IfOk result (λ a. a ≡ (insertion_of text.now n self.old).answer) }
-        ensures told { OnOk result (Reports C.takes (insertion_of text.now n self.old).events cl.old
-            cl.new self.old.text self.new.text) }
-        ensures line { OnOk result (self.new ≡ (insertion_of text.now n self.old).line) }
-        ensures stopped { OnErr result (StopsAmong C.takes (wants_or C.refuses) []
-            (insertion_of text.now n self.old).events cl.old cl.new self.old.text self.new.text) }
-        ensures kept { OnErr result (self.new ≡ self.old) }
+        ensures { EditsLine C.takes (wants_or C.refuses) [] (insertion_of text.now n self.old)
+            cl.old cl.new self.old self.new result }
     {
         if n == 1 {
             return self.insert_where_room(alloc, text, cl);
@@ -249,13 +209,8 @@ impl LineBuffer {
         n: RepeatCount,
         cl: &mut C,
     ) -> Result<Option<bool>, OutOfMemory>
-        ensures answer { IfOk result (λ a. a ≡ (insert ch n self.old).answer) }
-        ensures told { OnOk result (Reports C.takes (insert ch n self.old).events cl.old cl.new
-            self.old.text self.new.text) }
-        ensures line { OnOk result (self.new ≡ (insert ch n self.old).line) }
-        ensures stopped { OnErr result (StopsAmong C.takes (wants_or C.refuses) []
-            (insert ch n self.old).events cl.old cl.new self.old.text self.new.text) }
-        ensures kept { OnErr result (self.new ≡ self.old) }
+        ensures { EditsLine C.takes (wants_or C.refuses) [] (insert ch n self.old)
+            cl.old cl.new self.old self.new result }
     {
         if n != 1 {
             let mut bytes = [0; 4];
@@ -279,13 +234,8 @@ impl LineBuffer {
         n: RepeatCount,
         cl: &mut C,
     ) -> Result<Option<bool>, OutOfMemory>
-        ensures answer { IfOk result (λ a. a ≡ (yank text.now n self.old).answer) }
-        ensures told { OnOk result (Reports C.takes (yank text.now n self.old).events cl.old cl.new
-            self.old.text self.new.text) }
-        ensures line { OnOk result (self.new ≡ (yank text.now n self.old).line) }
-        ensures stopped { OnErr result (StopsAmong C.takes (wants_or C.refuses) []
-            (yank text.now n self.old).events cl.old cl.new self.old.text self.new.text) }
-        ensures kept { OnErr result (self.new ≡ self.old) }
+        ensures { EditsLine C.takes (wants_or C.refuses) [] (yank text.now n self.old)
+            cl.old cl.new self.old self.new result }
     {
         if text.is_empty() {
             return Ok(None);
@@ -315,16 +265,8 @@ impl LineBuffer {
     ) -> Result<Option<bool>, OutOfMemory>
         requires size { yank_size ≤ self.old.place }
         requires start { IsCharBoundary self.old.text (self.old.place - yank_size) }
-        ensures answer { IfOk result (λ a. a ≡ (yank_pop yank_size text.now self.old).answer) }
-        ensures told { OnOk result (Reports C.takes (yank_pop yank_size text.now self.old).events
-            cl.old cl.new self.old.text self.new.text) }
-        ensures line { OnOk result (self.new ≡ (yank_pop yank_size text.now self.old).line) }
-        ensures stopped { OnErr result (StopsAmong C.takes (wants_or C.refuses) []
-            (yank_pop yank_size text.now self.old).events cl.old cl.new
-            self.old.text self.new.text) }
-        ensures carried { OnErr result (LeftAmong (yank_pop yank_size text.now self.old).events
-            self.old self.new) }
-        ensures settings { SameSettings self.old self.new }
+        ensures { EditsLine C.takes (wants_or C.refuses) []
+            (yank_pop yank_size text.now self.old) cl.old cl.new self.old self.new result }
     {
         // Its contract says that it stands between characters.
         let _place = self.pos();

@@ -56,9 +56,10 @@ fn recased(alloc: Global, action: WordAction, word: &str) -> Result<String, OutO
 }
 
 impl LineBuffer {
-    ghost use Rattle.std.specs.Prelude.{◌≡◌, ◌≤◌, [], is_some, IfSome, IfOk, OnOk, OnErr, IsCharBoundary};
-    ghost use Rattle.line_buffer.specs.LetterCase.{word_at_or_after, word_to_edit, edit_word_events, edit_word_line};
-    ghost use Rattle.line_buffer.specs.Replay.{Reports, StopsAmong, wants_or};
+    ghost use Rattle.std.specs.Prelude.{◌≡◌, ◌≤◌, [], IfSome, IsCharBoundary};
+    ghost use Rattle.line_buffer.specs.Edit.{EditsLine};
+    ghost use Rattle.line_buffer.specs.LetterCase.{word_at_or_after, word_to_edit, edit_word};
+    ghost use Rattle.line_buffer.specs.Replay.{wants_or};
 
     /// The place of the first cluster of a word at the cursor or after it.
     fn word_at_or_after(&self) -> Option<usize>
@@ -100,13 +101,8 @@ impl LineBuffer {
         action: WordAction,
         cl: &mut C,
     ) -> Result<bool, OutOfMemory>
-        ensures answer { IfOk result (λ b. b ≡ is_some (word_to_edit self.old)) }
-        ensures told { OnOk result (Reports C.takes (edit_word_events action self.old) cl.old cl.new
-            self.old.text self.new.text) }
-        ensures line { OnOk result (self.new ≡ edit_word_line action self.old) }
-        ensures stopped { OnErr result (StopsAmong C.takes (wants_or C.refuses) []
-            (edit_word_events action self.old) cl.old cl.new self.old.text self.new.text) }
-        ensures kept { OnErr result (self.new ≡ self.old) }
+        ensures { EditsLine C.takes (wants_or C.refuses) [] (edit_word action self.old)
+            cl.old cl.new self.old self.new result }
     {
         let Some((start, end)) = self.word_to_edit() else {
             return Ok(false);

@@ -32,11 +32,10 @@ fn later_first(
 }
 
 impl LineBuffer {
-    ghost use Rattle.std.specs.Prelude.{◌≡◌, ◌≤◌, nat_lt, [], length, IfOk, OnOk, OnErr, IsCharBoundary};
-    ghost use Rattle.line_buffer.specs.Settings.{SameSettings};
-    ghost use Rattle.line_buffer.specs.Replay.{Reports, StopsAmong, wants_or};
-    ghost use Rattle.line_buffer.specs.Replayed.{LeftAmong};
-    ghost use Rattle.line_buffer.specs.Transpositions.{clusters_around, between_clusters, clusters_at, transposes_chars, transpose_chars_events, transpose_chars_line, after_words, before_words, first_word, words_around, swap_events, swap_line, transposes_words, transpose_words_events, transpose_words_line};
+    ghost use Rattle.std.specs.Prelude.{◌≡◌, ◌≤◌, nat_lt, [], length, IsCharBoundary};
+    ghost use Rattle.line_buffer.specs.Edit.{EditsLine};
+    ghost use Rattle.line_buffer.specs.Replay.{wants_or};
+    ghost use Rattle.line_buffer.specs.Transpositions.{clusters_around, between_clusters, clusters_at, transpose_chars, after_words, before_words, swap, transpose_words, before_transposed};
 
     /// The clusters before the cursor and those after it are two at least.
     fn has_two_clusters(&self) -> bool
@@ -76,13 +75,8 @@ impl LineBuffer {
         alloc: Global,
         cl: &mut C,
     ) -> Result<bool, OutOfMemory>
-        ensures answer { IfOk result (λ b. b ≡ transposes_chars self.old) }
-        ensures told { OnOk result (Reports C.takes (transpose_chars_events self.old) cl.old cl.new
-            self.old.text self.new.text) }
-        ensures line { OnOk result (self.new ≡ transpose_chars_line self.old) }
-        ensures stopped { OnErr result (StopsAmong C.takes (wants_or C.refuses) []
-            (transpose_chars_events self.old) cl.old cl.new self.old.text self.new.text) }
-        ensures kept { OnErr result (self.new ≡ self.old) }
+        ensures edits { EditsLine C.takes (wants_or C.refuses) [] (transpose_chars self.old)
+            cl.old cl.new self.old self.new result }
         ensures length { length self.new.text ≡ length self.old.text }
     {
         if self.pos() == 0 || !self.has_two_clusters() {
@@ -142,37 +136,11 @@ impl LineBuffer {
         requires first_end { IsCharBoundary self.old.text first.end }
         requires second_start { IsCharBoundary self.old.text second.start }
         requires second_end { IsCharBoundary self.old.text second.end }
-        ensures told { OnOk result (Reports C.takes (swap_events
-            (record {
-              first_start = first.start;
-              first_end = first.end;
-              second_start = second.start;
-              second_end = second.end;
-            }) self.old.text) cl.old cl.new self.old.text self.new.text) }
-        ensures line { OnOk result (self.new ≡ swap_line
-            (record {
-              first_start = first.start;
-              first_end = first.end;
-              second_start = second.start;
-              second_end = second.end;
-            }) self.old) }
-        ensures stopped { OnErr result (StopsAmong C.takes (wants_or C.refuses) []
-            (swap_events (record {
-              first_start = first.start;
-              first_end = first.end;
-              second_start
-                  = second.start;
-              second_end = second.end;
-            }) self.old.text) cl.old cl.new self.old.text
-            self.new.text) }
-        ensures carried { OnErr result (LeftAmong
-            (swap_events (record {
-              first_start = first.start;
-              first_end = first.end;
-              second_start = second.start;
-              second_end = second.end;
-            }) self.old.text) self.old self.new) }
-        ensures settings { SameSettings self.old self.new }
+        ensures { EditsLine C.takes (wants_or C.refuses) []
+            (swap (record {
+              first = (first.start, first.end);
+              second = (second.start, second.end);
+            }) self.old) cl.old cl.new self.old self.new result }
     {
         let earlier = self.copy_part(alloc, first.start, first.end)?;
         let later = self.copy_part(alloc, second.start, second.end)?;
@@ -194,15 +162,8 @@ impl LineBuffer {
         n: RepeatCount,
         cl: &mut C,
     ) -> Result<bool, OutOfMemory>
-        ensures answer { IfOk result (λ b. b ≡ transposes_words n self.old) }
-        ensures told { OnOk result (Reports C.takes (transpose_words_events n self.old) cl.old
-            cl.new self.old.text self.new.text) }
-        ensures line { OnOk result (self.new ≡ transpose_words_line n self.old) }
-        ensures stopped { OnErr result (StopsAmong C.takes (wants_or C.refuses) []
-            (transpose_words_events n self.old) cl.old cl.new self.old.text self.new.text) }
-        ensures carried { OnErr result (LeftAmong (transpose_words_events n self.old)
-            (after_words 1 (first_word n self.old)) self.new) }
-        ensures settings { SameSettings self.old self.new }
+        ensures { EditsLine C.takes (wants_or C.refuses) [] (transpose_words n self.old)
+            cl.old cl.new (before_transposed n self.old) self.new result }
     {
         let second_end = self.on_by_words(n);
         let second_start = self.back_by_words(1);

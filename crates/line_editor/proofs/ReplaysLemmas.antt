@@ -41,9 +41,9 @@ before_earlier n l u b = moved_back (prev_word Emacs n l) l b (prev_word-earlier
 -- ---- words exchanged
 
 record Lies (p : Pair) (text : List ℕ) : Type 0 where
-  first : p.first_start ≤ p.first_end
-  second : p.second_start ≤ p.second_end
-  inside : p.second_end ≤ length text
+  first : p.first.0 ≤ p.first.1
+  second : p.second.0 ≤ p.second.1
+  inside : p.second.1 ≤ length text
 
 words_lie : (n : ℕ) (l : Line) → IsUtf8 l.text → IsCharBoundary l.text l.place → Lies (words_around n l) l.text
 unfolding after_words before_words
@@ -54,15 +54,15 @@ words_lie n l u b =
     let past = after_later 1 (first_word n l) u first.0 in
     record { first = past.1; second = second.1; inside = behind.0.0 }
 
-swap_replays : (p : Pair) (l : Line) → Lies p l.text → p.first_end ≤ p.second_start → replayed_all (swap_events p l.text) l.text ≡ (swap_line p l).text
+swap_replays : (p : Pair) (l : Line) → Lies p l.text → p.first.1 ≤ p.second.0 → replayed_all (swap_events p l.text) l.text ≡ (swap_line p l).text
 swap_replays p l lies apart =
-    let first : List ℕ = slice_range l.text p.first_start p.first_end in
-    let second : List ℕ = slice_range l.text p.second_start p.second_end in
-    let between : List ℕ = replace_range l.text p.second_start p.second_end first in
-    let long = length-replace_range l.text p.second_start p.second_end first lies.second lies.inside in
+    let first : List ℕ = slice_range l.text p.first.0 p.first.1 in
+    let second : List ℕ = slice_range l.text p.second.0 p.second.1 in
+    let between : List ℕ = replace_range l.text p.second.0 p.second.1 first in
+    let long = length-replace_range l.text p.second.0 p.second.1 first lies.second lies.inside in
     replayed_all-first _ _ l.text ∙ replayed_all-one _ _
-    ∙ ap (replayed (replacement p.first_start p.first_end second between)) (replayed_replacement l.text p.second_start p.second_end first lies.second lies.inside)
-    ∙ replayed_replacement between p.first_start p.first_end second lies.first (omega (arith, long, lies.second, lies.inside, apart))
+    ∙ ap (replayed (replacement p.first.0 p.first.1 second between)) (replayed_replacement l.text p.second.0 p.second.1 first lies.second lies.inside)
+    ∙ replayed_replacement between p.first.0 p.first.1 second lies.first (omega (arith, long, lies.second, lies.inside, apart))
 
 both_right : (a b : Bool) → (a && b) ≡ true → b ≡ true
 both_right true b h = h
@@ -75,7 +75,7 @@ transpose_words_replays n l u b = by_test (transposes_words n l) refl
     by_test : (t : Bool) → transposes_words n l ≡ t → replayed_all (if t then swap_events (words_around n l) l.text else []) l.text ≡ (if t then swap_line (words_around n l) l else after_words 1 (first_word n l)).text
     by_test true e =
         let p : Pair = words_around n l in
-        swap_replays p l (words_lie n l u b) (leb-true p.first_end p.second_start (both_right (not (p.first_start == p.second_start)) (nat_le p.first_end p.second_start) e))
+        swap_replays p l (words_lie n l u b) (leb-true p.first.1 p.second.0 (both_right (not (p.first.0 == p.second.0)) (nat_le p.first.1 p.second.0) e))
     by_test false e = replayed_all-none l.text
 
 -- ---- a word in other letters

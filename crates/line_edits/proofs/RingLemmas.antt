@@ -8,6 +8,7 @@ use Rattle.line_buffer.specs.Range.{range_of, goes_by_clusters, deletion_events,
 use Rattle.line_buffer.specs.Replay.{TakesAll, TellsOfChange, StopsAmong, deletion}
 use Rattle.line_buffer.specs.declared.range.Span.{Span}
 use Rattle.line_buffer.specs.declared.types.Movement.{Movement}
+use Rattle.line_buffer.proofs.KeptLemmas.{no_split, no_change, split_alone, split_between}
 use Rattle.line_record.specs.declared.joined.Joined.{Joined}
 use Rattle.line_record.specs.Ring.{Ring, ring_step, ring_all, ring_refuses}
 use Rattle.line_record.specs.Together.{joined_takes, joined_refuses}
@@ -27,32 +28,6 @@ killed_by b range l = let events = deletion_events range l in if b then events e
 ring_told : {B : Type 0} (second : B → Event → B → Type 0) (es : List Event) (s t : Joined Ring B) → TakesAll (joined_takes hears second) s es t → t.first.now ≡ ring_all es s.first.now
 ring_told second [] s t told = ap (λ (x : Joined Ring _). x.first.now) told
 ring_told second (e ∷ es) s t (u, k, told) = ring_told second es u t told ∙ ap (ring_all es) k.1.0
-
--- no change is among none, or among marks
-no_split : {P : Type 0} (done never : List Event) (refused : Event) → [] ≡ done ++ refused ∷ never → P
-no_split [] never refused is = absurd (cc)
-no_split (x ∷ done) never refused is = absurd (cc)
-
-no_change : {P : Type 0} (done never : List Event) (refused : Event) → StartKilling ∷ StopKilling ∷ [] ≡ done ++ refused ∷ never → TellsOfChange refused → P
-no_change [] never refused is tells = let mark : refused ≡ StartKilling = cc in absurd (subst TellsOfChange mark tells)
-no_change (x ∷ []) never refused is tells = let mark : refused ≡ StopKilling = cc in absurd (subst TellsOfChange mark tells)
-no_change (x ∷ y ∷ []) never refused is tells = absurd (cc)
-no_change (x ∷ y ∷ z ∷ done) never refused is tells = absurd (cc)
-
--- the one change of a kill
-module _ (change : Event) where
-  split_alone : {P : Type 0} (done never : List Event) (refused : Event) → change ∷ [] ≡ done ++ refused ∷ never → (done ≡ [] → refused ≡ change → P) → P
-  split_alone [] never refused is go = go refl (cc)
-  split_alone (x ∷ []) never refused is go = absurd (cc)
-  split_alone (x ∷ y ∷ done) never refused is go = absurd (cc)
-
-  split_between : {P : Type 0} (done never : List Event) (refused : Event) → StartKilling ∷ change ∷ StopKilling ∷ [] ≡ done ++ refused ∷ never → TellsOfChange refused
-      → (done ≡ StartKilling ∷ [] → refused ≡ change → P) → P
-  split_between [] never refused is tells go = let mark : refused ≡ StartKilling = cc in absurd (subst TellsOfChange mark tells)
-  split_between (x ∷ []) never refused is tells go = go (cc) (cc)
-  split_between (x ∷ y ∷ []) never refused is tells go = let mark : refused ≡ StopKilling = cc in absurd (subst TellsOfChange mark tells)
-  split_between (x ∷ y ∷ z ∷ []) never refused is tells go = absurd (cc)
-  split_between (x ∷ y ∷ z ∷ w ∷ done) never refused is tells go = absurd (cc)
 
 module _ {B : Type 0} (second second_refuses : B → Event → B → Type 0) where
   abbrev Refused : Joined Ring B → Event → Joined Ring B → Type 0

@@ -2,30 +2,31 @@
 use Rattle.std.specs.Prelude.{◌≡◌, ◌⊎◌, ℕ, Bool, true, false, max, if◌then◌else◌, List, [], ◌∷◌, take, drop, length, Option, Some, None, is_some, encode_utf8}
 use Rattle.unicode_segmentation.specs.Grapheme.{graphemes}
 use Rattle.line_buffer.specs.Clusters.{place_forward, place_backward}
-use Rattle.line_buffer.specs.Indent.{indent_events, indent_line}
-use Rattle.line_buffer.specs.Insertions.{Insertion, update_events, update_line, insert as insertion, yank as yanked_in, yank_pop as popped_in}
-use Rattle.line_buffer.specs.LetterCase.{edit_word_events, edit_word_line}
+use Rattle.line_buffer.specs.Edit.{Edit}
+use Rattle.line_buffer.specs.Indent.{indent}
+use Rattle.line_buffer.specs.Insertions.{update, insert as insertion, yank as yanked_in, yank_pop as popped_in}
+use Rattle.line_buffer.specs.LetterCase.{edit_word}
 use Rattle.line_buffer.specs.Line.{Line, moved_to, put_in, replaced, text_after}
-use Rattle.line_buffer.specs.Range.{range_of, goes_by_clusters, kill_events, kill_line, deletion_events, deletion_line}
+use Rattle.line_buffer.specs.Range.{goes_by_clusters, delete, kill, kill_events}
 use Rattle.line_buffer.specs.Replay.{insertion as told_insertion, replacement}
-use Rattle.line_buffer.specs.Transpositions.{transpose_chars_events, transpose_chars_line, transpose_words_events, transpose_words_line}
+use Rattle.line_buffer.specs.Transpositions.{transpose_chars, transpose_words}
 use Rattle.line_buffer.specs.declared.types.Movement.{Movement}
-use Rattle.line_buffer.specs.declared.types.Movement.TheVariants.{ForwardChar}
 use Rattle.line_buffer.specs.declared.types.WordAction.{WordAction}
 use Rattle.line_record.specs.Held.{line_back}
 use Rattle.line_record.specs.Ring.{Ring, ring_all}
 use Rattle.line_edits.specs.Written.{Written, edited, in_group}
 
+-- an edit of the line that tells the record its events
+abbrev pub told_by : {A : Type 0} → (Line → Edit A) → Written → Written
+told_by put w = edited (put w.line).events (put w.line).line w
+
 -- ---- texts put in
 
-abbrev pub put_by : (Line → Insertion) → Written → Written
-put_by put w = edited (put w.line).events (put w.line).line w
-
 abbrev pub char_typed : ℕ → ℕ → Written → Written
-char_typed c n = put_by (insertion c n)
+char_typed c n = told_by (insertion c n)
 
 abbrev pub text_yanked : List ℕ → ℕ → Written → Written
-text_yanked text n = put_by (yanked_in text n)
+text_yanked text n = told_by (yanked_in text n)
 
 -- a text put at the cursor, which stays before it
 abbrev pub put_behind : List ℕ → Written → Written
@@ -34,7 +35,7 @@ put_behind text w =
 
 -- the whole text exchanged
 abbrev pub updated : List ℕ → ℕ → Written → Written
-updated text place w = edited (update_events text w.line) (update_line text place w.line) w
+updated text place = told_by (update text place)
 
 abbrev pub update_in_group : List ℕ → ℕ → Written → Written
 update_in_group text place = in_group (updated text place)
@@ -42,7 +43,7 @@ update_in_group text place = in_group (updated text place)
 -- ---- a yanked text exchanged
 
 abbrev pub popped : ℕ → List ℕ → Written → Written
-popped size text = put_by (popped_in size text)
+popped size text = told_by (popped_in size text)
 
 abbrev pub pop_in_group : ℕ → List ℕ → Written → Written
 pop_in_group size text = in_group (popped size text)
@@ -50,7 +51,7 @@ pop_in_group size text = in_group (popped size text)
 -- ---- what is taken out
 
 abbrev pub range_killed : Movement → Written → Written
-range_killed movement w = edited (kill_events movement w.line) (kill_line movement w.line) w
+range_killed movement = told_by (kill movement)
 
 -- the ring where a kill's text finds no memory: no kill is open in it
 abbrev pub unkilled : Movement → Ring → Ring
@@ -65,9 +66,7 @@ TookOrNot movement l old new =
 
 -- n clusters after the cursor taken out
 abbrev pub deleted : ℕ → Written → Written
-deleted n w =
-    edited (deletion_events (range_of (ForwardChar n) w.line) w.line)
-    (deletion_line (range_of (ForwardChar n) w.line) w.line) w
+deleted n = told_by (delete n)
 
 -- how many of n clusters stand after the cursor
 abbrev pub clusters_after : ℕ → Line → ℕ
@@ -104,27 +103,25 @@ overwritten c w = written_over c (place_forward 1 w.line) w
 -- ---- clusters and words
 
 abbrev pub chars_transposed : Written → Written
-chars_transposed w = edited (transpose_chars_events w.line) (transpose_chars_line w.line) w
+chars_transposed = told_by transpose_chars
 
 abbrev pub transpose_chars_in_group : Written → Written
 transpose_chars_in_group = in_group chars_transposed
 
 abbrev pub words_transposed : ℕ → Written → Written
-words_transposed n w = edited (transpose_words_events n w.line) (transpose_words_line n w.line) w
+words_transposed n = told_by (transpose_words n)
 
 abbrev pub transpose_words_in_group : ℕ → Written → Written
 transpose_words_in_group n = in_group (words_transposed n)
 
 abbrev pub word_edited : WordAction → Written → Written
-word_edited action w = edited (edit_word_events action w.line) (edit_word_line action w.line) w
+word_edited action = told_by (edit_word action)
 
 abbrev pub edit_word_in_group : WordAction → Written → Written
 edit_word_in_group action = in_group (word_edited action)
 
 abbrev pub indented : Movement → ℕ → Bool → Written → Written
-indented movement amount dedent w =
-    edited (indent_events movement amount dedent w.line)
-    (indent_line movement amount dedent w.line) w
+indented movement amount dedent = told_by (indent movement amount dedent)
 
 -- ---- what is taken back
 

@@ -11,7 +11,7 @@ insert_str-requires-clause-cursor c = rw c.pos-at.ensures.value (start_replaced 
 pub returns-clause-writes : goal.returns-clause-writes
 returns-clause-writes c = record {
   answers = refl;
-  line = rw c.pos-at.ensures.value at c.in_ok-insert_str.ensures.line;
-  held = rw c.pos-at.ensures.value at ((c.in_ok-insert_str.ensures.told.on _ _ c.requires c.as_str-text.ensures.utf8 c.in_ok-insert_str.ensures.replays).held ∙ recorded_one (insertion c.pos-at.result c.args.text.now) c.args.line.now.text (held_on c.args.changes.now c.args.line.now.text));
-  stand = (c.in_ok-insert_str.ensures.told.on _ _ c.requires c.as_str-text.ensures.utf8 c.in_ok-insert_str.ensures.replays).stand;
+  line = rw c.pos-at.ensures.value at c.in_ok-insert_str.ensures.edits.line;
+  held = rw c.pos-at.ensures.value at ((c.in_ok-insert_str.ensures.edits.told.on _ _ c.requires c.as_str-text.ensures.utf8 c.in_ok-insert_str.ensures.edits.replays).held ∙ recorded_one (insertion c.pos-at.result c.args.text.now) c.args.line.now.text (held_on c.args.changes.now c.args.line.now.text));
+  stand = (c.in_ok-insert_str.ensures.edits.told.on _ _ c.requires c.as_str-text.ensures.utf8 c.in_ok-insert_str.ensures.edits.replays).stand;
 }

@@ -4,24 +4,29 @@ use Rattle.line_record.proofs.JoinedLaws.{joined_held, joined_stand, joined_stan
 use Rattle.line_record.specs.Items.{RecordedIn, record_refuses}
 use Rattle.line_edits.proofs.RingLemmas.{on_refusal, ring_stopped, some_killed}
 use Rattle.line_edits.proofs.WrittenLemmas.{refused_writes}
+use Rattle.line_buffer.proofs.KeptLemmas.{kill_kept}
 use Rattle.line_edits.proofs.killing.kill_told.Goals as goal
 
 pub returns-clause-writes : goal.returns-clause-writes
 returns-clause-writes c = record {
-  answers = c.in_ok-kill.ensures.answer;
-  line = c.in_ok-kill.ensures.line;
-  held = joined_held (λ s e t. t ≡ ring_step e s) c.requires c.as_str-text.ensures.utf8 c.in_ok-kill.ensures.told;
-  stand = joined_stand (λ s e t. t ≡ ring_step e s) c.requires c.as_str-text.ensures.utf8 c.in_ok-kill.ensures.told;
+  answers = c.in_ok-kill.ensures.edits.answer;
+  line = c.in_ok-kill.ensures.edits.line;
+  held = joined_held (λ s e t. t ≡ ring_step e s) c.requires c.as_str-text.ensures.utf8 c.in_ok-kill.ensures.edits.told;
+  stand = joined_stand (λ s e t. t ≡ ring_step e s) c.requires c.as_str-text.ensures.utf8 c.in_ok-kill.ensures.edits.told;
 }
 
 pub returns-in_err-kill-clause-writes : goal.returns-in_err-kill-clause-writes
 returns-in_err-kill-clause-writes c =
-    refused_writes _ c.from_residual.result c.from_residual.ensures.1 (joined_stand_refused (λ s e t. t ≡ ring_step e s) ring_refuses c.requires c.as_str-text.ensures.utf8 c.in_err-kill.ensures.stopped)
+    refused_writes _ c.from_residual.result c.from_residual.ensures.1 (joined_stand_refused (λ s e t. t ≡ ring_step e s) ring_refuses c.requires c.as_str-text.ensures.utf8 c.in_err-kill.ensures.edits.left.stops)
 
 pub returns-in_err-kill-clause-refused_ring : goal.returns-in_err-kill-clause-refused_ring
 returns-in_err-kill-clause-refused_ring c =
-    on_refusal _ c.from_residual.result c.from_residual.ensures.1 (ring_stopped RecordedIn record_refuses _ _ c.in_err-kill.ensures.stopped)
+    on_refusal _ c.from_residual.result c.from_residual.ensures.1 (ring_stopped RecordedIn record_refuses _ _ c.in_err-kill.ensures.edits.left.stops)
 
 pub returns-in_err-kill-clause-refused : goal.returns-in_err-kill-clause-refused
 returns-in_err-kill-clause-refused c =
-    on_refusal _ c.from_residual.result c.from_residual.ensures.1 (some_killed RecordedIn record_refuses _ _ c.in_err-kill.ensures.stopped)
+    on_refusal _ c.from_residual.result c.from_residual.ensures.1 (some_killed RecordedIn record_refuses _ _ c.in_err-kill.ensures.edits.left.stops)
+
+pub returns-in_err-kill-clause-kept : goal.returns-in_err-kill-clause-kept
+returns-in_err-kill-clause-kept c =
+    on_refusal _ c.from_residual.result c.from_residual.ensures.1 (kill_kept c.args.movement.now c.in_err-kill.ensures.edits.left)

@@ -6,4 +6,4 @@ pub returns : goal.returns
 returns c = told_writes _ c.as_str-text.ensures.utf8 c.requires refl c.in_ok-indent.ensures.line c.in_ok-indent.ensures.told refl
 
 pub returns-in_err-indent : goal.returns-in_err-indent
-returns-in_err-indent c = stopped_writes _ c.from_residual.result c.from_residual.ensures.1 c.as_str-text.ensures.utf8 c.requires c.in_err-indent.ensures.stopped
+returns-in_err-indent c = stopped_writes _ c.from_residual.result c.from_residual.ensures.1 c.as_str-text.ensures.utf8 c.requires c.in_err-indent.ensures.left.stops

@@ -6,4 +6,4 @@ pub returns : goal.returns
 returns c = told_writes _ c.as_str-text.ensures.utf8 c.requires c.in_ok-edit_word.ensures.answer c.in_ok-edit_word.ensures.line c.in_ok-edit_word.ensures.told refl
 
 pub returns-in_err-edit_word : goal.returns-in_err-edit_word
-returns-in_err-edit_word c = stopped_writes _ c.from_residual.result c.from_residual.ensures.1 c.as_str-text.ensures.utf8 c.requires c.in_err-edit_word.ensures.stopped
+returns-in_err-edit_word c = stopped_writes _ c.from_residual.result c.from_residual.ensures.1 c.as_str-text.ensures.utf8 c.requires c.in_err-edit_word.ensures.left.stops

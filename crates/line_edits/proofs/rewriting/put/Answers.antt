@@ -6,4 +6,4 @@ pub returns : goal.returns
 returns c = told_writes _ c.as_str-text.ensures.utf8 c.requires.stand refl c.in_ok-update.ensures.line c.in_ok-update.ensures.told refl
 
 pub returns-in_err-update : goal.returns-in_err-update
-returns-in_err-update c = stopped_writes _ c.from_residual.result c.from_residual.ensures.1 c.as_str-text.ensures.utf8 c.requires.stand c.in_err-update.ensures.stopped
+returns-in_err-update c = stopped_writes _ c.from_residual.result c.from_residual.ensures.1 c.as_str-text.ensures.utf8 c.requires.stand c.in_err-update.ensures.left.stops

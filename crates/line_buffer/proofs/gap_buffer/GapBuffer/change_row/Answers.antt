@@ -1,4 +1,4 @@
-use Rattle.std.proofs.Common.{◌≡◌, sym, ap, ◌∙◌, arith, length, drop, ◌+◌, ◌-◌}
+use Rattle.std.proofs.Common.{rules, ◌≡◌, sym, ap, ◌∙◌, arith, length, drop, ◌+◌, ◌-◌}
 use Rattle.std.specs.Prelude.{slice_range}
 use Rattle.std.proofs.lemmas.List.Edits.{length-between}
 use Rattle.line_buffer.specs.declared.types.Direction.TheVariants.{Forward}
@@ -21,18 +21,30 @@ returns-clause-rest g c =
     ap (λ v. drop (c.args.end + length c.args.margin.now) v.0.text) c.in_ok-insert.ensures.value
     ∙ drop_replaced _ _ _ _ _ _ (c.args.end - c.args.self.now.1) (omega (arith, c.requires.order)) (omega (arith, c.requires.order)) c.gap-gap.ensures.boundary.0
 
-pub returns-then-dedent-clause-line : goal.returns-then-dedent-clause-line
-returns-then-dedent-clause-line g c =
+pub returns-then-dedent-clause-edits : goal.returns-then-dedent-clause-edits
+returns-then-dedent-clause-edits g c =
     let text = c.args.self.now.0.text in
     let gap = c.args.self.now.1 in
     let told : deletion gap (c.gap-gap.result + c.margin_len-taken.result) Forward text ≡ row_event c.args.margin.now c.args.dedent gap (slice_range text gap c.args.end) =
     ap (λ n. deletion gap (n + c.margin_len-taken.result) Forward text) c.gap-gap.ensures.value
     ∙ ap (λ x. Delete gap x Forward) c.margin_len-taken.ensures.value
     ∙ sym (ap (λ d. row_event c.args.margin.now d gap (slice_range text gap c.args.end)) c.if-dedent.true) in
-    ap (λ v. v.0) c.in_ok-remove.ensures.value ∙ ap (λ e. carried_line e c.args.self.now.0) told
+    record {
+      told = search rules;
+      replays = search rules;
+      line = ap (λ v. v.0) c.in_ok-remove.ensures.value ∙ ap (λ e. carried_line e c.args.self.now.0) told;
+      refused = tt;
+      kept = tt;
+    }
 
-pub returns-clause-line : goal.returns-clause-line
-returns-clause-line g c =
+pub returns-clause-edits : goal.returns-clause-edits
+returns-clause-edits g c =
     let gap = c.args.self.now.1 in
-    ap (λ v. v.0) {y = (carried_line (insertion gap c.args.margin.now) c.args.self.now.0, gap + length c.args.margin.now)} c.in_ok-insert.ensures.value
-    ∙ sym (ap (λ d. carried_line (row_event c.args.margin.now d gap (slice_range c.args.self.now.0.text gap c.args.end)) c.args.self.now.0) c.if-dedent.false)
+    record {
+      told = search rules;
+      replays = search rules;
+      line = ap (λ v. v.0) {y = (carried_line (insertion gap c.args.margin.now) c.args.self.now.0, gap + length c.args.margin.now)} c.in_ok-insert.ensures.value
+          ∙ sym (ap (λ d. carried_line (row_event c.args.margin.now d gap (slice_range c.args.self.now.0.text gap c.args.end)) c.args.self.now.0) c.if-dedent.false);
+      refused = tt;
+      kept = tt;
+    }

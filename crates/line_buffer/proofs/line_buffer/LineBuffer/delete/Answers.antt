@@ -1,14 +1,16 @@
-use Rattle.std.proofs.Common.{[], subst, refl, sym, ap, ◌∙◌}
+use Rattle.std.proofs.Common.{refl, sym, ap, ◌∙◌, arith}
 use Rattle.line_buffer.specs.Range.{deletion_events}
-use Rattle.line_buffer.specs.Replay.{StopsAmong}
+use Rattle.line_buffer.proofs.LeftLemmas.{cuts_refused_seen, stopped_for_memory, stopped_wanting, stopped_as}
 use Rattle.line_buffer.proofs.RangeLemmas.{some_span}
-use Rattle.line_buffer.proofs.ReplayLemmas.{on_refusal, stops_for_memory_on, stops_wanting}
 use Rattle.line_buffer.proofs.line_buffer.LineBuffer.delete.Goals as goal
 
-pub returns-in_err-text-clause-stopped : goal.returns-in_err-text-clause-stopped
-returns-in_err-text-clause-stopped g c =
+pub returns-in_err-text : goal.returns-in_err-text
+returns-in_err-text g c =
     let span = some_span _ c.in_err-text.ensures.some in
-    stops_for_memory_on _ _ _ _ _ _ _ _ _ (ap (λ o. deletion_events o c.args.self.now) (sym c.range_of-span.ensures.value ∙ span.1)) tt refl
+    cuts_refused_seen _ _ _ c.from_residual.ensures.1
+    (stopped_for_memory _ _ _ _ _ _ _ _ (ap (λ o. deletion_events o c.args.self.now) (sym c.range_of-span.ensures.value ∙ span.1)) tt refl) (omega arith)
 
-pub returns-in_err-delete_span-clause-stopped : goal.returns-in_err-delete_span-clause-stopped
-returns-in_err-delete_span-clause-stopped g c = on_refusal _ (stops_wanting (subst (λ o. StopsAmong g.D.DeleteListener.takes g.D.DeleteListener.refuses [] (deletion_events o c.args.self.now) c.args.dl.now c.delete_span.new.dl c.args.self.now.text c.delete_span.new.self.text) c.range_of-span.ensures.value c.in_err-delete_span.ensures.stopped))
+pub returns-in_err-delete_span : goal.returns-in_err-delete_span
+returns-in_err-delete_span g c =
+    cuts_refused_seen _ _ _ c.from_residual-in_err-delete_span.ensures.1
+    (stopped_wanting (stopped_as (ap (λ o. deletion_events o c.args.self.now) c.range_of-span.ensures.value) refl c.in_err-delete_span.ensures.edits.left)) c.in_err-delete_span.ensures.shrinks

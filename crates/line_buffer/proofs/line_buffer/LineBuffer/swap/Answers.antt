@@ -5,21 +5,10 @@ use Rattle.std.specs.Prelude.{IsCharBoundary, slice_range}
 use Rattle.line_buffer.specs.Line.{replaced}
 use Rattle.line_buffer.specs.Replay.{replacement}
 use Rattle.line_buffer.proofs.CutLemmas.{before_replaced}
-use Rattle.line_buffer.proofs.LeftLemmas.{left_as_it_was, left_after_one, carried_replacement}
-use Rattle.line_buffer.proofs.ReplayLemmas.{on_refusal, refused_as, stops_at_once, stops_at_once_on, stops_for_memory_on}
-use Rattle.line_buffer.proofs.TranspositionLemmas.{swap_stops, behind_both}
+use Rattle.line_buffer.proofs.LeftLemmas.{edits_refused, stopped_first, stopped_for_memory, stopped_after_one, carried_replacement}
+use Rattle.line_buffer.proofs.ReplayLemmas.{refused_as}
+use Rattle.line_buffer.proofs.TranspositionLemmas.{behind_both}
 use Rattle.line_buffer.proofs.line_buffer.LineBuffer.swap.Goals as goal
-
-pub returns-in_err-earlier-clause-stopped : goal.returns-in_err-earlier-clause-stopped
-returns-in_err-earlier-clause-stopped g c = stops_for_memory_on _ _ _ _ _ _ _ _ _ refl tt refl
-
-pub returns-in_err-later-clause-stopped : goal.returns-in_err-later-clause-stopped
-returns-in_err-later-clause-stopped g c = stops_for_memory_on _ _ _ _ _ _ _ _ _ refl tt refl
-
-pub returns-in_err-replace-clause-stopped : goal.returns-in_err-replace-clause-stopped
-returns-in_err-replace-clause-stopped g c =
-    stops_at_once_on _ _ _ _ _ _ _ _ _ _ refl tt
-    (refused_as g.C.DeleteListener.refuses (ap (λ x. replacement c.args.second.start c.args.second.end x c.args.self.now.text) (c.as_str.ensures.value ∙ c.in_ok-earlier.ensures)) c.in_err-replace.ensures.refused) (ap (λ l. l.text) c.in_err-replace.ensures.kept)
 
 pub replace-requires-2-clause-start : goal.replace-requires-2-clause-start
 replace-requires-2-clause-start g c =
@@ -39,26 +28,26 @@ set_pos-requires g c =
     (ap length (c.as_str.ensures.value ∙ c.in_ok-earlier.ensures) ∙ length-between _ _ _ c.requires.first_end.0)
     (ap length (c.as_str-2.ensures.value ∙ c.in_ok-later.ensures) ∙ length-between _ _ _ c.requires.second_end.0)))
 
-pub returns-in_err-replace-2-clause-stopped : goal.returns-in_err-replace-2-clause-stopped
-returns-in_err-replace-2-clause-stopped g c =
-    on_refusal _ (swap_stops _ _ _ _ _ _ _ _ _ _ _ (c.as_str.ensures.value ∙ c.in_ok-earlier.ensures) c.in_ok-replace.ensures.told c.in_ok-replace.ensures.replays
-    (stops_at_once _ _ _ _ _ _ _ _ _ refl tt
-    (refused_as g.C.DeleteListener.refuses (ap (λ x. replacement c.args.first.start c.args.first.end x c.replace.new.self.text) (c.as_str-2.ensures.value ∙ c.in_ok-later.ensures)
-    ∙ ap (λ x. replacement c.args.first.start c.args.first.end (slice_range c.args.self.now.text c.args.second.start c.args.second.end) x)
-    (ap (λ l. l.text) c.in_ok-replace.ensures.line ∙ ap (replace_range c.args.self.now.text c.args.second.start c.args.second.end) (c.as_str.ensures.value ∙ c.in_ok-earlier.ensures))) c.in_err-replace-2.ensures.refused) (ap (λ l. l.text) c.in_err-replace-2.ensures.kept)))
+pub returns-in_err-earlier : goal.returns-in_err-earlier
+returns-in_err-earlier g c = edits_refused _ _ c.from_residual.ensures.1 (stopped_for_memory _ _ _ _ _ _ _ _ refl tt refl)
 
-pub returns-in_err-earlier-clause-carried : goal.returns-in_err-earlier-clause-carried
-returns-in_err-earlier-clause-carried g c = on_refusal _ (left_as_it_was _ _ _ _ _ refl refl)
+pub returns-in_err-later : goal.returns-in_err-later
+returns-in_err-later g c = edits_refused _ _ c.from_residual-in_err-later.ensures.1 (stopped_for_memory _ _ _ _ _ _ _ _ refl tt refl)
 
-pub returns-in_err-later-clause-carried : goal.returns-in_err-later-clause-carried
-returns-in_err-later-clause-carried g c = on_refusal _ (left_as_it_was _ _ _ _ _ refl refl)
+pub returns-in_err-replace : goal.returns-in_err-replace
+returns-in_err-replace g c =
+    edits_refused _ _ c.from_residual-in_err-replace.ensures.1 (stopped_first _ _ _ _ _ _ _ _ _ refl tt
+    (refused_as g.C.DeleteListener.refuses (ap (λ x. replacement c.args.second.start c.args.second.end x c.args.self.now.text) (c.as_str.ensures.value ∙ c.in_ok-earlier.ensures)) c.in_err-replace.ensures.refused) c.in_err-replace.ensures.kept)
 
-pub returns-in_err-replace-clause-carried : goal.returns-in_err-replace-clause-carried
-returns-in_err-replace-clause-carried g c = on_refusal _ (left_as_it_was _ _ _ _ _ refl c.in_err-replace.ensures.kept)
-
-pub returns-in_err-replace-2-clause-carried : goal.returns-in_err-replace-2-clause-carried
-returns-in_err-replace-2-clause-carried g c =
+pub returns-in_err-replace-2 : goal.returns-in_err-replace-2
+returns-in_err-replace-2 g c =
     let l = c.args.self.now in
-    on_refusal _ (left_after_one _ _ _ _ _ _ refl
-    (c.in_err-replace-2.ensures.kept ∙ c.in_ok-replace.ensures.line ∙ ap (λ x. replaced c.args.second.start c.args.second.end x l) (c.as_str.ensures.value ∙ c.in_ok-earlier.ensures)
-    ∙ sym (carried_replacement l c.args.second.start c.args.second.end (slice_range l.text c.args.first.start c.args.first.end) c.requires.second c.requires.second_end.0)))
+    let e = c.as_str.ensures.value ∙ c.in_ok-earlier.ensures in
+    edits_refused _ _ c.from_residual-in_err-replace-2.ensures.1 (stopped_after_one _ (rw e at c.in_ok-replace.ensures.told) (rw e at c.in_ok-replace.ensures.replays)
+    (c.in_ok-replace.ensures.line ∙ ap (λ x. replaced c.args.second.start c.args.second.end x l) e
+    ∙ sym (carried_replacement l c.args.second.start c.args.second.end (slice_range l.text c.args.first.start c.args.first.end) c.requires.second c.requires.second_end.0))
+    (stopped_first _ _ _ _ _ _ _ _ _ refl tt
+    (refused_as g.C.DeleteListener.refuses (ap (λ x. replacement c.args.first.start c.args.first.end x c.replace.new.self.text) (c.as_str-2.ensures.value ∙ c.in_ok-later.ensures)
+    ∙ ap (λ x. replacement c.args.first.start c.args.first.end (slice_range l.text c.args.second.start c.args.second.end) x)
+    (ap (λ l. l.text) c.in_ok-replace.ensures.line ∙ ap (replace_range l.text c.args.second.start c.args.second.end) e)) c.in_err-replace-2.ensures.refused)
+    c.in_err-replace-2.ensures.kept))
