@@ -217,9 +217,9 @@ line_rest : (n : ℕ) (s : Setting) (custom : Custom) (indent : ℕ) (i : Input)
 unfolding line_from acts_from
 line_rest zero s custom indent i r info v c = refl
 line_rest (suc n) s custom indent i r info v c =
-    let t = turn_of s custom indent i r v c in
+    let t = turn_of (suc n) s custom indent i r v c in
     let after = acts_after (acts_from n s custom indent) s t t.outcome in
-    rest_both c (turn_acts s custom indent i r v c) after ∙ (ap (λ d. rest_of d after) (turn_rest s custom indent i r v c)
+    rest_both c (turn_acts (suc n) s custom indent i r v c) after ∙ (ap (λ d. rest_of d after) (turn_rest (suc n) s custom indent i r v c)
     ∙ after_rest s info t t.outcome (line_from n s custom indent) (acts_from n s custom indent) (λ stands. line_rest n s custom indent t.input t.ring stands t.made.value t.rest))
 
 whole_rest : (n : ℕ) (s : Setting) (custom : Custom) (indent : ℕ) (i : Input) (r : Ring) (c : Coming)

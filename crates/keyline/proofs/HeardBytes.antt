@@ -12,7 +12,14 @@ use Rattle.line_screen.specs.Input.{Chars, Next, Over, Stop, AtEnd, AtBad, AtFai
 use Rattle.line_screen.specs.KeyGrammar.{Readings, Key, Paste, Cut, Stops, readings, lone_escape, in_escape, in_sequence, in_paste, byte_is, esc, keeps_byte, marker, put, announces, inside, coming_of}
 use Rattle.line_screen.specs.Sequences.{awaits_more, sequence_key}
 use Rattle.line_screen.proofs.SequenceLemmas.{by_test}
-use Rattle.keyline.proofs.HeardSteps.{Agrees}
+
+-- the keys and pastes of the one are the first of the other; what stands after them doesn't matter
+abbrev pub Agrees : Coming → Coming → Type 0
+Agrees (Pressed k rest) (Pressed next left) = (k ≡ next) × Agrees rest left
+Agrees (Pasted text rest) (Pasted next left) = (text ≡ next) × Agrees rest left
+Agrees (Pressed k rest) coming = ⊥
+Agrees (Pasted text rest) coming = ⊥
+Agrees heard coming = ⊤
 
 -- what comes doesn't end in the end of the input
 abbrev pub NeverEnds : Coming → Type 0

@@ -7,19 +7,18 @@ use Rattle.line_help.specs.History.{Filed}
 use Rattle.line_keys.specs.Answers.{Custom}
 use Rattle.line_keys.specs.Coming.{Coming, Pressed, Pasted, CutOff, Ends as NoMore, Refused, behind, left_by}
 use Rattle.line_keys.specs.Coming.LastItem.{End as EndItem, Bad, Failed}
-use Rattle.line_keys.specs.Feeds.{InputItem, Key, Paste}
+use Rattle.line_keys.specs.Feeds.{InputItem, Item, Key, Paste, item_at}
 use Rattle.line_keys.specs.InputStates.{new_input}
-use Rattle.line_keys.specs.Phrase.{phrase}
-use Rattle.line_keys.specs.Phrases.{Input, Script, Ends, Needs, Asks, Reads, Becomes}
+use Rattle.line_config.specs.Scripts.{Ends, Asks}
+use Rattle.line_keys.specs.Phrases.{Input, Steps, steps, Needs, Shows, Reads, Becomes, Refuses}
 use Rattle.line_keys.specs.Refreshing.{Shown}
-use Rattle.line_keys.specs.Refreshing.Ask.{DoingInsert}
 use Rattle.line_keys.specs.declared.command.Cmd.{Cmd}
 use Rattle.line_record.specs.Ring.{Ring}
 use Rattle.line_editor.specs.Asks.{shown_in, ask_effect}
 use Rattle.line_editor.specs.Commands.{means_of, effect}
 use Rattle.line_editor.specs.Courses.{Turn, Open, breaks_after, redraws_in}
 use Rattle.line_editor.specs.Drawing.{refreshed}
-use Rattle.line_editor.specs.Lines.{Enacted, Turned, Told, enacted, behind_ask, begins_group, with_group_begun, line_phrase, phrase_enacted, reset_by, turned_by, turn_of, opened_by, after_turn, line_from, line_of}
+use Rattle.line_editor.specs.Lines.{Enacted, Turned, Told, either_way, stopped, enacted, behind_ask, line_phrase, phrase_enacted, reset_by, turned_by, turn_of, opened_by, after_turn, line_from, line_of}
 use Rattle.line_editor.specs.Redraws.{Redraw, asked, fresh}
 use Rattle.line_editor.specs.Sights.{sight_of, info_after}
 use Rattle.line_editor.specs.Values.{Value, Setting, Effect, first_value}
@@ -30,13 +29,11 @@ use Rattle.line_screen.specs.Calls.{Screen, bytes_of, ruler_of}
 use Rattle.line_screen.specs.Drawing.{break_if}
 use Rattle.keyline.specs.FewerKeys.{IsBeginning, LinesBegin, SessionsBegin}
 use Rattle.keyline.specs.Sessions.{Given, SessionState, Report, line_in, setting_in, after_line, history_after, line_reported, line_bytes, breaks, display_bytes, LineGiven, for_line, screens_for, session_by}
-use Rattle.keyline.proofs.HeardSteps.{Alike, Hears, answer_to, agrees_left, then_hears}
-use Rattle.keyline.proofs.HeardTables.{phrase_hears}
-use Rattle.keyline.proofs.HeardBytes.{NeverEnds, Opens, bytes_open}
+use Rattle.keyline.proofs.HeardBytes.{NeverEnds, Agrees, Opens, bytes_open}
 
 -- ---- a read that is refused
 
-refused_unbroken : (item : InputItem) (h : Coming) → NeverEnds h → IfErr (answer_to item h) (λ e. breaks_after e ≡ false)
+refused_unbroken : (item : InputItem) (h : Coming) → NeverEnds h → IfErr (item_at item h) (λ e. breaks_after e ≡ false)
 refused_unbroken Key (Pressed k rest) never = tt
 refused_unbroken Key (Pasted text rest) never = refl
 refused_unbroken Key (CutOff last) never = refl
@@ -59,8 +56,20 @@ never_behind (CutOff last) never = never
 never_behind (NoMore last) never = never
 never_behind (Refused why) never = never
 
-opens_left : (h c r l : Coming) → Opens h c → r ≡ behind h → l ≡ behind c → Opens r l
-opens_left h c r l on is are = (agrees_left h c r l on.0 is are, subst NeverEnds (sym is) (never_behind h on.1))
+-- what is read of the one is read of the other
+read_alike : (item : InputItem) (h c : Coming) → Agrees h c → OnOk (item_at item h) ((item_at item h ≡ item_at item c) × Agrees (behind h) (behind c))
+read_alike Key (Pressed k rest) (Pressed next left) on = (ap Ok on.0, on.1)
+read_alike Key (Pressed k rest) _ on = absurd on
+read_alike Key (Pasted text rest) c on = tt
+read_alike Key (CutOff last) c on = tt
+read_alike Key (NoMore last) c on = tt
+read_alike Key (Refused why) c on = tt
+read_alike Paste (Pasted text rest) (Pasted next left) on = (ap Ok on.0, on.1)
+read_alike Paste (Pasted text rest) _ on = absurd on
+read_alike Paste (Pressed k rest) c on = tt
+read_alike Paste (CutOff last) c on = tt
+read_alike Paste (NoMore last) c on = tt
+read_alike Paste (Refused why) c on = tt
 
 -- ---- a phrase
 
@@ -71,7 +80,7 @@ record Same {X : Type 0} (p q : Enacted X) : Type 0 where
   input : p.input ≡ q.input
   rest : Opens p.rest q.rest
 
-record Stopped {X : Type 0} (p q : Enacted X) : Type 0 where
+record Ended {X : Type 0} (p q : Enacted X) : Type 0 where
   why : ReadlineError
   answer : p.answer ≡ Err why
   unbroken : breaks_after why ≡ false
@@ -79,7 +88,7 @@ record Stopped {X : Type 0} (p q : Enacted X) : Type 0 where
   begins : q.made.redraws ≡ p.made.redraws ++ later
 
 abbrev Goes : {X : Type 0} → Enacted X → Enacted X → Type 0
-Goes p q = Same p q ⊎ Stopped p q
+Goes p q = Same p q ⊎ Ended p q
 
 goes_behind : {X : Type 0} (e : Effect) (p q : Enacted X) → Goes p q → Goes (behind_ask e p) (behind_ask e q)
 goes_behind e p q (inl same) = inl (record {
@@ -97,41 +106,29 @@ goes_behind e p q (inr cut) = inr (record {
 })
 
 module _ (s : Setting) where
-  read_goes : {X : Type 0} (item : InputItem) (t u : Script X) (input : Input) (v : Value) (h c r l : Coming) (a : Result ⊤ ReadlineError) → answer_to item h ≡ a → Opens h c
-      → OnOk a ((r ≡ behind h) × (l ≡ behind c) × Alike r t l u) → IfErr a (λ e. (r ≡ left_by e) × (t ≡ Ends (Err e)))
-      → (Opens r l → Alike r t l u → Goes (enacted s t input v r) (enacted s u input v l)) → Goes (enacted s t input v r) (enacted s u input v l)
-  read_goes item t u input v h c r l (Ok x) is on ok refused later = later (opens_left h c r l on ok.0 ok.1) ok.2
-  read_goes item t u input v h c r l (Err e) is on ok refused later =
-      let cut : breaks_after e ≡ false = subst (λ a. IfErr a (λ e. breaks_after e ≡ false)) is (refused_unbroken item h on.1) in
-      subst (λ x. Goes (enacted s x input v r) (enacted s u input v l)) (sym refused.1)
-      (inr (record { why = e; answer = refl; unbroken = cut; later = (enacted s u input v l).made.redraws; begins = refl }))
+  module _ {X : Type 0} (item : InputItem) (t : Item item → Steps X) (input : Input) (v : Value) (h c : Coming) (on : Opens h c)
+      (later : (x : Item item) → Opens (behind h) (behind c) → Goes (enacted s (t x) input v (behind h)) (enacted s (t x) input v (behind c))) where
+    abbrev led : Coming → Result (Item item) ReadlineError → Enacted X
+    led c r = either_way (λ x. enacted s (t x) input v (behind c)) (λ e. stopped s (Err e) input v (left_by e)) r
 
-  goes : {X : Type 0} (t u : Script X) (input : Input) (v : Value) (h c : Coming) → Opens h c → Alike h t c u → Goes (enacted s t input v h) (enacted s u input v c)
-  goes (Ends a) (Ends b) input v h c on is = inl (record { answer = is; made = refl; input = refl; rest = on })
-  goes (Needs t) (Needs u) input v h c on is = goes t u input v h c on is
-  goes (Asks ask t) (Asks other u) input v h c on is =
-      subst (λ x. Goes (enacted s (Asks ask t) input v h) (enacted s (Asks x u) input v c)) is.0
-      (let e = ask_effect ask s v in
-      goes_behind e (enacted s (t (shown_in e.value)) input e.value h) (enacted s (u (shown_in e.value)) input e.value c)
-      (goes (t (shown_in e.value)) (u (shown_in e.value)) input e.value h c on (is.1 (shown_in e.value))))
-  goes (Becomes kept t) (Becomes other u) input v h c on is =
-      subst (λ x. Goes (enacted s t kept v h) (enacted s u x v c)) is.0 (goes t u kept v h c on is.1)
-  goes (Reads item r t) (Reads other l u) input v h c on is =
-      read_goes item t u input v h c r l (answer_to item h) refl on is.1 is.2 (λ next alike. goes t u input v r l next alike)
-  goes t u input v h c on is = elim is [ ]
+    read_goes : (r q : Result (Item item) ReadlineError) → OnOk r ((r ≡ q) × Agrees (behind h) (behind c)) → IfErr r (λ e. breaks_after e ≡ false) → Goes (led h r) (led c q)
+    read_goes (Ok x) q alike unbroken = subst (λ y. Goes (led h (Ok x)) (led c y)) alike.0 (later x (alike.1, never_behind h on.1))
+    read_goes (Err e) q alike unbroken = inr (record { why = e; answer = refl; unbroken = unbroken; later = (led c q).made.redraws; begins = refl })
 
-begun_alike : (b : Bool) (cmd : Cmd) (h c : Coming)
-    → Alike h (if b then Asks DoingInsert (λ seen. Ends (Ok cmd)) else Ends (Ok cmd)) c (if b then Asks DoingInsert (λ seen. Ends (Ok cmd)) else Ends (Ok cmd))
-begun_alike true cmd h c = (refl, λ seen. refl)
-begun_alike false cmd h c = refl
+  goes : {X : Type 0} (t : Steps X) (input : Input) (v : Value) (h c : Coming) → Opens h c → Goes (enacted s t input v h) (enacted s t input v c)
+  goes (Ends x) input v h c on = inl (record { answer = refl; made = refl; input = refl; rest = on })
+  goes (Asks Needs t) input v h c on = goes (t tt) input v h c on
+  goes (Asks (Shows ask) t) input v h c on =
+      let e = ask_effect ask s v in
+      let next = t (shown_in e.value) in
+      goes_behind e (enacted s next input e.value h) (enacted s next input e.value c) (goes next input e.value h c on)
+  goes (Asks (Reads item) t) input v h c on =
+      read_goes item t input v h c on (λ x next. goes (t x) input v (behind h) (behind c) next) (item_at item h) (item_at item c) (read_alike item h c on.0) (refused_unbroken item h on.1)
+  goes (Asks (Becomes kept) t) input v h c on = goes (t tt) kept v h c on
+  goes (Asks (Refuses why) t) input v h c on = inl (record { answer = refl; made = refl; input = refl; rest = on })
 
-line_phrase_hears : (custom : Custom) (input : Input) (shown : Shown) → Hears (line_phrase custom input shown)
-line_phrase_hears custom input shown =
-    then_hears with_group_begun (λ cmd i w h c near. begun_alike (begins_group cmd) cmd h c) input shown (phrase custom input shown) (phrase_hears custom input shown)
-
-phrase_goes : (s : Setting) (custom : Custom) (input : Input) (v : Value) (h c : Coming) → Opens h c → Goes (phrase_enacted s custom input v h) (phrase_enacted s custom input v c)
-phrase_goes s custom input v h c on =
-    goes s (line_phrase custom input (shown_in v) h) (line_phrase custom input (shown_in v) c) input v h c on (line_phrase_hears custom input (shown_in v) h c on.0)
+phrase_goes : (n : ℕ) (s : Setting) (custom : Custom) (input : Input) (v : Value) (h c : Coming) → Opens h c → Goes (phrase_enacted n s custom input v h) (phrase_enacted n s custom input v c)
+phrase_goes n s custom input v h c on = goes s (steps (line_phrase custom input (shown_in v)) n) input v h c on
 
 -- ---- a turn
 
@@ -186,11 +183,11 @@ module _ (s : Setting) (indent : ℕ) (ring : Ring) where
         begins = more.1 ∙ (ap (λ r. r ++ more.0) cut.begins ∙ append_assoc p.made.redraws cut.later more.0);
       }))
 
-turn_goes : (s : Setting) (custom : Custom) (indent : ℕ) (input : Input) (ring : Ring) (v : Value) (h c : Coming) → Opens h c
-    → TurnGoes (turn_of s custom indent input ring v h) (turn_of s custom indent input ring v c)
+turn_goes : (n : ℕ) (s : Setting) (custom : Custom) (indent : ℕ) (input : Input) (ring : Ring) (v : Value) (h c : Coming) → Opens h c
+    → TurnGoes (turn_of n s custom indent input ring v h) (turn_of n s custom indent input ring v c)
 unfolding turn_of
-turn_goes s custom indent input ring v h c on =
-    turned_goes s indent ring (phrase_enacted s custom input v h) (phrase_enacted s custom input v c) (phrase_goes s custom input v h c on)
+turn_goes n s custom indent input ring v h c on =
+    turned_goes s indent ring (phrase_enacted n s custom input v h) (phrase_enacted n s custom input v c) (phrase_goes n s custom input v h c on)
 
 -- ---- a line
 
@@ -267,7 +264,7 @@ unfolding line_from
 from_goes zero s custom indent input ring info v h c on = inl (record { turns = refl; outcome = refl; ring = refl; rest = on })
 from_goes (suc n) s custom indent input ring info v h c on =
     after_goes (line_from n s custom indent) (from_goes n s custom indent) s info
-    (turn_of s custom indent input ring v h) (turn_of s custom indent input ring v c) (turn_goes s custom indent input ring v h c on)
+    (turn_of (suc n) s custom indent input ring v h) (turn_of (suc n) s custom indent input ring v c) (turn_goes (suc n) s custom indent input ring v h c on)
 
 line_goes : (n : ℕ) (s : Setting) (custom : Custom) (indent : ℕ) (input : Input) (ring : Ring) (h c : Coming) → Opens h c
     → LineGoes (line_of n s custom indent input ring h) (line_of n s custom indent input ring c)

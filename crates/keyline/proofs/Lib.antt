@@ -6,8 +6,6 @@ pub mod DeskLemmas
 pub mod EditLemmas
 pub mod HeardBytes
 pub mod HeardLines
-pub mod HeardSteps
-pub mod HeardTables
 pub mod LinesLemmas
 pub mod OneByteLemmas
 pub mod OptionsLemmas

@@ -109,7 +109,7 @@ turned_redraws a indent r v c p answer is made =
 
 pub one_byte : OneByte
 unfolding turn_of
-one_byte s l a custom indent input r v coming c alone t none room =
-    let p = phrase_enacted a custom input v coming in
+one_byte n s l a custom indent input r v coming c alone t none room =
+    let p = phrase_enacted n a custom input v coming in
     let w = (insert_char c 1 a v).value in
     ap (bytes_for s l) (turned_redraws a indent r v c p p.answer alone.answer alone.made) ∙ typed_bytes s l a v c t ∙ short_bytes s l a.prompt c w.line.text w.line.place t.printable none room

@@ -22,6 +22,7 @@ use Rattle.line_keys.specs.declared.events.Event.TheVariants.{Any}
 use Rattle.line_keys.specs.declared.key.KeyCode.TheVariants.{Char, Enter}
 use Rattle.line_keys.specs.declared.key.KeyEvent.{KeyEvent}
 use Rattle.line_keys.specs.Answers.{Custom, answer_by}
+use Rattle.line_config.specs.Scripts.{Ends, Asks}
 use Rattle.line_keys.specs.Coming.{Coming, Pressed, Pasted, Ends as NoMore, End as AtItsEnd}
 use Rattle.line_keys.specs.Common.{common_deed, command_or, bound_or, decided, terminal_command}
 use Rattle.line_keys.specs.Custom.{Situation, situation, shown_for, or_any, custom_answer}
@@ -31,7 +32,7 @@ use Rattle.line_keys.specs.Feeds.{Key, Paste}
 use Rattle.line_keys.specs.InputStates.{new_input}
 use Rattle.line_keys.specs.Keys.{key_with, none}
 use Rattle.line_keys.specs.Phrase.{phrase_from}
-use Rattle.line_keys.specs.Phrases.{Input, Script, Ends, Needs, Reads, Becomes, Part, after, and_then, deciding}
+use Rattle.line_keys.specs.Phrases.{Input, Steps, Part, steps, Needs, Reads, Becomes, after, answered, needing, with_read, from_key, asking, becoming, deciding, and_then}
 use Rattle.line_keys.specs.Refreshing.{Shown}
 use Rattle.line_keys.specs.Replies.{gives_at_once, taking}
 use Rattle.line_keys.specs.Vi.{with_last, changed, typed, command_table, vi_counted, vi_command, insert_table, vi_insert}
@@ -63,11 +64,12 @@ unbound_answer s k free =
     ap (λ bound. answer_by (or_any s.custom bound) (shown_for s (single k))) (free (single k))
     ∙ ap (λ bound. answer_by (option_map (λ meaning s. taking (meaning s)) bound) (shown_for s (single k))) (free Any)
 
-by_the_table : (new : Option ℕ) (s : Situation) (k : KeyEvent) (table : Part Cmd) (c : Coming) → IsUnbound s.custom → terminal_command s.shown k ≡ None
-    → decided new s k table c ≡ table c
-by_the_table new s k table c free none =
-    ap (λ reply. deciding (bound_or new s (command_or table (terminal_command s.shown k))) reply c) (unbound_answer s k free)
-    ∙ ap (λ command. command_or table command c) none
+by_the_table : (new : Option ℕ) (s : Situation) (k : KeyEvent) (table : Part Cmd) (n : ℕ) → IsUnbound s.custom → terminal_command s.shown k ≡ None
+    → steps (decided new s k table) n ≡ steps table n
+unfolding deciding
+by_the_table new s k table n free none =
+    ap (λ reply. steps (deciding (bound_or new s (command_or table (terminal_command s.shown k))) reply) n) (unbound_answer s k free)
+    ∙ ap (λ command. steps (command_or table command) n) none
 
 abbrev input_with : EditMode → InputMode → Cmd → Option CharSearch → Input
 input_with mode input_mode last search = record { mode = mode; input_mode = input_mode; last = last; search = search }
@@ -79,46 +81,46 @@ abbrev kept_after : EditMode → List ℕ → Input → Input
 kept_after Emacs text input = input
 kept_after Vi text input = with_last (Insert 1 text) input
 
-abbrev keeping : EditMode → List ℕ → Input → Script Cmd → Script Cmd
-keeping Emacs text input script = script
-keeping Vi text input script = Needs (Becomes (with_last (Insert 1 text) input) script)
+abbrev keeping : EditMode → Input → List ℕ → Steps Cmd
+keeping Emacs input text = Ends (Insert 1 text)
+keeping Vi input text = Asks Needs (λ none. Asks (Becomes (with_last (Insert 1 text) input)) (λ also. Ends (Insert 1 text)))
 
-abbrev pasting : EditMode → List ℕ → Input → Coming → Script Cmd
-pasting mode text input rest = Reads Paste rest (keeping mode text input (Ends (Ok (Insert 1 text))))
+abbrev pasting : EditMode → Input → Steps Cmd
+pasting mode input = Asks (Reads Paste) (keeping mode input)
 
-pastes : (mode : EditMode) (input_mode : InputMode) (custom : Custom) (last : Cmd) (search : Option CharSearch) (shown : Shown) (text : List ℕ) (rest : Coming) → IsUnbound custom
-    → phrase_from mode custom (input_with mode input_mode last search) shown paste_start (Pasted text rest) ≡ pasting mode text (input_with mode input_mode last search) rest
-unfolding emacs_deed common_deed deed_of insert_deed command_table vi_counted vi_command insert_table vi_insert
-pastes Emacs input_mode custom last search shown text rest free =
+pastes : (mode : EditMode) (input_mode : InputMode) (custom : Custom) (last : Cmd) (search : Option CharSearch) (shown : Shown) (n : ℕ) → IsUnbound custom
+    → steps (phrase_from mode custom (input_with mode input_mode last search) shown paste_start) (suc n) ≡ pasting mode (input_with mode input_mode last search)
+unfolding answered needing with_read from_key asking becoming deciding and_then emacs_deed common_deed deed_of insert_deed command_table vi_counted vi_command insert_table vi_insert
+pastes Emacs input_mode custom last search shown n free =
     let s = situation custom (input_with Emacs input_mode last search) shown 1 true in
-    by_the_table (Some 1) s paste_start (emacs_command s paste_start) (Pasted text rest) free refl
-pastes Vi Command custom last search shown text rest free =
+    by_the_table (Some 1) s paste_start (emacs_command s paste_start) (suc n) free refl
+pastes Vi Command custom last search shown n free =
     let input = input_with Vi Command last search in
     let s = situation custom input shown 1 true in
-    by_the_table None s paste_start (and_then input shown (command_table None s paste_start) changed) (Pasted text rest) free refl
-pastes Vi Inserting custom last search shown text rest free =
+    by_the_table None s paste_start (and_then input shown (command_table None s paste_start) changed) (suc n) free refl
+pastes Vi Inserting custom last search shown n free =
     let input = input_with Vi Inserting last search in
-    by_the_table None (situation custom input shown 0 true) paste_start (and_then input shown (insert_table custom input shown paste_start) typed) (Pasted text rest) free refl
-pastes Vi Overwriting custom last search shown text rest free =
+    by_the_table None (situation custom input shown 0 true) paste_start (and_then input shown (insert_table custom input shown paste_start) typed) (suc n) free refl
+pastes Vi Overwriting custom last search shown n free =
     let input = input_with Vi Overwriting last search in
-    by_the_table None (situation custom input shown 0 true) paste_start (and_then input shown (insert_table custom input shown paste_start) typed) (Pasted text rest) free refl
+    by_the_table None (situation custom input shown 0 true) paste_start (and_then input shown (insert_table custom input shown paste_start) typed) (suc n) free refl
 
-enters : (mode : EditMode) (input_mode : InputMode) (custom : Custom) (last : Cmd) (search : Option CharSearch) (shown : Shown) (rest : Coming) → IsUnbound custom
-    → phrase_from mode custom (input_with mode input_mode last search) shown enter rest ≡ Ends (Ok (AcceptOrInsertLine true))
-unfolding emacs_deed common_deed deed_of insert_deed command_table vi_counted vi_command insert_table vi_insert
-enters Emacs input_mode custom last search shown rest free =
+enters : (mode : EditMode) (input_mode : InputMode) (custom : Custom) (last : Cmd) (search : Option CharSearch) (shown : Shown) (n : ℕ) → IsUnbound custom
+    → steps (phrase_from mode custom (input_with mode input_mode last search) shown enter) n ≡ Ends (AcceptOrInsertLine true)
+unfolding answered needing with_read from_key asking becoming deciding and_then emacs_deed common_deed deed_of insert_deed command_table vi_counted vi_command insert_table vi_insert
+enters Emacs input_mode custom last search shown n free =
     let s = situation custom (input_with Emacs input_mode last search) shown 1 true in
-    by_the_table (Some 1) s enter (emacs_command s enter) rest free refl
-enters Vi Command custom last search shown rest free =
+    by_the_table (Some 1) s enter (emacs_command s enter) n free refl
+enters Vi Command custom last search shown n free =
     let input = input_with Vi Command last search in
     let s = situation custom input shown 1 true in
-    by_the_table None s enter (and_then input shown (command_table None s enter) changed) rest free refl
-enters Vi Inserting custom last search shown rest free =
+    by_the_table None s enter (and_then input shown (command_table None s enter) changed) n free refl
+enters Vi Inserting custom last search shown n free =
     let input = input_with Vi Inserting last search in
-    by_the_table None (situation custom input shown 0 true) enter (and_then input shown (insert_table custom input shown enter) typed) rest free refl
-enters Vi Overwriting custom last search shown rest free =
+    by_the_table None (situation custom input shown 0 true) enter (and_then input shown (insert_table custom input shown enter) typed) n free refl
+enters Vi Overwriting custom last search shown n free =
     let input = input_with Vi Overwriting last search in
-    by_the_table None (situation custom input shown 0 true) enter (and_then input shown (insert_table custom input shown enter) typed) rest free refl
+    by_the_table None (situation custom input shown 0 true) enter (and_then input shown (insert_table custom input shown enter) typed) n free refl
 
 -- ---- what the phrases are to the value
 
@@ -128,25 +130,27 @@ paste_enacted mode text s input v rest = record { answer = Ok (Insert 1 text); m
 abbrev enter_enacted : Setting → Input → Value → Coming → Enacted Cmd
 enter_enacted s input v rest = record { answer = Ok (AcceptOrInsertLine true); made = unchanged s v; input = input; rest = rest }
 
-enacts_keeping : (mode : EditMode) (text : List ℕ) (s : Setting) (input : Input) (v : Value) (c rest : Coming)
-    → enacted s (after with_group_begun input (shown_in v) c (Reads Key (Pasted text rest) (pasting mode text input rest))) input v c ≡ paste_enacted mode text s input v rest
-enacts_keeping Emacs text s input v c rest = refl
-enacts_keeping Vi text s input v c rest = refl
+abbrev grouped : ℕ → Cmd → Input → Shown → Steps Cmd
+grouped n cmd input shown = steps (with_group_begun cmd input shown) n
 
-enacts_paste : (s : Setting) (custom : Custom) (input : Input) (v : Value) (text : List ℕ) (rest : Coming) → IsUnbound custom
-    → phrase_enacted s custom input v (Pressed paste_start (Pasted text rest)) ≡ paste_enacted input.mode text s input v rest
-enacts_paste s custom input v text rest free =
-    let c : Coming = Pressed paste_start (Pasted text rest) in
-    ap (λ script. enacted s (after with_group_begun input (shown_in v) c (Reads Key (Pasted text rest) script)) input v c)
-    (pastes input.mode input.input_mode custom input.last input.search (shown_in v) text rest free)
-    ∙ enacts_keeping input.mode text s input v c rest
+enacts_keeping : (n : ℕ) (mode : EditMode) (text : List ℕ) (s : Setting) (input : Input) (v : Value) (rest : Coming)
+    → enacted s (after (grouped n) input (shown_in v) (pasting mode input)) input v (Pasted text rest) ≡ paste_enacted mode text s input v rest
+unfolding answered
+enacts_keeping n Emacs text s input v rest = refl
+enacts_keeping n Vi text s input v rest = refl
 
-enacts_enter : (s : Setting) (custom : Custom) (input : Input) (v : Value) (rest : Coming) → IsUnbound custom
-    → phrase_enacted s custom input v (Pressed enter rest) ≡ enter_enacted s input v rest
-enacts_enter s custom input v rest free =
-    let c : Coming = Pressed enter rest in
-    ap (λ script. enacted s (after with_group_begun input (shown_in v) c (Reads Key rest script)) input v c)
-    (enters input.mode input.input_mode custom input.last input.search (shown_in v) rest free)
+enacts_paste : (n : ℕ) (s : Setting) (custom : Custom) (input : Input) (v : Value) (text : List ℕ) (rest : Coming) → IsUnbound custom
+    → phrase_enacted (suc (suc n)) s custom input v (Pressed paste_start (Pasted text rest)) ≡ paste_enacted input.mode text s input v rest
+unfolding and_then with_read
+enacts_paste n s custom input v text rest free =
+    ap (λ script. enacted s (after (grouped (suc (suc n))) input (shown_in v) script) input v (Pasted text rest)) (pastes input.mode input.input_mode custom input.last input.search (shown_in v) n free)
+    ∙ enacts_keeping (suc (suc n)) input.mode text s input v rest
+
+enacts_enter : (n : ℕ) (s : Setting) (custom : Custom) (input : Input) (v : Value) (rest : Coming) → IsUnbound custom
+    → phrase_enacted (suc n) s custom input v (Pressed enter rest) ≡ enter_enacted s input v rest
+unfolding and_then with_read answered
+enacts_enter n s custom input v rest free =
+    ap (λ script. enacted s (after (grouped (suc n)) input (shown_in v) script) input v rest) (enters input.mode input.input_mode custom input.last input.search (shown_in v) n free)
 
 -- ---- the paste's text is the line's
 
@@ -199,15 +203,15 @@ paste_turn mode text s indent input r v rest = turned_by s indent r (Ok (Insert 
 abbrev enter_turn : Setting → ℕ → Input → Ring → Value → Coming → Turned
 enter_turn s indent input r v rest = turned_by s indent r (Ok (AcceptOrInsertLine true)) (enter_enacted s input v rest)
 
-turns_by_paste : (s : Setting) (custom : Custom) (indent : ℕ) (input : Input) (r : Ring) (v : Value) (text : List ℕ) (rest : Coming) → IsUnbound custom
-    → turn_of s custom indent input r v (Pressed paste_start (Pasted text rest)) ≡ paste_turn input.mode text s indent input r v rest
+turns_by_paste : (n : ℕ) (s : Setting) (custom : Custom) (indent : ℕ) (input : Input) (r : Ring) (v : Value) (text : List ℕ) (rest : Coming) → IsUnbound custom
+    → turn_of (suc (suc n)) s custom indent input r v (Pressed paste_start (Pasted text rest)) ≡ paste_turn input.mode text s indent input r v rest
 unfolding turn_of
-turns_by_paste s custom indent input r v text rest free = ap (λ (p : Enacted Cmd). turned_by s indent r p.answer p) (enacts_paste s custom input v text rest free)
+turns_by_paste n s custom indent input r v text rest free = ap (λ (p : Enacted Cmd). turned_by s indent r p.answer p) (enacts_paste n s custom input v text rest free)
 
-turns_by_enter : (s : Setting) (custom : Custom) (indent : ℕ) (input : Input) (r : Ring) (v : Value) (rest : Coming) → IsUnbound custom
-    → turn_of s custom indent input r v (Pressed enter rest) ≡ enter_turn s indent input r v rest
+turns_by_enter : (n : ℕ) (s : Setting) (custom : Custom) (indent : ℕ) (input : Input) (r : Ring) (v : Value) (rest : Coming) → IsUnbound custom
+    → turn_of (suc n) s custom indent input r v (Pressed enter rest) ≡ enter_turn s indent input r v rest
 unfolding turn_of
-turns_by_enter s custom indent input r v rest free = ap (λ (p : Enacted Cmd). turned_by s indent r p.answer p) (enacts_enter s custom input v rest free)
+turns_by_enter n s custom indent input r v rest free = ap (λ (p : Enacted Cmd). turned_by s indent r p.answer p) (enacts_enter n s custom input v rest free)
 
 -- ---- the line
 
@@ -223,7 +227,7 @@ enter_accepts : (n : ℕ) (s : Setting) (custom : Custom) (indent : ℕ) (input 
 unfolding line_from
 enter_accepts n s custom indent input r info v rest free =
     let bare : Setting = without_hooks s in
-    subst (λ (t : Turned). Accepts (after_turn (line_from n bare custom indent) bare info t t.outcome) v.line.text rest) (sym (turns_by_enter bare custom indent input r v rest free)) (record {
+    subst (λ (t : Turned). Accepts (after_turn (line_from n bare custom indent) bare info t t.outcome) v.line.text rest) (sym (turns_by_enter n bare custom indent input r v rest free)) (record {
       outcome =
           let w : Value = (accept_or_insert true bare v).value in
           ap Ok (moved_text (not (w.line.place == length w.line.text)) ForcedRefresh (record w.line { place = length w.line.text }) bare w refl);
@@ -239,7 +243,7 @@ paste_accepts n s custom indent input r info v text rest free empty =
     let vi : Bool = in_vi_command (means_of (kept_after input.mode text input) indent (reset_by (Insert 1 text) r)) in
     let typed : t.made.value.line.text ≡ text = pasted_text vi text bare v empty.empty empty.grows in
     let a = enter_accepts n s custom indent t.input t.ring (info_after t.made.redraws info) t.made.value rest free in
-    subst (λ (t : Turned). Accepts (after_turn (line_from (suc n) bare custom indent) bare info t t.outcome) text rest) (sym (turns_by_paste bare custom indent input r v text (Pressed enter rest) free)) (record {
+    subst (λ (t : Turned). Accepts (after_turn (line_from (suc n) bare custom indent) bare info t t.outcome) text rest) (sym (turns_by_paste n bare custom indent input r v text (Pressed enter rest) free)) (record {
       outcome = a.outcome ∙ ap Ok typed;
       rest_is = a.rest_is;
     })
@@ -296,14 +300,14 @@ follows : Coming
 follows = Pressed (key_with (Char 0x62) none) (NoMore AtItsEnd)
 
 pasted_row : Accepts (pasted_in Inserting (codes "a")) (codes "a") follows
-unfolding line_from turn_of common_deed insert_deed insert_table vi_insert pasted_in plain_setting follows lib.Utf8.encode
+unfolding line_from turn_of answered needing with_read from_key asking becoming deciding and_then common_deed insert_deed insert_table vi_insert pasted_in plain_setting follows lib.Utf8.encode
 pasted_row = record { outcome = refl; rest_is = refl }
 
 empty_row : Accepts (pasted_in Command []) [] follows
-unfolding line_from turn_of common_deed deed_of command_table vi_counted vi_command pasted_in plain_setting follows lib.Utf8.encode
+unfolding line_from turn_of answered needing with_read from_key asking becoming deciding and_then common_deed deed_of command_table vi_counted vi_command pasted_in plain_setting follows lib.Utf8.encode
 empty_row = record { outcome = refl; rest_is = refl }
 
 -- a CR is a newline
 return_row : Accepts (pasted_in Overwriting (0x0D ∷ [])) (0x0A ∷ []) follows
-unfolding line_from turn_of common_deed insert_deed insert_table vi_insert pasted_in plain_setting follows lib.Utf8.encode
+unfolding line_from turn_of answered needing with_read from_key asking becoming deciding and_then common_deed insert_deed insert_table vi_insert pasted_in plain_setting follows lib.Utf8.encode
 return_row = record { outcome = refl; rest_is = refl }

@@ -41,16 +41,16 @@ pub record TypedAtEnd (a : Setting) (v : Value) (c : ℕ) : Type 0 where
   pub after : is_bare (insert_char c 1 a v).value ≡ true
 
 -- the tables read it alone, with no count and nothing asked
-pub record ReadAlone (a : Setting) (custom : Custom) (input : Input) (v : Value) (coming : Coming)
-    (c : ℕ) : Type 0 where
-  pub answer : (phrase_enacted a custom input v coming).answer ≡ Ok (SelfInsert 1 c)
-  pub made : (phrase_enacted a custom input v coming).made ≡ unchanged a v
+pub record ReadAlone (n : ℕ) (a : Setting) (custom : Custom) (input : Input) (v : Value)
+    (coming : Coming) (c : ℕ) : Type 0 where
+  pub answer : (phrase_enacted n a custom input v coming).answer ≡ Ok (SelfInsert 1 c)
+  pub made : (phrase_enacted n a custom input v coming).made ≡ unchanged a v
 
 -- where no information stands and it doesn't come into the last column, its turn sends its byte
 abbrev pub OneByte : Type 0
 OneByte =
-    (s : Screen) (l : Layout) (a : Setting) (custom : Custom) (indent : ℕ) (input : Input)
-    (r : Ring) (v : Value) (coming : Coming) (c : ℕ)
-    → ReadAlone a custom input v coming c → TypedAtEnd a v c
+    (n : ℕ) (s : Screen) (l : Layout) (a : Setting) (custom : Custom) (indent : ℕ)
+    (input : Input) (r : Ring) (v : Value) (coming : Coming) (c : ℕ)
+    → ReadAlone n a custom input v coming c → TypedAtEnd a v c
     → l.has_info ≡ false → l.cursor.col + 1 < s.columns
-    → bytes_for s l (turn_of a custom indent input r v coming).made.redraws ≡ c ∷ []
+    → bytes_for s l (turn_of n a custom indent input r v coming).made.redraws ≡ c ∷ []

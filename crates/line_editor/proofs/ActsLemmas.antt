@@ -6,17 +6,19 @@ use Rattle.line_buffer.specs.declared.layout.Layout.{Layout}
 use Rattle.line_config.specs.declared.errors.ReadlineError.{ReadlineError}
 use Rattle.line_config.specs.declared.errors.ReadlineError.TheVariants.{Memory}
 use Rattle.line_keys.specs.Answers.{Custom}
-use Rattle.line_keys.specs.Coming.{Coming, left_by}
-use Rattle.line_keys.specs.Phrases.{Input, Script, Ends, Needs, Asks, Reads, Becomes}
+use Rattle.line_config.specs.Scripts.{Ends, Asks}
+use Rattle.line_keys.specs.Coming.{Coming, behind, left_by}
+use Rattle.line_keys.specs.Feeds.{item_at}
+use Rattle.line_keys.specs.Phrases.{Input, Steps, steps, Needs, Shows, Reads, Becomes, Refuses}
 use Rattle.line_keys.specs.declared.command.Cmd.{Cmd}
 use Rattle.line_record.specs.Ring.{Ring}
 use Rattle.line_editor.specs.Accepting.{submitted}
 use Rattle.line_editor.specs.Acts.{Act, Sees, Gets, Obeys, Stage, stage, SeenInPart, CutIn, script_acts, command_acts, turn_acts, acts_after, acts_from, acts_of}
 use Rattle.line_editor.specs.Asks.{shown_in, ask_effect}
-use Rattle.line_editor.specs.Calls.{Call, Canvas, Ruler, MadeIn, Begun}
+use Rattle.line_editor.specs.Calls.{Canvas, Ruler, MadeIn, Begun}
 use Rattle.line_editor.specs.Courses.{redraws_in}
 use Rattle.line_editor.specs.Drawing.{refreshed}
-use Rattle.line_editor.specs.Lines.{Enacted, enacted, line_phrase, phrase_enacted, Told, Turned, turned_by, turn_of, after_turn, line_from, line_of}
+use Rattle.line_editor.specs.Lines.{Enacted, either_way, enacted, line_phrase, phrase_enacted, Told, Turned, turned_by, turn_of, after_turn, line_from, line_of}
 use Rattle.line_editor.specs.Redraws.{Redraw, Asked, asked, then_asked, nothing_asked}
 use Rattle.line_editor.specs.Sights.{info_after}
 use Rattle.line_editor.specs.Values.{Value, Setting, Effect, first_value}
@@ -79,67 +81,83 @@ ring_both r (Obeys textless ring redraws ∷ acts) more = ring_both ring acts mo
 
 -- ---- a script's
 
-pub script_redraws : {X : Type 0} (s : Setting) (script : Script X) (i : Input) (v : Value) (c : Coming) → redraws_of (script_acts s script v) ≡ (enacted s script i v c).made.redraws
+-- what holds of either way a read may go holds of it
+pub both_ways : {X Y Z : Type 0} (P : Y → Z → Type 0) (f : X → Y) (g : ReadlineError → Y) (h : X → Z) (k : ReadlineError → Z) → ((x : X) → P (f x) (h x)) → ((e : ReadlineError) → P (g e) (k e))
+    → (r : Result X ReadlineError) → P (either_way f g r) (either_way h k r)
+both_ways P f g h k answers stops (Ok x) = answers x
+both_ways P f g h k answers stops (Err e) = stops e
+
+pub each_way : {X Y : Type 0} (P : Y → Type 0) (f : X → Y) (g : ReadlineError → Y) → ((x : X) → P (f x)) → ((e : ReadlineError) → P (g e)) → (r : Result X ReadlineError) → P (either_way f g r)
+each_way P f g answers stops (Ok x) = answers x
+each_way P f g answers stops (Err e) = stops e
+
+pub script_redraws : {X : Type 0} (s : Setting) (script : Steps X) (i : Input) (v : Value) (c : Coming) → redraws_of (script_acts s script v c) ≡ (enacted s script i v c).made.redraws
 script_redraws s (Ends answer) i v c = refl
-script_redraws s (Needs later) i v c = script_redraws s later i v c
-script_redraws s (Asks ask later) i v c =
+script_redraws s (Asks Needs later) i v c = script_redraws s (later tt) i v c
+script_redraws s (Asks (Shows ask) later) i v c =
     let e : Effect = ask_effect ask s v in
     ap (λ x. e.redraws ++ x) (script_redraws s (later (shown_in e.value)) i e.value c)
-script_redraws s (Reads item rest later) i v c = script_redraws s later i v rest
-script_redraws s (Becomes kept later) i v c = script_redraws s later kept v c
+script_redraws {X} s (Asks (Reads item) later) i v c =
+    both_ways (λ (acts : List Act) (p : Enacted X). redraws_of acts ≡ p.made.redraws) _ _ _ _ (λ x. script_redraws s (later x) i v (behind c)) (λ e. refl) (item_at item c)
+script_redraws s (Asks (Becomes kept) later) i v c = script_redraws s (later tt) kept v c
+script_redraws s (Asks (Refuses why) later) i v c = refl
 
-pub script_rest : {X : Type 0} (s : Setting) (script : Script X) (i : Input) (v : Value) (c : Coming) → rest_of c (script_acts s script v) ≡ (enacted s script i v c).rest
+pub script_rest : {X : Type 0} (s : Setting) (script : Steps X) (i : Input) (v : Value) (c : Coming) → rest_of c (script_acts s script v c) ≡ (enacted s script i v c).rest
 script_rest s (Ends answer) i v c = refl
-script_rest s (Needs later) i v c = script_rest s later i v c
-script_rest s (Asks ask later) i v c =
+script_rest s (Asks Needs later) i v c = script_rest s (later tt) i v c
+script_rest s (Asks (Shows ask) later) i v c =
     let e : Effect = ask_effect ask s v in
     script_rest s (later (shown_in e.value)) i e.value c
-script_rest s (Reads item rest later) i v c = script_rest s later i v rest
-script_rest s (Becomes kept later) i v c = script_rest s later kept v c
+script_rest {X} s (Asks (Reads item) later) i v c =
+    both_ways (λ (acts : List Act) (p : Enacted X). rest_of c acts ≡ p.rest) _ _ _ _ (λ x. script_rest s (later x) i v (behind c)) (λ e. refl) (item_at item c)
+script_rest s (Asks (Becomes kept) later) i v c = script_rest s (later tt) kept v c
+script_rest s (Asks (Refuses why) later) i v c = refl
 
-pub script_ring : {X : Type 0} (s : Setting) (script : Script X) (v : Value) (r : Ring) → ring_of r (script_acts s script v) ≡ r
-script_ring s (Ends answer) v r = refl
-script_ring s (Needs later) v r = script_ring s later v r
-script_ring s (Asks ask later) v r =
+pub script_ring : {X : Type 0} (s : Setting) (script : Steps X) (v : Value) (c : Coming) (r : Ring) → ring_of r (script_acts s script v c) ≡ r
+script_ring s (Ends answer) v c r = refl
+script_ring s (Asks Needs later) v c r = script_ring s (later tt) v c r
+script_ring s (Asks (Shows ask) later) v c r =
     let e : Effect = ask_effect ask s v in
-    script_ring s (later (shown_in e.value)) e.value r
-script_ring s (Reads item rest later) v r = script_ring s later v r
-script_ring s (Becomes kept later) v r = script_ring s later v r
+    script_ring s (later (shown_in e.value)) e.value c r
+script_ring s (Asks (Reads item) later) v c r =
+    each_way (λ (acts : List Act). ring_of r acts ≡ r) _ _ (λ x. script_ring s (later x) v (behind c) r) (λ e. refl) (item_at item c)
+script_ring s (Asks (Becomes kept) later) v c r = script_ring s (later tt) v c r
+script_ring s (Asks (Refuses why) later) v c r = refl
 
 -- ---- a turn's
 
-module _ (s : Setting) (custom : Custom) (indent : ℕ) (i : Input) (r : Ring) (v : Value) (c : Coming) where
+module _ (n : ℕ) (s : Setting) (custom : Custom) (indent : ℕ) (i : Input) (r : Ring) (v : Value) (c : Coming) where
   abbrev phrased : Enacted Cmd
-  phrased = phrase_enacted s custom i v c
+  phrased = phrase_enacted n s custom i v c
 
   abbrev spoken : List Act
-  spoken = script_acts s (line_phrase custom i (shown_in v) c) v
+  spoken = script_acts s (steps (line_phrase custom i (shown_in v)) n) v c
 
   abbrev turned : Result Cmd ReadlineError → Turned
   turned answer = turned_by s indent r answer phrased
 
   made_by : (answer : Result Cmd ReadlineError) → redraws_of spoken ++ redraws_of (command_acts s indent r phrased answer) ≡ (turned answer).made.redraws
-  made_by (Ok cmd) = ap (λ x. x ++ redraws_of (command_acts s indent r phrased (Ok cmd))) (script_redraws s (line_phrase custom i (shown_in v) c) i v c)
+  made_by (Ok cmd) = ap (λ x. x ++ redraws_of (command_acts s indent r phrased (Ok cmd))) (script_redraws s (steps (line_phrase custom i (shown_in v)) n) i v c)
       ∙ ap (λ x. phrased.made.redraws ++ x) (append-nil _)
-  made_by (Err e) = append-nil (redraws_of spoken) ∙ script_redraws s (line_phrase custom i (shown_in v) c) i v c
+  made_by (Err e) = append-nil (redraws_of spoken) ∙ script_redraws s (steps (line_phrase custom i (shown_in v)) n) i v c
 
   rest_by : (answer : Result Cmd ReadlineError) → rest_of (rest_of c spoken) (command_acts s indent r phrased answer) ≡ (turned answer).rest
-  rest_by (Ok cmd) = script_rest s (line_phrase custom i (shown_in v) c) i v c
-  rest_by (Err e) = script_rest s (line_phrase custom i (shown_in v) c) i v c
+  rest_by (Ok cmd) = script_rest s (steps (line_phrase custom i (shown_in v)) n) i v c
+  rest_by (Err e) = script_rest s (steps (line_phrase custom i (shown_in v)) n) i v c
 
   ring_by : (answer : Result Cmd ReadlineError) → ring_of (ring_of r spoken) (command_acts s indent r phrased answer) ≡ (turned answer).ring
   ring_by (Ok cmd) = refl
-  ring_by (Err e) = script_ring s (line_phrase custom i (shown_in v) c) v r
+  ring_by (Err e) = script_ring s (steps (line_phrase custom i (shown_in v)) n) v c r
 
-  pub turn_redraws : redraws_of (turn_acts s custom indent i r v c) ≡ (turn_of s custom indent i r v c).made.redraws
+  pub turn_redraws : redraws_of (turn_acts n s custom indent i r v c) ≡ (turn_of n s custom indent i r v c).made.redraws
   unfolding turn_acts turn_of
   turn_redraws = redraws_both spoken (command_acts s indent r phrased phrased.answer) ∙ made_by phrased.answer
 
-  pub turn_rest : rest_of c (turn_acts s custom indent i r v c) ≡ (turn_of s custom indent i r v c).rest
+  pub turn_rest : rest_of c (turn_acts n s custom indent i r v c) ≡ (turn_of n s custom indent i r v c).rest
   unfolding turn_acts turn_of
   turn_rest = rest_both c spoken (command_acts s indent r phrased phrased.answer) ∙ rest_by phrased.answer
 
-  pub turn_ring : ring_of r (turn_acts s custom indent i r v c) ≡ (turn_of s custom indent i r v c).ring
+  pub turn_ring : ring_of r (turn_acts n s custom indent i r v c) ≡ (turn_of n s custom indent i r v c).ring
   unfolding turn_acts turn_of
   turn_ring = ring_both r spoken (command_acts s indent r phrased phrased.answer) ∙ ring_by phrased.answer
 
@@ -158,9 +176,9 @@ pub line_redraws : (n : ℕ) (s : Setting) (custom : Custom) (indent : ℕ) (i :
 unfolding line_from acts_from
 line_redraws zero s custom indent i r info v c = refl
 line_redraws (suc n) s custom indent i r info v c =
-    let t = turn_of s custom indent i r v c in
-    redraws_both (turn_acts s custom indent i r v c) (acts_after (acts_from n s custom indent) s t t.outcome)
-    ∙ ap (λ x. x ++ redraws_of (acts_after (acts_from n s custom indent) s t t.outcome)) (turn_redraws s custom indent i r v c)
+    let t = turn_of (suc n) s custom indent i r v c in
+    redraws_both (turn_acts (suc n) s custom indent i r v c) (acts_after (acts_from n s custom indent) s t t.outcome)
+    ∙ ap (λ x. x ++ redraws_of (acts_after (acts_from n s custom indent) s t t.outcome)) (turn_redraws (suc n) s custom indent i r v c)
     ∙ after_redraws s info t t.outcome (line_from n s custom indent) (acts_from n s custom indent)
     (λ stands. line_redraws n s custom indent t.input t.ring stands t.made.value t.rest)
 

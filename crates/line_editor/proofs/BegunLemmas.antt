@@ -1,5 +1,5 @@
 -- Calls of which the first ones were made, and a fault.
-use Rattle.std.proofs.Common.{◌≡◌, Bool, true, false, true≢false, List, [], ◌∷◌, ◌++◌, refl, sym, subst, ◌∙◌, inl, inr, IsTrue}
+use Rattle.std.proofs.Common.{◌≡◌, Bool, true, false, true≢false, List, [], ◌∷◌, ◌++◌, refl, sym, subst, ◌∙◌, inl, inr}
 use Rattle.std.specs.Prelude.{Option, Some, None, IsFalse}
 use Rattle.std.specs.List.{FoldsTo}
 use Rattle.line_buffer.specs.declared.layout.Layout.{Layout}

@@ -108,19 +108,22 @@ module _ {Out H Hi K T : Type 0} {renderer : renderers.Renderer.Ghosts Out} {com
     -- a turn that goes on
     next_by : (line : Telling) (acts : Doing) (m2 : State Out H Hi K T renderer completer candidate hinter hint highlighter validator history) (i2 : Input) (r2 : Ring) (feed2 : KeyFeed)
         → Carried A line acts custom indent s feed.coming r m i1 r1 feed1 → feed2.bound < feed1.bound
-        → Whole (turning custom indent i1 r1 feed1.coming) m m2 r2 i2 feed2.coming (Ok Proceed) ⊎ Cut (turn_doing custom indent i1 r1 feed1.coming) m m2 feed1.coming feed2.coming r1 r2 (Ok Proceed)
+        → ((n : ℕ) → feed1.bound < n → Whole (turning n custom indent i1 r1 feed1.coming) m m2 r2 i2 feed2.coming (Ok Proceed) ⊎ Cut (turn_doing n custom indent i1 r1 feed1.coming) m m2 feed1.coming feed2.coming r1 r2 (Ok Proceed))
         → Carried A line acts custom indent s feed.coming r m2 i2 r2 feed2
-    next_by line acts m2 i2 r2 feed2 at falls (inr cut) = proceeds cut.fault cut.result_is
-    next_by line acts m2 i2 r2 feed2 at falls (inl whole) =
+    next_by line acts m2 i2 r2 feed2 at falls took =
         let f = fuel_for at.fuel feed1.bound feed2.bound at.enough falls in
-        record {
-          fuel = f.less;
-          enough = f.enough;
-          stands = info_after (turning custom indent i1 r1 feed1.coming (setting_of m) (value_of m)).made.redraws at.stands;
-          onward = λ t ring rest result read. at.onward t ring rest result
-              (subst (λ n. Reading (turns_left custom indent i1 r1 feed1.coming n at.stands) (turns_doing custom indent i1 r1 feed1.coming n) m t feed1.coming rest r1 ring result) (sym f.is)
-              (turn_on custom indent i1 r1 feed1.coming f.less at.stands m m2 t i2 r2 ring feed2.coming rest result whole read));
-        }
+        let enough : feed1.bound < suc f.less = subst (λ n. feed1.bound < n) f.is at.enough in
+        elim (took (suc f.less) enough) [
+          | inr cut ↦ proceeds cut.fault cut.result_is
+          | inl whole ↦ record {
+            fuel = f.less;
+            enough = f.enough;
+            stands = info_after (turning (suc f.less) custom indent i1 r1 feed1.coming (setting_of m) (value_of m)).made.redraws at.stands;
+            onward = λ t ring rest result read. at.onward t ring rest result
+                (subst (λ n. Reading (turns_left custom indent i1 r1 feed1.coming n at.stands) (turns_doing custom indent i1 r1 feed1.coming n) m t feed1.coming rest r1 ring result) (sym f.is)
+                (turn_on custom indent i1 r1 feed1.coming f.less at.stands m m2 t i2 r2 ring feed2.coming rest result whole read));
+          }
+        ]
 
     pub carries_next : (kept : Custom) → kept ≡ custom → (m2 : State Out H Hi K T renderer completer candidate hinter hint highlighter validator history) (i2 : Input) (r2 : Ring) (feed2 : KeyFeed)
         → Takes kept indent m i1 r1 feed1 m2 i2 r2 feed2 (Ok Proceed) → Carries A custom indent s i r feed m2 i2 r2 feed2
@@ -133,18 +136,16 @@ module _ {Out H Hi K T : Type 0} {renderer : renderers.Renderer.Ghosts Out} {com
     -- a turn that ends the line
     ended_by : (line : Telling) (acts : Doing) (t : State Out H Hi K T renderer completer candidate hinter hint highlighter validator history) (i2 : Input) (r2 : Ring) (feed2 : KeyFeed) (e : ReadlineError)
         → Carried A line acts custom indent s feed.coming r m i1 r1 feed1
-        → Whole (turning custom indent i1 r1 feed1.coming) m t r2 i2 feed2.coming (Err e) ⊎ Cut {A = Status} (turn_doing custom indent i1 r1 feed1.coming) m t feed1.coming feed2.coming r1 r2 (Err e)
+        → ((n : ℕ) → feed1.bound < n → Whole (turning n custom indent i1 r1 feed1.coming) m t r2 i2 feed2.coming (Err e) ⊎ Cut {A = Status} (turn_doing n custom indent i1 r1 feed1.coming) m t feed1.coming feed2.coming r1 r2 (Err e))
         → Reading {A = A} line acts s t feed.coming feed2.coming r r2 (Err e)
-    ended_by line acts t i2 r2 feed2 e at (inl whole) =
+    ended_by line acts t i2 r2 feed2 e at took =
         let f = some_fuel at.fuel feed1.bound at.enough in
         at.onward t r2 feed2.coming (Err e)
         (subst (λ n. Reading {A = A} (turns_left custom indent i1 r1 feed1.coming n at.stands) (turns_doing custom indent i1 r1 feed1.coming n) m t feed1.coming feed2.coming r1 r2 (Err e)) (sym f.is)
-        (inl (turn_ends custom indent i1 r1 feed1.coming f.less at.stands m t i2 r2 feed2.coming e (Err e) refl whole)))
-    ended_by line acts t i2 r2 feed2 e at (inr cut) =
-        let f = some_fuel at.fuel feed1.bound at.enough in
-        at.onward t r2 feed2.coming (Err e)
-        (subst (λ n. Reading {A = A} (turns_left custom indent i1 r1 feed1.coming n at.stands) (turns_doing custom indent i1 r1 feed1.coming n) m t feed1.coming feed2.coming r1 r2 (Err e)) (sym f.is)
-        (inr (turn_cut custom indent i1 r1 feed1.coming f.less at.stands m {A = A} {B = Status} t feed2.coming r2 (Err e) (Err e) cut (same_fault Status A e cut.fault cut.result_is))))
+        (elim (took (suc f.less) (subst (λ n. feed1.bound < n) f.is at.enough)) [
+          | inl whole ↦ inl (turn_ends custom indent i1 r1 feed1.coming f.less at.stands m t i2 r2 feed2.coming e (Err e) refl whole)
+          | inr cut ↦ inr (turn_cut custom indent i1 r1 feed1.coming f.less at.stands m {A = A} {B = Status} t feed2.coming r2 (Err e) (Err e) cut (same_fault Status A e cut.fault cut.result_is))
+        ]))
 
     pub carries_ended : (kept : Custom) → kept ≡ custom → (t : State Out H Hi K T renderer completer candidate hinter hint highlighter validator history) (i2 : Input) (r2 : Ring) (feed2 : KeyFeed) (e : ReadlineError) (result : Result A ReadlineError)
         → IsErrAnd result (λ x. x ≡ e) → Takes kept indent m i1 r1 feed1 t i2 r2 feed2 (Err e) → ReadsLine custom (turns_left custom indent i r) (turns_doing custom indent i r) s r feed t r2 feed2 result
@@ -157,21 +158,24 @@ module _ {Out H Hi K T : Type 0} {renderer : renderers.Renderer.Ghosts Out} {com
     })
 
     -- a turn that accepts the line, and the line's close
+    closing : (n : ℕ) (stands : Option (List ℕ)) (m2 t : State Out H Hi K T renderer completer candidate hinter hint highlighter validator history) (i2 : Input) (r2 : Ring) (feed2 : KeyFeed) (result : Result A ReadlineError)
+        → Whole (turning (suc n) custom indent i1 r1 feed1.coming) m m2 r2 i2 feed2.coming (Ok Submit) → IfErr result (λ e. e ≡ Display) → Does submitted m2 t result
+        → Reading (turns_left custom indent i1 r1 feed1.coming (suc n) stands) (turns_doing custom indent i1 r1 feed1.coming (suc n)) m t feed1.coming feed2.coming r1 r2 result
+    closing n stands m2 t i2 r2 feed2 (Ok x) whole why close = inl (turn_accepts custom indent i1 r1 feed1.coming n stands m m2 i2 r2 feed2.coming whole x t close)
+    closing n stands m2 t i2 r2 feed2 (Err e) whole why close = inr (close_cut custom indent i1 r1 feed1.coming n stands m m2 i2 r2 feed2.coming whole {A = A} {B = A} t e (Err e) refl why close)
+
     closed_by : (line : Telling) (acts : Doing) (m2 t : State Out H Hi K T renderer completer candidate hinter hint highlighter validator history) (i2 : Input) (r2 : Ring) (feed2 : KeyFeed) (result : Result A ReadlineError)
         → Carried A line acts custom indent s feed.coming r m i1 r1 feed1
-        → Whole (turning custom indent i1 r1 feed1.coming) m m2 r2 i2 feed2.coming (Ok Submit) ⊎ Cut (turn_doing custom indent i1 r1 feed1.coming) m m2 feed1.coming feed2.coming r1 r2 (Ok Submit)
+        → ((n : ℕ) → feed1.bound < n → Whole (turning n custom indent i1 r1 feed1.coming) m m2 r2 i2 feed2.coming (Ok Submit) ⊎ Cut (turn_doing n custom indent i1 r1 feed1.coming) m m2 feed1.coming feed2.coming r1 r2 (Ok Submit))
         → IfErr result (λ e. e ≡ Display) → Does submitted m2 t result → Reading line acts s t feed.coming feed2.coming r r2 result
-    closed_by line acts m2 t i2 r2 feed2 result at (inr cut) why close = submits_not cut.fault cut.result_is
-    closed_by line acts m2 t i2 r2 feed2 (Ok x) at (inl whole) why close =
+    closed_by line acts m2 t i2 r2 feed2 result at took why close =
         let f = some_fuel at.fuel feed1.bound at.enough in
-        at.onward t r2 feed2.coming (Ok x)
-        (subst (λ n. Reading (turns_left custom indent i1 r1 feed1.coming n at.stands) (turns_doing custom indent i1 r1 feed1.coming n) m t feed1.coming feed2.coming r1 r2 (Ok x)) (sym f.is)
-        (inl (turn_accepts custom indent i1 r1 feed1.coming f.less at.stands m m2 i2 r2 feed2.coming whole x t close)))
-    closed_by line acts m2 t i2 r2 feed2 (Err e) at (inl whole) why close =
-        let f = some_fuel at.fuel feed1.bound at.enough in
-        at.onward t r2 feed2.coming (Err e)
-        (subst (λ n. Reading {A = A} (turns_left custom indent i1 r1 feed1.coming n at.stands) (turns_doing custom indent i1 r1 feed1.coming n) m t feed1.coming feed2.coming r1 r2 (Err e)) (sym f.is)
-        (inr (close_cut custom indent i1 r1 feed1.coming f.less at.stands m m2 i2 r2 feed2.coming whole {A = A} {B = A} t e (Err e) refl why close)))
+        at.onward t r2 feed2.coming result
+        (subst (λ n. Reading (turns_left custom indent i1 r1 feed1.coming n at.stands) (turns_doing custom indent i1 r1 feed1.coming n) m t feed1.coming feed2.coming r1 r2 result) (sym f.is)
+        (elim (took (suc f.less) (subst (λ n. feed1.bound < n) f.is at.enough)) [
+          | inr cut ↦ submits_not cut.fault cut.result_is
+          | inl whole ↦ closing f.less at.stands m2 t i2 r2 feed2 result whole why close
+        ]))
 
     pub carries_closed : (kept : Custom) → kept ≡ custom → (m2 t : State Out H Hi K T renderer completer candidate hinter hint highlighter validator history) (i2 : Input) (r2 : Ring) (feed2 : KeyFeed) (result : Result A ReadlineError)
         → Takes kept indent m i1 r1 feed1 m2 i2 r2 feed2 (Ok Submit) → IfErr result (λ e. e ≡ Display) → Does submitted m2 t result → ReadsLine custom (turns_left custom indent i r) (turns_doing custom indent i r) s r feed t r2 feed2 result

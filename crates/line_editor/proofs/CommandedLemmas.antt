@@ -11,9 +11,9 @@ use Rattle.line_help.specs.declared.history as histories
 use Rattle.line_keys.specs.Answers.{Custom}
 use Rattle.line_keys.specs.Coming.{Coming}
 use Rattle.line_keys.specs.Feeds.{KeyFeed}
-use Rattle.line_keys.specs.Follows.{Follows, Because, Goes}
+use Rattle.line_keys.specs.Follows.{Follows, Because, Happens, stage as key_stage}
 use Rattle.line_keys.specs.Modes.{is_emacs}
-use Rattle.line_keys.specs.Phrases.{Input}
+use Rattle.line_keys.specs.Phrases.{Input, steps}
 use Rattle.line_keys.specs.declared.command.Cmd.{Cmd}
 use Rattle.line_keys.specs.declared.command.Cmd.TheVariants.{EndOfFile, AcceptOrInsertLine}
 use Rattle.line_record.specs.Ring.{Ring}
@@ -52,26 +52,26 @@ not_refused : {Z : Type 0} (cmd : Cmd) (e : ReadlineError) → ◌≡◌ {A = Re
 not_refused cmd e is = absurd (true≢false (ap is_ok is))
 
 -- a turn by what its phrase makes
-abbrev turned : Custom → ℕ → Input → Ring → Coming → Setting → Value → Turned
-turned custom indent input r c a v = turned_by a indent r (phrase_enacted a custom input v c).answer (phrase_enacted a custom input v c)
+abbrev turned : ℕ → Custom → ℕ → Input → Ring → Coming → Setting → Value → Turned
+turned n custom indent input r c a v = turned_by a indent r (phrase_enacted n a custom input v c).answer (phrase_enacted n a custom input v c)
 
-turning_is : (custom : Custom) (indent : ℕ) (input : Input) (r : Ring) (c : Coming) (a : Setting) (v : Value) → turned custom indent input r c a v ≡ turning custom indent input r c a v
+turning_is : (n : ℕ) (custom : Custom) (indent : ℕ) (input : Input) (r : Ring) (c : Coming) (a : Setting) (v : Value) → turned n custom indent input r c a v ≡ turning n custom indent input r c a v
 unfolding turn_of
-turning_is custom indent input r c a v = refl
+turning_is n custom indent input r c a v = refl
 
-acts_same : (custom : Custom) (indent : ℕ) (i : Input) (r : Ring) (c : Coming) (a : Setting) (v : Value)
-    → script_acts a (line_phrase custom i (shown_in v) c) v ++ command_acts a indent r (phrase_enacted a custom i v c) (phrase_enacted a custom i v c).answer ≡ turn_doing custom indent i r c a v
+acts_same : (n : ℕ) (custom : Custom) (indent : ℕ) (i : Input) (r : Ring) (c : Coming) (a : Setting) (v : Value)
+    → script_acts a (steps (line_phrase custom i (shown_in v)) n) v c ++ command_acts a indent r (phrase_enacted n a custom i v c) (phrase_enacted n a custom i v c).answer ≡ turn_doing n custom indent i r c a v
 unfolding turn_acts
-acts_same custom indent i r c a v = refl
+acts_same n custom indent i r c a v = refl
 
-abbrev phrased : Custom → ℕ → Input → Ring → Coming → Setting → Value → Enacted Cmd
-phrased custom indent i r c a v = phrase_enacted a custom i v c
+abbrev phrased : ℕ → Custom → ℕ → Input → Ring → Coming → Setting → Value → Enacted Cmd
+phrased n custom indent i r c a v = phrase_enacted n a custom i v c
 
-abbrev phrased_made : Custom → ℕ → Input → Ring → Coming → Transition
-phrased_made custom indent i r c a v = (phrased custom indent i r c a v).made
+abbrev phrased_made : ℕ → Custom → ℕ → Input → Ring → Coming → Transition
+phrased_made n custom indent i r c a v = (phrased n custom indent i r c a v).made
 
-abbrev made : Custom → ℕ → Input → Ring → Coming → Transition
-made custom indent i r c a v = (turning custom indent i r c a v).made
+abbrev made : ℕ → Custom → ℕ → Input → Ring → Coming → Transition
+made n custom indent i r c a v = (turning n custom indent i r c a v).made
 
 fell : (result : Result Status ReadlineError) (a b : ℕ) → a < b → OnOk result (a < b)
 fell (Ok x) a b h = h
@@ -115,18 +115,18 @@ module _ {Out H Hi K T : Type 0} {renderer : renderers.Renderer.Ghosts Out} {com
 
   -- ---- what is known of the phrase
 
-  module _ (custom : Custom) (indent : ℕ) (i : Input) (r : Ring) (c : Coming) where
-    turn_at : (s : State Out H Hi K T renderer completer candidate hinter hint highlighter validator history) → turned custom indent i r c (setting_of s) (value_of s) ≡ turning custom indent i r c (setting_of s) (value_of s)
-    turn_at s = turning_is custom indent i r c (setting_of s) (value_of s)
+  module _ (n : ℕ) (custom : Custom) (indent : ℕ) (i : Input) (r : Ring) (c : Coming) where
+    turn_at : (s : State Out H Hi K T renderer completer candidate hinter hint highlighter validator history) → turned n custom indent i r c (setting_of s) (value_of s) ≡ turning n custom indent i r c (setting_of s) (value_of s)
+    turn_at s = turning_is n custom indent i r c (setting_of s) (value_of s)
 
     -- the phrase's acts, as it is followed at the state
     abbrev spoken : State Out H Hi K T renderer completer candidate hinter hint highlighter validator history → Doing
-    spoken s a v = script_acts a (line_phrase custom i (shown_in (value_of s)) c) v
+    spoken s a v = script_acts a (steps (line_phrase custom i (shown_in (value_of s))) n) v c
 
     phrase_cut : (s t : State Out H Hi K T renderer completer candidate hinter hint highlighter validator history) (c' : Coming) (e : ReadlineError) (q : Result Status ReadlineError) → q ≡ Err e
-        → Cut {A = Cmd} (spoken s) s t c c' r r (Err e) → Cut (turn_doing custom indent i r c) s t c c' r r q
+        → Cut {A = Cmd} (spoken s) s t c c' r r (Err e) → Cut (turn_doing n custom indent i r c) s t c c' r r q
     phrase_cut s t c' e q is cut =
-        let p : Enacted Cmd = (phrased custom indent i r c) (setting_of s) (value_of s) in
+        let p : Enacted Cmd = (phrased n custom indent i r c) (setting_of s) (value_of s) in
         let front : List Act = spoken s (setting_of s) (value_of s) in
         let back : List Act = command_acts (setting_of s) indent r p p.answer in
         record {
@@ -134,19 +134,19 @@ module _ {Out H Hi K T : Type 0} {renderer : renderers.Renderer.Ghosts Out} {com
           result_is = is ∙ ap (λ x. err_of Status (refusal_or x)) cut.result_is;
           cause = cut.cause;
           stays = cut.stays;
-          done = subst (λ x. CutIn renderer.canvas (renderer.canvas.ruler s.out) cut.fault x s.layout (stage s.out c r) (stage t.out c' r)) (acts_same custom indent i r c (setting_of s) (value_of s))
+          done = subst (λ x. CutIn renderer.canvas (renderer.canvas.ruler s.out) cut.fault x s.layout (stage s.out c r) (stage t.out c' r)) (acts_same n custom indent i r c (setting_of s) (value_of s))
               (cut_before renderer.canvas (renderer.canvas.ruler s.out) cut.fault front back s.layout (stage s.out c r) (stage t.out c' r) cut.done);
         }
 
     -- the phrase's own end
     phrase_ended : (s t : State Out H Hi K T renderer completer candidate hinter hint highlighter validator history) (i' : Input) (c' : Coming) (e : ReadlineError) (q : Result Status ReadlineError) → q ≡ Err e
-        → Enacts (phrased custom indent i r c) s t i' c' (Err e) → Whole (turning custom indent i r c) s t r i' c' q
+        → Enacts (phrased n custom indent i r c) s t i' c' (Err e) → Whole (turning n custom indent i r c) s t r i' c' q
     phrase_ended s t i' c' e q is h =
-        let p : Enacted Cmd = (phrased custom indent i r c) (setting_of s) (value_of s) in
-        let same : turned_by (setting_of s) indent r (Err e) p ≡ turning custom indent i r c (setting_of s) (value_of s) =
+        let p : Enacted Cmd = (phrased n custom indent i r c) (setting_of s) (value_of s) in
+        let same : turned_by (setting_of s) indent r (Err e) p ≡ turning n custom indent i r c (setting_of s) (value_of s) =
         ap (λ x. turned_by (setting_of s) indent r x p) h.answer_is ∙ turn_at s in
         record {
-          does = does_as (phrased_made custom indent i r c) (made custom indent i r c) s t (Ok (tt {0})) (ap (λ x. x.made) same) h.does;
+          does = does_as (phrased_made n custom indent i r c) (made n custom indent i r c) s t (Ok (tt {0})) (ap (λ x. x.made) same) h.does;
           outcome_is = is ∙ ap (λ x. x.outcome) same;
           ring_is = ap (λ x. x.ring) same;
           input_is = h.input_is ∙ ap (λ x. x.input) same;
@@ -155,12 +155,12 @@ module _ {Out H Hi K T : Type 0} {renderer : renderers.Renderer.Ghosts Out} {com
 
     -- the phrase as it is followed at the state
     abbrev followed : State Out H Hi K T renderer completer candidate hinter hint highlighter validator history → Setting → Value → Enacted Cmd
-    followed s a v = enacted a (line_phrase custom i (shown_in (value_of s)) c) i v c
+    followed s a v = enacted a (steps (line_phrase custom i (shown_in (value_of s))) n) i v c
 
     as_phrased : (s t : State Out H Hi K T renderer completer candidate hinter hint highlighter validator history) (i' : Input) (c' : Coming) (q : Result Cmd ReadlineError)
-        → Enacting (followed s) (spoken s) s t i' c c' r q → Enacting (phrased custom indent i r c) (spoken s) s t i' c c' r q
+        → Enacting (followed s) (spoken s) s t i' c c' r q → Enacting (phrased n custom indent i r c) (spoken s) s t i' c c' r q
     as_phrased s t i' c' q (inl h) = inl (record {
-      does = does_as (λ a v. (followed s a v).made) (phrased_made custom indent i r c) s t (Ok (tt {0})) refl h.does;
+      does = does_as (λ a v. (followed s a v).made) (phrased_made n custom indent i r c) s t (Ok (tt {0})) refl h.does;
       answer_is = h.answer_is;
       input_is = h.input_is;
       rest_is = h.rest_is;
@@ -168,32 +168,32 @@ module _ {Out H Hi K T : Type 0} {renderer : renderers.Renderer.Ghosts Out} {com
     as_phrased s t i' c' q (inr cut) = inr cut
 
     module _ (s m t : State Out H Hi K T renderer completer candidate hinter hint highlighter validator history) (i1 : Input) (c1 : Coming) (cmd : Cmd) (q ring' : Ring) (result : Result Status ReadlineError)
-        (h : Enacts (phrased custom indent i r c) s m i1 c1 (Ok cmd)) (reset : q ≡ reset_by cmd r) where
+        (h : Enacts (phrased n custom indent i r c) s m i1 c1 (Ok cmd)) (reset : q ≡ reset_by cmd r) where
       abbrev before : Enacted Cmd
-      before = (phrased custom indent i r c) (setting_of s) (value_of s)
+      before = (phrased n custom indent i r c) (setting_of s) (value_of s)
 
-      commanded_same : turned_by (setting_of s) indent r (Ok cmd) before ≡ turning custom indent i r c (setting_of s) (value_of s)
+      commanded_same : turned_by (setting_of s) indent r (Ok cmd) before ≡ turning n custom indent i r c (setting_of s) (value_of s)
       commanded_same = ap (λ x. turned_by (setting_of s) indent r x before) h.answer_is ∙ turn_at s
 
       means_same : means_of i1 indent q ≡ means_of before.input indent (reset_by cmd r)
       means_same = ap (λ x. means_of x indent q) h.input_is ∙ ap (means_of before.input indent) reset
 
-      made_same : then_do (phrased_made custom indent i r c) (effect (means_of i1 indent q) cmd) (setting_of s) (value_of s) ≡ (made custom indent i r c) (setting_of s) (value_of s)
-      made_same = ap (λ x. then_do (phrased_made custom indent i r c) (effect x cmd) (setting_of s) (value_of s)) means_same ∙ ap (λ x. x.made) commanded_same
+      made_same : then_do (phrased_made n custom indent i r c) (effect (means_of i1 indent q) cmd) (setting_of s) (value_of s) ≡ (made n custom indent i r c) (setting_of s) (value_of s)
+      made_same = ap (λ x. then_do (phrased_made n custom indent i r c) (effect x cmd) (setting_of s) (value_of s)) means_same ∙ ap (λ x. x.made) commanded_same
 
-      outcome_same : outcome (means_of i1 indent q) cmd (setting_of m) (value_of m) ≡ (turning custom indent i r c (setting_of s) (value_of s)).outcome
+      outcome_same : outcome (means_of i1 indent q) cmd (setting_of m) (value_of m) ≡ (turning n custom indent i r c (setting_of s) (value_of s)).outcome
       outcome_same = ap (λ x. outcome x cmd (setting_of m) (value_of m)) means_same
           ∙ ap (λ a. outcome (means_of before.input indent (reset_by cmd r)) cmd a (value_of m)) (setting_stays s m h.does.stays)
           ∙ ap (outcome (means_of before.input indent (reset_by cmd r)) cmd (setting_of s)) h.does.value
           ∙ ap (λ x. x.outcome) commanded_same
 
-      ring_same : ring_after_command cmd (value_of m) q ≡ (turning custom indent i r c (setting_of s) (value_of s)).ring
+      ring_same : ring_after_command cmd (value_of m) q ≡ (turning n custom indent i r c (setting_of s) (value_of s)).ring
       ring_same = ap (ring_after_command cmd (value_of m)) reset ∙ ap (λ v. ring_after_command cmd v (reset_by cmd r)) h.does.value ∙ ap (λ x. x.ring) commanded_same
 
-      command_whole : Done (means_of i1 indent q) cmd m t ring' result → Whole (turning custom indent i r c) s t ring' i1 c1 result
+      command_whole : Done (means_of i1 indent q) cmd m t ring' result → Whole (turning n custom indent i r c) s t ring' i1 c1 result
       command_whole k = record {
-        does = does_as (then_do (phrased_made custom indent i r c) (effect (means_of i1 indent q) cmd)) (made custom indent i r c) s t (Ok (tt {0})) made_same
-            (does_both (phrased_made custom indent i r c) (effect (means_of i1 indent q) cmd) s m t (tt {0}) (Ok (tt {0})) h.does k.does tt);
+        does = does_as (then_do (phrased_made n custom indent i r c) (effect (means_of i1 indent q) cmd)) (made n custom indent i r c) s t (Ok (tt {0})) made_same
+            (does_both (phrased_made n custom indent i r c) (effect (means_of i1 indent q) cmd) s m t (tt {0}) (Ok (tt {0})) h.does k.does tt);
         outcome_is = k.outcome_is ∙ outcome_same;
         ring_is = k.ring_is ∙ ring_same;
         input_is = h.input_is ∙ ap (λ x. x.input) commanded_same;
@@ -208,62 +208,63 @@ module _ {Out H Hi K T : Type 0} {renderer : renderers.Renderer.Ghosts Out} {com
       front = spoken s (setting_of s) (value_of s)
 
       front_rest : rest_of c front ≡ c1
-      front_rest = script_rest (setting_of s) (line_phrase custom i (shown_in (value_of s)) c) i (value_of s) c ∙ sym h.rest_is
+      front_rest = script_rest (setting_of s) (steps (line_phrase custom i (shown_in (value_of s))) n) i (value_of s) c ∙ sym h.rest_is
 
       front_ring : ring_of r front ≡ r
-      front_ring = script_ring (setting_of s) (line_phrase custom i (shown_in (value_of s)) c) (value_of s) r
+      front_ring = script_ring (setting_of s) (steps (line_phrase custom i (shown_in (value_of s))) n) (value_of s) c r
 
-      obeyed_same : front ++ obeyed (setting_of s) before.made.value ≡ turn_doing custom indent i r c (setting_of s) (value_of s)
+      obeyed_same : front ++ obeyed (setting_of s) before.made.value ≡ turn_doing n custom indent i r c (setting_of s) (value_of s)
       obeyed_same =
           let v : Value = before.made.value in
           let act : Input → Ring → List Act = λ x k. Obeys (ring_without_text cmd v k) (ring_after_command cmd v k) (effect (means_of x indent k) cmd (setting_of s) v).redraws ∷ [] in
           ap (λ k. front ++ act i1 k) reset ∙ ap (λ x. front ++ act x (reset_by cmd r)) h.input_is
           ∙ ap (λ x. front ++ command_acts (setting_of s) indent r before x) h.answer_is
-          ∙ acts_same custom indent i r c (setting_of s) (value_of s)
+          ∙ acts_same n custom indent i r c (setting_of s) (value_of s)
 
       command_cut : (e : ReadlineError) → result ≡ Err e → Does {A = Unit {0}} (effect (means_of i1 indent q) cmd) m t (Err e) → LeavesRing cmd (value_of m) q ring' e
-          → Cut (turn_doing custom indent i r c) s t c c1 r ring' result
+          → Cut (turn_doing n custom indent i r c) s t c c1 r ring' result
       command_cut e is k left = record {
         fault = e;
         result_is = is;
         cause = k.reason;
         stays = stays_both s m t h.does.stays k.stays;
         done = subst (λ x. CutIn renderer.canvas (renderer.canvas.ruler s.out) e x s.layout (stage s.out c r) (stage t.out c1 ring')) obeyed_same
-            (cut_onward front obeyed (phrased_made custom indent i r c) s m (tt {0}) e c r (stage t.out c1 ring') h.does
-            (script_redraws (setting_of s) (line_phrase custom i (shown_in (value_of s)) c) i (value_of s) c)
+            (cut_onward front obeyed (phrased_made n custom indent i r c) s m (tt {0}) e c r (stage t.out c1 ring') h.does
+            (script_redraws (setting_of s) (steps (line_phrase custom i (shown_in (value_of s))) n) i (value_of s) c)
             (cut_obeying renderer.canvas (renderer.canvas.ruler m.out) e (ring_without_text cmd (value_of m) q) (ring_after_command cmd (value_of m) q) (effect (means_of i1 indent q) cmd (setting_of m) (value_of m)).redraws [] m.layout
             (stage m.out (rest_of c front) (ring_of r front)) (stage t.out c1 ring') k.begun (sym front_rest) left));
       }
 
       command_done : Executes (means_of i1 indent q) cmd m t ring' result
-          → Whole (turning custom indent i r c) s t ring' i1 c1 result ⊎ Cut (turn_doing custom indent i r c) s t c c1 r ring' result
+          → Whole (turning n custom indent i r c) s t ring' i1 c1 result ⊎ Cut (turn_doing n custom indent i r c) s t c c1 r ring' result
       command_done (inl k) = inl (command_whole k)
       command_done (inr (e, is, k, left)) = inr (command_cut e is k left)
 
     -- a phrase that gives no command, and one that gives one
-    stopped : (s t : State Out H Hi K T renderer completer candidate hinter hint highlighter validator history) (i' : Input) (c' : Coming) (e : ReadlineError) → Enacting (phrased custom indent i r c) (spoken s) s t i' c c' r (Err e)
-        → Whole (turning custom indent i r c) s t r i' c' (err_of Status e) ⊎ Cut (turn_doing custom indent i r c) s t c c' r r (err_of Status e)
+    stopped : (s t : State Out H Hi K T renderer completer candidate hinter hint highlighter validator history) (i' : Input) (c' : Coming) (e : ReadlineError) → Enacting (phrased n custom indent i r c) (spoken s) s t i' c c' r (Err e)
+        → Whole (turning n custom indent i r c) s t r i' c' (err_of Status e) ⊎ Cut (turn_doing n custom indent i r c) s t c c' r r (err_of Status e)
     stopped s t i' c' e (inl h) = inl (phrase_ended s t i' c' e (Err e) refl h)
     stopped s t i' c' e (inr cut) = inr (phrase_cut s t c' e (Err e) refl cut)
 
     commanded : (s m t : State Out H Hi K T renderer completer candidate hinter hint highlighter validator history) (i1 : Input) (c1 : Coming) (cmd : Cmd) (q ring' : Ring) (result : Result Status ReadlineError)
-        → Enacting (phrased custom indent i r c) (spoken s) s m i1 c c1 r (Ok cmd) → q ≡ reset_by cmd r → Executes (means_of i1 indent q) cmd m t ring' result
-        → Whole (turning custom indent i r c) s t ring' i1 c1 result ⊎ Cut (turn_doing custom indent i r c) s t c c1 r ring' result
+        → Enacting (phrased n custom indent i r c) (spoken s) s m i1 c c1 r (Ok cmd) → q ≡ reset_by cmd r → Executes (means_of i1 indent q) cmd m t ring' result
+        → Whole (turning n custom indent i r c) s t ring' i1 c1 result ⊎ Cut (turn_doing n custom indent i r c) s t c c1 r ring' result
     commanded s m t i1 c1 cmd q ring' result (inl h) reset k = command_done s m t i1 c1 cmd q ring' result h reset k
     commanded s m t i1 c1 cmd q ring' result (inr cut) reset k = not_refused cmd cut.fault cut.result_is
 
-    phrase_made : (s t : State Out H Hi K T renderer completer candidate hinter hint highlighter validator history) (i' : Input) (c' : Coming) (q : Result Cmd ReadlineError)
-        → Goes display_of (line_phrase custom i (shown_in (value_of s)) c) s i c q t i' c' → Enacting (phrased custom indent i r c) (spoken s) s t i' c c' r q
-    phrase_made s t i' c' q goes = as_phrased s t i' c' q (goes_enacts (line_phrase custom i (shown_in (value_of s)) c) s t i i' c c' r q goes)
+    phrase_made : (b : ℕ) → b < n → (s t : State Out H Hi K T renderer completer candidate hinter hint highlighter validator history) (i' : Input) (c' : Coming) (q : Result Cmd ReadlineError)
+        → Happens display_of b (line_phrase custom i (shown_in (value_of s))) (key_stage s i c) q (key_stage t i' c') → Enacting (phrased n custom indent i r c) (spoken s) s t i' c c' r q
+    unfolding Happens
+    phrase_made b enough s t i' c' q goes = as_phrased s t i' c' q (goes_enacts (steps (line_phrase custom i (shown_in (value_of s))) n) (key_stage s i c) (key_stage t i' c') r q (goes n enough))
 
   -- ---- turns
 
   -- no command came
   pub turn_refused : (custom : Custom) (indent : ℕ) (s t : State Out H Hi K T renderer completer candidate hinter hint highlighter validator history) (i i' : Input) (r : Ring) (f f' : KeyFeed) (e : ReadlineError) (q : Result Status ReadlineError)
-      → IsErrAnd q (λ x. x ≡ e) → Follows display_of custom (line_phrase custom i (shown_in (value_of s)) f.coming) s i t i' f f' (Err e) → Takes custom indent s i r f t i' r f' q
+      → IsErrAnd q (λ x. x ≡ e) → Follows display_of custom (line_phrase custom i (shown_in (value_of s))) s i t i' f f' (Err e) → Takes custom indent s i r f t i' r f' q
   turn_refused custom indent s t i i' r f f' e q is h =
       subst (λ x. Takes custom indent s i r f t i' r f' x) (sym (is_err e q is)) (record {
-        goes = λ told. stopped custom indent i r f.coming s t i' f'.coming e (phrase_made custom indent i r f.coming s t i' f'.coming (Err e) (h.goes told));
+        goes = λ told n enough. stopped n custom indent i r f.coming s t i' f'.coming e (phrase_made n custom indent i r f.coming f.bound enough s t i' f'.coming (Err e) (h.goes told));
         told = h.told;
         keeps = h.keeps;
         falls = tt;
@@ -280,10 +281,10 @@ module _ {Out H Hi K T : Type 0} {renderer : renderers.Renderer.Ghosts Out} {com
 
   -- a command came
   pub turn_commanded : (custom : Custom) (indent : ℕ) (s m t : State Out H Hi K T renderer completer candidate hinter hint highlighter validator history) (i i1 : Input) (r q ring' : Ring) (f f1 : KeyFeed) (cmd : Cmd) (result : Result Status ReadlineError)
-      → Follows display_of custom (line_phrase custom i (shown_in (value_of s)) f.coming) s i m i1 f f1 (Ok cmd) → f1.bound < f.bound → q ≡ reset_by cmd r
+      → Follows display_of custom (line_phrase custom i (shown_in (value_of s))) s i m i1 f f1 (Ok cmd) → f1.bound < f.bound → q ≡ reset_by cmd r
       → Executes (means_of i1 indent q) cmd m t ring' result → Takes custom indent s i r f t i1 ring' f1 result
   turn_commanded custom indent s m t i i1 r q ring' f f1 cmd result h falls reset k = record {
-    goes = λ told. commanded custom indent i r f.coming s m t i1 f1.coming cmd q ring' result (phrase_made custom indent i r f.coming s m i1 f1.coming (Ok cmd) (h.goes told)) reset k;
+    goes = λ told n enough. commanded n custom indent i r f.coming s m t i1 f1.coming cmd q ring' result (phrase_made n custom indent i r f.coming f.bound enough s m i1 f1.coming (Ok cmd) (h.goes told)) reset k;
     told = h.told;
     keeps = h.keeps;
     falls = fell result f1.bound f.bound falls;

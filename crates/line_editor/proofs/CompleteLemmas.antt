@@ -1,6 +1,6 @@
 -- What is put in place of a word, and what a state makes of completing one.
 use Rattle.std.specs.Prelude.{⊤, Option, Some, None, is_some, option_map, Result, Ok, Err, IsErrAnd, IsFalse, IsTrue, IsUtf8}
-use Rattle.std.proofs.Common.{◌≡◌, ◌⊎◌, inl, inr, ℕ, Bool, true, false, true≢false, List, [], ◌∷◌, map, refl, sym, ap, subst, ◌∙◌}
+use Rattle.std.proofs.Common.{◌≡◌, ◌⊎◌, inl, inr, ℕ, true, true≢false, List, map, refl, sym, ap, subst, ◌∙◌}
 use Rattle.std.proofs.lemmas.Simd.{map-map}
 use Rattle.line_buffer.specs.Line.{Line}
 use Rattle.line_buffer.specs.Replay.{replacement}
@@ -24,7 +24,7 @@ use Rattle.line_editor.specs.Values.{Value, Setting, Hooks, then_do, completion_
 use Rattle.line_editor.specs.declared.renderer as renderers
 use Rattle.line_editor.specs.declared.state.State.{State}
 use Rattle.line_editor.proofs.BegunLemmas.{begun_none, help_made, help_layout, help_refused}
-use Rattle.line_editor.proofs.DoesLemmas.{is_err, on_refusal, does_as, does_both, does_cut_by, setting_stays, stays_same}
+use Rattle.line_editor.proofs.DoesLemmas.{on_refusal, does_as, does_both, does_cut_by, setting_stays, stays_same}
 use Rattle.line_editor.proofs.HelpedLemmas.{completion_reason, update_reason}
 use Rattle.line_editor.proofs.ShowsLemmas.{completed_shows}
 

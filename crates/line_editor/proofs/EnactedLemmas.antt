@@ -9,17 +9,19 @@ use Rattle.line_help.specs.declared.hint as hints
 use Rattle.line_help.specs.declared.highlight as highlights
 use Rattle.line_help.specs.declared.validate as verdicts
 use Rattle.line_help.specs.declared.history as histories
-use Rattle.line_keys.specs.Coming.{Coming, left_by}
-use Rattle.line_keys.specs.Feeds.{InputItem, Key, Paste, IsReadFault}
-use Rattle.line_keys.specs.Follows.{Goes}
-use Rattle.line_keys.specs.Phrases.{Input, Script, Ends, Needs, Asks, Reads, Becomes}
+use Rattle.line_config.specs.Scripts.{Ends, Asks, Goes}
+use Rattle.line_config.proofs.ScriptLaws.{err_in}
+use Rattle.line_keys.specs.Coming.{Coming, behind, left_by}
+use Rattle.line_keys.specs.Feeds.{InputItem, Item, Key, Paste, item_at, IsReadFault}
+use Rattle.line_keys.specs.Follows.{key_world, Stage as KeyStage}
+use Rattle.line_keys.specs.Phrases.{Input, Steps, Needs, Shows, Reads, Becomes, Refuses}
 use Rattle.line_record.specs.Ring.{Ring}
 use Rattle.line_editor.specs.Acts.{Act, Sees, Gets, Stage, stage, SeenInPart, CutIn, script_acts}
 use Rattle.line_editor.specs.Calls.{Ruler, MadeIn}
 use Rattle.line_editor.specs.Asks.{shown_in, ask_effect}
-use Rattle.line_editor.specs.Lines.{Enacted, enacted}
+use Rattle.line_editor.specs.Lines.{Enacted, either_way, stopped, enacted}
 use Rattle.line_editor.specs.Redraws.{asked}
-use Rattle.line_editor.specs.States.{value_of, setting_of, display_of, Stays, Reason, Does}
+use Rattle.line_editor.specs.States.{value_of, setting_of, display_of, Reason, Does}
 use Rattle.line_editor.specs.Turning.{Doing, Cut}
 use Rattle.line_editor.specs.Values.{Value, Setting, Effect, Transition, unchanged, then_do}
 use Rattle.line_editor.specs.declared.renderer as renderers
@@ -33,6 +35,15 @@ wants_memory : (item : InputItem) (e : ReadlineError) → IsReadFault item e →
 wants_memory item Memory is = refl
 wants_memory Key _ is = absurd is
 wants_memory Paste _ is = absurd is
+
+abbrev wrt_in : {S : Type 0} → KeyStage S → S
+wrt_in x = x.wrt
+
+abbrev input_in : {S : Type 0} → KeyStage S → Input
+input_in x = x.input
+
+abbrev coming_in : {S : Type 0} → KeyStage S → Coming
+coming_in x = x.coming
 
 module _ {Out H Hi K T : Type 0} {renderer : renderers.Renderer.Ghosts Out} {completer : completions.Completer.Ghosts H K} {candidate : completions.Candidate.Ghosts K}
     {hinter : hints.Hinter.Ghosts H T} {hint : hints.Hint.Ghosts T} {highlighter : highlights.Highlighter.Ghosts H} {validator : verdicts.Validator.Ghosts H} {history : histories.History.Ghosts Hi} where
@@ -141,13 +152,13 @@ module _ {Out H Hi K T : Type 0} {renderer : renderers.Renderer.Ghosts Out} {com
   Enacting p acts s t input c c' r result = Enacts p s t input c' result ⊎ Cut acts s t c c' r r result
 
   -- after an ask
-  asked_before : {X : Type 0} (ask : _) (later : _ → Script X) (i : Input) (c : Coming) (k : Ring) (s m t : State Out H Hi K T renderer completer candidate hinter hint highlighter validator history)
+  asked_before : {X : Type 0} (ask : _) (later : _ → Steps X) (i : Input) (c : Coming) (k : Ring) (s m t : State Out H Hi K T renderer completer candidate hinter hint highlighter validator history)
       (i' : Input) (c' : Coming) (r : Result X ReadlineError) → Does {A = Unit {0}} (ask_effect ask) s m (Ok (tt {0}))
-      → Enacting (λ a v. enacted a (later (shown_in (value_of m))) i v c) (λ a v. script_acts a (later (shown_in (value_of m))) v) m t i' c c' k r
-      → Enacting (λ a v. enacted a (Asks ask later) i v c) (λ a v. script_acts a (Asks ask later) v) s t i' c c' k r
+      → Enacting (λ a v. enacted a (later (shown_in (value_of m))) i v c) (λ a v. script_acts a (later (shown_in (value_of m))) v c) m t i' c c' k r
+      → Enacting (λ a v. enacted a (Asks (Shows ask) later) i v c) (λ a v. script_acts a (Asks (Shows ask) later) v c) s t i' c c' k r
   asked_before {X} ask later i c k s m t i' c' r made (inl e) =
       let next : Setting → Value → Enacted X = λ a v. enacted a (later (shown_in v)) i v c in
-      let whole : Transition = λ a v. (enacted a (Asks ask later) i v c).made in
+      let whole : Transition = λ a v. (enacted a (Asks (Shows ask) later) i v c).made in
       let second : Does {A = Unit {0}} (λ a v. (next a v).made) m t (Ok (tt {0})) = does_as (λ a v. (enacted a (later (shown_in (value_of m))) i v c).made) (λ a v. (next a v).made) m t (Ok (tt {0})) refl e.does in
       let same : next (setting_of m) (value_of m) ≡ next (setting_of s) (ask_effect ask (setting_of s) (value_of s)).value =
       ap (λ a. next a (value_of m)) (setting_stays s m made.stays) ∙ ap (next (setting_of s)) made.value in
@@ -158,47 +169,82 @@ module _ {Out H Hi K T : Type 0} {renderer : renderers.Renderer.Ghosts Out} {com
         rest_is = e.rest_is ∙ ap (λ p. p.rest) same;
       })
   asked_before {X} ask later i c k s m t i' c' r made (inr cut) =
-      let next : Doing = λ a v. script_acts a (later (shown_in v)) v in
+      let next : Doing = λ a v. script_acts a (later (shown_in v)) v c in
       inr (seen_cut {B = X} {C = X} (ask_effect ask) next s m t (tt {0}) c c' k k r r
       (record { fault = cut.fault; result_is = cut.result_is; cause = cut.cause; stays = cut.stays; done = cut.done }) cut.result_is made)
 
   -- after memory was taken
-  needed_before : {X : Type 0} (later : Script X) (i : Input) (c : Coming) (k : Ring) (s t : State Out H Hi K T renderer completer candidate hinter hint highlighter validator history) (i' : Input) (c' : Coming) (r : Result X ReadlineError)
-      → Enacting (λ a v. enacted a later i v c) (λ a v. script_acts a later v) s t i' c c' k r
-      → Enacting (λ a v. enacted a (Needs later) i v c) (λ a v. script_acts a (Needs later) v) s t i' c c' k r
+  needed_before : {X : Type 0} (later : _ → Steps X) (i : Input) (c : Coming) (k : Ring) (s t : State Out H Hi K T renderer completer candidate hinter hint highlighter validator history) (i' : Input) (c' : Coming) (r : Result X ReadlineError)
+      → Enacting (λ a v. enacted a (later tt) i v c) (λ a v. script_acts a (later tt) v c) s t i' c c' k r
+      → Enacting (λ a v. enacted a (Asks Needs later) i v c) (λ a v. script_acts a (Asks Needs later) v c) s t i' c c' k r
   needed_before later i c k s t i' c' r (inl e) = inl (record { does = e.does; answer_is = e.answer_is; input_is = e.input_is; rest_is = e.rest_is })
   needed_before later i c k s t i' c' r (inr cut) = inr (record {
     fault = cut.fault;
     result_is = cut.result_is;
     cause = cut.cause;
     stays = cut.stays;
-    done = cut_seen renderer.canvas (renderer.canvas.ruler s.out) cut.fault [] (script_acts (setting_of s) later (value_of s)) s.layout (stage s.out c k) (stage t.out c' k) s.out refl cut.done;
+    done = cut_seen renderer.canvas (renderer.canvas.ruler s.out) cut.fault [] (script_acts (setting_of s) (later tt) (value_of s) c) s.layout (stage s.out c k) (stage t.out c' k) s.out refl cut.done;
   })
 
-  read_before : {X : Type 0} (item : InputItem) (rest : Coming) (later : Script X) (i : Input) (c : Coming) (k : Ring) (s t : State Out H Hi K T renderer completer candidate hinter hint highlighter validator history) (i' : Input) (c' : Coming) (r : Result X ReadlineError)
-      → Enacting (λ a v. enacted a later i v rest) (λ a v. script_acts a later v) s t i' rest c' k r
-      → Enacting (λ a v. enacted a (Reads item rest later) i v c) (λ a v. script_acts a (Reads item rest later) v) s t i' c c' k r
-  read_before item rest later i c k s t i' c' r (inl e) = inl (record { does = e.does; answer_is = e.answer_is; input_is = e.input_is; rest_is = e.rest_is })
-  read_before item rest later i c k s t i' c' r (inr cut) = inr (cut_after_read rest (λ a v. script_acts a later v) s t c c' k r cut)
+  -- nothing more was made
+  still : {X : Type 0} (s t : State Out H Hi K T renderer completer candidate hinter hint highlighter validator history) (i i' : Input) (c c' : Coming) (answer r : Result X ReadlineError) → t ≡ s → r ≡ answer → i' ≡ i → c' ≡ c → Enacts (λ a v. stopped a answer i v c) s t i' c' r
+  still {X} s t i i' c c' answer r same is kept rest = record {
+    does = subst (λ x. Does {A = Unit {0}} unchanged s x (Ok (tt {0}))) (sym same) (nothing_done s);
+    answer_is = is;
+    input_is = kept;
+    rest_is = rest;
+  }
 
-  pub goes_enacts : {X : Type 0} (script : Script X) (s t : State Out H Hi K T renderer completer candidate hinter hint highlighter validator history)
-      (i i' : Input) (c c' : Coming) (k : Ring) (r : Result X ReadlineError) → Goes display_of script s i c r t i' c'
-      → Enacting (λ a v. enacted a script i v c) (λ a v. script_acts a script v) s t i' c c' k r
-  goes_enacts {X} (Ends answer) s t i i' c c' k r is = inl (record {
-    does = subst (λ x. Does {A = Unit {0}} (λ a v. (enacted a (Ends answer) i v c).made) s x (Ok (tt {0}))) (sym is.1) (nothing_done s);
-    answer_is = is.0;
-    input_is = is.2;
-    rest_is = is.3;
-  })
-  goes_enacts (Needs later) s t i i' c c' k r (inl goes) = needed_before later i c k s t i' c' r (goes_enacts later s t i i' c c' k r goes)
-  goes_enacts (Needs later) s t i i' c c' k r (inr cut) = inr (cut_still (λ a v. script_acts a later v) s t c c' k r cut.0 cut.1 cut.3)
-  goes_enacts (Asks ask later) s t i i' c c' k r (inl (m, made, goes)) =
-      asked_before ask later i c k s m t i' c' r made (goes_enacts (later (shown_in (value_of m))) m t i i' c c' k r goes)
-  goes_enacts {X} (Asks ask later) s t i i' c c' k r (inr (e, is, refused, cut, kept, rest)) =
-      inr (subst (λ x. Cut {A = X} (λ a v. script_acts a (Asks ask later) v) s t c x k k r) (sym rest)
-      (seeing_cut {A = Unit {0}} (ask_effect ask) (λ a v. script_acts a (later (shown_in (ask_effect ask a v).value)) (ask_effect ask a v).value) s t c k e r cut
-      (ask_in_part renderer.canvas (renderer.canvas.ruler s.out) e ask (setting_of s) (value_of s) s.layout s.out t.out refused.begun) refused))
-  goes_enacts (Reads item rest later) s t i i' c c' k r (inl goes) = read_before item rest later i c k s t i' c' r (goes_enacts later s t i i' rest c' k r goes)
-  goes_enacts (Reads item rest later) s t i i' c c' k r (inr (e, fault, cut)) =
-      inr (cut_at_read rest (λ a v. script_acts a later v) s t c c' k e r cut.0 cut.1 cut.3 (wants_memory item e fault))
-  goes_enacts (Becomes kept later) s t i i' c c' k r goes = goes_enacts later s t kept i' c c' k r goes
+  module _ {X : Type 0} (item : InputItem) (later : Item item → Steps X) (i : Input) (c : Coming) (k : Ring) (s t : State Out H Hi K T renderer completer candidate hinter hint highlighter validator history) (i' : Input) (c' : Coming) (r : Result X ReadlineError) where
+    abbrev read_made : Result (Item item) ReadlineError → Setting → Value → Enacted X
+    read_made q a v = either_way (λ x. enacted a (later x) i v (behind c)) (λ e. stopped a (Err e) i v (left_by e)) q
+
+    abbrev read_done : Result (Item item) ReadlineError → Doing
+    read_done q a v = either_way (λ x. Gets (behind c) ∷ script_acts a (later x) v (behind c)) (λ e. Gets (left_by e) ∷ []) q
+
+    abbrev ReadSo : Result (Item item) ReadlineError → Type 0
+    ReadSo q = Enacting (read_made q) (read_done q) s t i' c c' k r
+
+    on_read : (x : Item item) → Enacting (λ a v. enacted a (later x) i v (behind c)) (λ a v. script_acts a (later x) v (behind c)) s t i' (behind c) c' k r → ReadSo (Ok x)
+    on_read x (inl e) = inl (record { does = e.does; answer_is = e.answer_is; input_is = e.input_is; rest_is = e.rest_is })
+    on_read x (inr cut) = inr (cut_after_read (behind c) (λ a v. script_acts a (later x) v (behind c)) s t c c' k r cut)
+
+    -- a read that the input answers, one that it refuses, and one that finds no memory
+    read_before : (x : Item item) → item_at item c ≡ Ok x → Enacting (λ a v. enacted a (later x) i v (behind c)) (λ a v. script_acts a (later x) v (behind c)) s t i' (behind c) c' k r → ReadSo (item_at item c)
+    read_before x is h = subst ReadSo (sym is) (on_read x h)
+
+    read_refused : (e : ReadlineError) → item_at item c ≡ Err e → t ≡ s → r ≡ Err e → i' ≡ i → c' ≡ left_by e → ReadSo (item_at item c)
+    read_refused e is same fails kept rest = subst ReadSo (sym is) (inl (still s t i i' (left_by e) c' (Err e) r same fails kept rest))
+
+    read_cut : (e : ReadlineError) → t ≡ s → r ≡ Err e → c' ≡ left_by e → e ≡ Memory → (q : Result (Item item) ReadlineError) → ReadSo q
+    read_cut e same fails rest why (Ok x) = inr (cut_at_read (behind c) (λ a v. script_acts a (later x) v (behind c)) s t c c' k e r fails same rest why)
+    read_cut e same fails rest why (Err f) = inr (cut_at_read (left_by f) (λ a v. []) s t c c' k e r fails same rest why)
+
+  abbrev EnactingOf : {X : Type 0} → Steps X → KeyStage (State Out H Hi K T renderer completer candidate hinter hint highlighter validator history) → KeyStage (State Out H Hi K T renderer completer candidate hinter hint highlighter validator history) → Ring → Result X ReadlineError → Type 0
+  EnactingOf script x y k r = Enacting (λ a v. enacted a script x.input v x.coming) (λ a v. script_acts a script v x.coming) x.wrt y.wrt y.input x.coming y.coming k r
+
+  pub goes_enacts : {X : Type 0} (script : Steps X) (x y : KeyStage (State Out H Hi K T renderer completer candidate hinter hint highlighter validator history)) (k : Ring) (r : Result X ReadlineError) → Goes (key_world display_of) script x r y → EnactingOf script x y k r
+  goes_enacts (Ends answer) x y k r is = inl (still x.wrt y.wrt x.input y.input x.coming y.coming (Ok answer) r (ap wrt_in is.1) is.0 (ap input_in is.1) (ap coming_in is.1))
+  goes_enacts (Asks Needs later) x y k r (inl (none, u, made, goes)) =
+      needed_before later x.input x.coming k x.wrt y.wrt y.input y.coming r (subst (λ z. EnactingOf (later none) z y k r) made (goes_enacts (later none) u y k r goes))
+  goes_enacts {X} (Asks Needs later) x y k r (inr (e, cut, is)) =
+      inr (cut_still (λ a v. script_acts a (later tt) v x.coming) x.wrt y.wrt x.coming y.coming k r (is ∙ ap (err_in X) cut.0) (ap wrt_in cut.1) (ap coming_in cut.1))
+  goes_enacts (Asks (Shows ask) later) x y k r (inl (seen, u, made, goes)) =
+      let shown = shown_in (value_of u.wrt) in
+      asked_before ask later x.input x.coming k x.wrt u.wrt y.wrt y.input y.coming r made.0
+      (subst (λ z. EnactingOf (later shown) z y k r) made.2 (subst (λ q. EnactingOf (later q) u y k r) made.1 (goes_enacts (later seen) u y k r goes)))
+  goes_enacts {X} (Asks (Shows ask) later) x y k r (inr (e, cut, is)) =
+      inr (subst (λ c. Cut {A = X} (λ a v. script_acts a (Asks (Shows ask) later) v x.coming) x.wrt y.wrt x.coming c k k r) (sym (ap coming_in cut.2))
+      (seeing_cut {A = Unit {0}} (ask_effect ask) (λ a v. script_acts a (later (shown_in (ask_effect ask a v).value)) (ask_effect ask a v).value x.coming) x.wrt y.wrt x.coming k e r is
+      (ask_in_part renderer.canvas (renderer.canvas.ruler x.wrt.out) e ask (setting_of x.wrt) (value_of x.wrt) x.wrt.layout x.wrt.out y.wrt.out cut.1.begun) cut.1))
+  goes_enacts (Asks (Reads item) later) x y k r (inl (read, u, made, goes)) =
+      read_before item later x.input x.coming k x.wrt y.wrt y.input y.coming r read made.0 (subst (λ z. EnactingOf (later read) z y k r) made.1 (goes_enacts (later read) u y k r goes))
+  goes_enacts (Asks (Reads item) later) x y k r (inr (e, (inl refused, same), is)) =
+      read_refused item later x.input x.coming k x.wrt y.wrt y.input y.coming r e refused (ap wrt_in same) is (ap input_in same) (ap coming_in same)
+  goes_enacts (Asks (Reads item) later) x y k r (inr (e, (inr fault, same), is)) =
+      read_cut item later x.input x.coming k x.wrt y.wrt y.input y.coming r e (ap wrt_in same) is (ap coming_in same) (wants_memory item e fault) (item_at item x.coming)
+  goes_enacts (Asks (Becomes kept) later) x y k r (inl (none, u, made, goes)) = subst (λ z. EnactingOf (later none) z y k r) made (goes_enacts (later none) u y k r goes)
+  goes_enacts (Asks (Becomes kept) later) x y k r (inr (e, cut, is)) = elim cut [ ]
+  goes_enacts (Asks (Refuses why) later) x y k r (inl (none, u, made, goes)) = elim made [ ]
+  goes_enacts {X} (Asks (Refuses why) later) x y k r (inr (e, cut, is)) =
+      inl (still x.wrt y.wrt x.input y.input x.coming y.coming (Err why) r (ap wrt_in cut.1) (is ∙ ap (err_in X) cut.0) (ap input_in cut.1) (ap coming_in cut.1))

@@ -1,5 +1,5 @@
 -- What a state makes of asking its helper.
-use Rattle.std.proofs.Common.{◌≡◌, ◌⊎◌, inl, inr, ℕ, Bool, true, false, true≢false, List, [], ◌∷◌, refl, sym, ap, subst, ◌∙◌, if◌then◌else◌}
+use Rattle.std.proofs.Common.{◌≡◌, inl, inr, ℕ, Bool, true, false, true≢false, List, [], ◌∷◌, refl, sym, ap, subst, ◌∙◌, if◌then◌else◌}
 use Rattle.std.specs.Prelude.{Option, Some, None, is_some, option_map, Result, Ok, Err, IsErrAnd, IsTrue, IsFalse, OnErr}
 use Rattle.std.specs.List.{FoldsTo}
 use Rattle.line_buffer.specs.Line.{Line}
@@ -14,12 +14,12 @@ use Rattle.line_help.specs.declared.validate as verdicts
 use Rattle.line_help.specs.declared.validate.ValidationResult.{ValidationResult}
 use Rattle.line_help.specs.declared.history as histories
 use Rattle.line_keys.specs.declared.command.CmdKind.TheVariants.{Other}
-use Rattle.line_editor.specs.Accepting.{verdict, verdict_by, verdict_given, opened_and_asked, closed_and_told, validate_by, validate}
+use Rattle.line_editor.specs.Accepting.{verdict, verdict_by, opened_and_asked, closed_and_told, validate_by, validate}
 use Rattle.line_editor.specs.Calls.{MadeIn}
-use Rattle.line_editor.specs.Drawing.{drawn, drawn_behind, repainted, hint_asked, asked_anew, refreshed, refreshed_behind}
+use Rattle.line_editor.specs.Drawing.{drawn, drawn_behind, repainted, hint_asked, asked_anew, refreshed}
 use Rattle.line_editor.specs.Inserting.{is_bare, may_be_typed, put_shown, inserted_shown}
 use Rattle.line_editor.specs.Killing.{may_be_taken, taken_shown, killed_shown}
-use Rattle.line_editor.specs.Redraws.{Redraw, asked}
+use Rattle.line_editor.specs.Redraws.{asked}
 use Rattle.line_editor.specs.Redraws.Redraw.{Typed, Taken}
 use Rattle.line_editor.specs.States.{hooks_of, value_of, setting_of, fails_by, IsHelpFault, reason_of, Stays, Does, Shows}
 use Rattle.line_editor.specs.Values.{Value, Setting, Hooks, Effect, redrawn, then_do, hint_reply, verdict_reply, helped, IsFailing, with_hint, with_mark, rewritten}

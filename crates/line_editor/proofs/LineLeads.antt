@@ -2,15 +2,17 @@
 use Rattle.std.proofs.Common.{◌≡◌, ℕ, zero, suc, Bool, true, false, List, [], ◌∷◌, ◌++◌, Option, None, Result, Ok, Err, refl, sym, ap, ◌∙◌, subst, true≢false, if◌then◌else◌}
 use Rattle.line_config.specs.declared.errors.ReadlineError.{ReadlineError}
 use Rattle.line_keys.specs.Answers.{Custom}
-use Rattle.line_keys.specs.Coming.{Coming}
+use Rattle.line_config.specs.Scripts.{Ends, Asks}
+use Rattle.line_keys.specs.Coming.{Coming, behind}
+use Rattle.line_keys.specs.Feeds.{item_at}
 use Rattle.line_keys.specs.Phrase.{phrase}
-use Rattle.line_keys.specs.Phrases.{Input, Script, Ends, Needs, Asks, Reads, Becomes, after}
-use Rattle.line_keys.specs.Refreshing.{Shown, Ask}
+use Rattle.line_keys.specs.Phrases.{Input, Steps, steps, answered, asking, Needs, Shows, Reads, Becomes, Refuses, and_then}
+use Rattle.line_keys.specs.Refreshing.{Ask}
 use Rattle.line_keys.specs.Refreshing.Ask.{Line, Message, Prompted, DoingInsert, DoneInserting}
 use Rattle.line_keys.specs.Settled.{own_by, Settles}
 use Rattle.line_keys.specs.declared.command.Cmd.{Cmd}
 use Rattle.line_keys.specs.declared.command.Cmd.TheVariants.{Interrupt}
-use Rattle.line_keys.proofs.Settling.{phrase_settles}
+use Rattle.line_keys.proofs.Settling.{phrase_settles, then_settles}
 use Rattle.line_record.specs.Ring.{Ring}
 use Rattle.line_editor.specs.Accepting.{submitted}
 use Rattle.line_editor.specs.Asks.{shown_in, ask_effect}
@@ -24,6 +26,7 @@ use Rattle.line_editor.specs.Redraws.Redraw.{Drawn}
 use Rattle.line_editor.specs.Values.{Value, Setting, Effect, first_value, hint_reply, helped, shown_hint}
 use Rattle.line_editor.specs.declared.commands.Status.{Status}
 use Rattle.line_editor.specs.declared.commands.Status.TheVariants.{Proceed, Submit}
+use Rattle.line_editor.proofs.ActsLemmas.{each_way}
 use Rattle.line_editor.proofs.CommandsLead.{asks_lead, commands_lead, submitting_leads}
 use Rattle.line_editor.proofs.LeadLemmas.{fits_both, sight_both, info_both, turns_both, help_info}
 
@@ -65,47 +68,43 @@ ask_leads (Prompted prompt) s v info own x h = record {
 ask_leads DoingInsert s v info own x h = record { prompt = h.prompt; is = h.is; ours = h.ours }
 ask_leads DoneInserting s v info own x h = record { prompt = h.prompt; is = h.is; ours = h.ours }
 
-script_fits : {X : Type 0} (s : Setting) (script : Script X) (input : Input) (v : Value) (c : Coming) (x : Sight) → FitsAll s.prompt x (enacted s script input v c).made.redraws
+script_fits : {X : Type 0} (s : Setting) (script : Steps X) (input : Input) (v : Value) (c : Coming) (x : Sight) → FitsAll s.prompt x (enacted s script input v c).made.redraws
 script_fits s (Ends answer) input v c x = tt
-script_fits s (Needs later) input v c x = script_fits s later input v c x
-script_fits s (Asks ask later) input v c x =
+script_fits s (Asks Needs later) input v c x = script_fits s (later tt) input v c x
+script_fits s (Asks (Shows ask) later) input v c x =
     let e = ask_effect ask s v in
     fits_both s.prompt x e.redraws _ (ask_fits ask s v x) (script_fits s (later (shown_in e.value)) input e.value c (sight_all x e.redraws))
-script_fits s (Reads item rest later) input v c x = script_fits s later input v rest x
-script_fits s (Becomes kept later) input v c x = script_fits s later kept v c x
+script_fits {X} s (Asks (Reads item) later) input v c x =
+    each_way (λ (p : Enacted X). FitsAll s.prompt x p.made.redraws) _ _ (λ y. script_fits s (later y) input v (behind c) x) (λ e. tt) (item_at item c)
+script_fits s (Asks (Becomes kept) later) input v c x = script_fits s (later tt) kept v c x
+script_fits s (Asks (Refuses why) later) input v c x = tt
 
 settled_sight : (s : Setting) (v : Value) (info : Option (List ℕ)) (x : Sight) → Behind s v info true x → x ≡ sight_of s v info
 settled_sight s v info x h = h.is ∙ ap (λ p. sight_with true p v.line.text v.line.place info) (h.ours refl)
 
-script_leads : {X : Type 0} (s : Setting) (own : Bool) (script : Script X) (input : Input) (v : Value) (c : Coming) (info : Option (List ℕ)) (x : Sight) (answer : X)
+script_leads : {X : Type 0} (s : Setting) (own : Bool) (script : Steps X) (input : Input) (v : Value) (c : Coming) (info : Option (List ℕ)) (x : Sight) (answer : X)
     → Settles own script → Behind s v info own x → (enacted s script input v c).answer ≡ Ok answer
     → (let e = (enacted s script input v c).made in sight_all x e.redraws ≡ sight_of s e.value (info_after e.redraws info))
-script_leads s true (Ends (Ok y)) input v c info x answer settles h is = settled_sight s v info x h
-script_leads s false (Ends (Ok y)) input v c info x answer settles h is = absurd (true≢false (sym settles))
-script_leads s own (Ends (Err e)) input v c info x answer settles h is = cc
-script_leads s own (Needs later) input v c info x answer settles h is = script_leads s own later input v c info x answer settles h is
-script_leads s own (Asks ask later) input v c info x answer settles h is =
+script_leads s true (Ends y) input v c info x answer settles h is = settled_sight s v info x h
+script_leads s false (Ends y) input v c info x answer settles h is = absurd (true≢false (sym settles))
+script_leads s own (Asks Needs later) input v c info x answer settles h is = script_leads s own (later tt) input v c info x answer (settles tt) h is
+script_leads s own (Asks (Shows ask) later) input v c info x answer settles h is =
     let e = ask_effect ask s v in
     let shown = shown_in e.value in
     let rest = (enacted s (later shown) input e.value c).made in
     let done = script_leads s (own_by own ask) (later shown) input e.value c (info_after e.redraws info) (sight_all x e.redraws) answer (settles shown) (ask_leads ask s v info own x h) is in
     sight_both x e.redraws rest.redraws ∙ done ∙ ap (sight_of s rest.value) (sym (info_both e.redraws rest.redraws info))
-script_leads s own (Reads item rest later) input v c info x answer settles h is = script_leads s own later input v rest info x answer settles h is
-script_leads s own (Becomes kept later) input v c info x answer settles h is = script_leads s own later kept v c info x answer settles h is
+script_leads {X} s own (Asks (Reads item) later) input v c info x answer settles h is =
+    each_way (λ (p : Enacted X). p.answer ≡ Ok answer → sight_all x p.made.redraws ≡ sight_of s p.made.value (info_after p.made.redraws info)) _ _
+    (λ y. script_leads s own (later y) input v (behind c) info x answer (settles y) h) (λ e same. cc) (item_at item c) is
+script_leads s own (Asks (Becomes kept) later) input v c info x answer settles h is = script_leads s own (later tt) kept v c info x answer (settles tt) h is
+script_leads s own (Asks (Refuses why) later) input v c info x answer settles h is = cc
 
 -- a change-to begins a group, which draws nothing
-begun_settles : (cmd : Cmd) (b : Bool) → Settles true (if b then Asks DoingInsert (λ seen. Ends (Ok cmd)) else Ends (Ok cmd))
-begun_settles cmd true = λ shown. refl
-begun_settles cmd false = refl
-
-after_settles : (own : Bool) (script : Script Cmd) (input : Input) (w : Shown) (c : Coming) → Settles own script → Settles own (after with_group_begun input w c script)
-after_settles true (Ends (Ok cmd)) input w c h = begun_settles cmd (begins_group cmd)
-after_settles false (Ends (Ok cmd)) input w c h = absurd (true≢false (sym h))
-after_settles own (Ends (Err e)) input w c h = tt
-after_settles own (Needs later) input w c h = after_settles own later input w c h
-after_settles own (Asks ask later) input w c h = λ seen. after_settles (own_by own ask) (later seen) input seen c (h seen)
-after_settles own (Reads item rest later) input w c h = after_settles own later input w rest h
-after_settles own (Becomes kept later) input w c h = after_settles own later kept w c h
+begun_settles : (cmd : Cmd) (b : Bool) (n : ℕ) → Settles true (steps (if b then asking DoingInsert (λ seen. answered cmd) else answered cmd) n)
+unfolding asking answered
+begun_settles cmd true n = λ shown. refl
+begun_settles cmd false n = refl
 
 -- ---- a turn
 
@@ -144,12 +143,12 @@ turned_leads s v info indent r p (Ok cmd) is fits leads =
           (turns_both s.prompt x (sight_of s w stands) (sight_of s e.value (info_after e.redraws stands)) p.made.redraws e.redraws first (proceeds_leads m cmd s w e status made same stands));
     }
 
-turn_leads : (s : Setting) (custom : Custom) (indent : ℕ) (input : Input) (r : Ring) (v : Value) (info : Option (List ℕ)) (c : Coming) → TurnLeads s v info (turn_of s custom indent input r v c)
-unfolding turn_of
-turn_leads s custom indent input r v info c =
-    let p = phrase_enacted s custom input v c in
-    let script = line_phrase custom input (shown_in v) c in
-    let settles : Settles true script = after_settles true (phrase custom input (shown_in v) c) input (shown_in v) c (phrase_settles custom input (shown_in v) c) in
+turn_leads : (n : ℕ) (s : Setting) (custom : Custom) (indent : ℕ) (input : Input) (r : Ring) (v : Value) (info : Option (List ℕ)) (c : Coming) → TurnLeads s v info (turn_of n s custom indent input r v c)
+unfolding turn_of and_then
+turn_leads n s custom indent input r v info c =
+    let p = phrase_enacted n s custom input v c in
+    let script = steps (line_phrase custom input (shown_in v)) n in
+    let settles : Settles true script = then_settles with_group_begun (λ cmd i w. begun_settles cmd (begins_group cmd)) (phrase custom input (shown_in v)) input (shown_in v) (phrase_settles custom input (shown_in v)) n in
     let here : Behind s v info true (sight_of s v info) = record { prompt = s.prompt; is = refl; ours = λ e. refl } in
     turned_leads s v info indent r p p.answer refl (script_fits s script input v c (sight_of s v info)) (λ cmd is. script_leads s true script input v c info (sight_of s v info) cmd settles here is)
 
@@ -178,7 +177,7 @@ line_leads : (n : ℕ) (s : Setting) (custom : Custom) (indent : ℕ) (input : I
 unfolding line_from
 line_leads zero s custom indent input r info v c = (tt, refl)
 line_leads (suc n) s custom indent input r info v c =
-    after_leads (line_from n s custom indent) s v info (turn_of s custom indent input r v c) (line_leads n s custom indent) (turn_leads s custom indent input r v info c) _ refl
+    after_leads (line_from n s custom indent) s v info (turn_of (suc n) s custom indent input r v c) (line_leads n s custom indent) (turn_leads (suc n) s custom indent input r v info c) _ refl
 
 pub lines_lead : LinesLead
 unfolding line_of

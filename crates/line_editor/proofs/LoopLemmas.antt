@@ -33,12 +33,12 @@ use Rattle.line_editor.proofs.ShowsLemmas.{shown_in_part}
 
 -- one turn of a line with fuel
 turned : (n : ℕ) (s : Setting) (custom : Custom) (indent : ℕ) (i : Input) (r : Ring) (info : Option (List ℕ)) (v : Value) (c : Coming)
-    → line_from (suc n) s custom indent i r info v c ≡ after_turn (line_from n s custom indent) s info (turn_of s custom indent i r v c) (turn_of s custom indent i r v c).outcome
+    → line_from (suc n) s custom indent i r info v c ≡ after_turn (line_from n s custom indent) s info (turn_of (suc n) s custom indent i r v c) (turn_of (suc n) s custom indent i r v c).outcome
 unfolding line_from
 turned n s custom indent i r info v c = refl
 
 acts_turned : (n : ℕ) (s : Setting) (custom : Custom) (indent : ℕ) (i : Input) (r : Ring) (v : Value) (c : Coming)
-    → acts_from (suc n) s custom indent i r v c ≡ turn_doing custom indent i r c s v ++ acts_after (acts_from n s custom indent) s (turn_of s custom indent i r v c) (turn_of s custom indent i r v c).outcome
+    → acts_from (suc n) s custom indent i r v c ≡ turn_doing (suc n) custom indent i r c s v ++ acts_after (acts_from n s custom indent) s (turn_of (suc n) s custom indent i r v c) (turn_of (suc n) s custom indent i r v c).outcome
 unfolding acts_from
 acts_turned n s custom indent i r v c = refl
 
@@ -46,8 +46,8 @@ acts_turned n s custom indent i r v c = refl
 abbrev effect_of : Told → Effect
 effect_of t = record { value = t.value; redraws = flat_map redraws_in t.turns }
 
-abbrev pub made : Custom → ℕ → Input → Ring → Coming → Transition
-made custom indent i r c a v = (turning custom indent i r c a v).made
+abbrev pub made : ℕ → Custom → ℕ → Input → Ring → Coming → Transition
+made n custom indent i r c a v = (turning n custom indent i r c a v).made
 
 -- results that aren't one another
 abbrev status_is : Result Status ReadlineError → ℕ
@@ -107,7 +107,7 @@ module _ {Out H Hi K T : Type 0} {renderer : renderers.Renderer.Ghosts Out} {com
 
   module _ (custom : Custom) (indent : ℕ) (i : Input) (r : Ring) (c : Coming) (n : ℕ) (info : Option (List ℕ)) (s : State Out H Hi K T renderer completer candidate hinter hint highlighter validator history) where
     abbrev turn_here : Turned
-    turn_here = turning custom indent i r c (setting_of s) (value_of s)
+    turn_here = turning (suc n) custom indent i r c (setting_of s) (value_of s)
 
     abbrev line_here : Telling
     line_here = turns_left custom indent i r c (suc n) info
@@ -119,7 +119,7 @@ module _ {Out H Hi K T : Type 0} {renderer : renderers.Renderer.Ghosts Out} {com
         ∙ ap (after_turn (line_from n (setting_of s) custom indent) (setting_of s) info turn_here) (sym is)
 
     -- one that leaves the line open
-    turn_read : {A : Type 0} (m t : State Out H Hi K T renderer completer candidate hinter hint highlighter validator history) (i' : Input) (r' r2 : Ring) (c' c2 : Coming) (result : Result A ReadlineError) → Whole (turning custom indent i r c) s m r' i' c' (Ok Proceed)
+    turn_read : {A : Type 0} (m t : State Out H Hi K T renderer completer candidate hinter hint highlighter validator history) (i' : Input) (r' r2 : Ring) (c' c2 : Coming) (result : Result A ReadlineError) → Whole (turning (suc n) custom indent i r c) s m r' i' c' (Ok Proceed)
         → Read (turns_left custom indent i' r' c' n (info_after turn_here.made.redraws info)) m t r2 c2 result → Read line_here s t r2 c2 result
     turn_read m t i' r' r2 c' c2 result whole read =
         let stands : Option (List ℕ) = info_after turn_here.made.redraws info in
@@ -130,20 +130,20 @@ module _ {Out H Hi K T : Type 0} {renderer : renderers.Renderer.Ghosts Out} {com
         ap (λ (y : Input). line_from n a custom indent y turn_here.ring stands v turn_here.rest) (sym whole.input_is)
         ∙ ap (λ (y : Ring). line_from n a custom indent i' y stands v turn_here.rest) (sym whole.ring_is)
         ∙ ap (λ (y : Coming). line_from n a custom indent i' r' stands v y) (sym whole.rest_is) in
-        reads_on (made custom indent i r c) (turns_left custom indent i' r' c' n stands) line_here x s m t c2 r2 result
+        reads_on (made (suc n) custom indent i r c) (turns_left custom indent i' r' c' n stands) line_here x s m t c2 r2 result
         (ends_by (Ok Proceed) whole.outcome_is ∙ ap (opened_by (Open turn_here.made.redraws x)) left) whole.does read
 
     abbrev doing_here : Doing
     doing_here = turns_doing custom indent i r c (suc n)
 
     abbrev front_here : List Act
-    front_here = turn_doing custom indent i r c (setting_of s) (value_of s)
+    front_here = turn_doing (suc n) custom indent i r c (setting_of s) (value_of s)
 
     doing_by : (o : Result Status ReadlineError) → o ≡ turn_here.outcome
         → front_here ++ acts_after (acts_from n (setting_of s) custom indent) (setting_of s) turn_here o ≡ doing_here (setting_of s) (value_of s)
     doing_by o is = ap (λ x. front_here ++ acts_after (acts_from n (setting_of s) custom indent) (setting_of s) turn_here x) is ∙ sym (acts_turned n (setting_of s) custom indent i r (value_of s) c)
 
-    turn_then_cut : {A : Type 0} (m t : State Out H Hi K T renderer completer candidate hinter hint highlighter validator history) (i' : Input) (r' r2 : Ring) (c' c2 : Coming) (result : Result A ReadlineError) → Whole (turning custom indent i r c) s m r' i' c' (Ok Proceed)
+    turn_then_cut : {A : Type 0} (m t : State Out H Hi K T renderer completer candidate hinter hint highlighter validator history) (i' : Input) (r' r2 : Ring) (c' c2 : Coming) (result : Result A ReadlineError) → Whole (turning (suc n) custom indent i r c) s m r' i' c' (Ok Proceed)
         → Cut (turns_doing custom indent i' r' c' n) m t c' c2 r' r2 result → Cut doing_here s t c c2 r r2 result
     turn_then_cut m t i' r' r2 c' c2 result whole cut =
         let v : Value = turn_here.made.value in
@@ -152,23 +152,23 @@ module _ {Out H Hi K T : Type 0} {renderer : renderers.Renderer.Ghosts Out} {com
         ap (λ (y : Input). acts_from n a custom indent y r' v c') whole.input_is
         ∙ ap (λ (y : Ring). acts_from n a custom indent turn_here.input y v c') whole.ring_is
         ∙ ap (λ (y : Coming). acts_from n a custom indent turn_here.input turn_here.ring v y) whole.rest_is in
-        cut_on (made custom indent i r c) front_here (turns_doing custom indent i' r' c' n) doing_here s m t c c' c2 r r' r2 result
-        (turn_redraws a custom indent i r (value_of s) c) (turn_rest a custom indent i r (value_of s) c ∙ sym whole.rest_is) (turn_ring a custom indent i r (value_of s) c ∙ sym whole.ring_is)
+        cut_on (made (suc n) custom indent i r c) front_here (turns_doing custom indent i' r' c' n) doing_here s m t c c' c2 r r' r2 result
+        (turn_redraws (suc n) a custom indent i r (value_of s) c) (turn_rest (suc n) a custom indent i r (value_of s) c ∙ sym whole.rest_is) (turn_ring (suc n) a custom indent i r (value_of s) c ∙ sym whole.ring_is)
         (ap (λ y. front_here ++ y) more ∙ doing_by (Ok Proceed) whole.outcome_is) whole.does cut
 
-    pub turn_on : {A : Type 0} (m t : State Out H Hi K T renderer completer candidate hinter hint highlighter validator history) (i' : Input) (r' r2 : Ring) (c' c2 : Coming) (result : Result A ReadlineError) → Whole (turning custom indent i r c) s m r' i' c' (Ok Proceed)
+    pub turn_on : {A : Type 0} (m t : State Out H Hi K T renderer completer candidate hinter hint highlighter validator history) (i' : Input) (r' r2 : Ring) (c' c2 : Coming) (result : Result A ReadlineError) → Whole (turning (suc n) custom indent i r c) s m r' i' c' (Ok Proceed)
         → Reading (turns_left custom indent i' r' c' n (info_after turn_here.made.redraws info)) (turns_doing custom indent i' r' c' n) m t c' c2 r' r2 result → Reading line_here doing_here s t c c2 r r2 result
     turn_on m t i' r' r2 c' c2 result whole (inl read) = inl (turn_read m t i' r' r2 c' c2 result whole read)
     turn_on m t i' r' r2 c' c2 result whole (inr cut) = inr (turn_then_cut m t i' r' r2 c' c2 result whole cut)
 
     -- one that ends the line
     pub turn_ends : {A : Type 0} (t : State Out H Hi K T renderer completer candidate hinter hint highlighter validator history) (i' : Input) (r' : Ring) (c' : Coming) (e : ReadlineError)
-        (result : Result A ReadlineError) → result ≡ Err e → Whole (turning custom indent i r c) s t r' i' c' (Err e) → Read line_here s t r' c' result
+        (result : Result A ReadlineError) → result ≡ Err e → Whole (turning (suc n) custom indent i r c) s t r' i' c' (Err e) → Read line_here s t r' c' result
     turn_ends t i' r' c' e result is whole =
         let same = ends_by (Err e) whole.outcome_is in
         record {
-          does = does_as (then_do (made custom indent i r c) unchanged) (edit_of line_here) s t (Ok (tt {0})) (ap effect_of (sym same))
-              (does_as (made custom indent i r c) (then_do (made custom indent i r c) unchanged) s t (Ok (tt {0})) (ap (λ (x : List Redraw). record { value = turn_here.made.value; redraws = x }) (sym (append-nil turn_here.made.redraws))) whole.does);
+          does = does_as (then_do (made (suc n) custom indent i r c) unchanged) (edit_of line_here) s t (Ok (tt {0})) (ap effect_of (sym same))
+              (does_as (made (suc n) custom indent i r c) (then_do (made (suc n) custom indent i r c) unchanged) s t (Ok (tt {0})) (ap (λ (x : List Redraw). record { value = turn_here.made.value; redraws = x }) (sym (append-nil turn_here.made.redraws))) whole.does);
           outcome_is = ap (λ y. text_or y t.line.text) is ∙ ap (λ p. p.outcome) (sym same);
           ring_is = whole.ring_is ∙ ap (λ p. p.ring) (sym same);
           rest_is = whole.rest_is ∙ ap (λ p. p.rest) (sym same);
@@ -176,7 +176,7 @@ module _ {Out H Hi K T : Type 0} {renderer : renderers.Renderer.Ghosts Out} {com
 
     -- one that a fault cut
     pub turn_cut : {A B : Type 0} (t : State Out H Hi K T renderer completer candidate hinter hint highlighter validator history) (c' : Coming) (r' : Ring) (q : Result B ReadlineError)
-        (result : Result A ReadlineError) (cut : Cut (turn_doing custom indent i r c) s t c c' r r' q) → result ≡ Err cut.fault → Cut doing_here s t c c' r r' result
+        (result : Result A ReadlineError) (cut : Cut (turn_doing (suc n) custom indent i r c) s t c c' r r' q) → result ≡ Err cut.fault → Cut doing_here s t c c' r r' result
     turn_cut t c' r' q result cut is = record {
       fault = cut.fault;
       result_is = is;
@@ -188,9 +188,9 @@ module _ {Out H Hi K T : Type 0} {renderer : renderers.Renderer.Ghosts Out} {com
     }
 
     module _ (m : State Out H Hi K T renderer completer candidate hinter hint highlighter validator history) (i' : Input) (r' : Ring) (c' : Coming)
-        (whole : Whole (turning custom indent i r c) s m r' i' c' (Ok Submit)) where
+        (whole : Whole (turning (suc n) custom indent i r c) s m r' i' c' (Ok Submit)) where
       -- the line, with its close
-      closed_same : then_do (made custom indent i r c) submitted (setting_of s) (value_of s) ≡ edit_of line_here (setting_of s) (value_of s)
+      closed_same : then_do (made (suc n) custom indent i r c) submitted (setting_of s) (value_of s) ≡ edit_of line_here (setting_of s) (value_of s)
       closed_same = accepted_is (line_from n (setting_of s) custom indent) (setting_of s) info turn_here ∙ ap effect_of (sym (ends_by (Ok Submit) whole.outcome_is))
 
       -- one that accepts the line
@@ -198,7 +198,7 @@ module _ {Out H Hi K T : Type 0} {renderer : renderers.Renderer.Ghosts Out} {com
           → Does submitted m t (Ok x) → Read line_here s t r' c' (Ok x)
       turn_accepts {A} x t closed =
           let same = ends_by (Ok Submit) whole.outcome_is in
-          let both = does_as (then_do (made custom indent i r c) submitted) (edit_of line_here) s t (Ok x) closed_same (does_both (made custom indent i r c) submitted s m t (tt {0}) (Ok x) whole.does closed tt) in
+          let both = does_as (then_do (made (suc n) custom indent i r c) submitted) (edit_of line_here) s t (Ok x) closed_same (does_both (made (suc n) custom indent i r c) submitted s m t (tt {0}) (Ok x) whole.does closed tt) in
           record {
             does = record { value = both.value; calls = both.calls; layout = both.layout; stays = both.stays; reason = tt; begun = tt };
             outcome_is = ap (λ (v : Value). Ok v.line.text) (both.value ∙ ap (λ p. p.value) same) ∙ ap (λ p. p.outcome) (sym same);
@@ -217,10 +217,10 @@ module _ {Out H Hi K T : Type 0} {renderer : renderers.Renderer.Ghosts Out} {com
             cause = refused.reason;
             stays = stays_both s m t whole.does.stays refused.stays;
             done = subst (λ y. CutIn renderer.canvas (renderer.canvas.ruler s.out) e y s.layout (stage s.out c r) (stage t.out c' r')) (doing_by (Ok Submit) whole.outcome_is)
-                (cut_onward front_here closing (made custom indent i r c) s m (tt {0}) e c r (stage t.out c' r') whole.does (turn_redraws (setting_of s) custom indent i r (value_of s) c)
+                (cut_onward front_here closing (made (suc n) custom indent i r c) s m (tt {0}) e c r (stage t.out c' r') whole.does (turn_redraws (suc n) (setting_of s) custom indent i r (value_of s) c)
                 (subst (λ y. CutIn renderer.canvas (renderer.canvas.ruler m.out) e (closing (setting_of m) (value_of m)) m.layout y (stage t.out c' r'))
-                (ap (λ y. stage m.out y r') (whole.rest_is ∙ sym (turn_rest (setting_of s) custom indent i r (value_of s) c))
-                ∙ ap (stage m.out (rest_of c front_here)) (whole.ring_is ∙ sym (turn_ring (setting_of s) custom indent i r (value_of s) c)))
+                (ap (λ y. stage m.out y r') (whole.rest_is ∙ sym (turn_rest (suc n) (setting_of s) custom indent i r (value_of s) c))
+                ∙ ap (stage m.out (rest_of c front_here)) (whole.ring_is ∙ sym (turn_ring (suc n) (setting_of s) custom indent i r (value_of s) c)))
                 (cut_seeing renderer.canvas (renderer.canvas.ruler m.out) e (submitted (setting_of m) (value_of m)).redraws [] m.layout m.out t.out c' r'
                 (shown_in_part renderer.canvas (renderer.canvas.ruler m.out) e (submitted (setting_of m) (value_of m)).redraws m.layout m.out t.out
                 (drawing_shows {A = B} submitted m t (Err e) why refused) refused.begun))));

@@ -16,11 +16,11 @@ use Rattle.line_keys.specs.Replies.{gives_at_once}
 use Rattle.line_keys.specs.Coming.{Coming, Pressed, Ends, End}
 use Rattle.line_keys.specs.Common.{common_deed}
 use Rattle.line_keys.specs.Counts.{counting}
-use Rattle.line_keys.specs.Custom.{followed}
+use Rattle.line_keys.specs.Custom.{followed, following}
 use Rattle.line_keys.specs.Emacs.{emacs_deed}
 use Rattle.line_keys.specs.Events.{begins_with, single}
 use Rattle.line_keys.specs.Keys.{key_with, none, ctrl, alt}
-use Rattle.line_keys.specs.Phrases.{Input}
+use Rattle.line_keys.specs.Phrases.{Input, answered, needing, with_read, from_key, asking, becoming, deciding, and_then}
 use Rattle.line_keys.specs.SameEvents.{same_event}
 use Rattle.line_keys.specs.declared.command.Cmd.TheVariants.{HistorySearchBackward, Noop}
 use Rattle.line_keys.specs.declared.command.InputMode.TheVariants.{Insert as Inserting}
@@ -89,11 +89,11 @@ module _ (r : Ring) where
   a_left_enter = line [] nothing_bound (typed 0x61 ∷ key_with Left none ∷ key_with Enter none ∷ [])
 
   a_left_enter_calls : calls a_left_enter ≡ draw [] 2 2 ∷ Write (codes "a") ∷ Move (at 3) (at 2) ∷ Move (at 2) (at 3) ∷ []
-  unfolding unicode_segmentation line_of line_from turn_of counting followed emacs_deed common_deed
+  unfolding unicode_segmentation line_of line_from turn_of answered following needing with_read from_key asking becoming deciding and_then counting followed emacs_deed common_deed
   a_left_enter_calls = refl
 
   a_left_enter_outcome : a_left_enter.outcome ≡ Ok (codes "a")
-  unfolding unicode_segmentation line_of line_from turn_of counting followed emacs_deed common_deed
+  unfolding unicode_segmentation line_of line_from turn_of answered following needing with_read from_key asking becoming deciding and_then counting followed emacs_deed common_deed
   a_left_enter_outcome = refl
 
   -- ---- a count of two before x: its prompt, the session's own again, and both characters in one drawing
@@ -102,11 +102,11 @@ module _ (r : Ring) where
   two_x = line [] nothing_bound (key_with (Char 0x32) alt ∷ typed 0x78 ∷ [])
 
   two_x_calls : calls two_x ≡ draw [] 2 2 ∷ Draw (Some 0) (codes "(arg: 2) ") [] [] (at 9) (at 9) ∷ draw [] 2 2 ∷ draw (codes "xx") 4 4 ∷ []
-  unfolding unicode_segmentation line_of line_from turn_of counting followed emacs_deed common_deed digits
+  unfolding unicode_segmentation line_of line_from turn_of answered following needing with_read from_key asking becoming deciding and_then counting followed emacs_deed common_deed digits
   two_x_calls = refl
 
   two_x_outcome : two_x.outcome ≡ Err Eof
-  unfolding unicode_segmentation line_of line_from turn_of counting followed emacs_deed common_deed digits
+  unfolding unicode_segmentation line_of line_from turn_of answered following needing with_read from_key asking becoming deciding and_then counting followed emacs_deed common_deed digits
   two_x_outcome = refl
 
   -- ---- a lone word transposed from its start: the cursor goes after it, by a whole drawing
@@ -115,7 +115,7 @@ module _ (r : Ring) where
   lone_word = line [] nothing_bound (typed 0x77 ∷ key_with (Char 0x41) ctrl ∷ key_with (Char 0x74) alt ∷ [])
 
   lone_word_calls : calls lone_word ≡ draw [] 2 2 ∷ Write (codes "w") ∷ Move (at 3) (at 2) ∷ draw (codes "w") 3 3 ∷ []
-  unfolding unicode_segmentation line_of line_from turn_of counting followed emacs_deed common_deed after_words before_words starts_of ends_of
+  unfolding unicode_segmentation line_of line_from turn_of answered following needing with_read from_key asking becoming deciding and_then counting followed emacs_deed common_deed after_words before_words starts_of ends_of
   lone_word_calls = refl
 
   -- ---- a key bound to a search, in an empty history
@@ -127,7 +127,7 @@ module _ (r : Ring) where
   }
 
   search_calls : calls (line [] ctrl_o (key_with (Char 0x4F) ctrl ∷ [])) ≡ draw [] 2 2 ∷ Beep ∷ []
-  unfolding unicode_segmentation line_of line_from turn_of counting followed emacs_deed common_deed
+  unfolding unicode_segmentation line_of line_from turn_of answered following needing with_read from_key asking becoming deciding and_then counting followed emacs_deed common_deed
   search_calls = refl
 
   -- ---- up three times over two entries, and down twice
@@ -148,9 +148,9 @@ module _ (r : Ring) where
   up_and_down_calls : calls up_and_down
       ≡ draw [] 2 2 ∷ Write (codes "c") ∷ Write (codes "u") ∷ Write (codes "r")
       ∷ draw (codes "line1") 7 7 ∷ draw (codes "line0") 7 7 ∷ draw (codes "line1") 7 7 ∷ draw (codes "cur") 5 5 ∷ []
-  unfolding unicode_segmentation line_of line_from turn_of counting followed emacs_deed common_deed line_up line_down behind_newlines
+  unfolding unicode_segmentation line_of line_from turn_of answered following needing with_read from_key asking becoming deciding and_then counting followed emacs_deed common_deed line_up line_down behind_newlines
   up_and_down_calls = refl
 
   up_and_down_outcome : up_and_down.outcome ≡ Ok (codes "cur")
-  unfolding unicode_segmentation line_of line_from turn_of counting followed emacs_deed common_deed line_up line_down behind_newlines
+  unfolding unicode_segmentation line_of line_from turn_of answered following needing with_read from_key asking becoming deciding and_then counting followed emacs_deed common_deed line_up line_down behind_newlines
   up_and_down_outcome = refl

@@ -1,6 +1,6 @@
 -- Edits that ask for something.
-use Rattle.std.proofs.Common.{◌≡◌, ◌⊎◌, inl, inr, ℕ, Bool, true, false, true≢false, List, [], ◌∷◌, ◌++◌, refl, sym, subst}
-use Rattle.std.specs.Prelude.{Option, Some, None, is_some, if◌then◌else◌, length, ◌==◌, not, ◌||◌}
+use Rattle.std.proofs.Common.{◌≡◌, ℕ, Bool, true, false, true≢false, List, [], ◌∷◌, ◌++◌, sym, subst}
+use Rattle.std.specs.Prelude.{Option, Some, None, is_some, if◌then◌else◌, length, ◌==◌}
 use Rattle.line_buffer.specs.Insertions.{insert as insertion}
 use Rattle.line_buffer.specs.declared.layout.Layout.{Layout}
 use Rattle.line_edits.specs.Edits.{char_typed, put_behind}

@@ -6,15 +6,17 @@ use Rattle.line_config.specs.declared.errors.ReadlineError.{ReadlineError}
 use Rattle.line_config.specs.declared.errors.ReadlineError.TheVariants.{Memory}
 use Rattle.line_keys.specs.declared.command.Cmd.{Cmd}
 use Rattle.line_keys.specs.Answers.{Custom}
-use Rattle.line_keys.specs.Coming.{Coming, left_by}
-use Rattle.line_keys.specs.Phrases.{Input, Script, Ends, Needs, Asks, Reads, Becomes}
+use Rattle.line_config.specs.Scripts.{Ends, Asks}
+use Rattle.line_keys.specs.Coming.{Coming, behind, left_by}
+use Rattle.line_keys.specs.Feeds.{item_at}
+use Rattle.line_keys.specs.Phrases.{Input, Steps, steps, Needs, Shows, Reads, Becomes, Refuses}
 use Rattle.line_record.specs.Ring.{Ring}
 use Rattle.line_editor.specs.Accepting.{submitted}
 use Rattle.line_editor.specs.Asks.{shown_in, ask_effect}
 use Rattle.line_editor.specs.Calls.{Canvas, Ruler, MadeIn, BrokenOff, Begun}
 use Rattle.line_editor.specs.Commands.{means_of, effect, ring_after_command, ring_without_text}
 use Rattle.line_editor.specs.Drawing.{refreshed}
-use Rattle.line_editor.specs.Lines.{Enacted, line_phrase, phrase_enacted, reset_by, Turned, turn_of}
+use Rattle.line_editor.specs.Lines.{Enacted, either_way, line_phrase, phrase_enacted, reset_by, Turned, turn_of}
 use Rattle.line_editor.specs.Redraws.{Redraw, asked}
 use Rattle.line_editor.specs.Values.{Value, Setting, first_value}
 use Rattle.line_editor.specs.declared.commands.Status.{Status}
@@ -32,14 +34,17 @@ pub data Act : Type 0 where
 -- ---- what a line means, as acts
 
 -- a script followed on the editor's value
-abbrev pub script_acts : {X : Type 0} → Setting → Script X → Value → List Act
-script_acts s (Ends answer) v = []
-script_acts s (Needs later) v = Sees [] ∷ script_acts s later v
-script_acts s (Asks ask later) v =
+abbrev pub script_acts : {X : Type 0} → Setting → Steps X → Value → Coming → List Act
+script_acts s (Ends answer) v c = []
+script_acts s (Asks Needs later) v c = Sees [] ∷ script_acts s (later tt) v c
+script_acts s (Asks (Shows ask) later) v c =
     let e = ask_effect ask s v in
-    Sees e.redraws ∷ script_acts s (later (shown_in e.value)) e.value
-script_acts s (Reads item rest later) v = Gets rest ∷ script_acts s later v
-script_acts s (Becomes kept later) v = script_acts s later v
+    Sees e.redraws ∷ script_acts s (later (shown_in e.value)) e.value c
+script_acts s (Asks (Reads item) later) v c =
+    either_way (λ x. Gets (behind c) ∷ script_acts s (later x) v (behind c))
+    (λ e. Gets (left_by e) ∷ []) (item_at item c)
+script_acts s (Asks (Becomes kept) later) v c = script_acts s (later tt) v c
+script_acts s (Asks (Refuses why) later) v c = []
 
 abbrev pub command_acts : Setting → ℕ → Ring → Enacted Cmd → Result Cmd ReadlineError → List Act
 command_acts s indent r p (Ok cmd) =
@@ -48,10 +53,10 @@ command_acts s indent r p (Ok cmd) =
     (effect (means_of p.input indent kept) cmd s p.made.value).redraws ∷ []
 command_acts s indent r p (Err e) = []
 
-unfoldable pub turn_acts : Setting → Custom → ℕ → Input → Ring → Value → Coming → List Act
-turn_acts s custom indent input r v c =
-    let p = phrase_enacted s custom input v c in
-    script_acts s (line_phrase custom input (shown_in v) c) v
+unfoldable pub turn_acts : ℕ → Setting → Custom → ℕ → Input → Ring → Value → Coming → List Act
+turn_acts n s custom indent input r v c =
+    let p = phrase_enacted n s custom input v c in
+    script_acts s (steps (line_phrase custom input (shown_in v)) n) v c
     ++ command_acts s indent r p p.answer
 
 abbrev pub acts_after : (Input → Ring → Value → Coming → List Act) → Setting → Turned
@@ -64,8 +69,8 @@ acts_after next s t (Err e) = []
 unfoldable pub acts_from : ℕ → Setting → Custom → ℕ → Input → Ring → Value → Coming → List Act
 acts_from zero s custom indent input r v c = []
 acts_from (suc n) s custom indent input r v c =
-    let t = turn_of s custom indent input r v c in
-    turn_acts s custom indent input r v c
+    let t = turn_of (suc n) s custom indent input r v c in
+    turn_acts (suc n) s custom indent input r v c
     ++ acts_after (acts_from n s custom indent) s t t.outcome
 
 unfoldable pub acts_of : ℕ → Setting → Custom → ℕ → Input → Ring → Coming → List Act

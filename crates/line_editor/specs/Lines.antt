@@ -4,11 +4,13 @@ use Rattle.line_config.specs.declared.errors.ReadlineError.{ReadlineError}
 use Rattle.line_config.specs.declared.errors.ReadlineError.TheVariants.{Memory}
 use Rattle.line_keys.specs.declared.command.Cmd.{Cmd}
 use Rattle.line_keys.specs.declared.command.Cmd.TheVariants.{Replace}
-use Rattle.line_keys.specs.Coming.{Coming}
+use Rattle.line_config.specs.Scripts.{Ends, Asks}
+use Rattle.line_keys.specs.Coming.{Coming, behind, left_by}
 use Rattle.line_keys.specs.Commands.{standing}
 use Rattle.line_keys.specs.Answers.{Custom}
 use Rattle.line_keys.specs.Phrase.{phrase}
-use Rattle.line_keys.specs.Phrases.{Input, Script, Part, and_then, Ends, Needs, Asks, Reads, Becomes}
+use Rattle.line_keys.specs.Feeds.{item_at}
+use Rattle.line_keys.specs.Phrases.{Input, Steps, Part, steps, answered, asking, and_then, Needs, Shows, Reads, Becomes, Refuses}
 use Rattle.line_keys.specs.Refreshing.{Shown}
 use Rattle.line_keys.specs.Refreshing.Ask.{DoingInsert}
 use Rattle.line_record.specs.Ring.{Ring}
@@ -38,19 +40,28 @@ behind_ask e p = record p {
   made = record { value = p.made.value; redraws = e.redraws ++ p.made.redraws };
 }
 
-abbrev pub enacted : {X : Type 0} → Setting → Script X → Input → Value → Coming → Enacted X
-enacted s (Ends answer) input v c = record {
-  answer = answer;
-  made = unchanged s v;
-  input = input;
-  rest = c;
-}
-enacted s (Needs later) input v c = enacted s later input v c
-enacted s (Asks ask later) input v c =
+-- what an answer leads to, and what a refusal does
+abbrev pub either_way : {X Y : Type 0} → (X → Y) → (ReadlineError → Y) → Result X ReadlineError → Y
+either_way next stops (Ok x) = next x
+either_way next stops (Err e) = stops e
+
+-- nothing more is made
+abbrev pub stopped : {X : Type 0} → Setting → Result X ReadlineError → Input → Value → Coming
+    → Enacted X
+stopped s answer input v c =
+    record { answer = answer; made = unchanged s v; input = input; rest = c }
+
+abbrev pub enacted : {X : Type 0} → Setting → Steps X → Input → Value → Coming → Enacted X
+enacted s (Ends answer) input v c = stopped s (Ok answer) input v c
+enacted s (Asks Needs later) input v c = enacted s (later tt) input v c
+enacted s (Asks (Shows ask) later) input v c =
     behind_ask (ask_effect ask s v)
     (enacted s (later (shown_in (ask_effect ask s v).value)) input (ask_effect ask s v).value c)
-enacted s (Reads item rest later) input v c = enacted s later input v rest
-enacted s (Becomes kept later) input v c = enacted s later kept v c
+enacted s (Asks (Reads item) later) input v c =
+    either_way (λ x. enacted s (later x) input v (behind c))
+    (λ e. stopped s (Err e) input v (left_by e)) (item_at item c)
+enacted s (Asks (Becomes kept) later) input v c = enacted s (later tt) kept v c
+enacted s (Asks (Refuses why) later) input v c = stopped s (Err why) input v c
 
 -- each change-to begins a group
 abbrev pub begins_group : Cmd → Bool
@@ -58,14 +69,16 @@ begins_group (Replace movement text) = true
 begins_group cmd = false
 
 abbrev pub with_group_begun : Cmd → Input → Shown → Part Cmd
-with_group_begun cmd input shown c =
-    if begins_group cmd then Asks DoingInsert (λ seen. Ends (Ok cmd)) else Ends (Ok cmd)
+with_group_begun cmd input shown =
+    if begins_group cmd then asking DoingInsert (λ seen. answered cmd) else answered cmd
 
 abbrev pub line_phrase : Custom → Input → Shown → Part Cmd
 line_phrase custom input shown = and_then input shown (phrase custom input shown) with_group_begun
 
-abbrev pub phrase_enacted : Setting → Custom → Input → Value → Coming → Enacted Cmd
-phrase_enacted s custom input v c = enacted s (line_phrase custom input (shown_in v) c) input v c
+-- it reads so often at most
+abbrev pub phrase_enacted : ℕ → Setting → Custom → Input → Value → Coming → Enacted Cmd
+phrase_enacted n s custom input v c =
+    enacted s (steps (line_phrase custom input (shown_in v)) n) input v c
 
 -- ---- a turn: a phrase, and the command that it gives
 
@@ -99,10 +112,10 @@ turned_by s indent r (Err e) p = record {
   rest = p.rest;
 }
 
-unfoldable pub turn_of : Setting → Custom → ℕ → Input → Ring → Value → Coming → Turned
-turn_of s custom indent input r v c =
-    turned_by s indent r (phrase_enacted s custom input v c).answer
-    (phrase_enacted s custom input v c)
+unfoldable pub turn_of : ℕ → Setting → Custom → ℕ → Input → Ring → Value → Coming → Turned
+turn_of n s custom indent input r v c =
+    turned_by s indent r (phrase_enacted n s custom input v c).answer
+    (phrase_enacted n s custom input v c)
 
 -- ---- a line
 
@@ -159,7 +172,7 @@ line_from zero s custom indent input r info v c = record {
   rest = c;
 }
 line_from (suc n) s custom indent input r info v c =
-    let t = turn_of s custom indent input r v c in
+    let t = turn_of (suc n) s custom indent input r v c in
     after_turn (line_from n s custom indent) s info t t.outcome
 
 abbrev pub drawn_first : Setting → Effect → Told → Told

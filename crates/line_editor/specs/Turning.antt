@@ -38,15 +38,15 @@ is_obeyed (ViYankTo movement) = false
 is_obeyed cmd = true
 
 -- a turn by what it begins with
-abbrev pub turning : Custom → ℕ → Input → Ring → Coming → Setting → Value → Turned
-turning custom indent input r c s v = turn_of s custom indent input r v c
+abbrev pub turning : ℕ → Custom → ℕ → Input → Ring → Coming → Setting → Value → Turned
+turning n custom indent input r c s v = turn_of n s custom indent input r v c
 
 -- what is done, by what it begins with
 abbrev pub Doing : Type 0
 Doing = Setting → Value → List Act
 
-abbrev pub turn_doing : Custom → ℕ → Input → Ring → Coming → Doing
-turn_doing custom indent input r c s v = turn_acts s custom indent input r v c
+abbrev pub turn_doing : ℕ → Custom → ℕ → Input → Ring → Coming → Doing
+turn_doing n custom indent input r c s v = turn_acts n s custom indent input r v c
 
 -- why a call that reads and edits is refused, whatever is told; commands end a line too
 abbrev pub cause_of : Custom → Bool → Type 0 → KeyFeed → ReadlineError → Type 0
@@ -115,16 +115,16 @@ module _ {Out H Hi K T : Type 0} {renderer : renderers.Ghosts Out}
     pub input_is : input ≡ (turn (setting_of s) (value_of s)).input
     pub rest_is : rest ≡ (turn (setting_of s) (value_of s)).rest
 
-  -- THE relation of a turn
+  -- THE relation of a turn. More fuel than the reader has keys and pastes is enough
   pub record Takes (custom : Custom) (indent : ℕ)
       (s : State Out H Hi K T renderer completer candidate hinter hint highlighter validator
       history) (input : Input) (ring : Ring) (feed : KeyFeed)
       (t : State Out H Hi K T renderer completer candidate hinter hint highlighter validator
       history) (input' : Input) (ring' : Ring) (feed' : KeyFeed)
       (result : Result Status ReadlineError) : Type 0 where
-    pub goes : IsTrue feed'.told →
-        Whole (turning custom indent input ring feed.coming) s t ring' input' feed'.coming result
-        ⊎ Cut (turn_doing custom indent input ring feed.coming)
+    pub goes : IsTrue feed'.told → (n : ℕ) → feed.bound < n →
+        Whole (turning n custom indent input ring feed.coming) s t ring' input' feed'.coming result
+        ⊎ Cut (turn_doing n custom indent input ring feed.coming)
         s t feed.coming feed'.coming ring ring' result
     pub told : IsTrue feed'.told → IsTrue feed.told
     pub keeps : feed'.bound ≤ feed.bound

@@ -42,9 +42,7 @@ impl<'p, 'h, Out: Renderer, H: Helper + Drop, Hi: History> State<'p, 'h, Out, H,
     ) -> Result<Cmd, ReadlineError>
         ensures phrase { let custom = custom_in input_state.old D.decides in
             let input = input_of input_state.old in
-            let coming = (R.feed rdr.old).coming in
-            Follows display_of custom
-            (line_phrase custom input (shown_in (value_of self.old)) coming)
+            Follows display_of custom (line_phrase custom input (shown_in (value_of self.old)))
             self.old input self.new (input_of input_state.new)
             (R.feed rdr.old) (R.feed rdr.new) result }
         ensures bindings { input_state.new.custom_bindings ≡ input_state.old.custom_bindings }

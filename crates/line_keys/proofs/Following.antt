@@ -1,47 +1,37 @@
 -- Calls that make the steps of their definitions: one step in front, one part after another, and where a fault cuts them.
-use Rattle.std.proofs.Common.{◌≡◌, inl, inr, Bool, true, false, refl, sym, ap, subst, ◌∙◌, true≢false, IsTrue, le_refl, le_trans}
-use Rattle.std.specs.Prelude.{Option, Some, None, option_map, Result, Ok, Err, IfErr, is_none}
+use Rattle.std.proofs.Common.{◌≡◌, ◌<◌, ◌≤◌, ℕ, zero, suc, List, arith, inl, inr, Bool, true, false, refl, sym, ap, subst, ◌∙◌, true≢false, IsTrue, le_refl, le_trans}
+use Rattle.std.specs.Prelude.{⊤, Option, Some, None, option_map, Result, Ok, Err, IfErr, is_none}
 use Rattle.line_config.specs.declared.errors.ReadlineError.{ReadlineError}
 use Rattle.line_config.specs.declared.errors.ReadlineError.TheVariants.{Eof, Interrupted, NotUtf8, PasteOutOfPlace, Reader, Display as DisplayFault, Lines, HistoryText, Helper, Handler, Memory}
 use Rattle.line_keys.specs.declared.command.Cmd.{Cmd}
 use Rattle.line_keys.specs.declared.key.KeyEvent.{KeyEvent}
 use Rattle.line_keys.specs.declared.events.Event.TheVariants.{Any}
 use Rattle.line_keys.specs.Answers.{Custom, Decides, HandlerFails, IsRefusalOf, answer_by}
-use Rattle.line_keys.specs.Coming.{Coming, behind, left}
+use Rattle.line_config.specs.Scripts.{Ends, Asks, Goes}
+use Rattle.line_keys.specs.Coming.{Coming, behind, left, key_at, paste_at, from_key_at, made_of}
 use Rattle.line_keys.specs.Commands.{holds_text, Copied}
 use Rattle.line_keys.specs.Custom.{Situation, custom_answer, or_any, shown_for}
 use Rattle.line_keys.specs.Events.{single}
 use Rattle.line_keys.specs.Faults.{IsReaderRefusal}
-use Rattle.line_keys.specs.Feeds.{KeyFeed, InputItem, ReadAs, ReadsBy}
+use Rattle.line_keys.specs.Feeds.{KeyFeed, InputItem, Item, Key, Paste, item_at, ReadAs, ReadsBy}
 use Rattle.line_keys.specs.Refreshing.{Shown, Ask, KnownDisplay, Draws, IsDrawFault}
 use Rattle.line_keys.specs.Handling.{Meaning}
-use Rattle.line_keys.specs.Phrases.{Input, Script, Ends, Needs, Asks, Reads, Becomes, Part, with_read, read_by, asking, answered, decided_by, deciding, granted, needing, after}
+use Rattle.line_keys.specs.Phrases.{Input, KeyAsk, Answer, Steps, Part, Needs, Shows, Reads, Becomes, Refuses, Upto, steps, answered, needs_if, needing, granted, with_read, with_key, with_paste, from_key, asking, becoming, decided_by, deciding, kept_by, shown_by, after, and_then}
+use Rattle.line_config.proofs.ScriptLaws.{ok_not_err, value_or, fault_or, err_in}
 use Rattle.line_keys.specs.Replies.{Reply, fails, taking}
-use Rattle.line_keys.specs.Follows.{Goes, Follows, Because, Undrawn, silent}
+use Rattle.line_keys.specs.Follows.{Stage, stage, KeyMade, key_world, Happens, Follows, Because, Undrawn, silent}
 
-abbrev is_ok : {A : Type 0} → Result A ReadlineError → Bool
-is_ok (Ok x) = true
-is_ok (Err e) = false
+err_same : {X Y : Type 0} (e f : ReadlineError) → err_in X e ≡ Err f → err_in Y e ≡ Err f
+err_same {X} e f is = ap (λ (r : Result X ReadlineError). Err (fault_or Memory r)) is
 
-abbrev value_or : {A : Type 0} → A → Result A ReadlineError → A
-value_or a (Ok x) = x
-value_or a (Err e) = a
+lt_on : {a b n : ℕ} → a ≤ b → b < n → a < n
+lt_on {a} {b} {n} le lt = omega arith
 
-abbrev refusal_in : {A : Type 0} → Result A ReadlineError → ReadlineError
-refusal_in (Ok x) = Memory
-refusal_in (Err e) = e
+lt_under : {a b n : ℕ} → a < b → b < suc n → a < n
+lt_under {a} {b} {n} falls lt = omega arith
 
-abbrev err_in : (X : Type 0) → ReadlineError → Result X ReadlineError
-err_in X e = Err e
-
-abbrev ok_in : {X : Type 0} → X → Result X ReadlineError
-ok_in x = Ok x
-
-err_same : {X Y : Type 0} (e f : ReadlineError) → err_in X e ≡ err_in X f → err_in Y e ≡ err_in Y f
-err_same e f is = ap Err (ap refusal_in is)
-
-pub ok_not_err : {X : Type 0} {Z : Type 0} (x : X) (e : ReadlineError) → ok_in x ≡ Err e → Z
-ok_not_err x e is = absurd (true≢false (ap is_ok is))
+nothing_under : {a : ℕ} → a < zero → ⊥
+nothing_under {a} lt = omega arith
 
 -- ---- the reason by who refused
 
@@ -76,48 +66,66 @@ silent_because d custom w f Interrupted why = elim why [ ]
 silent_because d custom w f Lines why = elim why [ ]
 silent_because d custom w f HistoryText why = elim why [ ]
 
+-- ---- steps by how often they may read
+
+abbrev Goes_by : {S X : Type 0} → KnownDisplay S → Steps X → Stage S → Result X ReadlineError → Stage S → Type 0
+Goes_by d p s r t = Goes (key_world d) p s r t
+
 -- ---- one part after another
 
 module _ {S : Type 0} (d : KnownDisplay S) where
-  goes_ok : {X Y : Type 0} (next : X → Input → Shown → Part Y) (s : Script X) (x : X) (r : Result Y ReadlineError) (w w1 w2 : S) (i i1 i2 : Input) (c c1 c2 : Coming)
-      → Goes d s w i c (Ok x) w1 i1 c1 → Goes d (next x i1 (d.shown w1) c1) w1 i1 c1 r w2 i2 c2 → Goes d (after next i (d.shown w) c s) w i c r w2 i2 c2
-  goes_ok {X} next (Ends (Ok y)) x r w w1 w2 i i1 i2 c c1 c2 is later = rw (ap (value_or x) is.0, is.1, is.2, is.3) at later
-  goes_ok next (Ends (Err e)) x r w w1 w2 i i1 i2 c c1 c2 is later = ok_not_err x e is.0
-  goes_ok next (Needs more) x r w w1 w2 i i1 i2 c c1 c2 (inl goes) later = inl (goes_ok next more x r w w1 w2 i i1 i2 c c1 c2 goes later)
-  goes_ok next (Needs more) x r w w1 w2 i i1 i2 c c1 c2 (inr cut) later = ok_not_err x Memory cut.0
-  goes_ok next (Asks ask more) x r w w1 w2 i i1 i2 c c1 c2 (inl (seen, made, goes)) later = inl (seen, made, goes_ok next (more (d.shown seen)) x r seen w1 w2 i i1 i2 c c1 c2 goes later)
-  goes_ok next (Asks ask more) x r w w1 w2 i i1 i2 c c1 c2 (inr (e, is, why, cut, kept, stays)) later = ok_not_err x e cut
-  goes_ok next (Reads item rest more) x r w w1 w2 i i1 i2 c c1 c2 (inl goes) later = inl (goes_ok next more x r w w1 w2 i i1 i2 rest c1 c2 goes later)
-  goes_ok next (Reads item rest more) x r w w1 w2 i i1 i2 c c1 c2 (inr (e, is, cut)) later = ok_not_err x e cut.0
-  goes_ok next (Becomes kept more) x r w w1 w2 i i1 i2 c c1 c2 goes later = goes_ok next more x r w w1 w2 kept i1 i2 c c1 c2 goes later
+  -- what is tracked of a stage is what it has
+  tracked : (ask : KeyAsk) (x : Answer ask) (s t : Stage S) → KeyMade d s ask x t → (kept_by ask s.input ≡ t.input) × (shown_by ask x (d.shown s.wrt) ≡ d.shown t.wrt)
+  tracked Needs x s t made = (ap (λ (u : Stage S). u.input) (sym made), ap (λ (u : Stage S). d.shown u.wrt) (sym made))
+  tracked (Shows ask) x s t made = (ap (λ (u : Stage S). u.input) (sym made.2), made.1)
+  tracked (Refuses why) x s t made = absurd made
+  tracked (Reads item) x s t made = (ap (λ (u : Stage S). u.input) (sym made.1), ap (λ (u : Stage S). d.shown u.wrt) (sym made.1))
+  tracked (Becomes kept) x s t made = (ap (λ (u : Stage S). u.input) (sym made), ap (λ (u : Stage S). d.shown u.wrt) (sym made))
 
-  goes_err : {X Y : Type 0} (next : X → Input → Shown → Part Y) (s : Script X) (e : ReadlineError) (w w1 : S) (i i1 : Input) (c c1 : Coming)
-      → Goes d s w i c (Err e) w1 i1 c1 → Goes d (after next i (d.shown w) c s) w i c (Err e) w1 i1 c1
-  goes_err next (Ends (Ok y)) e w w1 i i1 c c1 is = ok_not_err y e (sym is.0)
-  goes_err next (Ends (Err f)) e w w1 i i1 c c1 is = (err_same e f is.0, is.1, is.2, is.3)
-  goes_err next (Needs more) e w w1 i i1 c c1 (inl goes) = inl (goes_err next more e w w1 i i1 c c1 goes)
-  goes_err next (Needs more) e w w1 i i1 c c1 (inr cut) = inr (err_same e Memory cut.0, cut.1, cut.2, cut.3)
-  goes_err next (Asks ask more) e w w1 i i1 c c1 (inl (seen, made, goes)) = inl (seen, made, goes_err next (more (d.shown seen)) e seen w1 i i1 c c1 goes)
-  goes_err next (Asks ask more) e w w1 i i1 c c1 (inr (f, is, why, cut, kept, stays)) = inr (f, is, why, err_same e f cut, kept, stays)
-  goes_err next (Reads item rest more) e w w1 i i1 c c1 (inl goes) = inl (goes_err next more e w w1 i i1 rest c1 goes)
-  goes_err next (Reads item rest more) e w w1 i i1 c c1 (inr (f, is, cut)) = inr (f, is, (err_same e f cut.0, cut.1, cut.2, cut.3))
-  goes_err next (Becomes kept more) e w w1 i i1 c c1 goes = goes_err next more e w w1 kept i1 c c1 goes
+  goes_ok : {X Y : Type 0} (next : X → Input → Shown → Steps Y) (p : Steps X) (x : X) (r : Result Y ReadlineError) (s t u : Stage S)
+      → Goes_by d p s (Ok x) t → Goes_by d (next x t.input (d.shown t.wrt)) t r u → Goes_by d (after next s.input (d.shown s.wrt) p) s r u
+  goes_ok next (Ends y) x r s t u is later = rw (ap (value_or x) is.0, is.1) at later
+  goes_ok next (Asks ask more) x r s t u (inl (y, v, made, goes)) later =
+      let is = tracked ask y s v made in
+      inl (
+        y,
+        v,
+        made,
+        subst (λ (i : Input). Goes_by d (after next i (shown_by ask y (d.shown s.wrt)) (more y)) v r u) (sym is.0)
+            (subst (λ (a : Shown). Goes_by d (after next v.input a (more y)) v r u) (sym is.1) (goes_ok next (more y) x r v t u goes later)),
+      )
+  goes_ok next (Asks ask more) x r s t u (inr (e, cut, is)) later = ok_not_err x e is
+
+  goes_err : {X Y : Type 0} (next : X → Input → Shown → Steps Y) (p : Steps X) (e : ReadlineError) (i : Input) (a : Shown) (s t : Stage S)
+      → Goes_by d p s (Err e) t → Goes_by d (after next i a p) s (Err e) t
+  goes_err next (Ends y) e i a s t is = ok_not_err y e (sym is.0)
+  goes_err next (Asks ask more) e i a s t (inl (y, v, made, goes)) = inl (y, v, made, goes_err next (more y) e (kept_by ask i) (shown_by ask y a) v t goes)
+  goes_err next (Asks ask more) e i a s t (inr (f, cut, is)) = inr (f, cut, err_same e f is)
+
+  needs_on : {X : Type 0} (b : Bool) (p : Steps X) (s t : Stage S) (r : Result X ReadlineError) → Goes_by d p s r t → Goes_by d (needs_if b p) s r t
+  needs_on true p s t r goes = inl (tt, s, refl, goes)
+  needs_on false p s t r goes = goes
 
 module _ {S X Y : Type 0} (d : KnownDisplay S) (custom : Custom) where
-  pub then_stops : (s : Script X) (next : X → Input → Shown → Part Y) (w w' : S) (i i' : Input) (f f' : KeyFeed) (e : ReadlineError) → Follows d custom s w i w' i' f f' (Err e)
-      → Follows d custom (after next i (d.shown w) f.coming s) w i w' i' f f' (Err e)
+  pub then_stops : (s : Part X) (next : X → Input → Shown → Part Y) (w w' : S) (i i' : Input) (f f' : KeyFeed) (e : ReadlineError) → Follows d custom s w i w' i' f f' (Err e)
+      → Follows d custom (and_then i (d.shown w) s next) w i w' i' f f' (Err e)
+  unfolding Happens and_then
   then_stops s next w w' i i' f f' e follows = record {
-    goes = λ told. goes_err d next s e w w' i i' f.coming f'.coming (follows.goes told);
+    goes = λ told n more.
+        goes_err d (λ x j b. steps (next x j b) n) (steps s n) e i (d.shown w) (stage w i f.coming) (stage w' i' f'.coming) (follows.goes told n more);
     told = follows.told;
     keeps = follows.keeps;
     mode = follows.mode;
     reason = follows.reason;
   }
 
-  pub then_follows : (s : Script X) (next : X → Input → Shown → Part Y) (x : X) (w w1 w2 : S) (i i1 i2 : Input) (f f1 f2 : KeyFeed) (r : Result Y ReadlineError) → Follows d custom s w i w1 i1 f f1 (Ok x)
-      → Follows d custom (next x i1 (d.shown w1) f1.coming) w1 i1 w2 i2 f1 f2 r → Follows d custom (after next i (d.shown w) f.coming s) w i w2 i2 f f2 r
+  pub then_follows : (s : Part X) (next : X → Input → Shown → Part Y) (x : X) (w w1 w2 : S) (i i1 i2 : Input) (f f1 f2 : KeyFeed) (r : Result Y ReadlineError) → Follows d custom s w i w1 i1 f f1 (Ok x)
+      → Follows d custom (next x i1 (d.shown w1)) w1 i1 w2 i2 f1 f2 r → Follows d custom (and_then i (d.shown w) s next) w i w2 i2 f f2 r
+  unfolding Happens and_then
   then_follows s next x w w1 w2 i i1 i2 f f1 f2 r first second = record {
-    goes = λ told. goes_ok d next s x r w w1 w2 i i1 i2 f.coming f1.coming f2.coming (first.goes (second.told told)) (second.goes told);
+    goes = λ told n more.
+        goes_ok d (λ x j b. steps (next x j b) n) (steps s n) x r (stage w i f.coming) (stage w1 i1 f1.coming) (stage w2 i2 f2.coming)
+        (first.goes (second.told told) n more) (second.goes told n (lt_on first.keeps more));
     told = λ told. first.told (second.told told);
     keeps = le_trans second.keeps first.keeps;
     mode = second.mode ∙ first.mode;
@@ -127,28 +135,10 @@ module _ {S X Y : Type 0} (d : KnownDisplay S) (custom : Custom) where
 -- ---- steps
 
 module _ {S X : Type 0} (d : KnownDisplay S) (custom : Custom) where
-  -- want of memory, where it is taken
-  pub memory_follows : (s : Script X) (w : S) (i : Input) (f : KeyFeed) (e : ReadlineError) → e ≡ Memory → Follows d custom (Needs s) w i w i f f (Err e)
-  memory_follows s w i f e is = record {
-    goes = λ told. inr (ap Err is, refl, refl, refl);
-    told = λ told. told;
-    keeps = le_refl _;
-    mode = refl;
-    reason = memory_because d custom w f e is;
-  }
-
-  pub needs_follow : (s : Script X) (w w' : S) (i i' : Input) (f f' : KeyFeed) (r : Result X ReadlineError) → Follows d custom s w i w' i' f f' r → Follows d custom (Needs s) w i w' i' f f' r
-  needs_follow s w w' i i' f f' r follows = record {
-    goes = λ told. inl (follows.goes told);
-    told = follows.told;
-    keeps = follows.keeps;
-    mode = follows.mode;
-    reason = follows.reason;
-  }
-
-  pub ends_follow : (s : Script X) (w : S) (i : Input) (f : KeyFeed) (x : X) → s ≡ Ends (Ok x) → Follows d custom s w i w i f f (Ok x)
+  pub ends_follow : (s : Part X) (w : S) (i : Input) (f : KeyFeed) (x : X) → s ≡ answered x → Follows d custom s w i w i f f (Ok x)
+  unfolding Happens answered
   ends_follow s w i f x is = record {
-    goes = λ told. subst (λ (t : Script X). Goes d t w i f.coming (Ok x) w i f.coming) (sym is) (refl, refl, refl, refl);
+    goes = λ told n more. subst (λ (p : Part X). Goes_by d (steps p n) (stage w i f.coming) (Ok x) (stage w i f.coming)) (sym is) (refl, refl);
     told = λ told. told;
     keeps = le_refl _;
     mode = refl;
@@ -156,33 +146,41 @@ module _ {S X : Type 0} (d : KnownDisplay S) (custom : Custom) where
   }
 
   -- memory that is taken on a condition
-  pub needing_follows : (b : Bool) (s : Script X) (w w' : S) (i i' : Input) (f f' : KeyFeed) (r : Result X ReadlineError) → Follows d custom s w i w' i' f f' r
+  pub needing_follows : (b : Bool) (s : Part X) (w w' : S) (i i' : Input) (f f' : KeyFeed) (r : Result X ReadlineError) → Follows d custom s w i w' i' f f' r
       → Follows d custom (needing b s) w i w' i' f f' r
-  needing_follows true s w w' i i' f f' r follows = needs_follow s w w' i i' f f' r follows
-  needing_follows false s w w' i i' f f' r follows = follows
+  unfolding Happens needing
+  needing_follows b s w w' i i' f f' r follows = record {
+    goes = λ told n more. needs_on d b (steps s n) (stage w i f.coming) (stage w' i' f'.coming) r (follows.goes told n more);
+    told = follows.told;
+    keeps = follows.keeps;
+    mode = follows.mode;
+    reason = follows.reason;
+  }
 
-  pub needed_follows : (b : Bool) (s : Script X) (w : S) (i : Input) (f : KeyFeed) (e : ReadlineError) → e ≡ Memory → IsTrue b → Follows d custom (needing b s) w i w i f f (Err e)
-  needed_follows true s w i f e is taken = memory_follows s w i f e is
-  needed_follows false s w i f e is taken = absurd (true≢false (sym taken))
-
-  -- a refusal that is the answer
-  pub err_follows : (w : S) (i : Input) (f : KeyFeed) (e : ReadlineError) → Because d custom w f e → Follows {X = X} d custom (Ends (Err e)) w i w i f f (Err e)
-  err_follows w i f e why = record {
-    goes = λ told. (refl, refl, refl, refl);
+  pub needed_follows : (b : Bool) (s : Part X) (w : S) (i : Input) (f : KeyFeed) (e : ReadlineError) → e ≡ Memory → IsTrue b → Follows d custom (needing b s) w i w i f f (Err e)
+  unfolding Happens needing
+  needed_follows true s w i f e is taken = record {
+    goes = λ told n more. inr (Memory, (refl, refl), ap Err is);
     told = λ told. told;
     keeps = le_refl _;
     mode = refl;
-    reason = why;
+    reason = memory_because d custom w f e is;
   }
+  needed_follows false s w i f e is taken = absurd (true≢false (sym taken))
 
-  pub as_follows : (s t : Script X) (w w' : S) (i i' : Input) (f f' : KeyFeed) (r : Result X ReadlineError) → Follows d custom t w i w' i' f f' r → s ≡ t → Follows d custom s w i w' i' f f' r
-  as_follows s t w w' i i' f f' r follows is = subst (λ (u : Script X). Follows d custom u w i w' i' f f' r) (sym is) follows
+  -- want of memory, where it is taken
+  pub memory_follows : (s : Part X) (w : S) (i : Input) (f : KeyFeed) (e : ReadlineError) → e ≡ Memory → Follows d custom (needing true s) w i w i f f (Err e)
+  memory_follows s w i f e is = needed_follows true s w i f e is refl
+
+  pub as_follows : (s t : Part X) (w w' : S) (i i' : Input) (f f' : KeyFeed) (r : Result X ReadlineError) → Follows d custom t w i w' i' f f' r → s ≡ t → Follows d custom s w i w' i' f f' r
+  as_follows s t w w' i i' f f' r follows is = subst (λ (u : Part X). Follows d custom u w i w' i' f f' r) (sym is) follows
 
   -- what is kept changes, but never between Emacs and Vi
-  pub becomes_follows : (s : Script X) (w w' : S) (i j i' : Input) (f f' : KeyFeed) (r : Result X ReadlineError) → j.mode ≡ i.mode → Follows d custom s w j w' i' f f' r
-      → Follows d custom (Becomes j s) w i w' i' f f' r
+  pub becomes_follows : (s : Part X) (w w' : S) (i j i' : Input) (f f' : KeyFeed) (r : Result X ReadlineError) → j.mode ≡ i.mode → Follows d custom s w j w' i' f f' r
+      → Follows d custom (becoming j s) w i w' i' f f' r
+  unfolding Happens becoming
   becomes_follows s w w' i j i' f f' r same follows = record {
-    goes = follows.goes;
+    goes = λ told n more. inl (tt, stage w j f.coming, refl, follows.goes told n more);
     told = follows.told;
     keeps = follows.keeps;
     mode = follows.mode ∙ same;
@@ -190,25 +188,32 @@ module _ {S X : Type 0} (d : KnownDisplay S) (custom : Custom) where
   }
 
 -- a part that no display is asked of
-silent_goes : {S X : Type 0} (d : KnownDisplay S) (s : Script X) (w : S) (i i' : Input) (c c' : Coming) (r : Result X ReadlineError)
-    → Goes silent s tt i c r tt i' c' → Goes d s w i c r w i' c'
-silent_goes d (Ends answer) w i i' c c' r is = (is.0, refl, is.2, is.3)
-silent_goes d (Needs more) w i i' c c' r (inl goes) = inl (silent_goes d more w i i' c c' r goes)
-silent_goes d (Needs more) w i i' c c' r (inr cut) = inr (cut.0, refl, cut.2, cut.3)
-silent_goes d (Asks ask more) w i i' c c' r (inl (seen, made, goes)) = elim made [ ]
-silent_goes d (Asks ask more) w i i' c c' r (inr (e, is, why, cut, kept, stays)) = elim why [ ]
-silent_goes d (Reads item rest more) w i i' c c' r (inl goes) = inl (silent_goes d more w i i' rest c' r goes)
-silent_goes d (Reads item rest more) w i i' c c' r (inr (e, is, cut)) = inr (e, is, (cut.0, refl, cut.2, cut.3))
-silent_goes d (Becomes kept more) w i i' c c' r goes = silent_goes d more w kept i' c c' r goes
+module _ {S : Type 0} (d : KnownDisplay S) (w : S) where
+  abbrev drawn_on : Stage ⊤ → Stage S
+  drawn_on s = stage w s.input s.coming
+
+  silent_goes : {X : Type 0} (p : Steps X) (s t : Stage ⊤) (r : Result X ReadlineError) → Goes_by silent p s r t → Goes_by d p (drawn_on s) r (drawn_on t)
+  silent_goes (Ends answer) s t r is = (is.0, ap drawn_on is.1)
+  silent_goes (Asks Needs more) s t r (inl (x, u, made, goes)) = inl (x, drawn_on u, ap drawn_on made, silent_goes (more x) u t r goes)
+  silent_goes (Asks Needs more) s t r (inr (e, cut, is)) = inr (e, (cut.0, ap drawn_on cut.1), is)
+  silent_goes (Asks (Shows ask) more) s t r (inl (x, u, made, goes)) = elim made.0 [ ]
+  silent_goes (Asks (Shows ask) more) s t r (inr (e, cut, is)) = elim cut.1 [ ]
+  silent_goes (Asks (Reads item) more) s t r (inl (x, u, made, goes)) = inl (x, drawn_on u, (made.0, ap drawn_on made.1), silent_goes (more x) u t r goes)
+  silent_goes (Asks (Reads item) more) s t r (inr (e, cut, is)) = inr (e, (cut.0, ap drawn_on cut.1), is)
+  silent_goes (Asks (Becomes kept) more) s t r (inl (x, u, made, goes)) = inl (x, drawn_on u, ap drawn_on made, silent_goes (more x) u t r goes)
+  silent_goes (Asks (Becomes kept) more) s t r (inr (e, cut, is)) = elim cut [ ]
+  silent_goes (Asks (Refuses why) more) s t r (inl (x, u, made, goes)) = elim made [ ]
+  silent_goes (Asks (Refuses why) more) s t r (inr (e, cut, is)) = inr (e, (cut.0, ap drawn_on cut.1), is)
 
 silent_reason : {S X : Type 0} (d : KnownDisplay S) (custom : Custom) (w : S) (f : KeyFeed) (r : Result X ReadlineError) → IfErr r (λ e. Because silent custom tt f e) → IfErr r (λ e. Because d custom w f e)
 silent_reason d custom w f (Ok x) why = tt
 silent_reason d custom w f (Err e) why = silent_because d custom w f e why
 
-pub silent_follows : {S X : Type 0} (d : KnownDisplay S) (custom : Custom) (s : Script X) (w : S) (i i' : Input) (f f' : KeyFeed) (r : Result X ReadlineError) → Follows silent custom s tt i tt i' f f' r
+pub silent_follows : {S X : Type 0} (d : KnownDisplay S) (custom : Custom) (s : Part X) (w : S) (i i' : Input) (f f' : KeyFeed) (r : Result X ReadlineError) → Follows silent custom s tt i tt i' f f' r
     → Follows d custom s w i w i' f f' r
+unfolding Happens
 silent_follows d custom s w i i' f f' r quiet = record {
-  goes = λ told. silent_goes d s w i i' f.coming f'.coming r (quiet.goes told);
+  goes = λ told n more. silent_goes d w (steps s n) (stage tt i f.coming) (stage tt i' f'.coming) r (quiet.goes told n more);
   told = quiet.told;
   keeps = quiet.keeps;
   mode = quiet.mode;
@@ -217,62 +222,107 @@ silent_follows d custom s w i i' f f' r quiet = record {
 
 -- ---- reads
 
-module _ {S X Y : Type 0} (d : KnownDisplay S) (item : InputItem) (at : Coming → Result X ReadlineError) (next : X → Part Y) where
-  reads_stop : (given : Result X ReadlineError) (rest : Coming) (w : S) (i : Input) (c c' : Coming) (e : ReadlineError)
-      → ReadAs item given rest (Err e) c' → Goes d (read_by item next given rest) w i c (Err e) w i c'
-  reads_stop (Ok x) rest w i c c' e (inl is) = ok_not_err x e (sym is.0)
-  reads_stop (Ok x) rest w i c c' e (inr (f, fault, is, left)) = inr (f, fault, (err_same e f is, refl, refl, left))
-  reads_stop (Err g) rest w i c c' e (inl is) = inl (err_same e g is.0, refl, refl, is.1)
-  reads_stop (Err g) rest w i c c' e (inr (f, fault, is, left)) = inr (f, fault, (err_same e f is, refl, refl, left))
+module _ {S Y : Type 0} (d : KnownDisplay S) (item : InputItem) (next : Item item → Part Y) where
+  stops_by : (b : ℕ) (w : S) (i : Input) (c c' : Coming) (e : ReadlineError) → ReadAs item (item_at item c) (behind c) (Err e) c' → (n : ℕ) → b < n
+      → Goes_by d (steps (with_read item next) n) (stage w i c) (Err e) (stage w i c')
+  unfolding with_read
+  stops_by b w i c c' e read zero more = absurd (nothing_under more)
+  stops_by b w i c c' e (inl is) (suc n) more =
+      inr (e, (inl (sym is.0), ap (stage w i) (is.1 ∙ ap (λ (q : Result (Item item) ReadlineError). left q (behind c)) (sym is.0))), refl)
+  stops_by b w i c c' e (inr (f, fault, is, left)) (suc n) more = inr (f, (inr fault, ap (stage w i) left), err_same e f is)
 
-  reads_on : (given : Result X ReadlineError) (rest : Coming) (w w' : S) (i i' : Input) (c c1 c2 : Coming) (x : X) (r : Result Y ReadlineError)
-      → ReadAs item given rest (Ok x) c1 → Goes d (next x c1) w i c1 r w' i' c2 → Goes d (read_by item next given rest) w i c r w' i' c2
-  reads_on (Ok y) rest w w' i i' c c1 c2 x r (inl is) later = inl (rw (ap (value_or x) is.0, is.1) at later)
-  reads_on (Ok y) rest w w' i i' c c1 c2 x r (inr (f, fault, is, left)) later = ok_not_err x f is
-  reads_on (Err g) rest w w' i i' c c1 c2 x r (inl is) later = ok_not_err x g is.0
-  reads_on (Err g) rest w w' i i' c c1 c2 x r (inr (f, fault, is, left)) later = ok_not_err x f is
+  on_by : (b b1 : ℕ) (w : S) (i : Input) (c c1 : Coming) (t : Stage S) (x : Item item) (r : Result Y ReadlineError)
+      → ReadAs item (item_at item c) (behind c) (Ok x) c1 → b1 < b → ((n : ℕ) → b1 < n → Goes_by d (steps (next x) n) (stage w i c1) r t) → (n : ℕ) → b < n
+      → Goes_by d (steps (with_read item next) n) (stage w i c) r t
+  unfolding with_read
+  on_by b b1 w i c c1 t x r read falls later zero more = absurd (nothing_under more)
+  on_by b b1 w i c c1 t x r (inl is) falls later (suc n) more =
+      inl (x, stage w i c1, (sym is.0, ap (stage w i) (is.1 ∙ ap (λ (q : Result (Item item) ReadlineError). left q (behind c)) (sym is.0))), later n (lt_under falls more))
+  on_by b b1 w i c c1 t x r (inr (f, fault, is, left)) falls later (suc n) more = ok_not_err x f is
 
-  pub read_stops : (custom : Custom) (w : S) (i : Input) (f f' : KeyFeed) (e : ReadlineError) → ReadsBy item at f f' (Err e) → Follows d custom (with_read item at next f.coming) w i w i f f' (Err e)
+  pub read_stops : (custom : Custom) (w : S) (i : Input) (f f' : KeyFeed) (e : ReadlineError) → ReadsBy item (item_at item) f f' (Err e) → Follows d custom (with_read item next) w i w i f f' (Err e)
+  unfolding Happens
   read_stops custom w i f f' e reads = record {
-    goes = λ told. reads_stop (at f.coming) (behind f.coming) w i f.coming f'.coming e (reads.taken told);
+    goes = λ told. stops_by f.bound w i f.coming f'.coming e (reads.taken told);
     told = reads.told;
     keeps = reads.keeps;
     mode = refl;
     reason = reader_because d custom w f' e reads.refused reads.reason;
   }
 
-  pub read_follows : (custom : Custom) (x : X) (w w' : S) (i i' : Input) (f f1 f2 : KeyFeed) (r : Result Y ReadlineError) → ReadsBy item at f f1 (Ok x)
-      → Follows d custom (next x f1.coming) w i w' i' f1 f2 r → Follows d custom (with_read item at next f.coming) w i w' i' f f2 r
+  pub read_follows : (custom : Custom) (x : Item item) (w w' : S) (i i' : Input) (f f1 f2 : KeyFeed) (r : Result Y ReadlineError) → ReadsBy item (item_at item) f f1 (Ok x)
+      → Follows d custom (next x) w i w' i' f1 f2 r → Follows d custom (with_read item next) w i w' i' f f2 r
+  unfolding Happens
   read_follows custom x w w' i i' f f1 f2 r first second = record {
-    goes = λ told. reads_on (at f.coming) (behind f.coming) w w' i i' f.coming f1.coming f2.coming x r (first.taken (second.told told)) (second.goes told);
+    goes = λ told. on_by f.bound f1.bound w i f.coming f1.coming (stage w' i' f2.coming) x r (first.taken (second.told told)) first.falls (second.goes told);
     told = λ told. first.told (second.told told);
     keeps = le_trans second.keeps first.keeps;
     mode = second.mode;
     reason = second.reason;
   }
 
+module _ {S Y : Type 0} (d : KnownDisplay S) (custom : Custom) where
+  pub no_key : (next : KeyEvent → Part Y) (w : S) (i : Input) (f f' : KeyFeed) (e : ReadlineError) → ReadsBy Key key_at f f' (Err e) → Follows d custom (with_key next) w i w i f f' (Err e)
+  no_key next w i f f' e reads = read_stops d Key next custom w i f f' e reads
+
+  pub key_follows : (next : KeyEvent → Part Y) (k : KeyEvent) (w w' : S) (i i' : Input) (f f1 f2 : KeyFeed) (r : Result Y ReadlineError) → ReadsBy Key key_at f f1 (Ok k)
+      → Follows d custom (next k) w i w' i' f1 f2 r → Follows d custom (with_key next) w i w' i' f f2 r
+  key_follows next k w w' i i' f f1 f2 r first second = read_follows d Key next custom k w w' i i' f f1 f2 r first second
+
+  pub no_paste : (next : List ℕ → Part Y) (w : S) (i : Input) (f f' : KeyFeed) (e : ReadlineError) → ReadsBy Paste paste_at f f' (Err e) → Follows d custom (with_paste next) w i w i f f' (Err e)
+  no_paste next w i f f' e reads = read_stops d Paste next custom w i f f' e reads
+
+  pub paste_follows : (next : List ℕ → Part Y) (text : List ℕ) (w w' : S) (i i' : Input) (f f1 f2 : KeyFeed) (r : Result Y ReadlineError) → ReadsBy Paste paste_at f f1 (Ok text)
+      → Follows d custom (next text) w i w' i' f1 f2 r → Follows d custom (with_paste next) w i w' i' f f2 r
+  paste_follows next text w w' i i' f f1 f2 r first second = read_follows d Paste next custom text w w' i i' f f1 f2 r first second
+
 -- a read that is the whole part
-pub whole_read : {S X : Type 0} (d : KnownDisplay S) (item : InputItem) (at : Coming → Result X ReadlineError) (custom : Custom) (w : S) (i : Input) (f f' : KeyFeed) (r : Result X ReadlineError)
-    → ReadsBy item at f f' r → Follows d custom (with_read item at answered f.coming) w i w i f f' r
-whole_read d item at custom w i f f' (Ok x) reads = read_follows d item at answered custom x w w i i f f' f' (Ok x) reads (ends_follow d custom (answered x f'.coming) w i f' x refl)
-whole_read d item at custom w i f f' (Err e) reads = read_stops d item at answered custom w i f f' e reads
+module _ {S X : Type 0} (d : KnownDisplay S) (g : KeyEvent → X) where
+  made_by : (q : Result KeyEvent ReadlineError) (w : S) (i : Input) (c c' : Coming) (r : Result X ReadlineError) (n : ℕ) → key_at c ≡ q → r ≡ made_of g q → c' ≡ left (made_of g q) (behind c)
+      → Goes_by d (steps (from_key g) (suc n)) (stage w i c) r (stage w i c')
+  unfolding from_key with_read answered
+  made_by (Ok k) w i c c' r n is made left = inl (k, stage w i c', (is, ap (stage w i) left), (made, refl))
+  made_by (Err e) w i c c' r n is made left = inr (e, (inl is, ap (stage w i) left), made)
+
+  whole_by : (b : ℕ) (w : S) (i : Input) (c c' : Coming) (r : Result X ReadlineError) → ReadAs Key (from_key_at g c) (behind c) r c' → (n : ℕ) → b < n
+      → Goes_by d (steps (from_key g) n) (stage w i c) r (stage w i c')
+  unfolding from_key with_read
+  whole_by b w i c c' r read zero more = absurd (nothing_under more)
+  whole_by b w i c c' r (inl is) (suc n) more = made_by (key_at c) w i c c' r n refl is.0 is.1
+  whole_by b w i c c' r (inr (f, fault, is, left)) (suc n) more = inr (f, (inr fault, ap (stage w i) left), is)
+
+  whole_reason : (custom : Custom) (w : S) (f : KeyFeed) (r : Result X ReadlineError) → IfErr r IsReaderRefusal → IfErr r (λ e. f.reason e) → IfErr r (λ e. Because d custom w f e)
+  whole_reason custom w f (Ok x) is why = tt
+  whole_reason custom w f (Err e) is why = reader_because d custom w f e is why
+
+  pub whole_read : (custom : Custom) (w : S) (i : Input) (f f' : KeyFeed) (r : Result X ReadlineError) → ReadsBy Key (from_key_at g) f f' r → Follows d custom (from_key g) w i w i f f' r
+  unfolding Happens
+  whole_read custom w i f f' r reads = record {
+    goes = λ told. whole_by f.bound w i f.coming f'.coming r (reads.taken told);
+    told = reads.told;
+    keeps = reads.keeps;
+    mode = refl;
+    reason = whole_reason custom w f' r reads.refused reads.reason;
+  }
 
 -- ---- asks
 
 module _ {S A Y : Type 0} (d : KnownDisplay S) (custom : Custom) (ask : Ask) (next : Shown → Part Y) where
-  pub ask_stops : (w w' : S) (i : Input) (f : KeyFeed) (e : ReadlineError) → Draws {A = A} d ask w w' (Err e) → Follows d custom (asking ask next f.coming) w i w' i f f (Err e)
+  pub ask_stops : (w w' : S) (i : Input) (f : KeyFeed) (e : ReadlineError) → Draws {A = A} d ask w w' (Err e) → Follows d custom (asking ask next) w i w' i f f (Err e)
+  unfolding Happens asking
   ask_stops w w' i f e draws = record {
-    goes = λ told. inr (e, draws.err.0, draws.err.1, refl, refl, refl);
+    goes = λ told n more. inr (e, (draws.err.0, draws.err.1, refl), refl);
     told = λ told. told;
     keeps = le_refl _;
     mode = refl;
     reason = display_because d custom w' f e draws.err.0 (w, ask, draws.err.1);
   }
 
-  pub ask_follows : (u : A) (w w1 w2 : S) (i i2 : Input) (f f2 : KeyFeed) (r : Result Y ReadlineError) → Draws d ask w w1 (Ok u) → Follows d custom (next (d.shown w1) f.coming) w1 i w2 i2 f f2 r
-      → Follows d custom (asking ask next f.coming) w i w2 i2 f f2 r
+  pub ask_follows : (u : A) (w w1 w2 : S) (i i2 : Input) (f f2 : KeyFeed) (r : Result Y ReadlineError) → Draws d ask w w1 (Ok u) → Follows d custom (next (d.shown w1)) w1 i w2 i2 f f2 r
+      → Follows d custom (asking ask next) w i w2 i2 f f2 r
+  unfolding Happens asking
   ask_follows u w w1 w2 i i2 f f2 r first second = record {
-    goes = λ told. inl (w1, first.ok, second.goes told);
+    goes = λ told n more. inl (d.shown w1, stage w1 i f.coming, (first.ok, refl, refl), second.goes told n more);
     told = second.told;
     keeps = second.keeps;
     mode = second.mode;
@@ -282,22 +332,43 @@ module _ {S A Y : Type 0} (d : KnownDisplay S) (custom : Custom) (ask : Ask) (ne
 -- ---- what a binding answers
 
 module _ {S X Y : Type 0} (d : KnownDisplay S) (custom : Custom) (next : X → Part Y) (reply : Reply X) where
-  failing : (o : Option X) (w : S) (i : Input) (f : KeyFeed) → IsTrue (is_none o) → HandlerFails custom → Follows d custom (decided_by next o f.coming) w i w i f f (Err Handler)
-  failing None w i f is why = err_follows d custom w i f Handler why
+  abbrev decided : Option X → Part Y
+  decided o = Upto (λ n. decided_by (λ x. steps (next x) n) o)
+
+  failing : (o : Option X) (w : S) (i : Input) (f : KeyFeed) → IsTrue (is_none o) → HandlerFails custom → Follows d custom (decided o) w i w i f f (Err Handler)
+  unfolding Happens
+  failing None w i f is why = record {
+    goes = λ told n more. inr (Handler, (refl, refl), refl);
+    told = λ told. told;
+    keeps = le_refl _;
+    mode = refl;
+    reason = why;
+  }
   failing (Some x) w i f is why = absurd (true≢false (sym is))
 
   pub decides_stop : (w : S) (i : Input) (f : KeyFeed) (e : ReadlineError) → (IsTrue (fails reply) → HandlerFails custom) → IsRefusalOf reply e
-      → Follows d custom (deciding next reply f.coming) w i w i f f (Err e)
-  decides_stop w i f Handler why is =
-      needing_follows d custom reply.takes (decided_by next reply.answer f.coming) w w i i f f (Err Handler) (failing reply.answer w i f is (why is))
-  decides_stop w i f Memory why is = needed_follows d custom reply.takes (decided_by next reply.answer f.coming) w i f Memory refl is
+      → Follows d custom (deciding next reply) w i w i f f (Err e)
+  unfolding needing deciding
+  decides_stop w i f Handler why is = needing_follows d custom reply.takes (decided reply.answer) w w i i f f (Err Handler) (failing reply.answer w i f is (why is))
+  decides_stop w i f Memory why is = needed_follows d custom reply.takes (decided reply.answer) w i f Memory refl is
   decides_stop w i f _ why is = absurd is
 
+  -- a part is what its steps are
+  upto_steps : (p : Part Y) → Upto (steps p) ≡ p
+  upto_steps (Upto made) = refl
+
+  eta_follows : (p : Part Y) (w w' : S) (i i' : Input) (f f' : KeyFeed) (r : Result Y ReadlineError) → Follows d custom p w i w' i' f f' r → Follows d custom (Upto (steps p)) w i w' i' f f' r
+  eta_follows p w w' i i' f f' r follows = as_follows d custom (Upto (steps p)) p w w' i i' f f' r follows (upto_steps p)
+
+  led_on : (o : Option X) (x : X) (w w' : S) (i i' : Input) (f f' : KeyFeed) (r : Result Y ReadlineError) → o ≡ Some x
+      → Follows d custom (next x) w i w' i' f f' r → Follows d custom (decided o) w i w' i' f f' r
+  led_on o x w w' i i' f f' r is later = subst (λ (q : Option X). Follows d custom (decided q) w i w' i' f f' r) (sym is) (eta_follows (next x) w w' i i' f f' r later)
+
   pub decides_follow : (x : X) (w w' : S) (i i' : Input) (f f' : KeyFeed) (r : Result Y ReadlineError) → Decides reply (Ok x)
-      → Follows d custom (next x f.coming) w i w' i' f f' r → Follows d custom (deciding next reply f.coming) w i w' i' f f' r
+      → Follows d custom (next x) w i w' i' f f' r → Follows d custom (deciding next reply) w i w' i' f f' r
+  unfolding needing deciding
   decides_follow x w w' i i' f f' r decides later =
-      needing_follows d custom reply.takes (decided_by next reply.answer f.coming) w w' i i' f f' r
-      (subst (λ (o : Option X). Follows d custom (decided_by next o f.coming) w i w' i' f f' r) (sym decides.answer) later)
+      needing_follows d custom reply.takes (decided reply.answer) w w' i i' f f' r (led_on reply.answer x w w' i i' f f' r decides.answer later)
 
 -- whose failure it is: of the key's own binding, or of that of any key
 fails_any : (s : Situation) (k : KeyEvent) (any : Option Meaning) → s.custom.answers Any ≡ any → IsTrue (fails (answer_by (option_map (λ meaning t. taking (meaning t)) any) (shown_for s (single k)))) → HandlerFails s.custom
@@ -309,13 +380,13 @@ fails_by s k (Some meaning) is why = (single k, shown_for s (single k), subst (�
 fails_by s k None is why = fails_any s k (s.custom.answers Any) refl why
 
 pub key_stops : {S Y : Type 0} (d : KnownDisplay S) (s : Situation) (k : KeyEvent) (next : Option Cmd → Part Y) (w : S) (i : Input) (f : KeyFeed) (e : ReadlineError) → Decides (custom_answer s k) (Err e)
-    → Follows d s.custom (deciding next (custom_answer s k) f.coming) w i w i f f (Err e)
+    → Follows d s.custom (deciding next (custom_answer s k)) w i w i f f (Err e)
 key_stops d s k next w i f e decides = decides_stop d s.custom next (custom_answer s k) w i f e (fails_by s k (s.custom.answers (single k)) refl) decides.refusal
 
 -- ---- a command that is made of another one
 
 pub granted_follows : {S : Type 0} (d : KnownDisplay S) (custom : Custom) (cmd : Cmd) (w : S) (i : Input) (f : KeyFeed) (r : Result Cmd ReadlineError) → Copied cmd r
-    → Follows d custom (granted cmd f.coming) w i w i f f r
+    → Follows d custom (granted cmd) w i w i f f r
 granted_follows d custom cmd w i f (Ok c) copied =
-    needing_follows d custom (holds_text cmd) (Ends (Ok cmd)) w w i i f f (Ok c) (ends_follow d custom (Ends (Ok cmd)) w i f c (ap (λ (y : Cmd). Ends (Ok y)) (sym copied.ok)))
-granted_follows d custom cmd w i f (Err e) copied = needed_follows d custom (holds_text cmd) (Ends (Ok cmd)) w i f e copied.err.0 copied.err.1
+    needing_follows d custom (holds_text cmd) (answered cmd) w w i i f f (Ok c) (ends_follow d custom (answered cmd) w i f c (ap (λ (y : Cmd). answered y) (sym copied.ok)))
+granted_follows d custom cmd w i f (Err e) copied = needed_follows d custom (holds_text cmd) (answered cmd) w i f e copied.err.0 copied.err.1

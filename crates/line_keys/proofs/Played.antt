@@ -1,9 +1,12 @@
--- A phrase played to its end, where nothing fails, for worked rows: its answer, what is kept, what was
--- asked in order, and what is left to come.
-use Rattle.std.specs.Prelude.{List, [], ◌∷◌, Result}
+-- A phrase played to its end, where only the input refuses, for worked rows: its answer, what is kept,
+-- what was asked of the display in order, and what is left to come.
+use Rattle.std.specs.Prelude.{List, [], ◌∷◌, Result, Ok, Err}
 use Rattle.line_config.specs.declared.errors.ReadlineError.{ReadlineError}
-use Rattle.line_keys.specs.Coming.{Coming}
-use Rattle.line_keys.specs.Phrases.{Input, Script, Ends, Needs, Asks, Reads, Becomes}
+use Rattle.line_config.specs.Played.{Played as PlayedBy, played as played_by}
+use Rattle.line_keys.specs.Coming.{Coming, behind, left}
+use Rattle.line_keys.specs.Feeds.{item_at}
+use Rattle.line_keys.specs.Follows.{Stage, stage}
+use Rattle.line_keys.specs.Phrases.{Input, KeyAsk, Answer, Steps, Needs, Shows, Reads, Becomes, Refuses}
 use Rattle.line_keys.specs.Refreshing.{Shown, Ask}
 
 pub record Played (X : Type 0) : Type 0 where
@@ -12,20 +15,28 @@ pub record Played (X : Type 0) : Type 0 where
   pub asks : List Ask
   pub rest : Coming
 
-abbrev pub asked_first : {X : Type 0} → Ask → Played X → Played X
-asked_first ask p = record p { asks = ask ∷ p.asks }
+-- nothing changes what is shown
+abbrev answer_of : Stage Shown → (ask : KeyAsk) → Result (Answer ask) ReadlineError
+answer_of s Needs = Ok tt
+answer_of s (Shows ask) = Ok s.wrt
+answer_of s (Reads item) = item_at item s.coming
+answer_of s (Becomes input) = Ok tt
+answer_of s (Refuses why) = Err why
 
--- the rule says what is shown after an ask
-abbrev pub played : {X : Type 0} → (Shown → Ask → Shown) → Shown → Input → Coming → Script X
-    → Played X
-played rule shown input c (Ends answer) = record {
-  answer = answer;
-  input = input;
-  asks = [];
-  rest = c;
-}
-played rule shown input c (Needs later) = played rule shown input c later
-played rule shown input c (Asks ask later) =
-    asked_first ask (played rule (rule shown ask) input c (later (rule shown ask)))
-played rule shown input c (Reads item rest later) = played rule shown input rest later
-played rule shown input c (Becomes kept later) = played rule shown kept c later
+abbrev left_of : Stage Shown → KeyAsk → Stage Shown
+left_of s (Reads item) = record s { coming = left (item_at item s.coming) (behind s.coming) }
+left_of s (Becomes input) = record s { input = input }
+left_of s ask = s
+
+abbrev pub played_all : {X : Type 0} → Shown → Input → Coming → Steps X → PlayedBy KeyAsk (Stage Shown) ReadlineError X
+played_all shown input c steps = played_by (record { answer = answer_of; left = left_of }) steps (stage shown input c)
+
+abbrev shown_asks : List KeyAsk → List Ask
+shown_asks [] = []
+shown_asks (Shows ask ∷ asks) = ask ∷ shown_asks asks
+shown_asks (ask ∷ asks) = shown_asks asks
+
+abbrev pub played : {X : Type 0} → Shown → Input → Coming → Steps X → Played X
+played shown input c steps =
+    let p = played_all shown input c steps in
+    record { answer = p.answer; input = p.rest.input; asks = shown_asks p.asks; rest = p.rest.coming }

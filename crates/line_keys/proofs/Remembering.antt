@@ -7,21 +7,21 @@ use Rattle.line_keys.specs.Answers.{Custom}
 use Rattle.line_keys.specs.Commands.{holds_text}
 use Rattle.line_keys.specs.Feeds.{KeyFeed}
 use Rattle.line_keys.specs.Follows.{Follows}
-use Rattle.line_keys.specs.Phrases.{Input, Ends, Becomes}
+use Rattle.line_keys.specs.Phrases.{Input, answered, becoming}
 use Rattle.line_keys.specs.Refreshing.{KnownDisplay}
 use Rattle.line_keys.specs.Vi.{Remembers, entered, remembering, with_last}
 use Rattle.line_keys.proofs.Following.{ends_follow, needing_follows, becomes_follows, needed_follows}
 
 module _ {S : Type 0} (d : KnownDisplay S) (custom : Custom) (w : S) (i : Input) (f : KeyFeed) where
-  at_end : (cmd c : Cmd) (j k : Input) → c ≡ cmd → k ≡ j → Follows d custom (Ends (Ok cmd)) w j w k f f (Ok c)
-  at_end cmd c j k same kept = subst (λ (x : Input). Follows d custom (Ends (Ok cmd)) w j w x f f (Ok c)) (sym kept)
-      (ends_follow d custom (Ends (Ok cmd)) w j f c (ap (λ (x : Cmd). Ends (Ok x)) (sym same)))
+  at_end : (cmd c : Cmd) (j k : Input) → c ≡ cmd → k ≡ j → Follows d custom (answered cmd) w j w k f f (Ok c)
+  at_end cmd c j k same kept = subst (λ (x : Input). Follows d custom (answered cmd) w j w x f f (Ok c)) (sym kept)
+      (ends_follow d custom (answered cmd) w j f c (ap (λ (x : Cmd). answered x) (sym same)))
 
-  pub remember_follows : (is : Bool) (cmd : Cmd) (i' : Input) (r : Result Cmd ReadlineError) → Remembers is cmd i i' r → Follows d custom (remembering is cmd i f.coming) w i w i' f f r
-  remember_follows true cmd i' (Ok c) remembers = needing_follows d custom (holds_text cmd) (Becomes (with_last cmd i) (Ends (Ok cmd))) w w i i' f f (Ok c)
-      (becomes_follows d custom (Ends (Ok cmd)) w w i (with_last cmd i) i' f f (Ok c) refl (at_end cmd c (with_last cmd i) i' remembers.ok.0 remembers.ok.1))
-  remember_follows true cmd i' (Err e) remembers = subst (λ (x : Input). Follows d custom (remembering true cmd i f.coming) w i w x f f (Err e)) (sym remembers.err.3)
-      (needed_follows d custom (holds_text cmd) (Becomes (with_last cmd i) (Ends (Ok cmd))) w i f e remembers.err.0 remembers.err.2)
+  pub remember_follows : (is : Bool) (cmd : Cmd) (i' : Input) (r : Result Cmd ReadlineError) → Remembers is cmd i i' r → Follows d custom (remembering is cmd i) w i w i' f f r
+  remember_follows true cmd i' (Ok c) remembers = needing_follows d custom (holds_text cmd) (becoming (with_last cmd i) (answered cmd)) w w i i' f f (Ok c)
+      (becomes_follows d custom (answered cmd) w w i (with_last cmd i) i' f f (Ok c) refl (at_end cmd c (with_last cmd i) i' remembers.ok.0 remembers.ok.1))
+  remember_follows true cmd i' (Err e) remembers = subst (λ (x : Input). Follows d custom (remembering true cmd i) w i w x f f (Err e)) (sym remembers.err.3)
+      (needed_follows d custom (holds_text cmd) (becoming (with_last cmd i) (answered cmd)) w i f e remembers.err.0 remembers.err.2)
   remember_follows false cmd i' (Ok c) remembers = at_end cmd c i i' remembers.ok.0 remembers.ok.1
   remember_follows false cmd i' (Err e) remembers = absurd (true≢false (sym remembers.err.1))
 

@@ -2,17 +2,17 @@
 use Rattle.std.specs.Fmt.{signed_decimal}
 use Rattle.std.specs.Prelude.{ℕ, ◌-◌, ◌==◌, nat_le, nat_lt, ℤ, pos, neg_ℤ, ◌+ℤ◌, ◌*ℤ◌, nat_abs, int_lt}
 use Rattle.std.specs.Prelude.{Bool, true, not, ◌&&◌, ◌||◌, List, ◌++◌, codes, if◌then◌else◌}
-use Rattle.std.specs.Prelude.{Option, Some, None, Ok}
-use Rattle.line_config.specs.declared.errors.ReadlineError.TheVariants.{PasteOutOfPlace}
+use Rattle.std.specs.Prelude.{Option, Some, None, zero, suc}
+use Rattle.line_config.specs.Scripts.{Ends, Asks}
+use Rattle.line_config.specs.declared.errors.ReadlineError.TheVariants.{Memory}
 use Rattle.line_config.specs.declared.settings.EditMode.{EditMode}
 use Rattle.line_config.specs.declared.settings.EditMode.TheVariants.{Emacs, Vi}
 use Rattle.line_keys.specs.declared.key.KeyCode.{KeyCode}
 use Rattle.line_keys.specs.declared.key.KeyCode.TheVariants.{Char}
 use Rattle.line_keys.specs.declared.key.KeyEvent.{KeyEvent}
-use Rattle.line_keys.specs.Coming.{Pressed, Pasted, CutOff, Ends as NoMore, Refused, refusal_of}
 use Rattle.line_keys.specs.Feeds.{Key}
 use Rattle.line_keys.specs.Keys.{none, alt}
-use Rattle.line_keys.specs.Phrases.{Script, Ends, Needs, Asks, Reads, Part, answered, asking, refused}
+use Rattle.line_keys.specs.Phrases.{Needs, Shows, Reads, Steps, Part, Upto, answered, refused}
 use Rattle.line_keys.specs.Refreshing.{Line, Prompted}
 
 -- a key, after the count that was typed before it, if there was one
@@ -116,25 +116,23 @@ begun_by Vi = vi_begun_by
 
 -- what a key is to a count so far: one more of its keys, or the one after it, before which the line
 -- is drawn anew
-abbrev pub counting_by : (ℤ → Script Counted) → ℤ → KeyEvent → Option ℤ → Script Counted
+abbrev pub counting_by : (ℤ → Steps Counted) → ℤ → KeyEvent → Option ℤ → Steps Counted
 counting_by more c k (Some d) = more d
-counting_by more c k None = Asks Line (λ shown. Ends (Ok (Some c, k)))
+counting_by more c k None = Asks (Shows Line) (λ shown. Ends (Some c, k))
+
+-- a prompt takes memory
+abbrev pub prompting : ℤ → Steps Counted → Steps Counted
+prompting c next = Asks Needs (λ none. Asks (Shows (Prompted (prompt_for c))) (λ shown. next))
 
 -- the rest of a count, with the keys that `on` says belong to it: before each further key a prompt
 -- is asked for
-abbrev pub counting_read : (ℤ → KeyEvent → Option ℤ) → ℤ → Part Counted
-counting_read on c (Pressed k rest) =
-    Reads Key rest
-    (counting_by (λ d. Needs (Asks (Prompted (prompt_for d)) (λ shown. counting_read on d rest)))
-    c k (on c k))
-counting_read on c (Pasted text rest) = refused PasteOutOfPlace
-counting_read on c (CutOff last) = refused PasteOutOfPlace
-counting_read on c (NoMore last) = refused (refusal_of last)
-counting_read on c (Refused why) = refused why
+abbrev pub counting_read : (ℤ → KeyEvent → Option ℤ) → ℤ → ℕ → Steps Counted
+counting_read on c zero = refused Memory
+counting_read on c (suc n) =
+    Asks (Reads Key) (λ k. counting_by (λ d. prompting d (counting_read on d n)) c k (on c k))
 
--- a prompt takes memory
 unfoldable pub counting : (ℤ → KeyEvent → Option ℤ) → ℤ → Part Counted
-counting on c coming = Needs (asking (Prompted (prompt_for c)) (λ shown. counting_read on c) coming)
+counting on c = Upto (λ n. prompting c (counting_read on c n))
 
 abbrev pub counting_or : EditMode → KeyEvent → Option ℤ → Part Counted
 counting_or mode k (Some c) = counting (counted_on mode) c

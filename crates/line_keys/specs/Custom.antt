@@ -1,17 +1,17 @@
 -- What custom bindings make of keys: of one, and of the sequence that it begins.
 use Rattle.std.specs.Prelude.{ℕ, Bool, List, [], ◌∷◌, ◌++◌, slice_get, if◌then◌else◌}
-use Rattle.std.specs.Prelude.{Option, Some, None, Ok, option_map}
-use Rattle.line_config.specs.declared.errors.ReadlineError.TheVariants.{PasteOutOfPlace}
+use Rattle.std.specs.Prelude.{Option, Some, None, option_map, zero, suc}
+use Rattle.line_config.specs.declared.errors.ReadlineError.TheVariants.{Memory}
+use Rattle.line_config.specs.Scripts.{Ends, Asks}
 use Rattle.line_keys.specs.declared.command.Cmd.{Cmd}
 use Rattle.line_keys.specs.declared.events.Event.{Event}
 use Rattle.line_keys.specs.declared.events.Event.TheVariants.{Any, KeySeq}
 use Rattle.line_keys.specs.declared.key.KeyEvent.{KeyEvent}
 use Rattle.line_keys.specs.Answers.{Custom, answer_by}
-use Rattle.line_keys.specs.Coming.{Pressed, Pasted, CutOff, Ends as NoMore, Refused, refusal_of}
 use Rattle.line_keys.specs.Events.{single}
 use Rattle.line_keys.specs.Feeds.{Key}
 use Rattle.line_keys.specs.Handling.{Meaning, Showing}
-use Rattle.line_keys.specs.Phrases.{Input, Script, Ends, Reads, Part, answered, deciding, needing, refused}
+use Rattle.line_keys.specs.Phrases.{Input, Reads, Steps, Part, Upto, needing, refused, replied}
 use Rattle.line_keys.specs.Refreshing.{Shown}
 use Rattle.line_keys.specs.Replies.{Reply, taking}
 use Rattle.line_keys.specs.Showing.{seen_of}
@@ -66,30 +66,26 @@ pub data Followed : Type 0 where
   Unbound : (second : Option KeyEvent) → Followed
 
 -- a command ends the sequence, and where there is none the sequence goes on
-abbrev pub bound_by : Script Followed → Option Cmd → Part Followed
-bound_by more (Some cmd) rest = Ends (Ok (Bound cmd))
-bound_by more None rest = more
+abbrev pub bound_by : Steps Followed → Option Cmd → Steps Followed
+bound_by more (Some cmd) = Ends (Bound cmd)
+bound_by more None = more
 
 -- the keys read in vain are lost, but for the second
-abbrev pub in_vain : List KeyEvent → Part Followed
-in_vain keys = answered (Unbound (slice_get keys 1))
+abbrev pub in_vain : List KeyEvent → Steps Followed
+in_vain keys = Ends (Unbound (slice_get keys 1))
 
-abbrev pub following : Situation → List KeyEvent → Part Followed
-following s keys (Pressed k rest) =
+abbrev pub following_upto : Situation → List KeyEvent → ℕ → Steps Followed
+following_upto s keys zero = if s.custom.begins keys then refused Memory else in_vain keys
+following_upto s keys (suc n) =
     if s.custom.begins keys
-    then Reads Key rest
-    (deciding (bound_by (following s (keys ++ k ∷ []) rest)) (sequence_answer s (keys ++ k ∷ []))
-    rest)
-    else in_vain keys (Pressed k rest)
-following s keys (Pasted text rest) =
-    if s.custom.begins keys then refused PasteOutOfPlace else in_vain keys (Pasted text rest)
-following s keys (CutOff last) =
-    if s.custom.begins keys then refused PasteOutOfPlace else in_vain keys (CutOff last)
-following s keys (NoMore last) =
-    if s.custom.begins keys then refused (refusal_of last) else in_vain keys (NoMore last)
-following s keys (Refused why) =
-    if s.custom.begins keys then refused why else in_vain keys (Refused why)
+    then Asks (Reads Key)
+    (λ k. replied (bound_by (following_upto s (keys ++ k ∷ []) n))
+    (sequence_answer s (keys ++ k ∷ [])))
+    else in_vain keys
+
+unfoldable pub following : Situation → List KeyEvent → Part Followed
+following s keys = Upto (following_upto s keys)
 
 -- the sequence that begins with this key, which is kept in memory where a bound one begins so
 unfoldable pub followed : Situation → KeyEvent → Part Followed
-followed s k c = needing (s.custom.begins (k ∷ [])) (following s (k ∷ []) c)
+followed s k = needing (s.custom.begins (k ∷ [])) (following s (k ∷ []))

@@ -1,8 +1,9 @@
 -- What is known of a reader of keys, and what each read makes of it.
-use Rattle.std.specs.Prelude.{◌≡◌, ℕ, ◌<◌, ◌≤◌, ◌⊎◌, ⊤, Bool, Result, Err, IsTrue, IfErr, OnOk}
+use Rattle.std.specs.Prelude.{◌≡◌, ℕ, List, ◌<◌, ◌≤◌, ◌⊎◌, ⊤, Bool, Result, Err, IsTrue, IfErr, OnOk}
 use Rattle.line_config.specs.declared.errors.ReadlineError.{ReadlineError}
 use Rattle.line_config.specs.declared.errors.ReadlineError.TheVariants.{Memory}
-use Rattle.line_keys.specs.Coming.{Coming, behind, left, left_by}
+use Rattle.line_keys.specs.declared.key.KeyEvent.{KeyEvent}
+use Rattle.line_keys.specs.Coming.{Coming, key_at, paste_at, behind, left, left_by}
 use Rattle.line_keys.specs.Faults.{IsReaderRefusal}
 
 pub record KeyFeed : Type 1 where
@@ -18,6 +19,15 @@ pub record KeyFeed : Type 1 where
 pub data InputItem : Type 0 where
   Key : InputItem
   Paste : InputItem
+
+abbrev pub Item : InputItem → Type 0
+Item Key = KeyEvent
+Item Paste = List ℕ
+
+-- the answer where it is asked for
+abbrev pub item_at : (item : InputItem) → Coming → Result (Item item) ReadlineError
+item_at Key = key_at
+item_at Paste = paste_at
 
 -- what a read may be refused for that no input gives: want of memory for a pasted text
 abbrev pub IsReadFault : InputItem → ReadlineError → Type 0

@@ -1,40 +1,55 @@
 -- A call makes the steps of its definition, in order, to the answer or to the step at which a fault
 -- cuts it.
-use Rattle.std.specs.Prelude.{◌≡◌, ◌≤◌, ◌⊎◌, ⊤, false, [], None, Result, Err, IsTrue, IfErr}
+use Rattle.std.specs.Prelude.{◌≡◌, ℕ, ◌<◌, ◌≤◌, ◌⊎◌, ⊤, false, [], None, Result, Ok, Err, IsTrue, IfErr}
 use Rattle.line_config.specs.declared.errors.ReadlineError.{ReadlineError}
 use Rattle.line_config.specs.declared.errors.ReadlineError.TheVariants.{Eof, Interrupted, NotUtf8, PasteOutOfPlace, Reader, Display as DisplayFault, Lines, HistoryText, Helper, Handler, Memory}
 use Rattle.line_keys.specs.Answers.{Custom, HandlerFails}
-use Rattle.line_keys.specs.Coming.{Coming, left_by}
-use Rattle.line_keys.specs.Feeds.{KeyFeed, IsReadFault}
-use Rattle.line_keys.specs.Phrases.{Input, Script, Ends, Needs, Asks, Reads, Becomes}
+use Rattle.line_config.specs.Scripts.{World, Goes}
+use Rattle.line_keys.specs.Coming.{Coming, behind, left_by}
+use Rattle.line_keys.specs.Feeds.{KeyFeed, item_at, IsReadFault}
+use Rattle.line_keys.specs.Phrases.{Input, KeyAsk, Answer, Part, steps, Needs, Shows, Reads, Becomes, Refuses}
 use Rattle.line_keys.specs.Refreshing.{Ask, KnownDisplay, IsDrawFault}
 
--- no more is done: the answer is this
-abbrev pub Stays : {S X : Type 0} → Result X ReadlineError → S → Input → Coming
-    → Result X ReadlineError → S → Input → Coming → Type 0
-Stays answer wrt input c result wrt' input' c' =
-    (result ≡ answer) × (wrt' ≡ wrt) × (input' ≡ input) × (c' ≡ c)
+-- what is asked is asked of a display, what is kept, and what comes
+pub record Stage (S : Type 0) : Type 0 where
+  pub wrt : S
+  pub input : Input
+  pub coming : Coming
 
--- memory cuts only where it is taken; a read where a pasted text finds no memory; an ask where the
--- display refuses it
-abbrev pub Goes : {S X : Type 0} → KnownDisplay S → Script X → S → Input → Coming
-    → Result X ReadlineError → S → Input → Coming → Type 0
-Goes d (Ends answer) wrt input c result wrt' input' c' =
-    Stays answer wrt input c result wrt' input' c'
-Goes d (Needs later) wrt input c result wrt' input' c' =
-    Goes d later wrt input c result wrt' input' c'
-    ⊎ Stays (Err Memory) wrt input c result wrt' input' c'
-Goes {S} d (Asks ask later) wrt input c result wrt' input' c' =
-    ((asked : S) × d.asked wrt ask asked
-    × Goes d (later (d.shown asked)) asked input c result wrt' input' c')
-    ⊎ ((e : ReadlineError) × IsDrawFault e × d.refused wrt ask e wrt' × (result ≡ Err e)
-    × (input' ≡ input) × (c' ≡ c))
-Goes d (Reads item rest later) wrt input c result wrt' input' c' =
-    Goes d later wrt input rest result wrt' input' c'
-    ⊎ ((e : ReadlineError) × IsReadFault item e
-    × Stays (Err e) wrt input (left_by e) result wrt' input' c')
-Goes d (Becomes kept later) wrt input c result wrt' input' c' =
-    Goes d later wrt kept c result wrt' input' c'
+abbrev pub stage : {S : Type 0} → S → Input → Coming → Stage S
+stage wrt input coming = record { wrt = wrt; input = input; coming = coming }
+
+-- what each ask makes of them, and its answer
+abbrev pub KeyMade : {S : Type 0} → KnownDisplay S → Stage S → (ask : KeyAsk) → Answer ask
+    → Stage S → Type 0
+KeyMade d s Needs answer t = t ≡ s
+KeyMade d s (Shows ask) shown t =
+    d.asked s.wrt ask t.wrt × (shown ≡ d.shown t.wrt) × (t ≡ record s { wrt = t.wrt })
+KeyMade d s (Reads item) read t =
+    (item_at item s.coming ≡ Ok read) × (t ≡ record s { coming = behind s.coming })
+KeyMade d s (Becomes input) answer t = t ≡ record s { input = input }
+KeyMade d s (Refuses why) answer t = ⊥
+
+-- memory cuts only where it is taken; a read where the input refuses it, or a pasted text finds no
+-- memory; an ask where the display refuses it
+abbrev pub KeyCut : {S : Type 0} → KnownDisplay S → Stage S → KeyAsk → ReadlineError → Stage S
+    → Type 0
+KeyCut d s Needs e t = (e ≡ Memory) × (t ≡ s)
+KeyCut d s (Shows ask) e t =
+    IsDrawFault e × d.refused s.wrt ask e t.wrt × (t ≡ record s { wrt = t.wrt })
+KeyCut d s (Reads item) e t =
+    ((item_at item s.coming ≡ Err e) ⊎ IsReadFault item e) × (t ≡ record s { coming = left_by e })
+KeyCut d s (Becomes input) e t = ⊥
+KeyCut d s (Refuses why) e t = (e ≡ why) × (t ≡ s)
+
+abbrev pub key_world : {S : Type 0} → KnownDisplay S → World KeyAsk Answer (Stage S) ReadlineError
+key_world d = record { made = KeyMade d; cut = KeyCut d }
+
+-- the steps of a part, with leave to read more often than there is something to read
+unfoldable pub Happens : {S X : Type 0} → KnownDisplay S → ℕ → Part X → Stage S
+    → Result X ReadlineError → Stage S → Type 0
+Happens d bound part s result t =
+    (n : ℕ) → bound < n → Goes (key_world d) (steps part n) s result t
 
 -- the display refused some ask so
 abbrev pub Undrawn : {S : Type 0} → KnownDisplay S → S → ReadlineError → Type 0
@@ -56,10 +71,11 @@ Because d custom wrt feed Handler = HandlerFails custom
 Because d custom wrt feed Memory = ⊤
 
 -- THE relation of a call that reads, asks and keeps
-pub record Follows {S X : Type 0} (d : KnownDisplay S) (custom : Custom) (script : Script X)
+pub record Follows {S X : Type 0} (d : KnownDisplay S) (custom : Custom) (part : Part X)
     (wrt : S) (input : Input) (wrt' : S) (input' : Input)
     (feed feed' : KeyFeed) (result : Result X ReadlineError) : Type 0 where
-  pub goes : IsTrue feed'.told → Goes d script wrt input feed.coming result wrt' input' feed'.coming
+  pub goes : IsTrue feed'.told → Happens d feed.bound part
+      (stage wrt input feed.coming) result (stage wrt' input' feed'.coming)
   pub told : IsTrue feed'.told → IsTrue feed.told
   pub keeps : feed'.bound ≤ feed.bound
   -- Emacs or Vi for good

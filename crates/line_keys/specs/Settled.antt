@@ -1,7 +1,8 @@
 -- Which prompt stands after the asks of a phrase: the session's own, or that of a count.
-use Rattle.std.specs.Prelude.{⊤, Bool, true, false, IsTrue, Ok, Err}
-use Rattle.line_keys.specs.Phrases.{Script, Ends, Needs, Asks, Reads, Becomes}
-use Rattle.line_keys.specs.Refreshing.{Shown, Ask, Line, Message, Prompted, DoingInsert, DoneInserting}
+use Rattle.std.specs.Prelude.{Bool, true, false, IsTrue}
+use Rattle.line_config.specs.Scripts.{Ends, Asks}
+use Rattle.line_keys.specs.Phrases.{KeyAsk, Answer, Steps, Shows}
+use Rattle.line_keys.specs.Refreshing.{Ask, Line, Message, Prompted, DoingInsert, DoneInserting}
 
 -- the session's own prompt stands after the ask, where it did or didn't before
 abbrev pub own_by : Bool → Ask → Bool
@@ -11,11 +12,11 @@ own_by own (Prompted prompt) = false
 own_by own DoingInsert = own
 own_by own DoneInserting = own
 
--- wherever the steps lead to an answer that is no refusal, the session's own prompt stands
-abbrev pub Settles : {X : Type 0} → Bool → Script X → Type 0
-Settles own (Ends (Ok x)) = IsTrue own
-Settles own (Ends (Err e)) = ⊤
-Settles own (Needs later) = Settles own later
-Settles own (Asks ask later) = (shown : Shown) → Settles (own_by own ask) (later shown)
-Settles own (Reads item rest later) = Settles own later
-Settles own (Becomes input later) = Settles own later
+abbrev pub own_by_key : Bool → KeyAsk → Bool
+own_by_key own (Shows ask) = own_by own ask
+own_by_key own ask = own
+
+-- wherever the steps lead to an answer, the session's own prompt stands
+abbrev pub Settles : {X : Type 0} → Bool → Steps X → Type 0
+Settles own (Ends x) = IsTrue own
+Settles own (Asks ask later) = (x : Answer ask) → Settles (own_by_key own ask) (later x)

@@ -1,6 +1,6 @@
 -- The keys of Vi mode.
 use Rattle.std.specs.Prelude.{◌≡◌, IsTrue, IfOk, IfErr, ℕ, Bool, true, false, not, ◌&&◌, if◌then◌else◌}
-use Rattle.std.specs.Prelude.{Option, Some, None, unwrap_or, Result, Ok}
+use Rattle.std.specs.Prelude.{Option, Some, None, unwrap_or, Result}
 use Rattle.line_buffer.specs.declared.types.Movement.{Movement}
 use Rattle.line_config.specs.declared.errors.ReadlineError.{ReadlineError}
 use Rattle.line_config.specs.declared.errors.ReadlineError.TheVariants.{Memory}
@@ -17,7 +17,7 @@ use Rattle.line_keys.specs.Counts.{Counted, counted_key, how_often}
 use Rattle.line_keys.specs.Custom.{Situation, situation}
 use Rattle.line_keys.specs.Keys.{key_with, none}
 use Rattle.line_keys.specs.Modes.{takes_commands}
-use Rattle.line_keys.specs.Phrases.{Input, Ends, Becomes, Part, answered, asking, becoming, from_key, needing, and_then}
+use Rattle.line_keys.specs.Phrases.{Input, Part, answered, asking, becoming, from_key, needing, and_then}
 use Rattle.line_keys.specs.Redone.{anew_or}
 use Rattle.line_keys.specs.Refreshing.{Shown, DoingInsert, DoneInserting}
 use Rattle.line_keys.specs.Tables.{look, done}
@@ -38,7 +38,7 @@ with_last cmd input = record input { last = cmd }
 -- a copy of a command is remembered
 abbrev pub remembering : Bool → Cmd → Input → Part Cmd
 remembering true cmd input =
-    λ c. needing (holds_text cmd) (Becomes (with_last cmd input) (Ends (Ok cmd)))
+    needing (holds_text cmd) (becoming (with_last cmd input) (answered cmd))
 remembering false cmd input = answered cmd
 
 -- a call that remembers a command, or does nothing

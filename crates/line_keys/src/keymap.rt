@@ -86,8 +86,7 @@ impl<'b, D: Decides> InputState<'b, D> {
     ) -> Result<Cmd, ReadlineError>
         ensures phrase { let custom = custom_in self.old D.decides in
             let input = input_of self.old in
-            let coming = (R.feed rdr.old).coming in
-            Follows W.display custom (phrase custom input (W.display.shown wrt.old) coming)
+            Follows W.display custom (phrase custom input (W.display.shown wrt.old))
             wrt.old input wrt.new (input_of self.new) (R.feed rdr.old) (R.feed rdr.new) result }
         ensures bindings { self.new.custom_bindings ≡ self.old.custom_bindings }
         ensures falls { OnOk result ((R.feed rdr.new).bound < (R.feed rdr.old).bound) }
@@ -108,9 +107,8 @@ impl<'b, D: Decides> InputState<'b, D> {
     ) -> Result<Cmd, ReadlineError>
         ensures phrase { let custom = custom_in self.old D.decides in
             let input = input_of self.old in
-            let coming = (R.feed rdr.old).coming in
             let shown = W.display.shown wrt.old in
-            Follows W.display custom (phrase_from input.mode custom input shown key coming)
+            Follows W.display custom (phrase_from input.mode custom input shown key)
             wrt.old input wrt.new (input_of self.new) (R.feed rdr.old) (R.feed rdr.new) result }
         ensures bindings { self.new.custom_bindings ≡ self.old.custom_bindings }
     {

@@ -3,11 +3,10 @@
 ghost use Rattle.std.specs.Prelude.{◌≡◌, ◌↔◌, IsTrue};
 ghost use Rattle.line_keys.specs.declared.key.KeyEvent.{KeyEvent};
 ghost use Rattle.line_keys.specs.declared.events.Event.{Event};
-ghost use Rattle.std.specs.Prelude.{true};
+ghost use Rattle.std.specs.Prelude.{ℕ, true};
 ghost use Rattle.line_keys.specs.Answers.{Custom};
-ghost use Rattle.line_keys.specs.Coming.{Coming};
 ghost use Rattle.line_keys.specs.Phrase.{phrase};
-ghost use Rattle.line_keys.specs.Phrases.{Input};
+ghost use Rattle.line_keys.specs.Phrases.{Input, steps};
 ghost use Rattle.line_keys.specs.Refreshing.{Shown};
 ghost use Rattle.line_keys.specs.Settled.{Settles};
 
@@ -34,6 +33,6 @@ pub fn event_equality()
 /// A phrase that gives a command leaves the session's own prompt: a count's is drawn over.
 #[tactic(auto, using(crate::proofs::Settling::phrase_settles))]
 pub fn phrases_settle()
-    ensures { (custom : Custom) (input : Input) (shown : Shown) (coming : Coming)
-        → Settles true (phrase custom input shown coming) }
+    ensures { (custom : Custom) (input : Input) (shown : Shown) (n : ℕ)
+        → Settles true (steps (phrase custom input shown) n) }
 {}

@@ -48,7 +48,7 @@ impl<D: Decides> InputState<'_, D> {
         positive: bool,
     ) -> Result<Cmd, ReadlineError>
         ensures { let s = situation_in self.now D.decides (W.display.shown wrt.now) n positive in
-            Follows W.display s.custom (common s key (R.feed rdr.old).coming)
+            Follows W.display s.custom (common s key)
             wrt.now s.input wrt.now s.input (R.feed rdr.old) (R.feed rdr.new) result }
     {
         match common_deed(self.mode, wrt, key, n, positive) {
@@ -73,7 +73,7 @@ impl<D: Decides> InputState<'_, D> {
         positive: bool,
     ) -> Result<Cmd, ReadlineError>
         ensures { let s = situation_in self.now D.decides (W.display.shown wrt.now) n positive in
-            Follows W.display s.custom (sequence s key (R.feed rdr.old).coming)
+            Follows W.display s.custom (sequence s key)
             wrt.now s.input wrt.now s.input (R.feed rdr.old) (R.feed rdr.new) result }
     {
         let followed = self.custom_seq_binding(alloc, rdr, wrt, key, n, positive)?;

@@ -160,7 +160,7 @@ impl<D: Decides> InputState<'_, D> {
         key: KeyEvent,
     ) -> Result<(Option<i16>, KeyEvent), ReadlineError>
         ensures { let input = input_of self.now in
-            let script = counted_key input.mode key (R.feed rdr.old).coming in
+            let script = counted_key input.mode key in
             Follows W.display (custom_in self.now D.decides) script
             wrt.old input wrt.new input (R.feed rdr.old) (R.feed rdr.new) result }
     {
@@ -171,7 +171,7 @@ impl<D: Decides> InputState<'_, D> {
     }
 
     // The rest of a count, and the key after it.
-    #[tactic(auto, using(crate::proofs::Steps::counts), unfolding(crate::specs::Counts::counting))]
+    #[tactic(auto, using(crate::proofs::Steps::counts))]
     fn digit_argument<R: RawReader, W: Refresher>(
         &self,
         alloc: Global,
@@ -180,7 +180,7 @@ impl<D: Decides> InputState<'_, D> {
         begun: i16,
     ) -> Result<(Option<i16>, KeyEvent), ReadlineError>
         ensures { let input = input_of self.now in
-            let script = counting (counted_on input.mode) begun (R.feed rdr.old).coming in
+            let script = counting (counted_on input.mode) begun in
             Follows W.display (custom_in self.now D.decides) script
             wrt.old input wrt.new input (R.feed rdr.old) (R.feed rdr.new) result }
     {

@@ -105,7 +105,7 @@ impl<D: Decides> InputState<'_, D> {
     ) -> Result<Followed, ReadlineError>
         ensures { let s = situation_in self.now D.decides (W.display.shown wrt.now) n positive in
             let came = made_of followed_of result in
-            Follows W.display s.custom (followed s key (R.feed rdr.old).coming)
+            Follows W.display s.custom (followed s key)
             wrt.now s.input wrt.now s.input (R.feed rdr.old) (R.feed rdr.new) came }
     {
         if !self.custom_bindings.begins(&[key]) {

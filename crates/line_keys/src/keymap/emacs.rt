@@ -55,7 +55,7 @@ impl<D: Decides> InputState<'_, D> {
         ensures { let custom = custom_in self.now D.decides in
             let input = input_of self.now in
             let shown = W.display.shown wrt.old in
-            let script = emacs_phrase custom input shown key (R.feed rdr.old).coming in
+            let script = emacs_phrase custom input shown key in
             Follows W.display custom script
             wrt.old input wrt.new input (R.feed rdr.old) (R.feed rdr.new) result }
     {
@@ -76,7 +76,7 @@ impl<D: Decides> InputState<'_, D> {
         ensures { let n = how_often count in
             let shown = W.display.shown wrt.now in
             let s = situation_in self.now D.decides shown n (is_plus count) in
-            Follows W.display s.custom (emacs_decided s key (R.feed rdr.old).coming)
+            Follows W.display s.custom (emacs_decided s key)
             wrt.now s.input wrt.now s.input (R.feed rdr.old) (R.feed rdr.new) result }
     {
         let n = times(count);
@@ -102,7 +102,7 @@ impl<D: Decides> InputState<'_, D> {
         positive: bool,
     ) -> Result<Cmd, ReadlineError>
         ensures { let s = situation_in self.now D.decides (W.display.shown wrt.now) n positive in
-            Follows W.display s.custom (emacs_command s key (R.feed rdr.old).coming)
+            Follows W.display s.custom (emacs_command s key)
             wrt.now s.input wrt.now s.input (R.feed rdr.old) (R.feed rdr.new) result }
     {
         match emacs_deed(wrt, key, n, positive) {
@@ -125,7 +125,7 @@ impl<D: Decides> InputState<'_, D> {
         positive: bool,
     ) -> Result<Cmd, ReadlineError>
         ensures { let s = situation_in self.now D.decides (W.display.shown wrt.now) n positive in
-            Follows W.display s.custom (emacs_done s key LeadsOn (R.feed rdr.old).coming)
+            Follows W.display s.custom (emacs_done s key LeadsOn)
             wrt.now s.input wrt.now s.input (R.feed rdr.old) (R.feed rdr.new) result }
     {
         let followed = self.custom_seq_binding(alloc, rdr, wrt, key, n, positive)?;

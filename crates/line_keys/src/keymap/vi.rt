@@ -47,7 +47,7 @@ impl<D: Decides> InputState<'_, D> {
         key: KeyEvent,
     ) -> Result<Cmd, ReadlineError>
         ensures phrase { let script = vi_phrase (custom_in self.old D.decides)
-            (input_of self.old) (W.display.shown wrt.old) key (R.feed rdr.old).coming in
+            (input_of self.old) (W.display.shown wrt.old) key in
             Follows W.display (custom_in self.old D.decides) script
             wrt.old (input_of self.old) wrt.new (input_of self.new)
             (R.feed rdr.old) (R.feed rdr.new) result }
@@ -69,7 +69,7 @@ impl<D: Decides> InputState<'_, D> {
         key: KeyEvent,
     ) -> Result<Cmd, ReadlineError>
         ensures phrase { let script = vi_command (custom_in self.old D.decides) key
-            (input_of self.old) (W.display.shown wrt.old) (R.feed rdr.old).coming in
+            (input_of self.old) (W.display.shown wrt.old) in
             Follows W.display (custom_in self.old D.decides) script
             wrt.old (input_of self.old) wrt.new (input_of self.new)
             (R.feed rdr.old) (R.feed rdr.new) result }
@@ -90,7 +90,7 @@ impl<D: Decides> InputState<'_, D> {
         key: KeyEvent,
     ) -> Result<Cmd, ReadlineError>
         ensures phrase { let script = vi_counted (custom_in self.old D.decides) (count, key)
-            (input_of self.old) (W.display.shown wrt.old) (R.feed rdr.old).coming in
+            (input_of self.old) (W.display.shown wrt.old) in
             Follows W.display (custom_in self.old D.decides) script
             wrt.old (input_of self.old) wrt.new (input_of self.new)
             (R.feed rdr.old) (R.feed rdr.new) result }
@@ -118,7 +118,7 @@ impl<D: Decides> InputState<'_, D> {
         ensures phrase { let n = how_often count in
             let s = situation_in self.old D.decides (W.display.shown wrt.old) n true in
             let table = command_table (typed_count count) s key in
-            let script = and_then s.input s.shown table changed (R.feed rdr.old).coming in
+            let script = and_then s.input s.shown table changed in
             Follows W.display (custom_in self.old D.decides) script
             wrt.old (input_of self.old) wrt.new (input_of self.new)
             (R.feed rdr.old) (R.feed rdr.new) result }
@@ -141,7 +141,7 @@ impl<D: Decides> InputState<'_, D> {
         ensures phrase { let new = typed_count count in
             let n = how_often count in
             let s = situation_in self.old D.decides (W.display.shown wrt.old) n true in
-            let script = command_table new s key (R.feed rdr.old).coming in
+            let script = command_table new s key in
             Follows W.display (custom_in self.old D.decides) script
             wrt.old (input_of self.old) wrt.new (input_of self.new)
             (R.feed rdr.old) (R.feed rdr.new) result }
@@ -190,7 +190,7 @@ impl<D: Decides> InputState<'_, D> {
         ensures phrase { let within = entered (changes operator) (input_of self.old) in
             let s = situation_in self.old D.decides (W.display.shown wrt.old) n true in
             let made = operation s key (command_of operator) within in
-            let script = becoming within made (R.feed rdr.old).coming in
+            let script = becoming within made in
             Follows W.display (custom_in self.old D.decides) script
             wrt.old (input_of self.old) wrt.new (input_of self.new)
             (R.feed rdr.old) (R.feed rdr.new) result }
@@ -233,7 +233,7 @@ impl<D: Decides> InputState<'_, D> {
         key: KeyEvent,
     ) -> Result<Cmd, ReadlineError>
         ensures phrase { let script = vi_insert (custom_in self.old D.decides) key
-            (input_of self.old) (W.display.shown wrt.old) (R.feed rdr.old).coming in
+            (input_of self.old) (W.display.shown wrt.old) in
             Follows W.display (custom_in self.old D.decides) script
             wrt.old (input_of self.old) wrt.new (input_of self.new)
             (R.feed rdr.old) (R.feed rdr.new) result }
@@ -260,7 +260,7 @@ impl<D: Decides> InputState<'_, D> {
         ensures phrase { let shown = W.display.shown wrt.old in
             let input = input_of self.old in
             let table = insert_table (custom_in self.old D.decides) input shown key in
-            let script = and_then input shown table typed (R.feed rdr.old).coming in
+            let script = and_then input shown table typed in
             Follows W.display (custom_in self.old D.decides) script
             wrt.old (input_of self.old) wrt.new (input_of self.new)
             (R.feed rdr.old) (R.feed rdr.new) result }
@@ -280,7 +280,7 @@ impl<D: Decides> InputState<'_, D> {
         key: KeyEvent,
     ) -> Result<Cmd, ReadlineError>
         ensures phrase { let script = insert_table (custom_in self.old D.decides)
-            (input_of self.old) (W.display.shown wrt.old) key (R.feed rdr.old).coming in
+            (input_of self.old) (W.display.shown wrt.old) key in
             Follows W.display (custom_in self.old D.decides) script
             wrt.old (input_of self.old) wrt.new (input_of self.new)
             (R.feed rdr.old) (R.feed rdr.new) result }

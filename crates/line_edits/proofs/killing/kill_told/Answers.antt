@@ -1,6 +1,6 @@
 use Rattle.std.proofs.Common.{◌≡◌}
 use Rattle.line_record.specs.Ring.{ring_step, ring_refuses}
-use Rattle.line_record.proofs.JoinedLaws.{joined_held, joined_stand, joined_stand_refused}
+use Rattle.line_record.proofs.JoinedLaws.{joined_held, joined_stand, joined_stand_refused, joined_names_refused}
 use Rattle.line_record.specs.Items.{RecordedIn, record_refuses}
 use Rattle.line_edits.proofs.RingLemmas.{on_refusal, ring_stopped, some_killed}
 use Rattle.line_edits.proofs.WrittenLemmas.{refused_writes}
@@ -30,3 +30,7 @@ returns-in_err-kill-clause-refused c =
 pub returns-in_err-kill-clause-kept : goal.returns-in_err-kill-clause-kept
 returns-in_err-kill-clause-kept c =
     on_refusal _ c.from_residual.result c.from_residual.ensures.1 (kill_kept c.args.movement.now c.in_err-kill.ensures.edits.left)
+
+pub returns-in_err-kill-clause-names : goal.returns-in_err-kill-clause-names
+returns-in_err-kill-clause-names c =
+    joined_names_refused (λ s e t. t ≡ ring_step e s) ring_refuses RecordedIn record_refuses c.in_err-kill.ensures.edits.left.stops

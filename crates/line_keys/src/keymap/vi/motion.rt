@@ -158,7 +158,7 @@ impl<D: Decides> InputState<'_, D> {
     ) -> Result<Option<Movement>, ReadlineError>
         ensures motion { let input = input_of self.old in
             let shown = W.display.shown wrt.old in
-            let script = vi_motion operator n input shown (R.feed rdr.old).coming in
+            let script = vi_motion operator n input shown in
             Follows W.display (custom_in self.old D.decides) script
             wrt.old input wrt.new (input_of self.new) (R.feed rdr.old) (R.feed rdr.new) result }
         ensures bindings { self.new.custom_bindings ≡ self.old.custom_bindings }
@@ -181,7 +181,7 @@ impl<D: Decides> InputState<'_, D> {
         key: KeyEvent,
     ) -> Result<Option<Movement>, ReadlineError>
         ensures motion { let input = input_of self.old in
-            let script = motion_by operator n input key (R.feed rdr.old).coming in
+            let script = motion_by operator n input key in
             Follows silent (custom_in self.old D.decides) script
             tt input tt (input_of self.new) (R.feed rdr.old) (R.feed rdr.new) result }
         ensures bindings { self.new.custom_bindings ≡ self.old.custom_bindings }
@@ -204,7 +204,7 @@ impl<D: Decides> InputState<'_, D> {
         n: RepeatCount,
     ) -> Result<Option<Movement>, ReadlineError>
         ensures sought { let input = input_of self.old in
-            let script = sought (search_of search) n input (R.feed rdr.old).coming in
+            let script = sought (search_of search) n input in
             Follows silent (custom_in self.old D.decides) script
             tt input tt (input_of self.new) (R.feed rdr.old) (R.feed rdr.new) result }
         ensures bindings { self.new.custom_bindings ≡ self.old.custom_bindings }

@@ -8,8 +8,8 @@ abbrev pub invariant-loop-alloc : goal.invariant-loop-alloc
 invariant-loop-alloc g l =
     let s = situation_in l.fn.self g.D.Decides.decides (g.W.Refresher.display.shown l.fn.wrt) l.fn.n l.fn.positive in
     (rdr : _) (result : _)
-    → Follows g.W.Refresher.display s.custom (following s l.keys.items (g.R.RawReader.feed l.rdr).coming) l.fn.wrt s.input l.fn.wrt s.input (g.R.RawReader.feed l.rdr) (g.R.RawReader.feed rdr) result
-    → Follows g.W.Refresher.display s.custom (followed s l.fn.key (g.R.RawReader.feed l.fn.rdr).coming) l.fn.wrt s.input l.fn.wrt s.input (g.R.RawReader.feed l.fn.rdr) (g.R.RawReader.feed rdr) result
+    → Follows g.W.Refresher.display s.custom (following s l.keys.items) l.fn.wrt s.input l.fn.wrt s.input (g.R.RawReader.feed l.rdr) (g.R.RawReader.feed rdr) result
+    → Follows g.W.Refresher.display s.custom (followed s l.fn.key) l.fn.wrt s.input l.fn.wrt s.input (g.R.RawReader.feed l.fn.rdr) (g.R.RawReader.feed rdr) result
 
 abbrev pub decreases-loop-alloc : goal.decreases-loop-alloc
 decreases-loop-alloc g l = (g.R.RawReader.feed l.rdr).bound

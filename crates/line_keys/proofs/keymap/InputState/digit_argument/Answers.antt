@@ -1,16 +1,13 @@
 use Rattle.std.proofs.Common.{◌≡◌, arith, rules, SFits, w16}
 use Rattle.std.proofs.lemmas.Int.{to_z-of_z}
 use Rattle.std.specs.Prelude.{Err}
-use Rattle.line_keys.specs.Counts.{counting}
-use Rattle.line_keys.proofs.Following.{memory_follows}
-use Rattle.line_keys.proofs.Turns.{count_unasked, count_stops, count_goes_on, count_ends, count_undrawn}
+use Rattle.line_keys.proofs.Turns.{count_unprompted, count_unasked, count_stops, count_goes_on, count_ends, count_undrawn}
 use Rattle.line_keys.proofs.keymap.InputState.digit_argument.Goals as goal
 
 pub returns-in_err-prompt : goal.returns-in_err-prompt
-unfolding counting
 returns-in_err-prompt g c =
     let is : c.from_residual.result ≡ Err c.in_err-prompt.field-0.0 = grind arith in
-    rw is ((rw (to_z-of_z w16 c.args.begun c.ranges.begun) at c.loop-prompt.invariant) _ _ _ (memory_follows _ _ _ _ _ _ _ c.in_err-prompt.ensures.err))
+    rw is ((rw (to_z-of_z w16 c.args.begun c.ranges.begun) at c.loop-prompt.invariant) _ _ _ (count_unprompted _ _ _ _ _ _ _ _ c.in_err-prompt.ensures.err))
 
 pub returns-in_err-refresh_prompt_and_line : goal.returns-in_err-refresh_prompt_and_line
 returns-in_err-refresh_prompt_and_line g c =

@@ -22,3 +22,9 @@ unfolding vi_insert
 returns-in-Some-term_binding-clause-phrase g c =
     rw (← c.in-Some-term_binding.ensures)
     (decides_follow _ _ _ _ _ _ _ _ _ _ _ _ (rw c.in-None.is at c.in_ok-cmd.ensures) (ends_follow _ _ _ _ _ _ _ refl))
+
+pub returns-in-None-term_binding-clause-phrase : goal.returns-in-None-term_binding-clause-phrase
+unfolding vi_insert
+returns-in-None-term_binding-clause-phrase g c =
+    rw (← c.in-None-term_binding.ensures)
+    (decides_follow _ _ _ _ _ _ _ _ _ _ _ _ (rw c.in-None.is at c.in_ok-cmd.ensures) c.vi_typed.ensures.phrase)

@@ -1,9 +1,10 @@
-use Rattle.std.proofs.Common.{ap, sym, Ok}
+use Rattle.std.proofs.Common.{◌≡◌, arith, ap, sym}
+use Rattle.std.specs.Prelude.{Err}
 use Rattle.line_keys.specs.declared.command.Cmd.{Cmd}
 use Rattle.line_keys.specs.InputStates.{input_of}
 use Rattle.line_keys.specs.Meant.{changes}
-use Rattle.line_keys.specs.Phrases.{Ends}
-use Rattle.line_keys.proofs.Following.{becomes_follows, then_follows, ends_follow}
+use Rattle.line_keys.specs.Phrases.{answered}
+use Rattle.line_keys.proofs.Following.{becomes_follows, then_follows, then_stops, ends_follow}
 use Rattle.line_keys.proofs.Remembering.{entered_mode}
 use Rattle.line_keys.proofs.keymap.InputState.vi_operation.Goals as goal
 
@@ -11,4 +12,10 @@ pub returns-clause-phrase : goal.returns-clause-phrase
 returns-clause-phrase g c =
     becomes_follows _ _ _ _ _ _ _ _ _ _ _ (entered_mode (changes c.args.operator) (input_of c.args.self.now))
     (then_follows _ _ _ _ _ _ _ _ _ _ _ _ _ _ _ (rw (c.enter.ensures.input, c.enter.ensures.bindings) at c.in_ok-motion.ensures.motion)
-    (ends_follow _ _ _ _ _ _ _ (ap (λ (y : Cmd). Ends (Ok y)) (sym c.command.ensures))))
+    (ends_follow _ _ _ _ _ _ _ (ap (λ (y : Cmd). answered y) (sym c.command.ensures))))
+
+pub returns-in_err-motion-clause-phrase : goal.returns-in_err-motion-clause-phrase
+returns-in_err-motion-clause-phrase g c =
+    let is : c.from_residual.result ≡ Err c.in_err-motion.field-0.0 = grind arith in
+    rw is (becomes_follows _ _ _ _ _ _ _ _ _ _ _ (entered_mode (changes c.args.operator) (input_of c.args.self.now))
+    (then_stops _ _ _ _ _ _ _ _ _ _ _ (rw (c.enter.ensures.input, c.enter.ensures.bindings) at c.in_err-motion.ensures.motion)))
