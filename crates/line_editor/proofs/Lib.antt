@@ -6,6 +6,7 @@ pub mod CompleteLemmas
 pub mod DoesLemmas
 pub mod HelpedLemmas
 pub mod KillLemmas
+pub mod KnownLemmas
 pub mod LeadLemmas
 pub mod LineLeads
 pub mod LoopLemmas

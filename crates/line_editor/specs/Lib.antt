@@ -9,6 +9,7 @@ pub mod Drawing
 pub mod Hinting
 pub mod Inserting
 pub mod Killing
+pub mod Known
 pub mod Leads
 pub mod Lines
 pub mod Moving

@@ -135,6 +135,7 @@ impl<'p, 'h, Out: Renderer, H: Helper + Drop, Hi: History> State<'p, 'h, Out, H,
         let Some(helper) = &self.helper else {
             return Ok(());
         };
+        self.known = None;
         let done = put_in_group(
             self.alloc,
             helper,

@@ -4,6 +4,7 @@ ghost use Rattle.line_buffer.specs.Cells.{origin};
 ghost use Rattle.line_config.specs.declared.errors.ReadlineError.TheVariants.{Display};
 ghost use Rattle.line_editor.specs.Calls.{Makes};
 ghost use Rattle.line_editor.specs.Calls.Call.{Draw};
+ghost use Rattle.line_editor.specs.Values.{hooks_by, marked_by};
 ghost use Rattle.line_editor.specs.Redraws.{layout_of, info_text, may_type, may_take};
 
 use crate::renderer::{RefreshKind, Renderer};
@@ -28,6 +29,27 @@ pub(crate) fn highlighter_of<H>(helper: &Option<H>, colours: bool) -> Option<&H>
     ensures { option_copied result ≡ (if colours then helper.now else None) }
 {
     if colours { helper.as_ref() } else { None }
+}
+
+/// Whether a helper highlights a character, where the display has colours.
+fn marked_by<H: Helper>(
+    helper: &mut Option<H>,
+    colours: bool,
+    line: &LineBuffer,
+    kind: CmdKind,
+) -> bool
+    ensures value { result ≡ marked_by (if colours then option_map H.marks helper.old else None)
+        line.now.text line.now.place kind }
+    ensures hooks { let hooks = hooks_by H.hint_of H.verdict_of H.completion_of H.update_of in
+        option_map hooks helper.new ≡ option_map hooks helper.old }
+    ensures marks { option_map H.marks helper.new ≡ option_map H.marks helper.old }
+{
+    if colours {
+        if let Some(helper) = helper {
+            return helper.highlight_char(line.as_str(), line.pos(), kind);
+        }
+    }
+    false
 }
 
 /// Whether nothing stands after the line, and a character after the cursor doesn't fill the row.
@@ -126,13 +148,8 @@ impl<'p, 'h, Out: Renderer, H: Helper + Drop, Hi: History> State<'p, 'h, Out, H,
         ensures layout { self.new.layout ≡ self.old.layout }
         ensures stays { Stays self.old self.new }
     {
-        let mut marked = false;
-        if self.out.colors_enabled() {
-            let pos = self.line.pos();
-            if let Some(helper) = &mut self.helper {
-                marked = helper.highlight_char(self.line.as_str(), pos, kind);
-            }
-        }
+        let colours = self.out.colors_enabled();
+        let marked = marked_by(&mut self.helper, colours, &self.line, kind);
         self.highlight_char = marked;
     }
 
@@ -140,7 +157,9 @@ impl<'p, 'h, Out: Renderer, H: Helper + Drop, Hi: History> State<'p, 'h, Out, H,
     pub(crate) fn draw(&mut self, prompt: &str, given: bool) -> Result<(), ReadlineError>
         ensures does { Does (drawn_behind prompt.now given) self.old self.new result }
     {
+        let pos = self.line.pos();
         let info = display_of(&self.hint);
+        self.known = None;
         self.layout = draw_over(
             &mut self.out,
             self.layout,
@@ -150,6 +169,7 @@ impl<'p, 'h, Out: Renderer, H: Helper + Drop, Hi: History> State<'p, 'h, Out, H,
             info,
             &self.helper,
         )?;
+        self.known = Some((pos, self.layout.cursor));
         Ok(())
     }
 
@@ -158,6 +178,8 @@ impl<'p, 'h, Out: Renderer, H: Helper + Drop, Hi: History> State<'p, 'h, Out, H,
         ensures does { Does (drawn_with (option_copied info.entry)) self.old self.new result }
         ensures fault { IfErr result (λ e. e ≡ Display) }
     {
+        let pos = self.line.pos();
+        self.known = None;
         self.layout = draw_over(
             &mut self.out,
             self.layout,
@@ -167,6 +189,7 @@ impl<'p, 'h, Out: Renderer, H: Helper + Drop, Hi: History> State<'p, 'h, Out, H,
             info,
             &self.helper,
         )?;
+        self.known = Some((pos, self.layout.cursor));
         Ok(())
     }
 
@@ -221,9 +244,8 @@ impl<'p, 'h, Out: Renderer, H: Helper + Drop, Hi: History> State<'p, 'h, Out, H,
         ensures fault { IfErr result (λ e. e ≡ Display) }
     {
         let pos = self.line.pos();
-        let cursor = self
-            .out
-            .calculate_position(&self.line.as_str()[..pos], self.layout.prompt_size);
+        let cursor = self.position_at(pos);
+        self.known = Some((pos, cursor));
         if self.layout.cursor == cursor {
             return Ok(());
         }
@@ -281,6 +303,7 @@ impl<'p, 'h, Out: Renderer, H: Helper + Drop, Hi: History> State<'p, 'h, Out, H,
     pub fn clear_screen(&mut self) -> Result<(), ReadlineError>
         ensures does { Does cleared self.old self.new result }
     {
+        self.known = None;
         self.out.clear_screen()?;
         self.layout = Layout::new(self.layout.grapheme_cluster_mode);
         Ok(())

@@ -29,6 +29,7 @@ impl<'p, 'h, Out: Renderer, H: Helper + Drop, Hi: History> State<'p, 'h, Out, H,
         let Some(hint) = &self.hint else {
             return Ok(());
         };
+        self.known = None;
         self.line.move_end();
         let Some(text) = hint.completion() else {
             return self.beep_and_refresh();

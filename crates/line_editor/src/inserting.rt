@@ -2,6 +2,7 @@
 ghost use Rattle.std.specs.Prelude.{◌≡◌, OnErr};
 ghost use Rattle.line_editor.specs.Inserting.{may_be_typed};
 
+use crate::measured::known_within;
 use crate::renderer::Renderer;
 use crate::state::State;
 use line_buffer::{RepeatCount, is_printable};
@@ -66,6 +67,8 @@ impl<'p, 'h, Out: Renderer, H: Helper + Drop, Hi: History> State<'p, 'h, Out, H,
         let at_end = self.line.is_cursor_at_end();
         let plain = self.plain;
         let was_bare = self.is_bare();
+        let known = known_within(self.line.pos(), self.known);
+        self.known = None;
         let inserted = insert_char(
             self.alloc,
             &mut self.line,
@@ -74,6 +77,7 @@ impl<'p, 'h, Out: Renderer, H: Helper + Drop, Hi: History> State<'p, 'h, Out, H,
             ch,
             n,
         )?;
+        self.known = known;
         if inserted.is_none() {
             return Ok(());
         }
@@ -88,6 +92,7 @@ impl<'p, 'h, Out: Renderer, H: Helper + Drop, Hi: History> State<'p, 'h, Out, H,
         if text.is_empty() {
             return Ok(());
         }
+        self.known = None;
         insert_text(
             self.alloc,
             &mut self.line,
@@ -102,6 +107,7 @@ impl<'p, 'h, Out: Renderer, H: Helper + Drop, Hi: History> State<'p, 'h, Out, H,
     pub fn edit_replace_char(&mut self, ch: char, n: RepeatCount) -> Result<(), ReadlineError>
         ensures does { Does (replace_char ch n) self.old self.new result }
     {
+        self.known = None;
         let replaced = replace_chars(
             self.alloc,
             &mut self.line,
@@ -117,6 +123,7 @@ impl<'p, 'h, Out: Renderer, H: Helper + Drop, Hi: History> State<'p, 'h, Out, H,
     pub fn edit_overwrite_char(&mut self, ch: char) -> Result<(), ReadlineError>
         ensures does { Does (overwrite_char ch) self.old self.new result }
     {
+        self.known = None;
         let written = overwrite(
             self.alloc,
             &mut self.line,

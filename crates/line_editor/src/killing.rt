@@ -3,6 +3,7 @@ ghost use Rattle.std.specs.Prelude.{◌≡◌, ◌⊎◌, OnErr, OnOk, IfErr};
 ghost use Rattle.line_config.specs.declared.errors.ReadlineError.{ReadlineError};
 ghost use Rattle.line_edits.specs.Edits.{unkilled};
 
+use crate::measured::known_within;
 use crate::renderer::Renderer;
 use crate::state::State;
 use line_buffer::{Mode, Movement};
@@ -65,6 +66,8 @@ impl<'p, 'h, Out: Renderer, H: Helper + Drop, Hi: History> State<'p, 'h, Out, H,
         let was_bare = self.is_bare();
         let before = self.line.len();
         let printable = self.line.has_printable_end(movement);
+        let known = self.known_before(movement);
+        self.known = None;
         let killed = kill(
             self.alloc,
             &mut self.line,
@@ -73,6 +76,7 @@ impl<'p, 'h, Out: Renderer, H: Helper + Drop, Hi: History> State<'p, 'h, Out, H,
             ring,
             movement,
         )?;
+        self.known = known_within(self.line.pos(), known);
         if !killed {
             return Ok(());
         }

@@ -10,6 +10,7 @@ mod hinting;
 mod inserting;
 mod killing;
 pub mod laws;
+mod measured;
 mod moving;
 pub mod ran;
 mod reading;

@@ -37,6 +37,7 @@ impl<'p, 'h, Out: Renderer, H: Helper + Drop, Hi: History> State<'p, 'h, Out, H,
         ensures stays { Stays self.old self.new }
         ensures fault { IfErr result (λ e. e ≡ ReadlineError.Memory) }
     {
+        self.known = None;
         update(
             self.alloc,
             &mut self.line,
@@ -83,6 +84,7 @@ impl<'p, 'h, Out: Renderer, H: Helper + Drop, Hi: History> State<'p, 'h, Out, H,
         ensures does { Does (entry_shown index entry.now pos) self.old self.new result }
     {
         self.ctx.set_history_index(index);
+        self.known = None;
         update_grouped(
             self.alloc,
             &mut self.line,

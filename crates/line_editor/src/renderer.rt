@@ -1,5 +1,7 @@
 //! What draws a line.
-ghost use Rattle.std.specs.Prelude.{◌≡◌, OnErr, IfErr, IsTrue, option_copied};
+ghost use Rattle.std.specs.Prelude.{◌≡◌, true, take, Some, OnErr, IfErr, IsTrue, IsCharBoundary, option_copied};
+ghost use Rattle.line_edits.specs.Plain.{is_plain};
+ghost use Rattle.line_editor.specs.Known.{IsKnown};
 ghost use Rattle.line_config.specs.declared.errors.ReadlineError.TheVariants.{Display};
 ghost use Rattle.line_editor.specs.Calls.{Canvas, Makes, Idles, old_row};
 ghost use Rattle.line_editor.specs.Calls.Call.{Draw, Move, Write, Beep, ClearScreen, ClearRows, ClearToEol, ToLeftmost};
@@ -100,6 +102,22 @@ pub trait Renderer: Drop {
     /// Where the drawing of a text from a place on ends.
     fn calculate_position(&self, text: &str, orig: Position) -> Position
         ensures { result ≡ (canvas.ruler self.now).measure text.now orig };
+
+    /// Where the drawing of a plain text up to a place ends, from a place where it is known to end.
+    fn position_from(
+        &self,
+        text: &str,
+        start: Position,
+        known: (usize, Position),
+        place: usize,
+    ) -> Position
+        requires plain { is_plain text.now ≡ true }
+        requires known { IsKnown (canvas.ruler self.now).measure start text.now (Some known) }
+        requires boundary { IsCharBoundary text.now place }
+        ensures { result ≡ (canvas.ruler self.now).measure (take place text.now) start }
+    {
+        self.calculate_position(&text[..place], start)
+    }
 
     /// The layout of a line after a prompt that ends at `prompt_size`, with a hint or message
     /// after it. The end is that of the whole drawing.

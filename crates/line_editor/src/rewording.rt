@@ -16,6 +16,7 @@ impl<'p, 'h, Out: Renderer, H: Helper + Drop, Hi: History> State<'p, 'h, Out, H,
     pub fn edit_transpose_chars(&mut self) -> Result<(), ReadlineError>
         ensures does { Does transpose_chars self.old self.new result }
     {
+        self.known = None;
         let done = transpose_chars(
             self.alloc,
             &mut self.line,
@@ -30,6 +31,7 @@ impl<'p, 'h, Out: Renderer, H: Helper + Drop, Hi: History> State<'p, 'h, Out, H,
         ensures does { Does (transpose_words n) self.old self.new result }
     {
         let before = self.line.pos();
+        self.known = None;
         let done = transpose_words(
             self.alloc,
             &mut self.line,
@@ -48,6 +50,7 @@ impl<'p, 'h, Out: Renderer, H: Helper + Drop, Hi: History> State<'p, 'h, Out, H,
     pub fn edit_word(&mut self, action: WordAction) -> Result<(), ReadlineError>
         ensures does { Does (edit_word action) self.old self.new result }
     {
+        self.known = None;
         let done = edit_word(
             self.alloc,
             &mut self.line,
@@ -67,6 +70,7 @@ impl<'p, 'h, Out: Renderer, H: Helper + Drop, Hi: History> State<'p, 'h, Out, H,
     ) -> Result<(), ReadlineError>
         ensures does { Does (indent movement.now amount dedent) self.old self.new result }
     {
+        self.known = None;
         indent(
             self.alloc,
             &mut self.line,
@@ -83,6 +87,7 @@ impl<'p, 'h, Out: Renderer, H: Helper + Drop, Hi: History> State<'p, 'h, Out, H,
     pub(crate) fn edit_undo(&mut self, n: RepeatCount) -> Result<(), ReadlineError>
         ensures does { Does (undo n) self.old self.new result }
     {
+        self.known = None;
         let undone = undo(
             self.alloc,
             &mut self.line,

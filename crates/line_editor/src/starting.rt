@@ -70,6 +70,7 @@ impl<'p, 'h, Out: Renderer, H: Helper + Drop, Hi: History> State<'p, 'h, Out, H,
             prompt,
             saved: SavedLine::empty(alloc),
             plain: true,
+            known: None,
             alloc,
         }
     }

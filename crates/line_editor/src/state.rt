@@ -2,11 +2,12 @@
 ghost use Rattle.std.specs.Prelude.{◌≡◌};
 ghost use Rattle.line_edits.specs.Plain.{is_plain};
 ghost use Rattle.line_record.specs.Items.{ItemsStand};
+ghost use Rattle.line_editor.specs.Known.{IsKnown, IsKnown-prop};
 ghost use Rattle.line_record.specs.Props.{ItemsStand-prop};
 
 use crate::renderer::Renderer;
 use crate::saved::SavedLine;
-use line_buffer::{Layout, LineBuffer};
+use line_buffer::{Layout, LineBuffer, Position};
 use line_help::{Context, Helper, History};
 use line_record::Changeset;
 use std::alloc::Global;
@@ -33,7 +34,10 @@ pub struct State<'p, 'h, Out: Renderer, H: Helper + Drop, Hi: History> {
     pub(crate) prompt: &'p str,
     pub(crate) saved: SavedLine,
     pub(crate) plain: bool,
+    /// A place in the line, and where the drawing of the line up to it ends, if one is known.
+    pub(crate) known: Option<(usize, Position)>,
     pub(crate) alloc: Global,
     ghost stand: { ItemsStand changes line.text } by { ItemsStand-prop changes line.text },
     ghost is_plain: { plain ≡ is_plain line.text },
+    ghost is_known: { IsKnown (Out.canvas.ruler out).measure layout.prompt_size line.text known } by { IsKnown-prop (Out.canvas.ruler out).measure layout.prompt_size line.text known },
 }

@@ -52,6 +52,7 @@ impl<'p, 'h, Out: Renderer, H: Helper + Drop, Hi: History> State<'p, 'h, Out, H,
             (yank_text (is_vi_command input_state.now.mode input_state.now.input_mode)
             text.now anchor n) self.old self.new result }
     {
+        self.known = None;
         let stepped = step_on(&mut self.line, anchor);
         let put = yank(
             self.alloc,
@@ -76,6 +77,7 @@ impl<'p, 'h, Out: Renderer, H: Helper + Drop, Hi: History> State<'p, 'h, Out, H,
         if !self.line.can_take_before(yank_size) {
             return Ok(());
         }
+        self.known = None;
         yank_pop(
             self.alloc,
             &mut self.line,

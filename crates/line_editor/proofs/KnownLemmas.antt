@@ -1,0 +1,102 @@
+-- What an edit behind a place leaves: each beginning of the text up to there, and what is known of it.
+use Rattle.std.proofs.Common.{◌≡◌, ℕ, ◌==◌, ◌<◌, ◌≤◌, Bool, true, false, List, [], ◌∷◌, ◌++◌, take, drop, length, length-append, refl, sym, ap, subst, ◌∙◌, arith, if◌then◌else◌, Option, Some, None, encode_utf8}
+use Rattle.std.specs.Prelude.{nat_le}
+use Rattle.std.specs.List.{All, replace_range, repeat, slice_index_or}
+use Rattle.std.specs.Str.{IsCharBoundary}
+use Rattle.std.proofs.lemmas.Bool.{leb-true}
+use Rattle.std.proofs.lemmas.Bool.Decides.{nat_tests}
+use Rattle.std.proofs.lemmas.Option.{same_Some}
+use Rattle.std.proofs.lemmas.List.{length-take, take-append-le, take-append-drop}
+use Rattle.std.proofs.lemmas.List.Sums.{AllPass-from_list_all}
+use Rattle.std.proofs.lemmas.Str.{IsCharBoundary-from_ascii}
+use Rattle.std.proofs.lemmas.Str.Ascii.{IsAscii-from_all}
+use Rattle.line_buffer.specs.declared.layout.Position.{Position}
+use Rattle.line_buffer.specs.Event.{Event}
+use Rattle.line_buffer.specs.Event.Event.{InsertChar}
+use Rattle.line_buffer.specs.Insertions.{no_insertion, has_room, put_at_cursor, insertion_by, insert as insertion}
+use Rattle.line_buffer.specs.Line.{Line}
+use Rattle.line_buffer.specs.Replay.{insertion as told_insertion}
+use Rattle.line_edits.specs.Plain.{is_plain_byte, is_plain}
+use Rattle.line_editor.specs.Known.{IsKnown, known_within}
+
+-- a beginning of a text is one of another
+pub record Begins (k : ℕ) (before after : List ℕ) : Type 0 where
+  pub low : k ≤ length after
+  pub same : take k after ≡ take k before
+
+behind : (k at upto : ℕ) (text added : List ℕ) → k ≤ at → k ≤ length text → Begins k text (replace_range text at upto added)
+behind k at upto text added near low =
+    let front = take at text in
+    let room : k ≤ length front = omega (arith, length-take at text, near, low) in
+    let size = length-append front added in
+    record {
+      low = omega (arith, room, size, length-append (front ++ added) (drop upto text));
+      same = take-append-le k (front ++ added) (drop upto text) (omega (arith, room, size))
+          ∙ take-append-le k front added room
+          ∙ sym (take-append-le k front (drop at text) room)
+          ∙ ap (take k) (take-append-drop at text);
+    }
+
+-- ---- what is typed
+
+put_room : (k : ℕ) (room : Bool) (told : Event) (added : List ℕ) (l : Line) → k ≤ l.place → k ≤ length l.text
+    → Begins k l.text (if room then record { answer = Some (l.place == length l.text); events = told ∷ []; line = put_at_cursor added l } else no_insertion l).line.text
+put_room k true told added l near low = behind k l.place l.place l.text added near low
+put_room k false told added l near low = record { low = low; same = refl }
+
+put_by : (k : ℕ) (told : Event) (added : List ℕ) (l : Line) → k ≤ l.place → k ≤ length l.text → Begins k l.text (insertion_by told added l).line.text
+put_by k told added l near low = put_room k (has_room (length added) l) told added l near low
+
+typed_by : (c n k : ℕ) (one : Bool) (l : Line) → k ≤ l.place → k ≤ length l.text
+    → Begins k l.text (if one then insertion_by (InsertChar l.place c) (encode_utf8 c) l else insertion_by (told_insertion l.place (repeat n (encode_utf8 c))) (repeat n (encode_utf8 c)) l).line.text
+typed_by c n k true l near low = put_by k (InsertChar l.place c) (encode_utf8 c) l near low
+typed_by c n k false l near low = put_by k (told_insertion l.place (repeat n (encode_utf8 c))) (repeat n (encode_utf8 c)) l near low
+
+pub typed_begins : (c n k : ℕ) (l : Line) → k ≤ l.place → k ≤ length l.text → Begins k l.text (insertion c n l).line.text
+typed_begins c n k l near low = typed_by c n k (n == 1) l near low
+
+-- ---- what is known
+
+module _ (measure : List ℕ → Position → Position) (start : Position) where
+  pub known_nothing : (text : List ℕ) → IsKnown measure start text None
+  known_nothing text = record { inside = λ k e. cc; at = λ k e. cc }
+
+  pub known_at : (text : List ℕ) (place : ℕ) (at : Position) → place ≤ length text → at ≡ measure (take place text) start → IsKnown measure start text (Some (place, at))
+  known_at text place at low is = record {
+    inside = λ k e. subst (λ x. x.0 ≤ length text) (same_Some (place, at) k e) low;
+    at = λ k e. subst (λ x. x.1 ≡ measure (take x.0 text) start) (same_Some (place, at) k e) is;
+  }
+
+  -- a beginning that stays is measured as before
+  stays_known : (before after : List ℕ) (k : ℕ × Position) → IsKnown measure start before (Some k) → Begins k.0 before after → IsKnown measure start after (Some k)
+  stays_known before after k known begins =
+      known_at after k.0 k.1 begins.low (known.at k refl ∙ ap (λ t. measure t start) (sym begins.same))
+
+  within_if : (place : ℕ) (before after : List ℕ) (k : ℕ × Position) → IsKnown measure start before (Some k) → (k.0 ≤ place → Begins k.0 before after)
+      → (b : Bool) → nat_le k.0 place ≡ b → IsKnown measure start after (if b then Some k else None)
+  within_if place before after k known stays true low = stays_known before after k known (stays (leb-true k.0 place low))
+  within_if place before after k known stays false low = known_nothing after
+
+  within : (place : ℕ) (before after : List ℕ) (known : Option (ℕ × Position)) → ((k : ℕ) → k ≤ place → k ≤ length before → Begins k before after)
+      → IsKnown measure start before known → IsKnown measure start after (known_within place known)
+  within place before after None stays known = known_nothing after
+  within place before after (Some k) stays known =
+      within_if place before after k known (λ near. stays k.0 near (known.inside k refl)) (nat_le k.0 place) refl
+
+  -- what is typed leaves what is known before it
+  pub typed_known : (c n : ℕ) (l after : Line) (known kept : Option (ℕ × Position)) → after ≡ (insertion c n l).line → kept ≡ known_within l.place known
+      → IsKnown measure start l.text known → IsKnown measure start after.text kept
+  typed_known c n l after known kept made is h =
+      subst (λ k. IsKnown measure start after.text k) (sym is)
+      (within l.place l.text after.text known (λ k near low. subst (λ m. Begins k l.text m.text) (sym made) (typed_begins c n k l near low)) h)
+
+-- ---- a plain text's characters are bytes
+
+plain_low : (byte : ℕ) → is_plain_byte byte ≡ true → byte < 128
+plain_low byte h = grind (arith, nat_tests)
+
+all_low : (text : List ℕ) → is_plain text ≡ true → All (λ byte. byte < 128) text
+all_low text h = λ k d low. plain_low (slice_index_or text k d) (AllPass-from_list_all is_plain_byte text h k d low)
+
+pub plain_boundary : (text : List ℕ) (place : ℕ) → is_plain text ≡ true → place ≤ length text → IsCharBoundary text place
+plain_boundary text place h low = IsCharBoundary-from_ascii text place (IsAscii-from_all text (all_low text h)) low

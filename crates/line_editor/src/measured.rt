@@ -1,0 +1,56 @@
+//! Where the drawing of the line up to a place ends, from a place where it is known.
+ghost use Rattle.std.specs.Prelude.{◌≡◌, take, IsCharBoundary};
+ghost use Rattle.line_editor.specs.Known.{IsKnown, known_within};
+
+use crate::renderer::Renderer;
+use crate::state::State;
+use line_buffer::{Movement, Position};
+use line_help::{Helper, History};
+
+/// What is known, if it stands no further than a place: whatever changes behind that place leaves it.
+pub(crate) fn known_within(
+    place: usize,
+    known: Option<(usize, Position)>,
+) -> Option<(usize, Position)>
+    ensures { result ≡ known_within place known }
+{
+    match known {
+        Some((end, _)) if end <= place => known,
+        _ => None,
+    }
+}
+
+impl<'p, 'h, Out: Renderer, H: Helper + Drop, Hi: History> State<'p, 'h, Out, H, Hi> {
+    /// Where the drawing of the line up to a place ends.
+    pub(crate) fn position_at(&self, place: usize) -> Position
+        requires { IsCharBoundary self.now.line.text place }
+        ensures { result ≡ (Out.canvas.ruler self.now.out).measure
+            (take place self.now.line.text) self.now.layout.prompt_size }
+    {
+        let text = self.line.as_str();
+        let start = self.layout.prompt_size;
+        match self.known {
+            Some(known) if self.plain => self.out.position_from(text, start, known, place),
+            _ => self.out.calculate_position(&text[..place], start),
+        }
+    }
+
+    /// What is known, taken back to before the characters that a movement back goes over, where
+    /// each is a byte.
+    pub(crate) fn known_before(&self, movement: &Movement) -> Option<(usize, Position)>
+        ensures { IsKnown (Out.canvas.ruler self.now.out).measure self.now.layout.prompt_size
+            self.now.line.text result }
+    {
+        let Movement::BackwardChar(n) = movement else {
+            return self.known;
+        };
+        let place = self.line.pos().saturating_sub(usize::from(*n));
+        match self.known {
+            Some((known, _)) if self.plain && place < known => Some((
+                place,
+                self.position_at(place),
+            )),
+            _ => self.known,
+        }
+    }
+}
