@@ -1,6 +1,6 @@
 -- Lines and sessions over what opens more: the same, or cut at a read that draws nothing more.
-use Rattle.std.proofs.Common.{◌≡◌, ◌⊎◌, inl, inr, ℕ, zero, suc, Bool, true, false, if◌then◌else◌, List, [], ◌∷◌, ◌++◌, Option, None, refl, sym, ap, ◌∙◌, subst, append-nil, append_assoc, Result, Ok, Err}
-use Rattle.std.specs.Prelude.{⊤, OnOk, IfErr, flat_map}
+use Rattle.std.proofs.Common.{◌≡◌, ◌⊎◌, inl, inr, ℕ, zero, suc, false, List, [], ◌∷◌, ◌++◌, Option, None, refl, sym, ap, ◌∙◌, subst, append-nil, append_assoc, Result, Ok, Err}
+use Rattle.std.specs.Prelude.{OnOk, IfErr, flat_map}
 use Rattle.std.proofs.lemmas.Grind.{flat_map-append}
 use Rattle.line_config.specs.declared.errors.ReadlineError.{ReadlineError}
 use Rattle.line_help.specs.History.{Filed}
@@ -11,7 +11,6 @@ use Rattle.line_keys.specs.Feeds.{InputItem, Item, Key, Paste, item_at}
 use Rattle.line_keys.specs.InputStates.{new_input}
 use Rattle.line_config.specs.Scripts.{Ends, Asks}
 use Rattle.line_keys.specs.Phrases.{Input, Steps, steps, Needs, Shows, Reads, Becomes, Refuses}
-use Rattle.line_keys.specs.Refreshing.{Shown}
 use Rattle.line_keys.specs.declared.command.Cmd.{Cmd}
 use Rattle.line_record.specs.Ring.{Ring}
 use Rattle.line_editor.specs.Asks.{shown_in, ask_effect}
@@ -121,7 +120,7 @@ module _ (s : Setting) where
   goes (Asks (Shows ask) t) input v h c on =
       let e = ask_effect ask s v in
       let next = t (shown_in e.value) in
-      goes_behind e (enacted s next input e.value h) (enacted s next input e.value c) (goes next input e.value h c on)
+      goes_behind e (enacted s next input e.value h) (enacted s next input e.value c) (goes (t (shown_in e.value)) input e.value h c on)
   goes (Asks (Reads item) t) input v h c on =
       read_goes item t input v h c on (λ x next. goes (t x) input v (behind h) (behind c) next) (item_at item h) (item_at item c) (read_alike item h c on.0) (refused_unbroken item h on.1)
   goes (Asks (Becomes kept) t) input v h c on = goes (t tt) kept v h c on

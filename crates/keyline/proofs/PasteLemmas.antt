@@ -28,7 +28,7 @@ use Rattle.line_keys.specs.Common.{common_deed, command_or, bound_or, decided, t
 use Rattle.line_keys.specs.Custom.{Situation, situation, shown_for, or_any, custom_answer}
 use Rattle.line_keys.specs.Emacs.{emacs_deed, emacs_command}
 use Rattle.line_keys.specs.Events.{single}
-use Rattle.line_keys.specs.Feeds.{Key, Paste}
+use Rattle.line_keys.specs.Feeds.{Paste}
 use Rattle.line_keys.specs.InputStates.{new_input}
 use Rattle.line_keys.specs.Keys.{key_with, none}
 use Rattle.line_keys.specs.Phrase.{phrase_from}
@@ -45,7 +45,7 @@ use Rattle.line_editor.specs.Drawing.{refreshed}
 use Rattle.line_editor.specs.Lines.{Enacted, Told, Turned, enacted, with_group_begun, phrase_enacted, reset_by, turned_by, turn_of, after_turn, line_from, line_of}
 use Rattle.line_editor.specs.Moving.{cursor_moved_if}
 use Rattle.line_editor.specs.Sights.{info_after}
-use Rattle.line_editor.specs.Values.{Setting, Value, empty_at, first_value, unchanged, rewritten, at_line}
+use Rattle.line_editor.specs.Values.{Setting, Value, empty_at, first_value, unchanged, at_line}
 use Rattle.line_editor.specs.Yanking.{behind_yank, yanked_by, yank_text}
 use Rattle.line_screen.specs.KeyGrammar.{coming_of}
 use Rattle.line_screen.specs.Pasting.{paste_start, with_newlines}

@@ -1,5 +1,5 @@
--- Scripts played on an input, where no fault comes: the answer, or why the input refuses one, what is
--- asked in order, and what is left to come.
+-- Scripts played on an input, where no fault comes: the answer, or why the input refuses one, what
+-- is asked in order, and what is left to come.
 use Rattle.std.specs.Prelude.{◌≡◌, List, [], ◌∷◌, ◌++◌, Result, Ok, Err}
 use Rattle.line_config.specs.Scripts.{Script, Ends, Asks, World}
 

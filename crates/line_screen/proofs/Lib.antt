@@ -35,3 +35,4 @@ pub mod ShortLemmas
 pub mod Standing
 pub mod Steps
 pub mod Stopping
+pub mod WideLemmas

@@ -20,7 +20,7 @@ fn is_narrow(c: char) -> bool
 }
 
 /// Of two columns: kana, Chinese, Korean, their punctuation and what has their full width.
-fn is_wide(c: char) -> bool
+pub(crate) fn is_wide(c: char) -> bool
     ensures { result ≡ is_wide c }
 {
     matches!(

@@ -8,7 +8,7 @@ ghost use Rattle.line_screen.specs.Drawing.{drawn_item, row_items, next_items, t
 ghost use Rattle.line_screen.specs.Drawing.DrawnItem.{Letter, NewRow};
 ghost use Rattle.line_screen.specs.Measure.{cluster_width, saturated, measure_of, Comes};
 
-use crate::characters::chars_are_clusters;
+use crate::characters::{chars_are_clusters, is_wide};
 use crate::grid::{Grid, is_letter};
 use line_buffer::{GraphemeClusterMode, Position, Unit, is_printable_text};
 use unicode_segmentation::UnicodeSegmentation;
@@ -62,6 +62,20 @@ fn step_right(grid: Grid, at: Position, count: Unit) -> Position
     leave_full(grid, behind)
 }
 
+/// So many columns further, in the next row where they don't fit.
+fn after_width(grid: Grid, at: Position, width: Unit) -> Position
+    requires inside { at.col < grid.columns }
+    requires narrow { width ≤ grid.columns }
+    ensures { Comes grid.columns
+        (leave grid.columns (right width (fit grid.columns width at))) result }
+{
+    if at.col + width <= grid.columns {
+        step_right(grid, at, width)
+    } else {
+        step_right(grid, next_row(at), width)
+    }
+}
+
 fn after_cluster(grid: Grid, at: Position, cluster: &str) -> Position
     requires inside { at.col < grid.columns }
     ensures { let wide = cluster_width grid.mode grid.columns in
@@ -71,11 +85,7 @@ fn after_cluster(grid: Grid, at: Position, cluster: &str) -> Position
         return step_right(grid, at, 1);
     }
     let width = grid.cluster_columns(cluster).unwrap_or(1);
-    if at.col + width <= grid.columns {
-        step_right(grid, at, width)
-    } else {
-        step_right(grid, next_row(at), width)
-    }
+    after_width(grid, at, width)
 }
 
 fn after_letters(grid: Grid, from: Position, letters: &[u8]) -> Position
@@ -106,12 +116,16 @@ fn after_clusters(grid: Grid, from: Position, row: &str) -> Position
     at
 }
 
+#[tactic(auto, using(crate::proofs::WideLemmas::wide_item))]
 fn after_char(grid: Grid, at: Position, c: char) -> Position
     requires inside { at.col < grid.columns }
     ensures { let wide = cluster_width grid.mode grid.columns in
         Comes grid.columns
         (place_after grid.columns (drawn_item wide (encode_utf8 c) ∷ []) at) result }
 {
+    if is_wide(c) {
+        return after_width(grid, at, 2);
+    }
     let mut bytes = [0; 4];
     after_cluster(grid, at, c.encode_utf8(&mut bytes))
 }

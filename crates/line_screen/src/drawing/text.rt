@@ -10,7 +10,7 @@ ghost use Rattle.line_screen.specs.Measure.{cluster_width};
 ghost use Rattle.line_config.specs.Sending.{Sends};
 ghost use Rattle.line_screen.specs.Sending.{SendsTo, SendsItems};
 
-use crate::characters::chars_are_clusters;
+use crate::characters::{chars_are_clusters, is_wide};
 use crate::drawing::sequences::send;
 use crate::grid::{Grid, is_letter};
 use line_buffer::{Unit, is_printable_text};
@@ -158,6 +158,7 @@ fn send_clusters<D: Sink>(
 }
 
 /// A character that is a cluster of its own.
+#[tactic(auto, using(crate::proofs::WideLemmas::wide_item))]
 fn send_char<D: Sink>(sink: &mut D, grid: Grid, col: Unit, c: char) -> Result<Unit, DeviceFailed>
     requires inside { col < grid.columns }
     ensures { SendsTo (sent_one grid.columns
@@ -167,7 +168,11 @@ fn send_char<D: Sink>(sink: &mut D, grid: Grid, col: Unit, c: char) -> Result<Un
         grid.columns D.held D.has_failed sink.old sink.new result }
 {
     let mut bytes = [0; 4];
-    send_cluster(sink, grid, col, c.encode_utf8(&mut bytes))
+    let text = c.encode_utf8(&mut bytes);
+    if is_wide(c) {
+        return send_wide(sink, grid, col, text, 2);
+    }
+    send_cluster(sink, grid, col, text)
 }
 
 fn send_chars<D: Sink>(
