@@ -73,7 +73,7 @@ printable_simple c h = grind (arith, nat_tests)
 no_newline : (c : ℕ) → is_printable c ≡ true → (c == 0x0A) ≡ false
 no_newline c h = grind (arith, nat_tests)
 
-letters_simple : (cs : List ℕ) → list_all is_printable cs ≡ true → map simple_item cs ≡ map Letter cs
+pub letters_simple : (cs : List ℕ) → list_all is_printable cs ≡ true → map simple_item cs ≡ map Letter cs
 letters_simple [] h = refl
 letters_simple (c ∷ cs) h =
     let parts = and_parts (is_printable c) (list_all is_printable cs) h in

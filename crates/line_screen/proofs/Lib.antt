@@ -12,6 +12,7 @@ pub mod Full
 mod InputRows
 pub mod ItemReads
 pub mod Items
+pub mod KnownLemmas
 pub mod LawLemmas
 pub mod Leading
 pub mod ListLemmas

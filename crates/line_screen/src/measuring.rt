@@ -1,8 +1,9 @@
 //! Where the drawing of a text ends.
 
-ghost use Rattle.std.specs.Prelude.{◌≡◌, ◌≤◌, ◌<◌, ◌+◌, ◌==◌, ◌∷◌, [], true, length, map, chars, encode_utf8};
+ghost use Rattle.std.specs.Prelude.{◌≡◌, ◌≤◌, ◌<◌, ◌+◌, ◌==◌, ◌∷◌, [], true, length, map, take, chars, encode_utf8, IsCharBoundary};
 ghost use Rattle.std.specs.List.{list_all};
 ghost use Rattle.unicode_segmentation.specs.Grapheme.{graphemes};
+ghost use Rattle.line_screen.specs.Chain.{is_simple};
 ghost use Rattle.line_screen.specs.Display.{right};
 ghost use Rattle.line_screen.specs.Drawing.{drawn_item, row_items, next_items, text_items, next_row, fit, leave, place_after};
 ghost use Rattle.line_screen.specs.Drawing.DrawnItem.{Letter, NewRow};
@@ -28,6 +29,41 @@ pub fn measure(text: &str, from: Position, columns: Unit, mode: GraphemeClusterM
     } else {
         after_text(grid, next_row(from), text)
     }
+}
+
+/// Where the drawing of a plain text up to a place ends, where that of its first `known` bytes ends
+/// at `at`.
+pub(crate) fn measure_on(
+    text: &str,
+    from: Position,
+    known: usize,
+    at: Position,
+    place: usize,
+    columns: Unit,
+    mode: GraphemeClusterMode,
+) -> Position
+    requires low { 2 ≤ columns }
+    requires high { columns ≤ 1000 }
+    requires plain { list_all is_simple text.now ≡ true }
+    requires known { IsCharBoundary text.now known }
+    requires place { IsCharBoundary text.now place }
+    requires at { at ≡ measure_of mode columns (take known text.now) from }
+    ensures { result ≡ measure_of mode columns (take place text.now) from }
+{
+    if known <= place {
+        return measure(&text[known..place], at, columns, mode);
+    }
+    let between = &text[place..known];
+    let cell = u64::from(at.row) * u64::from(columns) + u64::from(at.col);
+    let count = between.len() as u64;
+    if at.row < Unit::MAX && count <= cell && is_printable_text(between) {
+        let there = cell - count;
+        return Position {
+            col: (there % u64::from(columns)) as Unit,
+            row: (there / u64::from(columns)) as Unit,
+        };
+    }
+    measure(&text[..place], from, columns, mode)
 }
 
 fn next_row(at: Position) -> Position

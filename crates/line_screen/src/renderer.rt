@@ -6,7 +6,7 @@ ghost use Rattle.line_screen.specs.Calls.{Screen, screen_of, sink_of, canvas_of,
 use crate::drawing::sequences::{clear, go, send_flushed};
 use crate::drawing::whole::{Shown, draw};
 use crate::grid::Grid;
-use crate::measuring::measure;
+use crate::measuring::{measure, measure_on};
 use line_buffer::{GraphemeClusterMode, Layout, LineBuffer, Position, Unit};
 use line_config::{BellStyle, DeviceFailed, ReadlineError, Sink};
 use line_editor::Renderer;
@@ -156,6 +156,17 @@ impl<D: Sink + Drop> Renderer for ScreenRenderer<D> {
 
     fn calculate_position(&self, text: &str, orig: Position) -> Position {
         measure(text, orig, self.grid.columns, self.grid.mode)
+    }
+
+    fn position_from(
+        &self,
+        text: &str,
+        start: Position,
+        known: (usize, Position),
+        place: usize,
+    ) -> Position {
+        let (columns, mode) = (self.grid.columns, self.grid.mode);
+        measure_on(text, start, known.0, known.1, place, columns, mode)
     }
 }
 
