@@ -1,19 +1,23 @@
 #!/usr/bin/env python3
 """Each edit of a line with each growth refused in turn: text, cursor and events stand together after it; so each call
-that the undo record and the kill ring hear of, and each call of a history.
+that the undo record and the kill ring hear of, and each call of a history; and what each edit of `line_edits` and each
+command of `execute` leaves then, by the tables of tests/edit_growth.txt.
 
-`rt ci` builds crates/edits_program, and tests/growth.py the shim, first. The program makes one call a row and says
-itself whether what it left is right: WRONG where it isn't, "not begun" where the refusal came before the call, and "not
-judged" where it came after. Here each call for memory of its run is refused once.
+`rt ci` builds crates/edits_program first. Without arguments the program makes one call a row and says itself whether what
+it left is right: WRONG where it isn't, "not begun" where the refusal came before the call, and "not judged" where it came
+after. With arguments it makes the steps that they name, and tells after each of them what stands. Here each call for
+memory of its run is refused once.
 """
 import os
+import re
 import subprocess
 import tempfile
 
-from checks import HUNG, TOP, Failed, built, run_all, same
+from checks import HUNG, TOP, Failed, built, run_all, same, shim
+from display import Display, Drawing
 
-SHIM = os.path.join(TOP, "build", "refuse_growth.so")
 PROGRAM = built("edits_program")
+TABLES = os.path.join(TOP, "tests", "edit_growth.txt")
 MOST = 10000
 
 # Rows of calls that grow, so that each of them must have been refused once at least.
@@ -27,6 +31,20 @@ GROWING = {
     "history append_to", "history hint",
 }
 
+COLUMNS = 20
+PROMPT = "> "
+# More items than any row records.
+ALL = 8
+# Where the arguments don't fit into memory.
+UNREAD = b"Error: Kind(OutOfMemory)\n"
+# How a step ends that is neither refused nor unread.
+ANSWERED = {"done", "Submit", "Interrupted", "Eof"}
+
+
+def run_program(arguments, number, report):
+    told = {"LD_PRELOAD": shim("refuse_growth"), "REFUSE_GROWTH": str(number), "REFUSE_GROWTH_REPORT": report}
+    return subprocess.run([PROGRAM, *arguments], capture_output=True, timeout=HUNG, env=told)
+
 
 def rows_of(ran):
     same("standard error", ran.stderr, b"")
@@ -34,17 +52,12 @@ def rows_of(ran):
     return [tuple(row.split(": ")) for row in ran.stdout.decode().splitlines()]
 
 
-def run_refusing(number, report):
-    told = {"LD_PRELOAD": SHIM, "REFUSE_GROWTH": str(number), "REFUSE_GROWTH_REPORT": report}
-    return rows_of(subprocess.run([PROGRAM], capture_output=True, timeout=HUNG, env=told))
-
-
 def each_growth_refused():
     refused = set()
     with tempfile.TemporaryDirectory() as folder:
         report = os.path.join(folder, "refused")
         for number in range(1, MOST):
-            rows = run_refusing(number, report)
+            rows = rows_of(run_program([], number, report))
             words = [word for _, word in rows if word != "done"]
             if not os.path.exists(report):
                 same("rows of a run with ample memory that are not done", words, [])
@@ -59,5 +72,251 @@ def each_growth_refused():
     same("rows of calls that grow and were never refused", sorted(GROWING - refused), [])
 
 
+def pictured(text):
+    shown = text.replace("\n", "␊")
+    return re.sub(r"^ | $", "␠", shown)
+
+
+def meant(shown):
+    return shown.replace("␊", "\n").replace("␠", " ")
+
+
+class State:
+    """What the program tells after a step: how it ended, and what stands then."""
+
+    def __init__(self, told, entries):
+        self.word, text, place, *rest = told.split("\t")
+        self.line = text
+        raw = text.encode()
+        self.bar = pictured(raw[:int(place)].decode() + "|" + raw[int(place):].decode())
+        *rest, slots, present = self.ring_of(rest, entries)
+        self.ring = [("*" if at == int(present) and len(slots) > 1 else "") + slot for at, slot in enumerate(slots)]
+        self.hint, self.place, self.layout, self.mark = "", None, None, None
+        if entries is None:
+            (self.mark,) = rest
+        else:
+            self.hint, index, layout = rest
+            self.place = int(index) if int(index) != entries else None
+            self.layout = [int(number) for number in layout.split()]
+
+    @staticmethod
+    def ring_of(rest, entries):
+        """The fields before the ring's, its slots, and which of them is the present one."""
+        count = 1 if entries is None else 3
+        return (*rest[:count], rest[count:-1], rest[-1])
+
+    def shown(self, *more):
+        """How the step ended where the line doesn't go on, and what stands, in the tables' words."""
+        words = [self.word] if self.word not in ("done", "refused") else []
+        words += [self.bar + (f"{{{pictured(self.hint)}}}" if self.hint else "")]
+        words += ["ring:" + ",".join(map(pictured, self.ring))] if self.ring else []
+        words += [f"place:{self.place}"] if self.place is not None else []
+        return " ".join([*words, *more])
+
+
+class Ran:
+    """The states of a run after its first steps, in their order, with the display's bytes before each."""
+
+    def __init__(self, ran, entries, count):
+        self.begun = ran.stderr not in (b"not begun\n", UNREAD)
+        same("status", ran.returncode, 1 if ran.stderr == UNREAD else 0)
+        parts = [part.partition(b"\x1d") for part in ran.stderr.split(b"\x1e")[:count]] if self.begun else []
+        self.states = [State(told.decode(), entries) for _, mark, told in parts if mark]
+        self.bytes = [shown for shown, mark, _ in parts if mark]
+
+
+class Row:
+    """A row of the tables."""
+
+    def __init__(self, kind, settings, text):
+        self.kind, self.settings, self.text = kind, settings, text
+        said, _, wanted = text.partition(" = ")
+        line, _, steps = said.partition(": ")
+        self.line = meant(line.replace("|", ""))
+        self.start = self.begun(*map(meant, line.split("|")))
+        *self.before, self.last = steps.split("; ")
+        self.done, *left = wanted.split(" / ")
+        self.left = [tuple(pair.split(" > ")) for pair in left]
+        self.at = len(self.start) + len(self.before) + 1
+        self.entries = None if kind == "edits" else len([it for it in settings["history"].split(",") if it])
+
+    def begun(self, before, behind):
+        """The steps that put the line there, and draw it."""
+        if self.kind == "edits":
+            return [f"insert_text 0 {before + behind}", f"at {len(before.encode())}"]
+        return [f"put {before}", "Move EndOfBuffer", f"put {behind}", "Repaint"]
+
+    def name(self):
+        return self.last.partition(" ")[0].replace("AtEnd", "")
+
+    def run(self, after, number, report):
+        """A run with further steps. All runs of a row have as many, so that they want the same memory for them."""
+        steps = [*self.start, *self.before, "tighten", self.last, *after]
+        settings = [] if self.kind == "edits" else [self.settings["history"], self.settings["words"]]
+        rest = ["nothing"] * (2 * ALL - len(after))
+        return Ran(run_program([self.kind, *settings, *steps, *rest], number, report), self.entries, len(steps))
+
+    def undoing(self):
+        """Steps that take everything back, and then show the line that was left for the history, or make all anew."""
+        if self.kind == "edits":
+            return ["undo 1"] * ALL + ["redo"] * ALL
+        return ["Undo 1"] * ALL + ["restore"]
+
+    def grouping(self):
+        """Two characters typed, and exchanged in a group that is taken back: all groups are closed then."""
+        if self.kind == "edits":
+            return ["insert_char 1 q", "insert_char 1 r", "transpose_chars", "undo 1"]
+        return ["SelfInsert 1 q", "SelfInsert 1 r", "TransposeChars", "Undo 1"]
+
+    def is_undo(self):
+        return self.name().lower() == "undo"
+
+
+class Judge:
+    """Plays a row with each growth refused."""
+
+    def __init__(self, row, report):
+        self.row, self.report, self.seen = row, report, set()
+
+    def play(self, after, number, is_drawn=True):
+        """The states of a run, and whether a growth was refused in it. What is typed over a line that wasn't drawn need
+        not be shown."""
+        if os.path.exists(self.report):
+            os.remove(self.report)
+        ran = self.row.run(after, number, self.report)
+        for state in ran.states:
+            if state.mark is not None:
+                is_plain = re.fullmatch(r"[ -~\n]*", state.line) is not None
+                same(f"the mark of a plain line at {state.bar}", state.mark, "plain" if is_plain else "")
+        if is_drawn and self.row.kind == "commands" and self.is_begun(ran):
+            self.check_display(ran)
+        return ran, os.path.exists(self.report)
+
+    def is_begun(self, ran):
+        """Whether all steps before the last one were made."""
+        return ran.begun and ANSWERED.issuperset(state.word for state in ran.states[:self.row.at])
+
+    def check_display(self, ran):
+        """The display's cursor is where the layout has it after each step, and what was drawn is the line."""
+        display = Display(COLUMNS)
+        for shown, state in zip(ran.bytes, ran.states):
+            for _ in display.read(shown):
+                pass
+            same(f"the cursor at {state.bar}", list(display.cursor), state.layout[:2])
+            if shown.strip(b"\a") and state.word == "done":
+                drawing = Drawing(COLUMNS, PROMPT, state.line, state.hint)
+                same(f"the display at {state.bar}", display.below(0), drawing.below(0))
+
+    def whole(self):
+        """The run with ample memory."""
+        ran, refused = self.play([], 0)
+        if refused or ran.states[-1].word not in ANSWERED:
+            raise Failed(f"it ends with {ran.states[-1].word}")
+        back, _ = self.play(self.row.undoing(), 0)
+        self.texts = {state.line for state in back.states}
+        self.done, self.drawn = ran.states[-1].shown(*self.saved(back)), ran.bytes[-1]
+        self.shown = ran.states[-1].shown()
+
+    def each(self):
+        for number in range(1, MOST):
+            ran, refused = self.play([], number)
+            if not refused:
+                return number - 1
+            if not self.is_begun(ran) or ran.states[-1].word == "unread":
+                continue
+            if ran.states[-1].word == "refused":
+                self.judge(ran, number)
+            else:
+                same("what stands after a refusal that it gets over", ran.states[-1].shown(), self.shown)
+        raise Failed(f"{MOST} calls, and no end")
+
+    def judge(self, ran, number):
+        """What a refused step left: one of what the row names, from which the same step goes on, and nothing is lost."""
+        left = ran.states[-1]
+        if not self.drawn.startswith(ran.bytes[-1]):
+            raise Failed(f"call {number}: what was drawn is no beginning of {self.drawn}: {ran.bytes[-1]}")
+        again, _ = self.play([self.row.last], number)
+        back, _ = self.play(self.row.undoing(), number)
+        grouped, _ = self.play(self.row.grouping(), number, is_drawn=False)
+        self.seen.add((left.shown(*self.saved(back), *self.opened(grouped)), again.states[-1].shown()))
+        self.check_record(left, back)
+
+    def saved(self, back):
+        """The line that was left for the history, where one was."""
+        bar = back.states[-1].bar if self.row.kind == "commands" else "|"
+        return [] if bar == "|" else [f"saved:{bar}"]
+
+    @staticmethod
+    def opened(grouped):
+        """Whether a group was left open, which is taken back with a later one."""
+        typed, _, undone = grouped.states[-3:]
+        return [] if undone.line == typed.line else ["open"]
+
+    def check_record(self, left, back):
+        """Taking all back goes over texts that stood, to the one that the record begins on; what was taken back is made
+        anew. A refused undo may have left no record."""
+        undone = [state.line for state in back.states[self.row.at + 1:self.row.at + 1 + ALL]]
+        if self.row.is_undo() and set(undone) == {left.line}:
+            return
+        same("a text that never stood", sorted(set(undone) - self.texts - {left.line}), [])
+        same("the text when all is taken back", undone[-1], "")
+        if self.row.kind == "edits":
+            same("the text when all is made anew", back.states[-1].line, left.line)
+
+    def compare(self):
+        is_named = self.seen <= set(self.row.left) and bool(self.seen) == bool(self.row.left)
+        if self.done != self.row.done or not is_named:
+            raise Failed(" / ".join([f"found {self.done}", *sorted(f"{left} > {after}" for left, after in self.seen)]))
+
+
+def rows_of_tables():
+    kind, settings = None, None
+    with open(TABLES, encoding="utf-8") as tables:
+        for line in tables:
+            words = line.split()
+            if words and words[0] == ":":
+                kind = words[1]
+                settings = {"history": "", "words": "", **dict(word.split(":") for word in words[2:])}
+            elif words and words[0] != "#":
+                yield Row(kind, settings, line.strip())
+
+
+def play_table(kind):
+    count = 0
+    with tempfile.TemporaryDirectory() as folder:
+        for row in rows_of_tables():
+            if row.kind != kind:
+                continue
+            judge = Judge(row, os.path.join(folder, "refused"))
+            try:
+                judge.whole()
+                count += judge.each()
+                judge.compare()
+            except Failed as fault:
+                raise Failed(f"{row.text}: {fault}") from fault
+    print(f"calls refused in turn: {count}", flush=True)
+
+
+def source(*path):
+    with open(os.path.join(TOP, "crates", *path), encoding="utf-8") as text:
+        return text.read()
+
+
+def each_edit_leaves_what_its_row_names():
+    play_table("edits")
+    named = re.findall(r"pub use (?!plain)\w+::(?:\{([^}]*)\}|(\w+));", source("line_edits", "src", "lib.rt"))
+    edits = {name.strip() for some, one in named for name in (some or one).split(",")}
+    played = {row.name() for row in rows_of_tables() if row.kind == "edits"}
+    same("edits without a row", sorted(edits - played), [])
+
+
+def each_command_leaves_what_its_row_names():
+    play_table("commands")
+    body = re.search(r"pub enum Cmd \{(.*?)\n\}", source("line_keys", "src", "command.rt"), re.S)
+    commands = set(re.findall(r"(?m)^    ([A-Z]\w+)", body[1]))
+    played = {row.name() for row in rows_of_tables() if row.kind == "commands"}
+    same("commands without a row", sorted(commands - played), [])
+
+
 if __name__ == "__main__":
-    run_all([each_growth_refused])
+    run_all([each_growth_refused, each_edit_leaves_what_its_row_names, each_command_leaves_what_its_row_names])

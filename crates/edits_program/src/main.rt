@@ -1,20 +1,26 @@
 //! Each edit of a line, with a listener that makes the events it is told on a text of its own, each call of the undo
 //! record and of the kill ring, and each call of a history. A row for each says whether it was done or refused, and
 //! whether what it left is right. `tests/edit_growth.py` runs this with each growth of memory refused in turn.
+//!
+//! With the word `edits` and steps, makes these edits of `line_edits` instead, and with `commands`, the entries of a history,
+//! words to complete and steps, these commands of `execute`; after each step it tells what stands.
 #![tactic(auto)]
 
+mod commands;
 mod desk;
 mod histories;
 mod record_cases;
 mod row_sink;
 mod shadow;
+mod slate;
+mod words;
 
 use line_buffer::{
     At, CharSearch, LineBuffer, Movement, NoListener, OutOfMemory, Word, WordAction,
 };
 use shadow::Shadow;
 use std::alloc::Global;
-use std::io;
+use std::{env, io};
 
 const TEXT: &str = "one tw\u{E9} (three)\nfour \u{6F22}\u{5B57} six\n  seven";
 
@@ -195,10 +201,21 @@ fn check(rt: &impl Print, alloc: Global, edit: Edit, name: &str) -> io::Result<(
     println!(rt; "{name}: {word}{verdict}")
 }
 
-fn main(rt: HostRuntime) -> io::Result<()> {
+fn check_all(rt: &HostRuntime) -> io::Result<()> {
     for (edit, name) in EDITS {
-        check(&rt, rt.alloc(), edit, name)?;
+        check(rt, rt.alloc(), edit, name)?;
     }
-    record_cases::check_all(&rt, rt.alloc())?;
-    histories::check(&rt, rt.alloc())
+    record_cases::check_all(rt, rt.alloc())?;
+    histories::check(rt, rt.alloc())
+}
+
+fn main(rt: HostRuntime) -> io::Result<()> {
+    let words: Vec<String> = env::args(&rt)?.collect(rt.alloc())?;
+    match words.as_slice() {
+        [_, name, steps @ ..] if name.as_str() == "edits" => slate::play(&rt, rt.alloc(), steps),
+        [_, name, entries, words, steps @ ..] if name.as_str() == "commands" => {
+            commands::play(&rt, entries.as_str(), words.as_str(), steps)
+        }
+        _ => check_all(&rt),
+    }
 }
