@@ -9,6 +9,7 @@ ghost use Rattle.line_screen.specs.Calls.{screen_of, sink_of};
 ghost use Rattle.keyline.specs.Closing.{Closes, work};
 ghost use Rattle.keyline.specs.Sessions.{given_by, line_text, remembered};
 
+use crate::boxed::Boxed;
 use line_config::{Config, DeviceFailed, ReadlineError, Sink, Source};
 use line_editor::{Ran, Renderer, run};
 use line_help::{FileHistory, Helper, History};
@@ -112,15 +113,15 @@ fn close<D: Sink + Drop, L: Sink>(
     }
 }
 
-/// What goes on from line to line, with the devices.
+/// What goes on from line to line, with the devices, which are behind pointers.
 #[derive(Drop)]
 pub(crate) struct Desk<S: Source, H, D: Sink, L: Sink> {
-    pub(crate) reader: KeyReader<S>,
-    pub(crate) out: ScreenRenderer<D>,
+    pub(crate) reader: KeyReader<Boxed<S>>,
+    pub(crate) out: ScreenRenderer<Boxed<D>>,
     pub(crate) helper: Option<H>,
     pub(crate) history: FileHistory,
     pub(crate) ring: KillRing,
-    pub(crate) lines: L,
+    pub(crate) lines: Boxed<L>,
 }
 
 /// A desk after a line, and the line's text or why there is none.

@@ -7,6 +7,7 @@
 //! by the definitions in `specs/`. All that a call of it needs is handed on here.
 #![tactic(auto)]
 
+mod boxed;
 pub mod builder;
 mod desk;
 pub mod edit_helper;

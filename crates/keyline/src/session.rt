@@ -16,6 +16,7 @@ ghost use Rattle.keyline.specs.Plays.{Begins, LoadRefused, Loaded, Opens, Plays,
 ghost use Rattle.keyline.specs.SessionShows.{Displays};
 ghost use Rattle.keyline.specs.Sessions.{given_by};
 
+use crate::boxed::Devices;
 use crate::desk::{Desk, Lined};
 use crate::ending::Ending;
 use line_config::{Config, ReadlineError, Sink, Source};
@@ -236,14 +237,29 @@ where
         ensures refused { IfErr result (Unopens F.feed config history source display lines text) }
     {
         let mut history = history;
+        let why = ReadlineError::Memory;
+        let devices = match Devices::new(alloc, source, display, lines) {
+            Ok(devices) => devices,
+            Err((source, display, lines)) => return Err(Unopened::new(
+                why, history, source, display, lines, text,
+            )),
+        };
         let Beginning {
             prompt,
             ring,
             history: loaded,
         } = match begin(alloc, &config, prompt, &mut history) {
             Ok(beginning) => beginning,
-            Err(why) => return Err(Unopened::new(why, history, source, display, lines, text)),
+            Err(why) => {
+                let (source, display, lines) = devices.into_parts();
+                return Err(Unopened::new(why, history, source, display, lines, text));
+            }
         };
+        let Devices {
+            source,
+            display,
+            lines,
+        } = devices;
         let mode = config.grapheme_cluster_mode();
         let desk = Desk {
             reader: KeyReader::new(source, config.edit_mode()),
@@ -363,10 +379,10 @@ where
         Ended {
             ending,
             history,
-            source,
+            source: source.into_inner(),
             ahead,
-            display: out.into_sink(),
-            lines,
+            display: out.into_sink().into_inner(),
+            lines: lines.into_inner(),
             text,
         }
     }

@@ -1,9 +1,41 @@
--- The devices are handed back.
-use Rattle.std.proofs.Common.{refl, sym, subst}
+-- The devices go into their boxes, or are handed back.
+use Rattle.std.proofs.Common.{◌≡◌, ◌∙◌, false, refl, rules, subst, sym}
+use Rattle.line_help.proofs.RowLemmas.{none_read}
+use Rattle.line_screen.specs.Reader.{coming_in}
 use Rattle.keyline.specs.Plays.{Unopens}
+use Rattle.keyline.specs.Sessions.{coming_from}
+use Rattle.keyline.proofs.EditLemmas.{loaded_where}
+use Rattle.keyline.proofs.LinesLemmas.{along}
 use Rattle.keyline.proofs.session.Session.open.Goals as goal
 
 pub returns-in-Err-clause-refused : goal.returns-in-Err-clause-refused
 returns-in-Err-clause-refused g c =
-    subst (Unopens g.F.Source.feed c.args.config c.args.history c.args.source c.args.display c.args.lines c.args.text) (sym c.new.ensures)
-    (record { fault = c.in-Err.ensures.fault; remains = c.begin.ensures.remains; source_is = refl; display_is = refl; lines_are = refl; text_is = refl })
+    let back = c.in-Err.ensures.back in
+    subst (Unopens g.F.Source.feed c.args.config c.args.history c.args.source c.args.display c.args.lines c.args.text) (sym c.new-in-Err.ensures)
+    (record {
+      fault = (c.requires.history, λ t. none_read _);
+      remains = record { told = λ t. t; last = refl };
+      source_is = along back (λ d. d.0);
+      display_is = along back (λ d. d.1);
+      lines_are = along back (λ d. d.2);
+      text_is = refl;
+    })
+
+pub returns-clause-desk : goal.returns-clause-desk
+returns-clause-desk g c =
+    let feed = g.S.Source.feed in
+    let devices = c.in-Ok.ensures in
+    let Comes : g.row.S.Denot → Type 0 = λ s. (feed s).failed ≡ false
+    → coming_in feed c.new-2.result ≡ coming_from c.edit_mode.result (feed s).coming (feed s).last in
+    let mode = along c.edit_mode.ensures (λ m. coming_from m (feed c.args.source).coming (feed c.args.source).last) in
+    record {
+      loaded = loaded_where _ _ _ (λ always. always c.begin.new.source) c.in-Ok-begin.ensures.ok.history;
+      ring = c.in-Ok-begin.ensures.ok.ring;
+      coming = subst Comes devices.source c.new-2.ensures.coming c.requires.source ∙ mode;
+      source_is = c.new-2.ensures.source ∙ devices.source;
+      kept = c.new-2.ensures.kept;
+      screen = search rules;
+      display_is = c.new-3.ensures.sink ∙ devices.display;
+      helper_is = refl;
+      lines_are = devices.lines;
+    }
