@@ -1,8 +1,8 @@
 """What keys at the end of a line of plain text cost: the built program, its display and lines thrown away.
 
 Called by `bench/run ends` with the built program. The line is pasted, and its end stands in the middle of a row, so that no
-key has the whole line drawn: what a key costs is then the same in a line of any size. Each is pressed a hundred times in a
-line of each of two sizes, less a session that has the line alone, as `bench/run clusters` does it.
+key has the whole line drawn: what a key costs is then the same in a line of any size. Each is pressed two hundred times in a
+line of each of two sizes, less a session that has a hundred, counted as by `bench/run clusters`.
 """
 import shutil
 import sys
@@ -23,11 +23,11 @@ CASES = [
 def main(program):
     cost, unit = (instructions, "instructions") if shutil.which("valgrind") else (microseconds, "microseconds")
     command = [program, "--columns=1000"]
-    alone = [cost(command, pasted(b"a" * size) + ENTER) for size in SIZES]
     for name, key in CASES:
         costs = []
-        for size, less in zip(SIZES, alone):
-            more = cost(command, pasted(b"a" * size) + KEYS * key + ENTER) - less
+        for size in SIZES:
+            line = pasted(b"a" * size)
+            more = cost(command, line + 2 * KEYS * key + ENTER) - cost(command, line + KEYS * key + ENTER)
             costs.append(f"{size} characters: {more / KEYS:,.0f}")
         print(f"{name}: {', '.join(costs)} {unit} a key", flush=True)
 
