@@ -9,6 +9,7 @@ abbrev pub ruler_with : ℕ → Bool → Ruler
 ruler_with columns colours = record {
   measure = λ text from. measure_of Unicode columns text from;
   columns = columns;
+  rows = 24;
   colours = colours;
   mode = Unicode;
 }

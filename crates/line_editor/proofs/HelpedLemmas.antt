@@ -191,7 +191,7 @@ module _ {Out H Hi K T : Type 0} {renderer : renderers.Renderer.Ghosts Out} {com
     begun = help_refused renderer.canvas (renderer.canvas.ruler s.out) s.layout (verdict_reply (setting_of s) (value_of s)) e s.out t.out why out;
   })
 
-  validated : (s : State Out H Hi K T renderer completer candidate hinter hint highlighter validator history) → is_some s.helper ≡ true
+  pub validated : (s : State Out H Hi K T renderer completer candidate hinter hint highlighter validator history) → is_some s.helper ≡ true
       → then_do opened_and_asked (closed_and_told (verdict (setting_of s) (value_of s))) (setting_of s) (value_of s) ≡ validate (setting_of s) (value_of s)
   validated s some = validated_by (verdict_reply (setting_of s) (value_of s)) (setting_of s) (value_of s) (some_mapped (λ (h : Hooks). h.judge s.line.text) (hooks_of completer hinter validator) s.helper ∙ some)
 

@@ -8,6 +8,7 @@ pub mod HelpedLemmas
 pub mod KillLemmas
 pub mod KnownLemmas
 pub mod LeadLemmas
+pub mod LeavesLemmas
 pub mod LineLeads
 pub mod LoopLemmas
 pub mod CarriesLemmas

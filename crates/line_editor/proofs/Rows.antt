@@ -40,6 +40,7 @@ abbrev plain : Ruler
 plain = record {
   measure = λ text at. record { col = at.col + length text; row = at.row };
   columns = 80;
+  rows = 24;
   colours = true;
   mode = Unicode;
 }

@@ -22,10 +22,11 @@ pub data Call : Type 0 where
   Help : (fails : Bool) → Call
 
 -- what a renderer measures by: where the drawing of a text from a place on ends, the columns of a
--- row, whether it draws in colours, and how it counts a cluster's columns
+-- row, how many rows there are, whether it draws in colours, and how it counts a cluster's columns
 pub record Ruler : Type 0 where
   pub measure : List ℕ → Position → Position
   pub columns : ℕ
+  pub rows : ℕ
   pub colours : Bool
   pub mode : GraphemeClusterMode
 
@@ -79,9 +80,9 @@ abbrev pub IsAsked : List Call → Type 0
 IsAsked [] = ⊥
 IsAsked (call ∷ calls) = ⊤
 
--- a call that draws nothing
+-- a call that writes nothing, whether it is made or refused: the renderer is as it was
 pub record Idles {R A : Type 0} (canvas : Canvas R) (old new : R)
     (result : Result A ReadlineError) : Type 0 where
+  pub stays : new ≡ old
   pub fault : IfErr result (λ e. e ≡ Display)
   pub failed : OnErr result (IsTrue (canvas.failed new))
-  pub ruler : canvas.ruler new ≡ canvas.ruler old

@@ -1,7 +1,7 @@
 //! What is killed, and what is copied into the ring.
 ghost use Rattle.std.specs.Prelude.{◌≡◌, ◌⊎◌, OnErr, OnOk, IfErr};
 ghost use Rattle.line_config.specs.declared.errors.ReadlineError.{ReadlineError};
-ghost use Rattle.line_edits.specs.Edits.{unkilled};
+ghost use Rattle.line_edits.specs.Edits.{range_killed, unkilled};
 
 use crate::measured::known_within;
 use crate::renderer::Renderer;
@@ -15,6 +15,7 @@ use line_record::KillRing;
 
 #[tactic(auto, using(crate::proofs::BegunLemmas::begun_none, crate::proofs::BegunLemmas::begun_refused))]
 impl<'p, 'h, Out: Renderer, H: Helper + Drop, Hi: History> State<'p, 'h, Out, H, Hi> {
+    ghost use Rattle.line_editor.specs.Refusals.{LeavesRewritten, LeavesUndrawn};
     ghost use Rattle.line_editor.specs.States.{value_of, setting_of, Does, Shows, Stays};
     ghost use Rattle.line_editor.specs.Killing.{may_be_taken, killed_shown, kill, insert_text_if, replace, killed_into, copied_into};
 
@@ -35,6 +36,7 @@ impl<'p, 'h, Out: Renderer, H: Helper + Drop, Hi: History> State<'p, 'h, Out, H,
         was_bare: bool,
     ) -> Result<(), ReadlineError>
         ensures does { Does (killed_shown count printable was_bare) self.old self.new result }
+        ensures left { IfErr result (λ e. LeavesUndrawn (value_of self.old) e self.old self.new) }
     {
         self.ask_anew()?;
         if self.may_be_taken(printable, was_bare) {
@@ -57,6 +59,8 @@ impl<'p, 'h, Out: Renderer, H: Helper + Drop, Hi: History> State<'p, 'h, Out, H,
         ring: &mut KillRing,
     ) -> Result<(), ReadlineError>
         ensures does { Does (kill movement.now) self.old self.new result }
+        ensures left { IfErr result (λ e.
+            LeavesRewritten (range_killed movement.now) e self.old self.new) }
         ensures ring { OnOk result
             (ring.new ≡ killed_into movement.now (value_of self.old) ring.old) }
         ensures refused_ring { IfErr result

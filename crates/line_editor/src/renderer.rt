@@ -72,26 +72,32 @@ pub trait Renderer: Drop {
     fn move_cursor_at_leftmost(&mut self) -> Result<(), ReadlineError>
         ensures { Makes canvas ToLeftmost self.old self.new result };
 
-    /// What is drawn from now on is shown at once, when the update ends.
+    /// What is drawn from now on is shown at once, when the update ends. Nothing is written.
     fn begin_synchronized_update(&mut self) -> Result<(), ReadlineError>
         ensures { Idles canvas self.old self.new result }
     {
+        // each drawing is shown as it comes
         Ok(())
     }
 
+    /// Nothing is written.
     fn end_synchronized_update(&mut self) -> Result<(), ReadlineError>
         ensures { Idles canvas self.old self.new result }
     {
+        // nothing was held back
         Ok(())
     }
 
-    /// Asks the display for its size anew.
-    fn update_size(&mut self);
+    /// Asks the display for its size anew. Nothing is written, and the size is as it was.
+    fn update_size(&mut self)
+        ensures { self.new ≡ self.old };
 
     fn get_columns(&self) -> Unit
         ensures { result ≡ (canvas.ruler self.now).columns };
 
-    fn get_rows(&self) -> Unit;
+    /// How many rows there are.
+    fn get_rows(&self) -> Unit
+        ensures { result ≡ (canvas.ruler self.now).rows };
 
     fn colors_enabled(&self) -> bool
         ensures { result ≡ (canvas.ruler self.now).colours };

@@ -26,11 +26,12 @@ screen_of r = record { columns = r.grid.columns; mode = r.grid.mode; bell = r.be
 abbrev pub sink_of : {D : Type 0} → ScreenRenderer D → D
 sink_of r = r.sink
 
--- what it measures by; its drawings have no colours
+-- what it measures by: its drawings have no colours, and as many rows as can be counted
 abbrev pub ruler_of : Screen → Ruler
 ruler_of s = record {
   measure = measure_of s.mode s.columns;
   columns = s.columns;
+  rows = 65535;
   colours = false;
   mode = s.mode;
 }

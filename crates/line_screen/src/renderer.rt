@@ -141,7 +141,7 @@ impl<D: Sink + Drop> Renderer for ScreenRenderer<D> {
         self.grid.columns
     }
 
-    /// As many rows as can be counted: there is no last one.
+    /// As many rows as can be counted, 65,535: there is no last one.
     fn get_rows(&self) -> Unit {
         Unit::MAX
     }

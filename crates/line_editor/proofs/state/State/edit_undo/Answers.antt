@@ -8,4 +8,5 @@ returns-else-undone g c =
     record {
       does = unmade_does c.args.n _ _ _ (sym writes.answers ∙ c.if-undone.false) writes.line writes.held refl refl refl
           (record { ruler = refl; prompt = refl; history_is = refl; hooks_are = refl; marks_are = refl });
+      left = tt;
     }
