@@ -4,6 +4,7 @@ pub mod BegunLemmas
 pub mod CommandsLead
 pub mod CompleteLemmas
 pub mod DoesLemmas
+pub mod GrowthLemmas
 pub mod HelpedLemmas
 pub mod KillLemmas
 pub mod KnownLemmas

@@ -9,7 +9,7 @@ use Rattle.line_buffer.specs.LetterCase.{word_to_edit}
 use Rattle.line_buffer.specs.Range.{range_of}
 use Rattle.line_buffer.specs.Transpositions.{transposes_chars, transposes_words}
 use Rattle.line_buffer.specs.declared.types.Anchor.{Anchor}
-use Rattle.line_buffer.specs.declared.types.Anchor.TheVariants.{Before}
+use Rattle.line_buffer.specs.declared.types.Anchor.TheVariants.{After, Before}
 use Rattle.line_buffer.specs.declared.types.Movement.{Movement}
 use Rattle.line_buffer.specs.declared.types.Movement.TheVariants.{WholeLine, BeginningOfLine, EndOfLine, BackwardWord, ForwardWord, ViCharSearch, ViFirstPrint, BackwardChar, ForwardChar, LineUp, LineDown, WholeBuffer, BeginningOfBuffer, EndOfBuffer}
 use Rattle.line_buffer.specs.Hits.{search_place}
@@ -19,8 +19,8 @@ use Rattle.line_buffer.specs.declared.types.At.TheVariants.{Start}
 use Rattle.line_buffer.specs.declared.types.Word.TheVariants.{Big}
 use Rattle.line_buffer.specs.declared.types.WordAction.{WordAction}
 use Rattle.line_buffer.specs.declared.types.WordAction.TheVariants.{Capitalize, Lowercase, Uppercase}
-use Rattle.line_edits.specs.Edits.{text_yanked, transpose_chars_in_group, transpose_words_in_group, edit_word_in_group}
-use Rattle.line_edits.specs.Written.{group_opened, group_closed}
+use Rattle.line_edits.specs.Edits.{chars_replaced, clusters_after, deleted, text_yanked, transpose_chars_in_group, transpose_words_in_group, edit_word_in_group}
+use Rattle.line_edits.specs.Written.{Written, group_opened, group_closed}
 use Rattle.line_help.specs.Hints.{Hinted}
 use Rattle.line_help.specs.History.{begins_with_space}
 use Rattle.line_help.specs.Completion.{Completion}
@@ -46,42 +46,44 @@ use Rattle.line_editor.specs.Inserting.{insert_char}
 use Rattle.line_editor.specs.Killing.{kill, insert_text_if}
 use Rattle.line_editor.specs.Moving.{cursor_moved_if, to_found, to_place, move_home, move_to_next_word, move_to_first_print, move_by}
 use Rattle.line_editor.specs.Remembering.{saved_now, saved_on_leaving, recall, come_back as back_at_end, history_step, history_end}
-use Rattle.line_editor.specs.Returns.{ValueStep, value_after, value_after_all, leaving_by, is_search, searches, Away, StaysAway, ComesBack}
+use Rattle.line_editor.specs.Returns.{ValueStep, value_after, value_after_all, leaving_by, is_search, searches, StaysAway, ComesBack}
 use Rattle.line_editor.specs.Returns.ValueStep.{Done, Asked}
 use Rattle.line_editor.specs.Rewording.{refreshed_if, edit_word}
-use Rattle.line_editor.specs.Values.{Value, Setting, Effect, Saved, then_do, verdict_reply, completion_reply, rewritten, at_line}
+use Rattle.line_editor.specs.Values.{Value, Setting, Effect, Saved, then_do, verdict_reply, completion_reply, rewritten, written_of, at_line}
 use Rattle.line_editor.specs.Yanking.{anchored, steps, behind_yank, yanked_by, yank_text, yank_lent, pop_lent}
+use Rattle.line_editor.proofs.GrowthLemmas.{insert_grows, yank_grows, pop_grows, deletion_grows, kill_grows, indent_grows, word_grows, chars_grow, words_grow, over_grows, back_grows}
 
--- ---- what keeps the place and the saved line
+-- ---- what keeps the place and the saved line, and whether the line may grow
 
 record Keeps (v w : Value) : Type 0 where
   saved : w.saved ≡ v.saved
   history : w.history ≡ v.history
+  growth : w.line.growth ≡ v.line.growth
 
 same : (v : Value) → Keeps v v
-same v = record { saved = refl; history = refl }
+same v = record { saved = refl; history = refl; growth = refl }
 
 then_keeps : (u v w : Value) → Keeps u v → Keeps v w → Keeps u w
-then_keeps u v w h k = record { saved = k.saved ∙ h.saved; history = k.history ∙ h.history }
+then_keeps u v w h k = record { saved = k.saved ∙ h.saved; history = k.history ∙ h.history; growth = k.growth ∙ h.growth }
 
 either : (v : Value) (b : Bool) (e f : Effect) → Keeps v e.value → Keeps v f.value → Keeps v (if b then e else f).value
 either v true e f h k = h
 either v false e f h k = k
 
-kept : {v : Value} → {w : Value} → w.saved ≡ v.saved → w.history ≡ v.history → Keeps v w
-kept h k = record { saved = h; history = k }
+kept : {v : Value} → {w : Value} → w.saved ≡ v.saved → w.history ≡ v.history → w.line.growth ≡ v.line.growth → Keeps v w
+kept h k g = record { saved = h; history = k; growth = g }
 
 insertion_keeps : (c n : ℕ) (s : Setting) (v : Value) → Keeps v (insert_char c n s v).value
-insertion_keeps c n s v = either v (is_some (insertion c n v.line).answer) _ _ (kept refl refl) (kept refl refl)
+insertion_keeps c n s v = either v (is_some (insertion c n v.line).answer) _ _ (kept refl refl (insert_grows c n v.line)) (kept refl refl (insert_grows c n v.line))
 
-step_keeps : (kind : CmdKind) (moves : Bool) (l : Line) (s : Setting) (v : Value) → Keeps v (cursor_moved_if kind moves l s v).value
-step_keeps kind moves l s v = either v moves _ _ (kept refl refl) (kept refl refl)
+step_keeps : (kind : CmdKind) (moves : Bool) (l : Line) (s : Setting) (v : Value) → l.growth ≡ v.line.growth → Keeps v (cursor_moved_if kind moves l s v).value
+step_keeps kind moves l s v g = either v moves _ _ (kept refl refl g) (kept refl refl refl)
 
 found_keeps : (o : Option ℕ) (s : Setting) (v : Value) → Keeps v (to_found o s v).value
-found_keeps o s v = step_keeps MoveCursor (is_some o) (moved_to o v.line) s v
+found_keeps o s v = step_keeps MoveCursor (is_some o) (moved_to o v.line) s v refl
 
 place_keeps : (kind : CmdKind) (place : ℕ) (s : Setting) (v : Value) → Keeps v (to_place kind place s v).value
-place_keeps kind place s v = step_keeps kind (not (place == v.line.place)) (record v.line { place = place }) s v
+place_keeps kind place s v = step_keeps kind (not (place == v.line.place)) (record v.line { place = place }) s v refl
 
 home_keeps : (s : Setting) (v : Value) → Keeps v (move_home s v).value
 home_keeps s v = place_keeps MoveCursor (row_start v.line.text v.line.place) s v
@@ -105,26 +107,35 @@ motion_keeps (ForwardChar n) s v = found_keeps (place_forward n v.line) s v
 motion_keeps (LineUp n) s v = found_keeps (line_up s.mode s.column n v.line) s v
 motion_keeps (LineDown n) s v = found_keeps (line_down s.mode s.column n v.line) s v
 motion_keeps WholeBuffer s v = same v
-motion_keeps BeginningOfBuffer s v = step_keeps MoveCursor (not (v.line.place == 0)) (record v.line { place = 0 }) s v
-motion_keeps EndOfBuffer s v = step_keeps MoveCursor (not (v.line.place == length v.line.text)) (record v.line { place = length v.line.text }) s v
+motion_keeps BeginningOfBuffer s v = step_keeps MoveCursor (not (v.line.place == 0)) (record v.line { place = 0 }) s v refl
+motion_keeps EndOfBuffer s v = step_keeps MoveCursor (not (v.line.place == length v.line.text)) (record v.line { place = length v.line.text }) s v refl
 
 kill_keeps : (m : Movement) (s : Setting) (v : Value) → Keeps v (kill m s v).value
-kill_keeps m s v = either v (is_some (range_of m v.line)) _ _ (kept refl refl) (kept refl refl)
+kill_keeps m s v = either v (is_some (range_of m v.line)) _ _ (kept refl refl (kill_grows m v.line)) (kept refl refl (kill_grows m v.line))
 
 text_keeps : (text : Option (List ℕ)) (s : Setting) (v : Value) → Keeps v (insert_text_if text s v).value
 text_keeps None s v = same v
-text_keeps (Some text) s v = either v (length text == 0) _ _ (kept refl refl) (kept refl refl)
+text_keeps (Some text) s v = either v (length text == 0) _ _ (kept refl refl refl) (kept refl refl refl)
 
 yanked_keeps : (b : Bool) (v u w : Value) → Keeps v u → Keeps v w → Keeps v (if b then u else w)
 yanked_keeps true v u w h k = h
 yanked_keeps false v u w h k = k
 
+anchored_grows : (anchor : Anchor) (l : Line) → (anchored anchor l).growth ≡ l.growth
+anchored_grows After l = refl
+anchored_grows Before l = refl
+
+behind_grows : (vi : Bool) (l : Line) → (behind_yank vi l).growth ≡ l.growth
+behind_grows true l = refl
+behind_grows false l = refl
+
 yank_keeps : (vi : Bool) (text : List ℕ) (anchor : Anchor) (n : ℕ) (s : Setting) (v : Value) → Keeps v (yank_text vi text anchor n s v).value
 yank_keeps vi text anchor n s v =
     let before = at_line (anchored anchor v.line) v in
     let w = rewritten (text_yanked text n) before in
-    let h : Keeps v (yanked_by vi text n before) = yanked_keeps (is_some (yanked_in text n before.line).answer) v (at_line (behind_yank vi w.line) w) w (kept refl refl) (kept refl refl) in
-    either v (is_some (yanked_in text n before.line).answer || steps anchor v.line) _ _ (kept h.saved h.history) h
+    let g : w.line.growth ≡ v.line.growth = yank_grows text n before.line ∙ anchored_grows anchor v.line in
+    let h : Keeps v (yanked_by vi text n before) = yanked_keeps (is_some (yanked_in text n before.line).answer) v (at_line (behind_yank vi w.line) w) w (kept refl refl (behind_grows vi w.line ∙ g)) (kept refl refl g) in
+    either v (is_some (yanked_in text n before.line).answer || steps anchor v.line) _ _ (kept h.saved h.history h.growth) h
 
 lent_keeps : (vi : Bool) (anchor : Anchor) (n : ℕ) (o : Option (List ℕ)) (s : Setting) (v : Value) → Keeps v (yank_lent vi anchor n o s v).value
 lent_keeps vi anchor n None s v = same v
@@ -132,13 +143,13 @@ lent_keeps vi anchor n (Some text) s v = yank_keeps vi text anchor n s v
 
 pop_keeps : (o : Option (ℕ × List ℕ)) (s : Setting) (v : Value) → Keeps v (pop_lent o s v).value
 pop_keeps None s v = same v
-pop_keeps (Some lent) s v = either v (can_take_before lent.0 v.line) _ _ (kept refl refl) (kept refl refl)
+pop_keeps (Some lent) s v = either v (can_take_before lent.0 v.line) _ _ (kept refl refl (pop_grows lent.0 lent.1 v.line)) (kept refl refl refl)
 
 drawn_keeps : (b : Bool) (s : Setting) (v w : Value) → Keeps v w → Keeps v (refreshed_if b s w).value
-drawn_keeps b s v w h = either v b _ _ (kept h.saved h.history) h
+drawn_keeps b s v w h = either v b _ _ (kept h.saved h.history h.growth) h
 
 told_keeps : (draws : Bool) (text : Option (List ℕ)) (kind : CmdKind) (s : Setting) (v w : Value) → Keeps v w → Keeps v (told_if draws text kind s w).value
-told_keeps draws text kind s v w h = either v (draws || is_some text) _ _ (kept h.saved h.history) h
+told_keeps draws text kind s v w h = either v (draws || is_some text) _ _ (kept h.saved h.history h.growth) h
 
 verdict_keeps : (found : ValidationResult) (draws : Bool) (s : Setting) (v w : Value) → Keeps v w → Keeps v (verdict_told found draws s w).value
 verdict_keeps Incomplete draws s v w h = h
@@ -149,10 +160,10 @@ validate_keeps : (reply : Option (Reply ValidationResult)) (s : Setting) (v : Va
 validate_keeps None s v = same v
 validate_keeps (Some reply) s v =
     let w = rewritten group_opened v in
-    verdict_keeps (verdict_given reply.answer) (closes w.held || is_some w.hint) s v (rewritten group_closed w) (kept refl refl)
+    verdict_keeps (verdict_given reply.answer) (closes w.held || is_some w.hint) s v (rewritten group_closed w) (kept refl refl refl)
 
 bare_keeps : (s : Setting) (v : Value) → Keeps v (bare s v).value
-bare_keeps s v = kept refl refl
+bare_keeps s v = kept refl refl refl
 
 accept_keeps : (s : Setting) (v : Value) → Keeps v (accept s v).value
 accept_keeps s v = then_keeps v (bare s v).value (accept s v).value (bare_keeps s v) (validate_keeps (verdict_reply s (bare s v).value) s (bare s v).value)
@@ -161,12 +172,14 @@ newline_keeps : (accepted : Bool) (found : ValidationResult) (s : Setting) (v : 
 newline_keeps accepted found s v = either v accepted _ _ (same v) (either v (is_valid found || not (has_message found)) _ _ (insertion_keeps 10 1 s v) (same v))
 
 completion_keeps : (o : Option (List ℕ)) (s : Setting) (v w : Value) → Keeps v w → Keeps v (completed_by o s w).value
-completion_keeps None s v w h = kept h.saved h.history
-completion_keeps (Some text) s v w h = either v (is_some (yanked_in text 1 w.line).answer) _ _ (kept h.saved h.history) (kept h.saved h.history)
+completion_keeps None s v w h = kept h.saved h.history h.growth
+completion_keeps (Some text) s v w h =
+    let g = yank_grows text 1 w.line ∙ h.growth in
+    either v (is_some (yanked_in text 1 w.line).answer) _ _ (kept h.saved h.history g) (kept h.saved h.history g)
 
 elected_keeps : (start : ℕ) (o : Option (List ℕ)) (s : Setting) (v : Value) → Keeps v (completed_with start o s v).value
 elected_keeps start None s v = same v
-elected_keeps start (Some text) s v = kept refl refl
+elected_keeps start (Some text) s v = kept refl refl refl
 
 complete_keeps : (reply : Option (Reply Completion)) (s : Setting) (v : Value) → Keeps v (complete_if reply s v).value
 complete_keeps None s v = same v
@@ -174,25 +187,35 @@ complete_keeps (Some reply) s v = let found = candidates_given (Some reply) in e
 
 hint_keeps : (o : Option Hinted) (s : Setting) (v : Value) → Keeps v (complete_by o s v).value
 hint_keeps None s v = same v
-hint_keeps (Some hint) s v = completion_keeps hint.completion s v (at_row_end v) (kept refl refl)
+hint_keeps (Some hint) s v = completion_keeps hint.completion s v (at_row_end v) (kept refl refl refl)
 
 -- ---- at the history's end the line is the one that was left, away from it that one is saved
+
+abbrev Away : Setting → Value → Type 0
+Away s v = v.history < length s.entries
 
 record Held (s : Setting) (text : List ℕ) (place : ℕ) (v : Value) : Type 0 where
   saved : v.history < length s.entries → v.saved ≡ record { text = text; place = place }
   line : v.history ≡ length s.entries → (v.line.text ≡ text) × (v.line.place ≡ place)
+  grows : v.line.growth ≡ true
+
+exchange_grows : (c n : ℕ) (v : Value) → (chars_replaced c n (written_of v)).line.growth ≡ v.line.growth
+exchange_grows c n v =
+    let taken : Written = deleted n (group_opened (written_of v)) in
+    insert_grows c (clusters_after n v.line) taken.line ∙ deletion_grows (range_of (ForwardChar n) v.line) v.line
 
 keeps_held : (s : Setting) (text : List ℕ) (place : ℕ) (v w : Value) → Held s text place v → Away s v → Keeps v w → Held s text place w
 keeps_held s text place v w h away k = record {
-  saved = (λ below. k.saved ∙ h.saved away.place);
-  line = (λ there. absurd (omega (arith, sym k.history ∙ there, away.place)));
+  saved = (λ below. k.saved ∙ h.saved away);
+  line = (λ there. absurd (omega (arith, sym k.history ∙ there, away)));
+  grows = k.growth ∙ h.grows;
 }
 
 -- what is recalled from a place before the end
-recall_held : (place : ℕ) (o : Option Hit) (s : Setting) (text : List ℕ) (at : ℕ) (v : Value) → place < length s.entries → v.saved ≡ record { text = text; place = at } → v.history < length s.entries
+recall_held : (place : ℕ) (o : Option Hit) (s : Setting) (text : List ℕ) (at : ℕ) (v : Value) → place < length s.entries → Held s text at v → Away s v
     → Held s text at (recall place o s v).value
-recall_held place None s text at v below saved away = record { saved = (λ h. saved); line = (λ there. absurd (omega (arith, there, away))) }
-recall_held place (Some hit) s text at v below saved away = record { saved = (λ h. saved); line = (λ there. absurd (omega (arith, there, below))) }
+recall_held place None s text at v below held away = held
+recall_held place (Some hit) s text at v below held away = record { saved = (λ h. held.saved away); line = (λ there. absurd (omega (arith, there, below))); grows = held.grows }
 
 -- the saved line, in a line that may grow
 update_whole : (b c : Bool) (text other : List ℕ) → b ≡ true → (if b || c then text else other) ≡ text
@@ -211,6 +234,7 @@ back_held s text at v inside saved grows =
         whole ∙ ap (λ (x : Saved). x.text) saved,
         ap (λ t. min v.saved.place (length t)) whole ∙ ap (λ (x : Saved). min x.place (length x.text)) saved ∙ min_within at (length text) inside,
       ));
+      grows = grows;
     }
 
 either_held : (s : Setting) (text : List ℕ) (at : ℕ) (b : Bool) (e f : Effect) → (b ≡ true → Held s text at e.value) → (b ≡ false → Held s text at f.value) → Held s text at (if b then e else f).value
@@ -245,27 +269,27 @@ next_below a b h e = by_less (nat_lt (a + 1) b) refl
 left_held : (place : ℕ) (o : Option Hit) (s : Setting) (text : List ℕ) (at : ℕ) (v : Value) → place < length s.entries → Held s text at v → Away s v
     → Held s text at (recall place o s (saved_on_leaving s v)).value
 left_held place o s text at v below h away =
-    subst (λ w. Held s text at (recall place o s w).value) (sym (not_left v (v.history == length s.entries) (off_end v.history (length s.entries) _ refl away.place)))
-    (recall_held place o s text at v below (h.saved away.place) away.place)
+    subst (λ w. Held s text at (recall place o s w).value) (sym (not_left v (v.history == length s.entries) (off_end v.history (length s.entries) _ refl away)))
+    (recall_held place o s text at v below h away)
 
 previous_held : (s : Setting) (text : List ℕ) (at : ℕ) (v : Value) → Held s text at v → Away s v → Held s text at (history_step true s v).value
-previous_held s text at v h away = either_held s text at (v.history == 0) _ _ (λ e. h) (λ e. left_held (v.history - 1) _ s text at v (omega (arith, away.place)) h away)
+previous_held s text at v h away = either_held s text at (v.history == 0) _ _ (λ e. h) (λ e. left_held (v.history - 1) _ s text at v (omega (arith, away)) h away)
 
 first_held : (s : Setting) (text : List ℕ) (at : ℕ) (v : Value) → Held s text at v → Away s v → Held s text at (history_end true s v).value
-first_held s text at v h away = either_held s text at (v.history == 0) _ _ (λ e. h) (λ e. left_held 0 _ s text at v (omega (arith, away.place)) h away)
+first_held s text at v h away = either_held s text at (v.history == 0) _ _ (λ e. h) (λ e. left_held 0 _ s text at v (omega (arith, away)) h away)
 
 next_held : (s : Setting) (text : List ℕ) (at : ℕ) (v : Value) → at ≤ length text → Held s text at v → Away s v → Held s text at (history_step false s v).value
 next_held s text at v inside h away =
     either_held s text at (v.history == length s.entries) _ _ (λ e. h) (λ e.
-    either_held s text at (v.history + 1 == length s.entries) _ _ (λ e. back_held s text at v inside (h.saved away.place) away.grows)
-    (λ e. recall_held (v.history + 1) _ s text at v (next_below v.history (length s.entries) away.place e) (h.saved away.place) away.place))
+    either_held s text at (v.history + 1 == length s.entries) _ _ (λ e. back_held s text at v inside (h.saved away) h.grows)
+    (λ e. recall_held (v.history + 1) _ s text at v (next_below v.history (length s.entries) away e) h away))
 
 last_held : (s : Setting) (text : List ℕ) (at : ℕ) (v : Value) → at ≤ length text → Held s text at v → Away s v → Held s text at (history_end false s v).value
 last_held s text at v inside h away =
-    either_held s text at (v.history == length s.entries) _ _ (λ e. h) (λ e. back_held s text at v inside (h.saved away.place) away.grows)
+    either_held s text at (v.history == length s.entries) _ _ (λ e. h) (λ e. back_held s text at v inside (h.saved away) h.grows)
 
 word_keeps : (action : WordAction) (s : Setting) (v : Value) → Keeps v (edit_word action s v).value
-word_keeps action s v = drawn_keeps (is_some (word_to_edit v.line)) s v (rewritten (edit_word_in_group action) v) (kept refl refl)
+word_keeps action s v = drawn_keeps (is_some (word_to_edit v.line)) s v (rewritten (edit_word_in_group action) v) (kept refl refl (word_grows action v.line))
 
 -- ---- any step
 
@@ -273,31 +297,31 @@ command_held : (m : Means) (cmd : Cmd) (s : Setting) (text : List ℕ) (at : ℕ
 command_held m Abort s text at v quiet inside h away = keeps_held s text at v (effect m Abort s v).value h away (same v)
 command_held m AcceptLine s text at v quiet inside h away = keeps_held s text at v (effect m AcceptLine s v).value h away (accept_keeps s v)
 command_held m CapitalizeWord s text at v quiet inside h away = keeps_held s text at v (effect m CapitalizeWord s v).value h away (word_keeps Capitalize s v)
-command_held m ClearScreen s text at v quiet inside h away = keeps_held s text at v (effect m ClearScreen s v).value h away (kept refl refl)
+command_held m ClearScreen s text at v quiet inside h away = keeps_held s text at v (effect m ClearScreen s v).value h away (kept refl refl refl)
 command_held m Complete s text at v quiet inside h away = keeps_held s text at v (effect m Complete s v).value h away (complete_keeps (completion_reply s v) s v)
 command_held m CompleteBackward s text at v quiet inside h away = keeps_held s text at v (effect m CompleteBackward s v).value h away (same v)
 command_held m CompleteHint s text at v quiet inside h away = keeps_held s text at v (effect m CompleteHint s v).value h away (hint_keeps v.hint s v)
-command_held m (Dedent movement) s text at v quiet inside h away = keeps_held s text at v (effect m (Dedent movement) s v).value h away (kept refl refl)
+command_held m (Dedent movement) s text at v quiet inside h away = keeps_held s text at v (effect m (Dedent movement) s v).value h away (kept refl refl (indent_grows movement m.indent_size true v.line))
 command_held m DowncaseWord s text at v quiet inside h away = keeps_held s text at v (effect m DowncaseWord s v).value h away (word_keeps Lowercase s v)
 command_held m EndOfFile s text at v quiet inside h away = keeps_held s text at v (effect m EndOfFile s v).value h away (bare_keeps s v)
 command_held m ForwardSearchHistory s text at v quiet inside h away = keeps_held s text at v (effect m ForwardSearchHistory s v).value h away (same v)
-command_held m (Indent movement) s text at v quiet inside h away = keeps_held s text at v (effect m (Indent movement) s v).value h away (kept refl refl)
+command_held m (Indent movement) s text at v quiet inside h away = keeps_held s text at v (effect m (Indent movement) s v).value h away (kept refl refl (indent_grows movement m.indent_size false v.line))
 command_held m (Insert n inserted) s text at v quiet inside h away = keeps_held s text at v (effect m (Insert n inserted) s v).value h away (yank_keeps (in_vi_command m) inserted Before n s v)
 command_held m Interrupt s text at v quiet inside h away = keeps_held s text at v (effect m Interrupt s v).value h away (same v)
 command_held m (Kill movement) s text at v quiet inside h away = keeps_held s text at v (effect m (Kill movement) s v).value h away (kill_keeps movement s v)
 command_held m (Move movement) s text at v quiet inside h away = keeps_held s text at v (effect m (Move movement) s v).value h away (motion_keeps movement s v)
 command_held m Noop s text at v quiet inside h away = keeps_held s text at v (effect m Noop s v).value h away (same v)
-command_held m Repaint s text at v quiet inside h away = keeps_held s text at v (effect m Repaint s v).value h away (kept refl refl)
-command_held m (Overwrite c) s text at v quiet inside h away = keeps_held s text at v (effect m (Overwrite c) s v).value h away (either v (is_some (place_forward 1 v.line)) _ _ (kept refl refl) (same v))
+command_held m Repaint s text at v quiet inside h away = keeps_held s text at v (effect m Repaint s v).value h away (kept refl refl refl)
+command_held m (Overwrite c) s text at v quiet inside h away = keeps_held s text at v (effect m (Overwrite c) s v).value h away (either v (is_some (place_forward 1 v.line)) _ _ (kept refl refl (over_grows c (place_forward 1 v.line) (written_of v))) (same v))
 command_held m QuotedInsert s text at v quiet inside h away = keeps_held s text at v (effect m QuotedInsert s v).value h away (same v)
-command_held m (ReplaceChar n c) s text at v quiet inside h away = keeps_held s text at v (effect m (ReplaceChar n c) s v).value h away (either v (is_some (place_forward n v.line)) _ _ (kept refl refl) (same v))
+command_held m (ReplaceChar n c) s text at v quiet inside h away = keeps_held s text at v (effect m (ReplaceChar n c) s v).value h away (either v (is_some (place_forward n v.line)) _ _ (kept refl refl (exchange_grows c n v)) (same v))
 command_held m (Replace movement new) s text at v quiet inside h away = keeps_held s text at v (effect m (Replace movement new) s v).value h away (then_keeps v (kill movement s v).value _ (kill_keeps movement s v) (text_keeps new s (kill movement s v).value))
 command_held m ReverseSearchHistory s text at v quiet inside h away = keeps_held s text at v (effect m ReverseSearchHistory s v).value h away (same v)
 command_held m (SelfInsert n c) s text at v quiet inside h away = keeps_held s text at v (effect m (SelfInsert n c) s v).value h away (insertion_keeps c n s v)
 command_held m Suspend s text at v quiet inside h away = keeps_held s text at v (effect m Suspend s v).value h away (same v)
-command_held m TransposeChars s text at v quiet inside h away = keeps_held s text at v (effect m TransposeChars s v).value h away (drawn_keeps (transposes_chars v.line) s v (rewritten transpose_chars_in_group v) (kept refl refl))
-command_held m (TransposeWords n) s text at v quiet inside h away = keeps_held s text at v (effect m (TransposeWords n) s v).value h away ((let w = rewritten (transpose_words_in_group n) v in drawn_keeps (transposes_words n v.line || not (w.line.place == v.line.place)) s v w (kept refl refl)))
-command_held m (Undo n) s text at v quiet inside h away = keeps_held s text at v (effect m (Undo n) s v).value h away (either v (has_step (max n 1) v.held) _ _ (kept refl refl) (kept refl refl))
+command_held m TransposeChars s text at v quiet inside h away = keeps_held s text at v (effect m TransposeChars s v).value h away (drawn_keeps (transposes_chars v.line) s v (rewritten transpose_chars_in_group v) (kept refl refl (chars_grow v.line)))
+command_held m (TransposeWords n) s text at v quiet inside h away = keeps_held s text at v (effect m (TransposeWords n) s v).value h away ((let w = rewritten (transpose_words_in_group n) v in drawn_keeps (transposes_words n v.line || not (w.line.place == v.line.place)) s v w (kept refl refl (words_grow n v.line))))
+command_held m (Undo n) s text at v quiet inside h away = keeps_held s text at v (effect m (Undo n) s v).value h away (either v (has_step (max n 1) v.held) _ _ (kept refl refl (back_grows (max n 1) v.held v.line)) (kept refl refl refl))
 command_held m Unknown s text at v quiet inside h away = keeps_held s text at v (effect m Unknown s v).value h away (same v)
 command_held m UpcaseWord s text at v quiet inside h away = keeps_held s text at v (effect m UpcaseWord s v).value h away (word_keeps Uppercase s v)
 command_held m (ViYankTo movement) s text at v quiet inside h away = keeps_held s text at v (effect m (ViYankTo movement) s v).value h away (same v)
@@ -317,11 +341,11 @@ command_held m (LineDownOrNextHistory n) s text at v quiet inside h away =
     either_held s text at (is_some (line_down s.mode s.column n v.line)) _ _ (λ e. keeps_held s text at v _ h away (found_keeps (line_down s.mode s.column n v.line) s v)) (λ e. next_held s text at v inside h away)
 
 ask_keeps : (ask : Ask) (s : Setting) (v : Value) → Keeps v (ask_effect ask s v).value
-ask_keeps LineAsked s v = kept refl refl
-ask_keeps (Message text kind) s v = kept refl refl
-ask_keeps (Prompted prompt) s v = kept refl refl
-ask_keeps DoingInsert s v = kept refl refl
-ask_keeps DoneInserting s v = kept refl refl
+ask_keeps LineAsked s v = kept refl refl refl
+ask_keeps (Message text kind) s v = kept refl refl refl
+ask_keeps (Prompted prompt) s v = kept refl refl refl
+ask_keeps DoingInsert s v = kept refl refl refl
+ask_keeps DoneInserting s v = kept refl refl refl
 
 step_held : (step : ValueStep) (s : Setting) (text : List ℕ) (at : ℕ) (v : Value) → searches step ≡ false → at ≤ length text → Held s text at v → Away s v → Held s text at (value_after s step v)
 step_held (Done m cmd) s text at v quiet inside h away = command_held m cmd s text at v quiet inside h away
@@ -333,16 +357,18 @@ all_held (step ∷ steps) s text at v inside h stays = all_held steps s text at 
 
 -- ---- leaving
 
-saved_held : (place : ℕ) (o : Option Hit) (s : Setting) (v : Value) → v.history ≡ length s.entries → place < length s.entries → Held s v.line.text v.line.place (recall place o s (saved_now v)).value
-saved_held place None s v there below = record { saved = (λ h. absurd (omega (arith, there, h))); line = (λ h. (refl, refl)) }
-saved_held place (Some hit) s v there below = record { saved = (λ h. refl); line = (λ h. absurd (omega (arith, h, below))) }
+saved_held : (place : ℕ) (o : Option Hit) (s : Setting) (v : Value) → v.history ≡ length s.entries → v.line.growth ≡ true → place < length s.entries
+    → Held s v.line.text v.line.place (recall place o s (saved_now v)).value
+saved_held place None s v there grows below = record { saved = (λ h. absurd (omega (arith, there, h))); line = (λ h. (refl, refl)); grows = grows }
+saved_held place (Some hit) s v there grows below = record { saved = (λ h. refl); line = (λ h. absurd (omega (arith, h, below))); grows = grows }
 
-start_held : (s : Setting) (v : Value) → v.history ≡ length s.entries → Held s v.line.text v.line.place v
-start_held s v there = record { saved = (λ h. absurd (omega (arith, there, h))); line = (λ h. (refl, refl)) }
+start_held : (s : Setting) (v : Value) → v.history ≡ length s.entries → v.line.growth ≡ true → Held s v.line.text v.line.place v
+start_held s v there grows = record { saved = (λ h. absurd (omega (arith, there, h))); line = (λ h. (refl, refl)); grows = grows }
 
-leave_held : (place : ℕ) (o : Option Hit) (s : Setting) (v : Value) → v.history ≡ length s.entries → place < length s.entries → Held s v.line.text v.line.place (recall place o s (saved_on_leaving s v)).value
-leave_held place o s v there below =
-    subst (λ w. Held s v.line.text v.line.place (recall place o s w).value) (sym (now_left v (v.history == length s.entries) (same_place v.history (length s.entries) there))) (saved_held place o s v there below)
+leave_held : (place : ℕ) (o : Option Hit) (s : Setting) (v : Value) → v.history ≡ length s.entries → v.line.growth ≡ true → place < length s.entries
+    → Held s v.line.text v.line.place (recall place o s (saved_on_leaving s v)).value
+leave_held place o s v there grows below =
+    subst (λ w. Held s v.line.text v.line.place (recall place o s w).value) (sym (now_left v (v.history == length s.entries) (same_place v.history (length s.entries) there))) (saved_held place o s v there grows below)
   where
     same_place : (a b : ℕ) → a ≡ b → (a == b) ≡ true
     same_place a b e = by_same (a == b) refl
@@ -351,12 +377,12 @@ leave_held place o s v there below =
         by_same true k = k
         by_same false k = absurd (eqb-false a b k e)
 
-by_leaving : (one : Bool) (m : Means) (s : Setting) (v : Value) → v.history ≡ length s.entries → Held s v.line.text v.line.place (effect m (leaving_by one) s v).value
-by_leaving true m s v there = either_held s v.line.text v.line.place (v.history == 0) _ _ (λ e. start_held s v there)
-    (λ e. leave_held (v.history - 1) _ s v there (let k = above_zero v.history e in omega (arith, there, k)))
-by_leaving false m s v there = either_held s v.line.text v.line.place (v.history == 0) _ _ (λ e. start_held s v there)
-    (λ e. leave_held 0 _ s v there (let k = above_zero v.history e in omega (arith, there, k)))
+by_leaving : (one : Bool) (m : Means) (s : Setting) (v : Value) → v.history ≡ length s.entries → v.line.growth ≡ true → Held s v.line.text v.line.place (effect m (leaving_by one) s v).value
+by_leaving true m s v there grows = either_held s v.line.text v.line.place (v.history == 0) _ _ (λ e. start_held s v there grows)
+    (λ e. leave_held (v.history - 1) _ s v there grows (let k = above_zero v.history e in omega (arith, there, k)))
+by_leaving false m s v there grows = either_held s v.line.text v.line.place (v.history == 0) _ _ (λ e. start_held s v there grows)
+    (λ e. leave_held 0 _ s v there grows (let k = above_zero v.history e in omega (arith, there, k)))
 
 pub come_back : ComesBack
-come_back s m one steps v there inside stays back =
-    (all_held steps s v.line.text v.line.place (effect m (leaving_by one) s v).value inside (by_leaving one m s v there) stays).line back
+come_back s m one steps v there inside grows stays back =
+    (all_held steps s v.line.text v.line.place (effect m (leaving_by one) s v).value inside (by_leaving one m s v there grows) stays).line back

@@ -35,23 +35,19 @@ abbrev pub searches : ValueStep → Bool
 searches (Done means cmd) = is_search cmd
 searches (Asked ask) = false
 
--- away from the history's end, in a line that may grow
-pub record Away (s : Setting) (v : Value) : Type 0 where
-  pub place : v.history < length s.entries
-  pub grows : v.line.growth ≡ true
-
--- each step is begun away from it
+-- each step is begun away from the history's end
 abbrev pub StaysAway : Setting → List ValueStep → Value → Type 0
 StaysAway s [] v = ⊤
 StaysAway s (step ∷ steps) v =
-    Away s v × (searches step ≡ false) × StaysAway s steps (value_after s step v)
+    (v.history < length s.entries) × (searches step ≡ false)
+    × StaysAway s steps (value_after s step v)
 
--- where the end is left, and after steps of which none is a search the place is there again, line
--- and cursor are as they were
+-- where a line that may grow leaves the end, and after steps of which none is a search the place is
+-- there again, line and cursor are as they were
 abbrev pub ComesBack : Type 0
 ComesBack =
     (s : Setting) (m : Means) (one : Bool) (steps : List ValueStep) (v : Value)
-    → v.history ≡ length s.entries → v.line.place ≤ length v.line.text
+    → v.history ≡ length s.entries → v.line.place ≤ length v.line.text → v.line.growth ≡ true
     → let left = (effect m (leaving_by one) s v).value in
     StaysAway s steps left
     → let back = value_after_all s steps left in

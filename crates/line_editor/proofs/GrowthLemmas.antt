@@ -1,0 +1,87 @@
+-- Whether a line may grow stays, whatever is done to it.
+use Rattle.std.proofs.Common.{◌≡◌, ℕ, zero, suc, ◌==◌, Bool, true, false, List, [], ◌∷◌, length, Option, Some, None, refl, ◌∙◌, if◌then◌else◌}
+use Rattle.std.specs.Prelude.{encode_utf8}
+use Rattle.std.specs.List.{repeat}
+use Rattle.line_buffer.specs.Event.{Event}
+use Rattle.line_buffer.specs.Indent.{indent_line, indent_events}
+use Rattle.line_buffer.specs.Insertions.{Insertion, insertion_by, insertion_of, insert, no_insertion, yank, yank_pop, without_before, has_room}
+use Rattle.line_buffer.specs.LetterCase.{word_to_edit, recase_line, edit_word_line}
+use Rattle.line_buffer.specs.Line.{Line}
+use Rattle.line_buffer.specs.Range.{range_of, deletion_line, kill_line}
+use Rattle.line_buffer.specs.Replayed.{carried_line, carried_all}
+use Rattle.line_buffer.specs.Transpositions.{transposes_chars, transpose_chars_line, transposes_words, transpose_words_line, after_words, before_words, first_word}
+use Rattle.line_buffer.specs.declared.range.Span.{Span}
+use Rattle.line_buffer.specs.declared.types.Movement.{Movement}
+use Rattle.line_buffer.specs.declared.types.WordAction.{WordAction}
+use Rattle.line_record.specs.Held.{Held, line_back, undone_line}
+use Rattle.line_record.specs.Held.Held.{Opened, Stepped}
+use Rattle.line_edits.specs.Edits.{written_over}
+use Rattle.line_edits.specs.Written.{Written}
+
+either_line : (g b : Bool) (l m : Line) → l.growth ≡ g → m.growth ≡ g → (if b then l else m).growth ≡ g
+either_line g true l m h k = h
+either_line g false l m h k = k
+
+either_put : (g b : Bool) (x y : Insertion) → x.line.growth ≡ g → y.line.growth ≡ g → (if b then x else y).line.growth ≡ g
+either_put g true x y h k = h
+either_put g false x y h k = k
+
+put_grows : (told : Event) (added : List ℕ) (l : Line) → (insertion_by told added l).line.growth ≡ l.growth
+put_grows told added l = either_put l.growth (has_room (length added) l) _ _ refl refl
+
+of_grows : (text : List ℕ) (n : ℕ) (l : Line) → (insertion_of text n l).line.growth ≡ l.growth
+of_grows text n l = put_grows _ (repeat n text) l
+
+pub insert_grows : (c n : ℕ) (l : Line) → (insert c n l).line.growth ≡ l.growth
+insert_grows c n l = either_put l.growth (n == 1) _ _ (put_grows _ (encode_utf8 c) l) (of_grows (encode_utf8 c) n l)
+
+pub yank_grows : (text : List ℕ) (n : ℕ) (l : Line) → (yank text n l).line.growth ≡ l.growth
+yank_grows text n l = either_put l.growth (length text == 0) (no_insertion l) (insertion_of text n l) refl (of_grows text n l)
+
+pub pop_grows : (size : ℕ) (text : List ℕ) (l : Line) → (yank_pop size text l).line.growth ≡ l.growth
+pop_grows size text l = yank_grows text 1 (without_before size l)
+
+pub deletion_grows : (o : Option Span) (l : Line) → (deletion_line o l).growth ≡ l.growth
+deletion_grows None l = refl
+deletion_grows (Some span) l = refl
+
+pub kill_grows : (m : Movement) (l : Line) → (kill_line m l).growth ≡ l.growth
+kill_grows m l = deletion_grows (range_of m l) l
+
+carried_grows : (events : List Event) (l : Line) → (carried_all events l).growth ≡ l.growth
+unfolding carried_all
+carried_grows [] l = refl
+carried_grows (e ∷ events) l = carried_grows events (carried_line e l)
+
+pub indent_grows : (m : Movement) (amount : ℕ) (dedent : Bool) (l : Line) → (indent_line m amount dedent l).growth ≡ l.growth
+indent_grows m amount dedent l = carried_grows (indent_events m amount dedent l) l
+
+recase_grows : (action : WordAction) (o : Option (ℕ × ℕ)) (l : Line) → (recase_line action o l).growth ≡ l.growth
+recase_grows action None l = refl
+recase_grows action (Some word) l = refl
+
+pub word_grows : (action : WordAction) (l : Line) → (edit_word_line action l).growth ≡ l.growth
+word_grows action l = recase_grows action (word_to_edit l) l
+
+pub chars_grow : (l : Line) → (transpose_chars_line l).growth ≡ l.growth
+chars_grow l = either_line l.growth (transposes_chars l) _ _ refl refl
+
+between_grows : (n : ℕ) (l : Line) → (after_words 1 (first_word n l)).growth ≡ l.growth
+unfolding after_words before_words
+between_grows n l = refl
+
+pub words_grow : (n : ℕ) (l : Line) → (transpose_words_line n l).growth ≡ l.growth
+words_grow n l = either_line l.growth (transposes_words n l) _ _ refl (between_grows n l)
+
+pub over_grows : (c : ℕ) (o : Option ℕ) (w : Written) → (written_over c o w).line.growth ≡ w.line.growth
+over_grows c None w = refl
+over_grows c (Some end) w = refl
+
+undone_grows : (h : Held) (l : Line) → (undone_line h l).growth ≡ l.growth
+undone_grows (Opened text) l = refl
+undone_grows (Stepped text place newest joinable) l = refl
+
+pub back_grows : (n : ℕ) (held : List Held) (l : Line) → (line_back n held l).growth ≡ l.growth
+back_grows zero held l = refl
+back_grows (suc n) [] l = refl
+back_grows (suc n) (h ∷ held) l = back_grows n held (undone_line h l) ∙ undone_grows h l
