@@ -12,4 +12,6 @@ mod helpers;
 #[cfg(test)]
 mod history;
 #[cfg(test)]
+mod resuming;
+#[cfg(test)]
 mod words;

@@ -12,13 +12,15 @@ pub record World (A : Type 0) (R : A → Type 0) (S E : Type 0) : Type 1 where
   pub cut : S → A → E → S → Type 0
 
 -- made in order, to the answer or to the ask that a fault cut
-abbrev pub Goes : {A : Type 0} {R : A → Type 0} {S E X : Type 0} → World A R S E → Script A R X → S → Result X E → S → Type 0
+abbrev pub Goes : {A : Type 0} {R : A → Type 0} {S E X : Type 0} → World A R S E → Script A R X
+    → S → Result X E → S → Type 0
 Goes w (Ends answer) s r t = (r ≡ Ok answer) × (t ≡ s)
 Goes {A} {R} {S} {E} w (Asks ask later) s r t =
     ((x : R ask) × (u : S) × w.made s ask x u × Goes w (later x) u r t)
     ⊎ ((e : E) × w.cut s ask e t × (r ≡ Err e))
 
 -- one script, then what its answer leads to
-abbrev pub then : {A : Type 0} {R : A → Type 0} {X Y : Type 0} → Script A R X → (X → Script A R Y) → Script A R Y
+abbrev pub then : {A : Type 0} {R : A → Type 0} {X Y : Type 0} → Script A R X
+    → (X → Script A R Y) → Script A R Y
 then (Ends answer) next = next answer
 then (Asks ask later) next = Asks ask (λ x. then (later x) next)

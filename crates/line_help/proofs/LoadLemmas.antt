@@ -1,5 +1,5 @@
 -- Loading: one row after the other.
-use Rattle.std.proofs.Common.{◌≡◌, ℕ, ◌<◌, Bool, true, false, List, [], ◌∷◌, ◌++◌, length, refl, sym, ◌∙◌, ap, arith, append_assoc}
+use Rattle.std.proofs.Common.{◌≡◌, ℕ, ◌<◌, Bool, true, false, List, [], ◌∷◌, ◌++◌, length, refl, sym, ◌∙◌, ap, ap₂, arith, append_assoc, suc}
 use Rattle.std.specs.Prelude.{Result, if◌then◌else◌, ◌&&◌, not, IsUtf8, IfErr, Ok, Err, IsOk, bytes_eq}
 use Rattle.std.specs.Result.{is_ok, MatchResult, OnOk}
 use Rattle.std.specs.Str.{is_utf8, chars}
@@ -11,7 +11,8 @@ use Rattle.line_config.specs.declared.device.Last.TheVariants.{End, Failed}
 use Rattle.line_config.specs.declared.errors.ReadlineError.{ReadlineError}
 use Rattle.line_config.specs.declared.errors.ReadlineError.TheVariants.{HistoryText, Memory}
 use Rattle.line_help.specs.History.{Filed, all_saved, filed_with, filed_with_all, takes_all, ignored}
-use Rattle.line_help.specs.HistoryText.{AddsSome, after_first, entries_of, entry_of, texts_behind, good_rows, has_bad_row, header, load_answer, load_leaves, left_at, row_fault, rows_answer, answer_at, texts_of}
+use Rattle.line_help.specs.HistoryText.{LosesRow, after_first, behind_row, behind_rows, text_rows, entries_of, entry_of, texts_behind, good_rows, has_bad_row, header, load_answer, load_leaves, left_at, row_fault, rows_answer, answer_at, texts_of}
+use Rattle.line_help.specs.Loading.{LoadsSome, left_by_load}
 
 pub not_utf8 : (bytes : List ℕ) → ¬ (IsUtf8 bytes) → is_utf8 bytes ≡ false
 not_utf8 bytes never = by_answer (is_utf8 bytes) refl where
@@ -198,55 +199,117 @@ leaves_saved last rows whole b f e = left_ok last (has_bad_row rows) whole b f e
 pub leaves_kept : (last : Last) (rows : List (List ℕ)) (whole : Bool) (r : ReadlineError) (f : Filed) → rows_answer last rows whole ≡ Err r → (if has_bad_row rows then f else left_at last f) ≡ f
 leaves_kept last rows whole r f e = left_refused last (has_bad_row rows) whole r f e
 
--- the first of the texts were added, and the rest is still to come
-pub record Reached (all left : List (List ℕ)) (before now : Filed) : Type 0 where
-  pub taken : List (List ℕ)
-  pub split : all ≡ taken ++ left
-  pub held : now ≡ filed_with_all before taken
-
-pub reached_none : (all : List (List ℕ)) (before : Filed) → Reached all all before before
-reached_none all before = record { taken = []; split = refl; held = refl }
-
-pub adds_none : (texts : List (List ℕ)) (before : Filed) → AddsSome texts before before
-adds_none texts before = record { taken = []; rest = texts; split = refl; held = refl }
-
-pub adds_reached : (all left : List (List ℕ)) (before now : Filed) → Reached all left before now → AddsSome all before now
-adds_reached all left before now r = record { taken = r.taken; rest = left; split = r.split; held = r.held }
+-- ---- what was loaded, and what is left
 
 entries_split : (escapes : Bool) (row : List ℕ) (rows : List (List ℕ)) → entries_of escapes (row ∷ rows) ≡ entries_of escapes (row ∷ []) ++ entries_of escapes rows
 entries_split escapes [] rows = refl
 entries_split escapes (b ∷ bs) rows = refl
 
+entries_append : (escapes : Bool) (xs ys : List (List ℕ)) → entries_of escapes (xs ++ ys) ≡ entries_of escapes xs ++ entries_of escapes ys
+entries_append escapes [] ys = refl
+entries_append escapes ([] ∷ xs) ys = entries_append escapes xs ys
+entries_append escapes ((b ∷ bs) ∷ xs) ys = ap (λ es. entry_of escapes (b ∷ bs) ∷ es) (entries_append escapes xs ys)
+
 all_in_turn : (h : Filed) (xs ys : List (List ℕ)) → filed_with_all h (xs ++ ys) ≡ filed_with_all (filed_with_all h xs) ys
 all_in_turn h [] ys = refl
 all_in_turn h (x ∷ xs) ys = all_in_turn (filed_with h x) xs ys
 
-pub reached_more : (all : List (List ℕ)) (escapes : Bool) (row : List ℕ) (rows : List (List ℕ)) (before now after : Filed) → is_utf8 row ≡ true
-    → Reached all (entries_of escapes (good_rows (row ∷ rows))) before now → after ≡ filed_with_all now (entries_of escapes (row ∷ []))
-    → Reached all (entries_of escapes (good_rows rows)) before after
-reached_more all escapes row rows before now after e r a = record {
-  taken = r.taken ++ entries_of escapes (row ∷ []);
-  split =
-      r.split
-      ∙ ap (λ rs. r.taken ++ entries_of escapes rs) (good_more row rows e)
-      ∙ ap (λ es. r.taken ++ es) (entries_split escapes row (good_rows rows))
-      ∙ sym (append_assoc r.taken (entries_of escapes (row ∷ [])) (entries_of escapes (good_rows rows)));
-  held = a ∙ ap (λ f. filed_with_all f (entries_of escapes (row ∷ []))) r.held ∙ sym (all_in_turn before r.taken (entries_of escapes (row ∷ [])));
+good_one : (good bad after : Bool) → (if good then bad else true) ≡ false → (bad ≡ false → after ≡ false) → (if good then after else true) ≡ false
+good_one true bad after g h = h g
+good_one false bad after g h = g
+
+good_behind : (xs : List (List ℕ)) (row : List ℕ) → has_bad_row xs ≡ false → is_utf8 row ≡ true → has_bad_row (xs ++ (row ∷ [])) ≡ false
+good_behind [] row g e = rw e refl
+good_behind (x ∷ xs) row g e = good_one (is_utf8 x) (has_bad_row xs) (has_bad_row (xs ++ (row ∷ []))) g (λ h. good_behind xs row h e)
+
+one_behind : (xs : List (List ℕ)) (row text : List ℕ) → behind_rows (length (xs ++ (row ∷ []))) text ≡ behind_row (behind_rows (length xs) text)
+one_behind [] row text = refl
+one_behind (x ∷ xs) row text = one_behind xs row (behind_row text)
+
+-- these rows were loaded, and this is still to come
+pub record Reached (escapes : Bool) (last : Last) (text coming : List ℕ) (before now : Filed) : Type 0 where
+  pub loaded : List (List ℕ)
+  pub split : text_rows last text ≡ loaded ++ text_rows last coming
+  pub good : has_bad_row loaded ≡ false
+  pub added : now ≡ filed_with_all before (entries_of escapes loaded)
+  pub left : behind_rows (length loaded) text ≡ coming
+
+pub reached_none : (escapes : Bool) (last : Last) (text : List ℕ) (before : Filed) → Reached escapes last text text before before
+reached_none escapes last text before = record { loaded = []; split = refl; good = refl; added = refl; left = refl }
+
+pub reached_more : (escapes : Bool) (last : Last) (text coming later row : List ℕ) (before now after : Filed) → is_utf8 row ≡ true
+    → text_rows last coming ≡ row ∷ text_rows last later → later ≡ behind_row coming → after ≡ filed_with_all now (entries_of escapes (row ∷ []))
+    → Reached escapes last text coming before now → Reached escapes last text later before after
+reached_more escapes last text coming later row before now after e rows is a r = record {
+  loaded = r.loaded ++ (row ∷ []);
+  split = r.split ∙ ap (λ rs. r.loaded ++ rs) rows ∙ sym (append_assoc r.loaded (row ∷ []) (text_rows last later));
+  good = good_behind r.loaded row r.good e;
+  added =
+      a
+      ∙ ap (λ f. filed_with_all f (entries_of escapes (row ∷ []))) r.added
+      ∙ sym (all_in_turn before (entries_of escapes r.loaded) (entries_of escapes (row ∷ [])))
+      ∙ ap (filed_with_all before) (sym (entries_append escapes r.loaded (row ∷ [])));
+  left = one_behind r.loaded row text ∙ ap behind_row r.left ∙ sym is;
 }
 
-behind_first : (h after : Filed) (row : List ℕ) (rows : List (List ℕ)) (escapes : Bool)
-    → AddsSome (entries_of escapes rows) (if escapes then h else filed_with_all h (entries_of false (row ∷ []))) after → AddsSome (texts_behind escapes rows (row ∷ rows)) h after
-behind_first h after row rows true r = r
-behind_first h after row rows false r = record {
-  taken = entries_of false (row ∷ []) ++ r.taken;
-  rest = r.rest;
-  split = entries_split false row rows ∙ ap (λ es. entries_of false (row ∷ []) ++ es) r.split ∙ sym (append_assoc (entries_of false (row ∷ [])) r.taken r.rest);
-  held = r.held ∙ sym (all_in_turn h (entries_of false (row ∷ [])) r.taken);
+-- the load ends there, and of the next row something may have been read
+pub loads_some : (escapes : Bool) (last : Last) (text coming later : List ℕ) (before now : Filed) → Reached escapes last text coming before now → LosesRow coming later
+    → LoadsSome (entries_of escapes) last text later before now
+loads_some escapes last text coming later before now r l = record {
+  loaded = r.loaded;
+  later = text_rows last coming;
+  lost = l.lost;
+  split = r.split;
+  good = r.good;
+  added = r.added;
+  left = r.left ∙ l.split;
+  row = l.row;
 }
 
-pub adds_behind_first : (h middle after : Filed) (row : List ℕ) (rows : List (List ℕ)) (escapes : Bool) → is_utf8 row ≡ true → escapes ≡ bytes_eq row header → middle ≡ after_first h row
-    → AddsSome (entries_of escapes (good_rows rows)) middle after → AddsSome (texts_of (good_rows (row ∷ rows))) h after
-adds_behind_first h middle after row rows escapes e b m r =
-    rw (good_more row rows e) (behind_first h after row (good_rows rows) (bytes_eq row header) (rw (b, m) at r))
+pub loads_none : (last : Last) (text later : List ℕ) (before : Filed) → LosesRow text later → LoadsSome texts_of last text later before before
+loads_none last text later before l = record { loaded = []; later = text_rows last text; lost = l.lost; split = refl; good = refl; added = refl; left = l.split; row = l.row }
+
+pub loads_behind_first : (last : Last) (text coming later row : List ℕ) (before middle after : Filed) (escapes : Bool) → is_utf8 row ≡ true → escapes ≡ bytes_eq row header
+    → text_rows last text ≡ row ∷ text_rows last coming → coming ≡ behind_row text → middle ≡ after_first before row
+    → LoadsSome (entries_of escapes) last coming later middle after → LoadsSome texts_of last text later before after
+loads_behind_first last text coming later row before middle after escapes e b rows is m r = record {
+  loaded = row ∷ r.loaded;
+  later = r.later;
+  lost = r.lost;
+  split = rows ∙ ap (λ rs. row ∷ rs) r.split;
+  good = bad_more row r.loaded e ∙ r.good;
+  added =
+      r.added
+      ∙ ap₂ (λ f x. filed_with_all f (entries_of x r.loaded)) m b
+      ∙ sym (texts_step before row r.loaded (bytes_eq row header) refl);
+  left = ap (behind_rows (length r.loaded)) (sym is) ∙ r.left;
+  row = r.row;
+}
+
+rest_of : (rows : List (List ℕ)) (text : List ℕ) → List ℕ
+rest_of rows text = if has_bad_row rows then behind_rows (suc (length (good_rows rows))) text else []
+
+rest_behind : (row : List ℕ) (rows : List (List ℕ)) (text : List ℕ) → is_utf8 row ≡ true → rest_of (row ∷ rows) text ≡ rest_of rows (behind_row text)
+unfolding rest_of
+rest_behind row rows text e = rw e refl
+
+rest_bad : (row : List ℕ) (rows : List (List ℕ)) (text : List ℕ) → is_utf8 row ≡ false → rest_of (row ∷ rows) text ≡ behind_row text
+unfolding rest_of
+rest_bad row rows text e = rw e refl
+
+-- what a load leaves, behind a row that it takes, at a row that it doesn't, and where there is none
+pub left_more_text : (last : Last) (text coming row : List ℕ) → is_utf8 row ≡ true → text_rows last text ≡ row ∷ text_rows last coming → coming ≡ behind_row text
+    → left_by_load last text ≡ left_by_load last coming
+unfolding rest_of
+left_more_text last text coming row e rows is =
+    ap (λ rs. rest_of rs text) rows ∙ rest_behind row (text_rows last coming) text e ∙ ap (rest_of (text_rows last coming)) (sym is)
+
+pub left_bad_text : (last : Last) (text coming row : List ℕ) → is_utf8 row ≡ false → text_rows last text ≡ row ∷ text_rows last coming → left_by_load last text ≡ behind_row text
+unfolding rest_of
+left_bad_text last text coming row e rows = ap (λ rs. rest_of rs text) rows ∙ rest_bad row (text_rows last coming) text e
+
+pub left_no_text : (last : Last) (text : List ℕ) → text_rows last text ≡ [] → left_by_load last text ≡ []
+unfolding rest_of
+left_no_text last text rows = ap (λ rs. rest_of rs text) rows
 
 pub ruleset load_steps = (loaded_answer, loaded_leaves)

@@ -1,6 +1,6 @@
 -- Rows of a text: a row up to its newline, the last row, a row that a failure cuts off.
 use Rattle.std.proofs.Common.{◌≡◌, ◌≢◌, ℕ, suc, ◌+◌, ◌-◌, ◌<◌, Bool, true, false, List, [], ◌∷◌, ◌++◌, length, take, refl, sym, ap, ◌∙◌, append_assoc, get_or, Option, Some, None, arith}
-use Rattle.std.specs.Prelude.{if◌then◌else◌, ◌||◌, ◌&&◌, ◌==◌, not, unwrap_or}
+use Rattle.std.specs.Prelude.{if◌then◌else◌, ◌&&◌, ◌==◌, not, unwrap_or}
 use Rattle.std.specs.List.{list_any, position_or_len}
 use Rattle.std.specs.Str.{is_utf8}
 use Rattle.std.proofs.lemmas.List.{append-nil}
@@ -12,7 +12,7 @@ use Rattle.memchr.specs.Find.{IsFirstByte, is_byte}
 use Rattle.line_config.specs.Feed.{Feed}
 use Rattle.line_config.specs.declared.device.Last.{Last}
 use Rattle.line_config.specs.declared.device.Last.TheVariants.{End, Failed}
-use Rattle.line_help.specs.HistoryText.{TakesPiece, text_rows, onto, without_return, begins_with_newline, GoodUpTo, ReadsGood}
+use Rattle.line_help.specs.HistoryText.{TakesPiece, text_rows, onto, without_return, begins_with_newline, behind_row, EndIsMet, GoodUpTo, LosesRow, ReadsGood}
 
 -- no newline stands among these bytes
 abbrev pub has_newline : List ℕ → Bool
@@ -164,5 +164,39 @@ last_reads xs none later r = record { read = xs; split = rw (nothing_behind r.re
 pub at_end : (row : List ℕ) (empty : Bool) → has_newline row ≡ false → empty ≡ (length row == 0) → text_rows End row ≡ (if not empty then row ∷ [] else [])
 at_end [] empty none h = rw h refl
 at_end (b ∷ row) empty none h = let f : (suc (length row) == 0) ≡ false = ne_eqb (suc (length row)) 0 (omega arith) in rw (h, f) (last_row b row none)
+
+-- ---- what stands behind a row, and what of a row was read
+
+pub behind_cut : (xs rest : List ℕ) → has_newline xs ≡ false → behind_row (xs ++ 10 ∷ rest) ≡ rest
+behind_cut [] rest none = refl
+behind_cut (b ∷ xs) rest none =
+    let both = or_parts (b == 10) (has_newline xs) none in
+    rw both.0 (behind_cut xs rest both.1)
+
+pub behind_none : (xs : List ℕ) → has_newline xs ≡ false → behind_row xs ≡ []
+behind_none [] none = refl
+behind_none (b ∷ xs) none =
+    let both = or_parts (b == 10) (has_newline xs) none in
+    rw both.0 (behind_none xs both.1)
+
+pub part_lost : (xs coming : List ℕ) → has_newline xs ≡ false → LosesRow (xs ++ coming) coming
+part_lost xs coming none = record { lost = xs; split = refl; row = behind_none xs none }
+
+pub row_lost : (xs coming : List ℕ) → has_newline xs ≡ false → LosesRow (xs ++ (10 ∷ coming)) coming
+row_lost xs coming none = record { lost = xs ++ (10 ∷ []); split = sym (append_assoc xs (10 ∷ []) coming); row = behind_cut xs [] none }
+
+pub byte_lost : (xs coming : List ℕ) (b : ℕ) → has_newline xs ≡ false → b ≢ 10 → LosesRow (xs ++ (b ∷ coming)) coming
+byte_lost xs coming b none other = record { lost = xs ++ (b ∷ []); split = sym (append_assoc xs (b ∷ []) coming); row = behind_none (xs ++ (b ∷ [])) (one_more xs b none other) }
+
+pub piece_lost : (xs piece coming : List ℕ) (b : ℕ) → has_newline xs ≡ false → b ≢ 10 → has_newline piece ≡ false → LosesRow (xs ++ (b ∷ (piece ++ coming))) coming
+piece_lost xs piece coming b none other inside = record {
+  lost = xs ++ (b ∷ piece);
+  split = sym (append_assoc xs (b ∷ piece) coming);
+  row = behind_none (xs ++ (b ∷ piece)) (more_free xs (b ∷ piece) none (or_from (b == 10) (has_newline piece) (ne_eqb b 10 other) inside));
+}
+
+pub not_met : (met : Bool) (feed : Feed) → met ≡ false → EndIsMet met feed
+not_met true feed e met = absurd (let k : true ≡ false = e in cc)
+not_met false feed e met = absurd (let k : false ≡ true = met in cc)
 
 pub ruleset row_ends = (cut_row, cut_off)

@@ -1,12 +1,12 @@
 -- Words, one after the other: those that begin as a text does, and those of rows.
 use Rattle.std.proofs.Common.{◌≡◌, ◌∙◌, ℕ, zero, suc, cond, ◌+◌, ◌<◌, Bool, true, false, List, [], ◌∷◌, ◌++◌, length, take, get_or, map, drop, refl, sym, ap, ap₂, nat_eq, arith}
-use Rattle.std.specs.List.{filter, starts_with}
+use Rattle.std.specs.List.{starts_with}
 use Rattle.std.proofs.lemmas.List.{take_more, map-append, append-nil, length-map}
 use Rattle.std.proofs.lemmas.Bool.Decides.{nat_tests}
 use Rattle.std.proofs.lemmas.List.Elements.{filter-append}
 use Rattle.line_help.specs.HistoryText.{entries_of}
 use Rattle.std.proofs.lemmas.Simd.{map-map}
-use Rattle.line_help.specs.Completion.{Completion, text_offered}
+use Rattle.line_help.specs.Completion.{text_offered}
 use Rattle.line_help.specs.WordCompletion.{last_word_start, words_for, word_completion, word_reply}
 
 -- one word more

@@ -1,5 +1,5 @@
 -- The text of a history: what is saved of a list of entries, and which list a text gives.
-use Rattle.std.specs.Prelude.{◌≡◌, ℕ, ◌==◌, ◌&&◌, Bool, true, false, if◌then◌else◌, List, [], ◌∷◌, ◌++◌, flat_map, bytes_eq, codes, Option, Some, None, option_map, unwrap_or, Result, Ok, Err}
+use Rattle.std.specs.Prelude.{◌≡◌, ℕ, zero, suc, ◌==◌, ◌&&◌, Bool, true, false, if◌then◌else◌, List, [], ◌∷◌, ◌++◌, flat_map, bytes_eq, codes, Option, Some, None, option_map, unwrap_or, Result, Ok, Err, IsTrue}
 use Rattle.std.specs.List.{list_any}
 use Rattle.std.specs.Str.{is_utf8}
 use Rattle.line_config.specs.Feed.{Feed, GivesBytes}
@@ -71,6 +71,16 @@ text_rows last (b ∷ bs) = if b == 10 then [] ∷ text_rows last bs
     else if b == 13 && begins_with_newline bs then text_rows last bs
     else onto (text_rows last bs) last b
 
+-- what stands behind the first row of a text: behind its newline, or nothing
+abbrev pub behind_row : List ℕ → List ℕ
+behind_row [] = []
+behind_row (b ∷ bs) = if b == 10 then bs else behind_row bs
+
+-- behind the first so many
+abbrev pub behind_rows : ℕ → List ℕ → List ℕ
+behind_rows zero text = text
+behind_rows (suc n) text = behind_rows n (behind_row text)
+
 -- the rows before the first one that isn't UTF-8
 abbrev pub good_rows : List (List ℕ) → List (List ℕ)
 good_rows [] = []
@@ -116,6 +126,18 @@ pub record TakesPiece (old new : Feed) (before after : List ℕ) : Type 0 where
   pub row : after ≡ before ++ piece
   pub inside : list_any (λ b. b == 10) piece ≡ false
 
+-- of a text at most a row was read, and this is still to come
+pub record LosesRow (text coming : List ℕ) : Type 0 where
+  pub lost : List ℕ
+  pub split : text ≡ lost ++ coming
+  pub row : behind_row lost ≡ []
+
+-- where a text's end was met, its source hasn't failed, and nothing is to come
+abbrev pub EndIsMet : Bool → Feed → Type 0
+EndIsMet met feed =
+    IsTrue met → (feed.failed ≡ false)
+    × (IsTrue feed.told → (feed.coming ≡ []) × (feed.last ≡ End))
+
 -- whether a row isn't UTF-8
 abbrev pub has_bad_row : List (List ℕ) → Bool
 has_bad_row [] = false
@@ -153,13 +175,6 @@ abbrev pub load_leaves : Last → List (List ℕ) → Filed → Filed
 load_leaves last rows filed =
     let after : Filed = filed_with_all filed (texts_of (good_rows rows)) in
     if has_bad_row rows then after else left_at last after
-
--- what a refused load leaves: the first of these texts were added
-pub record AddsSome (texts : List (List ℕ)) (before after : Filed) : Type 0 where
-  pub taken : List (List ℕ)
-  pub rest : List (List ℕ)
-  pub split : texts ≡ taken ++ rest
-  pub held : after ≡ filed_with_all before taken
 
 -- whether such a result follows from the text alone: want of memory doesn't
 abbrev pub follows : Result Bool ReadlineError → Bool

@@ -11,9 +11,11 @@ pub mod Hints
 pub mod Iterated
 pub mod Laws
 pub mod Loaded
+pub mod Loading
 pub mod Matching
 pub mod QuoteGrammar
 pub mod Quotes
+pub mod Saving
 pub mod Search
 pub mod SearchLaws
 pub mod Sorting

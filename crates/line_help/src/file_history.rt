@@ -4,7 +4,7 @@ use crate::escapes::{pass_on, put, unescaped_entry, write_row};
 use crate::history::History;
 use crate::history_iter::HistoryIter;
 use crate::memory_history::MemHistory;
-use crate::rows::read_row;
+use crate::rows::RowReader;
 use crate::search::{SearchDirection, SearchResult};
 use line_config::{Config, ReadlineError, Sink, Source};
 use std::alloc::Global;
@@ -71,11 +71,11 @@ impl FileHistory {
 
 // Saving.
 impl FileHistory {
-    ghost use Rattle.std.specs.Prelude.{◌≡◌, drop, IfErr, OnOk, OnErr};
+    ghost use Rattle.std.specs.Prelude.{◌≡◌, drop, IfErr};
     ghost use Rattle.line_config.specs.declared.errors.ReadlineError.TheVariants.{HistoryText};
     ghost use Rattle.line_config.specs.Sending.{Sends};
-    ghost use Rattle.line_help.specs.History.{all_saved};
     ghost use Rattle.line_help.specs.HistoryText.{rows_text, text_to_save, text_to_append};
+    ghost use Rattle.line_help.specs.Saving.{SavesNew};
 
     /// Writes the rows of the entries from the first one on, and passes on what was written.
     fn write_rows<S: Sink>(&self, sink: &mut S, first: usize) -> Result<(), ReadlineError>
@@ -92,10 +92,8 @@ impl FileHistory {
     /// Writes the whole text of the history, where an entry is new. Then none is new. Where the
     /// sink fails the history stays as it is, and the sink has taken a beginning of the text.
     pub fn save_to<S: Sink>(&mut self, sink: &mut S) -> Result<(), ReadlineError>
-        ensures sends { Sends S.held S.has_failed (text_to_save self.old) sink.old sink.new result }
-        ensures saved { OnOk result (self.new ≡ all_saved self.old) }
-        ensures kept { OnErr result (self.new ≡ self.old) }
-        ensures fault { IfErr result (λ e. e ≡ HistoryText) }
+        ensures { SavesNew S.held S.has_failed (text_to_save self.old) self.old self.new sink.old
+            sink.new result }
     {
         if self.unsaved == 0 {
             return Ok(());
@@ -110,11 +108,8 @@ impl FileHistory {
     /// before. Then none is new. Where the sink fails the history stays as it is, and the sink has
     /// taken a beginning of the rows.
     pub fn append_to<S: Sink>(&mut self, sink: &mut S) -> Result<(), ReadlineError>
-        ensures sends { Sends S.held S.has_failed (text_to_append self.old) sink.old sink.new
-            result }
-        ensures saved { OnOk result (self.new ≡ all_saved self.old) }
-        ensures kept { OnErr result (self.new ≡ self.old) }
-        ensures fault { IfErr result (λ e. e ≡ HistoryText) }
+        ensures { SavesNew S.held S.has_failed (text_to_append self.old) self.old self.new sink.old
+            sink.new result }
     {
         let count = self.unsaved;
         if count == 0 {
@@ -254,11 +249,12 @@ impl<'a> IntoIterator for &'a FileHistory {
 
 // Loading.
 impl FileHistory {
-    ghost use Rattle.std.specs.Prelude.{◌≡◌, ◌≤◌, ◌⊎◌, ◌∷◌, [], true, false, IsTrue, IfOk, IfErr, OnOk, OnErr, Err, bytes_eq};
+    ghost use Rattle.std.specs.Prelude.{◌≡◌, ◌≤◌, ◌⊎◌, ◌∷◌, [], true, IsTrue, IfOk, IfErr, OnOk, OnErr, Err, bytes_eq};
     ghost use Rattle.std.specs.Str.{is_utf8};
     ghost use Rattle.line_config.specs.declared.errors.ReadlineError.TheVariants.{HistoryText, Memory, Reader};
     ghost use Rattle.line_help.specs.History.{filed_with_all, takes_all};
-    ghost use Rattle.line_help.specs.HistoryText.{AddsSome, after_first, entries_of, follows, header, good_rows, load_answer, load_leaves, row_fault, rows_answer, text_rows, says_reader, texts_of, ReadsGood};
+    ghost use Rattle.line_help.specs.HistoryText.{after_first, entries_of, follows, header, good_rows, row_fault, rows_answer, text_rows, says_reader, EndIsMet, ReadsGood};
+    ghost use Rattle.line_help.specs.Loading.{Loads, LoadsSome, left_by_load};
 
     // Adds the entry of a row, and answers whether it isn't ignored. An empty row has none.
     fn add_row(&mut self, alloc: Global, row: &[u8], escapes: bool) -> Result<bool, ReadlineError>
@@ -300,23 +296,27 @@ impl FileHistory {
         &mut self,
         alloc: Global,
         source: &mut S,
-        row: &mut Vec<u8>,
+        rows: &mut RowReader,
         escapes: bool,
     ) -> Result<bool, ReadlineError>
+        requires { EndIsMet rows.old.ended (S.feed source.old) }
         ensures answer { IsTrue (S.feed source.new).told
             → IsTrue (follows result)
             → let rows = text_rows (S.feed source.old).last (S.feed source.old).coming in
             result ≡ rows_answer (S.feed source.old).last rows
             (takes_all self.old (entries_of escapes (good_rows rows))) }
-        ensures left { IsTrue (S.feed source.new).told
+        ensures history { IsTrue (S.feed source.new).told
             → IsTrue (follows result)
             → self.new ≡ filed_with_all self.old
             (entries_of escapes (good_rows
             (text_rows (S.feed source.old).last (S.feed source.old).coming))) }
+        ensures left { IsTrue (S.feed source.new).told
+            → IsTrue (follows result)
+            → (S.feed source.new).coming
+            ≡ left_by_load (S.feed source.old).last (S.feed source.old).coming }
         ensures part { IsTrue (S.feed source.new).told
-            → AddsSome (entries_of escapes
-            (good_rows (text_rows (S.feed source.old).last (S.feed source.old).coming))) self.old
-            self.new }
+            → OnErr result (LoadsSome (entries_of escapes) (S.feed source.old).last
+            (S.feed source.old).coming (S.feed source.new).coming self.old self.new) }
         ensures memory { IsTrue (S.feed source.new).told → result ≡ Err Memory
             → ReadsGood (S.feed source.old).coming (S.feed source.new).coming }
         ensures fault { IfErr result (λ e. (e ≡ Memory) ⊎ ((e ≡ HistoryText) ⊎ (e ≡ Reader))) }
@@ -326,51 +326,35 @@ impl FileHistory {
         ensures keeps { (S.feed source.new).bound ≤ (S.feed source.old).bound }
     {
         let mut whole = true;
-        while read_row(source, row)? {
-            let added = self.add_row(alloc, row, escapes)?;
+        while rows.read(source)? {
+            let added = self.add_row(alloc, &rows.row, escapes)?;
             whole = whole && added;
         }
         Ok(whole)
     }
 
     /// Adds the entries of a text, in order, and answers whether the text began with the first row
-    /// of a saved one and none of its rows was ignored. Then no entry is new.
+    /// of a saved one and none of its rows was ignored. Then no entry is new. Nothing is read
+    /// behind the text's end.
     ///
     /// It goes row by row. Where the source fails (`Reader`), a row isn't UTF-8 (`HistoryText`) or
-    /// memory is refused (`Memory`), the rows before stay, and their entries are new.
+    /// memory is refused (`Memory`), the rows before stay, and their entries are new. The row that
+    /// was refused is gone from the source, and the rows behind it are still to come.
     #[tactic(auto, using(crate::proofs::LoadLemmas::load_steps))]
     pub fn load_from<S: Source>(
         &mut self,
         alloc: Global,
         source: &mut S,
     ) -> Result<bool, ReadlineError>
-        ensures answer { IsTrue (S.feed source.new).told
-            → IsTrue (follows result)
-            → result ≡ load_answer (S.feed source.old).last
-            (text_rows (S.feed source.old).last (S.feed source.old).coming) self.old }
-        ensures left { IsTrue (S.feed source.new).told
-            → IsTrue (follows result)
-            → self.new ≡ load_leaves (S.feed source.old).last
-            (text_rows (S.feed source.old).last (S.feed source.old).coming) self.old }
-        ensures part { IsTrue (S.feed source.new).told
-            → OnErr result (AddsSome (texts_of
-            (good_rows (text_rows (S.feed source.old).last (S.feed source.old).coming))) self.old
-            self.new) }
-        ensures memory { IsTrue (S.feed source.new).told → result ≡ Err Memory
-            → ReadsGood (S.feed source.old).coming (S.feed source.new).coming }
-        ensures fault { IfErr result (λ e. (e ≡ Memory) ⊎ ((e ≡ HistoryText) ⊎ (e ≡ Reader))) }
-        ensures failure { (S.feed source.new).failed ≡ says_reader result }
-        ensures told { IsTrue (S.feed source.new).told → IsTrue (S.feed source.old).told }
-        ensures last { (S.feed source.new).last ≡ (S.feed source.old).last }
-        ensures keeps { (S.feed source.new).bound ≤ (S.feed source.old).bound }
+        ensures { Loads (S.feed source.old) (S.feed source.new) self.old self.new result }
     {
-        let mut row = Vec::new(alloc);
-        if !read_row(source, &mut row)? {
+        let mut rows = RowReader::new(alloc);
+        if !rows.read(source)? {
             self.unsaved = 0;
             return Ok(false);
         }
-        let escapes = self.add_first(alloc, &row)?;
-        let whole = self.load_rows(alloc, source, &mut row, escapes)?;
+        let escapes = self.add_first(alloc, &rows.row)?;
+        let whole = self.load_rows(alloc, source, &mut rows, escapes)?;
         self.unsaved = 0;
         Ok(escapes && whole)
     }

@@ -1,14 +1,13 @@
 //! Rows of a text that comes from a source.
-ghost use Rattle.std.specs.Prelude.{◌≡◌, ◌<◌, ◌≤◌, ◌⊎◌, ◌==◌, is_err, List, [], ◌∷◌, true, false, if◌then◌else◌, IsTrue, IfOk, IfErr, IfSome, Ok, Err, None, option_to_list, ◌++◌};
-ghost use Rattle.std.specs.Str.{is_utf8};
+ghost use Rattle.std.specs.Prelude.{◌≡◌, ◌<◌, ◌≤◌, ◌==◌, is_err, List, [], true, IsTrue, IfOk, IfErr, IfSome, Ok, Err, None, option_to_list, ◌++◌};
 ghost use Rattle.std.specs.List.{position_or_len};
 ghost use Rattle.line_config.specs.declared.device.Last.TheVariants.{End, Failed};
-ghost use Rattle.line_config.specs.declared.errors.ReadlineError.TheVariants.{Memory, Reader};
-ghost use Rattle.line_help.specs.HistoryText.{TakesPiece, text_rows, says_reader, without_return, GoodUpTo, ReadsGood};
+ghost use Rattle.line_config.specs.declared.errors.ReadlineError.TheVariants.{Reader};
+ghost use Rattle.line_help.specs.HistoryText.{TakesPiece, without_return};
 
 use line_config::{ReadlineError, Source};
 use memchr::memchr;
-use std::alloc::AllocError;
+use std::alloc::{AllocError, Global};
 
 /// Takes the carriage return at the end off, if there is one.
 #[tactic(auto, using(crate::proofs::RowLemmas::endings))]
@@ -28,7 +27,8 @@ fn next_byte<S: Source>(source: &mut S) -> Result<Option<u8>, ReadlineError>
     ensures end { IsTrue (S.feed source.new).told → result ≡ Ok None
         → ((S.feed source.old).coming ≡ []) × ((S.feed source.old).last ≡ End) }
     ensures cut { IsTrue (S.feed source.new).told → result ≡ Err Reader
-        → ((S.feed source.old).coming ≡ []) × ((S.feed source.old).last ≡ Failed) }
+        → ((S.feed source.old).coming ≡ []) × ((S.feed source.old).last ≡ Failed)
+        × ((S.feed source.new).coming ≡ []) }
     ensures fault { IfErr result (λ e. e ≡ Reader) }
     ensures failure { (S.feed source.new).failed ≡ is_err result }
     ensures told { IsTrue (S.feed source.new).told → IsTrue (S.feed source.old).told }
@@ -60,39 +60,75 @@ fn take_piece<S: Source>(source: &mut S, row: &mut Vec<u8>) -> Result<(), AllocE
     Ok(())
 }
 
-/// Reads the next row, which a newline or the end of the text ends, and answers whether there is
-/// one. A carriage return right before the newline is no part of it.
-#[tactic(auto, using(crate::proofs::RowLemmas::row_ends))]
-pub(crate) fn read_row<S: Source>(source: &mut S, row: &mut Vec<u8>) -> Result<bool, ReadlineError>
-    ensures row { IsTrue (S.feed source.new).told
-        → IfOk result (λ is_row. text_rows (S.feed source.old).last (S.feed source.old).coming
-        ≡ (if is_row then row.new.items
-        ∷ text_rows (S.feed source.old).last (S.feed source.new).coming else [])) }
-    ensures end { IsTrue (S.feed source.new).told → result ≡ Ok false
-        → (S.feed source.old).last ≡ End }
-    ensures cut { IsTrue (S.feed source.new).told → result ≡ Err Reader
-        → ((S.feed source.old).last ≡ Failed)
-        × (text_rows (S.feed source.old).last (S.feed source.old).coming ≡ []) }
-    ensures good { IsTrue (S.feed source.new).told → result ≡ Ok true
-        → is_utf8 row.new.items ≡ true
-        → GoodUpTo (S.feed source.old).coming (S.feed source.new).coming }
-    ensures memory { IsTrue (S.feed source.new).told → result ≡ Err Memory
-        → ReadsGood (S.feed source.old).coming (S.feed source.new).coming }
-    ensures fault { IfErr result (λ e. (e ≡ Memory) ⊎ (e ≡ Reader)) }
-    ensures failure { (S.feed source.new).failed ≡ says_reader result }
-    ensures told { IsTrue (S.feed source.new).told → IsTrue (S.feed source.old).told }
-    ensures last { (S.feed source.new).last ≡ (S.feed source.old).last }
-    ensures falls { result ≡ Ok true → (S.feed source.new).bound < (S.feed source.old).bound }
-    ensures keeps { (S.feed source.new).bound ≤ (S.feed source.old).bound }
-{
-    row.clear();
-    while let Some(byte) = next_byte(source)? {
-        if byte == b'\n' {
-            drop_return(row);
-            return Ok(true);
+/// Reads the rows of a text, and nothing behind its end.
+#[derive(Drop)]
+pub(crate) struct RowReader {
+    /// The row that was read last.
+    pub(crate) row: Vec<u8>,
+    /// The text's end was met.
+    pub(crate) ended: bool,
+}
+
+impl RowReader {
+    ghost use Rattle.std.specs.Prelude.{◌≡◌, ◌<◌, ◌≤◌, ◌⊎◌, [], ◌∷◌, true, false, if◌then◌else◌, IsTrue, IfOk, IfErr, Ok, Err};
+    ghost use Rattle.std.specs.Str.{is_utf8};
+    ghost use Rattle.line_config.specs.declared.device.Last.TheVariants.{End, Failed};
+    ghost use Rattle.line_config.specs.declared.errors.ReadlineError.TheVariants.{Memory, Reader};
+    ghost use Rattle.line_help.specs.HistoryText.{text_rows, behind_row, EndIsMet, LosesRow, says_reader, GoodUpTo, ReadsGood};
+
+    pub(crate) fn new(alloc: Global) -> Self
+        ensures { result.ended ≡ false }
+    {
+        RowReader {
+            row: Vec::new(alloc),
+            ended: false,
         }
-        row.push(byte)?;
-        take_piece(source, row)?;
     }
-    Ok(!row.is_empty())
+
+    /// Reads the next row, which a newline or the end of the text ends, and answers whether there
+    /// is one. A carriage return right before the newline is no part of it.
+    #[tactic(auto, using(crate::proofs::RowLemmas::row_ends))]
+    pub(crate) fn read<S: Source>(&mut self, source: &mut S) -> Result<bool, ReadlineError>
+        requires { EndIsMet self.old.ended (S.feed source.old) }
+        ensures row { IsTrue (S.feed source.new).told
+            → IfOk result (λ is_row. text_rows (S.feed source.old).last (S.feed source.old).coming
+            ≡ (if is_row then self.new.row.items
+            ∷ text_rows (S.feed source.old).last (S.feed source.new).coming else [])) }
+        ensures behind { IsTrue (S.feed source.new).told → result ≡ Ok true
+            → (S.feed source.new).coming ≡ behind_row (S.feed source.old).coming }
+        ensures end { IsTrue (S.feed source.new).told → result ≡ Ok false
+            → ((S.feed source.old).last ≡ End) × ((S.feed source.new).coming ≡ []) }
+        ensures cut { IsTrue (S.feed source.new).told → result ≡ Err Reader
+            → ((S.feed source.old).last ≡ Failed) × ((S.feed source.new).coming ≡ [])
+            × (text_rows (S.feed source.old).last (S.feed source.old).coming ≡ []) }
+        ensures lost { IsTrue (S.feed source.new).told
+            → LosesRow (S.feed source.old).coming (S.feed source.new).coming }
+        ensures good { IsTrue (S.feed source.new).told → result ≡ Ok true
+            → is_utf8 self.new.row.items ≡ true
+            → GoodUpTo (S.feed source.old).coming (S.feed source.new).coming }
+        ensures memory { IsTrue (S.feed source.new).told → result ≡ Err Memory
+            → ReadsGood (S.feed source.old).coming (S.feed source.new).coming }
+        ensures ended { EndIsMet self.new.ended (S.feed source.new) }
+        ensures fault { IfErr result (λ e. (e ≡ Memory) ⊎ (e ≡ Reader)) }
+        ensures failure { (S.feed source.new).failed ≡ says_reader result }
+        ensures told { IsTrue (S.feed source.new).told → IsTrue (S.feed source.old).told }
+        ensures last { (S.feed source.new).last ≡ (S.feed source.old).last }
+        ensures falls { result ≡ Ok true → (S.feed source.new).bound < (S.feed source.old).bound }
+        ensures keeps { (S.feed source.new).bound ≤ (S.feed source.old).bound }
+    {
+        self.row.clear();
+        if self.ended {
+            return Ok(false);
+        }
+        while let Some(byte) = next_byte(source)? {
+            if byte == b'\n' {
+                drop_return(&mut self.row);
+                return Ok(true);
+            }
+            self.row.push(byte)?;
+            take_piece(source, &mut self.row)?;
+        }
+        self.ended = true;
+        Ok(!self.row.is_empty())
+    }
 }

@@ -4,7 +4,7 @@ ghost use Rattle.std.specs.Str.{is_utf8};
 ghost use Rattle.line_help.specs.HistoryText.{entries_of};
 ghost use Rattle.line_help.specs.WordList.{LoadsWords, word_fault};
 
-use crate::rows::read_row;
+use crate::rows::RowReader;
 use line_config::{ReadlineError, Source};
 use std::alloc::Global;
 
@@ -31,9 +31,9 @@ pub fn load_words<S: Source>(alloc: Global, source: &mut S) -> Result<Vec<String
         → LoadsWords (S.feed source.old) (S.feed source.new) result }
 {
     let mut words = Vec::new(alloc);
-    let mut row = Vec::new(alloc);
-    while read_row(source, &mut row)? {
-        push_word(alloc, &mut words, &row)?;
+    let mut rows = RowReader::new(alloc);
+    while rows.read(source)? {
+        push_word(alloc, &mut words, &rows.row)?;
     }
     Ok(words)
 }

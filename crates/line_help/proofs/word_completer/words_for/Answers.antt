@@ -1,7 +1,6 @@
-use Rattle.std.proofs.Common.{◌≡◌, ◌∙◌, ◌<◌, ℕ, true, List, length, map, sym, ap, nat_eq}
+use Rattle.std.proofs.Common.{◌∙◌, sym, ap, nat_eq}
 use Rattle.std.specs.Prelude.{Result, Ok, Err, IfErr, string_bytes}
 use Rattle.std.specs.List.{starts_with}
-use Rattle.line_help.specs.WordCompletion.{words_for}
 use Rattle.line_help.proofs.WordLemmas.{word_taken, word_passed, word_found}
 use Rattle.line_help.proofs.word_completer.words_for.Goals as goal
 use Rattle.line_help.proofs.word_completer.words_for.Goals.{then-begins_with+in_ok-from_str+in_ok-push, else-begins_with}

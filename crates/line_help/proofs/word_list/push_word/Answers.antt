@@ -1,6 +1,5 @@
 use Rattle.std.specs.Result.{is_ok}
-use Rattle.std.specs.Str.{is_utf8}
-use Rattle.std.proofs.Common.{◌≡◌, ◌∙◌, true, false, sym, ap, length, rules}
+use Rattle.std.proofs.Common.{◌≡◌, ◌∙◌, sym, ap, length, rules}
 use Rattle.line_help.proofs.LoadLemmas.{empty_is_utf8, read_utf8, unread_utf8}
 use Rattle.line_help.proofs.word_list.push_word.Goals as goal
 

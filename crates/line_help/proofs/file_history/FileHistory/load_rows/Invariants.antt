@@ -1,7 +1,8 @@
 use Rattle.std.proofs.Common.{◌≡◌, ◌≤◌, IsTrue}
 use Rattle.std.specs.Prelude.{◌&&◌}
 use Rattle.line_help.specs.History.{filed_with_all, takes_all}
-use Rattle.line_help.specs.HistoryText.{GoodUpTo, entries_of, good_rows, rows_answer, text_rows}
+use Rattle.line_help.specs.HistoryText.{EndIsMet, GoodUpTo, entries_of, good_rows, rows_answer, text_rows}
+use Rattle.line_help.specs.Loading.{left_by_load}
 use Rattle.line_help.proofs.LoadLemmas.{Reached}
 use Rattle.line_help.proofs.file_history.FileHistory.load_rows.Given as goal
 
@@ -10,11 +11,13 @@ invariant-loop-self g l = record {
   told : IsTrue (g.S.Source.feed l.source).told → IsTrue (g.S.Source.feed l.fn.source).told;
   last : (g.S.Source.feed l.source).last ≡ (g.S.Source.feed l.fn.source).last;
   bound : (g.S.Source.feed l.source).bound ≤ (g.S.Source.feed l.fn.source).bound;
+  ended : EndIsMet l.rows.ended (g.S.Source.feed l.source);
   good : IsTrue (g.S.Source.feed l.source).told → GoodUpTo (g.S.Source.feed l.fn.source).coming (g.S.Source.feed l.source).coming;
   part : IsTrue (g.S.Source.feed l.source).told
-      → Reached (entries_of l.escapes (good_rows (text_rows (g.S.Source.feed l.fn.source).last (g.S.Source.feed l.fn.source).coming)))
-      (entries_of l.escapes (good_rows (text_rows (g.S.Source.feed l.fn.source).last (g.S.Source.feed l.source).coming))) l.fn.self l.self;
+      → Reached l.escapes (g.S.Source.feed l.fn.source).last (g.S.Source.feed l.fn.source).coming (g.S.Source.feed l.source).coming l.fn.self l.self;
   left : IsTrue (g.S.Source.feed l.source).told
+      → left_by_load (g.S.Source.feed l.fn.source).last (g.S.Source.feed l.source).coming ≡ left_by_load (g.S.Source.feed l.fn.source).last (g.S.Source.feed l.fn.source).coming;
+  history : IsTrue (g.S.Source.feed l.source).told
       → filed_with_all l.self (entries_of l.escapes (good_rows (text_rows (g.S.Source.feed l.fn.source).last (g.S.Source.feed l.source).coming)))
       ≡ filed_with_all l.fn.self (entries_of l.escapes (good_rows (text_rows (g.S.Source.feed l.fn.source).last (g.S.Source.feed l.fn.source).coming)));
   answer : IsTrue (g.S.Source.feed l.source).told
