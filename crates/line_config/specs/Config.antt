@@ -1,5 +1,5 @@
 -- The settings before any is set, and what two of the calls that set them make of their argument.
-use Rattle.std.specs.Prelude.{ℕ, Bool, true, false, Option, Some, None}
+use Rattle.std.specs.Prelude.{◌≡◌, ℕ, Bool, true, false, Option, Some, None}
 use Rattle.line_buffer.specs.declared.layout.GraphemeClusterMode.TheVariants.{Unicode}
 use Rattle.line_config.specs.declared.builder.Builder.{Builder}
 use Rattle.line_config.specs.declared.config.Config.{Config}
@@ -35,6 +35,10 @@ default_config = record {
   enable_synchronized_output = true;
   enable_signals = false;
 }
+
+-- what holds settings is as before, but for what the change makes of its settings
+abbrev pub Sets : {H : Type 0} → (H → Config) → (H → Config → H) → (Config → Config) → H → H → Type 0
+Sets settings with_settings change old new = new ≡ with_settings old (change (settings old))
 
 -- a builder of these settings
 abbrev pub built : Config → Builder

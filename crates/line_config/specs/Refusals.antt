@@ -1,5 +1,5 @@
--- The refusals: their texts, and which of them are faults.
-use Rattle.std.specs.Prelude.{ℕ, List, Bool, true, false, IsFalse, Result, Ok, Err, codes, ⊤}
+-- The refusals: their texts, which of them are faults, and which call is refused by one alone.
+use Rattle.std.specs.Prelude.{◌≡◌, ℕ, List, Bool, true, false, IsFalse, MatchResult, Result, Ok, Err, codes, ⊤}
 use Rattle.line_config.specs.declared.errors.ReadlineError.{ReadlineError}
 use Rattle.line_config.specs.declared.errors.ReadlineError.TheVariants.{Eof, Interrupted, NotUtf8, PasteOutOfPlace, Reader, Display, Lines, HistoryText, Helper, Handler, Memory}
 
@@ -34,3 +34,7 @@ IsMet refusal = IsFalse (is_fault refusal)
 abbrev pub Met : {X : Type 0} → Result X ReadlineError → Type 0
 Met (Ok x) = ⊤
 Met (Err refusal) = IsMet refusal
+
+-- a call gives what is said of its answer, or memory was wanting
+abbrev pub OrMemory : {X : Type 0} → Result X ReadlineError → (X → Type 0) → Type 0
+OrMemory result P = MatchResult result P (λ e. e ≡ Memory)

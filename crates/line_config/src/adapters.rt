@@ -17,19 +17,19 @@ use std::io::{Read, Write};
 use std::marker::{Brand, PhantomData};
 
 /// How many bytes a `ReadSource` takes of one read, at most.
-pub const READ_SIZE: usize = 256;
+pub const READ_SIZE: usize = 4096;
 
 /// How many bytes a `WriteSink` gathers before it sends them.
 pub const WRITE_SIZE: usize = 4096;
 
-const MOST_BYTES: u64 = 0x7FFF_FFFF_FFFF_FF00;
+const MOST_BYTES: u64 = 0x7FFF_FFFF_FFFF_F000;
 
 /// A source over std's `Read`, of which it is said that its reads give the bytes of `K`.
 ///
 /// The reader is asked where no byte is left of its last answer, and then once: so a byte that is
 /// there is given before more are asked for. Each error of the reader is a failure, except that a
 /// read which a signal interrupts is made anew. After the end or a failure it isn't asked again, nor
-/// after more than 2^63 - 256 bytes, where the source fails.
+/// after more than 2^63 - 4,096 bytes, where the source fails.
 #[derive(Drop)]
 pub struct ReadSource<R, K = Brand> {
     reader: R,

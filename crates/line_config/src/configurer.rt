@@ -4,7 +4,7 @@ ghost use Rattle.std.proofs.Common.{refl};
 ghost use Rattle.std.specs.Borrow.{sem, Lends};
 ghost use Rattle.line_config.specs.declared.config.Config.{Config};
 ghost use Rattle.line_config.specs.contracts.config.Config.{the_row as config_row};
-ghost use Rattle.line_config.specs.Config.{duplicates_of, timeout_of};
+ghost use Rattle.line_config.specs.Config.{Sets, duplicates_of, timeout_of};
 
 use crate::config::Config;
 use crate::errors::ReadlineError;
@@ -28,8 +28,8 @@ pub trait Configurer {
     /// Sets how many entries a history keeps at most.
     fn set_max_history_size(&mut self, max_size: usize) -> Result<(), ReadlineError>
         ensures done { IsOk result }
-        ensures settings { self.new ≡ with_settings self.old
-            (record (settings self.old) { max_history_size = max_size }) }
+        ensures settings { Sets settings with_settings
+            (λ c. record c { max_history_size = max_size }) self.old self.new }
     {
         self.config_mut().max_history_size = max_size;
         Ok(())
@@ -38,8 +38,8 @@ pub trait Configurer {
     /// Sets whether a line that equals the last entry is left out of the history.
     fn set_history_ignore_dups(&mut self, yes: bool) -> Result<(), ReadlineError>
         ensures done { IsOk result }
-        ensures settings { self.new ≡ with_settings self.old
-            (record (settings self.old) { history_duplicates = duplicates_of yes }) }
+        ensures settings { Sets settings with_settings
+            (λ c. record c { history_duplicates = duplicates_of yes }) self.old self.new }
     {
         self.config_mut().history_duplicates = HistoryDuplicates::when(yes);
         Ok(())
@@ -47,8 +47,8 @@ pub trait Configurer {
 
     /// Sets whether a line that begins with whitespace is left out of the history.
     fn set_history_ignore_space(&mut self, yes: bool)
-        ensures { self.new ≡ with_settings self.old
-            (record (settings self.old) { history_ignore_space = yes }) }
+        ensures { Sets settings with_settings (λ c. record c { history_ignore_space = yes })
+            self.old self.new }
     {
         self.config_mut().history_ignore_space = yes;
     }
@@ -56,16 +56,16 @@ pub trait Configurer {
     /// Sets what becomes of several candidates of a completion. A session keeps it and does nothing
     /// with it.
     fn set_completion_type(&mut self, completion_type: CompletionType)
-        ensures { self.new ≡ with_settings self.old
-            (record (settings self.old) { completion_type = completion_type }) }
+        ensures { Sets settings with_settings (λ c. record c { completion_type = completion_type })
+            self.old self.new }
     {
         self.config_mut().completion_type = completion_type;
     }
 
     /// Sets whether all candidates are listed at once. A session keeps it and does nothing with it.
     fn set_completion_show_all_if_ambiguous(&mut self, yes: bool)
-        ensures { self.new ≡ with_settings self.old
-            (record (settings self.old) { completion_show_all_if_ambiguous = yes }) }
+        ensures { Sets settings with_settings
+            (λ c. record c { completion_show_all_if_ambiguous = yes }) self.old self.new }
     {
         self.config_mut().completion_show_all_if_ambiguous = yes;
     }
@@ -73,8 +73,8 @@ pub trait Configurer {
     /// Sets how many candidates are listed without asking first. A session keeps it and does
     /// nothing with it.
     fn set_completion_prompt_limit(&mut self, limit: usize)
-        ensures { self.new ≡ with_settings self.old
-            (record (settings self.old) { completion_prompt_limit = limit }) }
+        ensures { Sets settings with_settings (λ c. record c { completion_prompt_limit = limit })
+            self.old self.new }
     {
         self.config_mut().completion_prompt_limit = limit;
     }
@@ -82,8 +82,8 @@ pub trait Configurer {
     /// Sets how long a key sequence that may go on is waited for, in milliseconds. Without a number
     /// it is waited for without end. A session keeps it and does nothing with it.
     fn set_keyseq_timeout(&mut self, milliseconds: Option<u16>)
-        ensures { self.new ≡ with_settings self.old
-            (record (settings self.old) { keyseq_timeout = milliseconds }) }
+        ensures { Sets settings with_settings (λ c. record c { keyseq_timeout = milliseconds })
+            self.old self.new }
     {
         self.config_mut().keyseq_timeout = milliseconds;
     }
@@ -91,11 +91,9 @@ pub trait Configurer {
     /// Sets the keymap, and with it the timeout of key sequences: none for Emacs, 500 milliseconds
     /// for Vi.
     fn set_edit_mode(&mut self, edit_mode: EditMode)
-        ensures { self.new ≡ with_settings self.old
-            (record (settings self.old) {
-              edit_mode = edit_mode;
-              keyseq_timeout = timeout_of edit_mode;
-            }) }
+        ensures { Sets settings with_settings
+            (λ c. record c { edit_mode = edit_mode; keyseq_timeout = timeout_of edit_mode })
+            self.old self.new }
     {
         let config = self.config_mut();
         config.edit_mode = edit_mode;
@@ -104,48 +102,48 @@ pub trait Configurer {
 
     /// Sets whether each line that a session gives is added to its history.
     fn set_auto_add_history(&mut self, yes: bool)
-        ensures { self.new ≡ with_settings self.old
-            (record (settings self.old) { auto_add_history = yes }) }
+        ensures { Sets settings with_settings (λ c. record c { auto_add_history = yes })
+            self.old self.new }
     {
         self.config_mut().auto_add_history = yes;
     }
 
     /// Sets what a beep does.
     fn set_bell_style(&mut self, bell_style: BellStyle)
-        ensures { self.new ≡ with_settings self.old
-            (record (settings self.old) { bell_style = bell_style }) }
+        ensures { Sets settings with_settings (λ c. record c { bell_style = bell_style })
+            self.old self.new }
     {
         self.config_mut().bell_style = bell_style;
     }
 
     /// Sets whether highlighting is drawn. A session keeps it and does nothing with it.
     fn set_color_mode(&mut self, color_mode: ColorMode)
-        ensures { self.new ≡ with_settings self.old
-            (record (settings self.old) { color_mode = color_mode }) }
+        ensures { Sets settings with_settings (λ c. record c { color_mode = color_mode })
+            self.old self.new }
     {
         self.config_mut().color_mode = color_mode;
     }
 
     /// Sets how the terminal counts the columns of a grapheme cluster.
     fn set_grapheme_cluster_mode(&mut self, mode: GraphemeClusterMode)
-        ensures { self.new ≡ with_settings self.old
-            (record (settings self.old) { grapheme_cluster_mode = mode }) }
+        ensures { Sets settings with_settings (λ c. record c { grapheme_cluster_mode = mode })
+            self.old self.new }
     {
         self.config_mut().grapheme_cluster_mode = mode;
     }
 
     /// Sets how many columns a tab takes. A session keeps it and does nothing with it.
     fn set_tab_stop(&mut self, columns: u8)
-        ensures { self.new ≡ with_settings self.old
-            (record (settings self.old) { tab_stop = columns }) }
+        ensures { Sets settings with_settings (λ c. record c { tab_stop = columns })
+            self.old self.new }
     {
         self.config_mut().tab_stop = columns;
     }
 
     /// Sets how many spaces a line is indented or dedented by.
     fn set_indent_size(&mut self, spaces: u8)
-        ensures { self.new ≡ with_settings self.old
-            (record (settings self.old) { indent_size = spaces }) }
+        ensures { Sets settings with_settings (λ c. record c { indent_size = spaces })
+            self.old self.new }
     {
         self.config_mut().indent_size = spaces;
     }
@@ -153,8 +151,8 @@ pub trait Configurer {
     /// Sets whether the cursor is brought to the first column before a prompt. A session keeps it
     /// and does nothing with it.
     fn set_check_cursor_position(&mut self, yes: bool)
-        ensures { self.new ≡ with_settings self.old
-            (record (settings self.old) { check_cursor_position = yes }) }
+        ensures { Sets settings with_settings (λ c. record c { check_cursor_position = yes })
+            self.old self.new }
     {
         self.config_mut().check_cursor_position = yes;
     }
@@ -162,8 +160,8 @@ pub trait Configurer {
     /// Sets whether the terminal is asked to mark what is pasted. A session keeps it and does
     /// nothing with it.
     fn enable_bracketed_paste(&mut self, yes: bool)
-        ensures { self.new ≡ with_settings self.old
-            (record (settings self.old) { enable_bracketed_paste = yes }) }
+        ensures { Sets settings with_settings (λ c. record c { enable_bracketed_paste = yes })
+            self.old self.new }
     {
         self.config_mut().enable_bracketed_paste = yes;
     }
@@ -171,8 +169,8 @@ pub trait Configurer {
     /// Sets whether the terminal is asked to show each drawing at once. A session keeps it and does
     /// nothing with it.
     fn enable_synchronized_output(&mut self, yes: bool)
-        ensures { self.new ≡ with_settings self.old
-            (record (settings self.old) { enable_synchronized_output = yes }) }
+        ensures { Sets settings with_settings (λ c. record c { enable_synchronized_output = yes })
+            self.old self.new }
     {
         self.config_mut().enable_synchronized_output = yes;
     }
@@ -180,8 +178,8 @@ pub trait Configurer {
     /// Sets whether the terminal's own signal keys stay on. A session keeps it and does nothing
     /// with it.
     fn set_enable_signals(&mut self, yes: bool)
-        ensures { self.new ≡ with_settings self.old
-            (record (settings self.old) { enable_signals = yes }) }
+        ensures { Sets settings with_settings (λ c. record c { enable_signals = yes })
+            self.old self.new }
     {
         self.config_mut().enable_signals = yes;
     }

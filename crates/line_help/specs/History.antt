@@ -1,7 +1,9 @@
 -- A history: its entries, oldest first, and which lines become entries.
-use Rattle.std.specs.Prelude.{ℕ, ◌-◌, ◌+◌, ◌==◌, ◌&&◌, ◌||◌, not, min, Bool, true, false, if◌then◌else◌, List, [], ◌∷◌, ◌++◌, length, drop, chars, bytes_eq}
+use Rattle.std.specs.Prelude.{◌≡◌, ℕ, ◌-◌, ◌+◌, ◌==◌, ◌&&◌, ◌||◌, not, min, Bool, true, false, if◌then◌else◌, List, [], ◌∷◌, ◌++◌, length, drop, chars, bytes_eq, Result, IfErr, OnOk, OnErr}
 use Rattle.std.specs.Char.{is_whitespace}
 use Rattle.line_config.specs.declared.config.Config.{Config}
+use Rattle.line_config.specs.declared.errors.ReadlineError.{ReadlineError}
+use Rattle.line_config.specs.declared.errors.ReadlineError.TheVariants.{Memory}
 use Rattle.line_config.specs.declared.settings.HistoryDuplicates.{HistoryDuplicates}
 use Rattle.line_config.specs.declared.settings.HistoryDuplicates.TheVariants.{AlwaysAdd, IgnoreConsecutive}
 
@@ -86,17 +88,25 @@ filed_with filed line =
           filed.kept.entries line filed.unsaved;
     }
 
+-- a call makes this of a value, or memory was wanting and the value stays
+pub record Grows {V A : Type 0} (before wanted after : V) (result : Result A ReadlineError)
+    : Type 0 where
+  pub added : OnOk result (after ≡ wanted)
+  pub kept : OnErr result (after ≡ before)
+  pub fault : IfErr result (λ e. e ≡ Memory)
+
 -- these lines, one after the other
 abbrev pub filed_with_all : Filed → List (List ℕ) → Filed
 filed_with_all filed [] = filed
 filed_with_all filed (line ∷ lines) = filed_with_all (filed_with filed line) lines
 
--- whether none of them is ignored
+-- whether a line isn't ignored, and whether none of these is
+abbrev pub takes : Filed → List ℕ → Bool
+takes filed line = not (ignored filed.kept.settings filed.kept.entries line)
+
 abbrev pub takes_all : Filed → List (List ℕ) → Bool
 takes_all filed [] = true
-takes_all filed (line ∷ lines) =
-    not (ignored filed.kept.settings filed.kept.entries line)
-    && takes_all (filed_with filed line) lines
+takes_all filed (line ∷ lines) = takes filed line && takes_all (filed_with filed line) lines
 
 abbrev pub resized : ℕ → Kept → Kept
 resized len kept =

@@ -1,5 +1,5 @@
 -- Searching in a history.
-use Rattle.std.specs.Prelude.{ℕ, suc, ◌+◌, ◌==◌, ◌||◌, nat_le, Bool, true, false, if◌then◌else◌, List, [], ◌∷◌, length, take, drop, reverse, eqb, Option, Some, None, option_map, slice_get}
+use Rattle.std.specs.Prelude.{◌≡◌, ◌<◌, ℕ, suc, ◌+◌, ◌==◌, ◌||◌, nat_le, Bool, true, false, if◌then◌else◌, List, [], ◌∷◌, length, take, drop, reverse, eqb, Option, Some, None, option_map, slice_get, IfSome, IsCharBoundary}
 use Rattle.std.specs.List.{starts_with}
 use Rattle.line_help.specs.declared.search.SearchResult.{SearchResult}
 use Rattle.line_help.specs.declared.search.SearchDirection.{SearchDirection}
@@ -57,6 +57,14 @@ abbrev pub searched : Bool → List ℕ → ℕ → SearchDirection → List (Li
 searched anchored term start direction entries =
     if length term == 0 || nat_le (length entries) start then None
     else nearest direction (hit_by anchored term) start entries
+
+-- a search of these entries answers so; the place that it answers is one in an entry of them, and
+-- no character stands across it
+pub record Finds (search : List (List ℕ) → Option Hit) (entries : List (List ℕ))
+    (result : Option SearchResult) : Type 0 where
+  pub found : option_map hit_of result ≡ search entries
+  pub inside : IfSome result (λ hit. hit.idx < length entries)
+  pub boundary : IfSome result (λ hit. IsCharBoundary hit.entry.now hit.pos)
 
 -- the entry at a place, its hit at its start
 abbrev pub entry_at : ℕ → List (List ℕ) → Option Hit

@@ -1,33 +1,29 @@
 //! Escapes in a saved history: a newline stands as `\n`, a backslash as two.
-ghost use Rattle.std.specs.Prelude.{◌≡◌, ◌==◌, [], IfOk, IfErr, option_map, unwrap_or, string_bytes};
+ghost use Rattle.std.specs.Prelude.{◌≡◌, ◌==◌, [], IfOk, option_map, unwrap_or, string_bytes};
 ghost use Rattle.std.specs.List.{list_any};
-ghost use Rattle.line_config.specs.Sending.{Sends};
-ghost use Rattle.line_config.specs.declared.errors.ReadlineError.TheVariants.{HistoryText};
 ghost use Rattle.line_help.specs.HistoryText.{escaped_byte, row_of, unescaped_row, entry_of};
+ghost use Rattle.line_help.specs.Saving.{SendsText};
 
 use line_config::{ReadlineError, Sink};
 use std::alloc::{AllocError, Global};
 
 /// Writes some bytes of a history's text.
 pub(crate) fn put<S: Sink>(sink: &mut S, bytes: &[u8]) -> Result<(), ReadlineError>
-    ensures sends { Sends S.held S.has_failed bytes.now sink.old sink.new result }
-    ensures fault { IfErr result (λ e. e ≡ HistoryText) }
+    ensures { SendsText S.held S.has_failed bytes.now sink.old sink.new result }
 {
     sink.write(bytes).map_err(|_| ReadlineError::HistoryText)
 }
 
 /// Passes on what was written.
 pub(crate) fn pass_on<S: Sink>(sink: &mut S) -> Result<(), ReadlineError>
-    ensures sends { Sends S.held S.has_failed [] sink.old sink.new result }
-    ensures fault { IfErr result (λ e. e ≡ HistoryText) }
+    ensures { SendsText S.held S.has_failed [] sink.old sink.new result }
 {
     sink.flush().map_err(|_| ReadlineError::HistoryText)
 }
 
 /// Writes a byte of an entry: a newline and a backslash as two.
 fn put_escaped<S: Sink>(sink: &mut S, byte: u8) -> Result<(), ReadlineError>
-    ensures sends { Sends S.held S.has_failed (escaped_byte byte) sink.old sink.new result }
-    ensures fault { IfErr result (λ e. e ≡ HistoryText) }
+    ensures { SendsText S.held S.has_failed (escaped_byte byte) sink.old sink.new result }
 {
     match byte {
         b'\n' => put(sink, b"\\n"),
@@ -38,8 +34,7 @@ fn put_escaped<S: Sink>(sink: &mut S, byte: u8) -> Result<(), ReadlineError>
 
 /// Writes an entry as a row, which a newline closes.
 pub(crate) fn write_row<S: Sink>(sink: &mut S, entry: &str) -> Result<(), ReadlineError>
-    ensures sends { Sends S.held S.has_failed (row_of entry.now) sink.old sink.new result }
-    ensures fault { IfErr result (λ e. e ≡ HistoryText) }
+    ensures { SendsText S.held S.has_failed (row_of entry.now) sink.old sink.new result }
 {
     let bytes = entry.as_bytes();
     for byte in bytes {

@@ -71,17 +71,14 @@ impl FileHistory {
 
 // Saving.
 impl FileHistory {
-    ghost use Rattle.std.specs.Prelude.{◌≡◌, drop, IfErr};
-    ghost use Rattle.line_config.specs.declared.errors.ReadlineError.TheVariants.{HistoryText};
-    ghost use Rattle.line_config.specs.Sending.{Sends};
+    ghost use Rattle.std.specs.Prelude.{drop};
     ghost use Rattle.line_help.specs.HistoryText.{rows_text, text_to_save, text_to_append};
-    ghost use Rattle.line_help.specs.Saving.{SavesNew};
+    ghost use Rattle.line_help.specs.Saving.{SavesNew, SendsText};
 
     /// Writes the rows of the entries from the first one on, and passes on what was written.
     fn write_rows<S: Sink>(&self, sink: &mut S, first: usize) -> Result<(), ReadlineError>
-        ensures sends { Sends S.held S.has_failed
+        ensures { SendsText S.held S.has_failed
             (rows_text (drop first self.now.kept.entries)) sink.old sink.new result }
-        ensures fault { IfErr result (λ e. e ≡ HistoryText) }
     {
         for index in first..self.memory.len() {
             write_row(sink, self.memory[index].as_str())?;
@@ -122,9 +119,8 @@ impl FileHistory {
 }
 
 impl History for FileHistory {
-    ghost use Rattle.std.specs.Prelude.{◌≡◌, not, string_bytes, IfOk, IfErr, OnOk, OnErr, [], true, false};
-    ghost use Rattle.line_config.specs.declared.errors.ReadlineError.TheVariants.{Memory};
-    ghost use Rattle.line_help.specs.History.{ignored, filed_with, filed_resized, nothing_filed};
+    ghost use Rattle.std.specs.Prelude.{◌≡◌, string_bytes, IfOk, [], true, false};
+    ghost use Rattle.line_help.specs.History.{Grows, takes, filed_with, filed_resized, nothing_filed};
 
     ghost entries = { λ h. h.kept.entries };
 
@@ -135,11 +131,8 @@ impl History for FileHistory {
     }
 
     fn add(&mut self, alloc: Global, line: &str) -> Result<bool, ReadlineError>
-        ensures answer { IfOk result (λ b. b
-            ≡ not (ignored self.old.kept.settings self.old.kept.entries line.now)) }
-        ensures added { OnOk result (self.new ≡ filed_with self.old line.now) }
-        ensures kept { OnErr result (self.new ≡ self.old) }
-        ensures fault { IfErr result (λ e. e ≡ Memory) }
+        ensures answer { IfOk result (λ b. b ≡ takes self.old line.now) }
+        ensures grows { Grows self.old (filed_with self.old line.now) self.new result }
     {
         let added = self.memory.add(alloc, line)?;
         if added {
@@ -149,11 +142,8 @@ impl History for FileHistory {
     }
 
     fn add_owned(&mut self, alloc: Global, line: String) -> Result<bool, ReadlineError>
-        ensures answer { IfOk result (λ b. b
-            ≡ not (ignored self.old.kept.settings self.old.kept.entries (string_bytes line))) }
-        ensures added { OnOk result (self.new ≡ filed_with self.old (string_bytes line)) }
-        ensures kept { OnErr result (self.new ≡ self.old) }
-        ensures fault { IfErr result (λ e. e ≡ Memory) }
+        ensures answer { IfOk result (λ b. b ≡ takes self.old (string_bytes line)) }
+        ensures grows { Grows self.old (filed_with self.old (string_bytes line)) self.new result }
     {
         let added = self.memory.add_owned(alloc, line)?;
         if added {

@@ -1,8 +1,8 @@
 //! What a history does.
-ghost use Rattle.std.specs.Prelude.{◌≡◌, ◌==◌, ◌<◌, ℕ, List, [], length, not, IfOk, IfErr, IfSome, IsCharBoundary, OnOk, OnErr, option_map, string_bytes, true, false};
+ghost use Rattle.std.specs.Prelude.{◌≡◌, ◌==◌, ℕ, List, [], length, not, IfOk, IfErr, OnOk, OnErr, option_map, string_bytes, true, false};
 ghost use Rattle.line_config.specs.declared.errors.ReadlineError.TheVariants.{Memory};
 ghost use Rattle.line_help.specs.History.{Settings, ignored, added, newest};
-ghost use Rattle.line_help.specs.Search.{hit_of, entry_at, searched};
+ghost use Rattle.line_help.specs.Search.{Finds, hit_of, entry_at, searched};
 
 use crate::search::{SearchDirection, SearchResult};
 use line_config::ReadlineError;
@@ -73,10 +73,7 @@ pub trait History: Drop {
     /// The nearest entry that contains the term, from the entry at `start` on in the direction.
     /// There is none for the empty term, nor from a place after the last entry.
     fn search(&self, term: &str, start: usize, dir: SearchDirection) -> Option<SearchResult<'_>>
-        ensures found { option_map hit_of result
-            ≡ searched false term.now start dir (entries self.now) }
-        ensures inside { IfSome result (λ hit. hit.idx < length (entries self.now)) }
-        ensures boundary { IfSome result (λ hit. IsCharBoundary hit.entry.now hit.pos) };
+        ensures { Finds (searched false term.now start dir) (entries self.now) result };
 
     /// The same for an entry that begins with the term.
     fn starts_with(
@@ -85,8 +82,5 @@ pub trait History: Drop {
         start: usize,
         dir: SearchDirection,
     ) -> Option<SearchResult<'_>>
-        ensures found { option_map hit_of result
-            ≡ searched true term.now start dir (entries self.now) }
-        ensures inside { IfSome result (λ hit. hit.idx < length (entries self.now)) }
-        ensures boundary { IfSome result (λ hit. IsCharBoundary hit.entry.now hit.pos) };
+        ensures { Finds (searched true term.now start dir) (entries self.now) result };
 }

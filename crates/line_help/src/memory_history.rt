@@ -37,10 +37,9 @@ impl Model for MemHistory {
 }
 
 impl MemHistory {
-    ghost use Rattle.std.specs.Prelude.{◌≡◌, ◌<◌, [], ◌∷◌, ◌++◌, drop, IsTrue, IsFalse, IfErr, OnOk, OnErr};
+    ghost use Rattle.std.specs.Prelude.{◌≡◌, ◌<◌, [], ◌∷◌, ◌++◌, drop, IsTrue, IsFalse};
     ghost use Rattle.line_config.specs.Config.{default_config};
-    ghost use Rattle.line_config.specs.declared.errors.ReadlineError.TheVariants.{Memory};
-    ghost use Rattle.line_help.specs.History.{settings_of, nothing_kept, entries_with, newest, newest_is, ignored};
+    ghost use Rattle.line_help.specs.History.{Grows, settings_of, nothing_kept, entries_with, newest, newest_is, ignored};
     ghost use Rattle.line_help.specs.Iterated.{entries_left};
 
     /// A history with the default settings.
@@ -118,9 +117,7 @@ impl MemHistory {
     // Puts a copy of a text after the entries. The oldest one goes where there are too many.
     fn insert_copy(&mut self, alloc: Global, text: &str) -> Result<(), ReadlineError>
         requires { 0 < self.old.settings.max_len }
-        ensures entries { OnOk result (self.new ≡ entries_with self.old text.now) }
-        ensures kept { OnErr result (self.new ≡ self.old) }
-        ensures fault { IfErr result (λ e. e ≡ Memory) }
+        ensures { Grows self.old (entries_with self.old text.now) self.new result }
     {
         if self.entries.len() == self.max_len && self.replace_oldest(text) {
             return Ok(());
@@ -131,9 +128,7 @@ impl MemHistory {
     // Puts an entry after the others. The oldest one goes where there are too many.
     fn insert(&mut self, entry: Entry) -> Result<(), ReadlineError>
         requires { 0 < self.old.settings.max_len }
-        ensures entries { OnOk result (self.new ≡ entries_with self.old entry) }
-        ensures kept { OnErr result (self.new ≡ self.old) }
-        ensures fault { IfErr result (λ e. e ≡ Memory) }
+        ensures { Grows self.old (entries_with self.old entry) self.new result }
     {
         self.entries.push_back(entry)?;
         if self.entries.len() > self.max_len {
@@ -145,15 +140,13 @@ impl MemHistory {
 
 // The searches.
 impl MemHistory {
-    ghost use Rattle.std.specs.Prelude.{◌≡◌, ◌<◌, ◌≤◌, IfSome, IsCharBoundary, length, drop, take, reverse, option_map};
-    ghost use Rattle.line_help.specs.Search.{hit_of, hit_by, first_from, first_back, searched};
+    ghost use Rattle.std.specs.Prelude.{◌≤◌, length, drop, take, reverse};
+    ghost use Rattle.line_help.specs.Search.{Finds, hit_by, first_from, first_back, searched};
 
     #[tactic(auto, using(crate::proofs::SearchLemmas::from_steps))]
     fn first_from(&self, anchored: bool, term: &str, start: usize) -> Option<SearchResult<'_>>
-        ensures found { option_map hit_of result
-            ≡ first_from (hit_by anchored term.now) start (drop start self.now.entries) }
-        ensures inside { IfSome result (λ hit. hit.idx < length self.now.entries) }
-        ensures boundary { IfSome result (λ hit. IsCharBoundary hit.entry.now hit.pos) }
+        ensures { Finds (λ entries. first_from (hit_by anchored term.now) start (drop start entries))
+            self.now.entries result }
     {
         for idx in start..self.entries.len() {
             let entry = self.entries[idx].text().as_str();
@@ -167,10 +160,8 @@ impl MemHistory {
     #[tactic(auto, using(crate::proofs::SearchLemmas::back_steps))]
     fn first_back(&self, anchored: bool, term: &str, count: usize) -> Option<SearchResult<'_>>
         requires { count ≤ length self.now.entries }
-        ensures found { option_map hit_of result
-            ≡ first_back (hit_by anchored term.now) (reverse (take count self.now.entries)) }
-        ensures inside { IfSome result (λ hit. hit.idx < length self.now.entries) }
-        ensures boundary { IfSome result (λ hit. IsCharBoundary hit.entry.now hit.pos) }
+        ensures { Finds (λ entries. first_back (hit_by anchored term.now) (reverse (take count entries)))
+            self.now.entries result }
     {
         for idx in (0..count).rev() {
             let entry = self.entries[idx].text().as_str();
@@ -188,10 +179,7 @@ impl MemHistory {
         start: usize,
         dir: SearchDirection,
     ) -> Option<SearchResult<'_>>
-        ensures found { option_map hit_of result
-            ≡ searched anchored term.now start dir self.now.entries }
-        ensures inside { IfSome result (λ hit. hit.idx < length self.now.entries) }
-        ensures boundary { IfSome result (λ hit. IsCharBoundary hit.entry.now hit.pos) }
+        ensures { Finds (searched anchored term.now start dir) self.now.entries result }
     {
         if term.is_empty() || start >= self.entries.len() {
             return None;

@@ -1,20 +1,22 @@
 -- Tables one after the other.
 use Rattle.std.proofs.Common.{◌≡◌, ℕ, Bool, true, false, List, [], ◌∷◌, ◌++◌, refl, sym, ap, ◌∙◌, if◌then◌else◌}
-use Rattle.std.specs.Prelude.{Option, Some, None, option_map}
+use Rattle.std.specs.Prelude.{Option, Some, None}
 use Rattle.std.specs.Option.{option_or}
 use Rattle.line_config.specs.declared.settings.EditMode.{EditMode}
 use Rattle.line_keys.specs.declared.key.KeyCode.{KeyCode}
 use Rattle.line_keys.specs.declared.key.KeyEvent.{KeyEvent}
 use Rattle.line_keys.specs.declared.command.Cmd.{Cmd}
 use Rattle.line_keys.specs.declared.keymap.common.Deed.{Deed as CommonKey}
+use Rattle.line_keys.specs.declared.keymap.common.Deed.TheVariants.{Give as GiveCommon}
 use Rattle.line_keys.specs.declared.keymap.emacs.Deed.{Deed as EmacsKey}
+use Rattle.line_keys.specs.declared.keymap.emacs.Deed.TheVariants.{Give as GiveEmacs}
 use Rattle.line_keys.specs.declared.keymap.vi.motion.Motion.{Motion as MotionKey}
 use Rattle.line_keys.specs.declared.keymap.vi.table.Deed.{Deed as DeedKey}
+use Rattle.line_keys.specs.declared.keymap.vi.table.Deed.TheVariants.{Give}
 use Rattle.line_keys.specs.Common.{common_command_rows, common_reading_rows, common_deed}
 use Rattle.line_keys.specs.Emacs.{typed_rows, emacs_command_rows, emacs_reading_rows, emacs_deed}
-use Rattle.line_keys.specs.Meant.{meant, common_meant, emacs_meant, motion_meant}
 use Rattle.line_keys.specs.Refreshing.{Shown}
-use Rattle.line_keys.specs.Tables.{Gives, Row, has_key, first_row, look}
+use Rattle.line_keys.specs.Tables.{Row, has_key, first_row, look}
 use Rattle.line_keys.specs.ViMotions.{motion_rows, change_rows}
 use Rattle.line_keys.specs.ViTables.{vi_move_rows, vi_edit_rows, vi_turn_rows, vi_reading_rows, deed_of}
 
@@ -39,68 +41,68 @@ module _ {X : Type 0} (n : ℕ) (p : Bool) (k : KeyEvent) (xs ys : List (Row X))
 -- ---- both modes
 
 module _ (mode : EditMode) (shown : Shown) (n : ℕ) (p : Bool) (k : KeyEvent) where
-  pub common_first : (cmd : Cmd) → Some (Gives cmd) ≡ look n p k (common_command_rows mode shown) → Some (Gives cmd) ≡ common_deed mode shown n p k
+  pub common_first : (cmd : Cmd) → Some (GiveCommon cmd) ≡ look n p k (common_command_rows mode shown) → Some (GiveCommon cmd) ≡ common_deed mode shown n p k
   unfolding common_deed
-  common_first cmd is = in_first n p k (common_command_rows mode shown) common_reading_rows (Gives cmd) is
+  common_first cmd is = in_first n p k (common_command_rows mode shown) common_reading_rows (GiveCommon cmd) is
 
-  pub common_second : (o : Option CommonKey) → None ≡ look n p k (common_command_rows mode shown) → option_map common_meant o ≡ look n p k common_reading_rows
-      → option_map common_meant o ≡ common_deed mode shown n p k
+  pub common_second : (o : Option CommonKey) → None ≡ look n p k (common_command_rows mode shown) → o ≡ look n p k common_reading_rows
+      → o ≡ common_deed mode shown n p k
   unfolding common_deed
-  common_second o none is = in_rest n p k (common_command_rows mode shown) common_reading_rows (option_map common_meant o) none is
+  common_second o none is = in_rest n p k (common_command_rows mode shown) common_reading_rows o none is
 
 -- ---- Emacs
 
 module _ (shown : Shown) (n : ℕ) (p : Bool) (k : KeyEvent) where
-  pub emacs_first : (cmd : Cmd) → Some (Gives cmd) ≡ look n p k typed_rows → Some (Gives cmd) ≡ emacs_deed shown n p k
+  pub emacs_first : (cmd : Cmd) → Some (GiveEmacs cmd) ≡ look n p k typed_rows → Some (GiveEmacs cmd) ≡ emacs_deed shown n p k
   unfolding emacs_deed
-  emacs_first cmd is = in_first n p k typed_rows (emacs_command_rows shown ++ emacs_reading_rows) (Gives cmd) is
+  emacs_first cmd is = in_first n p k typed_rows (emacs_command_rows shown ++ emacs_reading_rows) (GiveEmacs cmd) is
 
-  pub emacs_second : (cmd : Cmd) → None ≡ look n p k typed_rows → Some (Gives cmd) ≡ look n p k (emacs_command_rows shown) → Some (Gives cmd) ≡ emacs_deed shown n p k
+  pub emacs_second : (cmd : Cmd) → None ≡ look n p k typed_rows → Some (GiveEmacs cmd) ≡ look n p k (emacs_command_rows shown) → Some (GiveEmacs cmd) ≡ emacs_deed shown n p k
   unfolding emacs_deed
   emacs_second cmd none is =
-      in_rest n p k typed_rows (emacs_command_rows shown ++ emacs_reading_rows) (Some (Gives cmd)) none
-      (in_first n p k (emacs_command_rows shown) emacs_reading_rows (Gives cmd) is)
+      in_rest n p k typed_rows (emacs_command_rows shown ++ emacs_reading_rows) (Some (GiveEmacs cmd)) none
+      (in_first n p k (emacs_command_rows shown) emacs_reading_rows (GiveEmacs cmd) is)
 
   pub emacs_third : (o : Option EmacsKey) → None ≡ look n p k typed_rows → None ≡ look n p k (emacs_command_rows shown)
-      → option_map emacs_meant o ≡ look n p k emacs_reading_rows → option_map emacs_meant o ≡ emacs_deed shown n p k
+      → o ≡ look n p k emacs_reading_rows → o ≡ emacs_deed shown n p k
   unfolding emacs_deed
   emacs_third o none nor is =
-      in_rest n p k typed_rows (emacs_command_rows shown ++ emacs_reading_rows) (option_map emacs_meant o) none
-      (in_rest n p k (emacs_command_rows shown) emacs_reading_rows (option_map emacs_meant o) nor is)
+      in_rest n p k typed_rows (emacs_command_rows shown ++ emacs_reading_rows) o none
+      (in_rest n p k (emacs_command_rows shown) emacs_reading_rows o nor is)
 
 -- ---- Vi
 
 module _ (n : ℕ) (k : KeyEvent) where
-  pub first_table : (cmd : Cmd) → Some (Gives cmd) ≡ look n true k vi_move_rows → Some (Gives cmd) ≡ deed_of n k
+  pub first_table : (cmd : Cmd) → Some (Give cmd) ≡ look n true k vi_move_rows → Some (Give cmd) ≡ deed_of n k
   unfolding deed_of
-  first_table cmd is = in_first n true k vi_move_rows (vi_edit_rows ++ (vi_turn_rows ++ vi_reading_rows)) (Gives cmd) is
+  first_table cmd is = in_first n true k vi_move_rows (vi_edit_rows ++ (vi_turn_rows ++ vi_reading_rows)) (Give cmd) is
 
-  pub second_table : (cmd : Cmd) → None ≡ look n true k vi_move_rows → Some (Gives cmd) ≡ look n true k vi_edit_rows → Some (Gives cmd) ≡ deed_of n k
+  pub second_table : (cmd : Cmd) → None ≡ look n true k vi_move_rows → Some (Give cmd) ≡ look n true k vi_edit_rows → Some (Give cmd) ≡ deed_of n k
   unfolding deed_of
   second_table cmd none is =
-      in_rest n true k vi_move_rows (vi_edit_rows ++ (vi_turn_rows ++ vi_reading_rows)) (Some (Gives cmd)) none
-      (in_first n true k vi_edit_rows (vi_turn_rows ++ vi_reading_rows) (Gives cmd) is)
+      in_rest n true k vi_move_rows (vi_edit_rows ++ (vi_turn_rows ++ vi_reading_rows)) (Some (Give cmd)) none
+      (in_first n true k vi_edit_rows (vi_turn_rows ++ vi_reading_rows) (Give cmd) is)
 
-  pub third_table : (deed : DeedKey) → None ≡ look n true k vi_move_rows → None ≡ look n true k vi_edit_rows → Some (meant deed) ≡ look n true k vi_turn_rows
-      → Some (meant deed) ≡ deed_of n k
+  pub third_table : (deed : DeedKey) → None ≡ look n true k vi_move_rows → None ≡ look n true k vi_edit_rows → Some deed ≡ look n true k vi_turn_rows
+      → Some deed ≡ deed_of n k
   unfolding deed_of
   third_table deed none nor is =
-      in_rest n true k vi_move_rows (vi_edit_rows ++ (vi_turn_rows ++ vi_reading_rows)) (Some (meant deed)) none
-      (in_rest n true k vi_edit_rows (vi_turn_rows ++ vi_reading_rows) (Some (meant deed)) nor
-      (in_first n true k vi_turn_rows vi_reading_rows (meant deed) is))
+      in_rest n true k vi_move_rows (vi_edit_rows ++ (vi_turn_rows ++ vi_reading_rows)) (Some deed) none
+      (in_rest n true k vi_edit_rows (vi_turn_rows ++ vi_reading_rows) (Some deed) nor
+      (in_first n true k vi_turn_rows vi_reading_rows deed is))
 
   pub fourth_table : (o : Option DeedKey) → None ≡ look n true k vi_move_rows → None ≡ look n true k vi_edit_rows → None ≡ look n true k vi_turn_rows
-      → option_map meant o ≡ look n true k vi_reading_rows → option_map meant o ≡ deed_of n k
+      → o ≡ look n true k vi_reading_rows → o ≡ deed_of n k
   unfolding deed_of
   fourth_table o none nor neither is =
-      in_rest n true k vi_move_rows (vi_edit_rows ++ (vi_turn_rows ++ vi_reading_rows)) (option_map meant o) none
-      (in_rest n true k vi_edit_rows (vi_turn_rows ++ vi_reading_rows) (option_map meant o) nor
-      (in_rest n true k vi_turn_rows vi_reading_rows (option_map meant o) neither is))
+      in_rest n true k vi_move_rows (vi_edit_rows ++ (vi_turn_rows ++ vi_reading_rows)) o none
+      (in_rest n true k vi_edit_rows (vi_turn_rows ++ vi_reading_rows) o nor
+      (in_rest n true k vi_turn_rows vi_reading_rows o neither is))
 
-  pub change_first : (motion : MotionKey) → Some (motion_meant motion) ≡ look n true k change_rows
-      → Some (motion_meant motion) ≡ option_or (look n true k change_rows) (look n true k motion_rows)
+  pub change_first : (motion : MotionKey) → Some motion ≡ look n true k change_rows
+      → Some motion ≡ option_or (look n true k change_rows) (look n true k motion_rows)
   change_first motion is = ap (λ o. option_or o (look n true k motion_rows)) is
 
-  pub motion_then : (o : Option MotionKey) → None ≡ look n true k change_rows → option_map motion_meant o ≡ look n true k motion_rows
-      → option_map motion_meant o ≡ option_or (look n true k change_rows) (look n true k motion_rows)
+  pub motion_then : (o : Option MotionKey) → None ≡ look n true k change_rows → o ≡ look n true k motion_rows
+      → o ≡ option_or (look n true k change_rows) (look n true k motion_rows)
   motion_then o none is = is ∙ ap (λ p. option_or p (look n true k motion_rows)) none

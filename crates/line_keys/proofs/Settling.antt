@@ -8,13 +8,25 @@ use Rattle.line_keys.specs.declared.command.Cmd.TheVariants.{Insert}
 use Rattle.line_keys.specs.declared.key.KeyEvent.{KeyEvent}
 use Rattle.line_keys.specs.Answers.{Custom}
 use Rattle.line_keys.specs.Commands.{holds_text, standing}
-use Rattle.line_keys.specs.Common.{CommonDeed, Pastes, common, common_deed, common_done, command_or, bound_or, decided, plain_char, sequence, terminal_command}
+use Rattle.line_keys.specs.declared.keymap.common.Deed.{Deed as CommonDeed}
+use Rattle.line_keys.specs.declared.keymap.common.Deed.TheVariants as commons
+use Rattle.line_keys.specs.declared.keymap.emacs.Deed.{Deed as EmacsDeed}
+use Rattle.line_keys.specs.declared.keymap.emacs.Deed.TheVariants as emacs_deeds
+use Rattle.line_keys.specs.declared.keymap.vi.motion.Motion.{Motion}
+use Rattle.line_keys.specs.declared.keymap.vi.motion.Motion.TheVariants as motions
+use Rattle.line_keys.specs.declared.keymap.vi.motion.Search.{Search}
+use Rattle.line_keys.specs.declared.keymap.vi.table.Deed.{Deed as CommandDeed}
+use Rattle.line_keys.specs.declared.keymap.vi.table.Deed.TheVariants as commands
+use Rattle.line_keys.specs.declared.keymap.vi.table.InsertDeed.{InsertDeed}
+use Rattle.line_keys.specs.declared.keymap.vi.table.InsertDeed.TheVariants as inserts
+use Rattle.line_keys.specs.Common.{common, common_deed, common_done, command_or, bound_or, decided, plain_char, sequence, terminal_command}
 use Rattle.line_keys.specs.Counts.{Counted, counted_key, counting, counting_or, counting_read, counting_by}
-use Rattle.line_keys.specs.Custom.{Situation, Followed, Bound, Unbound, following, following_upto, followed, bound_by, sequence_answer}
+use Rattle.line_keys.specs.declared.keymap.custom.Followed.{Followed}
+use Rattle.line_keys.specs.declared.keymap.custom.Followed.TheVariants.{Bound, Unbound}
+use Rattle.line_keys.specs.Custom.{Situation, following, following_upto, followed, bound_by, sequence_answer}
 use Rattle.line_keys.specs.Counts.{begun_by, counted_on, how_often, is_plus}
 use Rattle.line_keys.specs.Custom.{situation, custom_answer}
-use Rattle.line_keys.specs.Tables.{Deed, Gives, Does, done}
-use Rattle.line_keys.specs.Emacs.{EmacsDeed, SeeksChar, LeadsOn, after_first_key, emacs_command, emacs_counted, emacs_decided, emacs_deed, emacs_done, emacs_phrase, move_to_char, second_command}
+use Rattle.line_keys.specs.Emacs.{after_first_key, emacs_command, emacs_counted, emacs_decided, emacs_deed, emacs_done, emacs_phrase, move_to_char, second_command}
 use Rattle.line_keys.specs.Feeds.{InputItem, Item, Key, Paste}
 use Rattle.line_config.specs.Scripts.{Ends, Asks}
 use Rattle.line_keys.specs.Phrase.{phrase, phrase_from}
@@ -31,11 +43,11 @@ use Rattle.line_keys.specs.declared.key.KeyCode.TheVariants.{Char}
 use Rattle.line_keys.specs.Keys.{key_with, none}
 use Rattle.line_keys.specs.Modes.{takes_commands}
 use Rattle.line_keys.specs.SameKeys.{same_key}
-use Rattle.line_keys.specs.Vi.{in_mode, key_replacement, operated, move_or, is_new, remembering, with_last, command_done, command_table, insert_done, insert_table, vi_counted, vi_command, vi_insert, changed, typed, entered}
+use Rattle.line_keys.specs.Vi.{changes, command_of, in_mode, key_replacement, operated, move_or, is_new, remembering, with_last, command_done, command_table, insert_done, insert_table, vi_counted, vi_command, vi_insert, changed, typed, entered}
 use Rattle.line_keys.specs.ViCounts.{multiplied, typed_count}
-use Rattle.line_keys.specs.ViMotions.{Motion, Goes as GoesTo, Seeks, SeeksAgain, SeeksBack, motion_done, motion_of, motion_after, change, counted_motion, vi_motion}
-use Rattle.line_keys.specs.ViSearches.{found, sought}
-use Rattle.line_keys.specs.ViTables.{CommandDeed, Inserts, Turns, Operates, Searches, SearchesAgain, SearchesBack, Repeats, Replaces, deed_of, InsertDeed, Types, Leaves, Commands, insert_deed}
+use Rattle.line_keys.specs.ViMotions.{motion_done, motion_of, motion_after, change, counted_motion, vi_motion}
+use Rattle.line_keys.specs.ViSearches.{found, search_of, sought}
+use Rattle.line_keys.specs.ViTables.{deed_of, insert_deed}
 
 -- ---- parts
 
@@ -104,11 +116,6 @@ command_settles : (p : Part Cmd) (o : Option Cmd) → Settled p → Settled (com
 command_settles p (Some cmd) h = answered_settles cmd
 command_settles p None h = h
 
-done_settles : {Own : Type 0} (own : Own → Part Cmd) (other : Part Cmd) (o : Option (Deed Own)) → ((x : Own) → Settled (own x)) → Settled other → Settled (done own other o)
-done_settles own other (Some (Gives cmd)) h k = answered_settles cmd
-done_settles own other (Some (Does x)) h k = h x
-done_settles own other None h k = k
-
 anew_settles : (other cmd : Cmd) (new : Option ℕ) (shown : Shown) → Settled (anew_or other new shown cmd)
 anew_settles other cmd new shown =
     let made = anew other new shown cmd in needing_settles (holds_text made) (answered made) (answered_settles made)
@@ -156,11 +163,13 @@ followed_settles s k = needing_settles (s.custom.begins (k ∷ [])) (following s
 sequence_settles : (s : Situation) (k : KeyEvent) → Settled (sequence s k)
 sequence_settles s k = then_settles _ (λ f i w. answered_settles _) (followed s k) s.input s.shown (followed_settles s k)
 
-common_done_settles : (deed : CommonDeed) → Settled (common_done deed)
-common_done_settles Pastes = read_settles Paste (λ text. answered (Insert 1 text)) (λ text. answered_settles (Insert 1 text))
+common_done_settles : (s : Situation) (k : KeyEvent) (o : Option CommonDeed) → Settled (common_done s k o)
+common_done_settles s k (Some (commons.Give cmd)) = answered_settles cmd
+common_done_settles s k (Some commons.Paste) = read_settles Paste (λ text. answered (Insert 1 text)) (λ text. answered_settles (Insert 1 text))
+common_done_settles s k None = sequence_settles s k
 
 common_settles : (s : Situation) (k : KeyEvent) → Settled (common s k)
-common_settles s k = done_settles common_done (sequence s k) (common_deed s.input.mode s.shown s.n s.positive k) common_done_settles (sequence_settles s k)
+common_settles s k = common_done_settles s k (common_deed s.input.mode s.shown s.n s.positive k)
 
 bound_key_settles : (new : Option ℕ) (s : Situation) (p : Part Cmd) → Settled p → (o : Option Cmd) → Settled (bound_or new s p o)
 bound_key_settles new s p h (Some cmd) = anew_settles cmd cmd new s.shown
@@ -178,13 +187,15 @@ after_first_settles n positive (Bound cmd) = answered_settles cmd
 after_first_settles n positive (Unbound (Some k)) = answered_settles (second_command n positive k)
 after_first_settles n positive (Unbound None) = key_settles (second_command n positive)
 
-emacs_done_settles : (s : Situation) (k : KeyEvent) (deed : EmacsDeed) → Settled (emacs_done s k deed)
-emacs_done_settles s k (SeeksChar search) = key_settles (λ next. move_to_char s.n search (plain_char next))
-emacs_done_settles s k LeadsOn =
+emacs_done_settles : (s : Situation) (k : KeyEvent) (o : Option EmacsDeed) → Settled (emacs_done s k o)
+emacs_done_settles s k (Some (emacs_deeds.Give cmd)) = answered_settles cmd
+emacs_done_settles s k (Some (emacs_deeds.Seek search)) = key_settles (λ next. move_to_char s.n (search_of search) (plain_char next))
+emacs_done_settles s k (Some emacs_deeds.LeadOn) =
     then_settles (λ f input shown. after_first_key s.n s.positive f) (λ f i w. after_first_settles s.n s.positive f) (followed s k) s.input s.shown (followed_settles s k)
+emacs_done_settles s k None = common_settles s k
 
 emacs_command_settles : (s : Situation) (k : KeyEvent) → Settled (emacs_command s k)
-emacs_command_settles s k = done_settles (emacs_done s k) (common s k) (emacs_deed s.shown s.n s.positive k) (emacs_done_settles s k) (common_settles s k)
+emacs_command_settles s k = emacs_done_settles s k (emacs_deed s.shown s.n s.positive k)
 
 emacs_decided_settles : (s : Situation) (k : KeyEvent) → Settled (emacs_decided s k)
 emacs_decided_settles s k = key_decided_settles (Some s.n) s k (emacs_command s k) (emacs_command_settles s k)
@@ -195,18 +206,18 @@ emacs_settles custom i w k =
 
 -- ---- Vi
 
-found_settles : (search : ℕ → _) (n : ℕ) (i : Input) (o : Option ℕ) → Settled (found search n i o)
+found_settles : (search : Search) (n : ℕ) (i : Input) (o : Option ℕ) → Settled (found search n i o)
 found_settles search n i (Some char) = becoming_settles _ _ (answered_settles _)
 found_settles search n i None = answered_settles None
 
-sought_settles : (search : ℕ → _) (n : ℕ) (i : Input) → Settled (sought search n i)
+sought_settles : (search : Search) (n : ℕ) (i : Input) → Settled (sought search n i)
 sought_settles search n i = read_settles Key (λ k. found search n i (plain_char k)) (λ k. found_settles search n i (plain_char k))
 
 motion_settles : (n : ℕ) (i : Input) (o : Option Motion) → Settled (motion_done n i o)
-motion_settles n i (Some (GoesTo m)) = answered_settles _
-motion_settles n i (Some (Seeks search)) = sought_settles search n i
-motion_settles n i (Some SeeksAgain) = answered_settles _
-motion_settles n i (Some SeeksBack) = answered_settles _
+motion_settles n i (Some (motions.Go m)) = answered_settles _
+motion_settles n i (Some (motions.Seek search)) = sought_settles search n i
+motion_settles n i (Some motions.Again) = answered_settles _
+motion_settles n i (Some motions.Back) = answered_settles _
 motion_settles n i None = answered_settles _
 
 motion_key_settles : (operator : KeyEvent) (n : ℕ) (i : Input) (w : Shown) (k : KeyEvent) → Settled (motion_after operator n i w k)
@@ -218,22 +229,24 @@ motion_key_settles operator n i w k =
 vi_motion_settles : (operator : KeyEvent) (n : ℕ) (i : Input) (w : Shown) → Settled (vi_motion operator n i w)
 vi_motion_settles operator n i w = read_settles Key (motion_after operator n i w) (motion_key_settles operator n i w)
 
-command_done_settles : (new : Option ℕ) (s : Situation) (k : KeyEvent) (deed : CommandDeed) → Settled (command_done new s k deed)
-command_done_settles new s k (Inserts cmd) = becoming_settles _ _ (inserting_settles _ (λ w. answered_settles cmd))
-command_done_settles new s k (Turns mode cmd) = becoming_settles _ _ (answered_settles cmd)
-command_done_settles new s k (Operates changes operator) = becoming_settles _ _
-    (then_settles (λ m j v. answered (operated operator m)) (λ m j v. answered_settles (operated operator m)) (vi_motion k s.n (entered changes s.input) s.shown) (entered changes s.input) s.shown
-    (vi_motion_settles k s.n (entered changes s.input) s.shown))
-command_done_settles new s k (Searches search) =
+command_done_settles : (new : Option ℕ) (s : Situation) (k : KeyEvent) (o : Option CommandDeed) → Settled (command_done new s k o)
+command_done_settles new s k (Some (commands.Give cmd)) = answered_settles cmd
+command_done_settles new s k (Some (commands.Insert cmd)) = becoming_settles _ _ (inserting_settles _ (λ w. answered_settles cmd))
+command_done_settles new s k (Some (commands.Turn mode cmd)) = becoming_settles _ _ (answered_settles cmd)
+command_done_settles new s k (Some (commands.Operate o)) = becoming_settles _ _
+    (then_settles (λ m j v. answered (operated (command_of o) m)) (λ m j v. answered_settles (operated (command_of o) m)) (vi_motion k s.n (entered (changes o) s.input) s.shown) (entered (changes o) s.input) s.shown
+    (vi_motion_settles k s.n (entered (changes o) s.input) s.shown))
+command_done_settles new s k (Some (commands.Search search)) =
     then_settles (λ m j v. answered (move_or Unknown m)) (λ m j v. answered_settles (move_or Unknown m)) (sought search s.n s.input) s.input s.shown (sought_settles search s.n s.input)
-command_done_settles new s k SearchesAgain = answered_settles _
-command_done_settles new s k SearchesBack = answered_settles _
-command_done_settles new s k Repeats = anew_settles Noop s.input.last new s.shown
-command_done_settles new s k Replaces = key_settles (key_replacement s.n)
+command_done_settles new s k (Some commands.Again) = answered_settles _
+command_done_settles new s k (Some commands.Back) = answered_settles _
+command_done_settles new s k (Some commands.Repeat) = anew_settles Noop s.input.last new s.shown
+command_done_settles new s k (Some commands.Replace) = key_settles (key_replacement s.n)
+command_done_settles new s k None = common_settles s k
 
 table_settles : (new : Option ℕ) (s : Situation) (k : KeyEvent) → Settled (command_table new s k)
 unfolding command_table
-table_settles new s k = done_settles (command_done new s k) (common s k) (deed_of s.n k) (command_done_settles new s k) (common_settles s k)
+table_settles new s k = command_done_settles new s k (deed_of s.n k)
 
 remembering_settles : (is : Bool) (cmd : Cmd) (i : Input) → Settled (remembering is cmd i)
 remembering_settles true cmd i = needing_settles (holds_text cmd) _ (becoming_settles (with_last cmd i) (answered cmd) (answered_settles cmd))
@@ -250,14 +263,16 @@ vi_command_settles : (custom : Custom) (k : KeyEvent) (i : Input) (w : Shown) �
 unfolding vi_command
 vi_command_settles custom k i w = then_settles (vi_counted custom) (counted_command_settles custom) (counted_key i.mode k) i w (key_counted_settles i.mode k)
 
-insert_done_settles : (custom : Custom) (i : Input) (w : Shown) (deed : InsertDeed) → Settled (insert_done custom i w deed)
-insert_done_settles custom i w (Types char) = answered_settles _
-insert_done_settles custom i w (Leaves cmd) = becoming_settles _ _ (inserted_settles _ (λ v. answered_settles cmd))
-insert_done_settles custom i w (Commands char) = becoming_settles _ _ (inserted_settles _ (vi_command_settles custom (key_with (Char char) none) (in_mode Command i)))
+insert_done_settles : (custom : Custom) (i : Input) (w : Shown) (k : KeyEvent) (o : Option InsertDeed) → Settled (insert_done custom i w k o)
+insert_done_settles custom i w k (Some (inserts.Give cmd)) = answered_settles cmd
+insert_done_settles custom i w k (Some (inserts.Typed char)) = answered_settles _
+insert_done_settles custom i w k (Some (inserts.Leave cmd)) = becoming_settles _ _ (inserted_settles _ (λ v. answered_settles cmd))
+insert_done_settles custom i w k (Some (inserts.Command char)) = becoming_settles _ _ (inserted_settles _ (vi_command_settles custom (key_with (Char char) none) (in_mode Command i)))
+insert_done_settles custom i w k None = common_settles (situation custom i w 1 true) k
 
 insert_table_settles : (custom : Custom) (i : Input) (w : Shown) (k : KeyEvent) → Settled (insert_table custom i w k)
 unfolding insert_table
-insert_table_settles custom i w k = done_settles (insert_done custom i w) (common (situation custom i w 1 true) k) (insert_deed w k) (insert_done_settles custom i w) (common_settles (situation custom i w 1 true) k)
+insert_table_settles custom i w k = insert_done_settles custom i w k (insert_deed w k)
 
 insert_settles : (custom : Custom) (k : KeyEvent) (i : Input) (w : Shown) → Settled (vi_insert custom k i w)
 unfolding vi_insert

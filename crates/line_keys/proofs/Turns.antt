@@ -9,7 +9,9 @@ use Rattle.line_keys.specs.declared.events.Event.TheVariants.{KeySeq}
 use Rattle.line_keys.specs.Answers.{Custom, Decides}
 use Rattle.line_keys.specs.Coming.{key_at}
 use Rattle.line_keys.specs.Counts.{Counted, counting, counting_read, counting_by, prompt_for}
-use Rattle.line_keys.specs.Custom.{Situation, Followed, Bound, Unbound, following, following_upto, followed, bound_by, sequence_answer, shown_for}
+use Rattle.line_keys.specs.declared.keymap.custom.Followed.{Followed}
+use Rattle.line_keys.specs.declared.keymap.custom.Followed.TheVariants.{Bound, Unbound}
+use Rattle.line_keys.specs.Custom.{Situation, following, following_upto, followed, bound_by, sequence_answer, shown_for}
 use Rattle.line_keys.specs.Feeds.{KeyFeed, Key, ReadsBy}
 use Rattle.line_keys.specs.Follows.{Follows}
 use Rattle.line_keys.specs.Refreshing.{Line, Prompted, KnownDisplay, Draws}

@@ -11,15 +11,19 @@ use Rattle.line_keys.specs.declared.command.Cmd.TheVariants.{AcceptOrInsertLine,
 use Rattle.line_keys.specs.declared.key.KeyCode.{KeyCode}
 use Rattle.line_keys.specs.declared.key.KeyCode.TheVariants.{BracketedPasteStart, Char, Delete, Down, End, Enter, Home, Left, Right, UnknownEscSeq, Up}
 use Rattle.line_keys.specs.declared.key.KeyEvent.{KeyEvent}
-use Rattle.line_keys.specs.Custom.{Situation, Followed, Bound, Unbound, custom_answer, followed}
+use Rattle.line_keys.specs.Custom.{Situation, custom_answer, followed}
+use Rattle.line_keys.specs.declared.keymap.common.Deed.{Deed}
+use Rattle.line_keys.specs.declared.keymap.common.Deed.TheVariants.{Give, Paste}
+use Rattle.line_keys.specs.declared.keymap.custom.Followed.{Followed}
+use Rattle.line_keys.specs.declared.keymap.custom.Followed.TheVariants.{Bound, Unbound}
 use Rattle.line_keys.specs.Keys.{none, ctrl}
 use Rattle.line_keys.specs.Modes.{is_emacs}
 use Rattle.line_keys.specs.Phrases.{Part, answered, and_then, deciding, with_paste}
 use Rattle.line_keys.specs.Redone.{anew_or}
 use Rattle.line_keys.specs.Refreshing.{Shown}
 use Rattle.line_keys.specs.Signals.{signal_of}
-use Rattle.line_keys.specs.Tables.{Deed, Gives, Does, Row, always, by_count, by_sign, moves, kills}
-use Rattle.line_keys.specs.Tables.{named, char, only, look, done}
+use Rattle.line_keys.specs.Tables.{Row, always, by_count, by_sign, moves, kills}
+use Rattle.line_keys.specs.Tables.{named, char, only, look}
 
 abbrev pub has_text : Shown → Bool
 has_text shown = not (length shown.line == 0)
@@ -38,49 +42,42 @@ plain_char k = char_code k.0 k.1.0
 
 -- ---- the table
 
-pub data CommonDeed : Type 0 where
-  -- inserts the pasted text, which is read
-  Pastes : CommonDeed
-
-abbrev pub common_command_rows : EditMode → Shown → List (Row (Deed CommonDeed))
+abbrev pub common_command_rows : EditMode → Shown → List (Row Deed)
 common_command_rows mode shown =
-    named Home none (always (Gives (Move BeginningOfLine)))
-    ∷ named End none (always (Gives (Move EndOfLine)))
-    ∷ named Left none (moves BackwardChar ForwardChar)
-    ∷ named Right none (moves ForwardChar BackwardChar)
-    ∷ named Up none (always (Gives (LineUpOrPreviousHistory 1)))
-    ∷ named Down none (always (Gives (LineDownOrNextHistory 1)))
-    ∷ named Delete none (kills ForwardChar BackwardChar)
+    named Home none (always (Give (Move BeginningOfLine)))
+    ∷ named End none (always (Give (Move EndOfLine)))
+    ∷ named Left none (moves Give BackwardChar ForwardChar)
+    ∷ named Right none (moves Give ForwardChar BackwardChar)
+    ∷ named Up none (always (Give (LineUpOrPreviousHistory 1)))
+    ∷ named Down none (always (Give (LineDownOrNextHistory 1)))
+    ∷ named Delete none (kills Give ForwardChar BackwardChar)
     ∷ only (has_text shown && is_emacs mode)
-    (char (codes "D") ctrl (kills ForwardChar BackwardChar))
-    ∷ only (has_text shown) (char (codes "D") ctrl (always (Gives EndOfFile)))
-    ∷ char (codes "U") ctrl (kills (λ n. BeginningOfLine) (λ n. EndOfLine))
-    ∷ char (codes "W") ctrl (kills (λ n. BackwardWord n Big) (λ n. ForwardWord n AfterEnd Big))
-    ∷ char (codes "Y") ctrl (by_sign (λ n. Gives (Yank n Before)) (λ n. Gives Unknown))
-    ∷ char (codes "T") ctrl (always (Gives TransposeChars))
-    ∷ char (codes "_") ctrl (by_count (λ n. Gives (Undo n)))
-    ∷ named Enter none (always (Gives (AcceptOrInsertLine true)))
-    ∷ char (codes "J") ctrl (always (Gives (AcceptOrInsertLine true)))
-    ∷ char (codes "M") ctrl (always (Gives (AcceptOrInsertLine true)))
-    ∷ char (codes "R") ctrl (always (Gives ReverseSearchHistory))
-    ∷ char (codes "S") ctrl (always (Gives ForwardSearchHistory))
-    ∷ char (codes "Q") ctrl (always (Gives QuotedInsert))
-    ∷ char (codes "V") ctrl (always (Gives QuotedInsert))
-    ∷ named UnknownEscSeq none (always (Gives Noop))
+    (char (codes "D") ctrl (kills Give ForwardChar BackwardChar))
+    ∷ only (has_text shown) (char (codes "D") ctrl (always (Give EndOfFile)))
+    ∷ char (codes "U") ctrl (kills Give (λ n. BeginningOfLine) (λ n. EndOfLine))
+    ∷ char (codes "W") ctrl (kills Give (λ n. BackwardWord n Big) (λ n. ForwardWord n AfterEnd Big))
+    ∷ char (codes "Y") ctrl (by_sign (λ n. Give (Yank n Before)) (λ n. Give Unknown))
+    ∷ char (codes "T") ctrl (always (Give TransposeChars))
+    ∷ char (codes "_") ctrl (by_count (λ n. Give (Undo n)))
+    ∷ named Enter none (always (Give (AcceptOrInsertLine true)))
+    ∷ char (codes "J") ctrl (always (Give (AcceptOrInsertLine true)))
+    ∷ char (codes "M") ctrl (always (Give (AcceptOrInsertLine true)))
+    ∷ char (codes "R") ctrl (always (Give ReverseSearchHistory))
+    ∷ char (codes "S") ctrl (always (Give ForwardSearchHistory))
+    ∷ char (codes "Q") ctrl (always (Give QuotedInsert))
+    ∷ char (codes "V") ctrl (always (Give QuotedInsert))
+    ∷ named UnknownEscSeq none (always (Give Noop))
     ∷ []
 
-abbrev pub common_reading_rows : List (Row (Deed CommonDeed))
-common_reading_rows = named BracketedPasteStart none (always (Does Pastes)) ∷ []
+abbrev pub common_reading_rows : List (Row Deed)
+common_reading_rows = named BracketedPasteStart none (always Paste) ∷ []
 
-abbrev pub common_rows : EditMode → Shown → List (Row (Deed CommonDeed))
+abbrev pub common_rows : EditMode → Shown → List (Row Deed)
 common_rows mode shown = common_command_rows mode shown ++ common_reading_rows
 
 -- what a key does in both modes, if a row has it
-unfoldable pub common_deed : EditMode → Shown → ℕ → Bool → KeyEvent → Option (Deed CommonDeed)
+unfoldable pub common_deed : EditMode → Shown → ℕ → Bool → KeyEvent → Option Deed
 common_deed mode shown n positive k = look n positive k (common_rows mode shown)
-
-abbrev pub common_done : CommonDeed → Part Cmd
-common_done Pastes = with_paste (λ text. answered (Insert 1 text))
 
 -- ---- a key that no row has
 
@@ -92,9 +89,13 @@ bound_command (Unbound second) = Unknown
 abbrev pub sequence : Situation → KeyEvent → Part Cmd
 sequence s k = and_then s.input s.shown (followed s k) (λ f input shown. answered (bound_command f))
 
+abbrev pub common_done : Situation → KeyEvent → Option Deed → Part Cmd
+common_done s k (Some (Give cmd)) = answered cmd
+common_done s k (Some Paste) = with_paste (λ text. answered (Insert 1 text))
+common_done s k None = sequence s k
+
 abbrev pub common : Situation → KeyEvent → Part Cmd
-common s k =
-    done common_done (sequence s k) (common_deed s.input.mode s.shown s.n s.positive k)
+common s k = common_done s k (common_deed s.input.mode s.shown s.n s.positive k)
 
 -- ---- before the tables
 

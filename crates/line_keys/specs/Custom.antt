@@ -7,6 +7,8 @@ use Rattle.line_keys.specs.declared.command.Cmd.{Cmd}
 use Rattle.line_keys.specs.declared.events.Event.{Event}
 use Rattle.line_keys.specs.declared.events.Event.TheVariants.{Any, KeySeq}
 use Rattle.line_keys.specs.declared.key.KeyEvent.{KeyEvent}
+use Rattle.line_keys.specs.declared.keymap.custom.Followed.{Followed}
+use Rattle.line_keys.specs.declared.keymap.custom.Followed.TheVariants.{Bound, Unbound}
 use Rattle.line_keys.specs.Answers.{Custom, answer_by}
 use Rattle.line_keys.specs.Events.{single}
 use Rattle.line_keys.specs.Feeds.{Key}
@@ -57,13 +59,6 @@ sequence_answer s keys =
     taking (answer_by (s.custom.answers (KeySeq keys)) (shown_for s (KeySeq keys)))
 
 -- ---- sequences: while the keys so far begin a bound one, or are it, one more is read
-
--- what came of a sequence of keys
-pub data Followed : Type 0 where
-  -- it is bound to this command
-  Bound : (command : Cmd) → Followed
-  -- it isn't, and its second key, if it was read, was this
-  Unbound : (second : Option KeyEvent) → Followed
 
 -- a command ends the sequence, and where there is none the sequence goes on
 abbrev pub bound_by : Steps Followed → Option Cmd → Steps Followed

@@ -1,14 +1,18 @@
--- The value of an input state, and what it makes of a key's surroundings.
-use Rattle.std.specs.Prelude.{ℕ, Bool, None}
+-- The value of an input state, what it makes of a key's surroundings, and what its calls do.
+use Rattle.std.specs.Prelude.{ℕ, Bool, None, Option, Result}
+use Rattle.line_config.specs.declared.errors.ReadlineError.{ReadlineError}
 use Rattle.line_config.specs.declared.settings.EditMode.{EditMode}
 use Rattle.line_keys.specs.declared.command.Cmd.TheVariants.{Noop}
 use Rattle.line_keys.specs.declared.command.InputMode.TheVariants.{Insert}
 use Rattle.line_keys.specs.declared.keymap.InputState.{InputState}
-use Rattle.line_keys.specs.Answers.{Custom, custom_of}
+use Rattle.line_keys.specs.Answers.{Custom, Decides, custom_of}
 use Rattle.line_keys.specs.Custom.{Situation, situation}
+use Rattle.line_keys.specs.Feeds.{KeyFeed}
+use Rattle.line_keys.specs.Follows.{Follows}
 use Rattle.line_keys.specs.Handling.{Meaning}
-use Rattle.line_keys.specs.Phrases.{Input}
-use Rattle.line_keys.specs.Refreshing.{Shown}
+use Rattle.line_keys.specs.Phrases.{Input, Part}
+use Rattle.line_keys.specs.Refreshing.{Shown, KnownDisplay}
+use Rattle.line_keys.specs.Replies.{Reply}
 
 abbrev pub input_of : {D : Type 0} → InputState D → Input
 input_of s = record {
@@ -28,3 +32,16 @@ situation_in s means shown n positive = situation (custom_in s means) (input_of 
 -- what a new state remembers: nothing
 abbrev pub new_input : EditMode → Input
 new_input mode = record { mode = mode; input_mode = Insert; last = Noop; search = None }
+
+-- a binding is asked, and the reply is as the situation says
+abbrev pub DecidesIn : {D A : Type 0} → (Situation → Reply A) → InputState D → (D → Meaning) → Shown
+    → ℕ → Bool → Result A ReadlineError → Type 0
+DecidesIn reply s means shown n positive result =
+    Decides (reply (situation_in s means shown n positive)) result
+
+-- the part that the situation says is followed, and nothing is kept nor asked of the display
+abbrev pub FollowsIn : {D S X : Type 0} → (Situation → Part X) → InputState D → (D → Meaning)
+    → KnownDisplay S → S → ℕ → Bool → KeyFeed → KeyFeed → Result X ReadlineError → Type 0
+FollowsIn part state means display wrt n positive feed feed' result =
+    let s = situation_in state means (display.shown wrt) n positive in
+    Follows display s.custom (part s) wrt s.input wrt s.input feed feed' result

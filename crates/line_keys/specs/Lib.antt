@@ -13,7 +13,6 @@ pub mod Follows
 pub mod Handling
 pub mod InputStates
 pub mod Keys
-pub mod Meant
 pub mod Modes
 pub mod Movements
 pub mod Phrase

@@ -8,20 +8,6 @@ use Rattle.line_keys.specs.declared.flags.Modifiers.{Modifiers}
 use Rattle.line_keys.specs.declared.key.KeyCode.{KeyCode}
 use Rattle.line_keys.specs.declared.key.KeyCode.TheVariants.{BackTab, Backspace, BracketedPasteStart, Char, Delete, Down, End, Enter, Esc, Home, Left, Right, Tab, UnknownEscSeq, Up}
 use Rattle.line_keys.specs.declared.key.KeyEvent.{KeyEvent}
-use Rattle.line_keys.specs.Phrases.{Part, answered}
-
--- ---- what a key does
-
--- it gives a command, or something that is the table's own
-pub data Deed (Own : Type 0) : Type 0 where
-  Gives : (command : Cmd) → Deed Own
-  Does : (own : Own) → Deed Own
-
--- what a row says; a key that no row has does the other
-abbrev pub done : {Own : Type 0} → (Own → Part Cmd) → Part Cmd → Option (Deed Own) → Part Cmd
-done own other (Some (Gives command)) = answered command
-done own other (Some (Does deed)) = own deed
-done own other None = other
 
 -- ---- what a row gives: by the count, which is its amount and whether it isn't negative
 
@@ -41,12 +27,12 @@ abbrev pub by_sign : {X : Type 0} → (ℕ → X) → (ℕ → X) → Giving X
 by_sign plus minus n positive = if positive then plus n else minus n
 
 -- a motion by sign
-abbrev pub moves : {Own : Type 0} → (ℕ → Movement) → (ℕ → Movement) → Giving (Deed Own)
-moves plus minus n positive = Gives (Move (if positive then plus n else minus n))
+abbrev pub moves : {X : Type 0} → (Cmd → X) → (ℕ → Movement) → (ℕ → Movement) → Giving X
+moves give plus minus n positive = give (Move (if positive then plus n else minus n))
 
 -- a kill by sign
-abbrev pub kills : {Own : Type 0} → (ℕ → Movement) → (ℕ → Movement) → Giving (Deed Own)
-kills plus minus n positive = Gives (Kill (if positive then plus n else minus n))
+abbrev pub kills : {X : Type 0} → (Cmd → X) → (ℕ → Movement) → (ℕ → Movement) → Giving X
+kills give plus minus n positive = give (Kill (if positive then plus n else minus n))
 
 -- ---- rows
 

@@ -5,11 +5,17 @@ use Rattle.line_buffer.specs.declared.types.Movement.{Movement}
 use Rattle.line_config.specs.declared.errors.ReadlineError.{ReadlineError}
 use Rattle.line_config.specs.declared.errors.ReadlineError.TheVariants.{Memory}
 use Rattle.line_keys.specs.declared.command.Cmd.{Cmd}
-use Rattle.line_keys.specs.declared.command.Cmd.TheVariants.{Move, Noop, Overwrite, Replace, SelfInsert, Unknown}
+use Rattle.line_keys.specs.declared.command.Cmd.TheVariants.{Dedent, Indent, Kill, Move, Noop, Overwrite, Replace, SelfInsert, Unknown, ViYankTo}
 use Rattle.line_keys.specs.declared.command.InputMode.{InputMode}
 use Rattle.line_keys.specs.declared.command.InputMode.TheVariants.{Command, Insert, Replace as Overwriting}
 use Rattle.line_keys.specs.declared.key.KeyCode.TheVariants.{Char}
 use Rattle.line_keys.specs.declared.key.KeyEvent.{KeyEvent}
+use Rattle.line_keys.specs.declared.keymap.vi.table.Deed.{Deed}
+use Rattle.line_keys.specs.declared.keymap.vi.table.Deed.TheVariants as deed
+use Rattle.line_keys.specs.declared.keymap.vi.table.InsertDeed.{InsertDeed}
+use Rattle.line_keys.specs.declared.keymap.vi.table.InsertDeed.TheVariants as inserting
+use Rattle.line_keys.specs.declared.keymap.vi.table.Operator.{Operator}
+use Rattle.line_keys.specs.declared.keymap.vi.table.Operator.TheVariants as operators
 use Rattle.line_keys.specs.Answers.{Custom}
 use Rattle.line_keys.specs.Commands.{holds_text, standing}
 use Rattle.line_keys.specs.Common.{common, decided}
@@ -20,12 +26,11 @@ use Rattle.line_keys.specs.Modes.{takes_commands}
 use Rattle.line_keys.specs.Phrases.{Input, Part, answered, asking, becoming, from_key, needing, and_then}
 use Rattle.line_keys.specs.Redone.{anew_or}
 use Rattle.line_keys.specs.Refreshing.{Shown, DoingInsert, DoneInserting}
-use Rattle.line_keys.specs.Tables.{look, done}
+use Rattle.line_keys.specs.Tables.{look}
 use Rattle.line_keys.specs.ViCounts.{typed_count}
 use Rattle.line_keys.specs.ViMotions.{vi_motion}
 use Rattle.line_keys.specs.ViSearches.{opposite_of, searching, sought}
-use Rattle.line_keys.specs.ViTables.{CommandDeed, Inserts, Turns, Operates, Searches, SearchesAgain, SearchesBack, Repeats, Replaces, deed_of, replacing_rows}
-use Rattle.line_keys.specs.ViTables.{InsertDeed, Types, Leaves, Commands, insert_deed}
+use Rattle.line_keys.specs.ViTables.{deed_of, insert_deed, replacing_rows}
 
 -- ---- the modes and the last change
 
@@ -72,6 +77,17 @@ typed cmd input shown = remembering (is_new cmd input) cmd input
 -- ---- command mode
 
 -- a change turns to insert mode before its motion is read
+abbrev pub changes : Operator → Bool
+changes operators.Change = true
+changes other = false
+
+abbrev pub command_of : Operator → Movement → Cmd
+command_of operators.Change = λ m. Replace m None
+command_of operators.Delete = Kill
+command_of operators.Yank = ViYankTo
+command_of operators.Dedent = Dedent
+command_of operators.Indent = Indent
+
 abbrev pub entered : Bool → Input → Input
 entered true input = in_mode Insert input
 entered false input = input
@@ -93,24 +109,27 @@ move_or other None = other
 abbrev pub key_replacement : ℕ → KeyEvent → Cmd
 key_replacement n k = unwrap_or (look n true k replacing_rows) Unknown
 
-abbrev pub command_done : Option ℕ → Situation → KeyEvent → CommandDeed → Part Cmd
-command_done new s k (Inserts cmd) =
-    becoming (in_mode Insert s.input) (asking DoingInsert (λ shown. answered cmd))
-command_done new s k (Turns mode cmd) = becoming (in_mode mode s.input) (answered cmd)
-command_done new s k (Operates changes operator) =
-    becoming (entered changes s.input) (operation s k operator (entered changes s.input))
-command_done new s k (Searches search) =
-    and_then s.input s.shown (sought search s.n s.input)
-    (λ m input shown. answered (move_or Unknown m))
-command_done new s k SearchesAgain = answered (move_or Noop (searching s.n s.input.search))
-command_done new s k SearchesBack =
-    answered (move_or Noop (searching s.n (opposite_of s.input.search)))
-command_done new s k Repeats = anew_or Noop new s.shown s.input.last
-command_done new s k Replaces = from_key (key_replacement s.n)
-
 -- what no row has is common
+abbrev pub command_done : Option ℕ → Situation → KeyEvent → Option Deed → Part Cmd
+command_done new s k (Some (deed.Give cmd)) = answered cmd
+command_done new s k (Some (deed.Insert cmd)) =
+    becoming (in_mode Insert s.input) (asking DoingInsert (λ shown. answered cmd))
+command_done new s k (Some (deed.Turn mode cmd)) = becoming (in_mode mode s.input) (answered cmd)
+command_done new s k (Some (deed.Operate o)) =
+    let input = entered (changes o) s.input in
+    becoming input (operation s k (command_of o) input)
+command_done new s k (Some (deed.Search way)) =
+    and_then s.input s.shown (sought way s.n s.input)
+    (λ m input shown. answered (move_or Unknown m))
+command_done new s k (Some deed.Again) = answered (move_or Noop (searching s.n s.input.search))
+command_done new s k (Some deed.Back) =
+    answered (move_or Noop (searching s.n (opposite_of s.input.search)))
+command_done new s k (Some deed.Repeat) = anew_or Noop new s.shown s.input.last
+command_done new s k (Some deed.Replace) = from_key (key_replacement s.n)
+command_done new s k None = common s k
+
 unfoldable pub command_table : Option ℕ → Situation → KeyEvent → Part Cmd
-command_table new s k = done (command_done new s k) (common s k) (deed_of s.n k)
+command_table new s k = command_done new s k (deed_of s.n k)
 
 -- a bound command comes with the count if one was typed
 abbrev pub vi_command_decided : Option ℕ → Situation → KeyEvent → Part Cmd
@@ -138,16 +157,17 @@ abbrev pub leaving : Input → (Input → Shown → Part Cmd) → Part Cmd
 leaving input next =
     becoming (in_mode Command input) (asking DoneInserting (next (in_mode Command input)))
 
-abbrev pub insert_done : Custom → Input → Shown → InsertDeed → Part Cmd
-insert_done custom input shown (Types c) = answered (typed_in input.input_mode c)
-insert_done custom input shown (Leaves cmd) = leaving input (λ input shown. answered cmd)
-insert_done custom input shown (Commands c) =
+abbrev pub insert_done : Custom → Input → Shown → KeyEvent → Option InsertDeed → Part Cmd
+insert_done custom input shown k (Some (inserting.Give cmd)) = answered cmd
+insert_done custom input shown k (Some (inserting.Typed c)) = answered (typed_in input.input_mode c)
+insert_done custom input shown k (Some (inserting.Leave cmd)) =
+    leaving input (λ input shown. answered cmd)
+insert_done custom input shown k (Some (inserting.Command c)) =
     leaving input (vi_command custom (key_with (Char c) none))
+insert_done custom input shown k None = common (situation custom input shown 1 true) k
 
 unfoldable pub insert_table : Custom → Input → Shown → KeyEvent → Part Cmd
-insert_table custom input shown k =
-    done (insert_done custom input shown) (common (situation custom input shown 1 true) k)
-    (insert_deed shown k)
+insert_table custom input shown k = insert_done custom input shown k (insert_deed shown k)
 
 -- a handler is shown no count
 unfoldable pub vi_insert : Custom → KeyEvent → Input → Shown → Part Cmd

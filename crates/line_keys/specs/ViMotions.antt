@@ -1,13 +1,14 @@
 -- The motion after an operator of Vi.
 use Rattle.std.specs.Prelude.{ℕ, Bool, true, List, [], ◌∷◌, Option, Some, None, codes, if◌then◌else◌}
-use Rattle.line_buffer.specs.declared.types.CharSearch.{CharSearch}
-use Rattle.line_buffer.specs.declared.types.CharSearch.TheVariants.{Forward, ForwardBefore, Backward, BackwardAfter}
 use Rattle.line_buffer.specs.declared.types.Movement.{Movement}
 use Rattle.line_buffer.specs.declared.types.Movement.TheVariants.{WholeLine, BeginningOfLine, EndOfLine, BackwardWord, ForwardWord, ViFirstPrint, BackwardChar, ForwardChar, LineUp, LineDown}
 use Rattle.line_buffer.specs.declared.types.Word.TheVariants.{Big, Vi}
 use Rattle.line_buffer.specs.declared.types.At.TheVariants.{Start, AfterEnd}
 use Rattle.line_keys.specs.declared.key.KeyCode.TheVariants.{Backspace, Char}
 use Rattle.line_keys.specs.declared.key.KeyEvent.{KeyEvent}
+use Rattle.line_keys.specs.declared.keymap.vi.motion.Motion.{Motion}
+use Rattle.line_keys.specs.declared.keymap.vi.motion.Motion.TheVariants.{Go, Seek, Again, Back}
+use Rattle.line_keys.specs.declared.keymap.vi.motion.Search.TheVariants.{Forward, ForwardBefore, Backward, BackwardAfter}
 use Rattle.std.specs.Option.{option_or}
 use Rattle.line_keys.specs.Keys.{key_with, none, ctrl}
 use Rattle.line_keys.specs.Phrases.{Input, Part, answered, with_key, and_then}
@@ -18,47 +19,39 @@ use Rattle.line_keys.specs.Counts.{Counted, counted_key}
 use Rattle.line_keys.specs.ViCounts.{multiplied}
 use Rattle.line_keys.specs.ViSearches.{opposite_of, searching, sought}
 
-pub data Motion : Type 0 where
-  Goes : (movement : Movement) → Motion
-  -- to the character that is typed next
-  Seeks : (search : ℕ → CharSearch) → Motion
-  -- by the search that is kept, or the other way
-  SeeksAgain : Motion
-  SeeksBack : Motion
-
 abbrev pub motion_rows : List (Row Motion)
 motion_rows =
-    char (codes "0") none (always (Goes BeginningOfLine))
-    ∷ char (codes "$") none (always (Goes EndOfLine))
-    ∷ char (codes "^") none (always (Goes ViFirstPrint))
-    ∷ char (codes "h") none (by_count (λ n. Goes (BackwardChar n)))
-    ∷ char (codes "H") ctrl (by_count (λ n. Goes (BackwardChar n)))
-    ∷ named Backspace none (by_count (λ n. Goes (BackwardChar n)))
-    ∷ char (codes "l") none (by_count (λ n. Goes (ForwardChar n)))
-    ∷ char (codes " ") none (by_count (λ n. Goes (ForwardChar n)))
-    ∷ char (codes "w") none (by_count (λ n. Goes (ForwardWord n Start Vi)))
-    ∷ char (codes "W") none (by_count (λ n. Goes (ForwardWord n Start Big)))
-    ∷ char (codes "b") none (by_count (λ n. Goes (BackwardWord n Vi)))
-    ∷ char (codes "B") none (by_count (λ n. Goes (BackwardWord n Big)))
-    ∷ char (codes "e") none (by_count (λ n. Goes (ForwardWord n AfterEnd Vi)))
-    ∷ char (codes "E") none (by_count (λ n. Goes (ForwardWord n AfterEnd Big)))
-    ∷ char (codes "f") none (always (Seeks Forward))
-    ∷ char (codes "F") none (always (Seeks Backward))
-    ∷ char (codes "t") none (always (Seeks ForwardBefore))
-    ∷ char (codes "T") none (always (Seeks BackwardAfter))
-    ∷ char (codes ";") none (always SeeksAgain)
-    ∷ char (codes ",") none (always SeeksBack)
-    ∷ char (codes "j") none (by_count (λ n. Goes (LineDown n)))
-    ∷ char (codes "+") none (by_count (λ n. Goes (LineDown n)))
-    ∷ char (codes "k") none (by_count (λ n. Goes (LineUp n)))
-    ∷ char (codes "-") none (by_count (λ n. Goes (LineUp n)))
+    char (codes "0") none (always (Go BeginningOfLine))
+    ∷ char (codes "$") none (always (Go EndOfLine))
+    ∷ char (codes "^") none (always (Go ViFirstPrint))
+    ∷ char (codes "h") none (by_count (λ n. Go (BackwardChar n)))
+    ∷ char (codes "H") ctrl (by_count (λ n. Go (BackwardChar n)))
+    ∷ named Backspace none (by_count (λ n. Go (BackwardChar n)))
+    ∷ char (codes "l") none (by_count (λ n. Go (ForwardChar n)))
+    ∷ char (codes " ") none (by_count (λ n. Go (ForwardChar n)))
+    ∷ char (codes "w") none (by_count (λ n. Go (ForwardWord n Start Vi)))
+    ∷ char (codes "W") none (by_count (λ n. Go (ForwardWord n Start Big)))
+    ∷ char (codes "b") none (by_count (λ n. Go (BackwardWord n Vi)))
+    ∷ char (codes "B") none (by_count (λ n. Go (BackwardWord n Big)))
+    ∷ char (codes "e") none (by_count (λ n. Go (ForwardWord n AfterEnd Vi)))
+    ∷ char (codes "E") none (by_count (λ n. Go (ForwardWord n AfterEnd Big)))
+    ∷ char (codes "f") none (always (Seek Forward))
+    ∷ char (codes "F") none (always (Seek Backward))
+    ∷ char (codes "t") none (always (Seek ForwardBefore))
+    ∷ char (codes "T") none (always (Seek BackwardAfter))
+    ∷ char (codes ";") none (always Again)
+    ∷ char (codes ",") none (always Back)
+    ∷ char (codes "j") none (by_count (λ n. Go (LineDown n)))
+    ∷ char (codes "+") none (by_count (λ n. Go (LineDown n)))
+    ∷ char (codes "k") none (by_count (λ n. Go (LineUp n)))
+    ∷ char (codes "-") none (by_count (λ n. Go (LineUp n)))
     ∷ []
 
 -- a change takes no blanks after a word
 abbrev pub change_rows : List (Row Motion)
 change_rows =
-    char (codes "w") none (by_count (λ n. Goes (ForwardWord n AfterEnd Vi)))
-    ∷ char (codes "W") none (by_count (λ n. Goes (ForwardWord n AfterEnd Big)))
+    char (codes "w") none (by_count (λ n. Go (ForwardWord n AfterEnd Vi)))
+    ∷ char (codes "W") none (by_count (λ n. Go (ForwardWord n AfterEnd Big)))
     ∷ []
 
 unfoldable pub motion_of : Bool → ℕ → KeyEvent → Option Motion
@@ -68,10 +61,10 @@ motion_of changing n k =
 
 -- a key that is no motion gives none, and so does a search where none is kept
 abbrev pub motion_done : ℕ → Input → Option Motion → Part (Option Movement)
-motion_done n input (Some (Goes movement)) = answered (Some movement)
-motion_done n input (Some (Seeks search)) = sought search n input
-motion_done n input (Some SeeksAgain) = answered (searching n input.search)
-motion_done n input (Some SeeksBack) = answered (searching n (opposite_of input.search))
+motion_done n input (Some (Go movement)) = answered (Some movement)
+motion_done n input (Some (Seek search)) = sought search n input
+motion_done n input (Some Again) = answered (searching n input.search)
+motion_done n input (Some Back) = answered (searching n (opposite_of input.search))
 motion_done n input None = answered None
 
 -- c

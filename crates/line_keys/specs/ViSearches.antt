@@ -4,8 +4,16 @@ use Rattle.line_buffer.specs.declared.types.CharSearch.{CharSearch}
 use Rattle.line_buffer.specs.declared.types.CharSearch.TheVariants.{Forward, ForwardBefore, Backward, BackwardAfter}
 use Rattle.line_buffer.specs.declared.types.Movement.{Movement}
 use Rattle.line_buffer.specs.declared.types.Movement.TheVariants.{ViCharSearch}
+use Rattle.line_keys.specs.declared.keymap.vi.motion.Search.{Search}
+use Rattle.line_keys.specs.declared.keymap.vi.motion.Search.TheVariants as search
 use Rattle.line_keys.specs.Common.{plain_char}
 use Rattle.line_keys.specs.Phrases.{Input, Part, answered, becoming, with_key}
+
+abbrev pub search_of : Search → ℕ → CharSearch
+search_of search.Forward = Forward
+search_of search.ForwardBefore = ForwardBefore
+search_of search.Backward = Backward
+search_of search.BackwardAfter = BackwardAfter
 
 abbrev pub opposite : CharSearch → CharSearch
 opposite (Forward c) = Backward c
@@ -22,12 +30,12 @@ abbrev pub searching : ℕ → Option CharSearch → Option Movement
 searching n s = option_map (λ x. ViCharSearch n x) s
 
 -- a search that names its character is remembered
-abbrev pub found : (ℕ → CharSearch) → ℕ → Input → Option ℕ → Part (Option Movement)
-found search n input (Some c) =
-    becoming (record input { search = Some (search c) })
-    (answered (Some (ViCharSearch n (search c))))
-found search n input None = answered None
+abbrev pub found : Search → ℕ → Input → Option ℕ → Part (Option Movement)
+found way n input (Some c) =
+    becoming (record input { search = Some (search_of way c) })
+    (answered (Some (ViCharSearch n (search_of way c))))
+found way n input None = answered None
 
 -- the movement to a character, which is that of the next key
-abbrev pub sought : (ℕ → CharSearch) → ℕ → Input → Part (Option Movement)
-sought search n input = with_key (λ k. found search n input (plain_char k))
+abbrev pub sought : Search → ℕ → Input → Part (Option Movement)
+sought way n input = with_key (λ k. found way n input (plain_char k))

@@ -1,7 +1,7 @@
 //! Events and what is bound to them.
 
-ghost use Rattle.std.specs.Prelude.{◌≡◌, ◌↔◌, ◌++◌, List, IsTrue, IsSome, IfOk, IfErr, IfSome, OnOk, OnErr, MatchResult, [], option_copied, option_map, position};
-ghost use Rattle.line_config.specs.declared.errors.ReadlineError.{ReadlineError};
+ghost use Rattle.std.specs.Prelude.{◌≡◌, ◌↔◌, ◌++◌, List, IsTrue, IsSome, IfSome, OnOk, OnErr, MatchResult, [], option_copied, option_map, position};
+ghost use Rattle.line_config.specs.Refusals.{OrMemory};
 ghost use Rattle.line_keys.specs.declared.key.KeyEvent.{KeyEvent};
 ghost use Rattle.line_keys.specs.declared.events.Event.{Event};
 ghost use Rattle.line_keys.specs.declared.events.Event.TheVariants.{KeySeq};
@@ -60,11 +60,10 @@ impl<H: Drop> EventMap<H> {
     /// Binds an event in its normal form, and gives back what it was bound to. Where that is
     /// refused for want of memory, all stays as it is.
     pub fn bind_sequence(&mut self, event: Event, handler: H) -> Result<Option<H>, ReadlineError>
-        ensures old { IfOk result (λ old. old ≡ find (normal_event event) self.old) }
+        ensures old { OrMemory result (λ old. old ≡ find (normal_event event) self.old) }
         ensures bound { let before = λ (o : Event). find o self.old in
             OnOk result ((e : Event)
             → find e self.new ≡ put_at (normal_event event) handler before e) }
-        ensures err { IfErr result (λ e. e ≡ ReadlineError.Memory) }
         ensures kept { OnErr result (self.new ≡ self.old) }
     {
         bind_in(&mut self.entries, event.normalize(), handler)
@@ -140,10 +139,9 @@ fn bind_in<H: Drop>(
     event: Event,
     handler: H,
 ) -> Result<Option<H>, ReadlineError>
-    ensures old { IfOk result (λ old. old ≡ find event entries.old.items) }
+    ensures old { OrMemory result (λ old. old ≡ find event entries.old.items) }
     ensures bound { let before = λ (o : Event). find o entries.old.items in
         OnOk result ((e : Event) → find e entries.new.items ≡ put_at event handler before e) }
-    ensures err { IfErr result (λ e. e ≡ ReadlineError.Memory) }
     ensures kept { OnErr result (entries.new.items ≡ entries.old.items) }
     ensures map { IsNormal event → IsMap entries.old.items → IsMap entries.new.items }
 {

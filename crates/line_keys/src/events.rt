@@ -1,7 +1,7 @@
 //! What a binding is bound to: a sequence of keys, or anything.
 
-ghost use Rattle.std.specs.Prelude.{◌≡◌, List, [], ◌∷◌, IfOk, IfErr, slice_get, option_copied, map};
-ghost use Rattle.line_config.specs.declared.errors.ReadlineError.{ReadlineError};
+ghost use Rattle.std.specs.Prelude.{◌≡◌, List, [], ◌∷◌, slice_get, option_copied, map};
+ghost use Rattle.line_config.specs.Refusals.{OrMemory};
 ghost use Rattle.line_keys.specs.declared.key.KeyEvent.{KeyEvent};
 ghost use Rattle.line_keys.specs.Keys.{normal};
 
@@ -30,8 +30,7 @@ impl Model for Keys {
 impl Keys {
     /// A copy of `keys`.
     pub fn try_from_slice(alloc: Global, keys: &[KeyEvent]) -> Result<Self, ReadlineError>
-        ensures ok { IfOk result (λ k. k ≡ keys.now) }
-        ensures err { IfErr result (λ e. e ≡ ReadlineError.Memory) }
+        ensures { OrMemory result (λ k. k ≡ keys.now) }
     {
         let inner = keys.to_vec(alloc)?;
         Ok(Keys { inner })
@@ -39,8 +38,7 @@ impl Keys {
 
     /// A copy of the keys.
     pub fn try_clone(&self, alloc: Global) -> Result<Self, ReadlineError>
-        ensures ok { IfOk result (λ k. k ≡ self.now) }
-        ensures err { IfErr result (λ e. e ≡ ReadlineError.Memory) }
+        ensures { OrMemory result (λ k. k ≡ self.now) }
     {
         Keys::try_from_slice(alloc, self.as_slice())
     }
@@ -135,8 +133,7 @@ impl Event {
 
     /// The event of one key.
     pub fn from_key(alloc: Global, key: KeyEvent) -> Result<Self, ReadlineError>
-        ensures ok { IfOk result (λ e. e ≡ single key) }
-        ensures err { IfErr result (λ e. e ≡ ReadlineError.Memory) }
+        ensures { OrMemory result (λ e. e ≡ single key) }
     {
         let keys = Keys::try_from_slice(alloc, &[key])?;
         Ok(Event::KeySeq(keys))
@@ -144,8 +141,7 @@ impl Event {
 
     /// A copy of the event.
     pub fn try_clone(&self, alloc: Global) -> Result<Self, ReadlineError>
-        ensures ok { IfOk result (λ e. e ≡ self.now) }
-        ensures err { IfErr result (λ e. e ≡ ReadlineError.Memory) }
+        ensures { OrMemory result (λ e. e ≡ self.now) }
     {
         match self {
             Event::Any => Ok(Event::Any),

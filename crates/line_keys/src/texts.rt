@@ -1,7 +1,7 @@
 //! A text inside a command.
 
-ghost use Rattle.std.specs.Prelude.{◌≡◌, IfOk, IfErr, string_bytes};
-ghost use Rattle.line_config.specs.declared.errors.ReadlineError.{ReadlineError};
+ghost use Rattle.std.specs.Prelude.{◌≡◌, string_bytes};
+ghost use Rattle.line_config.specs.Refusals.{OrMemory};
 
 use line_config::ReadlineError;
 use std::alloc::Global;
@@ -26,8 +26,7 @@ impl Model for Text {
 impl Text {
     /// A copy of `text`.
     pub fn try_from_str(alloc: Global, text: &str) -> Result<Self, ReadlineError>
-        ensures ok { IfOk result (λ t. t ≡ text.now) }
-        ensures err { IfErr result (λ e. e ≡ ReadlineError.Memory) }
+        ensures { OrMemory result (λ t. t ≡ text.now) }
     {
         let inner = String::from_str(alloc, text)?;
         Ok(Text { inner })
@@ -35,8 +34,7 @@ impl Text {
 
     /// A copy of the text.
     pub fn try_clone(&self, alloc: Global) -> Result<Self, ReadlineError>
-        ensures ok { IfOk result (λ t. t ≡ self.now) }
-        ensures err { IfErr result (λ e. e ≡ ReadlineError.Memory) }
+        ensures { OrMemory result (λ t. t ≡ self.now) }
     {
         Text::try_from_str(alloc, self.as_str())
     }

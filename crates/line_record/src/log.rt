@@ -144,7 +144,7 @@ impl Log {
         self.text.reserve(more)?;
         self.text.truncate(last.end);
         self.entries.truncate(index);
-        self.text.insert_str(last.seam(before), removed)?;
+        put_in(&mut self.text, last.seam(before), removed)?;
         self.text.push_str(added)?;
         let end = self.text.len();
         self.entries.push(Entry {
@@ -206,8 +206,27 @@ impl Log {
     }
 }
 
-ghost use Rattle.std.specs.Prelude.{◌≡◌};
+ghost use Rattle.std.specs.Prelude.{◌≡◌, ◌+◌, ◌<◌, ◌≤◌, length, string_bytes, OnOk, OnErr, IsCharBoundary};
+ghost use Rattle.std.specs.String.{string_len, string_capacity};
+ghost use Rattle.std.specs.List.{insert_slice};
 ghost use Rattle.line_record.specs.Spans.{place_of_span};
+
+/// Puts a text in at a place. Where it is empty nothing is moved.
+fn put_in(text: &mut String, at: usize, added: &str) -> Result<(), OutOfMemory>
+    requires { IsCharBoundary (string_bytes text.old) at }
+    ensures bytes { OnOk result (string_bytes text.new
+        ≡ insert_slice (string_bytes text.old) at added.now) }
+    ensures len { OnOk result (string_len text.new ≡ string_len text.old + length added.now) }
+    ensures capacity { string_capacity text.old ≤ string_capacity text.new }
+    ensures full { OnErr result (string_capacity text.old
+        < string_len text.old + length added.now) }
+{
+    if added.is_empty() {
+        return Ok(());
+    }
+    text.insert_str(at, added)?;
+    Ok(())
+}
 
 /// Where the entry of an index begins, or the end of all.
 fn place(entries: &[Entry], n: usize, end: usize) -> usize

@@ -3,13 +3,13 @@
 ghost use Rattle.std.specs.Prelude.{◌≡◌, ℕ, Bool, option_map, if◌then◌else◌};
 ghost use Rattle.line_keys.specs.Common.{bound_command, terminal_command};
 ghost use Rattle.line_keys.specs.Common.{common_command_rows, common_deed, common_reading_rows};
-ghost use Rattle.line_keys.specs.Meant.{common_meant, followed_of};
 ghost use Rattle.line_buffer.specs.declared.types.Anchor.TheVariants.{Before};
 ghost use Rattle.line_buffer.specs.declared.types.Movement.TheVariants.{BackwardChar, ForwardChar};
 ghost use Rattle.line_config.specs.declared.settings.EditMode.{EditMode};
 ghost use Rattle.line_keys.specs.declared.command.Cmd.TheVariants.{Yank, Unknown};
 ghost use Rattle.line_keys.specs.Refreshing.{Shown};
-ghost use Rattle.line_keys.specs.Tables.{Gives, look, first_row};
+ghost use Rattle.line_keys.specs.Tables.{look, first_row};
+ghost use Rattle.line_keys.specs.declared.keymap.common.Deed.TheVariants.{Give};
 
 use crate::command::Cmd;
 use crate::flags::Modifiers;
@@ -25,16 +25,16 @@ use std::alloc::Global;
 
 /// What a key of both modes does.
 #[derive(Drop)]
-pub(crate) enum Deed {
+pub enum Deed {
+    /// Gives a command.
     Give(Cmd),
     /// Inserts the pasted text, which is read.
     Paste,
 }
 
 impl<D: Decides> InputState<'_, D> {
-    ghost use Rattle.line_keys.specs.InputStates.{situation_in};
+    ghost use Rattle.line_keys.specs.InputStates.{FollowsIn};
     ghost use Rattle.line_keys.specs.Common.{common, sequence};
-    ghost use Rattle.line_keys.specs.Follows.{Follows};
 
     /// The command of a key that the mode's own table doesn't have.
     #[tactic(auto, using(crate::proofs::Steps::read_answered))]
@@ -47,9 +47,8 @@ impl<D: Decides> InputState<'_, D> {
         n: RepeatCount,
         positive: bool,
     ) -> Result<Cmd, ReadlineError>
-        ensures { let s = situation_in self.now D.decides (W.display.shown wrt.now) n positive in
-            Follows W.display s.custom (common s key)
-            wrt.now s.input wrt.now s.input (R.feed rdr.old) (R.feed rdr.new) result }
+        ensures { FollowsIn (λ s. common s key) self.now D.decides W.display wrt.now n positive
+            (R.feed rdr.old) (R.feed rdr.new) result }
     {
         match common_deed(self.mode, wrt, key, n, positive) {
             Some(Deed::Give(cmd)) => Ok(cmd),
@@ -72,9 +71,8 @@ impl<D: Decides> InputState<'_, D> {
         n: RepeatCount,
         positive: bool,
     ) -> Result<Cmd, ReadlineError>
-        ensures { let s = situation_in self.now D.decides (W.display.shown wrt.now) n positive in
-            Follows W.display s.custom (sequence s key)
-            wrt.now s.input wrt.now s.input (R.feed rdr.old) (R.feed rdr.new) result }
+        ensures { FollowsIn (λ s. sequence s key) self.now D.decides W.display wrt.now n positive
+            (R.feed rdr.old) (R.feed rdr.new) result }
     {
         let followed = self.custom_seq_binding(alloc, rdr, wrt, key, n, positive)?;
         Ok(bound_command(followed))
@@ -83,7 +81,7 @@ impl<D: Decides> InputState<'_, D> {
 
 // The command that a custom sequence is bound to.
 fn bound_command(followed: Followed) -> Cmd
-    ensures { result ≡ bound_command (followed_of followed) }
+    ensures { result ≡ bound_command followed }
 {
     match followed {
         Followed::Bound(cmd) => cmd,
@@ -145,7 +143,7 @@ fn common_deed<W: Refresher>(
     positive: bool,
 ) -> Option<Deed>
     ensures { let shown = W.display.shown wrt.now in
-        option_map common_meant result ≡ common_deed mode shown n positive key }
+        result ≡ common_deed mode shown n positive key }
 {
     match common_row(mode, wrt, key, n, positive) {
         Some(cmd) => Some(Deed::Give(cmd)),
@@ -156,7 +154,7 @@ fn common_deed<W: Refresher>(
 // The row whose key reads on.
 fn reading_row(key: KeyEvent) -> Option<Deed>
     ensures { (n : ℕ) (positive : Bool)
-        → option_map common_meant result ≡ look n positive key common_reading_rows }
+        → result ≡ look n positive key common_reading_rows }
 {
     match key {
         KeyEvent(KeyCode::BracketedPasteStart, Modifiers::NONE) => Some(Deed::Paste),
@@ -173,7 +171,7 @@ fn common_row<W: Refresher>(
     positive: bool,
 ) -> Option<Cmd>
     ensures { let rows = common_command_rows mode (W.display.shown wrt.now) in
-        option_map Gives result ≡ look n positive key rows }
+        option_map Give result ≡ look n positive key rows }
 {
     let KeyEvent(code, modifiers) = key;
     match modifiers {
@@ -186,7 +184,7 @@ fn common_row<W: Refresher>(
 // The rows without modifiers.
 fn plain_row(code: KeyCode, n: RepeatCount, positive: bool) -> Option<Cmd>
     ensures { (mode : EditMode) (shown : Shown)
-        → option_map Gives result ≡ first_row n positive code 0 (common_command_rows mode shown) }
+        → option_map Give result ≡ first_row n positive code 0 (common_command_rows mode shown) }
 {
     match code {
         KeyCode::Home => Some(Cmd::Move(Movement::BeginningOfLine)),
@@ -213,7 +211,7 @@ fn ctrl_row<W: Refresher>(
     positive: bool,
 ) -> Option<Cmd>
     ensures { let rows = common_command_rows mode (W.display.shown wrt.now) in
-        option_map Gives result ≡ first_row n positive code 8 rows }
+        option_map Give result ≡ first_row n positive code 8 rows }
 {
     match code {
         KeyCode::Char('D') if wrt.line().is_empty() => None,

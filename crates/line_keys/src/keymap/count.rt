@@ -1,7 +1,7 @@
 //! Counts that are typed before a key: signed numbers.
 
-ghost use Rattle.std.specs.Prelude.{◌≡◌, ◌≤◌, ◌-◌, IfOk, IfErr, IfSome, string_bytes};
-ghost use Rattle.line_config.specs.declared.errors.ReadlineError.{ReadlineError};
+ghost use Rattle.std.specs.Prelude.{◌≡◌, ◌≤◌, ◌-◌, IfSome, string_bytes};
+ghost use Rattle.line_config.specs.Refusals.{OrMemory};
 ghost use Rattle.line_keys.specs.Counts.{and_digit, begun_by, counted_on, digit_of};
 ghost use Rattle.line_keys.specs.Counts.{emacs_begun_by, emacs_counted_on, how_often, is_plus};
 ghost use Rattle.line_keys.specs.Counts.{prompt_for, vi_begun_by, vi_counted_on};
@@ -53,8 +53,7 @@ fn with_digit(count: i16, digit: RepeatCount) -> i16
 }
 
 fn prompt(alloc: Global, count: i16) -> Result<String, ReadlineError>
-    ensures ok { IfOk result (λ s. string_bytes s ≡ prompt_for count) }
-    ensures err { IfErr result (λ e. e ≡ ReadlineError.Memory) }
+    ensures { OrMemory result (λ s. string_bytes s ≡ prompt_for count) }
 {
     Ok(format!(in alloc; "(arg: {count}) ")?)
 }

@@ -15,7 +15,7 @@ use std::alloc::Global;
 
 /// What came of a sequence of keys.
 #[derive(Drop)]
-pub(crate) enum Followed {
+pub enum Followed {
     /// It is bound to this command.
     Bound(Cmd),
     /// It isn't, and its second key, if it was read, was this.
@@ -23,14 +23,11 @@ pub(crate) enum Followed {
 }
 
 impl<D: Decides> InputState<'_, D> {
-    ghost use Rattle.line_keys.specs.InputStates.{situation_in};
-    ghost use Rattle.line_keys.specs.Coming.{made_of};
+    ghost use Rattle.line_keys.specs.InputStates.{DecidesIn, FollowsIn};
     ghost use Rattle.line_keys.specs.Custom.{custom_answer, sequence_answer, shown_for, followed};
-    ghost use Rattle.line_keys.specs.Meant.{followed_of};
-    ghost use Rattle.line_keys.specs.Answers.{answer_by, Decides as Decision};
+    ghost use Rattle.line_keys.specs.Answers.{answer_by};
     ghost use Rattle.line_keys.specs.Custom.{or_any};
     ghost use Rattle.line_keys.specs.Events.{single};
-    ghost use Rattle.line_keys.specs.Follows.{Follows};
 
     /// The command of the key's own binding, else of that of any key.
     pub(crate) fn custom_binding<W: Refresher>(
@@ -41,8 +38,8 @@ impl<D: Decides> InputState<'_, D> {
         n: RepeatCount,
         positive: bool,
     ) -> Result<Option<Cmd>, ReadlineError>
-        ensures { let s = situation_in self.now D.decides (W.display.shown wrt.now) n positive in
-            Decision (custom_answer s key) result }
+        ensures { DecidesIn (λ s. custom_answer s key)
+            self.now D.decides (W.display.shown wrt.now) n positive result }
     {
         if self.custom_bindings.is_empty() {
             return Ok(None);
@@ -62,8 +59,8 @@ impl<D: Decides> InputState<'_, D> {
         n: RepeatCount,
         positive: bool,
     ) -> Result<Option<Cmd>, ReadlineError>
-        ensures { let s = situation_in self.now D.decides (W.display.shown wrt.now) n positive in
-            Decision (answer_by (or_any s.custom None) (shown_for s (single key))) result }
+        ensures { DecidesIn (λ s. answer_by (or_any s.custom None) (shown_for s (single key)))
+            self.now D.decides (W.display.shown wrt.now) n positive result }
     {
         match self.custom_bindings.get(&Event::Any) {
             Some(handler) => {
@@ -84,8 +81,8 @@ impl<D: Decides> InputState<'_, D> {
         n: RepeatCount,
         positive: bool,
     ) -> Result<Option<Cmd>, ReadlineError>
-        ensures { let s = situation_in self.now D.decides (W.display.shown wrt.now) n positive in
-            Decision (D.decides handler.now (shown_for s event.now)) result }
+        ensures { DecidesIn (λ s. D.decides handler.now (shown_for s event.now))
+            self.now D.decides (W.display.shown wrt.now) n positive result }
     {
         let ctx = EventContext::new(self.mode, self.input_mode, wrt);
         handler.decide(alloc, event, n, positive, &ctx)
@@ -103,10 +100,8 @@ impl<D: Decides> InputState<'_, D> {
         n: RepeatCount,
         positive: bool,
     ) -> Result<Followed, ReadlineError>
-        ensures { let s = situation_in self.now D.decides (W.display.shown wrt.now) n positive in
-            let came = made_of followed_of result in
-            Follows W.display s.custom (followed s key)
-            wrt.now s.input wrt.now s.input (R.feed rdr.old) (R.feed rdr.new) came }
+        ensures { FollowsIn (λ s. followed s key) self.now D.decides W.display wrt.now n positive
+            (R.feed rdr.old) (R.feed rdr.new) result }
     {
         if !self.custom_bindings.begins(&[key]) {
             return Ok(Followed::Unbound(None));
@@ -133,8 +128,8 @@ impl<D: Decides> InputState<'_, D> {
         n: RepeatCount,
         positive: bool,
     ) -> Result<Option<Cmd>, ReadlineError>
-        ensures { let s = situation_in self.now D.decides (W.display.shown wrt.now) n positive in
-            Decision (sequence_answer s keys.now) result }
+        ensures { DecidesIn (λ s. sequence_answer s keys.now)
+            self.now D.decides (W.display.shown wrt.now) n positive result }
     {
         let event = Event::KeySeq(Keys::try_from_slice(alloc, keys)?);
         match self.custom_bindings.get(&event) {

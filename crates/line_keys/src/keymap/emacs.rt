@@ -6,10 +6,11 @@ ghost use Rattle.line_keys.specs.Common.{plain_char};
 ghost use Rattle.line_keys.specs.Emacs.{back, ahead, move_to_char, second_command};
 ghost use Rattle.line_keys.specs.Emacs.{emacs_command_rows, emacs_deed, emacs_reading_rows, typed_rows};
 ghost use Rattle.line_keys.specs.Feeds.{Key, ReadsBy};
-ghost use Rattle.line_keys.specs.Meant.{emacs_meant, search_of};
 ghost use Rattle.line_keys.specs.Refreshing.{Shown};
-ghost use Rattle.line_keys.specs.Tables.{Gives, look, first_row};
+ghost use Rattle.line_keys.specs.Tables.{look, first_row};
+ghost use Rattle.line_keys.specs.ViSearches.{search_of};
 ghost use Rattle.line_keys.specs.declared.command.Cmd.TheVariants.{Complete, CompleteBackward};
+ghost use Rattle.line_keys.specs.declared.keymap.emacs.Deed.TheVariants.{Give};
 
 use crate::command::Cmd;
 use crate::flags::Modifiers;
@@ -28,7 +29,8 @@ use std::alloc::Global;
 
 /// What a key of Emacs mode does.
 #[derive(Drop)]
-pub(crate) enum Deed {
+pub enum Deed {
+    /// Gives a command.
     Give(Cmd),
     /// Moves to the character that is typed next.
     Seek(Search),
@@ -37,9 +39,11 @@ pub(crate) enum Deed {
 }
 
 impl<D: Decides> InputState<'_, D> {
-    ghost use Rattle.line_keys.specs.InputStates.{input_of, custom_in, situation_in};
+    ghost use Rattle.line_keys.specs.InputStates.{FollowsIn, input_of, custom_in};
     ghost use Rattle.line_keys.specs.Emacs.{emacs_phrase, emacs_decided, emacs_command};
-    ghost use Rattle.line_keys.specs.Emacs.{LeadsOn, emacs_done};
+    ghost use Rattle.line_keys.specs.Emacs.{emacs_done};
+    ghost use Rattle.line_keys.specs.declared.keymap.emacs.Deed.TheVariants.{LeadOn};
+    ghost use Rattle.std.specs.Prelude.{Some};
     ghost use Rattle.line_keys.specs.Counts.{how_often, is_plus};
     ghost use Rattle.line_keys.specs.Follows.{Follows};
 
@@ -74,10 +78,8 @@ impl<D: Decides> InputState<'_, D> {
         key: KeyEvent,
     ) -> Result<Cmd, ReadlineError>
         ensures { let n = how_often count in
-            let shown = W.display.shown wrt.now in
-            let s = situation_in self.now D.decides shown n (is_plus count) in
-            Follows W.display s.custom (emacs_decided s key)
-            wrt.now s.input wrt.now s.input (R.feed rdr.old) (R.feed rdr.new) result }
+            FollowsIn (λ s. emacs_decided s key) self.now D.decides
+            W.display wrt.now n (is_plus count) (R.feed rdr.old) (R.feed rdr.new) result }
     {
         let n = times(count);
         let positive = is_positive(count);
@@ -101,9 +103,8 @@ impl<D: Decides> InputState<'_, D> {
         n: RepeatCount,
         positive: bool,
     ) -> Result<Cmd, ReadlineError>
-        ensures { let s = situation_in self.now D.decides (W.display.shown wrt.now) n positive in
-            Follows W.display s.custom (emacs_command s key)
-            wrt.now s.input wrt.now s.input (R.feed rdr.old) (R.feed rdr.new) result }
+        ensures { FollowsIn (λ s. emacs_command s key) self.now D.decides
+            W.display wrt.now n positive (R.feed rdr.old) (R.feed rdr.new) result }
     {
         match emacs_deed(wrt, key, n, positive) {
             Some(Deed::Give(cmd)) => Ok(cmd),
@@ -124,9 +125,8 @@ impl<D: Decides> InputState<'_, D> {
         n: RepeatCount,
         positive: bool,
     ) -> Result<Cmd, ReadlineError>
-        ensures { let s = situation_in self.now D.decides (W.display.shown wrt.now) n positive in
-            Follows W.display s.custom (emacs_done s key LeadsOn)
-            wrt.now s.input wrt.now s.input (R.feed rdr.old) (R.feed rdr.new) result }
+        ensures { FollowsIn (λ s. emacs_done s key (Some LeadOn)) self.now D.decides
+            W.display wrt.now n positive (R.feed rdr.old) (R.feed rdr.new) result }
     {
         let followed = self.custom_seq_binding(alloc, rdr, wrt, key, n, positive)?;
         match followed {
@@ -226,7 +226,7 @@ fn ahead(n: RepeatCount, positive: bool) -> Movement
 #[tactic(auto, using(crate::proofs::Steps::emacs_tables))]
 fn emacs_deed<W: Refresher>(wrt: &W, key: KeyEvent, n: RepeatCount, positive: bool) -> Option<Deed>
     ensures { let shown = W.display.shown wrt.now in
-        option_map emacs_meant result ≡ emacs_deed shown n positive key }
+        result ≡ emacs_deed shown n positive key }
 {
     if let Some(cmd) = typed_row(key, n, positive) {
         return Some(Deed::Give(cmd));
@@ -239,7 +239,7 @@ fn emacs_deed<W: Refresher>(wrt: &W, key: KeyEvent, n: RepeatCount, positive: bo
 
 // The row of characters.
 fn typed_row(key: KeyEvent, n: RepeatCount, positive: bool) -> Option<Cmd>
-    ensures { option_map Gives result ≡ look n positive key typed_rows }
+    ensures { option_map Give result ≡ look n positive key typed_rows }
 {
     match key {
         KeyEvent(KeyCode::Char(c), Modifiers::NONE) if positive => Some(Cmd::SelfInsert(n, c)),
@@ -250,7 +250,7 @@ fn typed_row(key: KeyEvent, n: RepeatCount, positive: bool) -> Option<Cmd>
 
 // The rows whose keys read on.
 fn reading_row(key: KeyEvent, positive: bool) -> Option<Deed>
-    ensures { (n : ℕ) → option_map emacs_meant result ≡ look n positive key emacs_reading_rows }
+    ensures { (n : ℕ) → result ≡ look n positive key emacs_reading_rows }
 {
     use KeyCode as K;
     use KeyEvent as E;
@@ -269,7 +269,7 @@ fn reading_row(key: KeyEvent, positive: bool) -> Option<Deed>
 // The rows of commands.
 fn emacs_row<W: Refresher>(wrt: &W, key: KeyEvent, n: RepeatCount, positive: bool) -> Option<Cmd>
     ensures { let rows = emacs_command_rows (W.display.shown wrt.now) in
-        option_map Gives result ≡ look n positive key rows }
+        option_map Give result ≡ look n positive key rows }
 {
     let KeyEvent(code, modifiers) = key;
     match modifiers {
@@ -287,7 +287,7 @@ fn emacs_row<W: Refresher>(wrt: &W, key: KeyEvent, n: RepeatCount, positive: boo
 // The rows without modifiers. A hint is taken where the cursor stands right before it.
 fn plain_row<W: Refresher>(wrt: &W, code: KeyCode, n: RepeatCount, positive: bool) -> Option<Cmd>
     ensures { let rows = emacs_command_rows (W.display.shown wrt.now) in
-        option_map Gives result ≡ first_row n positive code 0 rows }
+        option_map Give result ≡ first_row n positive code 0 rows }
 {
     match code {
         KeyCode::Esc => Some(Cmd::Abort),
@@ -302,7 +302,7 @@ fn plain_row<W: Refresher>(wrt: &W, code: KeyCode, n: RepeatCount, positive: boo
 // The rows with Ctrl.
 fn ctrl_row(code: KeyCode, n: RepeatCount, positive: bool) -> Option<Cmd>
     ensures { (shown : Shown)
-        → option_map Gives result ≡ first_row n positive code 8 (emacs_command_rows shown) }
+        → option_map Give result ≡ first_row n positive code 8 (emacs_command_rows shown) }
 {
     match code {
         KeyCode::Char('A') => Some(Cmd::Move(Movement::BeginningOfLine)),
@@ -328,7 +328,7 @@ fn ctrl_row(code: KeyCode, n: RepeatCount, positive: bool) -> Option<Cmd>
 // The rows with Alt.
 fn alt_row(code: KeyCode, n: RepeatCount, positive: bool) -> Option<Cmd>
     ensures { (shown : Shown)
-        → option_map Gives result ≡ first_row n positive code 4 (emacs_command_rows shown) }
+        → option_map Give result ≡ first_row n positive code 4 (emacs_command_rows shown) }
 {
     match code {
         KeyCode::Backspace => Some(Cmd::Kill(back(n, positive))),

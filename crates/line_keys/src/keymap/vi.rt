@@ -30,9 +30,8 @@ impl<D: Decides> InputState<'_, D> {
     ghost use Rattle.line_keys.specs.Counts.{how_often};
     ghost use Rattle.line_keys.specs.Follows.{Follows};
     ghost use Rattle.line_keys.specs.InputStates.{input_of, custom_in, situation_in};
-    ghost use Rattle.line_keys.specs.Meant.{changes, command_of};
     ghost use Rattle.line_keys.specs.Phrases.{and_then, becoming};
-    ghost use Rattle.line_keys.specs.Vi.{Remembers, changed, command_table, entered, insert_table};
+    ghost use Rattle.line_keys.specs.Vi.{Remembers, changed, changes, command_of, command_table, entered, insert_table};
     ghost use Rattle.line_keys.specs.Vi.{is_new, operation, typed, vi_command, vi_counted};
     ghost use Rattle.line_keys.specs.Vi.{vi_insert, vi_phrase};
     ghost use Rattle.line_keys.specs.ViCounts.{typed_count};
@@ -288,7 +287,7 @@ impl<D: Decides> InputState<'_, D> {
     {
         match vi_insert_row(wrt, key) {
             Some(InsertDeed::Give(cmd)) => Ok(cmd),
-            Some(InsertDeed::Type(c)) => Ok(typed_in(self.input_mode, c)),
+            Some(InsertDeed::Typed(c)) => Ok(typed_in(self.input_mode, c)),
             Some(InsertDeed::Leave(cmd)) => {
                 self.input_mode = InputMode::Command;
                 wrt.done_inserting()?;

@@ -1,10 +1,9 @@
 //! Motions after Vi's operators, and searches for a character.
 
-ghost use Rattle.std.specs.Prelude.{◌≡◌, option_map, true};
+ghost use Rattle.std.specs.Prelude.{◌≡◌, true};
 ghost use Rattle.line_keys.specs.Tables.{look};
 ghost use Rattle.line_keys.specs.ViMotions.{motion_rows, change_rows, motion_of};
 ghost use Rattle.line_keys.specs.ViSearches.{opposite_of, searching};
-ghost use Rattle.line_keys.specs.Meant.{motion_meant};
 
 use crate::flags::Modifiers;
 use crate::handler::Decides;
@@ -22,7 +21,7 @@ const CHANGE: KeyEvent = KeyEvent(KeyCode::Char('c'), Modifiers::NONE);
 
 /// A way to search for a character.
 #[derive(Clone, Copy)]
-pub(crate) enum Search {
+pub enum Search {
     Forward,
     ForwardBefore,
     Backward,
@@ -30,7 +29,7 @@ pub(crate) enum Search {
 }
 
 impl Search {
-    ghost use Rattle.line_keys.specs.Meant.{search_of};
+    ghost use Rattle.line_keys.specs.ViSearches.{search_of};
 
     pub fn to(self, c: char) -> CharSearch
         ensures { result ≡ search_of self c }
@@ -46,8 +45,10 @@ impl Search {
 
 /// What a key is after an operator.
 #[derive(Drop)]
-pub(crate) enum Motion {
+pub enum Motion {
+    /// By a movement.
     Go(Movement),
+    /// To the character that is typed next.
     Seek(Search),
     /// The search that is kept, once more.
     Again,
@@ -77,7 +78,7 @@ pub(crate) fn searching(n: RepeatCount, search: Option<CharSearch>) -> Option<Mo
 
 // The rows of motions.
 fn motion_row(key: KeyEvent, n: RepeatCount) -> Option<Motion>
-    ensures { option_map motion_meant result ≡ look n true key motion_rows }
+    ensures { result ≡ look n true key motion_rows }
 {
     use KeyCode as K;
     use KeyEvent as E;
@@ -112,7 +113,7 @@ fn motion_row(key: KeyEvent, n: RepeatCount) -> Option<Motion>
 
 // The rows of motions of a change, which takes no blanks after a word.
 fn change_row(key: KeyEvent, n: RepeatCount) -> Option<Motion>
-    ensures { option_map motion_meant result ≡ look n true key change_rows }
+    ensures { result ≡ look n true key change_rows }
 {
     match key {
         KeyEvent(KeyCode::Char('w'), Modifiers::NONE) => {
@@ -128,7 +129,7 @@ fn change_row(key: KeyEvent, n: RepeatCount) -> Option<Motion>
 // What a key is after an operator, which may be a change.
 #[tactic(auto, using(crate::proofs::Steps::motions), unfolding(crate::specs::ViMotions::motion_of))]
 fn motion_of(changing: bool, key: KeyEvent, n: RepeatCount) -> Option<Motion>
-    ensures { option_map motion_meant result ≡ motion_of changing n key }
+    ensures { result ≡ motion_of changing n key }
 {
     if !changing {
         return motion_row(key, n);
@@ -142,7 +143,6 @@ fn motion_of(changing: bool, key: KeyEvent, n: RepeatCount) -> Option<Motion>
 impl<D: Decides> InputState<'_, D> {
     ghost use Rattle.line_keys.specs.InputStates.{input_of, custom_in};
     ghost use Rattle.line_keys.specs.Follows.{Follows, silent};
-    ghost use Rattle.line_keys.specs.Meant.{search_of};
     ghost use Rattle.line_keys.specs.ViMotions.{motion_by, vi_motion};
     ghost use Rattle.line_keys.specs.ViSearches.{sought};
 
@@ -204,7 +204,7 @@ impl<D: Decides> InputState<'_, D> {
         n: RepeatCount,
     ) -> Result<Option<Movement>, ReadlineError>
         ensures sought { let input = input_of self.old in
-            let script = sought (search_of search) n input in
+            let script = sought search n input in
             Follows silent (custom_in self.old D.decides) script
             tt input tt (input_of self.new) (R.feed rdr.old) (R.feed rdr.new) result }
         ensures bindings { self.new.custom_bindings ≡ self.old.custom_bindings }

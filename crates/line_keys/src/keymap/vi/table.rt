@@ -1,13 +1,13 @@
 //! The rows of Vi's tables.
 
 ghost use Rattle.std.specs.Prelude.{◌≡◌, ℕ, None, option_map, true};
-ghost use Rattle.line_keys.specs.Meant.{insert_meant, meant};
-ghost use Rattle.line_keys.specs.Tables.{Does, Gives, look};
+ghost use Rattle.line_keys.specs.Tables.{look};
 ghost use Rattle.line_keys.specs.Vi.{operated};
-ghost use Rattle.line_keys.specs.ViTables.{Turns, deed_of, insert_deed, vi_edit_rows, vi_move_rows};
+ghost use Rattle.line_keys.specs.ViTables.{deed_of, insert_deed, vi_edit_rows, vi_move_rows};
 ghost use Rattle.line_keys.specs.ViTables.{vi_reading_rows, vi_turn_rows};
 ghost use Rattle.line_keys.specs.declared.command.Cmd.TheVariants.{Replace};
 ghost use Rattle.line_keys.specs.declared.command.InputMode.TheVariants.{Insert};
+ghost use Rattle.line_keys.specs.declared.keymap.vi.table.Deed.TheVariants.{Give, Turn};
 
 use crate::command::{Cmd, InputMode};
 use crate::flags::Modifiers;
@@ -18,27 +18,31 @@ use line_buffer::{Anchor, At, Movement, RepeatCount, Word};
 
 /// What a key of command mode does.
 #[derive(Drop)]
-pub(crate) enum Deed {
+pub enum Deed {
+    /// Gives a command.
     Give(Cmd),
-    /// Turns to insert mode, which the display is told.
+    /// Turns to insert mode, which the display is told, and gives a command.
     Insert(Cmd),
-    /// Turns to a mode by a command that itself begins what is undone as one.
+    /// Turns to a mode and gives a command, which itself begins what is undone as one.
     Turn(InputMode, Cmd),
+    /// Makes a command of the motion after it. A change turns to insert mode before its motion is
+    /// read.
     Operate(Operator),
+    /// Moves to the character that is typed next.
     Search(Search),
-    /// The search that is kept, once more.
+    /// Moves by the search that is kept, once more.
     Again,
-    /// The search that is kept, the other way.
+    /// Moves by the search that is kept, the other way.
     Back,
-    /// The last change once more.
+    /// Makes the last change once more.
     Repeat,
-    /// The character that is typed next, in place of those under the cursor.
+    /// Puts the character that is typed next in the place of those under the cursor.
     Replace,
 }
 
 /// What a motion follows.
 #[derive(Clone, Copy, PartialEq, Eq)]
-pub(crate) enum Operator {
+pub enum Operator {
     Change,
     Delete,
     Yank,
@@ -47,7 +51,7 @@ pub(crate) enum Operator {
 }
 
 impl Operator {
-    ghost use Rattle.line_keys.specs.Meant.{command_of};
+    ghost use Rattle.line_keys.specs.Vi.{command_of};
 
     /// What the operator makes of a motion.
     pub fn command(self, motion: Option<Movement>) -> Cmd
@@ -68,20 +72,21 @@ impl Operator {
 
 /// What a key of insert and replace mode does.
 #[derive(Drop)]
-pub(crate) enum InsertDeed {
+pub enum InsertDeed {
+    /// Gives a command.
     Give(Cmd),
     /// Types a character, in replace mode over the one at the cursor.
-    Type(char),
-    /// Turns to command mode, which the display is told.
+    Typed(char),
+    /// Turns to command mode, which the display is told, and gives a command.
     Leave(Cmd),
-    /// Turns to command mode likewise, where this character's key is read.
+    /// Turns to command mode likewise, and this character's key is read there.
     Command(char),
 }
 
 /// The rows of insert and replace mode.
 #[tactic(auto, unfolding(crate::specs::ViTables::insert_deed))]
 pub(crate) fn vi_insert_row<W: Refresher>(wrt: &W, key: KeyEvent) -> Option<InsertDeed>
-    ensures { option_map insert_meant result ≡ insert_deed (W.display.shown wrt.now) key }
+    ensures { result ≡ insert_deed (W.display.shown wrt.now) key }
 {
     use InsertDeed as D;
     use KeyCode as K;
@@ -89,7 +94,7 @@ pub(crate) fn vi_insert_row<W: Refresher>(wrt: &W, key: KeyEvent) -> Option<Inse
     use Modifiers as M;
 
     match key {
-        E(K::Char(c), M::NONE) => Some(D::Type(c)),
+        E(K::Char(c), M::NONE) => Some(D::Typed(c)),
         E(K::Char('H'), M::CTRL) | E::BACKSPACE => {
             Some(D::Give(Cmd::Kill(Movement::BackwardChar(1))))
         }
@@ -107,7 +112,7 @@ pub(crate) fn vi_insert_row<W: Refresher>(wrt: &W, key: KeyEvent) -> Option<Inse
 
 // The rows of motions.
 fn vi_move_row(key: KeyEvent, n: RepeatCount) -> Option<Cmd>
-    ensures { option_map Gives result ≡ look n true key vi_move_rows }
+    ensures { option_map Give result ≡ look n true key vi_move_rows }
 {
     use KeyCode as K;
     use KeyEvent as E;
@@ -143,7 +148,7 @@ fn vi_move_row(key: KeyEvent, n: RepeatCount) -> Option<Cmd>
 
 // The rows of edits that wait for no motion, and the rest.
 fn vi_edit_row(key: KeyEvent, n: RepeatCount) -> Option<Cmd>
-    ensures { option_map Gives result ≡ look n true key vi_edit_rows }
+    ensures { option_map Give result ≡ look n true key vi_edit_rows }
 {
     use KeyCode as K;
     use KeyEvent as E;
@@ -169,7 +174,7 @@ fn vi_edit_row(key: KeyEvent, n: RepeatCount) -> Option<Cmd>
 
 // The rows whose keys leave command mode.
 fn vi_turn_row(key: KeyEvent, n: RepeatCount) -> Option<Deed>
-    ensures { option_map meant result ≡ look n true key vi_turn_rows }
+    ensures { result ≡ look n true key vi_turn_rows }
 {
     use KeyCode as K;
     use KeyEvent as E;
@@ -199,14 +204,14 @@ fn vi_turn_row(key: KeyEvent, n: RepeatCount) -> Option<Deed>
 
 // To insert mode, where what is typed takes the range's place.
 fn replacing(range: Movement) -> Deed
-    ensures { meant result ≡ Does (Turns Insert (Replace range None)) }
+    ensures { result ≡ Turn Insert (Replace range None) }
 {
     Deed::Turn(InputMode::Insert, Cmd::Replace(range, None))
 }
 
 // The rows whose keys read on, or go by what is kept.
 fn vi_reading_row(key: KeyEvent) -> Option<Deed>
-    ensures { (n : ℕ) → option_map meant result ≡ look n true key vi_reading_rows }
+    ensures { (n : ℕ) → result ≡ look n true key vi_reading_rows }
 {
     let KeyEvent(KeyCode::Char(c), Modifiers::NONE) = key else {
         return None;
@@ -232,7 +237,7 @@ fn vi_reading_row(key: KeyEvent) -> Option<Deed>
 /// What a key of command mode does, by the count.
 #[tactic(auto, using(crate::proofs::Steps::tables))]
 pub(crate) fn vi_command_row(key: KeyEvent, n: RepeatCount) -> Option<Deed>
-    ensures { option_map meant result ≡ deed_of n key }
+    ensures { result ≡ deed_of n key }
 {
     if let Some(cmd) = vi_move_row(key, n) {
         return Some(Deed::Give(cmd));

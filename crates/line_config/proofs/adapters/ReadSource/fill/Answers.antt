@@ -14,8 +14,8 @@ returns-else-is_empty-clause-told g c =
     let unmet : s.met ≡ None = grind (arith, common_steps) in
     let noted : c.note.new.self.bytes ≡ s.log.bytes ++ bytes = grind (arith, common_steps) in
     let len : length c.as_slice-in-Ok.result.now ≡ length bytes = grind (arith, common_steps) in
-    let few : s.count ≤ 2 ^ 63 - 256 = grind (arith, common_steps) in
-    let fits : length bytes ≤ 256 = omega (arith, w.ordered, w.within, length-take {A = ℕ}, length-drop {A = ℕ}) in
+    let few : s.count ≤ 2 ^ 63 - 4096 = grind (arith, common_steps) in
+    let fits : length bytes ≤ 4096 = omega (arith, w.ordered, w.within, length-take {A = ℕ}, length-drop {A = ℕ}) in
     let some : bytes ≡ [] → ⊥ = λ e. grind (arith, common_steps) in
     fills_from g.K.Foretold.bytes g.K.Foretold.last s.log.bytes (bytes_in s.unread) bytes c.note.new.self.bytes s.met s.count (s.count + length c.as_slice-in-Ok.result.now) s.failed
     c.requires unmet noted some (omega (arith, len, few, fits))

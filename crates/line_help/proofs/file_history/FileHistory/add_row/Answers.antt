@@ -28,7 +28,7 @@ returns-in-Some-clause-text c =
 pub returns-in-Some-clause-fault : goal.returns-in-Some-clause-fault
 returns-in-Some-clause-fault c =
     let utf8 = read_utf8 _ _ c.args.row.now c.from_utf8.result c.from_utf8.ensures.cases (sym c.map_err.ensures.variant ∙ ap is_ok c.in_ok-text.was) (λ text p. p.1) in
-    good_fault c.args.row.now c.add_owned.result utf8 c.add_owned.ensures.fault
+    good_fault c.args.row.now c.add_owned.result utf8 c.add_owned.ensures.grows.fault
 
 pub returns-in-None-clause-text : goal.returns-in-None-clause-text
 returns-in-None-clause-text c =
@@ -38,4 +38,4 @@ returns-in-None-clause-text c =
 pub returns-in-None-clause-fault : goal.returns-in-None-clause-fault
 returns-in-None-clause-fault c =
     let utf8 = read_utf8 _ _ c.args.row.now c.from_utf8.result c.from_utf8.ensures.cases (sym c.map_err.ensures.variant ∙ ap is_ok c.in_ok-text.was) (λ text p. p.1) in
-    good_fault c.args.row.now c.add.result utf8 c.add.ensures.fault
+    good_fault c.args.row.now c.add.result utf8 c.add.ensures.grows.fault

@@ -24,8 +24,8 @@ loop-index-preserved g c =
     piece_sent held failed row_of entries (rows_text (drop c.args.first entries)) at other inside c.loop-index.invariant
     (subst Took entry c.in_ok-write_row.ensures.sends.sent) c.in_ok-write_row.ensures.sends.works
 
-pub returns-in_err-write_row-clause-sends : goal.returns-in_err-write_row-clause-sends
-returns-in_err-write_row-clause-sends g c =
+pub returns-in_err-write_row : goal.returns-in_err-write_row
+returns-in_err-write_row g c =
     let held = g.S.Sink.held in
     let failed = g.S.Sink.has_failed in
     let entries = c.args.self.now.kept.entries in
@@ -35,15 +35,21 @@ returns-in_err-write_row-clause-sends g c =
     let entry : c.as_str.result.now ≡ get_or entries at other = search rules in
     let Took : List ℕ → Type 0 = λ entry. TakesSome held c.loop-index.sink c.write_row.new.sink (row_of entry) in
     let rows = rows_text (drop c.args.first entries) in
-    sends_refused held failed _ rows c.from_residual.ensures.1 c.in_err-write_row.ensures.sends.err
-    (piece_refused held failed row_of entries rows at other inside c.loop-index.invariant (subst Took entry c.in_err-write_row.ensures.sends.begins))
+    record {
+      sends = sends_refused held failed _ rows c.from_residual.ensures.1 c.in_err-write_row.ensures.sends.err
+          (piece_refused held failed row_of entries rows at other inside c.loop-index.invariant (subst Took entry c.in_err-write_row.ensures.sends.begins));
+      fault = search rules;
+    }
 
-pub returns-clause-sends : goal.returns-clause-sends
-returns-clause-sends g c =
+pub returns : goal.returns
+returns g c =
     let held = g.S.Sink.held in
     let failed = g.S.Sink.has_failed in
     let entries = c.args.self.now.kept.entries in
     let at = c.loop-index.index in
     let rows = rows_text (drop c.args.first entries) in
     let all : length entries ≤ at = search rules in
-    sends_flushed held failed rows (pieces_sent held failed row_of entries rows at all c.loop-index.invariant) c.loop-index.invariant.works c.pass_on.ensures.sends
+    record {
+      sends = sends_flushed held failed rows (pieces_sent held failed row_of entries rows at all c.loop-index.invariant) c.loop-index.invariant.works c.pass_on.ensures.sends;
+      fault = c.pass_on.ensures.fault;
+    }

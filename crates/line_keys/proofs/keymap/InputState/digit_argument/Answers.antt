@@ -7,33 +7,33 @@ use Rattle.line_keys.proofs.keymap.InputState.digit_argument.Goals as goal
 pub returns-in_err-prompt : goal.returns-in_err-prompt
 returns-in_err-prompt g c =
     let is : c.from_residual.result ≡ Err c.in_err-prompt.field-0.0 = grind arith in
-    rw is ((rw (to_z-of_z w16 c.args.begun c.ranges.begun) at c.loop-prompt.invariant) _ _ _ (count_unprompted _ _ _ _ _ _ _ _ c.in_err-prompt.ensures.err))
+    rw is ((rw (to_z-of_z w16 c.args.begun c.ranges.begun) at c.loop-prompt.invariant) _ _ _ (count_unprompted _ _ _ _ _ _ _ _ c.in_err-prompt.ensures))
 
 pub returns-in_err-refresh_prompt_and_line : goal.returns-in_err-refresh_prompt_and_line
 returns-in_err-refresh_prompt_and_line g c =
     let is : c.from_residual-in_err-refresh_prompt_and_line.result ≡ Err c.in_err-refresh_prompt_and_line.field-0.0 = grind arith in
     rw is ((rw (to_z-of_z w16 c.args.begun c.ranges.begun) at c.loop-prompt.invariant) _ _ _ (count_unasked _ _ _ _ _ _ _ _ _
-    (rw (c.as_str.ensures.value, c.in_ok-prompt.ensures.ok) at c.in_err-refresh_prompt_and_line.ensures)))
+    (rw (c.as_str.ensures.value, c.in_ok-prompt.ensures) at c.in_err-refresh_prompt_and_line.ensures)))
 
 pub returns-in_err-key : goal.returns-in_err-key
 returns-in_err-key g c =
     let is : c.from_residual-in_err-key.result ≡ Err c.in_err-key.field-0.0 = grind arith in
     rw is ((rw (to_z-of_z w16 c.args.begun c.ranges.begun) at c.loop-prompt.invariant) _ _ _ (count_stops _ _ _ _ _ _ _ _ _ _
-    (rw (c.as_str.ensures.value, c.in_ok-prompt.ensures.ok) at c.in_ok-refresh_prompt_and_line.ensures) _ c.in_err-key.ensures))
+    (rw (c.as_str.ensures.value, c.in_ok-prompt.ensures) at c.in_ok-refresh_prompt_and_line.ensures) _ c.in_err-key.ensures))
 
 pub returns-in_err-refresh_line-in-None : goal.returns-in_err-refresh_line-in-None
 returns-in_err-refresh_line-in-None g c =
     let is : c.from_residual-in_err-refresh_line-in-None.result ≡ Err c.in_err-refresh_line-in-None.field-0.0 = grind arith in
     rw is ((rw (to_z-of_z w16 c.args.begun c.ranges.begun) at c.loop-prompt.invariant) _ _ _ (count_undrawn _ _ _ _ _ _ _ _ _ _
-    (rw (c.as_str.ensures.value, c.in_ok-prompt.ensures.ok) at c.in_ok-refresh_prompt_and_line.ensures) _ _ _ c.in_ok-key.ensures c.in-None.ensures c.in_err-refresh_line-in-None.ensures))
+    (rw (c.as_str.ensures.value, c.in_ok-prompt.ensures) at c.in_ok-refresh_prompt_and_line.ensures) _ _ _ c.in_ok-key.ensures c.in-None.ensures c.in_err-refresh_line-in-None.ensures))
 
 pub returns-in-None : goal.returns-in-None
 returns-in-None g c =
     (rw (to_z-of_z w16 c.args.begun c.ranges.begun) at c.loop-prompt.invariant) _ _ _ (count_ends _ _ _ _ _ _ _ _ _ _
-    (rw (c.as_str.ensures.value, c.in_ok-prompt.ensures.ok) at c.in_ok-refresh_prompt_and_line.ensures) _ _ _ c.in_ok-key.ensures c.in-None.ensures c.in_ok-refresh_line-in-None.ensures)
+    (rw (c.as_str.ensures.value, c.in_ok-prompt.ensures) at c.in_ok-refresh_prompt_and_line.ensures) _ _ _ c.in_ok-key.ensures c.in-None.ensures c.in_ok-refresh_line-in-None.ensures)
 
 pub loop-prompt-preserved : goal.loop-prompt-preserved
 loop-prompt-preserved g c wrt rdr result follows =
     let fits : SFits w16 c.in-Some.more = search rules in
     c.loop-prompt.invariant _ _ _ (count_goes_on _ _ _ _ _ _ _ _ _ _
-    (rw (c.as_str.ensures.value, c.in_ok-prompt.ensures.ok) at c.in_ok-refresh_prompt_and_line.ensures) _ _ _ _ _ c.in_ok-key.ensures c.in-Some.ensures (rw (to_z-of_z w16 c.in-Some.more fits) at follows))
+    (rw (c.as_str.ensures.value, c.in_ok-prompt.ensures) at c.in_ok-refresh_prompt_and_line.ensures) _ _ _ _ _ c.in_ok-key.ensures c.in-Some.ensures (rw (to_z-of_z w16 c.in-Some.more fits) at follows))

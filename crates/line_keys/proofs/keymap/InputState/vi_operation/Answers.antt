@@ -2,7 +2,7 @@ use Rattle.std.proofs.Common.{◌≡◌, arith, ap, sym}
 use Rattle.std.specs.Prelude.{Err}
 use Rattle.line_keys.specs.declared.command.Cmd.{Cmd}
 use Rattle.line_keys.specs.InputStates.{input_of}
-use Rattle.line_keys.specs.Meant.{changes}
+use Rattle.line_keys.specs.Vi.{changes}
 use Rattle.line_keys.specs.Phrases.{answered}
 use Rattle.line_keys.proofs.Following.{becomes_follows, then_follows, then_stops, ends_follow}
 use Rattle.line_keys.proofs.Remembering.{entered_mode}
