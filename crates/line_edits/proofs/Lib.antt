@@ -1,3 +1,7 @@
+pub mod ExchangeLemmas
 pub mod PlainLemmas
 pub mod RingLemmas
+pub mod StepLemmas
+pub mod StopLaws
+pub mod UndoLemmas
 pub mod WrittenLemmas

@@ -1,6 +1,7 @@
--- What a kill that is refused leaves of the ring, of a ring and a record that are told of it.
-use Rattle.std.specs.Prelude.{Bool, true, false, if◌then◌else◌, Option, Some, None, is_some, Result, Ok, Err, OnErr, IsErrAnd}
+-- What a kill that is refused leaves of line, record and ring.
+use Rattle.std.specs.Prelude.{Bool, true, false, if◌then◌else◌, Option, Some, None, is_some, Result, Ok, Err, OnErr, IsErrAnd, IsUtf8}
 use Rattle.std.proofs.Common.{◌≡◌, ◌⊎◌, inl, inr, ℕ, List, [], ◌∷◌, ◌++◌, refl, ap, ◌∙◌}
+use Rattle.line_buffer.specs.Edit.{StopsAt}
 use Rattle.line_buffer.specs.Event.{Event}
 use Rattle.line_buffer.specs.Event.Event.{StartKilling, StopKilling}
 use Rattle.line_buffer.specs.Line.{Line}
@@ -10,9 +11,17 @@ use Rattle.line_buffer.specs.declared.range.Span.{Span}
 use Rattle.line_buffer.specs.declared.types.Movement.{Movement}
 use Rattle.line_buffer.proofs.KeptLemmas.{no_split, no_change, split_alone, split_between}
 use Rattle.line_record.specs.declared.joined.Joined.{Joined}
+use Rattle.line_buffer.proofs.ReplayLemmas.{stops_wanting}
+use Rattle.line_record.proofs.JoinedLaws.{refusals_leave_no_unmade_change}
+use Rattle.line_record.specs.Held.{Held}
+use Rattle.line_record.specs.Items.{Items, ItemsStand, RecordedIn, record_refuses, held_on}
 use Rattle.line_record.specs.Ring.{Ring, ring_step, ring_all, ring_refuses}
+use Rattle.line_record.specs.Runs.{recorded_all}
 use Rattle.line_record.specs.Together.{joined_takes, joined_refuses}
 use Rattle.line_edits.specs.Edits.{TookOrNot}
+use Rattle.line_edits.specs.Steps.{StopsWithin}
+use Rattle.line_edits.specs.Written.{written}
+use Rattle.line_edits.proofs.StepLemmas.{among}
 
 abbrev hears : Ring → Event → Ring → Type 0
 hears r e q = q ≡ ring_step e r
@@ -76,6 +85,22 @@ module _ {B : Type 0} (second second_refuses : B → Event → B → Type 0) whe
   pub ring_stopped : (movement : Movement) (l : Line) {s t : Joined Ring B} {before after : List ℕ}
       → StopsAmong (joined_takes hears second) (joined_refuses hears ring_refuses second_refuses) (kill_closing movement) (kill_events movement l) s t before after → TookOrNot movement l s.first.now t.first.now
   ring_stopped movement l {s} {t} {before} {after} call = ring_by (goes_by_clusters movement) (range_of movement l) l s t before after call
+
+-- ---- line and record, of a ring and a record
+
+marks_kept : (by_clusters : Bool) (text : List ℕ) (held : List Held) → recorded_all (if by_clusters then [] else StopKilling ∷ []) text held ≡ held
+unfolding recorded_all
+marks_kept true text held = refl
+marks_kept false text held = refl
+
+-- both follow the same events
+pub killed_among : (movement : Movement) {l after : Line} {s t : Joined Ring Items} → IsUtf8 l.text → ItemsStand s.second.now l.text
+    → StopsAt (joined_takes hears RecordedIn) (joined_refuses hears ring_refuses record_refuses) (kill_closing movement) (kill_events movement l) s t l after
+    → StopsWithin (kill_events movement l) (written l s.second.now) (written after t.second.now)
+unfolding stops_wanting
+killed_among movement {l} {after} {s} {t} utf8 stand call =
+    let kept = refusals_leave_no_unmade_change hears ring_refuses (kill_closing movement) (kill_events movement l) s t l.text after.text stand utf8 (stops_wanting call.stops) in
+    among s.second.now t.second.now call (kept.held ∙ marks_kept (goes_by_clusters movement) after.text (recorded_all call.stops.done l.text (held_on s.second.now l.text)))
 
 pub on_refusal : {A E P : Type 0} (e : E) (result : Result A E) → IsErrAnd result (λ x. x ≡ e) → P → OnErr result P
 on_refusal e (Ok a) is p = tt

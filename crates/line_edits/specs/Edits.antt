@@ -1,57 +1,81 @@
--- What each edit makes of a line and its record.
-use Rattle.std.specs.Prelude.{◌≡◌, ◌⊎◌, ℕ, Bool, true, false, max, if◌then◌else◌, List, [], ◌∷◌, take, drop, length, Option, Some, None, is_some, encode_utf8}
+-- The steps of each edit of a line and its record, and what they make of both.
+use Rattle.std.specs.Prelude.{◌≡◌, ◌⊎◌, ⊤, ℕ, Bool, true, false, max, if◌then◌else◌, List, [], ◌∷◌, take, drop, length, Option, Some, None, is_some, encode_utf8}
 use Rattle.unicode_segmentation.specs.Grapheme.{graphemes}
 use Rattle.line_buffer.specs.Clusters.{place_forward, place_backward}
-use Rattle.line_buffer.specs.Edit.{Edit}
 use Rattle.line_buffer.specs.Indent.{indent}
-use Rattle.line_buffer.specs.Insertions.{update, insert as insertion, yank as yanked_in, yank_pop as popped_in}
+use Rattle.line_buffer.specs.Insertions.{update, insert, yank, yank_pop}
 use Rattle.line_buffer.specs.LetterCase.{edit_word}
 use Rattle.line_buffer.specs.Line.{Line, moved_to, put_in, replaced, text_after}
 use Rattle.line_buffer.specs.Range.{goes_by_clusters, delete, kill, kill_events}
-use Rattle.line_buffer.specs.Replay.{insertion as told_insertion, replacement}
-use Rattle.line_buffer.specs.Transpositions.{transpose_chars, transpose_words}
+use Rattle.line_buffer.specs.Replay.{insertion, replacement}
+use Rattle.line_buffer.specs.Transpositions.{transpose_chars, transpose_words, before_transposed}
 use Rattle.line_buffer.specs.declared.types.Movement.{Movement}
 use Rattle.line_buffer.specs.declared.types.WordAction.{WordAction}
+use Rattle.line_config.specs.Scripts.{Ends, Asks}
 use Rattle.line_record.specs.Held.{line_back}
 use Rattle.line_record.specs.Ring.{Ring, ring_all}
-use Rattle.line_edits.specs.Written.{Written, edited, in_group}
+use Rattle.line_edits.specs.Steps.{Steps, Tells, Leaves, made, doing, telling, in_turn, answering, grouping}
+use Rattle.line_edits.specs.Written.{Written}
 
--- an edit of the line that tells the record its events
-abbrev pub told_by : {A : Type 0} → (Line → Edit A) → Written → Written
-told_by put w = edited (put w.line).events (put w.line).line w
+-- what an edit of the line makes of line and record
+abbrev pub by : {A : Type 0} → (Line → Steps A) → Written → Written
+by edit w = made (edit w.line) w
 
 -- ---- texts put in
 
+abbrev pub typing : ℕ → ℕ → Line → Steps (Option Bool)
+typing c n l = telling (insert c n l)
+
 abbrev pub char_typed : ℕ → ℕ → Written → Written
-char_typed c n = told_by (insertion c n)
+char_typed c n = by (typing c n)
+
+abbrev pub yanking : List ℕ → ℕ → Line → Steps (Option Bool)
+yanking text n l = telling (yank text n l)
 
 abbrev pub text_yanked : List ℕ → ℕ → Written → Written
-text_yanked text n = told_by (yanked_in text n)
+text_yanked text n = by (yanking text n)
 
 -- a text put at the cursor, which stays before it
+abbrev pub putting_behind : List ℕ → Line → Steps ⊤
+putting_behind text l = doing (Tells (insertion l.place text ∷ []) (put_in l.place text l)) tt
+
 abbrev pub put_behind : List ℕ → Written → Written
-put_behind text w =
-    edited (told_insertion w.line.place text ∷ []) (put_in w.line.place text w.line) w
+put_behind text = by (putting_behind text)
 
 -- the whole text exchanged
+abbrev pub updating : List ℕ → ℕ → Line → Steps ⊤
+updating text place l = telling (update text place l)
+
 abbrev pub updated : List ℕ → ℕ → Written → Written
-updated text place = told_by (update text place)
+updated text place = by (updating text place)
+
+abbrev pub updating_in_group : List ℕ → ℕ → Line → Steps ⊤
+updating_in_group text place l = grouping (updating text place l)
 
 abbrev pub update_in_group : List ℕ → ℕ → Written → Written
-update_in_group text place = in_group (updated text place)
+update_in_group text place = by (updating_in_group text place)
 
 -- ---- a yanked text exchanged
 
+abbrev pub popping : ℕ → List ℕ → Line → Steps ⊤
+popping size text l = answering tt (telling (yank_pop size text l))
+
 abbrev pub popped : ℕ → List ℕ → Written → Written
-popped size text = told_by (popped_in size text)
+popped size text = by (popping size text)
+
+abbrev pub popping_in_group : ℕ → List ℕ → Line → Steps ⊤
+popping_in_group size text l = grouping (popping size text l)
 
 abbrev pub pop_in_group : ℕ → List ℕ → Written → Written
-pop_in_group size text = in_group (popped size text)
+pop_in_group size text = by (popping_in_group size text)
 
 -- ---- what is taken out
 
+abbrev pub killing : Movement → Line → Steps Bool
+killing movement l = telling (kill movement l)
+
 abbrev pub range_killed : Movement → Written → Written
-range_killed movement = told_by (kill movement)
+range_killed movement = by (killing movement)
 
 -- the ring where a kill's text finds no memory: no kill is open in it
 abbrev pub unkilled : Movement → Ring → Ring
@@ -65,63 +89,108 @@ TookOrNot movement l old new =
 -- ---- clusters exchanged for characters
 
 -- n clusters after the cursor taken out
+abbrev pub deleting : ℕ → Line → Steps ⊤
+deleting n l = answering tt (telling (delete n l))
+
 abbrev pub deleted : ℕ → Written → Written
-deleted n = told_by (delete n)
+deleted n = by (deleting n)
 
 -- how many of n clusters stand after the cursor
 abbrev pub clusters_after : ℕ → Line → ℕ
 clusters_after n l = length (take n (graphemes true (text_after l)))
 
-abbrev pub stepped_back : Written → Written
-stepped_back w = record { line = moved_to (place_backward 1 w.line) w.line; held = w.held }
+abbrev pub stepping_back : Line → Steps ⊤
+stepping_back l = doing (Leaves (moved_to (place_backward 1 l) l)) tt
 
 -- n clusters exchanged for a character each, the cursor on the last one
+abbrev pub exchanging : ℕ → ℕ → ℕ → Line → Steps ⊤
+exchanging c n count l =
+    let bare = (delete n l).line in
+    in_turn (deleting n l)
+    (in_turn (typing c count bare) (stepping_back (insert c count bare).line))
+
 abbrev pub exchanged_for : ℕ → ℕ → ℕ → Written → Written
-exchanged_for c n count w = stepped_back (char_typed c count (deleted n w))
+exchanged_for c n count = by (exchanging c n count)
+
+abbrev pub replacing : ℕ → ℕ → Line → Steps ⊤
+replacing c n l = grouping (exchanging c n (clusters_after n l) l)
 
 abbrev pub chars_replaced : ℕ → ℕ → Written → Written
-chars_replaced c n w = in_group (exchanged_for c n (clusters_after n w.line)) w
+chars_replaced c n = by (replacing c n)
 
 -- nothing is done where none stands there
-abbrev pub replaced_if_any : ℕ → ℕ → Written → Written
-replaced_if_any c n w = if is_some (place_forward n w.line) then chars_replaced c n w else w
+abbrev pub replacing_if_any : ℕ → ℕ → Line → Steps Bool
+replacing_if_any c n l =
+    if is_some (place_forward n l) then answering true (replacing c n l) else Ends false
 
 -- a character put in place of what stands up to a place
+abbrev pub putting_over : ℕ → ℕ → Line → Steps ⊤
+putting_over c end l =
+    doing (Tells (replacement l.place end (encode_utf8 c) l.text ∷ [])
+    (replaced l.place end (encode_utf8 c) l)) tt
+
 abbrev pub put_over : ℕ → ℕ → Written → Written
-put_over c end w =
-    edited (replacement w.line.place end (encode_utf8 c) w.line.text ∷ [])
-    (replaced w.line.place end (encode_utf8 c) w.line) w
+put_over c end = by (putting_over c end)
 
 -- the cluster at the cursor written over, if there is one
+abbrev pub writing_over : ℕ → Option ℕ → Line → Steps Bool
+writing_over c None l = Ends false
+writing_over c (Some end) l = answering true (putting_over c end l)
+
 abbrev pub written_over : ℕ → Option ℕ → Written → Written
-written_over c None w = w
-written_over c (Some end) w = put_over c end w
+written_over c end = by (writing_over c end)
+
+abbrev pub overwriting : ℕ → Line → Steps Bool
+overwriting c l = writing_over c (place_forward 1 l) l
 
 abbrev pub overwritten : ℕ → Written → Written
-overwritten c w = written_over c (place_forward 1 w.line) w
+overwritten c = by (overwriting c)
 
 -- ---- clusters and words
 
+abbrev pub transposing_chars : Line → Steps Bool
+transposing_chars l = telling (transpose_chars l)
+
 abbrev pub chars_transposed : Written → Written
-chars_transposed = told_by transpose_chars
+chars_transposed = by transposing_chars
+
+abbrev pub transposing_chars_in_group : Line → Steps Bool
+transposing_chars_in_group l = grouping (transposing_chars l)
 
 abbrev pub transpose_chars_in_group : Written → Written
-transpose_chars_in_group = in_group chars_transposed
+transpose_chars_in_group = by transposing_chars_in_group
+
+-- the cursor goes behind the earlier word before anything is exchanged
+abbrev pub transposing_words : ℕ → Line → Steps Bool
+transposing_words n l =
+    Asks (Leaves (before_transposed n l)) (λ none. telling (transpose_words n l))
 
 abbrev pub words_transposed : ℕ → Written → Written
-words_transposed n = told_by (transpose_words n)
+words_transposed n = by (transposing_words n)
+
+abbrev pub transposing_words_in_group : ℕ → Line → Steps Bool
+transposing_words_in_group n l = grouping (transposing_words n l)
 
 abbrev pub transpose_words_in_group : ℕ → Written → Written
-transpose_words_in_group n = in_group (words_transposed n)
+transpose_words_in_group n = by (transposing_words_in_group n)
+
+abbrev pub editing_word : WordAction → Line → Steps Bool
+editing_word action l = telling (edit_word action l)
 
 abbrev pub word_edited : WordAction → Written → Written
-word_edited action = told_by (edit_word action)
+word_edited action = by (editing_word action)
+
+abbrev pub editing_word_in_group : WordAction → Line → Steps Bool
+editing_word_in_group action l = grouping (editing_word action l)
 
 abbrev pub edit_word_in_group : WordAction → Written → Written
-edit_word_in_group action = in_group (word_edited action)
+edit_word_in_group action = by (editing_word_in_group action)
+
+abbrev pub indenting : Movement → ℕ → Bool → Line → Steps ⊤
+indenting movement amount dedent l = answering tt (telling (indent movement amount dedent l))
 
 abbrev pub indented : Movement → ℕ → Bool → Written → Written
-indented movement amount dedent = told_by (indent movement amount dedent)
+indented movement amount dedent = by (indenting movement amount dedent)
 
 -- ---- what is taken back
 

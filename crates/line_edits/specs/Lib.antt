@@ -1,3 +1,6 @@
 pub mod Written
+pub mod Steps
 pub mod Edits
+pub mod Laws
+pub mod Undoing
 pub mod Plain

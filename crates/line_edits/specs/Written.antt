@@ -1,12 +1,11 @@
 -- A line with the record of its texts, and what a call makes of both.
-use Rattle.std.specs.Prelude.{◌≡◌, ◌∷◌, Bool, List, Result, IfOk, OnOk}
+use Rattle.std.specs.Prelude.{◌≡◌, ◌∷◌, List, Result, IfOk, OnOk}
 use Rattle.line_buffer.specs.Event.{Event}
 use Rattle.line_buffer.specs.Line.{Line}
 use Rattle.line_record.specs.Held.{Held, ended}
 use Rattle.line_record.specs.Held.Held.{Opened}
 use Rattle.line_record.specs.Items.{Items, ItemsStand, held_on}
 use Rattle.line_record.specs.Runs.{recorded_all}
-use Rattle.line_edits.specs.Plain.{is_plain}
 
 pub record Written : Type 0 where
   pub line : Line
@@ -38,9 +37,3 @@ pub record Writes {A E : Type 0} (edit : Written → Written) (answer : A) (befo
   pub line : OnOk result (after ≡ (edit (written before old)).line)
   pub held : OnOk result (held_on new after.text ≡ (edit (written before old)).held)
   pub stand : ItemsStand new after.text
-
--- the same, and the mark of a plain text is true of the new one
-pub record Edits {A E : Type 0} (edit : Written → Written) (answer : A) (before after : Line)
-    (old new : Items) (plain : Bool) (result : Result A E) : Type 0 where
-  pub writes : Writes edit answer before after old new result
-  pub plain_is : plain ≡ is_plain after.text

@@ -1,10 +1,9 @@
 //! Clusters exchanged for characters.
-ghost use Rattle.std.specs.Prelude.{◌≡◌, ◌≤◌, is_some, IsCharBoundary, OnErr};
-ghost use Rattle.line_buffer.specs.Clusters.{place_forward};
+ghost use Rattle.std.specs.Prelude.{◌≡◌, ◌≤◌, IsCharBoundary, OnErr};
 ghost use Rattle.line_record.specs.Items.{ItemsStand};
-ghost use Rattle.line_edits.specs.Edits.{deleted, clusters_after, exchanged_for, chars_replaced, replaced_if_any, put_over, overwritten};
+ghost use Rattle.line_edits.specs.Edits.{deleting, clusters_after, exchanging, replacing, replacing_if_any, putting_over, overwriting};
 ghost use Rattle.line_edits.specs.Plain.{is_plain};
-ghost use Rattle.line_edits.specs.Written.{Edits, Writes};
+ghost use Rattle.line_edits.specs.Steps.{Edits, Rewrites};
 
 use crate::inserting::insert_told;
 use crate::plain::is_plain;
@@ -26,7 +25,7 @@ fn delete_told(
     n: RepeatCount,
 ) -> Result<(), OutOfMemory>
     requires { ItemsStand changes.old line.old.text }
-    ensures { Writes (deleted n) tt line.old line.new changes.old changes.new result }
+    ensures { Rewrites (deleting n line.old) line.old line.new changes.old changes.new result }
 {
     let _text = line.as_str();
     line.delete(alloc, n, changes)?;
@@ -41,7 +40,7 @@ fn exchange(
     n: RepeatCount,
 ) -> Result<(), OutOfMemory>
     requires { ItemsStand changes.old line.old.text }
-    ensures { Writes (exchanged_for ch n (clusters_after n line.old)) tt
+    ensures { Rewrites (exchanging ch n (clusters_after n line.old) line.old)
         line.old line.new changes.old changes.new result }
 {
     let count = clusters_after(line, n);
@@ -59,7 +58,7 @@ fn exchange_in_group(
     n: RepeatCount,
 ) -> Result<(), OutOfMemory>
     requires { ItemsStand changes.old line.old.text }
-    ensures { Writes (chars_replaced ch n) tt line.old line.new changes.old changes.new result }
+    ensures { Rewrites (replacing ch n line.old) line.old line.new changes.old changes.new result }
 {
     changes.begin(alloc)?;
     exchange(alloc, line, changes, ch, n)?;
@@ -79,7 +78,7 @@ pub fn replace_chars(
 ) -> Result<bool, OutOfMemory>
     requires stand { ItemsStand changes.old line.old.text }
     requires plain { plain.old ≡ is_plain line.old.text }
-    ensures { Edits (replaced_if_any ch n) (is_some (place_forward n line.old))
+    ensures { Edits (replacing_if_any ch n line.old)
         line.old line.new changes.old changes.new plain.new result }
 {
     if line.next_pos(n).is_none() {
@@ -101,7 +100,8 @@ fn put_over(
     requires order { line.old.place ≤ end }
     requires boundary { IsCharBoundary line.old.text end }
     requires stand { ItemsStand changes.old line.old.text }
-    ensures writes { Writes (put_over ch end) tt line.old line.new changes.old changes.new result }
+    ensures rewrites { Rewrites (putting_over ch end line.old)
+        line.old line.new changes.old changes.new result }
     ensures kept { OnErr result (line.new ≡ line.old) }
 {
     let _text = line.as_str();
@@ -122,7 +122,7 @@ pub fn overwrite(
 ) -> Result<bool, OutOfMemory>
     requires stand { ItemsStand changes.old line.old.text }
     requires plain { plain.old ≡ is_plain line.old.text }
-    ensures { Edits (overwritten ch) (is_some (place_forward 1 line.old))
+    ensures { Edits (overwriting ch line.old)
         line.old line.new changes.old changes.new plain.new result }
 {
     let Some(end) = line.next_pos(1) else {

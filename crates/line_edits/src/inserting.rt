@@ -2,9 +2,9 @@
 ghost use Rattle.std.specs.Prelude.{◌≡◌, ◌≤◌, ◌-◌, true, is_some, OnErr, IsCharBoundary};
 ghost use Rattle.line_buffer.specs.Insertions.{insert as insertion, yank as yanked_in};
 ghost use Rattle.line_record.specs.Items.{ItemsStand};
-ghost use Rattle.line_edits.specs.Edits.{char_typed, text_yanked, popped, put_behind, pop_in_group};
+ghost use Rattle.line_edits.specs.Edits.{typing, yanking, putting_behind, popping, popping_in_group};
 ghost use Rattle.line_edits.specs.Plain.{is_plain};
-ghost use Rattle.line_edits.specs.Written.{Edits, Writes};
+ghost use Rattle.line_edits.specs.Steps.{Edits, Rewrites};
 
 use crate::plain::is_plain;
 use line_buffer::{LineBuffer, OutOfMemory, RepeatCount, is_printable};
@@ -19,7 +19,7 @@ pub(crate) fn insert_told(
     n: RepeatCount,
 ) -> Result<Option<bool>, OutOfMemory>
     requires { ItemsStand changes.old line.old.text }
-    ensures writes { Writes (char_typed ch n) (insertion ch n line.old).answer
+    ensures rewrites { Rewrites (typing ch n line.old)
         line.old line.new changes.old changes.new result }
     ensures kept { OnErr result (line.new ≡ line.old) }
     ensures refused { OnErr result (is_some (insertion ch n line.old).answer ≡ true) }
@@ -30,7 +30,7 @@ pub(crate) fn insert_told(
 
 /// Inserts a character so many times. `None`: there is no room for it; else whether that is at the
 /// text's end.
-#[tactic(auto, using(crate::proofs::PlainLemmas::typed_plain))]
+#[tactic(auto, using(crate::proofs::PlainLemmas::typed_plain, crate::proofs::StepLemmas::left_unanswered))]
 pub fn insert_char(
     alloc: Global,
     line: &mut LineBuffer,
@@ -41,7 +41,7 @@ pub fn insert_char(
 ) -> Result<Option<bool>, OutOfMemory>
     requires stand { ItemsStand changes.old line.old.text }
     requires plain { plain.old ≡ is_plain line.old.text }
-    ensures writes { Edits (char_typed ch n) (insertion ch n line.old).answer
+    ensures writes { Edits (typing ch n line.old)
         line.old line.new changes.old changes.new plain.new result }
     ensures refused { OnErr result (is_some (insertion ch n line.old).answer ≡ true) }
 {
@@ -60,7 +60,7 @@ fn text_told(
     text: &str,
 ) -> Result<(), OutOfMemory>
     requires { ItemsStand changes.old line.old.text }
-    ensures writes { Writes (put_behind text.now) tt
+    ensures rewrites { Rewrites (putting_behind text.now line.old)
         line.old line.new changes.old changes.new result }
     ensures kept { OnErr result (line.new ≡ line.old) }
 {
@@ -80,7 +80,7 @@ pub fn insert_text(
 ) -> Result<(), OutOfMemory>
     requires stand { ItemsStand changes.old line.old.text }
     requires plain { plain.old ≡ is_plain line.old.text }
-    ensures { Edits (put_behind text.now) tt
+    ensures { Edits (putting_behind text.now line.old)
         line.old line.new changes.old changes.new plain.new result }
 {
     text_told(alloc, line, changes, text)?;
@@ -99,7 +99,7 @@ fn yank_told(
     n: RepeatCount,
 ) -> Result<Option<bool>, OutOfMemory>
     requires { ItemsStand changes.old line.old.text }
-    ensures writes { Writes (text_yanked text.now n) (yanked_in text.now n line.old).answer
+    ensures rewrites { Rewrites (yanking text.now n line.old)
         line.old line.new changes.old changes.new result }
     ensures kept { OnErr result (line.new ≡ line.old) }
     ensures refused { OnErr result (is_some (yanked_in text.now n line.old).answer ≡ true) }
@@ -119,7 +119,7 @@ pub fn yank(
 ) -> Result<Option<bool>, OutOfMemory>
     requires stand { ItemsStand changes.old line.old.text }
     requires plain { plain.old ≡ is_plain line.old.text }
-    ensures writes { Edits (text_yanked text.now n) (yanked_in text.now n line.old).answer
+    ensures writes { Edits (yanking text.now n line.old)
         line.old line.new changes.old changes.new plain.new result }
     ensures refused { OnErr result (is_some (yanked_in text.now n line.old).answer ≡ true) }
 {
@@ -141,7 +141,7 @@ fn pop_told(
     requires size { yank_size ≤ line.old.place }
     requires start { IsCharBoundary line.old.text (line.old.place - yank_size) }
     requires stand { ItemsStand changes.old line.old.text }
-    ensures { Writes (popped yank_size text.now) tt
+    ensures { Rewrites (popping yank_size text.now line.old)
         line.old line.new changes.old changes.new result }
 {
     let _text = line.as_str();
@@ -159,7 +159,7 @@ fn pop_told_in_group(
     requires size { yank_size ≤ line.old.place }
     requires start { IsCharBoundary line.old.text (line.old.place - yank_size) }
     requires stand { ItemsStand changes.old line.old.text }
-    ensures { Writes (pop_in_group yank_size text.now) tt
+    ensures { Rewrites (popping_in_group yank_size text.now line.old)
         line.old line.new changes.old changes.new result }
 {
     changes.begin(alloc)?;
@@ -181,7 +181,7 @@ pub fn yank_pop(
     requires size { yank_size ≤ line.old.place }
     requires start { IsCharBoundary line.old.text (line.old.place - yank_size) }
     requires stand { ItemsStand changes.old line.old.text }
-    ensures { Edits (pop_in_group yank_size text.now) tt
+    ensures { Edits (popping_in_group yank_size text.now line.old)
         line.old line.new changes.old changes.new plain.new result }
 {
     let done = pop_told_in_group(alloc, line, changes, yank_size, text);

@@ -4,16 +4,16 @@ ghost use Rattle.line_buffer.specs.Range.{range_of, kill_events};
 ghost use Rattle.line_record.specs.Items.{ItemsStand};
 ghost use Rattle.line_record.specs.Names.{SameNames};
 ghost use Rattle.line_record.specs.Ring.{ring_all};
-ghost use Rattle.line_edits.specs.Edits.{range_killed, TookOrNot};
+ghost use Rattle.line_edits.specs.Edits.{killing, TookOrNot};
 ghost use Rattle.line_edits.specs.Plain.{is_plain};
-ghost use Rattle.line_edits.specs.Written.{Edits, Writes};
+ghost use Rattle.line_edits.specs.Steps.{Edits, Rewrites};
 
 use crate::plain::is_plain;
 use line_buffer::{LineBuffer, Movement, OutOfMemory};
 use line_record::{Changeset, Joined, KillRing};
 use std::alloc::Global;
 
-#[tactic(auto, using(line_record::proofs::JoinedLaws::joined_names, line_record::proofs::JoinedLaws::joined_names_refused))]
+#[tactic(auto, using(line_record::proofs::JoinedLaws::joined_names, line_record::proofs::JoinedLaws::joined_names_refused, crate::proofs::StepLemmas::left_unanswered))]
 fn kill_told(
     alloc: Global,
     line: &mut LineBuffer,
@@ -21,7 +21,7 @@ fn kill_told(
     movement: &Movement,
 ) -> Result<bool, OutOfMemory>
     requires { ItemsStand both.old.second.now line.old.text }
-    ensures writes { Writes (range_killed movement.now) (is_some (range_of movement.now line.old))
+    ensures rewrites { Rewrites (killing movement.now line.old)
         line.old line.new both.old.second.now both.new.second.now result }
     ensures ring { OnOk result
         (both.new.first.now ≡ ring_all (kill_events movement.now line.old) both.old.first.now) }
@@ -48,7 +48,7 @@ pub fn kill(
 ) -> Result<bool, OutOfMemory>
     requires stand { ItemsStand changes.old line.old.text }
     requires plain { plain.old ≡ is_plain line.old.text }
-    ensures writes { Edits (range_killed movement.now) (is_some (range_of movement.now line.old))
+    ensures writes { Edits (killing movement.now line.old)
         line.old line.new changes.old changes.new plain.new result }
     ensures ring { OnOk result (ring.new ≡ ring_all (kill_events movement.now line.old) ring.old) }
     ensures refused { OnErr result (is_some (range_of movement.now line.old) ≡ true) }

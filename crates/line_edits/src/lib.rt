@@ -7,6 +7,7 @@
 pub mod exchanging;
 pub mod inserting;
 pub mod killing;
+pub mod laws;
 pub mod plain;
 pub mod rewording;
 pub mod rewriting;

@@ -1,11 +1,9 @@
 //! Clusters and words exchanged, words in other letters, rows moved in and out.
-ghost use Rattle.std.specs.Prelude.{◌≡◌, is_some};
-ghost use Rattle.line_buffer.specs.LetterCase.{word_to_edit};
-ghost use Rattle.line_buffer.specs.Transpositions.{transposes_chars, transposes_words};
+ghost use Rattle.std.specs.Prelude.{◌≡◌};
 ghost use Rattle.line_record.specs.Items.{ItemsStand};
-ghost use Rattle.line_edits.specs.Edits.{chars_transposed, transpose_chars_in_group, words_transposed, transpose_words_in_group, word_edited, edit_word_in_group, indented};
+ghost use Rattle.line_edits.specs.Edits.{transposing_chars, transposing_chars_in_group, transposing_words, transposing_words_in_group, editing_word, editing_word_in_group, indenting};
 ghost use Rattle.line_edits.specs.Plain.{is_plain};
-ghost use Rattle.line_edits.specs.Written.{Edits, Writes};
+ghost use Rattle.line_edits.specs.Steps.{Edits, Rewrites};
 
 use crate::plain::is_plain;
 use line_buffer::{LineBuffer, Movement, OutOfMemory, RepeatCount, WordAction};
@@ -18,7 +16,7 @@ fn chars_told(
     changes: &mut Changeset,
 ) -> Result<bool, OutOfMemory>
     requires { ItemsStand changes.old line.old.text }
-    ensures { Writes chars_transposed (transposes_chars line.old)
+    ensures { Rewrites (transposing_chars line.old)
         line.old line.new changes.old changes.new result }
 {
     let _text = line.as_str();
@@ -31,7 +29,7 @@ fn chars_in_group(
     changes: &mut Changeset,
 ) -> Result<bool, OutOfMemory>
     requires { ItemsStand changes.old line.old.text }
-    ensures { Writes transpose_chars_in_group (transposes_chars line.old)
+    ensures { Rewrites (transposing_chars_in_group line.old)
         line.old line.new changes.old changes.new result }
 {
     changes.begin(alloc)?;
@@ -41,6 +39,7 @@ fn chars_in_group(
 }
 
 /// Exchanges the clusters around the cursor, in one group. Answers whether there are two.
+#[tactic(auto, using(crate::proofs::StepLemmas::left_unanswered))]
 pub fn transpose_chars(
     alloc: Global,
     line: &mut LineBuffer,
@@ -48,7 +47,7 @@ pub fn transpose_chars(
     plain: &mut bool,
 ) -> Result<bool, OutOfMemory>
     requires { ItemsStand changes.old line.old.text }
-    ensures { Edits transpose_chars_in_group (transposes_chars line.old)
+    ensures { Edits (transposing_chars_in_group line.old)
         line.old line.new changes.old changes.new plain.new result }
 {
     let done = chars_in_group(alloc, line, changes);
@@ -63,7 +62,7 @@ fn words_told(
     n: RepeatCount,
 ) -> Result<bool, OutOfMemory>
     requires { ItemsStand changes.old line.old.text }
-    ensures { Writes (words_transposed n) (transposes_words n line.old)
+    ensures { Rewrites (transposing_words n line.old)
         line.old line.new changes.old changes.new result }
 {
     let _text = line.as_str();
@@ -77,7 +76,7 @@ fn words_in_group(
     n: RepeatCount,
 ) -> Result<bool, OutOfMemory>
     requires { ItemsStand changes.old line.old.text }
-    ensures { Writes (transpose_words_in_group n) (transposes_words n line.old)
+    ensures { Rewrites (transposing_words_in_group n line.old)
         line.old line.new changes.old changes.new result }
 {
     changes.begin(alloc)?;
@@ -88,6 +87,7 @@ fn words_in_group(
 
 /// Exchanges the word at the cursor or after it with the one `n` words before it, in one group.
 /// Answers whether there are two; else the cursor may have moved.
+#[tactic(auto, using(crate::proofs::StepLemmas::left_unanswered))]
 pub fn transpose_words(
     alloc: Global,
     line: &mut LineBuffer,
@@ -96,7 +96,7 @@ pub fn transpose_words(
     n: RepeatCount,
 ) -> Result<bool, OutOfMemory>
     requires { ItemsStand changes.old line.old.text }
-    ensures { Edits (transpose_words_in_group n) (transposes_words n line.old)
+    ensures { Edits (transposing_words_in_group n line.old)
         line.old line.new changes.old changes.new plain.new result }
 {
     let done = words_in_group(alloc, line, changes, n);
@@ -111,7 +111,7 @@ fn word_told(
     action: WordAction,
 ) -> Result<bool, OutOfMemory>
     requires { ItemsStand changes.old line.old.text }
-    ensures { Writes (word_edited action) (is_some (word_to_edit line.old))
+    ensures { Rewrites (editing_word action line.old)
         line.old line.new changes.old changes.new result }
 {
     let _text = line.as_str();
@@ -125,7 +125,7 @@ fn word_in_group(
     action: WordAction,
 ) -> Result<bool, OutOfMemory>
     requires { ItemsStand changes.old line.old.text }
-    ensures { Writes (edit_word_in_group action) (is_some (word_to_edit line.old))
+    ensures { Rewrites (editing_word_in_group action line.old)
         line.old line.new changes.old changes.new result }
 {
     changes.begin(alloc)?;
@@ -136,6 +136,7 @@ fn word_in_group(
 
 /// Sets the letters of the word at the cursor or after it in another case, in one group. Answers
 /// whether there is one.
+#[tactic(auto, using(crate::proofs::StepLemmas::left_unanswered))]
 pub fn edit_word(
     alloc: Global,
     line: &mut LineBuffer,
@@ -144,7 +145,7 @@ pub fn edit_word(
     action: WordAction,
 ) -> Result<bool, OutOfMemory>
     requires { ItemsStand changes.old line.old.text }
-    ensures { Edits (edit_word_in_group action) (is_some (word_to_edit line.old))
+    ensures { Edits (editing_word_in_group action line.old)
         line.old line.new changes.old changes.new plain.new result }
 {
     let done = word_in_group(alloc, line, changes, action);
@@ -161,7 +162,7 @@ fn rows_told(
     dedent: bool,
 ) -> Result<(), OutOfMemory>
     requires { ItemsStand changes.old line.old.text }
-    ensures { Writes (indented movement.now amount dedent) tt
+    ensures { Rewrites (indenting movement.now amount dedent line.old)
         line.old line.new changes.old changes.new result }
 {
     let _text = line.as_str();
@@ -181,7 +182,7 @@ pub fn indent(
 ) -> Result<(), OutOfMemory>
     requires stand { ItemsStand changes.old line.old.text }
     requires plain { plain.old ≡ is_plain line.old.text }
-    ensures { Edits (indented movement.now amount dedent) tt
+    ensures { Edits (indenting movement.now amount dedent line.old)
         line.old line.new changes.old changes.new plain.new result }
 {
     let done = rows_told(alloc, line, changes, movement, amount, dedent);

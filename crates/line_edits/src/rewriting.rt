@@ -1,9 +1,9 @@
 //! The whole text exchanged, and what was recorded taken back.
-ghost use Rattle.std.specs.Prelude.{max, IsCharBoundary};
-ghost use Rattle.line_record.specs.Held.{has_step};
-ghost use Rattle.line_record.specs.Items.{ItemsStand, held_on};
-ghost use Rattle.line_edits.specs.Edits.{updated, update_in_group, undone};
-ghost use Rattle.line_edits.specs.Written.{Edits, Writes};
+ghost use Rattle.std.specs.Prelude.{IsCharBoundary};
+ghost use Rattle.line_record.specs.Items.{ItemsStand};
+ghost use Rattle.line_edits.specs.Edits.{updating, updating_in_group};
+ghost use Rattle.line_edits.specs.Steps.{Edits, Rewrites};
+ghost use Rattle.line_edits.specs.Undoing.{Undoes};
 
 use crate::plain::is_plain;
 use line_buffer::{LineBuffer, OutOfMemory, RepeatCount};
@@ -19,7 +19,8 @@ fn put(
 ) -> Result<(), OutOfMemory>
     requires boundary { IsCharBoundary text.now pos }
     requires stand { ItemsStand changes.old line.old.text }
-    ensures { Writes (updated text.now pos) tt line.old line.new changes.old changes.new result }
+    ensures { Rewrites (updating text.now pos line.old)
+        line.old line.new changes.old changes.new result }
 {
     let _text = line.as_str();
     line.update(alloc, text, pos, changes)?;
@@ -35,7 +36,7 @@ fn put_in_group(
 ) -> Result<(), OutOfMemory>
     requires boundary { IsCharBoundary text.now pos }
     requires stand { ItemsStand changes.old line.old.text }
-    ensures { Writes (update_in_group text.now pos) tt
+    ensures { Rewrites (updating_in_group text.now pos line.old)
         line.old line.new changes.old changes.new result }
 {
     changes.begin(alloc)?;
@@ -55,7 +56,7 @@ pub fn update(
 ) -> Result<(), OutOfMemory>
     requires boundary { IsCharBoundary text.now pos }
     requires stand { ItemsStand changes.old line.old.text }
-    ensures { Edits (updated text.now pos) tt
+    ensures { Edits (updating text.now pos line.old)
         line.old line.new changes.old changes.new plain.new result }
 {
     let done = put(alloc, line, changes, text, pos);
@@ -74,7 +75,7 @@ pub fn update_grouped(
 ) -> Result<(), OutOfMemory>
     requires boundary { IsCharBoundary text.now pos }
     requires stand { ItemsStand changes.old line.old.text }
-    ensures { Edits (update_in_group text.now pos) tt
+    ensures { Edits (updating_in_group text.now pos line.old)
         line.old line.new changes.old changes.new plain.new result }
 {
     let done = put_in_group(alloc, line, changes, text, pos);
@@ -92,8 +93,7 @@ pub fn undo(
     n: RepeatCount,
 ) -> Result<bool, OutOfMemory>
     requires { ItemsStand changes.old line.old.text }
-    ensures { Edits (undone n) (has_step (max n 1) (held_on changes.old line.old.text))
-        line.old line.new changes.old changes.new plain.new result }
+    ensures { Undoes n line.old line.new changes.old changes.new plain.new result }
 {
     let undone = changes.undo(alloc, line, n);
     *plain = is_plain(line.as_str());

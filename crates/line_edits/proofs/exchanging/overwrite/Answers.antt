@@ -8,6 +8,7 @@ returns-then-is_printable c =
     let plain : is_plain c.args.line.now.text ≡ true = sym c.requires.plain ∙ c.if-plain.true in
     record {
       writes = search rules;
-      plain_is = c.if-plain.true ∙ sym (ap (λ l. is_plain l.text) c.in_ok-put_over.ensures.writes.line
+      left = tt;
+      plain_is = c.if-plain.true ∙ sym (ap (λ l. is_plain l.text) c.in_ok-put_over.ensures.rewrites.writes.line
           ∙ put_over_plain c.args.ch _ c.args.line.now plain (sym c.is_printable.ensures.value ∙ c.if-is_printable.true) (c.is_printable.ensures.ascii c.if-is_printable.true));
     }

@@ -1,21 +1,21 @@
-use Rattle.std.proofs.Common.{refl}
+use Rattle.line_buffer.proofs.KeptLemmas.{kept_alone, yank_few}
 use Rattle.line_buffer.proofs.LeftLemmas.{some_event}
 use Rattle.line_edits.proofs.RingLemmas.{on_refusal}
-use Rattle.line_edits.proofs.WrittenLemmas.{told_writes, stopped_writes, some_yanked}
-use Rattle.line_buffer.proofs.KeptLemmas.{kept_alone, yank_few}
+use Rattle.line_edits.proofs.StepLemmas.{told_rewrites, stopped_rewrites}
+use Rattle.line_edits.proofs.WrittenLemmas.{some_yanked}
 use Rattle.line_edits.proofs.inserting.yank_told.Goals as goal
 
-pub returns-clause-writes : goal.returns-clause-writes
-returns-clause-writes c = told_writes _ c.as_str-text.ensures.utf8 c.requires c.in_ok-yank.ensures.answer c.in_ok-yank.ensures.line c.in_ok-yank.ensures.told refl
+pub returns-clause-rewrites : goal.returns-clause-rewrites
+returns-clause-rewrites c = told_rewrites _ c.as_str-text.ensures.utf8 c.requires c.in_ok-yank.ensures.answer c.in_ok-yank.ensures.line c.in_ok-yank.ensures.told
 
-pub returns-in_err-yank-clause-writes : goal.returns-in_err-yank-clause-writes
-returns-in_err-yank-clause-writes c = stopped_writes _ c.from_residual.result c.from_residual.ensures.1 c.as_str-text.ensures.utf8 c.requires c.in_err-yank.ensures.left.stops
+pub returns-in_err-yank-clause-rewrites : goal.returns-in_err-yank-clause-rewrites
+returns-in_err-yank-clause-rewrites c = stopped_rewrites _ c.from_residual.result c.from_residual.ensures.1 c.as_str-text.ensures.utf8 c.requires c.in_err-yank.ensures.left
+
+pub returns-in_err-yank-clause-kept : goal.returns-in_err-yank-clause-kept
+returns-in_err-yank-clause-kept c =
+    on_refusal _ c.from_residual.result c.from_residual.ensures.1 (kept_alone (yank_few c.args.text.now c.args.n c.args.line.now) c.in_err-yank.ensures.left)
 
 pub returns-in_err-yank-clause-refused : goal.returns-in_err-yank-clause-refused
 returns-in_err-yank-clause-refused c =
     let some = some_event c.in_err-yank.ensures.left.stops in
     on_refusal _ c.from_residual.result c.from_residual.ensures.1 (some_yanked c.args.text.now c.args.n c.args.line.now some.0 some.1 some.2)
-
-pub returns-in_err-yank-clause-kept : goal.returns-in_err-yank-clause-kept
-returns-in_err-yank-clause-kept c =
-    on_refusal _ c.from_residual.result c.from_residual.ensures.1 (kept_alone (yank_few c.args.text.now c.args.n c.args.line.now) c.in_err-yank.ensures.left)

@@ -1,23 +1,27 @@
-use Rattle.std.proofs.Common.{◌≡◌}
+use Rattle.std.proofs.Common.{◌≡◌, refl, inr}
 use Rattle.line_record.specs.Ring.{ring_step, ring_refuses}
 use Rattle.line_record.proofs.JoinedLaws.{joined_held, joined_stand, joined_stand_refused, joined_names_refused}
 use Rattle.line_record.specs.Items.{RecordedIn, record_refuses}
-use Rattle.line_edits.proofs.RingLemmas.{on_refusal, ring_stopped, some_killed}
-use Rattle.line_edits.proofs.WrittenLemmas.{refused_writes}
+use Rattle.line_edits.proofs.RingLemmas.{on_refusal, ring_stopped, some_killed, killed_among}
+use Rattle.line_edits.proofs.StepLemmas.{rewrites_refused}
 use Rattle.line_buffer.proofs.KeptLemmas.{kill_kept}
 use Rattle.line_edits.proofs.killing.kill_told.Goals as goal
 
-pub returns-clause-writes : goal.returns-clause-writes
-returns-clause-writes c = record {
-  answers = c.in_ok-kill.ensures.edits.answer;
-  line = c.in_ok-kill.ensures.edits.line;
-  held = joined_held (λ s e t. t ≡ ring_step e s) c.requires c.as_str-text.ensures.utf8 c.in_ok-kill.ensures.edits.told;
-  stand = joined_stand (λ s e t. t ≡ ring_step e s) c.requires c.as_str-text.ensures.utf8 c.in_ok-kill.ensures.edits.told;
+pub returns-clause-rewrites : goal.returns-clause-rewrites
+returns-clause-rewrites c = record {
+  writes = record {
+    answers = c.in_ok-kill.ensures.edits.answer;
+    line = c.in_ok-kill.ensures.edits.line;
+    held = joined_held (λ s e t. t ≡ ring_step e s) c.requires c.as_str-text.ensures.utf8 c.in_ok-kill.ensures.edits.told;
+    stand = joined_stand (λ s e t. t ≡ ring_step e s) c.requires c.as_str-text.ensures.utf8 c.in_ok-kill.ensures.edits.told;
+  };
+  left = tt;
 }
 
-pub returns-in_err-kill-clause-writes : goal.returns-in_err-kill-clause-writes
-returns-in_err-kill-clause-writes c =
-    refused_writes _ c.from_residual.result c.from_residual.ensures.1 (joined_stand_refused (λ s e t. t ≡ ring_step e s) ring_refuses c.requires c.as_str-text.ensures.utf8 c.in_err-kill.ensures.edits.left.stops)
+pub returns-in_err-kill-clause-rewrites : goal.returns-in_err-kill-clause-rewrites
+returns-in_err-kill-clause-rewrites c =
+    rewrites_refused _ c.from_residual.result c.from_residual.ensures.1 (joined_stand_refused (λ s e t. t ≡ ring_step e s) ring_refuses c.requires c.as_str-text.ensures.utf8 c.in_err-kill.ensures.edits.left.stops)
+    (record { goes = inr (tt, killed_among c.args.movement.now c.as_str-text.ensures.utf8 c.requires c.in_err-kill.ensures.edits.left, refl) })
 
 pub returns-in_err-kill-clause-refused_ring : goal.returns-in_err-kill-clause-refused_ring
 returns-in_err-kill-clause-refused_ring c =

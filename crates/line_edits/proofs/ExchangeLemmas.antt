@@ -1,0 +1,56 @@
+-- Clusters exchanged for characters, where a step is refused.
+use Rattle.std.specs.Prelude.{⊤, Bool, true, false, if◌then◌else◌, is_some, Result, Ok, IsErrAnd}
+use Rattle.std.proofs.Common.{◌≡◌, ℕ, subst, sym, ap, ◌∙◌}
+use Rattle.line_buffer.specs.Clusters.{place_forward}
+use Rattle.line_buffer.specs.Insertions.{insert}
+use Rattle.line_buffer.specs.Line.{Line}
+use Rattle.line_buffer.specs.Range.{delete}
+use Rattle.line_config.specs.Scripts.{Ends}
+use Rattle.line_record.specs.Items.{Items, ItemsStand}
+use Rattle.line_edits.specs.Edits.{typing, deleting, exchanging, replacing, replacing_if_any, stepping_back}
+use Rattle.line_edits.specs.Plain.{is_plain}
+use Rattle.line_edits.specs.Steps.{Steps, StopsIn, Edits, made, answer_of, in_turn, answering}
+use Rattle.line_edits.specs.Written.{Written, Writes, written}
+use Rattle.line_edits.proofs.StepLemmas.{stops_before, stops_behind, written_is, made_answering, answered_is, edits_refused}
+
+-- the clusters stay where that is refused
+pub deletion_stopped : (c n count : ℕ) (l : Line) {w v : Written} → StopsIn (deleting n l) w v → StopsIn (exchanging c n count l) w v
+deletion_stopped c n count l stops =
+    let bare = (delete n l).line in
+    stops_before (deleting n l) (λ a. in_turn (typing c count bare) (stepping_back (insert c count bare).line)) stops
+
+-- the characters were refused, and the clusters are out
+pub exchange_stopped : {E : Type 0} (c n count k : ℕ) (l m after : Line) (old mid new : Items) → k ≡ count → Writes {E = E} (made (deleting n l)) (tt {0}) l m old mid (Ok (tt {0}))
+    → StopsIn (typing c k m) (written m mid) (written after new) → StopsIn (exchanging c n count l) (written l old) (written after new)
+exchange_stopped c n count k l m after old mid new is out stops =
+    let bare = (delete n l).line in
+    let back = stepping_back (insert c count bare).line in
+    stops_behind (deleting n l) (λ a. in_turn (typing c count bare) back) (stops_before (typing c count bare) (λ a. back)
+    (subst (λ w. StopsIn (typing c count bare) w (written after new)) (written_is out)
+    (subst (λ x. StopsIn (typing c count x) (written m mid) (written after new)) out.line
+    (subst (λ x. StopsIn (typing c x m) (written m mid) (written after new)) is stops))))
+
+-- ---- where a cluster stands
+
+pub replaced_some : {E : Type 0} (c n : ℕ) (l : Line) {after : Line} {old new : Items} {plain : Bool} {result : Result Bool E} → is_some (place_forward n l) ≡ true
+    → Edits (answering true (replacing c n l)) l after old new plain result → Edits (replacing_if_any c n l) l after old new plain result
+replaced_some c n l {after} {old} {new} {plain} {result} some h =
+    subst (λ b. Edits (if b then answering true (replacing c n l) else Ends false) l after old new plain result) (sym some) h
+
+-- and what is answered is that one does
+pub replaced_answered : {E : Type 0} (steps : Steps ⊤) {before after : Line} {old new : Items} {plain : Bool} → Writes {E = E} (made steps) (answer_of steps) before after old new (Ok (tt {0}))
+    → plain ≡ is_plain after.text → Edits {E = E} (answering true steps) before after old new plain (Ok true)
+replaced_answered steps {before} {after} {old} {new} h plain = record {
+  writes = record {
+    answers = sym (answered_is true steps);
+    line = h.line ∙ ap (λ w. w.line) (sym (made_answering true steps (written before old)));
+    held = h.held ∙ ap (λ w. w.held) (sym (made_answering true steps (written before old)));
+    stand = h.stand;
+  };
+  left = tt;
+  plain_is = plain;
+}
+
+pub replaced_refused : {E : Type 0} (steps : Steps ⊤) {before after : Line} {old new : Items} {plain : Bool} (e : E) (result : Result Bool E) → IsErrAnd result (λ x. x ≡ e)
+    → ItemsStand new after.text → plain ≡ is_plain after.text → StopsIn steps (written before old) (written after new) → Edits (answering true steps) before after old new plain result
+replaced_refused steps e result is stand plain stops = edits_refused e result is stand (stops_before steps (λ a. Ends true) stops) plain

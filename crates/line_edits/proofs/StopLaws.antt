@@ -1,0 +1,67 @@
+-- What a refused edit leaves: one of a single change, a kill, and a group.
+use Rattle.std.specs.Prelude.{⊤, Bool, true, false, if◌then◌else◌, Option, Some, None, Ok, Err}
+use Rattle.std.proofs.Common.{◌≡◌, ◌≤◌, ◌⊎◌, inl, inr, List, [], ◌∷◌, ◌++◌, length, refl, sym, ap, ◌∙◌, arith, length-append}
+use Rattle.line_buffer.specs.Event.{Event}
+use Rattle.line_buffer.specs.Event.Event.{StartKilling, StopKilling}
+use Rattle.line_buffer.specs.Line.{Line}
+use Rattle.line_buffer.specs.Range.{range_of, goes_by_clusters, deletion_events}
+use Rattle.line_buffer.specs.Replay.{deletion}
+use Rattle.line_buffer.specs.Replayed.{carried_all}
+use Rattle.line_buffer.specs.declared.range.Span.{Span}
+use Rattle.line_buffer.proofs.KeptLemmas.{no_change, deletion_few, insert_few, split_between, yank_few}
+use Rattle.line_config.specs.Scripts.{Goes}
+use Rattle.line_config.proofs.ScriptLaws.{err_in, ok_not_err, parted}
+use Rattle.line_record.specs.Runs.{recorded_all}
+use Rattle.line_edits.specs.Laws.{RefusedChangesLeaveAll, RefusedGroupsStayOpen}
+use Rattle.line_edits.specs.Steps.{Tells, Closes, StopsWithin, StopsIn, written_world, followed, doing, grouping}
+use Rattle.line_edits.specs.Written.{Written, group_opened}
+
+followed-none : (w : Written) → followed [] w ≡ w
+unfolding carried_all recorded_all
+followed-none w = refl
+
+followed-mark : (w : Written) → followed (StartKilling ∷ []) w ≡ w
+unfolding carried_all recorded_all
+followed-mark w = refl
+
+-- of one event at most none was made
+kept_within : (events : List Event) {w v : Written} → length events ≤ 1 → StopsWithin events w v → v ≡ w
+kept_within events {w} {v} few x = by x.done x.split x.left
+  where
+    by : (done : List Event) → events ≡ done ++ x.refused ∷ x.never → v ≡ followed done w → v ≡ w
+    by [] split left = left ∙ followed-none w
+    by (e ∷ es) split left = absurd (omega (arith, few, ap length split, length-append es (x.refused ∷ x.never)))
+
+-- of a kill the mark alone
+kill_within : (by_clusters : Bool) (range : Option Span) (l : Line) {w v : Written}
+    → StopsWithin (if by_clusters then deletion_events range l else StartKilling ∷ (deletion_events range l ++ (StopKilling ∷ []))) w v → v ≡ w
+kill_within true range l x = kept_within (deletion_events range l) (deletion_few range l) x
+kill_within false None l x = no_change x.done x.never x.refused x.split x.change
+kill_within false (Some span) l {w} x =
+    split_between (deletion span.from span.upto span.direction l.text) x.done x.never x.refused x.split x.change (λ one is. x.left ∙ ap (λ es. followed es w) one ∙ followed-mark w)
+
+-- an edit of one step
+stopped_step : {A : Type 0} {events : List Event} {line : Line} {answer : A} {w v : Written} → StopsIn (doing (Tells events line) answer) w v → StopsWithin events w v
+stopped_step {answer = answer} h = elim h.goes [ inl made ↦ ok_not_err answer (tt {0}) (sym made.3.0) | inr cut ↦ cut.1 ]
+
+pub refused_changes_leave_all : RefusedChangesLeaveAll
+refused_changes_leave_all = record {
+  typed = λ c n w v h. kept_within _ (insert_few c n w.line) (stopped_step h);
+  yanked = λ text n w v h. kept_within _ (yank_few text n w.line) (stopped_step h);
+  put = λ text w v h. kept_within _ (omega arith) (stopped_step h);
+  put_over = λ c end w v h. kept_within _ (omega arith) (stopped_step h);
+  killed = λ movement w v h. kill_within (goes_by_clusters movement) (range_of movement w.line) w.line (stopped_step h);
+}
+
+pub refused_groups_stay_open : RefusedGroupsStayOpen
+refused_groups_stay_open steps w v h = by h.goes
+  where
+    within : (u : Written) → u ≡ group_opened w → ((b : Bool) × (t : Written) × Goes (written_world ⊤) steps u (Ok b) t × Goes (written_world ⊤) (doing Closes b) t (err_in Bool (tt {0})) v)
+        ⊎ ((e : ⊤) × Goes (written_world ⊤) steps u (Err e) v × (err_in Bool (tt {0}) ≡ Err e)) → StopsIn steps (group_opened w) v
+    within u made (inl (b, t, done, inl (x, z, closed, is))) = ok_not_err b (tt {0}) (sym is.0)
+    within u made (inl (b, t, done, inr (e, cut, is))) = absurd cut
+    within u made (inr (e, goes, is)) = record { goes = rw made at goes }
+
+    by : Goes (written_world ⊤) (grouping steps) w (Err (tt {0})) v → (v ≡ w) ⊎ StopsIn steps (group_opened w) v
+    by (inr (e, cut, is)) = inl cut
+    by (inl (x, u, made, goes)) = inr (within u made (parted (written_world ⊤) (λ b. doing Closes b) steps u v (err_in Bool (tt {0})) goes))

@@ -1,0 +1,114 @@
+-- Edits by their steps, in order: what an edit makes of a line and its record, and what stands where
+-- a step was refused.
+use Rattle.std.specs.Prelude.{◌≡◌, ⊤, Bool, List, ◌∷◌, ◌++◌, Result, Err, OnErr}
+use Rattle.line_buffer.specs.Edit.{Edit}
+use Rattle.line_buffer.specs.Event.{Event}
+use Rattle.line_buffer.specs.Line.{Line}
+use Rattle.line_buffer.specs.Replay.{TellsOfChange}
+use Rattle.line_buffer.specs.Replayed.{carried_all}
+use Rattle.line_config.specs.Scripts.{Script, Ends, Asks, World, Goes, then}
+use Rattle.line_record.specs.Items.{Items}
+use Rattle.line_edits.specs.Plain.{is_plain}
+use Rattle.line_edits.specs.Written.{Written, Writes, written, edited, group_opened, group_closed}
+
+pub data Step : Type 0 where
+  -- line and record follow events together, one after another; the line is left so in the end
+  Tells : (events : List Event) (line : Line) → Step
+  -- the line is left so: its cursor was moved
+  Leaves : (line : Line) → Step
+  -- a mark is set
+  Marks : Step
+  -- all marks are closed
+  Closes : Step
+
+abbrev pub stepped : Step → Written → Written
+stepped (Tells events line) w = edited events line w
+stepped (Leaves line) w = record { line = line; held = w.held }
+stepped Marks w = group_opened w
+stepped Closes w = group_closed w
+
+-- line and record after events
+abbrev pub followed : List Event → Written → Written
+followed events w = edited events (carried_all events w.line) w
+
+-- one of the events was refused: line and record followed those before it together, and neither that
+-- one nor those after it
+pub record StopsWithin (events : List Event) (w v : Written) : Type 0 where
+  pub done : List Event
+  pub refused : Event
+  pub never : List Event
+  pub split : events ≡ done ++ refused ∷ never
+  pub change : TellsOfChange refused
+  pub left : v ≡ followed done w
+
+-- what a step leaves that is refused; moving the cursor and closing marks never is
+abbrev pub Refused : Step → Written → Written → Type 0
+Refused (Tells events line) w v = StopsWithin events w v
+Refused (Leaves line) w v = ⊥
+Refused Marks w v = v ≡ w
+Refused Closes w v = ⊥
+
+-- ---- edits
+
+abbrev pub Told : Step → Type 0
+Told step = ⊤
+
+abbrev pub Steps : Type 0 → Type 0
+Steps A = Script Step Told A
+
+abbrev pub written_world : (E : Type 0) → World Step Told Written E
+written_world E = record {
+  made = λ w step none v. v ≡ stepped step w;
+  cut = λ w step e v. Refused step w v;
+}
+
+-- what all steps make
+abbrev pub made : {A : Type 0} → Steps A → Written → Written
+made (Ends answer) w = w
+made (Asks step later) w = made (later tt) (stepped step w)
+
+abbrev pub answer_of : {A : Type 0} → Steps A → A
+answer_of (Ends answer) = answer
+answer_of (Asks step later) = answer_of (later tt)
+
+-- the first steps were made, in order, and the refused one and those after it were not
+pub record StopsIn {A : Type 0} (steps : Steps A) (w v : Written) : Type 0 where
+  pub goes : Goes (written_world ⊤) steps w (Err tt) v
+
+-- ---- what edits are made of
+
+abbrev pub doing : {A : Type 0} → Step → A → Steps A
+doing step answer = Asks step (λ none. Ends answer)
+
+-- an edit of the line, told to the record
+abbrev pub telling : {A : Type 0} → Edit A → Steps A
+telling edit = doing (Tells edit.events edit.line) edit.answer
+
+-- one edit after another
+abbrev pub in_turn : {A B : Type 0} → Steps A → Steps B → Steps B
+in_turn first second = then first (λ a. second)
+
+-- the same edit, and another answer
+abbrev pub answering : {A B : Type 0} → B → Steps A → Steps B
+answering answer steps = in_turn steps (Ends answer)
+
+-- undone as one
+abbrev pub grouping : {A : Type 0} → Steps A → Steps A
+grouping steps = Asks Marks (λ none. then steps (λ a. doing Closes a))
+
+-- ---- calls
+
+-- a call that is answered has made all steps of the edit, and answers so; one that is refused has
+-- made the first of them
+pub record Rewrites {A E : Type 0} (steps : Steps A) (before after : Line) (old new : Items)
+    (result : Result A E) : Type 0 where
+  pub writes : Writes (made steps) (answer_of steps) before after old new result
+  pub left : OnErr result (StopsIn steps (written before old) (written after new))
+
+-- the same, whatever the answer, and the mark of a plain text is true of the new one
+pub record Edits {A E : Type 0} (steps : Steps A) (before after : Line) (old new : Items)
+    (plain : Bool) (result : Result A E) : Type 0 where
+  pub writes : Writes (made steps) (answer_of steps) before after old new result
+  pub left : OnErr result
+      (StopsIn (answering (tt {0}) steps) (written before old) (written after new))
+  pub plain_is : plain ≡ is_plain after.text
