@@ -10,7 +10,7 @@ use Rattle.line_help.specs.declared.validate as verdicts
 use Rattle.line_help.specs.declared.history as histories
 use Rattle.line_help.specs.declared.validate.ValidationResult.{ValidationResult}
 use Rattle.line_editor.specs.Accepting.{accept, verdict, accepts, accepts_found, newline_if, accept_or_insert}
-use Rattle.line_editor.specs.States.{value_of, setting_of, Does, Shows}
+use Rattle.line_editor.specs.States.{value_of, setting_of, Does}
 use Rattle.line_editor.specs.Values.{Value, Setting, Transition, then_do}
 use Rattle.line_editor.specs.declared.renderer as renderers
 use Rattle.line_editor.specs.declared.state.State.{State}
@@ -41,7 +41,7 @@ module _ {Out H Hi K T : Type 0} {renderer : renderers.Renderer.Ghosts Out} {com
 
   -- what is answered is nothing to it
   made_as : {A B : Type 0} (edit : Transition) (s t : State Out H Hi K T renderer completer candidate hinter hint highlighter validator history) (x : A) (y : B) → Does edit s t (Ok x) → Does edit s t (Ok y)
-  made_as edit s t x y h = record { value = h.value; calls = h.calls; layout = h.layout; stays = h.stays; reason = tt; begun = tt }
+  made_as edit s t x y h = record { value = h.value; calls = h.calls; layout = h.layout; stays = h.stays; reason = tt; stops = tt }
 
   pub accept_newline : {A B C : Type 0} (middle accepted : Bool) (found : ValidationResult) (s m t : State Out H Hi K T renderer completer candidate hinter hint highlighter validator history) (x : A) (y : B)
       → Does accept s m (Ok x) → found ≡ verdict (setting_of s) (value_of s) → m.line ≡ s.line → accepted ≡ accepts_found middle found m.line
@@ -49,12 +49,11 @@ module _ {Out H Hi K T : Type 0} {renderer : renderers.Renderer.Ghosts Out} {com
   accept_newline middle accepted found s m t x y h is same test z k =
       does_as (then_do accept (behind middle (setting_of s) (value_of s))) (accept_or_insert middle) s t (Ok y) refl
       (does_both accept (behind middle (setting_of s) (value_of s)) s m t x (Ok y) h
-      (newline_is middle accepted found s m t (Ok y) is same test (made_as (newline_if accepted found) m t z y k)) tt)
+      (newline_is middle accepted found s m t (Ok y) is same test (made_as (newline_if accepted found) m t z y k)))
 
   pub accept_newline_cut : {A B C : Type 0} (middle accepted : Bool) (found : ValidationResult) (s m t : State Out H Hi K T renderer completer candidate hinter hint highlighter validator history) (x : A) (e : ReadlineError) (r : Result C ReadlineError)
       → IsErrAnd r (λ y. y ≡ e) → Does accept s m (Ok x) → found ≡ verdict (setting_of s) (value_of s) → m.line ≡ s.line → accepted ≡ accepts_found middle found m.line
-      → Shows (newline_if accepted found) m → Does {A = B} (newline_if accepted found) m t (Err e) → Does (accept_or_insert middle) s t r
-  accept_newline_cut {A} {B} {C} middle accepted found s m t x e r fault h is same test shows k =
+      → Does {A = B} (newline_if accepted found) m t (Err e) → Does (accept_or_insert middle) s t r
+  accept_newline_cut {A} {B} {C} middle accepted found s m t x e r fault h is same test k =
       does_as (then_do accept (behind middle (setting_of s) (value_of s))) (accept_or_insert middle) s t r refl
-      (does_both_by accept (behind middle (setting_of s) (value_of s)) s m t x e r fault h (newline_is {B = B} middle accepted found s m t (Err e) is same test k)
-      (subst (λ (edit : Transition). Shows edit m) (newline_by middle accepted found s m is same test) shows))
+      (does_both_by accept (behind middle (setting_of s) (value_of s)) s m t x e r fault h (newline_is {B = B} middle accepted found s m t (Err e) is same test k))

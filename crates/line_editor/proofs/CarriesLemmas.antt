@@ -2,7 +2,6 @@
 use Rattle.std.proofs.Common.{◌≡◌, ◌⊎◌, inl, inr, ℕ, zero, suc, ◌<◌, ◌≤◌, List, [], ◌∷◌, append-nil, refl, sym, ap, subst, IsTrue, arith, le_refl}
 use Rattle.std.specs.Prelude.{⊤, Option, None, Result, Ok, Err, IfErr, OnOk, IsErrAnd}
 use Rattle.line_config.specs.declared.errors.ReadlineError.{ReadlineError}
-use Rattle.line_config.specs.declared.errors.ReadlineError.TheVariants.{Display}
 use Rattle.line_help.specs.declared.completion as completions
 use Rattle.line_help.specs.declared.hint as hints
 use Rattle.line_help.specs.declared.highlight as highlights
@@ -19,20 +18,21 @@ use Rattle.line_record.specs.Ring.{Ring}
 use Rattle.line_editor.specs.Accepting.{submitted}
 use Rattle.line_editor.specs.Acts.{Act, Sees}
 use Rattle.line_editor.specs.Drawing.{refreshed}
+use Rattle.line_editor.specs.Lines.{line_begun}
 use Rattle.line_editor.specs.Reading.{Telling, turns_left, turns_doing, drawn_and_turned, line_doing, Reading, ReadsLine}
 use Rattle.line_editor.specs.Sights.{Sight, sight_of, info_after}
 use Rattle.line_editor.specs.States.{value_of, setting_of, Reason, Does}
 use Rattle.line_editor.specs.Turning.{Doing, Cut, Cause, Whole, turning, turn_doing, Takes}
-use Rattle.line_editor.specs.Values.{Transition}
+use Rattle.line_editor.specs.Values.{taking}
 use Rattle.line_editor.specs.declared.commands.Status.{Status}
 use Rattle.line_editor.specs.declared.commands.Status.TheVariants.{Proceed, Submit}
 use Rattle.line_editor.specs.declared.renderer as renderers
 use Rattle.line_editor.specs.declared.state.State.{State}
+use Rattle.line_editor.proofs.ActsLemmas.{answered_not}
 use Rattle.line_editor.proofs.CommandedLemmas.{edit_cause}
-use Rattle.line_editor.proofs.DoesLemmas.{is_err}
-use Rattle.line_editor.proofs.EnactedLemmas.{seeing_cut}
-use Rattle.line_editor.proofs.ShowsLemmas.{refreshed_shows, shown_in_part}
-use Rattle.line_editor.proofs.LoopLemmas.{reads_on, cut_on, turn_on, turn_ends, turn_cut, turn_accepts, close_cut, proceeds, submits_not}
+use Rattle.line_editor.proofs.DoesLemmas.{does_both, is_err}
+use Rattle.line_editor.proofs.EnactedLemmas.{taken, seeing_cut}
+use Rattle.line_editor.proofs.LoopLemmas.{reads_on, cut_on, turn_on, turn_ends, turn_cut, turn_accepts, close_cut}
 
 -- bindings that stayed
 pub same_custom : {D : Type 0} (s s' : InputState D) (means : D → Meaning) → s.custom_bindings ≡ s'.custom_bindings → custom_in s means ≡ custom_in s' means
@@ -114,11 +114,11 @@ module _ {Out H Hi K T : Type 0} {renderer : renderers.Renderer.Ghosts Out} {com
         let f = fuel_for at.fuel feed1.bound feed2.bound at.enough falls in
         let enough : feed1.bound < suc f.less = subst (λ n. feed1.bound < n) f.is at.enough in
         elim (took (suc f.less) enough) [
-          | inr cut ↦ proceeds cut.fault cut.result_is
+          | inr cut ↦ answered_not Proceed cut.fault cut.result_is
           | inl whole ↦ record {
             fuel = f.less;
             enough = f.enough;
-            stands = info_after (turning (suc f.less) custom indent i1 r1 feed1.coming (setting_of m) (value_of m)).made.redraws at.stands;
+            stands = info_after (turning (suc f.less) custom indent i1 r1 feed1.coming (setting_of m) (value_of m)).made.steps at.stands;
             onward = λ t ring rest result read. at.onward t ring rest result
                 (subst (λ n. Reading (turns_left custom indent i1 r1 feed1.coming n at.stands) (turns_doing custom indent i1 r1 feed1.coming n) m t feed1.coming rest r1 ring result) (sym f.is)
                 (turn_on custom indent i1 r1 feed1.coming f.less at.stands m m2 t i2 r2 ring feed2.coming rest result whole read));
@@ -159,28 +159,28 @@ module _ {Out H Hi K T : Type 0} {renderer : renderers.Renderer.Ghosts Out} {com
 
     -- a turn that accepts the line, and the line's close
     closing : (n : ℕ) (stands : Option (List ℕ)) (m2 t : State Out H Hi K T renderer completer candidate hinter hint highlighter validator history) (i2 : Input) (r2 : Ring) (feed2 : KeyFeed) (result : Result A ReadlineError)
-        → Whole (turning (suc n) custom indent i1 r1 feed1.coming) m m2 r2 i2 feed2.coming (Ok Submit) → IfErr result (λ e. e ≡ Display) → Does submitted m2 t result
+        → Whole (turning (suc n) custom indent i1 r1 feed1.coming) m m2 r2 i2 feed2.coming (Ok Submit) → Does submitted m2 t result
         → Reading (turns_left custom indent i1 r1 feed1.coming (suc n) stands) (turns_doing custom indent i1 r1 feed1.coming (suc n)) m t feed1.coming feed2.coming r1 r2 result
-    closing n stands m2 t i2 r2 feed2 (Ok x) whole why close = inl (turn_accepts custom indent i1 r1 feed1.coming n stands m m2 i2 r2 feed2.coming whole x t close)
-    closing n stands m2 t i2 r2 feed2 (Err e) whole why close = inr (close_cut custom indent i1 r1 feed1.coming n stands m m2 i2 r2 feed2.coming whole {A = A} {B = A} t e (Err e) refl why close)
+    closing n stands m2 t i2 r2 feed2 (Ok x) whole close = inl (turn_accepts custom indent i1 r1 feed1.coming n stands m m2 i2 r2 feed2.coming whole x t close)
+    closing n stands m2 t i2 r2 feed2 (Err e) whole close = inr (close_cut custom indent i1 r1 feed1.coming n stands m m2 i2 r2 feed2.coming whole {A = A} {B = A} t e (Err e) refl close)
 
     closed_by : (line : Telling) (acts : Doing) (m2 t : State Out H Hi K T renderer completer candidate hinter hint highlighter validator history) (i2 : Input) (r2 : Ring) (feed2 : KeyFeed) (result : Result A ReadlineError)
         → Carried A line acts custom indent s feed.coming r m i1 r1 feed1
         → ((n : ℕ) → feed1.bound < n → Whole (turning n custom indent i1 r1 feed1.coming) m m2 r2 i2 feed2.coming (Ok Submit) ⊎ Cut (turn_doing n custom indent i1 r1 feed1.coming) m m2 feed1.coming feed2.coming r1 r2 (Ok Submit))
-        → IfErr result (λ e. e ≡ Display) → Does submitted m2 t result → Reading line acts s t feed.coming feed2.coming r r2 result
-    closed_by line acts m2 t i2 r2 feed2 result at took why close =
+        → Does submitted m2 t result → Reading line acts s t feed.coming feed2.coming r r2 result
+    closed_by line acts m2 t i2 r2 feed2 result at took close =
         let f = some_fuel at.fuel feed1.bound at.enough in
         at.onward t r2 feed2.coming result
         (subst (λ n. Reading (turns_left custom indent i1 r1 feed1.coming n at.stands) (turns_doing custom indent i1 r1 feed1.coming n) m t feed1.coming feed2.coming r1 r2 result) (sym f.is)
         (elim (took (suc f.less) (subst (λ n. feed1.bound < n) f.is at.enough)) [
-          | inr cut ↦ submits_not cut.fault cut.result_is
-          | inl whole ↦ closing f.less at.stands m2 t i2 r2 feed2 result whole why close
+          | inr cut ↦ answered_not Submit cut.fault cut.result_is
+          | inl whole ↦ closing f.less at.stands m2 t i2 r2 feed2 result whole close
         ]))
 
     pub carries_closed : (kept : Custom) → kept ≡ custom → (m2 t : State Out H Hi K T renderer completer candidate hinter hint highlighter validator history) (i2 : Input) (r2 : Ring) (feed2 : KeyFeed) (result : Result A ReadlineError)
-        → Takes kept indent m i1 r1 feed1 m2 i2 r2 feed2 (Ok Submit) → IfErr result (λ e. e ≡ Display) → Does submitted m2 t result → ReadsLine custom (turns_left custom indent i r) (turns_doing custom indent i r) s r feed t r2 feed2 result
-    carries_closed kept same m2 t i2 r2 feed2 result taken why close = let turn = subst (λ x. Takes x indent m i1 r1 feed1 m2 i2 r2 feed2 (Ok Submit)) same taken in record {
-      goes = λ told n h info. closed_by (turns_left custom indent i r feed.coming n info) (turns_doing custom indent i r feed.coming n) m2 t i2 r2 feed2 result (so_far.goes (turn.told told) n h info) (turn.goes told) why close;
+        → Takes kept indent m i1 r1 feed1 m2 i2 r2 feed2 (Ok Submit) → Does submitted m2 t result → ReadsLine custom (turns_left custom indent i r) (turns_doing custom indent i r) s r feed t r2 feed2 result
+    carries_closed kept same m2 t i2 r2 feed2 result taken close = let turn = subst (λ x. Takes x indent m i1 r1 feed1 m2 i2 r2 feed2 (Ok Submit)) same taken in record {
+      goes = λ told n h info. closed_by (turns_left custom indent i r feed.coming n info) (turns_doing custom indent i r feed.coming n) m2 t i2 r2 feed2 result (so_far.goes (turn.told told) n h info) (turn.goes told) close;
       told = λ h. so_far.told (turn.told h);
       keeps = let a : feed2.bound ≤ feed1.bound = turn.keeps in let b : feed1.bound ≤ feed.bound = so_far.keeps in omega arith;
       falls = on_ok result (let a : feed2.bound < feed1.bound = turn.falls in let b : feed1.bound ≤ feed.bound = so_far.keeps in omega arith);
@@ -189,34 +189,38 @@ module _ {Out H Hi K T : Type 0} {renderer : renderers.Renderer.Ghosts Out} {com
 
   -- ---- the first drawing
 
-  done : {A B : Type 0} (edit : Transition) (s t : State Out H Hi K T renderer completer candidate hinter hint highlighter validator history) (x : A) (y : B) → Does edit s t (Ok x) → Does edit s t (Ok y)
-  done edit s t x y h = record { value = h.value; calls = h.calls; layout = h.layout; stays = h.stays; reason = tt; begun = tt }
+  -- memory was taken before it
+  begun : {A : Type 0} (s t : State Out H Hi K T renderer completer candidate hinter hint highlighter validator history) (result : Result A ReadlineError) → Does refreshed s t result → Does line_begun s t result
+  begun s t result h = does_both taking refreshed s s t (tt {0}) result (taken s) h
+
+  done : {A B : Type 0} (s t : State Out H Hi K T renderer completer candidate hinter hint highlighter validator history) (x : A) (y : B) → Does line_begun s t (Ok x) → Does line_begun s t (Ok y)
+  done s t x y h = record { value = h.value; calls = h.calls; layout = h.layout; stays = h.stays; reason = tt; stops = tt }
 
   module _ (custom : Custom) (indent : ℕ) (i : Input) (r : Ring) (s : State Out H Hi K T renderer completer candidate hinter hint highlighter validator history) (feed : KeyFeed) where
     -- the turns that are left after the drawing
     abbrev after_drawing : ℕ → Telling
-    after_drawing n = turns_left custom indent i r feed.coming n (info_after (refreshed (setting_of s) (value_of s)).redraws None)
+    after_drawing n = turns_left custom indent i r feed.coming n (info_after (line_begun (setting_of s) (value_of s)).steps None)
 
     abbrev first_drawn : List Act
-    first_drawn = Sees (refreshed (setting_of s) (value_of s)).redraws ∷ []
+    first_drawn = Sees (line_begun (setting_of s) (value_of s)).steps ∷ []
 
     abbrev sight_drawn : Sight
-    sight_drawn = let e = refreshed (setting_of s) (value_of s) in sight_of (setting_of s) e.value (info_after e.redraws None)
+    sight_drawn = let e = line_begun (setting_of s) (value_of s) in sight_of (setting_of s) e.value (info_after e.steps None)
 
-    drawn_by : {A B : Type 0} (n : ℕ) (none : ⊤) (x : B) (m t : State Out H Hi K T renderer completer candidate hinter hint highlighter validator history) (r2 : Ring) (c2 : Coming) (result : Result A ReadlineError) → Does refreshed s m (Ok x)
+    drawn_by : {A B : Type 0} (n : ℕ) (none : ⊤) (x : B) (m t : State Out H Hi K T renderer completer candidate hinter hint highlighter validator history) (r2 : Ring) (c2 : Coming) (result : Result A ReadlineError) → Does line_begun s m (Ok x)
         → Reading (after_drawing n) (turns_doing custom indent i r feed.coming n) m t feed.coming c2 r r2 result
         → Reading (drawn_and_turned custom indent i r feed.coming n none) (line_doing custom indent i r feed.coming n) s t feed.coming c2 r r2 result
     drawn_by n none x m t r2 c2 result drawn (inl read) =
-        inl (reads_on refreshed (after_drawing n) (drawn_and_turned custom indent i r feed.coming n none) sight_drawn s m t c2 r2 result refl (done refreshed s m x (tt {0}) drawn) read)
+        inl (reads_on line_begun (after_drawing n) (drawn_and_turned custom indent i r feed.coming n none) sight_drawn s m t c2 r2 result refl (done s m x (tt {0}) drawn) read)
     drawn_by n none x m t r2 c2 result drawn (inr cut) =
-        inr (cut_on refreshed first_drawn (turns_doing custom indent i r feed.coming n) (line_doing custom indent i r feed.coming n) s m t feed.coming feed.coming c2 r r r2 result
-        (append-nil (refreshed (setting_of s) (value_of s)).redraws) refl refl refl (done refreshed s m x (tt {0}) drawn) cut)
+        inr (cut_on line_begun first_drawn (turns_doing custom indent i r feed.coming n) (line_doing custom indent i r feed.coming n) s m t feed.coming feed.coming c2 r r r2 result
+        (append-nil (line_begun (setting_of s) (value_of s)).steps) refl refl refl (done s m x (tt {0}) drawn) cut)
 
     pub draws : {A B : Type 0} (x : B) (m t : State Out H Hi K T renderer completer candidate hinter hint highlighter validator history) (r2 : Ring) (feed2 : KeyFeed) (result : Result A ReadlineError)
         → Does refreshed s m (Ok x) → ReadsLine custom (turns_left custom indent i r) (turns_doing custom indent i r) m r feed t r2 feed2 result
         → ReadsLine custom (drawn_and_turned custom indent i r) (line_doing custom indent i r) s r feed t r2 feed2 result
     draws x m t r2 feed2 result drawn read = record {
-      goes = λ told n h none. drawn_by n none x m t r2 feed2.coming result drawn (read.goes told n h (info_after (refreshed (setting_of s) (value_of s)).redraws None));
+      goes = λ told n h none. drawn_by n none x m t r2 feed2.coming result (begun s m (Ok x) drawn) (read.goes told n h (info_after (line_begun (setting_of s) (value_of s)).steps None));
       told = read.told;
       keeps = read.keeps;
       falls = read.falls;
@@ -226,8 +230,7 @@ module _ {Out H Hi K T : Type 0} {renderer : renderers.Renderer.Ghosts Out} {com
     pub undrawn : {A B : Type 0} (t : State Out H Hi K T renderer completer candidate hinter hint highlighter validator history) (e : ReadlineError) (result : Result A ReadlineError)
         → IsErrAnd result (λ x. x ≡ e) → Does {A = B} refreshed s t (Err e) → ReadsLine custom (drawn_and_turned custom indent i r) (line_doing custom indent i r) s r feed t r feed result
     undrawn {A} {B} t e result is refused = subst (λ x. ReadsLine custom (drawn_and_turned custom indent i r) (line_doing custom indent i r) s r feed t r feed x) (sym (is_err e result is)) (record {
-      goes = λ told n h none. inr (seeing_cut {A = B} {B = A} refreshed (λ a v. turns_doing custom indent i r feed.coming n a (refreshed a v).value) s t feed.coming r e (Err e) refl
-          (shown_in_part renderer.canvas (renderer.canvas.ruler s.out) e (refreshed (setting_of s) (value_of s)).redraws s.layout s.out t.out (refreshed_shows (renderer.canvas.ruler s.out) s.layout (setting_of s) (value_of s)) refused.begun) refused);
+      goes = λ told n h none. inr (seeing_cut {A = B} {B = A} line_begun (λ a v. turns_doing custom indent i r feed.coming n a (line_begun a v).value) s t feed.coming feed.coming r e (Err e) refl refl (begun {A = B} s t (Err e) refused));
       told = λ h. h;
       keeps = le_refl feed.bound;
       falls = tt;

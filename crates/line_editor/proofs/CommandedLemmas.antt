@@ -1,5 +1,5 @@
 -- A phrase, then what its command makes.
-use Rattle.std.proofs.Common.{◌≡◌, ◌⊎◌, inl, inr, ℕ, ◌<◌, Bool, true, false, List, [], ◌∷◌, ◌++◌, if◌then◌else◌, refl, sym, ap, subst, ◌∙◌, true≢false}
+use Rattle.std.proofs.Common.{◌≡◌, ◌⊎◌, inl, inr, ℕ, ◌<◌, Bool, true, false, List, [], ◌∷◌, ◌++◌, if◌then◌else◌, refl, sym, ap, subst, ◌∙◌}
 use Rattle.std.specs.Prelude.{Result, Ok, Err, IfErr, OnOk, IsErrAnd, length, ◌==◌}
 use Rattle.line_config.specs.declared.errors.ReadlineError.{ReadlineError}
 use Rattle.line_config.specs.declared.errors.ReadlineError.TheVariants.{Eof, Interrupted, NotUtf8, PasteOutOfPlace, Reader, Display, Lines, HistoryText, Helper, Handler, Memory}
@@ -22,20 +22,16 @@ use Rattle.line_editor.specs.Acts.{Act, Obeys, stage, CutIn, script_acts, comman
 use Rattle.line_editor.specs.Asks.{shown_in}
 use Rattle.line_editor.specs.Commands.{Means, means_of, effect, ring_after_command, ring_without_text, LeavesRing, outcome}
 use Rattle.line_editor.specs.Lines.{Enacted, enacted, line_phrase, phrase_enacted, Turned, turned_by, turn_of, reset_by}
-use Rattle.line_editor.specs.States.{value_of, setting_of, display_of, Reason, Does}
+use Rattle.line_editor.specs.States.{value_of, setting_of, surface_of, display_of, Reason, Does}
 use Rattle.line_editor.specs.Turning.{Doing, Done, Executes, Cut, Cause, Whole, turning, turn_doing, Takes}
 use Rattle.line_editor.specs.Values.{Value, Setting, Transition, then_do}
 use Rattle.line_editor.specs.declared.commands.Status.{Status}
 use Rattle.line_editor.specs.declared.commands.Status.TheVariants.{Proceed, Submit}
 use Rattle.line_editor.specs.declared.renderer as renderers
 use Rattle.line_editor.specs.declared.state.State.{State}
-use Rattle.line_editor.proofs.ActsLemmas.{rest_of, ring_of, script_redraws, script_rest, script_ring, cut_before, cut_obeying}
-use Rattle.line_editor.proofs.DoesLemmas.{does_both, does_as, setting_stays, stays_both}
-use Rattle.line_editor.proofs.EnactedLemmas.{Enacts, Enacting, goes_enacts, cut_onward}
-
-pub is_err : {A E : Type 0} (e : E) (result : Result A E) → IsErrAnd result (λ x. x ≡ e) → result ≡ Err e
-is_err e (Ok x) h = elim h [ ]
-is_err e (Err x) h = ap Err h
+use Rattle.line_editor.proofs.ActsLemmas.{answered_not, rest_of, ring_of, script_redraws, script_rest, script_ring, cut_obeying}
+use Rattle.line_editor.proofs.DoesLemmas.{is_err, does_both, does_as, setting_stays, stays_both}
+use Rattle.line_editor.proofs.EnactedLemmas.{Enacts, Enacting, enacting_as, goes_enacts, cut_more, cut_onward}
 
 abbrev err_of : (A : Type 0) → ReadlineError → Result A ReadlineError
 err_of A e = Err e
@@ -43,13 +39,6 @@ err_of A e = Err e
 abbrev refusal_or : Result Cmd ReadlineError → ReadlineError
 refusal_or (Ok cmd) = Memory
 refusal_or (Err e) = e
-
-abbrev is_ok : Result Cmd ReadlineError → Bool
-is_ok (Ok cmd) = true
-is_ok (Err e) = false
-
-not_refused : {Z : Type 0} (cmd : Cmd) (e : ReadlineError) → ◌≡◌ {A = Result Cmd ReadlineError} (Ok cmd) (Err e) → Z
-not_refused cmd e is = absurd (true≢false (ap is_ok is))
 
 -- a turn by what its phrase makes
 abbrev turned : ℕ → Custom → ℕ → Input → Ring → Coming → Setting → Value → Turned
@@ -70,7 +59,7 @@ phrased n custom indent i r c a v = phrase_enacted n a custom i v c
 abbrev phrased_made : ℕ → Custom → ℕ → Input → Ring → Coming → Transition
 phrased_made n custom indent i r c a v = (phrased n custom indent i r c a v).made
 
-abbrev made : ℕ → Custom → ℕ → Input → Ring → Coming → Transition
+abbrev pub made : ℕ → Custom → ℕ → Input → Ring → Coming → Transition
 made n custom indent i r c a v = (turning n custom indent i r c a v).made
 
 fell : (result : Result Status ReadlineError) (a b : ℕ) → a < b → OnOk result (a < b)
@@ -127,16 +116,8 @@ module _ {Out H Hi K T : Type 0} {renderer : renderers.Renderer.Ghosts Out} {com
         → Cut {A = Cmd} (spoken s) s t c c' r r (Err e) → Cut (turn_doing n custom indent i r c) s t c c' r r q
     phrase_cut s t c' e q is cut =
         let p : Enacted Cmd = (phrased n custom indent i r c) (setting_of s) (value_of s) in
-        let front : List Act = spoken s (setting_of s) (value_of s) in
-        let back : List Act = command_acts (setting_of s) indent r p p.answer in
-        record {
-          fault = cut.fault;
-          result_is = is ∙ ap (λ x. err_of Status (refusal_or x)) cut.result_is;
-          cause = cut.cause;
-          stays = cut.stays;
-          done = subst (λ x. CutIn renderer.canvas (renderer.canvas.ruler s.out) cut.fault x s.layout (stage s.out c r) (stage t.out c' r)) (acts_same n custom indent i r c (setting_of s) (value_of s))
-              (cut_before renderer.canvas (renderer.canvas.ruler s.out) cut.fault front back s.layout (stage s.out c r) (stage t.out c' r) cut.done);
-        }
+        cut_more (spoken s) (turn_doing n custom indent i r c) (command_acts (setting_of s) indent r p p.answer) s t c c' r r (Err e) q cut
+        (is ∙ ap (λ x. err_of Status (refusal_or x)) cut.result_is) (acts_same n custom indent i r c (setting_of s) (value_of s))
 
     -- the phrase's own end
     phrase_ended : (s t : State Out H Hi K T renderer completer candidate hinter hint highlighter validator history) (i' : Input) (c' : Coming) (e : ReadlineError) (q : Result Status ReadlineError) → q ≡ Err e
@@ -159,13 +140,7 @@ module _ {Out H Hi K T : Type 0} {renderer : renderers.Renderer.Ghosts Out} {com
 
     as_phrased : (s t : State Out H Hi K T renderer completer candidate hinter hint highlighter validator history) (i' : Input) (c' : Coming) (q : Result Cmd ReadlineError)
         → Enacting (followed s) (spoken s) s t i' c c' r q → Enacting (phrased n custom indent i r c) (spoken s) s t i' c c' r q
-    as_phrased s t i' c' q (inl h) = inl (record {
-      does = does_as (λ a v. (followed s a v).made) (phrased_made n custom indent i r c) s t (Ok (tt {0})) refl h.does;
-      answer_is = h.answer_is;
-      input_is = h.input_is;
-      rest_is = h.rest_is;
-    })
-    as_phrased s t i' c' q (inr cut) = inr cut
+    as_phrased s t i' c' q h = enacting_as (followed s) (phrased n custom indent i r c) (spoken s) (spoken s) s t i' c c' r q refl refl h
 
     module _ (s m t : State Out H Hi K T renderer completer candidate hinter hint highlighter validator history) (i1 : Input) (c1 : Coming) (cmd : Cmd) (q ring' : Ring) (result : Result Status ReadlineError)
         (h : Enacts (phrased n custom indent i r c) s m i1 c1 (Ok cmd)) (reset : q ≡ reset_by cmd r) where
@@ -193,7 +168,7 @@ module _ {Out H Hi K T : Type 0} {renderer : renderers.Renderer.Ghosts Out} {com
       command_whole : Done (means_of i1 indent q) cmd m t ring' result → Whole (turning n custom indent i r c) s t ring' i1 c1 result
       command_whole k = record {
         does = does_as (then_do (phrased_made n custom indent i r c) (effect (means_of i1 indent q) cmd)) (made n custom indent i r c) s t (Ok (tt {0})) made_same
-            (does_both (phrased_made n custom indent i r c) (effect (means_of i1 indent q) cmd) s m t (tt {0}) (Ok (tt {0})) h.does k.does tt);
+            (does_both (phrased_made n custom indent i r c) (effect (means_of i1 indent q) cmd) s m t (tt {0}) (Ok (tt {0})) h.does k.does);
         outcome_is = k.outcome_is ∙ outcome_same;
         ring_is = k.ring_is ∙ ring_same;
         input_is = h.input_is ∙ ap (λ x. x.input) commanded_same;
@@ -202,7 +177,7 @@ module _ {Out H Hi K T : Type 0} {renderer : renderers.Renderer.Ghosts Out} {com
 
       -- the command's act, as it is done at the state after the phrase
       abbrev obeyed : Doing
-      obeyed a v = Obeys (ring_without_text cmd v q) (ring_after_command cmd v q) (effect (means_of i1 indent q) cmd a v).redraws ∷ []
+      obeyed a v = Obeys (ring_without_text cmd v q) (ring_after_command cmd v q) (effect (means_of i1 indent q) cmd a v).steps ∷ []
 
       abbrev front : List Act
       front = spoken s (setting_of s) (value_of s)
@@ -216,7 +191,7 @@ module _ {Out H Hi K T : Type 0} {renderer : renderers.Renderer.Ghosts Out} {com
       obeyed_same : front ++ obeyed (setting_of s) before.made.value ≡ turn_doing n custom indent i r c (setting_of s) (value_of s)
       obeyed_same =
           let v : Value = before.made.value in
-          let act : Input → Ring → List Act = λ x k. Obeys (ring_without_text cmd v k) (ring_after_command cmd v k) (effect (means_of x indent k) cmd (setting_of s) v).redraws ∷ [] in
+          let act : Input → Ring → List Act = λ x k. Obeys (ring_without_text cmd v k) (ring_after_command cmd v k) (effect (means_of x indent k) cmd (setting_of s) v).steps ∷ [] in
           ap (λ k. front ++ act i1 k) reset ∙ ap (λ x. front ++ act x (reset_by cmd r)) h.input_is
           ∙ ap (λ x. front ++ command_acts (setting_of s) indent r before x) h.answer_is
           ∙ acts_same n custom indent i r c (setting_of s) (value_of s)
@@ -228,11 +203,11 @@ module _ {Out H Hi K T : Type 0} {renderer : renderers.Renderer.Ghosts Out} {com
         result_is = is;
         cause = k.reason;
         stays = stays_both s m t h.does.stays k.stays;
-        done = subst (λ x. CutIn renderer.canvas (renderer.canvas.ruler s.out) e x s.layout (stage s.out c r) (stage t.out c1 ring')) obeyed_same
-            (cut_onward front obeyed (phrased_made n custom indent i r c) s m (tt {0}) e c r (stage t.out c1 ring') h.does
+        done = subst (λ x. CutIn renderer.canvas (renderer.canvas.ruler s.out) e x (stage (surface_of s) c r) (value_of t) (stage (surface_of t) c1 ring')) obeyed_same
+            (cut_onward front obeyed (phrased_made n custom indent i r c) s m (tt {0}) e c r (value_of t) (stage (surface_of t) c1 ring') h.does
             (script_redraws (setting_of s) (steps (line_phrase custom i (shown_in (value_of s))) n) i (value_of s) c)
-            (cut_obeying renderer.canvas (renderer.canvas.ruler m.out) e (ring_without_text cmd (value_of m) q) (ring_after_command cmd (value_of m) q) (effect (means_of i1 indent q) cmd (setting_of m) (value_of m)).redraws [] m.layout
-            (stage m.out (rest_of c front) (ring_of r front)) (stage t.out c1 ring') k.begun (sym front_rest) left));
+            (cut_obeying renderer.canvas (renderer.canvas.ruler m.out) e (value_of t) (ring_without_text cmd (value_of m) q) (ring_after_command cmd (value_of m) q) (effect (means_of i1 indent q) cmd (setting_of m) (value_of m)).steps []
+            (stage (surface_of m) (rest_of c front) (ring_of r front)) (stage (surface_of t) c1 ring') k.stops (sym front_rest) left));
       }
 
       command_done : Executes (means_of i1 indent q) cmd m t ring' result
@@ -250,7 +225,7 @@ module _ {Out H Hi K T : Type 0} {renderer : renderers.Renderer.Ghosts Out} {com
         → Enacting (phrased n custom indent i r c) (spoken s) s m i1 c c1 r (Ok cmd) → q ≡ reset_by cmd r → Executes (means_of i1 indent q) cmd m t ring' result
         → Whole (turning n custom indent i r c) s t ring' i1 c1 result ⊎ Cut (turn_doing n custom indent i r c) s t c c1 r ring' result
     commanded s m t i1 c1 cmd q ring' result (inl h) reset k = command_done s m t i1 c1 cmd q ring' result h reset k
-    commanded s m t i1 c1 cmd q ring' result (inr cut) reset k = not_refused cmd cut.fault cut.result_is
+    commanded s m t i1 c1 cmd q ring' result (inr cut) reset k = answered_not cmd cut.fault cut.result_is
 
     phrase_made : (b : ℕ) → b < n → (s t : State Out H Hi K T renderer completer candidate hinter hint highlighter validator history) (i' : Input) (c' : Coming) (q : Result Cmd ReadlineError)
         → Happens display_of b (line_phrase custom i (shown_in (value_of s))) (key_stage s i c) q (key_stage t i' c') → Enacting (phrased n custom indent i r c) (spoken s) s t i' c c' r q

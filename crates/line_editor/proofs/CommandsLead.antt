@@ -1,5 +1,6 @@
 -- Each command leads from its value to the next.
 use Rattle.std.proofs.Common.{◌≡◌, ℕ, ◌+◌, ◌-◌, ◌==◌, ◌||◌, not, max, Bool, true, false, List, [], ◌∷◌, ◌++◌, length, Option, Some, None, is_some, slice_get, refl, sym, ap, ◌∙◌, subst, if◌then◌else◌}
+use Rattle.std.specs.Prelude.{⊤}
 use Rattle.std.proofs.lemmas.Bool.{eqb-true}
 use Rattle.line_buffer.specs.Clusters.{place_forward}
 use Rattle.line_buffer.specs.Columns.{line_up, line_down}
@@ -11,12 +12,14 @@ use Rattle.line_buffer.specs.declared.types.Anchor.{Anchor}
 use Rattle.line_buffer.specs.declared.types.Anchor.TheVariants.{After, Before}
 use Rattle.line_buffer.specs.declared.types.WordAction.{WordAction}
 use Rattle.line_buffer.specs.declared.types.WordAction.TheVariants.{Capitalize, Lowercase, Uppercase}
-use Rattle.line_edits.specs.Edits.{text_yanked, pop_in_group, overwritten, chars_replaced, indented, transpose_chars_in_group, transpose_words_in_group, edit_word_in_group, undone}
-use Rattle.line_edits.specs.Written.{group_opened, group_closed}
+use Rattle.line_config.specs.Scripts.{Ends}
+use Rattle.line_edits.specs.Edits.{yanking, text_yanked, popping_in_group, updating, updating_in_group, written_over, overwriting, replacing, replacing_if_any, indenting, transposing_chars_in_group, transposing_words_in_group, transpose_words_in_group, editing_word_in_group, undone}
+use Rattle.line_edits.specs.Steps.{Steps, made, answering}
+use Rattle.line_edits.specs.Written.{Written, group_opened, group_closed}
 use Rattle.line_help.specs.Completion.{Completion}
 use Rattle.line_help.specs.Hints.{Hinted}
 use Rattle.line_keys.specs.Replies.{Reply}
-use Rattle.line_help.specs.Search.{Hit}
+use Rattle.line_help.specs.Search.{Hit, entry_at}
 use Rattle.line_help.specs.Validation.{is_valid, has_message}
 use Rattle.line_help.specs.declared.search.SearchDirection.{SearchDirection}
 use Rattle.line_help.specs.declared.search.SearchDirection.TheVariants.{Forward, Reverse}
@@ -28,21 +31,22 @@ use Rattle.line_keys.specs.declared.command.CmdKind.{CmdKind}
 use Rattle.line_keys.specs.declared.command.CmdKind.TheVariants.{ForcedRefresh, Other}
 use Rattle.line_record.specs.Held.{has_step, closes}
 use Rattle.line_record.specs.Ring.{exchanged}
-use Rattle.line_editor.specs.Accepting.{bared, bare, verdict, told_if, verdict_told, closed_and_told, verdict_given, opened_and_asked, validate_by, validate, newline, accept, accepts, newline_if, accept_or_insert}
+use Rattle.line_editor.specs.Accepting.{bared, bare, verdict, told_if, verdict_told, closed_and_told, verdict_given, verdict_asked, opened_and_asked, validate_by, validate, newline, accept, accepts, newline_if, accept_or_insert}
 use Rattle.line_editor.specs.Commands.{in_vi_command, line_up_or_previous, line_down_or_next}
-use Rattle.line_editor.specs.Completing.{elected, word_replaced, completed_with, completed, candidates_given, candidates_asked, complete_if}
-use Rattle.line_editor.specs.Drawing.{drawn, asked_anew, refreshed}
+use Rattle.line_editor.specs.Completing.{elected, word_replaced, updates, completed_with, completed, candidates_given, candidates_asked, complete_if}
+use Rattle.line_editor.specs.Drawing.{drawn_behind, repainted, asked_anew, refreshed, moved_to_end}
 use Rattle.line_editor.specs.Hinting.{at_row_end, completed_by, complete_by}
 use Rattle.line_editor.specs.Inserting.{insert_char}
 use Rattle.line_editor.specs.Leads.{Leads, CommandsLead, SubmittingLeads, AsksLead}
 use Rattle.line_editor.specs.Moving.{move_buffer_end}
-use Rattle.line_editor.specs.Redraws.Redraw.{Drawn, Bared, ToEnd, Beeped}
-use Rattle.line_editor.specs.Remembering.{saved_now, at_place, restored, recalled, saved_on_leaving, recall, history_step, history_end, hit_shown, history_search}
+use Rattle.line_editor.specs.Redraws.Redraw.{Drawn, Bared, Beeped}
+use Rattle.line_editor.specs.Remembering.{saved_now, at_place, saved_on_leaving, saving_on_leaving, recall, recalled_earlier, history_step, history_end, hit_shown, history_search}
 use Rattle.line_editor.specs.Rewording.{transpose_chars, transpose_words, edit_word, unmarked, undo}
 use Rattle.line_editor.specs.Sights.{sight_as, sight_with, sight_of, ended_sight, Turns, info_after}
-use Rattle.line_editor.specs.Values.{Value, Setting, hint_reply, verdict_reply, completion_reply, update_reply, shown_hint, rewritten, at_line}
+use Rattle.line_editor.specs.Values.{Value, Setting, Effect, hint_reply, verdict_reply, completion_reply, update_reply, shown_hint, unchanged, rewritten, written_of, at_line}
+use Rattle.line_editor.specs.Values.EditStep.{Draws, Takes}
 use Rattle.line_editor.specs.Yanking.{anchored, steps, behind_yank, yanked_by, yank_text, yank_lent, pop_lent}
-use Rattle.line_editor.proofs.LeadLemmas.{turns_both, info_both, both_lead, either, help_turns, help_leads, asking_leads, redrawn_leads, refresh_leads, told_leads, rest_leads, beep_leads, clear_leads, refresh_if_leads, step_leads, motion_leads, none_if, insertion_leads, kill_leads, replace_leads}
+use Rattle.line_editor.proofs.LeadLemmas.{turns_both, info_both, both_lead, either, help_turns, asking_leads, edit_leads, back_leads, take_leads, redraw_leads, redrawn_leads, refresh_leads, told_leads, rest_leads, beep_leads, clear_leads, refresh_if_leads, step_leads, motion_leads, none_if, insertion_leads, kill_leads, replace_leads}
 
 or_none : (a b : Bool) → (a || b) ≡ false → (a ≡ false) × (b ≡ false)
 or_none true b h = cc
@@ -79,7 +83,7 @@ yank_rests vi text n v h =
 yank_leads : (vi : Bool) (text : List ℕ) (anchor : Anchor) (n : ℕ) (s : Setting) (v : Value) → Leads s v (yank_text vi text anchor n s v)
 yank_leads vi text anchor n s v =
     let before = at_line (anchored anchor v.line) v in
-    either s v (is_some (yanked_in text n before.line).answer || steps anchor v.line) _ _ (λ e. refresh_leads s v (yanked_by vi text n before)) (λ e.
+    either s v (is_some (yanked_in text n before.line).answer || steps anchor v.line) _ _ (λ e. edit_leads (answering tt (yanking text n before.line)) s v before (refreshed s (yanked_by vi text n before)) (refresh_leads s v (yanked_by vi text n before))) (λ e.
     let parts = or_none _ _ e in
     rest_leads s v (yanked_by vi text n before) (yank_rests vi text n before parts.0 ∙ not_anchored anchor v.line parts.1))
 
@@ -89,12 +93,12 @@ lent_leads vi anchor n (Some text) s v = yank_leads vi text anchor n s v
 
 pop_leads : (o : Option (ℕ × List ℕ)) (s : Setting) (v : Value) → Leads s v (pop_lent o s v)
 pop_leads None s v = rest_leads s v v refl
-pop_leads (Some lent) s v = either s v (can_take_before lent.0 v.line) _ _ (λ e. refresh_leads s v (rewritten (pop_in_group lent.0 lent.1) v)) (λ e. rest_leads s v v refl)
+pop_leads (Some lent) s v = either s v (can_take_before lent.0 v.line) _ _ (λ e. redraw_leads (popping_in_group lent.0 lent.1) s v v) (λ e. rest_leads s v v refl)
 
 -- ---- words
 
 chars_lead : (s : Setting) (v : Value) → Leads s v (transpose_chars s v)
-chars_lead s v = refresh_if_leads s v (rewritten transpose_chars_in_group v) (transposes_chars v.line) (λ e. if_none (transposes_chars v.line) _ v.line e)
+chars_lead s v = refresh_if_leads transposing_chars_in_group s v (transposes_chars v.line) (λ e. if_none (transposes_chars v.line) _ v.line e)
 
 words_rest : (n : ℕ) (l : Line) → transposes_words n l ≡ false → (transpose_words_line n l).place ≡ l.place → transpose_words_line n l ≡ l
 unfolding after_words before_words
@@ -105,7 +109,7 @@ words_rest n l h k =
 words_lead : (n : ℕ) (s : Setting) (v : Value) → Leads s v (transpose_words n s v)
 words_lead n s v =
     let w = rewritten (transpose_words_in_group n) v in
-    refresh_if_leads s v w (transposes_words n v.line || not (w.line.place == v.line.place)) (λ e.
+    refresh_if_leads (transposing_words_in_group n) s v (transposes_words n v.line || not (w.line.place == v.line.place)) (λ e.
     let parts = or_none (transposes_words n v.line) _ e in
     words_rest n v.line parts.0 (eqb-true w.line.place v.line.place (not_none _ parts.1)))
 
@@ -114,40 +118,49 @@ recase_rests action None l h = refl
 recase_rests action (Some word) l h = cc
 
 word_leads : (action : WordAction) (s : Setting) (v : Value) → Leads s v (edit_word action s v)
-word_leads action s v = refresh_if_leads s v (rewritten (edit_word_in_group action) v) (is_some (word_to_edit v.line)) (recase_rests action (word_to_edit v.line) v.line)
+word_leads action s v = refresh_if_leads (editing_word_in_group action) s v (is_some (word_to_edit v.line)) (recase_rests action (word_to_edit v.line) v.line)
+
+over_rests : (c : ℕ) (o : Option ℕ) (w : Written) → is_some o ≡ false → (written_over c o w).line ≡ w.line
+over_rests c None w h = refl
+over_rests c (Some end) w h = cc
 
 -- ---- undo
 
 undo_leads : (n : ℕ) (s : Setting) (v : Value) → Leads s v (undo n s v)
-undo_leads n s v = either s v (has_step (max n 1) v.held) _ _ (λ e. refresh_leads s v (rewritten (undone n) v)) (λ e. rest_leads s v (unmarked n v) refl)
+undo_leads n s v = either s v (has_step (max n 1) v.held) _ _ (λ e. back_leads s v v (refreshed s (rewritten (undone n) v)) (refresh_leads s v (rewritten (undone n) v))) (λ e. back_leads s v v (unchanged s (unmarked n v)) (rest_leads s v (unmarked n v) refl))
 
 -- ---- history
 
 recall_leads : (place : ℕ) (o : Option Hit) (s : Setting) (v w : Value) → w.line ≡ v.line → Leads s v (recall place o s w)
 recall_leads place None s v w h = rest_leads s v w h
-recall_leads place (Some hit) s v w h = refresh_leads s v (recalled hit.entry (length hit.entry) (at_place place w))
+recall_leads place (Some hit) s v w h = redraw_leads (updating_in_group hit.entry (length hit.entry)) s v (at_place place w)
 
-leaving_rests : (v : Value) (b : Bool) → (if b then saved_now v else v).line ≡ v.line
-leaving_rests v true = refl
-leaving_rests v false = refl
+leaving_leads : (s : Setting) (v : Value) → Leads s v (saving_on_leaving s v)
+leaving_leads s v = by_test (v.history == length s.entries)
+  where
+    by_test : (b : Bool) → Leads s v (record { value = if b then saved_now v else v; steps = if b then Takes v ∷ [] else [] })
+    by_test true info = record { fits = (tt, tt); leads = refl }
+    by_test false info = record { fits = tt; leads = refl }
 
-recall_left : (place : ℕ) (o : Option Hit) (s : Setting) (v : Value) → Leads s v (recall place o s (saved_on_leaving s v))
-recall_left place o s v = recall_leads place o s v (saved_on_leaving s v) (leaving_rests v (v.history == length s.entries))
+recall_left : (place : ℕ) (s : Setting) (v : Value) → Leads s v (recalled_earlier place s v)
+recall_left place s v =
+    let w = saved_on_leaving s v in
+    both_lead s v saving_on_leaving (recall place (entry_at place s.entries)) (leaving_leads s v) (recall_leads place (entry_at place s.entries) s w w refl)
 
 step_back_leads : (back : Bool) (s : Setting) (v : Value) → Leads s v (history_step back s v)
-step_back_leads true s v = either s v (v.history == 0) _ _ (λ e. rest_leads s v v refl) (λ e. recall_left (v.history - 1) _ s v)
+step_back_leads true s v = either s v (v.history == 0) _ _ (λ e. rest_leads s v v refl) (λ e. recall_left (v.history - 1) s v)
 step_back_leads false s v =
     either s v (v.history == length s.entries) _ _ (λ e. rest_leads s v v refl) (λ e.
-    either s v (v.history + 1 == length s.entries) _ _ (λ e. refresh_leads s v (restored (at_place (length s.entries) v))) (λ e. recall_leads (v.history + 1) _ s v v refl))
+    either s v (v.history + 1 == length s.entries) _ _ (λ e. redraw_leads (updating v.saved.text v.saved.place) s v (at_place (length s.entries) v)) (λ e. recall_leads (v.history + 1) _ s v v refl))
 
 end_leads : (first : Bool) (s : Setting) (v : Value) → Leads s v (history_end first s v)
-end_leads true s v = either s v (v.history == 0) _ _ (λ e. rest_leads s v v refl) (λ e. recall_left 0 _ s v)
+end_leads true s v = either s v (v.history == 0) _ _ (λ e. rest_leads s v v refl) (λ e. recall_left 0 s v)
 end_leads false s v =
-    either s v (v.history == length s.entries) _ _ (λ e. rest_leads s v v refl) (λ e. refresh_leads s v (restored (at_place (length s.entries) v)))
+    either s v (v.history == length s.entries) _ _ (λ e. rest_leads s v v refl) (λ e. redraw_leads (updating v.saved.text v.saved.place) s v (at_place (length s.entries) v))
 
 found_leads : (o : Option Hit) (s : Setting) (v w : Value) → w.line ≡ v.line → Leads s v (hit_shown o s w)
 found_leads None s v w h = beep_leads s v w h
-found_leads (Some hit) s v w h = refresh_leads s v (recalled hit.entry hit.pos (at_place hit.idx w))
+found_leads (Some hit) s v w h = redraw_leads (updating_in_group hit.entry hit.pos) s v (at_place hit.idx w)
 
 search_leads : (dir : SearchDirection) (s : Setting) (v : Value) → Leads s v (history_search dir s v)
 search_leads Reverse s v = either s v (v.history == 0) _ _ (λ e. beep_leads s v v refl) (λ e. found_leads _ s v (at_place (v.history - 1) v) refl)
@@ -156,7 +169,7 @@ search_leads Forward s v = either s v (v.history == length s.entries) _ _ (λ e.
 -- ---- lines that are to be accepted
 
 bared_by : (s : Setting) (v w : Value) (b : Bool) → w.line ≡ v.line
-    → Leads s v (record { value = w; redraws = (if b then Drawn s.prompt true w.line.text w.line.place None else Bared s.prompt w.line.text w.line.place) ∷ [] })
+    → Leads s v (record { value = w; steps = Draws w (if b then Drawn s.prompt true w.line.text w.line.place None else Bared s.prompt w.line.text w.line.place) ∷ [] })
 bared_by s v w true h info = record { fits = ((λ e. refl), tt); leads = refl }
 bared_by s v w false h info = record { fits = (refl, tt); leads = ap (λ (l : Line). sight_as s.prompt l.text l.place info) (sym h) }
 
@@ -176,7 +189,9 @@ validate_leads None s v = rest_leads s v v refl
 validate_leads (Some reply) s v =
     let found = verdict_given reply.answer in
     let w = rewritten group_opened v in
-    both_lead s v opened_and_asked (closed_and_told found) (asking_leads (verdict_reply s v) s v w refl) (verdict_leads found (closes w.held || is_some w.hint) s w (rewritten group_closed w) refl)
+    let draws = closes w.held || is_some w.hint in
+    both_lead s v opened_and_asked (closed_and_told found) (take_leads s v v (verdict_asked s w) (asking_leads w (verdict_reply s w) s v w refl))
+    (verdict_leads found draws s w (rewritten group_closed w) refl)
 
 accept_leads : (s : Setting) (v : Value) → Leads s v (accept s v)
 accept_leads s v = both_lead s v bare validate (bare_leads s v) (validate_leads (verdict_reply s (bare s v).value) s (bare s v).value)
@@ -196,10 +211,10 @@ accept_or_insert_leads middle s v =
 -- ---- hints
 
 completion_leads : (o : Option (List ℕ)) (s : Setting) (v w : Value) → Leads s v (completed_by o s w)
-completion_leads None s v w = redrawn_leads Beeped (hint_reply s w) s v (asked_anew s w).value (λ y. tt)
+completion_leads None s v w = redrawn_leads Beeped w (hint_reply s w) s v (asked_anew s w).value (λ y. tt)
 completion_leads (Some text) s v w =
     let u = rewritten (text_yanked text 1) w in
-    either s v (is_some (yanked_in text 1 w.line).answer) _ _ (λ e. refresh_leads s v u) (λ e. redrawn_leads Beeped (hint_reply s u) s v (asked_anew s u).value (λ y. tt))
+    either s v (is_some (yanked_in text 1 w.line).answer) _ _ (λ e. redraw_leads (yanking text 1) s v w) (λ e. redrawn_leads Beeped u (hint_reply s u) s v (asked_anew s u).value (λ y. tt))
 
 hint_leads : (o : Option Hinted) (s : Setting) (v : Value) → Leads s v (complete_by o s v)
 hint_leads None s v = rest_leads s v v refl
@@ -207,17 +222,21 @@ hint_leads (Some hint) s v = completion_leads hint.completion s v (at_row_end v)
 
 -- ---- completion
 
+updating_leads : (reply : Option (Reply ⊤)) (s : Setting) (v : Value) (e : Effect) → Leads s v e → Leads s v (record { value = e.value; steps = updates reply v ++ e.steps })
+updating_leads None s v e h = h
+updating_leads (Some reply) s v e h = λ info. record { fits = (tt, (h info).fits); leads = (h info).leads }
+
 elected_leads : (start : ℕ) (o : Option (List ℕ)) (s : Setting) (v : Value) → Leads s v (completed_with start o s v)
 elected_leads start None s v = beep_leads s v v refl
 elected_leads start (Some text) s v =
     let w = rewritten (word_replaced start text) v in
-    help_leads (update_reply start text s v) s v (refreshed s w) (refresh_leads s v w)
+    updating_leads (update_reply start text s v) s v (refreshed s w) (refresh_leads s v w)
 
 complete_leads : (reply : Option (Reply Completion)) (s : Setting) (v : Value) → Leads s v (complete_if reply s v)
 complete_leads None s v = rest_leads s v v refl
 complete_leads (Some reply) s v =
     let found = candidates_given (Some reply) in
-    both_lead s v candidates_asked (completed found) (asking_leads (completion_reply s v) s v v refl) (elected_leads found.start (elected found v.line) s v)
+    both_lead s v candidates_asked (completed found) (asking_leads v (completion_reply s v) s v v refl) (elected_leads found.start (elected found v.line) s v)
 
 -- ---- rows, or the history
 
@@ -238,14 +257,14 @@ commands_lead m ClearScreen s v = clear_leads s v
 commands_lead m Complete s v = complete_leads (completion_reply s v) s v
 commands_lead m CompleteBackward s v = rest_leads s v v refl
 commands_lead m CompleteHint s v = hint_leads v.hint s v
-commands_lead m (Dedent movement) s v = refresh_leads s v (rewritten (indented movement m.indent_size true) v)
+commands_lead m (Dedent movement) s v = redraw_leads (indenting movement m.indent_size true) s v v
 commands_lead m DowncaseWord s v = word_leads Lowercase s v
 commands_lead m EndOfFile s v = bare_leads s v
 commands_lead m EndOfHistory s v = end_leads false s v
 commands_lead m ForwardSearchHistory s v = rest_leads s v v refl
 commands_lead m HistorySearchBackward s v = search_leads Reverse s v
 commands_lead m HistorySearchForward s v = search_leads Forward s v
-commands_lead m (Indent movement) s v = refresh_leads s v (rewritten (indented movement m.indent_size false) v)
+commands_lead m (Indent movement) s v = redraw_leads (indenting movement m.indent_size false) s v v
 commands_lead m (Insert n text) s v = yank_leads (in_vi_command m) text Before n s v
 commands_lead m Interrupt s v = λ info. record { fits = (tt, tt); leads = refl }
 commands_lead m (Kill movement) s v = kill_leads movement s v
@@ -253,10 +272,11 @@ commands_lead m (Move movement) s v = motion_leads movement s v
 commands_lead m NextHistory s v = step_back_leads false s v
 commands_lead m Noop s v = rest_leads s v v refl
 commands_lead m Repaint s v = refresh_leads s v v
-commands_lead m (Overwrite c) s v = either s v (is_some (place_forward 1 v.line)) _ _ (λ e. refresh_leads s v (rewritten (overwritten c) v)) (λ e. rest_leads s v v refl)
+commands_lead m (Overwrite c) s v = refresh_if_leads (overwriting c) s v (is_some (place_forward 1 v.line)) (over_rests c (place_forward 1 v.line) (written_of v))
 commands_lead m PreviousHistory s v = step_back_leads true s v
 commands_lead m QuotedInsert s v = rest_leads s v v refl
-commands_lead m (ReplaceChar n c) s v = either s v (is_some (place_forward n v.line)) _ _ (λ e. refresh_leads s v (rewritten (chars_replaced c n) v)) (λ e. rest_leads s v v refl)
+commands_lead m (ReplaceChar n c) s v = refresh_if_leads (replacing_if_any c n) s v (is_some (place_forward n v.line))
+    (λ e. ap (λ (steps : Steps Bool). (made steps (written_of v)).line) (if_none (is_some (place_forward n v.line)) (answering true (replacing c n v.line)) (Ends false) e))
 commands_lead m (Replace movement text) s v = replace_leads movement text s v
 commands_lead m ReverseSearchHistory s v = rest_leads s v v refl
 commands_lead m (SelfInsert n c) s v = insertion_leads c n s v
@@ -266,7 +286,7 @@ commands_lead m (TransposeWords n) s v = words_lead n s v
 commands_lead m (Undo n) s v = undo_leads n s v
 commands_lead m Unknown s v = rest_leads s v v refl
 commands_lead m UpcaseWord s v = word_leads Uppercase s v
-commands_lead m (ViYankTo movement) s v = rest_leads s v v refl
+commands_lead m (ViYankTo movement) s v = λ info. record { fits = (tt, tt); leads = refl }
 commands_lead m (Yank n anchor) s v = lent_leads (in_vi_command m) anchor n (slice_get m.ring.slots m.ring.place) s v
 commands_lead m YankPop s v = pop_leads (exchanged m.ring) s v
 commands_lead m (LineUpOrPreviousHistory n) s v = up_leads n s v
@@ -277,20 +297,21 @@ commands_lead m (AcceptOrInsertLine middle) s v = accept_or_insert_leads middle 
 pub submitting_leads : SubmittingLeads
 submitting_leads s v info =
     let e = move_buffer_end ForcedRefresh s v in
-    let there = info_after e.redraws info in
+    let there = info_after e.steps info in
     let y = sight_of s e.value there in
-    let end : Turns s.prompt y (ToEnd ∷ []) (ended_sight y) = record { fits = (tt, tt); leads = refl } in
-    subst (λ i. Turns s.prompt (sight_of s v info) (e.redraws ++ (ToEnd ∷ [])) (ended_sight (sight_of s e.value i))) (sym (info_both e.redraws (ToEnd ∷ []) info))
-    (turns_both s.prompt (sight_of s v info) y (ended_sight y) e.redraws (ToEnd ∷ []) (step_leads ForcedRefresh _ _ s v refl info) end)
+    let last = (moved_to_end s e.value).steps in
+    let end : Turns s.prompt y last (ended_sight y) = record { fits = (tt, tt); leads = refl } in
+    subst (λ i. Turns s.prompt (sight_of s v info) (e.steps ++ last) (ended_sight (sight_of s e.value i))) (sym (info_both e.steps last info))
+    (turns_both s.prompt (sight_of s v info) y (ended_sight y) e.steps last (step_leads ForcedRefresh _ _ s v refl info) end)
 
 pub asks_lead : AsksLead
 asks_lead LineAsked s v x =
     let w = (asked_anew s v).value in
-    help_turns (hint_reply s v) s.prompt x (sight_of s w (shown_hint w)) (drawn s w ∷ []) (record { fits = ((λ e. refl), tt); leads = refl })
+    help_turns v (hint_reply s v) s.prompt x (sight_of s w (shown_hint w)) (repainted s w).steps (record { fits = ((λ e. refl), tt); leads = refl })
 asks_lead (Message text kind) s v x = record { fits = ((λ e. refl), tt); leads = refl }
 asks_lead (Prompted prompt) s v x =
     let w = (asked_anew s v).value in
-    help_turns (hint_reply s v) s.prompt x (sight_with false prompt w.line.text w.line.place (shown_hint w)) (Drawn prompt false w.line.text w.line.place (shown_hint w) ∷ [])
+    help_turns v (hint_reply s v) s.prompt x (sight_with false prompt w.line.text w.line.place (shown_hint w)) (drawn_behind prompt false s w).steps
     (record { fits = ((λ e. cc), tt); leads = refl })
 asks_lead DoingInsert s v x = refl
 asks_lead DoneInserting s v x = refl

@@ -19,14 +19,14 @@ use Rattle.line_help.specs.declared.history as histories
 use Rattle.line_keys.specs.Replies.{Reply, fails}
 use Rattle.line_record.specs.Items.{Items, ItemsStand, RecordedIn, record_refuses, held_on}
 use Rattle.line_editor.specs.Completing.{elected, word_put, word_updated, completed_with, completed, candidates_given, candidates_asked, complete_if, complete}
-use Rattle.line_editor.specs.States.{hooks_of, value_of, setting_of, fails_by, IsHelpFault, reason_of, Stays, Does}
-use Rattle.line_editor.specs.Values.{Value, Setting, Hooks, then_do, completion_reply, update_reply, IsFailing}
+use Rattle.line_editor.specs.States.{hooks_of, value_of, setting_of, fails_by, IsHelpFault, surface_of, Stays, Does}
+use Rattle.line_editor.specs.Steps.{Unhelped, Stops}
+use Rattle.line_editor.specs.Values.{Value, Setting, Hooks, then_do, completion_reply, update_reply}
 use Rattle.line_editor.specs.declared.renderer as renderers
 use Rattle.line_editor.specs.declared.state.State.{State}
-use Rattle.line_editor.proofs.BegunLemmas.{begun_none, help_made, help_layout, help_refused}
-use Rattle.line_editor.proofs.DoesLemmas.{on_refusal, does_as, does_both, does_cut_by, setting_stays, stays_same}
+use Rattle.line_editor.proofs.StopsLemmas.{help_made, help_layout, stops_asking, stops_updating}
+use Rattle.line_editor.proofs.DoesLemmas.{does_as, does_both, does_cut_by, does_refused, stays_same}
 use Rattle.line_editor.proofs.HelpedLemmas.{completion_reason, update_reason}
-use Rattle.line_editor.proofs.ShowsLemmas.{completed_shows}
 
 -- the texts that candidates put in
 pub replacements : {A : Type 0} (offers : A → Offered) (candidates : List A) → map (λ (o : Offered). o.replacement) (map offers candidates) ≡ map (λ c. (offers c).replacement) candidates
@@ -55,6 +55,10 @@ put_writes start text before after old new (Err e) utf8 stand u = record {
 
 -- ---- with a helper
 
+help_fails : {A : Type 0} (reply : Option (Reply A)) → IsHelpFault reply Helper → IsTrue (fails_by reply)
+help_fails None why = absurd why
+help_fails (Some reply) why = why
+
 some_mapped : {A B C : Type 0} (f : B → C) (g : A → B) (o : Option A) → is_some (option_map f (option_map g o)) ≡ is_some o
 some_mapped f g None = refl
 some_mapped f g (Some x) = refl
@@ -75,35 +79,32 @@ module _ {Out H Hi K T : Type 0} {renderer : renderers.Renderer.Ghosts Out} {com
   update_fails s h start text is why =
       subst (λ (o : Option H). IsHelpFault (option_map (λ (k : Hooks). k.updates s.line start text) (option_map (hooks_of completer hinter validator) o)) Helper) (sym is) why
 
-  pub updating_refused : {A : Type 0} (start : ℕ) (text : List ℕ) (s t : State Out H Hi K T renderer completer candidate hinter hint highlighter validator history)
-      → IsHelpFault (update_reply start text (setting_of s) (value_of s)) Helper → t.out ≡ s.out → Stays s t → Does {A = A} (word_updated start text) s t (Err Helper)
-  updating_refused start text s t why out stays = record {
-    value = tt;
-    calls = tt;
-    layout = tt;
-    stays = stays;
-    reason = subst (λ (a : Setting). reason_of (renderer.canvas.failed t.out) (IsFailing a.hooks) Helper) (sym (setting_stays s t stays))
-        (update_reason (setting_of s).hooks s.line start text (renderer.canvas.failed t.out) Helper why);
-    begun = help_refused renderer.canvas (renderer.canvas.ruler s.out) s.layout (update_reply start text (setting_of s) (value_of s)) Helper s.out t.out why out;
-  }
+  -- line and record alone are another
+  abbrev Touches : (State Out H Hi K T renderer completer candidate hinter hint highlighter validator history)
+      → (State Out H Hi K T renderer completer candidate hinter hint highlighter validator history) → Type 0
+  Touches s t = value_of t ≡ record (value_of s) { line = t.line; held = held_on t.changes t.line.text }
+
+  updating_stops : (start : ℕ) (text : List ℕ) (s t : State Out H Hi K T renderer completer candidate hinter hint highlighter validator history) (e : ReadlineError)
+      → is_some s.helper ≡ true → Unhelped (fails_by (update_reply start text (setting_of s) (value_of s))) e → surface_of t ≡ surface_of s → Touches s t
+      → Stops renderer.canvas (renderer.canvas.ruler s.out) (word_updated start text (setting_of s) (value_of s)).steps (surface_of s) e (value_of t) (surface_of t)
+  updating_stops start text s t e some why same touches =
+      stops_updating renderer.canvas (renderer.canvas.ruler s.out) (value_of s) (update_reply start text (setting_of s) (value_of s)) (surface_of s) (surface_of t) e (value_of t)
+      (some_mapped (λ (h : Hooks). h.updates s.line start text) (hooks_of completer hinter validator) s.helper ∙ some) why same touches
 
   -- a fault of the update that isn't want of memory
   pub updating_failed : {A : Type 0} (start : ℕ) (text : List ℕ) (s t : State Out H Hi K T renderer completer candidate hinter hint highlighter validator history) (h : H) (fault : HookFault) → s.helper ≡ Some h
-      → fault ≡ HookFailed → (fault ≡ HookMemory) ⊎ ((fault ≡ HookFailed) × IsTrue (fails (completer.update_of h s.line start text))) → t.out ≡ s.out → Stays s t
+      → fault ≡ HookFailed → (fault ≡ HookMemory) ⊎ ((fault ≡ HookFailed) × IsTrue (fails (completer.update_of h s.line start text))) → surface_of t ≡ surface_of s → Stays s t → Touches s t
       → Does {A = A} (word_updated start text) s t (Err Helper)
-  updating_failed start text s t h fault is failed (inl memory) out stays = let never : HookFailed ≡ HookMemory = sym failed ∙ memory in absurd (cc)
-  updating_failed start text s t h fault is failed (inr why) out stays = updating_refused start text s t (update_fails s h start text is why.1) out stays
+  updating_failed start text s t h fault is failed (inl memory) same stays touches = let never : HookFailed ≡ HookMemory = sym failed ∙ memory in absurd (cc)
+  updating_failed start text s t h fault is failed (inr why) same stays touches =
+      let reply = update_reply start text (setting_of s) (value_of s) in
+      let fails : IsHelpFault reply Helper = update_fails s h start text is why.1 in
+      does_refused (word_updated start text) s t Helper stays (update_reason (setting_of s).hooks s.line start text (renderer.canvas.failed t.out) Helper fails)
+      (updating_stops start text s t Helper (ap is_some is) (help_fails reply fails) same touches)
 
   pub updating_wants : {A : Type 0} (start : ℕ) (text : List ℕ) (s t : State Out H Hi K T renderer completer candidate hinter hint highlighter validator history)
-      → t.out ≡ s.out → Stays s t → Does {A = A} (word_updated start text) s t (Err Memory)
-  updating_wants start text s t out stays = record {
-    value = tt;
-    calls = tt;
-    layout = tt;
-    stays = stays;
-    reason = tt;
-    begun = begun_none renderer.canvas Memory _ s.out t.out refl out;
-  }
+      → is_some s.helper ≡ true → surface_of t ≡ surface_of s → Stays s t → Touches s t → Does {A = A} (word_updated start text) s t (Err Memory)
+  updating_wants start text s t some same stays touches = does_refused (word_updated start text) s t Memory stays tt (updating_stops start text s t Memory some tt same touches)
 
   -- ---- the candidates
 
@@ -113,23 +114,18 @@ module _ {Out H Hi K T : Type 0} {renderer : renderers.Renderer.Ghosts Out} {com
       let reply = completion_reply (setting_of s) (value_of s) in
       record {
         value = refl;
-        calls = help_made renderer.canvas (renderer.canvas.ruler s.out) s.layout reply s.out s.out works refl;
-        layout = sym (help_layout (renderer.canvas.ruler s.out) s.layout reply);
+        calls = help_made renderer.canvas (renderer.canvas.ruler s.out) s.layout (value_of s) reply s.out s.out works refl;
+        layout = sym (help_layout (renderer.canvas.ruler s.out) s.layout (value_of s) reply);
         stays = stays_same s;
         reason = tt;
-        begun = tt;
+        stops = tt;
       }
 
   asked_refused : (s : State Out H Hi K T renderer completer candidate hinter hint highlighter validator history) (e : ReadlineError)
       → IsHelpFault (completion_reply (setting_of s) (value_of s)) e → Does {A = ⊤} candidates_asked s s (Err e)
-  asked_refused s e why = record {
-    value = tt;
-    calls = tt;
-    layout = tt;
-    stays = stays_same s;
-    reason = completion_reason (setting_of s).hooks s.line (setting_of s).entries (value_of s).history (renderer.canvas.failed s.out) e why;
-    begun = help_refused renderer.canvas (renderer.canvas.ruler s.out) s.layout (completion_reply (setting_of s) (value_of s)) e s.out s.out why refl;
-  }
+  asked_refused s e why = does_refused candidates_asked s s e (stays_same s)
+      (completion_reason (setting_of s).hooks s.line (setting_of s).entries (value_of s).history (renderer.canvas.failed s.out) e why)
+      (stops_asking renderer.canvas (renderer.canvas.ruler s.out) (value_of s) (completion_reply (setting_of s) (value_of s)) (surface_of s) (surface_of s) e (value_of s) why refl refl)
 
   complete_is : (s : State Out H Hi K T renderer completer candidate hinter hint highlighter validator history) → is_some s.helper ≡ true
       → then_do candidates_asked (completed (candidates_given (completion_reply (setting_of s) (value_of s)))) (setting_of s) (value_of s) ≡ complete (setting_of s) (value_of s)
@@ -151,5 +147,4 @@ module _ {Out H Hi K T : Type 0} {renderer : renderers.Renderer.Ghosts Out} {com
       let given : Completion = candidates_given (completion_reply (setting_of s) (value_of s)) in
       does_as (then_do candidates_asked (completed given)) complete s t result (complete_is s some)
       (does_both {A = ⊤} candidates_asked (completed given) s s t (tt {0}) result (asked_made s (tt {0}) works)
-      (does_as (completed_with start o) (completed given) s t result (completed_is found given o (setting_of s) (value_of s) same is) does)
-      (on_refusal result (completed_shows given.start (elected given s.line) (renderer.canvas.ruler s.out) s.layout (setting_of s) (value_of s))))
+      (does_as (completed_with start o) (completed given) s t result (completed_is found given o (setting_of s) (value_of s) same is) does))

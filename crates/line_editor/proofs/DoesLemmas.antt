@@ -1,48 +1,32 @@
 -- One edit, then another.
-use Rattle.std.proofs.Common.{◌≡◌, Bool, List, [], ◌∷◌, ◌++◌, refl, sym, ap, subst, ◌∙◌, append_assoc, if◌then◌else◌, Option, None, option_map}
-use Rattle.std.specs.Prelude.{ℕ, Result, Ok, Err, OnOk, OnErr, IfErr, IsErrAnd}
+use Rattle.std.proofs.Common.{◌≡◌, Bool, List, ◌++◌, refl, sym, ap, subst, ◌∙◌, if◌then◌else◌, Option, None, option_map}
+use Rattle.std.specs.Prelude.{ℕ, Result, Ok, Err, OnOk, IfErr, IsErrAnd}
 use Rattle.std.proofs.lemmas.Result.{on_ok_weaker}
 use Rattle.line_buffer.specs.Cells.{origin}
 use Rattle.line_keys.specs.declared.command.CmdKind.{CmdKind}
 use Rattle.std.specs.List.{FoldsTo}
-use Rattle.line_buffer.specs.declared.layout.Layout.{Layout}
 use Rattle.line_config.specs.declared.errors.ReadlineError.{ReadlineError}
-use Rattle.line_config.specs.declared.errors.ReadlineError.TheVariants.{Display}
 use Rattle.line_help.specs.declared.completion as completions
 use Rattle.line_help.specs.declared.hint as hints
 use Rattle.line_help.specs.declared.highlight as highlights
 use Rattle.line_help.specs.declared.validate as verdicts
 use Rattle.line_help.specs.declared.history as histories
-use Rattle.line_editor.specs.Calls.{Ruler, MadeIn, Begun, IsAsked}
-use Rattle.line_editor.specs.Drawing.{refreshed}
-use Rattle.line_editor.specs.Redraws.{Redraw, Asked, one, asked, then_asked}
-use Rattle.line_editor.specs.States.{hooks_of, value_of, setting_of, Stays, Does, Shows}
-use Rattle.line_editor.specs.Values.{Setting, Hooks, Effect, Transition, then_do}
+use Rattle.line_editor.specs.Calls.{Ruler, MadeIn}
+use Rattle.line_editor.specs.Redraws.{Asked, then_asked}
+use Rattle.line_editor.specs.Steps.{asked, Surface, surface, Stops}
+use Rattle.line_editor.specs.States.{hooks_of, value_of, setting_of, reason_of, surface_of, Stays, Does}
+use Rattle.line_editor.specs.Values.{Setting, Hooks, Effect, Transition, IsFailing, then_do}
 use Rattle.line_editor.specs.declared.renderer as renderers
 use Rattle.line_editor.specs.declared.state.State.{State}
-use Rattle.line_editor.proofs.BegunLemmas.{begun_broken, begun_before, begun_behind, display_asked, folds_both}
-use Rattle.line_editor.proofs.ShowsLemmas.{refreshed_shows}
-
-asked_joined : (a : Asked) (b : Asked) (c : Asked) → then_asked a (then_asked b c) ≡ then_asked (then_asked a b) c
-asked_joined a b c = ap (λ calls. record { calls = calls; layout = c.layout }) (sym (append_assoc a.calls b.calls c.calls))
-
--- redraws after others are asked on the layout that those leave
-pub asked_both : (r : Ruler) (l : Layout) (xs ys : List Redraw) → asked r l (xs ++ ys) ≡ then_asked (asked r l xs) (asked r (asked r l xs).layout ys)
-asked_both r l [] ys = refl
-asked_both r l (x ∷ xs) ys = ap (then_asked (one r l x)) (asked_both r (one r l x).layout xs ys) ∙ asked_joined (one r l x) (asked r (one r l x).layout xs) _
+use Rattle.line_editor.proofs.StopsLemmas.{asked_both, folds_both, stops_before, stops_behind}
 
 pub is_err : {A E : Type 0} (e : E) (result : Result A E) → IsErrAnd result (λ x. x ≡ e) → result ≡ Err e
 is_err e (Ok x) h = elim h [ ]
 is_err e (Err x) h = ap Err h
 
--- where it was refused
-pub on_refusal : {A P : Type 0} (result : Result A ReadlineError) → P → OnErr result P
-on_refusal (Ok x) h = tt
-on_refusal (Err e) h = h
-
-both_refused : {A P : Type 0} {Q R : ReadlineError → Type 0} (result : Result A ReadlineError) → (P → (e : ReadlineError) → Q e → R e) → OnErr result P → IfErr result Q → IfErr result R
-both_refused (Ok x) go h k = tt
-both_refused (Err e) go h k = go h e k
+pub if_refused : {A : Type 0} {Q R : ReadlineError → Type 0} (result : Result A ReadlineError) → ((e : ReadlineError) → Q e → R e) → IfErr result Q → IfErr result R
+if_refused (Ok x) go k = tt
+if_refused (Err e) go k = go e k
 
 abbrev setting_by : Ruler → List ℕ → Option Hooks → Option (List ℕ → ℕ → CmdKind → Bool) → List (List ℕ) → Setting
 setting_by r prompt hooks marks entries = record {
@@ -88,44 +72,54 @@ module _ {Out H Hi K T : Type 0} {renderer : renderers.Renderer.Ghosts Out} {com
   second_is first second s m x h = ap (λ a. second a (value_of m)) (setting_stays s m h.stays) ∙ ap (second (setting_of s)) h.value
 
   asked_is : {A : Type 0} (first second : Transition) (s m : State Out H Hi K T renderer completer candidate hinter hint highlighter validator history) (x : A) → Does first s m (Ok x)
-      → asked (renderer.canvas.ruler m.out) m.layout (second (setting_of m) (value_of m)).redraws
-      ≡ asked (renderer.canvas.ruler s.out) (asked (renderer.canvas.ruler s.out) s.layout (first (setting_of s) (value_of s)).redraws).layout
-      (second (setting_of s) (first (setting_of s) (value_of s)).value).redraws
+      → asked (renderer.canvas.ruler m.out) m.layout (second (setting_of m) (value_of m)).steps
+      ≡ asked (renderer.canvas.ruler s.out) (asked (renderer.canvas.ruler s.out) s.layout (first (setting_of s) (value_of s)).steps).layout
+      (second (setting_of s) (first (setting_of s) (value_of s)).value).steps
   asked_is first second s m x h =
-      ap (λ e. asked (renderer.canvas.ruler m.out) m.layout e.redraws) (second_is first second s m x h)
-      ∙ ap (λ r. asked r m.layout (second (setting_of s) (first (setting_of s) (value_of s)).value).redraws) h.stays.ruler
-      ∙ ap (λ l. asked (renderer.canvas.ruler s.out) l (second (setting_of s) (first (setting_of s) (value_of s)).value).redraws) h.layout
+      ap (λ e. asked (renderer.canvas.ruler m.out) m.layout e.steps) (second_is first second s m x h)
+      ∙ ap (λ r. asked r m.layout (second (setting_of s) (first (setting_of s) (value_of s)).value).steps) h.stays.ruler
+      ∙ ap (λ l. asked (renderer.canvas.ruler s.out) l (second (setting_of s) (first (setting_of s) (value_of s)).value).steps) h.layout
 
   -- a refusal says nothing of what would have been answered
   pub refused_as : {A B : Type 0} (edit : Transition) (s t : State Out H Hi K T renderer completer candidate hinter hint highlighter validator history) (e : ReadlineError) → Does {A = A} edit s t (Err e) → Does {A = B} edit s t (Err e)
-  refused_as edit s t e h = record { value = tt; calls = tt; layout = tt; stays = h.stays; reason = h.reason; begun = h.begun }
+  refused_as edit s t e h = record { value = tt; calls = tt; layout = tt; stays = h.stays; reason = h.reason; stops = h.stops }
 
-  -- what the display alone refuses asks for something
-  pub drawing_shows : {A : Type 0} (edit : Transition) (s t : State Out H Hi K T renderer completer candidate hinter hint highlighter validator history) (result : Result A ReadlineError)
-      → IfErr result (λ e. e ≡ Display) → Does edit s t result → OnErr result (Shows edit s)
-  drawing_shows edit s t (Ok x) why h = tt
-  drawing_shows edit s t (Err e) why h = display_asked renderer.canvas e (asked (renderer.canvas.ruler s.out) s.layout (edit (setting_of s) (value_of s)).redraws).calls s.out t.out why h.begun
+  -- refused for a reason that what was handed in gives, and where its steps stop
+  pub does_refused : {A : Type 0} (edit : Transition) (s t : State Out H Hi K T renderer completer candidate hinter hint highlighter validator history) (e : ReadlineError)
+      → Stays s t → reason_of (renderer.canvas.failed t.out) (IsFailing (setting_of s).hooks) e
+      → Stops renderer.canvas (renderer.canvas.ruler s.out) (edit (setting_of s) (value_of s)).steps (surface_of s) e (value_of t) (surface_of t) → Does {A = A} edit s t (Err e)
+  does_refused edit s t e stays why stops = record {
+    value = tt;
+    calls = tt;
+    layout = tt;
+    stays = stays;
+    reason = subst (λ (a : Setting). reason_of (renderer.canvas.failed t.out) (IsFailing a.hooks) e) (sym (setting_stays s t stays)) why;
+    stops = stops;
+  }
 
-  -- both were made, or the second was refused, which asks for something then
+  -- both were made, or the second was refused
   pub does_both : {A B : Type 0} (first second : Transition) (s m t : State Out H Hi K T renderer completer candidate hinter hint highlighter validator history) (x : A) (result : Result B ReadlineError)
-      → Does first s m (Ok x) → Does second m t result → OnErr result (Shows second m) → Does (then_do first second) s t result
-  does_both first second s m t x result h k shows =
+      → Does first s m (Ok x) → Does second m t result → Does (then_do first second) s t result
+  does_both first second s m t x result h k =
+      let u : Ruler = renderer.canvas.ruler s.out in
       let e : Effect = first (setting_of s) (value_of s) in
       let f : Effect = second (setting_of s) e.value in
-      let a : Asked = asked (renderer.canvas.ruler s.out) s.layout e.redraws in
-      let b : Asked = asked (renderer.canvas.ruler s.out) a.layout f.redraws in
-      let whole : asked (renderer.canvas.ruler s.out) s.layout (e.redraws ++ f.redraws) ≡ then_asked a b = asked_both (renderer.canvas.ruler s.out) s.layout e.redraws f.redraws in
-      let is : asked (renderer.canvas.ruler m.out) m.layout (second (setting_of m) (value_of m)).redraws ≡ b = asked_is first second s m x h in
+      let a : Asked = asked u s.layout e.steps in
+      let b : Asked = asked u a.layout f.steps in
+      let whole : asked u s.layout (e.steps ++ f.steps) ≡ then_asked a b = asked_both u s.layout e.steps f.steps in
+      let same : second (setting_of m) (value_of m) ≡ f = second_is first second s m x h in
+      let is : asked (renderer.canvas.ruler m.out) m.layout (second (setting_of m) (value_of m)).steps ≡ b = asked_is first second s m x h in
       record {
-        value = subst (λ y. OnOk result (value_of t ≡ y.value)) (second_is first second s m x h) k.value;
+        value = subst (λ y. OnOk result (value_of t ≡ y.value)) same k.value;
         calls = on_ok_weaker result (λ c. subst (λ y. FoldsTo (MadeIn renderer.canvas) s.out y.calls t.out) (sym whole)
             (folds_both (MadeIn renderer.canvas) a.calls b.calls s.out m.out t.out h.calls (subst (λ y. FoldsTo (MadeIn renderer.canvas) m.out y.calls t.out) is c))) k.calls;
         layout = on_ok_weaker result (λ c. c ∙ ap (λ y. y.layout) is ∙ ap (λ y. y.layout) (sym whole)) k.layout;
         stays = stays_both s m t h.stays k.stays;
         reason = k.reason;
-        begun = both_refused result (λ asks fault c. subst (λ y. Begun renderer.canvas fault y.calls s.out t.out) (sym whole)
-            (begun_behind renderer.canvas fault a.calls b.calls s.out m.out t.out h.calls
-            (begun_broken renderer.canvas fault b.calls m.out t.out (subst (λ y. IsAsked y.calls) is asks) (subst (λ y. Begun renderer.canvas fault y.calls m.out t.out) is c)))) shows k.begun;
+        stops = if_refused result (λ fault c. stops_behind renderer.canvas u e.steps f.steps s.layout s.out m.out (surface_of t) fault (value_of t) h.calls
+            (subst (λ l. Stops renderer.canvas u f.steps (surface m.out l) fault (value_of t) (surface_of t)) h.layout
+            (subst (λ (y : Effect). Stops renderer.canvas u y.steps (surface_of m) fault (value_of t) (surface_of t)) same
+            (subst (λ r. Stops renderer.canvas r (second (setting_of m) (value_of m)).steps (surface_of m) fault (value_of t) (surface_of t)) h.stays.ruler c)))) k.stops;
       }
 
   -- the first one was refused
@@ -140,9 +134,7 @@ module _ {Out H Hi K T : Type 0} {renderer : renderers.Renderer.Ghosts Out} {com
         layout = tt;
         stays = h.stays;
         reason = h.reason;
-        begun = subst (λ a. Begun renderer.canvas e a.calls s.out t.out) (sym (asked_both (renderer.canvas.ruler s.out) s.layout x.redraws y.redraws))
-            (begun_before renderer.canvas e (asked (renderer.canvas.ruler s.out) s.layout x.redraws).calls
-            (asked (renderer.canvas.ruler s.out) (asked (renderer.canvas.ruler s.out) s.layout x.redraws).layout y.redraws).calls s.out t.out h.begun);
+        stops = stops_before renderer.canvas (renderer.canvas.ruler s.out) x.steps y.steps (surface_of s) (surface_of t) e (value_of t) h.stops;
       }
 
   -- the same as a question mark hands the refusal on
@@ -151,25 +143,36 @@ module _ {Out H Hi K T : Type 0} {renderer : renderers.Renderer.Ghosts Out} {com
   does_cut_by {A} {B} first second s t e result is h =
       subst (λ r. Does {A = B} (then_do first second) s t r) (sym (is_err e result is)) (does_cut first second s t e h)
 
-  -- a drawing of all asks for something
-  pub does_then_refreshed : {A B : Type 0} (first : Transition) (s m t : State Out H Hi K T renderer completer candidate hinter hint highlighter validator history) (x : A) (result : Result B ReadlineError)
-      → Does first s m (Ok x) → Does refreshed m t result → Does (then_do first refreshed) s t result
-  does_then_refreshed first s m t x result h k =
-      does_both first refreshed s m t x result h k (on_refusal result (refreshed_shows (renderer.canvas.ruler m.out) m.layout (setting_of m) (value_of m)))
-
   pub does_both_by : {A B C : Type 0} (first second : Transition) (s m t : State Out H Hi K T renderer completer candidate hinter hint highlighter validator history) (x : A) (e : ReadlineError) (result : Result C ReadlineError)
-      → IsErrAnd result (λ y. y ≡ e) → Does first s m (Ok x) → Does {A = B} second m t (Err e) → Shows second m → Does (then_do first second) s t result
-  does_both_by {A} {B} {C} first second s m t x e result is h k shows =
-      subst (λ r. Does {A = C} (then_do first second) s t r) (sym (is_err e result is)) (does_both {B = C} first second s m t x (Err e) h (refused_as {A = B} {B = C} second m t e k) shows)
+      → IsErrAnd result (λ y. y ≡ e) → Does first s m (Ok x) → Does {A = B} second m t (Err e) → Does (then_do first second) s t result
+  does_both_by {A} {B} {C} first second s m t x e result is h k =
+      subst (λ r. Does {A = C} (then_do first second) s t r) (sym (is_err e result is)) (does_both {B = C} first second s m t x (Err e) h (refused_as {A = B} {B = C} second m t e k))
 
   -- an edit that does the same here
   pub does_as : {A : Type 0} (edit other : Transition) (s t : State Out H Hi K T renderer completer candidate hinter hint highlighter validator history) (result : Result A ReadlineError)
       → edit (setting_of s) (value_of s) ≡ other (setting_of s) (value_of s) → Does edit s t result → Does other s t result
   does_as edit other s t result is h = record {
-    value = subst (λ x. OnOk result (value_of t ≡ x.value)) is h.value;
-    calls = subst (λ x. OnOk result (FoldsTo (MadeIn renderer.canvas) s.out (asked (renderer.canvas.ruler s.out) s.layout x.redraws).calls t.out)) is h.calls;
-    layout = subst (λ x. OnOk result (t.layout ≡ (asked (renderer.canvas.ruler s.out) s.layout x.redraws).layout)) is h.layout;
+    value = subst (λ (x : Effect). OnOk result (value_of t ≡ x.value)) is h.value;
+    calls = subst (λ (x : Effect). OnOk result (FoldsTo (MadeIn renderer.canvas) s.out (asked (renderer.canvas.ruler s.out) s.layout x.steps).calls t.out)) is h.calls;
+    layout = subst (λ (x : Effect). OnOk result (t.layout ≡ (asked (renderer.canvas.ruler s.out) s.layout x.steps).layout)) is h.layout;
     stays = h.stays;
     reason = h.reason;
-    begun = subst (λ x. IfErr result (λ fault. Begun renderer.canvas fault (asked (renderer.canvas.ruler s.out) s.layout x.redraws).calls s.out t.out)) is h.begun;
+    stops = subst (λ (x : Effect). IfErr result (λ fault. Stops renderer.canvas (renderer.canvas.ruler s.out) x.steps (surface_of s) fault (value_of t) (surface_of t))) is h.stops;
   }
+
+  -- one that does so from a state that looks the same
+  pub does_from : {A : Type 0} (edit other : Transition) (s m t : State Out H Hi K T renderer completer candidate hinter hint highlighter validator history) (result : Result A ReadlineError)
+      → edit (setting_of m) (value_of m) ≡ other (setting_of s) (value_of s) → surface_of m ≡ surface_of s → Stays s m → Does edit m t result → Does other s t result
+  does_from edit other s m t result is same stays h =
+      let e : Effect = edit (setting_of m) (value_of m) in
+      record {
+        value = subst (λ (x : Effect). OnOk result (value_of t ≡ x.value)) is h.value;
+        calls = subst (λ (x : Effect). OnOk result (FoldsTo (MadeIn renderer.canvas) s.out (asked (renderer.canvas.ruler s.out) s.layout x.steps).calls t.out)) is
+            (subst (λ (x : Surface Out). OnOk result (FoldsTo (MadeIn renderer.canvas) x.out (asked (renderer.canvas.ruler x.out) x.layout e.steps).calls t.out)) same h.calls);
+        layout = subst (λ (x : Effect). OnOk result (t.layout ≡ (asked (renderer.canvas.ruler s.out) s.layout x.steps).layout)) is
+            (subst (λ (x : Surface Out). OnOk result (t.layout ≡ (asked (renderer.canvas.ruler x.out) x.layout e.steps).layout)) same h.layout);
+        stays = stays_both s m t stays h.stays;
+        reason = h.reason;
+        stops = subst (λ (x : Effect). IfErr result (λ fault. Stops renderer.canvas (renderer.canvas.ruler s.out) x.steps (surface_of s) fault (value_of t) (surface_of t))) is
+            (subst (λ (x : Surface Out). IfErr result (λ fault. Stops renderer.canvas (renderer.canvas.ruler x.out) e.steps x fault (value_of t) (surface_of t))) same h.stops);
+      }

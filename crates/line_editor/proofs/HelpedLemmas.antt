@@ -1,10 +1,10 @@
 -- What a state makes of asking its helper.
-use Rattle.std.proofs.Common.{◌≡◌, inl, inr, ℕ, Bool, true, false, true≢false, List, [], ◌∷◌, refl, sym, ap, subst, ◌∙◌, if◌then◌else◌}
-use Rattle.std.specs.Prelude.{Option, Some, None, is_some, option_map, Result, Ok, Err, IsErrAnd, IsTrue, IsFalse, OnErr}
+use Rattle.std.proofs.Common.{◌≡◌, inl, inr, ℕ, Bool, true, false, true≢false, List, [], refl, sym, ap, subst, ◌∙◌, if◌then◌else◌}
+use Rattle.std.specs.Prelude.{Option, Some, None, is_some, option_map, Result, Ok, Err, IsErrAnd, IsTrue, IsFalse}
 use Rattle.std.specs.List.{FoldsTo}
 use Rattle.line_buffer.specs.Line.{Line}
 use Rattle.line_config.specs.declared.errors.ReadlineError.{ReadlineError}
-use Rattle.line_config.specs.declared.errors.ReadlineError.TheVariants.{Display, Helper, Memory}
+use Rattle.line_config.specs.declared.errors.ReadlineError.TheVariants.{Helper, Memory}
 use Rattle.line_edits.specs.Written.{group_opened}
 use Rattle.line_keys.specs.Replies.{Reply, fails}
 use Rattle.line_help.specs.declared.completion as completions
@@ -19,15 +19,15 @@ use Rattle.line_editor.specs.Calls.{MadeIn}
 use Rattle.line_editor.specs.Drawing.{drawn, drawn_behind, repainted, hint_asked, asked_anew, refreshed}
 use Rattle.line_editor.specs.Inserting.{is_bare, may_be_typed, put_shown, inserted_shown}
 use Rattle.line_editor.specs.Killing.{may_be_taken, taken_shown, killed_shown}
-use Rattle.line_editor.specs.Redraws.{asked}
+use Rattle.line_editor.specs.Steps.{asked}
 use Rattle.line_editor.specs.Redraws.Redraw.{Typed, Taken}
-use Rattle.line_editor.specs.States.{hooks_of, value_of, setting_of, fails_by, IsHelpFault, reason_of, Stays, Does, Shows}
+use Rattle.line_editor.specs.States.{hooks_of, value_of, setting_of, fails_by, IsHelpFault, reason_of, surface_of, Stays, Does}
 use Rattle.line_editor.specs.Values.{Value, Setting, Hooks, Effect, redrawn, then_do, hint_reply, verdict_reply, helped, IsFailing, with_hint, with_mark, rewritten}
+use Rattle.line_editor.specs.Values.EditStep.{Takes}
 use Rattle.line_editor.specs.declared.renderer as renderers
 use Rattle.line_editor.specs.declared.state.State.{State}
-use Rattle.line_editor.proofs.BegunLemmas.{help_made, help_layout, help_refused}
-use Rattle.line_editor.proofs.DoesLemmas.{is_err, on_refusal, drawing_shows, does_as, does_both, does_both_by, does_cut_by, setting_stays, stays_same, stays_both}
-use Rattle.line_editor.proofs.ShowsLemmas.{put_shows, taken_shows, validate_shows}
+use Rattle.line_editor.proofs.StopsLemmas.{help_made, help_layout, stops_asking, stops_after}
+use Rattle.line_editor.proofs.DoesLemmas.{is_err, does_as, does_both, does_both_by, does_cut_by, does_refused, setting_stays, stays_same, stays_both}
 
 -- ---- a hook that fails at what it is shown fails at something
 
@@ -61,10 +61,10 @@ update_reason hooks line start text failed e why = hook_reason (λ h. h.updates 
 -- ---- one of two drawings
 
 abbrev put : ℕ → Bool → Setting → Value → Effect
-put c b s v = record { value = v; redraws = (if b then Typed s.prompt c v.line.text v.line.place else drawn s v) ∷ [] }
+put c b s v = redrawn (if b then Typed s.prompt c v.line.text v.line.place else drawn s v) s v
 
 abbrev taken : ℕ → Bool → Setting → Value → Effect
-taken count b s v = record { value = v; redraws = (if b then Taken s.prompt count v.line.text v.line.place else drawn s v) ∷ [] }
+taken count b s v = redrawn (if b then Taken s.prompt count v.line.text v.line.place else drawn s v) s v
 
 -- ---- with a helper
 
@@ -86,47 +86,42 @@ module _ {Out H Hi K T : Type 0} {renderer : renderers.Renderer.Ghosts Out} {com
       let reply = hint_reply (setting_of s) (value_of s) in
       record {
         value = value;
-        calls = help_made renderer.canvas (renderer.canvas.ruler s.out) s.layout reply s.out t.out works out;
-        layout = layout ∙ sym (help_layout (renderer.canvas.ruler s.out) s.layout reply);
+        calls = help_made renderer.canvas (renderer.canvas.ruler s.out) s.layout (value_of s) reply s.out t.out works out;
+        layout = layout ∙ sym (help_layout (renderer.canvas.ruler s.out) s.layout (value_of s) reply);
         stays = stays;
         reason = tt;
-        begun = tt;
+        stops = tt;
       }
 
   pub hint_refused : {A : Type 0} (s : State Out H Hi K T renderer completer candidate hinter hint highlighter validator history) (e : ReadlineError) (result : Result A ReadlineError)
       → IsErrAnd result (λ x. x ≡ e) → IsHelpFault (hint_reply (setting_of s) (value_of s)) e → Does hint_asked s s result
-  hint_refused {A} s e result is why = subst (λ (r : Result A ReadlineError). Does {A = A} hint_asked s s r) (sym (is_err e result is)) (record {
-    value = tt;
-    calls = tt;
-    layout = tt;
-    stays = stays_same s;
-    reason = hint_reason (setting_of s).hooks s.line (setting_of s).entries (value_of s).history (renderer.canvas.failed s.out) e why;
-    begun = help_refused renderer.canvas (renderer.canvas.ruler s.out) s.layout (hint_reply (setting_of s) (value_of s)) e s.out s.out why refl;
-  })
+  hint_refused {A} s e result is why = subst (λ (r : Result A ReadlineError). Does {A = A} hint_asked s s r) (sym (is_err e result is))
+      (does_refused hint_asked s s e (stays_same s) (hint_reason (setting_of s).hooks s.line (setting_of s).entries (value_of s).history (renderer.canvas.failed s.out) e why)
+      (stops_asking renderer.canvas (renderer.canvas.ruler s.out) (value_of s) (hint_reply (setting_of s) (value_of s)) (surface_of s) (surface_of s) e (value_of s) why refl refl))
 
   -- and highlighted characters
   pub anew_made : {A B : Type 0} (s m t : State Out H Hi K T renderer completer candidate hinter hint highlighter validator history) (x : A) (y : B) → Does hint_asked s m (Ok x)
       → value_of t ≡ with_mark Other (setting_of m) (value_of m) → t.out ≡ m.out → t.layout ≡ m.layout → Stays m t → Does asked_anew s t (Ok y)
   anew_made s m t x y h value out layout stays = record {
     value = value ∙ ap (λ a. with_mark Other a (value_of m)) (setting_stays s m h.stays) ∙ ap (with_mark Other (setting_of s)) h.value;
-    calls = subst (λ o. FoldsTo (MadeIn renderer.canvas) s.out (asked (renderer.canvas.ruler s.out) s.layout (helped (hint_reply (setting_of s) (value_of s)))).calls o) (sym out) h.calls;
+    calls = subst (λ o. FoldsTo (MadeIn renderer.canvas) s.out (asked (renderer.canvas.ruler s.out) s.layout (helped (value_of s) (hint_reply (setting_of s) (value_of s)))).calls o) (sym out) h.calls;
     layout = layout ∙ h.layout;
     stays = stays_both s m t h.stays stays;
     reason = tt;
-    begun = tt;
+    stops = tt;
   }
 
   pub anew_refused : {A B : Type 0} (s t : State Out H Hi K T renderer completer candidate hinter hint highlighter validator history) (e : ReadlineError) (result : Result B ReadlineError)
       → IsErrAnd result (λ x. x ≡ e) → Does {A = A} hint_asked s t (Err e) → Does asked_anew s t result
   anew_refused {A} {B} s t e result is h = subst (λ (r : Result B ReadlineError). Does {A = B} asked_anew s t r) (sym (is_err e result is))
-      (record { value = tt; calls = tt; layout = tt; stays = h.stays; reason = h.reason; begun = h.begun })
+      (record { value = tt; calls = tt; layout = tt; stays = h.stays; reason = h.reason; stops = h.stops })
 
   -- ---- what is drawn then
 
   pub refresh_made : {A B : Type 0} (prompt : List ℕ) (s m t : State Out H Hi K T renderer completer candidate hinter hint highlighter validator history) (x : A) (result : Result B ReadlineError)
       → prompt ≡ m.prompt.now → Does asked_anew s m (Ok x) → Does (drawn_behind prompt true) m t result → Does refreshed s t result
   refresh_made prompt s m t x result is h k =
-      does_both asked_anew repainted s m t x result h (does_as (drawn_behind prompt true) repainted m t result (ap (λ p. drawn_behind p true (setting_of m) (value_of m)) is) k) (on_refusal result tt)
+      does_both asked_anew repainted s m t x result h (does_as (drawn_behind prompt true) repainted m t result (ap (λ p. drawn_behind p true (setting_of m) (value_of m)) is) k)
 
   module _ (c n : ℕ) (at_end plain was_bare : Bool) where
     pub typed_made : {A B : Type 0} (s m t : State Out H Hi K T renderer completer candidate hinter hint highlighter validator history) (x : A) (result : Result B ReadlineError)
@@ -135,7 +130,6 @@ module _ {Out H Hi K T : Type 0} {renderer : renderers.Renderer.Ghosts Out} {com
     typed_made s m t x result is h k =
         does_both asked_anew (put_shown c n at_end plain was_bare) s m t x result h
         (does_as (λ a v. redrawn (Typed a.prompt c v.line.text v.line.place) a v) (put_shown c n at_end plain was_bare) m t result (ap (λ b. put c b (setting_of m) (value_of m)) (sym is)) k)
-        (on_refusal result (put_shows c n at_end plain was_bare (renderer.canvas.ruler m.out) m.layout (setting_of m) (value_of m)))
 
     pub put_drawn : {A B : Type 0} (prompt : List ℕ) (s m t : State Out H Hi K T renderer completer candidate hinter hint highlighter validator history) (x : A) (result : Result B ReadlineError)
         → prompt ≡ m.prompt.now → may_be_typed c n at_end plain was_bare (is_bare (value_of m)) ≡ false → Does asked_anew s m (Ok x)
@@ -144,7 +138,6 @@ module _ {Out H Hi K T : Type 0} {renderer : renderers.Renderer.Ghosts Out} {com
         does_both asked_anew (put_shown c n at_end plain was_bare) s m t x result h
         (does_as (drawn_behind prompt true) (put_shown c n at_end plain was_bare) m t result
         (ap (λ p. drawn_behind p true (setting_of m) (value_of m)) own ∙ ap (λ b. put c b (setting_of m) (value_of m)) (sym is)) k)
-        (on_refusal result (put_shows c n at_end plain was_bare (renderer.canvas.ruler m.out) m.layout (setting_of m) (value_of m)))
 
   module _ (count : ℕ) (printable was_bare : Bool) where
     pub taken_made : {A B : Type 0} (s m t : State Out H Hi K T renderer completer candidate hinter hint highlighter validator history) (x : A) (result : Result B ReadlineError)
@@ -153,7 +146,6 @@ module _ {Out H Hi K T : Type 0} {renderer : renderers.Renderer.Ghosts Out} {com
     taken_made s m t x result is h k =
         does_both asked_anew (taken_shown count printable was_bare) s m t x result h
         (does_as (λ a v. redrawn (Taken a.prompt count v.line.text v.line.place) a v) (taken_shown count printable was_bare) m t result (ap (λ b. taken count b (setting_of m) (value_of m)) (sym is)) k)
-        (on_refusal result (taken_shows count printable was_bare (renderer.canvas.ruler m.out) m.layout (setting_of m) (value_of m)))
 
     pub killed_drawn : {A B : Type 0} (prompt : List ℕ) (s m t : State Out H Hi K T renderer completer candidate hinter hint highlighter validator history) (x : A) (result : Result B ReadlineError)
         → prompt ≡ m.prompt.now → may_be_taken printable was_bare (value_of m) ≡ false → Does asked_anew s m (Ok x)
@@ -162,7 +154,6 @@ module _ {Out H Hi K T : Type 0} {renderer : renderers.Renderer.Ghosts Out} {com
         does_both asked_anew (taken_shown count printable was_bare) s m t x result h
         (does_as (drawn_behind prompt true) (taken_shown count printable was_bare) m t result
         (ap (λ p. drawn_behind p true (setting_of m) (value_of m)) own ∙ ap (λ b. taken count b (setting_of m) (value_of m)) (sym is)) k)
-        (on_refusal result (taken_shows count printable was_bare (renderer.canvas.ruler m.out) m.layout (setting_of m) (value_of m)))
 
   -- ---- a verdict
 
@@ -170,41 +161,29 @@ module _ {Out H Hi K T : Type 0} {renderer : renderers.Renderer.Ghosts Out} {com
       → value_of t ≡ rewritten group_opened (value_of s) → IsFalse (fails_by (verdict_reply (setting_of s) (value_of s))) → t.out ≡ s.out → t.layout ≡ s.layout → Stays s t → Does opened_and_asked s t (Ok x)
   judging_made s t x value works out layout stays =
       let reply = verdict_reply (setting_of s) (value_of s) in
+      let opened : Value = rewritten group_opened (value_of s) in
       record {
         value = value;
-        calls = help_made renderer.canvas (renderer.canvas.ruler s.out) s.layout reply s.out t.out works out;
-        layout = layout ∙ sym (help_layout (renderer.canvas.ruler s.out) s.layout reply);
+        calls = help_made renderer.canvas (renderer.canvas.ruler s.out) s.layout opened reply s.out t.out works out;
+        layout = layout ∙ sym (help_layout (renderer.canvas.ruler s.out) s.layout opened reply);
         stays = stays;
         reason = tt;
-        begun = tt;
+        stops = tt;
       }
 
   pub judging_refused : {A : Type 0} (s t : State Out H Hi K T renderer completer candidate hinter hint highlighter validator history) (e : ReadlineError) (result : Result A ReadlineError)
-      → IsErrAnd result (λ x. x ≡ e) → IsHelpFault (verdict_reply (setting_of s) (value_of s)) e → t.out ≡ s.out → Stays s t → Does opened_and_asked s t result
-  judging_refused {A} s t e result is why out stays = subst (λ (r : Result A ReadlineError). Does {A = A} opened_and_asked s t r) (sym (is_err e result is)) (record {
-    value = tt;
-    calls = tt;
-    layout = tt;
-    stays = stays;
-    reason = subst (λ (a : Setting). reason_of (renderer.canvas.failed t.out) (IsFailing a.hooks) e) (sym (setting_stays s t stays))
-        (verdict_reason (setting_of s).hooks s.line (renderer.canvas.failed t.out) e why);
-    begun = help_refused renderer.canvas (renderer.canvas.ruler s.out) s.layout (verdict_reply (setting_of s) (value_of s)) e s.out t.out why out;
-  })
+      → IsErrAnd result (λ x. x ≡ e) → IsHelpFault (verdict_reply (setting_of s) (value_of s)) e → value_of t ≡ rewritten group_opened (value_of s) → surface_of t ≡ surface_of s → Stays s t → Does opened_and_asked s t result
+  judging_refused {A} s t e result is why value same stays = subst (λ (r : Result A ReadlineError). Does {A = A} opened_and_asked s t r) (sym (is_err e result is)) (
+      let opened : Value = rewritten group_opened (value_of s) in
+      let reply = verdict_reply (setting_of s) (value_of s) in
+      let ruler = renderer.canvas.ruler s.out in
+      does_refused opened_and_asked s t e stays (verdict_reason (setting_of s).hooks s.line (renderer.canvas.failed t.out) e why)
+      (stops_after renderer.canvas ruler (Takes (value_of s)) (helped opened reply) (surface_of s) (surface_of s) (surface_of t) e (value_of t) (refl, refl)
+      (stops_asking renderer.canvas ruler opened reply (surface_of s) (surface_of t) e (value_of t) why same value)))
 
   pub validated : (s : State Out H Hi K T renderer completer candidate hinter hint highlighter validator history) → is_some s.helper ≡ true
       → then_do opened_and_asked (closed_and_told (verdict (setting_of s) (value_of s))) (setting_of s) (value_of s) ≡ validate (setting_of s) (value_of s)
   validated s some = validated_by (verdict_reply (setting_of s) (value_of s)) (setting_of s) (value_of s) (some_mapped (λ (h : Hooks). h.judge s.line.text) (hooks_of completer hinter validator) s.helper ∙ some)
-
-  -- a helper is asked
-  pub validate_asks : (s : State Out H Hi K T renderer completer candidate hinter hint highlighter validator history) → is_some s.helper ≡ true → Shows validate s
-  validate_asks s some =
-      let there : is_some (verdict_reply (setting_of s) (value_of s)) ≡ true = some_mapped (λ (h : Hooks). h.judge s.line.text) (hooks_of completer hinter validator) s.helper ∙ some in
-      validate_shows (renderer.canvas.ruler s.out) s.layout (verdict_reply (setting_of s) (value_of s)) (setting_of s) (value_of s) there there
-
-  -- and so where it was: a refusal has calls to come
-  pub validate_asked : {A B : Type 0} (s t : State Out H Hi K T renderer completer candidate hinter hint highlighter validator history) (found : Result A ReadlineError) (result : Result B ReadlineError)
-      → is_some s.helper ≡ true → Does opened_and_asked s t found → OnErr result (Shows validate s)
-  validate_asked s t found result some h = on_refusal result (validate_asks s some)
 
   pub validate_unasked : {A B : Type 0} (s t : State Out H Hi K T renderer completer candidate hinter hint highlighter validator history) (e : ReadlineError) (result : Result B ReadlineError)
       → is_some s.helper ≡ true → IsErrAnd result (λ x. x ≡ e) → Does {A = A} opened_and_asked s t (Err e) → Does validate s t result
@@ -214,12 +193,12 @@ module _ {Out H Hi K T : Type 0} {renderer : renderers.Renderer.Ghosts Out} {com
 
   pub validate_untold : {A B C : Type 0} (found : ValidationResult) (s m t : State Out H Hi K T renderer completer candidate hinter hint highlighter validator history) (x : A) (e : ReadlineError) (result : Result C ReadlineError)
       → is_some s.helper ≡ true → IsErrAnd result (λ y. y ≡ e) → found ≡ verdict (setting_of s) (value_of s) → Does opened_and_asked s m (Ok x)
-      → e ≡ Display → Does {A = B} (closed_and_told found) m t (Err e) → Does validate s t result
-  validate_untold {A} {B} found s m t x e result some is found_is h why k =
+      → Does {A = B} (closed_and_told found) m t (Err e) → Does validate s t result
+  validate_untold {A} {B} found s m t x e result some is found_is h k =
       let told = closed_and_told (verdict (setting_of s) (value_of s)) in
       does_as (then_do opened_and_asked told) validate s t result (validated s some)
       (let second : Does {A = B} told m t (Err e) = subst (λ (f : ValidationResult). Does {A = B} (closed_and_told f) m t (Err e)) found_is k in
-      does_both_by {B = B} opened_and_asked told s m t x e result is h second (drawing_shows {A = B} told m t (Err e) why second))
+      does_both_by {B = B} opened_and_asked told s m t x e result is h second)
 
   pub validate_made : {A B C : Type 0} (found : ValidationResult) (s m t : State Out H Hi K T renderer completer candidate hinter hint highlighter validator history) (x : A) (y : B) (z : C)
       → is_some s.helper ≡ true → found ≡ verdict (setting_of s) (value_of s) → Does opened_and_asked s m (Ok x)
@@ -228,4 +207,4 @@ module _ {Out H Hi K T : Type 0} {renderer : renderers.Renderer.Ghosts Out} {com
       let told = closed_and_told (verdict (setting_of s) (value_of s)) in
       let second : Does {A = B} told m t (Ok y) = subst (λ (f : ValidationResult). Does {A = B} (closed_and_told f) m t (Ok y)) found_is k in
       does_as (then_do opened_and_asked told) validate s t (Ok z) (validated s some)
-      (does_both {B = C} opened_and_asked told s m t x (Ok z) h (record { value = second.value; calls = second.calls; layout = second.layout; stays = second.stays; reason = tt; begun = tt }) tt)
+      (does_both {B = C} opened_and_asked told s m t x (Ok z) h (record { value = second.value; calls = second.calls; layout = second.layout; stays = second.stays; reason = tt; stops = tt }))

@@ -1,5 +1,6 @@
 -- What commands want to be seen leads from what is to be seen of the value before to the same of the value after.
 use Rattle.std.proofs.Common.{◌≡◌, ℕ, ◌+◌, ◌-◌, ◌==◌, ◌||◌, not, ◌<◌, nat_le, nat_lt, Bool, true, false, List, [], ◌∷◌, ◌++◌, take, drop, length, take_all, Option, Some, None, IfSome, is_some, encode_utf8, refl, sym, ap, ◌∙◌, subst, append_assoc, append-nil, arith, if◌then◌else◌}
+use Rattle.std.specs.Prelude.{⊤}
 use Rattle.std.specs.List.{list_all, insert_slice, replace_range}
 use Rattle.std.proofs.lemmas.Bool.{and_parts, eqb-true, ltb-true}
 use Rattle.std.proofs.lemmas.List.{drop_all, take-append-drop, length-drop}
@@ -20,40 +21,41 @@ use Rattle.line_buffer.specs.declared.types.At.TheVariants.{Start}
 use Rattle.line_buffer.specs.declared.types.Movement.{Movement}
 use Rattle.line_buffer.specs.declared.types.Movement.TheVariants.{WholeLine, BeginningOfLine, EndOfLine, BackwardWord, ForwardWord, ViCharSearch, ViFirstPrint, BackwardChar, ForwardChar, LineUp, LineDown, WholeBuffer, BeginningOfBuffer, EndOfBuffer}
 use Rattle.line_buffer.specs.declared.types.Word.TheVariants.{Big}
-use Rattle.line_edits.specs.Edits.{char_typed, put_behind, range_killed}
+use Rattle.line_edits.specs.Edits.{by, typing, char_typed, putting_behind, killing, range_killed}
+use Rattle.line_edits.specs.Steps.{Steps, answering}
 use Rattle.line_edits.specs.Plain.{is_plain}
 use Rattle.line_help.specs.History.{begins_with_space}
 use Rattle.line_keys.specs.Replies.{Reply}
 use Rattle.line_keys.specs.declared.command.CmdKind.{CmdKind}
 use Rattle.line_keys.specs.declared.command.CmdKind.TheVariants.{MoveCursor}
 use Rattle.line_record.specs.Held.{Held}
-use Rattle.line_editor.specs.Drawing.{drawn, repainted, asked_anew, refreshed, told, cursor_moved, beeped, cleared_and_drawn}
+use Rattle.line_editor.specs.Drawing.{drawn, repainted, asked_anew, refreshed, refreshed_if, told, cursor_moved, beeped, cleared_and_drawn}
 use Rattle.line_editor.specs.Inserting.{is_bare, may_be_typed, put_shown, show_typed, insert_char, insert_text}
 use Rattle.line_editor.specs.Killing.{may_be_taken, taken_shown, show_taken, kill, insert_text_if, replace}
 use Rattle.line_editor.specs.Leads.{Leads}
 use Rattle.line_editor.specs.Moving.{cursor_moved_if, to_found, to_place, move_home, move_to_next_word, move_to_first_print, move_by}
 use Rattle.line_editor.specs.Redraws.{Redraw}
 use Rattle.line_editor.specs.Redraws.Redraw.{Drawn, Moved, Typed, Taken, Cleared}
-use Rattle.line_editor.specs.Rewording.{refreshed_if}
 use Rattle.line_editor.specs.Sights.{Sight, sight_as, sight, sight_all, Fits, FitsAll, Turns, info_one, info_after, sight_of}
-use Rattle.line_editor.specs.Values.{Value, Setting, Effect, Transition, unchanged, then_do, hint_reply, helped, rewritten, at_line, with_mark}
+use Rattle.line_editor.specs.Values.{Value, Setting, EditStep, Effect, Transition, unchanged, then_do, hint_reply, helped, rewritten, rewriting, at_line, with_mark}
+use Rattle.line_editor.specs.Values.EditStep.{Draws, Edits, TakesBack, Takes}
 use Rattle.line_editor.proofs.KillLemmas.{Low, cut_text, range_low}
 
 -- ---- one after the other
 
-pub fits_both : (own : List ℕ) (x : Sight) (rs ss : List Redraw) → FitsAll own x rs → FitsAll own (sight_all x rs) ss → FitsAll own x (rs ++ ss)
+pub fits_both : (own : List ℕ) (x : Sight) (rs ss : List EditStep) → FitsAll own x rs → FitsAll own (sight_all x rs) ss → FitsAll own x (rs ++ ss)
 fits_both own x [] ss h k = k
 fits_both own x (r ∷ rs) ss h k = (h.0, fits_both own (sight x r) rs ss h.1 k)
 
-pub sight_both : (x : Sight) (rs ss : List Redraw) → sight_all x (rs ++ ss) ≡ sight_all (sight_all x rs) ss
+pub sight_both : (x : Sight) (rs ss : List EditStep) → sight_all x (rs ++ ss) ≡ sight_all (sight_all x rs) ss
 sight_both x [] ss = refl
 sight_both x (r ∷ rs) ss = sight_both (sight x r) rs ss
 
-pub info_both : (rs ss : List Redraw) (info : Option (List ℕ)) → info_after (rs ++ ss) info ≡ info_after ss (info_after rs info)
+pub info_both : (rs ss : List EditStep) (info : Option (List ℕ)) → info_after (rs ++ ss) info ≡ info_after ss (info_after rs info)
 info_both [] ss info = refl
 info_both (r ∷ rs) ss info = info_both rs ss (info_one info r)
 
-pub turns_both : (own : List ℕ) (x y z : Sight) (rs ss : List Redraw) → Turns own x rs y → Turns own y ss z → Turns own x (rs ++ ss) z
+pub turns_both : (own : List ℕ) (x y z : Sight) (rs ss : List EditStep) → Turns own x rs y → Turns own y ss z → Turns own x (rs ++ ss) z
 turns_both own x y z rs ss h k = record {
   fits = fits_both own x rs ss h.fits (subst (λ w. FitsAll own w ss) (sym h.leads) k.fits);
   leads = sight_both x rs ss ∙ ap (λ w. sight_all w ss) h.leads ∙ k.leads;
@@ -63,46 +65,62 @@ pub both_lead : (s : Setting) (v : Value) (first second : Transition) → Leads 
 both_lead s v first second h k info =
     let e = first s v in
     let f = second s e.value in
-    let between = info_after e.redraws info in
-    subst (λ i. Turns s.prompt (sight_of s v info) (e.redraws ++ f.redraws) (sight_of s f.value i)) (sym (info_both e.redraws f.redraws info))
-    (turns_both s.prompt (sight_of s v info) (sight_of s e.value between) (sight_of s f.value (info_after f.redraws between)) e.redraws f.redraws (h info) (k between))
+    let between = info_after e.steps info in
+    subst (λ i. Turns s.prompt (sight_of s v info) (e.steps ++ f.steps) (sight_of s f.value i)) (sym (info_both e.steps f.steps info))
+    (turns_both s.prompt (sight_of s v info) (sight_of s e.value between) (sight_of s f.value (info_after f.steps between)) e.steps f.steps (h info) (k between))
 
 -- one of two
 pub either : (s : Setting) (v : Value) (b : Bool) (e f : Effect) → (b ≡ true → Leads s v e) → (b ≡ false → Leads s v f) → Leads s v (if b then e else f)
 either s v true e f h k = h refl
 either s v false e f h k = k refl
 
--- ---- a hook asked before
+-- ---- steps before that show nothing
 
-abbrev behind_help : {A : Type 0} → Option (Reply A) → Effect → Effect
-behind_help reply e = record { value = e.value; redraws = helped reply ++ e.redraws }
+-- an edit of the line
+pub edit_leads : (edit : Steps ⊤) (s : Setting) (v w : Value) (e : Effect) → Leads s v e → Leads s v (record { value = e.value; steps = Edits w edit ∷ e.steps })
+edit_leads edit s v w e h info = record { fits = (tt, (h info).fits); leads = (h info).leads }
 
-pub help_turns : {A : Type 0} (reply : Option (Reply A)) (own : List ℕ) (x y : Sight) (rs : List Redraw) → Turns own x rs y → Turns own x (helped reply ++ rs) y
-help_turns None own x y rs h = h
-help_turns (Some reply) own x y rs h = record { fits = (tt, h.fits); leads = h.leads }
+-- changes taken back
+pub back_leads : (s : Setting) (v w : Value) (e : Effect) → Leads s v e → Leads s v (record { value = e.value; steps = TakesBack w ∷ e.steps })
+back_leads s v w e h info = record { fits = (tt, (h info).fits); leads = (h info).leads }
 
-pub help_info : {A : Type 0} (reply : Option (Reply A)) (rs : List Redraw) (info : Option (List ℕ)) → info_after (helped reply ++ rs) info ≡ info_after rs info
-help_info None rs info = refl
-help_info (Some reply) rs info = refl
+-- memory taken
+pub take_leads : (s : Setting) (v w : Value) (e : Effect) → Leads s v e → Leads s v (record { value = e.value; steps = Takes w ∷ e.steps })
+take_leads s v w e h info = record { fits = (tt, (h info).fits); leads = (h info).leads }
 
-pub help_leads : {A : Type 0} (reply : Option (Reply A)) (s : Setting) (v : Value) (e : Effect) → Leads s v e → Leads s v (behind_help reply e)
-help_leads None s v e h = h
-help_leads (Some reply) s v e h = λ info. record { fits = (tt, (h info).fits); leads = (h info).leads }
+abbrev behind_help : {A : Type 0} → Value → Option (Reply A) → Effect → Effect
+behind_help w reply e = record { value = e.value; steps = helped w reply ++ e.steps }
 
-pub asking_leads : {A : Type 0} (reply : Option (Reply A)) (s : Setting) (v w : Value) → w.line ≡ v.line → Leads s v (record { value = w; redraws = helped reply })
-asking_leads None s v w h info = record { fits = tt; leads = ap (λ (l : Line). sight_as s.prompt l.text l.place info) (sym h) }
-asking_leads (Some reply) s v w h info = record { fits = (tt, tt); leads = ap (λ (l : Line). sight_as s.prompt l.text l.place info) (sym h) }
+pub help_turns : {A : Type 0} (w : Value) (reply : Option (Reply A)) (own : List ℕ) (x y : Sight) (rs : List EditStep) → Turns own x rs y → Turns own x (helped w reply ++ rs) y
+help_turns w None own x y rs h = h
+help_turns w (Some reply) own x y rs h = record { fits = (tt, h.fits); leads = h.leads }
+
+pub help_info : {A : Type 0} (w : Value) (reply : Option (Reply A)) (rs : List EditStep) (info : Option (List ℕ)) → info_after (helped w reply ++ rs) info ≡ info_after rs info
+help_info w None rs info = refl
+help_info w (Some reply) rs info = refl
+
+pub help_leads : {A : Type 0} (w : Value) (reply : Option (Reply A)) (s : Setting) (v : Value) (e : Effect) → Leads s v e → Leads s v (behind_help w reply e)
+help_leads w None s v e h = h
+help_leads w (Some reply) s v e h = λ info. record { fits = (tt, (h info).fits); leads = (h info).leads }
+
+pub asking_leads : {A : Type 0} (u : Value) (reply : Option (Reply A)) (s : Setting) (v w : Value) → w.line ≡ v.line → Leads s v (record { value = w; steps = helped u reply })
+asking_leads u None s v w h info = record { fits = tt; leads = ap (λ (l : Line). sight_as s.prompt l.text l.place info) (sym h) }
+asking_leads u (Some reply) s v w h info = record { fits = (tt, tt); leads = ap (λ (l : Line). sight_as s.prompt l.text l.place info) (sym h) }
 
 -- what is drawn in full hides what was asked before
-pub redrawn_leads : {A : Type 0} (x : Redraw) (reply : Option (Reply A)) (s : Setting) (v w : Value) → ((y : Sight) → Fits s.prompt y x)
-    → Leads s v (record { value = w; redraws = x ∷ (helped reply ++ (drawn s w ∷ [])) })
-redrawn_leads x None s v w h info = record { fits = (h (sight_of s v info), ((λ e. refl), tt)); leads = refl }
-redrawn_leads x (Some reply) s v w h info = record { fits = (h (sight_of s v info), (tt, ((λ e. refl), tt))); leads = refl }
+pub redrawn_leads : {A : Type 0} (x : Redraw) (u : Value) (reply : Option (Reply A)) (s : Setting) (v w : Value) → ((y : Sight) → Fits s.prompt y (Draws u x))
+    → Leads s v (record { value = w; steps = Draws u x ∷ (helped u reply ++ (Draws w (drawn s w) ∷ [])) })
+redrawn_leads x u None s v w h info = record { fits = (h (sight_of s v info), ((λ e. refl), tt)); leads = refl }
+redrawn_leads x u (Some reply) s v w h info = record { fits = (h (sight_of s v info), (tt, ((λ e. refl), tt))); leads = refl }
 
 -- ---- drawn in full, or left as it stands
 
 pub refresh_leads : (s : Setting) (v w : Value) → Leads s v (refreshed s w)
-refresh_leads s v w = help_leads (hint_reply s w) s v (repainted s (asked_anew s w).value) (λ info. record { fits = ((λ e. refl), tt); leads = refl })
+refresh_leads s v w = help_leads w (hint_reply s w) s v (repainted s (asked_anew s w).value) (λ info. record { fits = ((λ e. refl), tt); leads = refl })
+
+-- behind an edit of the line
+pub redraw_leads : {A : Type 0} (edit : Line → Steps A) (s : Setting) (v w : Value) → Leads s v (then_do (rewriting edit) refreshed s w)
+redraw_leads edit s v w = edit_leads (answering tt (edit w.line)) s v w (refreshed s (rewritten (by edit) w)) (refresh_leads s v (rewritten (by edit) w))
 
 pub told_leads : (text : Option (List ℕ)) (kind : CmdKind) (s : Setting) (v w : Value) → Leads s v (told text kind s w)
 told_leads text kind s v w info = record { fits = ((λ e. refl), tt); leads = refl }
@@ -114,15 +132,17 @@ pub beep_leads : (s : Setting) (v w : Value) → w.line ≡ v.line → Leads s v
 beep_leads s v w h info = record { fits = (tt, tt); leads = ap (λ (l : Line). sight_as s.prompt l.text l.place info) (sym h) }
 
 pub clear_leads : (s : Setting) (v : Value) → Leads s v (cleared_and_drawn s v)
-clear_leads s v = redrawn_leads Cleared (hint_reply s v) s v (asked_anew s v).value (λ y. tt)
+clear_leads s v = redrawn_leads Cleared v (hint_reply s v) s v (asked_anew s v).value (λ y. tt)
 
-pub refresh_if_leads : (s : Setting) (v w : Value) (b : Bool) → (b ≡ false → w.line ≡ v.line) → Leads s v (refreshed_if b s w)
-refresh_if_leads s v w b h = either s v b (refreshed s w) (unchanged s w) (λ e. refresh_leads s v w) (λ e. rest_leads s v w (h e))
+pub refresh_if_leads : {A : Type 0} (edit : Line → Steps A) (s : Setting) (v : Value) (b : Bool) → (b ≡ false → (rewritten (by edit) v).line ≡ v.line) → Leads s v (then_do (rewriting edit) (refreshed_if b) s v)
+refresh_if_leads edit s v b h =
+    let w = rewritten (by edit) v in
+    edit_leads (answering tt (edit v.line)) s v v (refreshed_if b s w) (either s v b (refreshed s w) (unchanged s w) (λ e. refresh_leads s v w) (λ e. rest_leads s v w (h e)))
 
 -- ---- the cursor
 
 shown_or_drawn : (s : Setting) (v w : Value) (b : Bool) → w.line.text ≡ v.line.text
-    → Leads s v (record { value = w; redraws = (if b then Drawn s.prompt true w.line.text w.line.place None else Moved w.line.text w.line.place) ∷ [] })
+    → Leads s v (record { value = w; steps = Draws w (if b then Drawn s.prompt true w.line.text w.line.place None else Moved w.line.text w.line.place) ∷ [] })
 shown_or_drawn s v w true h info = record { fits = ((λ e. refl), tt); leads = refl }
 shown_or_drawn s v w false h info = record { fits = (h, tt); leads = ap (λ t. sight_as s.prompt t w.line.place info) (sym h) }
 
@@ -180,7 +200,7 @@ abbrev typed_alone : ℕ → ℕ → Value → Value → Bool
 typed_alone c n v w = may_be_typed c n (v.line.place == length v.line.text) (is_plain v.line.text) (is_bare v) (is_bare w)
 
 typed_by : (s : Setting) (c n : ℕ) (v w : Value) (b : Bool) → typed_alone c n v w ≡ b → (typed_alone c n v w ≡ true → w.line ≡ put_at_cursor (encode_utf8 c) v.line)
-    → Leads s v (record { value = w; redraws = (if b then Typed s.prompt c w.line.text w.line.place else drawn s w) ∷ [] })
+    → Leads s v (record { value = w; steps = Draws w (if b then Typed s.prompt c w.line.text w.line.place else drawn s w) ∷ [] })
 typed_by s c n v w false e put info = record { fits = ((λ x. refl), tt); leads = refl }
 typed_by s c n v w true e put info =
     let a = and_parts (n == 1) _ e in
@@ -234,13 +254,14 @@ one_typed c n l false one h = cc
 pub insertion_leads : (c n : ℕ) (s : Setting) (v : Value) → Leads s v (insert_char c n s v)
 insertion_leads c n s v =
     let w = rewritten (char_typed c n) v in
-    either s v (is_some (insertion c n v.line).answer) (show_typed c n v s w) (unchanged s w)
+    either s v (is_some (insertion c n v.line).answer) (then_do (rewriting (typing c n)) (show_typed c n v) s v) (unchanged s w)
     (λ some. let asked = (asked_anew s w).value in
-    help_leads (hint_reply s w) s v (put_shown c n (v.line.place == length v.line.text) (is_plain v.line.text) (is_bare v) s asked) (typed_by s c n v asked (typed_alone c n v asked) refl (λ h. one_typed c n v.line (n == 1) (and_parts (n == 1) _ h).0 some)))
+    edit_leads (answering tt (typing c n v.line)) s v v (show_typed c n v s w)
+    (help_leads w (hint_reply s w) s v (put_shown c n (v.line.place == length v.line.text) (is_plain v.line.text) (is_bare v) s asked) (typed_by s c n v asked (typed_alone c n v asked) refl (λ h. one_typed c n v.line (n == 1) (and_parts (n == 1) _ h).0 some))))
     (λ none. rest_leads s v w (no_typing c n v.line (n == 1) none))
 
 pub text_leads : (text : List ℕ) (s : Setting) (v : Value) → Leads s v (insert_text text s v)
-text_leads text s v = either s v (length text == 0) _ _ (λ e. rest_leads s v v refl) (λ e. refresh_leads s v (rewritten (put_behind text) v))
+text_leads text s v = either s v (length text == 0) _ _ (λ e. rest_leads s v v refl) (λ e. redraw_leads (putting_behind text) s v v)
 
 -- ---- a kill
 
@@ -249,7 +270,7 @@ taken_alone v w = may_be_taken (list_all is_printable (drop (length w.line.text)
 
 taken_by : (s : Setting) (v w : Value) (from upto : ℕ) (b : Bool) → taken_alone v w ≡ b → (is_plain v.line.text ≡ true → Low v.line.text from upto)
     → w.line.text ≡ replace_range v.line.text from upto [] → w.line.place ≡ from
-    → Leads s v (record { value = w; redraws = (if b then Taken s.prompt (length v.line.text - length w.line.text) w.line.text w.line.place else drawn s w) ∷ [] })
+    → Leads s v (record { value = w; steps = Draws w (if b then Taken s.prompt (length v.line.text - length w.line.text) w.line.text w.line.place else drawn s w) ∷ [] })
 taken_by s v w from upto false e low text place info = record { fits = ((λ x. refl), tt); leads = refl }
 taken_by s v w from upto true e low text place info =
     let before = v.line.text in
@@ -282,19 +303,19 @@ taken_by s v w from upto true e low text place info =
       leads = refl;
     }
 
-killed_by : (s : Setting) (v : Value) (held : List Held) (o : Option Span) → (is_plain v.line.text ≡ true → IfSome o (λ span. Low v.line.text span.from span.upto))
+killed_by : (edit : Steps ⊤) (s : Setting) (v : Value) (held : List Held) (o : Option Span) → (is_plain v.line.text ≡ true → IfSome o (λ span. Low v.line.text span.from span.upto))
     → (let w : Value = record v { line = deletion_line o v.line; held = held } in
-    Leads s v (if is_some o then show_taken v s w else unchanged s w))
-killed_by s v held None h = rest_leads s v (record v { held = held }) refl
-killed_by s v held (Some span) h =
+    Leads s v (if is_some o then record { value = (show_taken v s w).value; steps = Edits v edit ∷ (show_taken v s w).steps } else unchanged s w))
+killed_by edit s v held None h = rest_leads s v (record v { held = held }) refl
+killed_by edit s v held (Some span) h =
     let w : Value = record v { line = cut_out span.from span.upto v.line; held = held } in
     let asked = (asked_anew s w).value in
-    help_leads (hint_reply s w) s v
+    edit_leads edit s v v (show_taken v s w) (help_leads w (hint_reply s w) s v
     (taken_shown (length v.line.text - length w.line.text) (list_all is_printable (drop (length w.line.text) v.line.text)) (is_bare v) s asked)
-    (taken_by s v asked span.from span.upto (taken_alone v asked) refl h refl refl)
+    (taken_by s v asked span.from span.upto (taken_alone v asked) refl h refl refl))
 
 pub kill_leads : (m : Movement) (s : Setting) (v : Value) → Leads s v (kill m s v)
-kill_leads m s v = killed_by s v (rewritten (range_killed m) v).held (range_of m v.line) (λ plain. range_low v.line plain m)
+kill_leads m s v = killed_by (answering tt (killing m v.line)) s v (rewritten (range_killed m) v).held (range_of m v.line) (λ plain. range_low v.line plain m)
 
 text_if_leads : (text : Option (List ℕ)) (s : Setting) (v : Value) → Leads s v (insert_text_if text s v)
 text_if_leads None s v = rest_leads s v v refl

@@ -1,5 +1,5 @@
 -- What a line wants to be seen leads from turn to turn.
-use Rattle.std.proofs.Common.{◌≡◌, ℕ, zero, suc, Bool, true, false, List, [], ◌∷◌, ◌++◌, Option, None, Result, Ok, Err, refl, sym, ap, ◌∙◌, subst, true≢false, if◌then◌else◌}
+use Rattle.std.proofs.Common.{◌≡◌, ℕ, zero, suc, Bool, true, false, List, ◌++◌, Option, None, Result, Ok, Err, refl, sym, ap, ◌∙◌, subst, true≢false, if◌then◌else◌}
 use Rattle.line_config.specs.declared.errors.ReadlineError.{ReadlineError}
 use Rattle.line_keys.specs.Answers.{Custom}
 use Rattle.line_config.specs.Scripts.{Ends, Asks}
@@ -18,11 +18,10 @@ use Rattle.line_editor.specs.Accepting.{submitted}
 use Rattle.line_editor.specs.Asks.{shown_in, ask_effect}
 use Rattle.line_editor.specs.Commands.{Means, means_of, effect, outcome}
 use Rattle.line_editor.specs.Courses.{TurnsLead, EndsLine}
-use Rattle.line_editor.specs.Drawing.{asked_anew, refreshed}
-use Rattle.line_editor.specs.Leads.{Leads, CommandLeads, LinesLead}
-use Rattle.line_editor.specs.Lines.{Enacted, enacted, begins_group, with_group_begun, line_phrase, phrase_enacted, reset_by, Turned, turned_by, turn_of, Told, after_turn, line_from, line_of}
+use Rattle.line_editor.specs.Drawing.{drawn_behind, asked_anew}
+use Rattle.line_editor.specs.Leads.{Leads, CommandLeads, TurnLeads, EachTurnLeads, LinesLead}
+use Rattle.line_editor.specs.Lines.{Enacted, enacted, begins_group, with_group_begun, line_phrase, phrase_enacted, reset_by, Turned, turned_by, turn_of, Told, after_turn, line_from, line_begun, line_of}
 use Rattle.line_editor.specs.Sights.{Sight, no_sight, sight_with, sight_of, ended_sight, sight_all, FitsAll, Turns, info_after}
-use Rattle.line_editor.specs.Redraws.Redraw.{Drawn}
 use Rattle.line_editor.specs.Values.{Value, Setting, Effect, first_value, hint_reply, helped, shown_hint}
 use Rattle.line_editor.specs.declared.commands.Status.{Status}
 use Rattle.line_editor.specs.declared.commands.Status.TheVariants.{Proceed, Submit}
@@ -38,22 +37,22 @@ record Behind (s : Setting) (v : Value) (info : Option (List ℕ)) (own : Bool) 
   is : x ≡ sight_with own prompt v.line.text v.line.place info
   ours : own ≡ true → prompt ≡ s.prompt
 
-ask_fits : (ask : Ask) (s : Setting) (v : Value) (x : Sight) → FitsAll s.prompt x (ask_effect ask s v).redraws
+ask_fits : (ask : Ask) (s : Setting) (v : Value) (x : Sight) → FitsAll s.prompt x (ask_effect ask s v).steps
 ask_fits Line s v x = (asks_lead Line s v x).fits
 ask_fits (Message text kind) s v x = ((λ e. refl), tt)
 ask_fits (Prompted prompt) s v x = (asks_lead (Prompted prompt) s v x).fits
-ask_fits DoingInsert s v x = tt
+ask_fits DoingInsert s v x = (tt, tt)
 ask_fits DoneInserting s v x = tt
 
 -- with the hint that was asked for
 hint_stands : (s : Setting) (v : Value) (given : Bool) (prompt : List ℕ) (info : Option (List ℕ)) → (let w = (asked_anew s v).value in
-    info_after (helped (hint_reply s v) ++ (Drawn prompt given w.line.text w.line.place (shown_hint w) ∷ [])) info ≡ shown_hint w)
+    info_after (helped v (hint_reply s v) ++ (drawn_behind prompt given s w).steps) info ≡ shown_hint w)
 hint_stands s v given prompt info =
     let w = (asked_anew s v).value in
-    help_info (hint_reply s v) (Drawn prompt given w.line.text w.line.place (shown_hint w) ∷ []) info
+    help_info v (hint_reply s v) (drawn_behind prompt given s w).steps info
 
 ask_leads : (ask : Ask) (s : Setting) (v : Value) (info : Option (List ℕ)) (own : Bool) (x : Sight) → Behind s v info own x
-    → (let e = ask_effect ask s v in Behind s e.value (info_after e.redraws info) (own_by own ask) (sight_all x e.redraws))
+    → (let e = ask_effect ask s v in Behind s e.value (info_after e.steps info) (own_by own ask) (sight_all x e.steps))
 ask_leads Line s v info own x h = record {
   prompt = s.prompt;
   is = (asks_lead Line s v x).leads ∙ ap (sight_with true s.prompt v.line.text v.line.place) (sym (hint_stands s v true s.prompt info));
@@ -68,14 +67,14 @@ ask_leads (Prompted prompt) s v info own x h = record {
 ask_leads DoingInsert s v info own x h = record { prompt = h.prompt; is = h.is; ours = h.ours }
 ask_leads DoneInserting s v info own x h = record { prompt = h.prompt; is = h.is; ours = h.ours }
 
-script_fits : {X : Type 0} (s : Setting) (script : Steps X) (input : Input) (v : Value) (c : Coming) (x : Sight) → FitsAll s.prompt x (enacted s script input v c).made.redraws
+script_fits : {X : Type 0} (s : Setting) (script : Steps X) (input : Input) (v : Value) (c : Coming) (x : Sight) → FitsAll s.prompt x (enacted s script input v c).made.steps
 script_fits s (Ends answer) input v c x = tt
-script_fits s (Asks Needs later) input v c x = script_fits s (later tt) input v c x
+script_fits s (Asks Needs later) input v c x = (tt, script_fits s (later tt) input v c x)
 script_fits s (Asks (Shows ask) later) input v c x =
     let e = ask_effect ask s v in
-    fits_both s.prompt x e.redraws _ (ask_fits ask s v x) (script_fits s (later (shown_in e.value)) input e.value c (sight_all x e.redraws))
+    fits_both s.prompt x e.steps _ (ask_fits ask s v x) (script_fits s (later (shown_in e.value)) input e.value c (sight_all x e.steps))
 script_fits {X} s (Asks (Reads item) later) input v c x =
-    each_way (λ (p : Enacted X). FitsAll s.prompt x p.made.redraws) _ _ (λ y. script_fits s (later y) input v (behind c) x) (λ e. tt) (item_at item c)
+    each_way (λ (p : Enacted X). FitsAll s.prompt x p.made.steps) _ _ (λ y. script_fits s (later y) input v (behind c) x) (λ e. tt) (item_at item c)
 script_fits s (Asks (Becomes kept) later) input v c x = script_fits s (later tt) kept v c x
 script_fits s (Asks (Refuses why) later) input v c x = tt
 
@@ -84,7 +83,7 @@ settled_sight s v info x h = h.is ∙ ap (λ p. sight_with true p v.line.text v.
 
 script_leads : {X : Type 0} (s : Setting) (own : Bool) (script : Steps X) (input : Input) (v : Value) (c : Coming) (info : Option (List ℕ)) (x : Sight) (answer : X)
     → Settles own script → Behind s v info own x → (enacted s script input v c).answer ≡ Ok answer
-    → (let e = (enacted s script input v c).made in sight_all x e.redraws ≡ sight_of s e.value (info_after e.redraws info))
+    → (let e = (enacted s script input v c).made in sight_all x e.steps ≡ sight_of s e.value (info_after e.steps info))
 script_leads s true (Ends y) input v c info x answer settles h is = settled_sight s v info x h
 script_leads s false (Ends y) input v c info x answer settles h is = absurd (true≢false (sym settles))
 script_leads s own (Asks Needs later) input v c info x answer settles h is = script_leads s own (later tt) input v c info x answer (settles tt) h is
@@ -92,10 +91,10 @@ script_leads s own (Asks (Shows ask) later) input v c info x answer settles h is
     let e = ask_effect ask s v in
     let shown = shown_in e.value in
     let rest = (enacted s (later shown) input e.value c).made in
-    let done = script_leads s (own_by own ask) (later shown) input e.value c (info_after e.redraws info) (sight_all x e.redraws) answer (settles shown) (ask_leads ask s v info own x h) is in
-    sight_both x e.redraws rest.redraws ∙ done ∙ ap (sight_of s rest.value) (sym (info_both e.redraws rest.redraws info))
+    let done = script_leads s (own_by own ask) (later shown) input e.value c (info_after e.steps info) (sight_all x e.steps) answer (settles shown) (ask_leads ask s v info own x h) is in
+    sight_both x e.steps rest.steps ∙ done ∙ ap (sight_of s rest.value) (sym (info_both e.steps rest.steps info))
 script_leads {X} s own (Asks (Reads item) later) input v c info x answer settles h is =
-    each_way (λ (p : Enacted X). p.answer ≡ Ok answer → sight_all x p.made.redraws ≡ sight_of s p.made.value (info_after p.made.redraws info)) _ _
+    each_way (λ (p : Enacted X). p.answer ≡ Ok answer → sight_all x p.made.steps ≡ sight_of s p.made.value (info_after p.made.steps info)) _ _
     (λ y. script_leads s own (later y) input v (behind c) info x answer (settles y) h) (λ e same. cc) (item_at item c) is
 script_leads s own (Asks (Becomes kept) later) input v c info x answer settles h is = script_leads s own (later tt) kept v c info x answer (settles tt) h is
 script_leads s own (Asks (Refuses why) later) input v c info x answer settles h is = cc
@@ -108,11 +107,7 @@ begun_settles cmd false n = refl
 
 -- ---- a turn
 
-record TurnLeads (s : Setting) (v : Value) (info : Option (List ℕ)) (t : Turned) : Type 0 where
-  fits : FitsAll s.prompt (sight_of s v info) t.made.redraws
-  leads : (status : Status) → t.outcome ≡ Ok status → Turns s.prompt (sight_of s v info) t.made.redraws (sight_of s t.made.value (info_after t.made.redraws info))
-
-command_fits : (cmd : Cmd) (s : Setting) (v : Value) (e : Effect) (info : Option (List ℕ)) → CommandLeads cmd s v e → FitsAll s.prompt (sight_of s v info) e.redraws
+command_fits : (cmd : Cmd) (s : Setting) (v : Value) (e : Effect) (info : Option (List ℕ)) → CommandLeads cmd s v e → FitsAll s.prompt (sight_of s v info) e.steps
 command_fits Interrupt s v e info h = let t = h info in t.fits
 command_fits cmd s v e info h = let t = h info in t.fits
 
@@ -122,8 +117,8 @@ proceeds_leads m Interrupt s v e status h is = cc
 proceeds_leads m cmd s v e status h is = h
 
 turned_leads : (s : Setting) (v : Value) (info : Option (List ℕ)) (indent : ℕ) (r : Ring) (p : Enacted Cmd) (answer : Result Cmd ReadlineError) → p.answer ≡ answer
-    → FitsAll s.prompt (sight_of s v info) p.made.redraws
-    → ((cmd : Cmd) → p.answer ≡ Ok cmd → sight_all (sight_of s v info) p.made.redraws ≡ sight_of s p.made.value (info_after p.made.redraws info))
+    → FitsAll s.prompt (sight_of s v info) p.made.steps
+    → ((cmd : Cmd) → p.answer ≡ Ok cmd → sight_all (sight_of s v info) p.made.steps ≡ sight_of s p.made.value (info_after p.made.steps info))
     → TurnLeads s v info (turned_by s indent r answer p)
 turned_leads s v info indent r p (Err e) is fits leads = record { fits = fits; leads = λ status same. cc }
 turned_leads s v info indent r p (Ok cmd) is fits leads =
@@ -131,19 +126,19 @@ turned_leads s v info indent r p (Ok cmd) is fits leads =
     let m = means_of p.input indent ring in
     let w = p.made.value in
     let x = sight_of s v info in
-    let stands = info_after p.made.redraws info in
+    let stands = info_after p.made.steps info in
     let e = effect m cmd s w in
     let made = commands_lead m cmd s w in
-    let seen : sight_all x p.made.redraws ≡ sight_of s w stands = leads cmd is in
-    let first : Turns s.prompt x p.made.redraws (sight_of s w stands) = record { fits = fits; leads = seen } in
+    let seen : sight_all x p.made.steps ≡ sight_of s w stands = leads cmd is in
+    let first : Turns s.prompt x p.made.steps (sight_of s w stands) = record { fits = fits; leads = seen } in
     record {
-      fits = fits_both s.prompt x p.made.redraws e.redraws fits (subst (λ y. FitsAll s.prompt y e.redraws) (sym seen) (command_fits cmd s w e stands made));
+      fits = fits_both s.prompt x p.made.steps e.steps fits (subst (λ y. FitsAll s.prompt y e.steps) (sym seen) (command_fits cmd s w e stands made));
       leads = λ status same.
-          subst (λ i. Turns s.prompt x (p.made.redraws ++ e.redraws) (sight_of s e.value i)) (sym (info_both p.made.redraws e.redraws info))
-          (turns_both s.prompt x (sight_of s w stands) (sight_of s e.value (info_after e.redraws stands)) p.made.redraws e.redraws first (proceeds_leads m cmd s w e status made same stands));
+          subst (λ i. Turns s.prompt x (p.made.steps ++ e.steps) (sight_of s e.value i)) (sym (info_both p.made.steps e.steps info))
+          (turns_both s.prompt x (sight_of s w stands) (sight_of s e.value (info_after e.steps stands)) p.made.steps e.steps first (proceeds_leads m cmd s w e status made same stands));
     }
 
-turn_leads : (n : ℕ) (s : Setting) (custom : Custom) (indent : ℕ) (input : Input) (r : Ring) (v : Value) (info : Option (List ℕ)) (c : Coming) → TurnLeads s v info (turn_of n s custom indent input r v c)
+pub turn_leads : EachTurnLeads
 unfolding turn_of and_then
 turn_leads n s custom indent input r v info c =
     let p = phrase_enacted n s custom input v c in
@@ -162,14 +157,14 @@ after_leads : (next : Input → Ring → Option (List ℕ) → Value → Coming 
     → ((i : Input) (r : Ring) (told : Option (List ℕ)) (w : Value) (c : Coming) → Led s (sight_of s w told) (next i r told w c))
     → TurnLeads s v info t → (o : Result Status ReadlineError) → t.outcome ≡ o → Led s (sight_of s v info) (after_turn next s info t o)
 after_leads next s v info t rest h (Ok Proceed) e =
-    let more = rest t.input t.ring (info_after t.made.redraws info) t.made.value t.rest in
+    let more = rest t.input t.ring (info_after t.made.steps info) t.made.value t.rest in
     ((h.leads Proceed e, refl, more.0), more.1)
 after_leads next s v info t rest h (Ok Submit) e =
     let w = t.made.value in
     let close = submitted s w in
-    let stands = info_after t.made.redraws info in
-    let joined = turns_both s.prompt (sight_of s v info) (sight_of s w stands) (ended_sight (sight_of s close.value (info_after close.redraws stands))) t.made.redraws close.redraws (h.leads Submit e) (submitting_leads s w stands) in
-    let turns = subst (λ i. Turns s.prompt (sight_of s v info) (t.made.redraws ++ close.redraws) (ended_sight (sight_of s close.value i))) (sym (info_both t.made.redraws close.redraws info)) joined in
+    let stands = info_after t.made.steps info in
+    let joined = turns_both s.prompt (sight_of s v info) (sight_of s w stands) (ended_sight (sight_of s close.value (info_after close.steps stands))) t.made.steps close.steps (h.leads Submit e) (submitting_leads s w stands) in
+    let turns = subst (λ i. Turns s.prompt (sight_of s v info) (t.made.steps ++ close.steps) (ended_sight (sight_of s close.value i))) (sym (info_both t.made.steps close.steps info)) joined in
     ((turns, refl, tt), (refl, refl))
 after_leads next s v info t rest h (Err x) e = (h.fits, (refl, refl))
 
@@ -182,8 +177,8 @@ line_leads (suc n) s custom indent input r info v c =
 pub lines_lead : LinesLead
 unfolding line_of
 lines_lead n s custom indent input r c =
-    let e = refreshed s (first_value s) in
-    let rest = line_leads n s custom indent input r (info_after e.redraws None) e.value c in
+    let e = line_begun s (first_value s) in
+    let rest = line_leads n s custom indent input r (info_after e.steps None) e.value c in
     let first = asks_lead Line s (first_value s) no_sight in
     let seen = first.leads ∙ ap (sight_of s e.value) (sym (hint_stands s (first_value s) true s.prompt None)) in
-    ((record { fits = first.fits; leads = seen }, refl, rest.0), rest.1)
+    ((record { fits = (tt, first.fits); leads = seen }, refl, rest.0), rest.1)

@@ -1,8 +1,7 @@
 -- The turns of a line, one after the other.
-use Rattle.std.proofs.Common.{◌≡◌, inl, inr, ℕ, suc, List, [], ◌∷◌, ◌++◌, refl, sym, ap, subst, ◌∙◌, arith, append-nil}
+use Rattle.std.proofs.Common.{◌≡◌, inl, inr, ℕ, suc, List, [], ◌∷◌, ◌++◌, refl, sym, ap, subst, ◌∙◌, append-nil}
 use Rattle.std.specs.Prelude.{Option, Result, Ok, Err, flat_map}
 use Rattle.line_config.specs.declared.errors.ReadlineError.{ReadlineError}
-use Rattle.line_config.specs.declared.errors.ReadlineError.TheVariants.{Display}
 use Rattle.line_help.specs.declared.completion as completions
 use Rattle.line_help.specs.declared.hint as hints
 use Rattle.line_help.specs.declared.highlight as highlights
@@ -14,22 +13,21 @@ use Rattle.line_keys.specs.Phrases.{Input}
 use Rattle.line_record.specs.Ring.{Ring}
 use Rattle.line_editor.specs.Accepting.{submitted}
 use Rattle.line_editor.specs.Acts.{Act, Sees, stage, CutIn, acts_after, acts_from}
-use Rattle.line_editor.specs.Courses.{Open, redraws_in}
+use Rattle.line_editor.specs.Courses.{Open, steps_in}
 use Rattle.line_editor.specs.Lines.{Told, Turned, turn_of, line_from, after_turn, opened_by}
 use Rattle.line_editor.specs.Reading.{Telling, turns_left, turns_doing, edit_of, text_or, Read, Reading}
-use Rattle.line_editor.specs.Redraws.{Redraw}
 use Rattle.line_editor.specs.Sights.{Sight, sight_of, info_after}
-use Rattle.line_editor.specs.States.{value_of, setting_of, Does}
+use Rattle.line_editor.specs.States.{value_of, setting_of, surface_of, Does}
 use Rattle.line_editor.specs.Turning.{Doing, Cut, Whole, turning, turn_doing}
-use Rattle.line_editor.specs.Values.{Value, Setting, Effect, Transition, then_do, unchanged}
+use Rattle.line_editor.specs.Values.{Value, Setting, EditStep, Effect, Transition, then_do, unchanged}
 use Rattle.line_editor.specs.declared.commands.Status.{Status}
 use Rattle.line_editor.specs.declared.commands.Status.TheVariants.{Proceed, Submit}
 use Rattle.line_editor.specs.declared.renderer as renderers
 use Rattle.line_editor.specs.declared.state.State.{State}
-use Rattle.line_editor.proofs.ActsLemmas.{redraws_of, rest_of, ring_of, turn_redraws, turn_rest, turn_ring, cut_before, cut_seeing}
-use Rattle.line_editor.proofs.DoesLemmas.{does_both, does_as, drawing_shows, setting_stays, stays_both}
-use Rattle.line_editor.proofs.EnactedLemmas.{cut_onward}
-use Rattle.line_editor.proofs.ShowsLemmas.{shown_in_part}
+use Rattle.line_editor.proofs.ActsLemmas.{steps_of, rest_of, ring_of, turn_redraws, turn_rest, turn_ring}
+use Rattle.line_editor.proofs.CommandedLemmas.{made}
+use Rattle.line_editor.proofs.DoesLemmas.{does_both, does_as, setting_stays, stays_both}
+use Rattle.line_editor.proofs.EnactedLemmas.{cut_onward, cut_more, seeing_cut}
 
 -- one turn of a line with fuel
 turned : (n : ℕ) (s : Setting) (custom : Custom) (indent : ℕ) (i : Input) (r : Ring) (info : Option (List ℕ)) (v : Value) (c : Coming)
@@ -44,29 +42,14 @@ acts_turned n s custom indent i r v c = refl
 
 -- a line as one effect
 abbrev effect_of : Told → Effect
-effect_of t = record { value = t.value; redraws = flat_map redraws_in t.turns }
-
-abbrev pub made : ℕ → Custom → ℕ → Input → Ring → Coming → Transition
-made n custom indent i r c a v = (turning n custom indent i r c a v).made
-
--- results that aren't one another
-abbrev status_is : Result Status ReadlineError → ℕ
-status_is (Ok Proceed) = 0
-status_is (Ok Submit) = 1
-status_is (Err e) = 2
-
-pub proceeds : {Z : Type 0} (e : ReadlineError) → ◌≡◌ {A = Result Status ReadlineError} (Ok Proceed) (Err e) → Z
-proceeds e is = let h : ◌≡◌ {A = ℕ} 0 2 = ap status_is is in absurd (omega arith)
-
-pub submits_not : {Z : Type 0} (e : ReadlineError) → ◌≡◌ {A = Result Status ReadlineError} (Ok Submit) (Err e) → Z
-submits_not e is = let h : ◌≡◌ {A = ℕ} 1 2 = ap status_is is in absurd (omega arith)
+effect_of t = record { value = t.value; steps = flat_map steps_in t.turns }
 
 -- a turn that accepts the line, with its close
 accepted_is : (next : Input → Ring → Option (List ℕ) → Value → Coming → Told) (s : Setting) (info : Option (List ℕ)) (t : Turned)
-    → record { value = (submitted s t.made.value).value; redraws = t.made.redraws ++ (submitted s t.made.value).redraws } ≡ effect_of (after_turn next s info t (Ok Submit))
+    → record { value = (submitted s t.made.value).value; steps = t.made.steps ++ (submitted s t.made.value).steps } ≡ effect_of (after_turn next s info t (Ok Submit))
 accepted_is next s info t =
     let close = submitted s t.made.value in
-    ap (λ (x : List Redraw). record { value = close.value; redraws = x }) (sym (append-nil (t.made.redraws ++ close.redraws)))
+    ap (λ (x : List EditStep). record { value = close.value; steps = x }) (sym (append-nil (t.made.steps ++ close.steps)))
 
 module _ {Out H Hi K T : Type 0} {renderer : renderers.Renderer.Ghosts Out} {completer : completions.Completer.Ghosts H K} {candidate : completions.Candidate.Ghosts K}
     {hinter : hints.Hinter.Ghosts H T} {hint : hints.Hint.Ghosts T} {highlighter : highlights.Highlighter.Ghosts H} {validator : verdicts.Validator.Ghosts H} {history : histories.History.Ghosts Hi} where
@@ -74,14 +57,14 @@ module _ {Out H Hi K T : Type 0} {renderer : renderers.Renderer.Ghosts Out} {com
 
   -- what is left after it is read whole
   pub reads_on : {A : Type 0} (first : Transition) (line whole : Telling) (x : Sight) (s m t : State Out H Hi K T renderer completer candidate hinter hint highlighter validator history) (c2 : Coming) (r2 : Ring) (result : Result A ReadlineError)
-      → whole (setting_of s) (value_of s) ≡ opened_by (Open (first (setting_of s) (value_of s)).redraws x) (line (setting_of s) (first (setting_of s) (value_of s)).value)
+      → whole (setting_of s) (value_of s) ≡ opened_by (Open (first (setting_of s) (value_of s)).steps x) (line (setting_of s) (first (setting_of s) (value_of s)).value)
       → Does {A = Unit {0}} first s m (Ok (tt {0})) → Read line m t r2 c2 result → Read whole s t r2 c2 result
   reads_on first line whole x s m t c2 r2 result line_is made read =
       let same : line (setting_of m) (value_of m) ≡ line (setting_of s) (first (setting_of s) (value_of s)).value =
       ap (λ a. line a (value_of m)) (setting_stays s m made.stays) ∙ ap (line (setting_of s)) made.value in
       record {
         does = does_as (then_do first (edit_of line)) (edit_of whole) s t (Ok (tt {0})) (ap effect_of (sym line_is))
-            (does_both first (edit_of line) s m t (tt {0}) (Ok (tt {0})) made read.does tt);
+            (does_both first (edit_of line) s m t (tt {0}) (Ok (tt {0})) made read.does);
         outcome_is = read.outcome_is ∙ ap (λ p. p.outcome) same ∙ ap (λ p. p.outcome) (sym line_is);
         ring_is = read.ring_is ∙ ap (λ p. p.ring) same ∙ ap (λ p. p.ring) (sym line_is);
         rest_is = read.rest_is ∙ ap (λ p. p.rest) same ∙ ap (λ p. p.rest) (sym line_is);
@@ -89,7 +72,7 @@ module _ {Out H Hi K T : Type 0} {renderer : renderers.Renderer.Ghosts Out} {com
 
   -- or cut
   pub cut_on : {A : Type 0} (first : Transition) (front : List Act) (acts all : Doing) (s m t : State Out H Hi K T renderer completer candidate hinter hint highlighter validator history) (c c1 c2 : Coming) (r r1 r2 : Ring) (result : Result A ReadlineError)
-      → redraws_of front ≡ (first (setting_of s) (value_of s)).redraws → rest_of c front ≡ c1 → ring_of r front ≡ r1
+      → steps_of front ≡ (first (setting_of s) (value_of s)).steps → rest_of c front ≡ c1 → ring_of r front ≡ r1
       → front ++ acts (setting_of s) (first (setting_of s) (value_of s)).value ≡ all (setting_of s) (value_of s)
       → Does {A = Unit {0}} first s m (Ok (tt {0})) → Cut acts m t c1 c2 r1 r2 result → Cut all s t c c2 r r2 result
   cut_on first front acts all s m t c c1 c2 r r1 r2 result redraws_are rest_is ring_is acts_are made cut = record {
@@ -97,10 +80,10 @@ module _ {Out H Hi K T : Type 0} {renderer : renderers.Renderer.Ghosts Out} {com
     result_is = cut.result_is;
     cause = cut.cause;
     stays = stays_both s m t made.stays cut.stays;
-    done = subst (λ y. CutIn renderer.canvas (renderer.canvas.ruler s.out) cut.fault y s.layout (stage s.out c r) (stage t.out c2 r2)) acts_are
-        (cut_onward front acts first s m (tt {0}) cut.fault c r (stage t.out c2 r2) made redraws_are
-        (subst (λ y. CutIn renderer.canvas (renderer.canvas.ruler m.out) cut.fault (acts (setting_of m) (value_of m)) m.layout y (stage t.out c2 r2))
-        (ap (λ y. stage m.out y r1) (sym rest_is) ∙ ap (stage m.out (rest_of c front)) (sym ring_is)) cut.done));
+    done = subst (λ y. CutIn renderer.canvas (renderer.canvas.ruler s.out) cut.fault y (stage (surface_of s) c r) (value_of t) (stage (surface_of t) c2 r2)) acts_are
+        (cut_onward front acts first s m (tt {0}) cut.fault c r (value_of t) (stage (surface_of t) c2 r2) made redraws_are
+        (subst (λ y. CutIn renderer.canvas (renderer.canvas.ruler m.out) cut.fault (acts (setting_of m) (value_of m)) y (value_of t) (stage (surface_of t) c2 r2))
+        (ap (λ y. stage (surface_of m) y r1) (sym rest_is) ∙ ap (stage (surface_of m) (rest_of c front)) (sym ring_is)) cut.done));
   }
 
   -- ---- turns
@@ -120,9 +103,9 @@ module _ {Out H Hi K T : Type 0} {renderer : renderers.Renderer.Ghosts Out} {com
 
     -- one that leaves the line open
     turn_read : {A : Type 0} (m t : State Out H Hi K T renderer completer candidate hinter hint highlighter validator history) (i' : Input) (r' r2 : Ring) (c' c2 : Coming) (result : Result A ReadlineError) → Whole (turning (suc n) custom indent i r c) s m r' i' c' (Ok Proceed)
-        → Read (turns_left custom indent i' r' c' n (info_after turn_here.made.redraws info)) m t r2 c2 result → Read line_here s t r2 c2 result
+        → Read (turns_left custom indent i' r' c' n (info_after turn_here.made.steps info)) m t r2 c2 result → Read line_here s t r2 c2 result
     turn_read m t i' r' r2 c' c2 result whole read =
-        let stands : Option (List ℕ) = info_after turn_here.made.redraws info in
+        let stands : Option (List ℕ) = info_after turn_here.made.steps info in
         let x : Sight = sight_of (setting_of s) turn_here.made.value stands in
         let v : Value = turn_here.made.value in
         let a : Setting = setting_of s in
@@ -131,7 +114,7 @@ module _ {Out H Hi K T : Type 0} {renderer : renderers.Renderer.Ghosts Out} {com
         ∙ ap (λ (y : Ring). line_from n a custom indent i' y stands v turn_here.rest) (sym whole.ring_is)
         ∙ ap (λ (y : Coming). line_from n a custom indent i' r' stands v y) (sym whole.rest_is) in
         reads_on (made (suc n) custom indent i r c) (turns_left custom indent i' r' c' n stands) line_here x s m t c2 r2 result
-        (ends_by (Ok Proceed) whole.outcome_is ∙ ap (opened_by (Open turn_here.made.redraws x)) left) whole.does read
+        (ends_by (Ok Proceed) whole.outcome_is ∙ ap (opened_by (Open turn_here.made.steps x)) left) whole.does read
 
     abbrev doing_here : Doing
     doing_here = turns_doing custom indent i r c (suc n)
@@ -157,7 +140,7 @@ module _ {Out H Hi K T : Type 0} {renderer : renderers.Renderer.Ghosts Out} {com
         (ap (λ y. front_here ++ y) more ∙ doing_by (Ok Proceed) whole.outcome_is) whole.does cut
 
     pub turn_on : {A : Type 0} (m t : State Out H Hi K T renderer completer candidate hinter hint highlighter validator history) (i' : Input) (r' r2 : Ring) (c' c2 : Coming) (result : Result A ReadlineError) → Whole (turning (suc n) custom indent i r c) s m r' i' c' (Ok Proceed)
-        → Reading (turns_left custom indent i' r' c' n (info_after turn_here.made.redraws info)) (turns_doing custom indent i' r' c' n) m t c' c2 r' r2 result → Reading line_here doing_here s t c c2 r r2 result
+        → Reading (turns_left custom indent i' r' c' n (info_after turn_here.made.steps info)) (turns_doing custom indent i' r' c' n) m t c' c2 r' r2 result → Reading line_here doing_here s t c c2 r r2 result
     turn_on m t i' r' r2 c' c2 result whole (inl read) = inl (turn_read m t i' r' r2 c' c2 result whole read)
     turn_on m t i' r' r2 c' c2 result whole (inr cut) = inr (turn_then_cut m t i' r' r2 c' c2 result whole cut)
 
@@ -168,7 +151,7 @@ module _ {Out H Hi K T : Type 0} {renderer : renderers.Renderer.Ghosts Out} {com
         let same = ends_by (Err e) whole.outcome_is in
         record {
           does = does_as (then_do (made (suc n) custom indent i r c) unchanged) (edit_of line_here) s t (Ok (tt {0})) (ap effect_of (sym same))
-              (does_as (made (suc n) custom indent i r c) (then_do (made (suc n) custom indent i r c) unchanged) s t (Ok (tt {0})) (ap (λ (x : List Redraw). record { value = turn_here.made.value; redraws = x }) (sym (append-nil turn_here.made.redraws))) whole.does);
+              (does_as (made (suc n) custom indent i r c) (then_do (made (suc n) custom indent i r c) unchanged) s t (Ok (tt {0})) (ap (λ (x : List EditStep). record { value = turn_here.made.value; steps = x }) (sym (append-nil turn_here.made.steps))) whole.does);
           outcome_is = ap (λ y. text_or y t.line.text) is ∙ ap (λ p. p.outcome) (sym same);
           ring_is = whole.ring_is ∙ ap (λ p. p.ring) (sym same);
           rest_is = whole.rest_is ∙ ap (λ p. p.rest) (sym same);
@@ -177,15 +160,8 @@ module _ {Out H Hi K T : Type 0} {renderer : renderers.Renderer.Ghosts Out} {com
     -- one that a fault cut
     pub turn_cut : {A B : Type 0} (t : State Out H Hi K T renderer completer candidate hinter hint highlighter validator history) (c' : Coming) (r' : Ring) (q : Result B ReadlineError)
         (result : Result A ReadlineError) (cut : Cut (turn_doing (suc n) custom indent i r c) s t c c' r r' q) → result ≡ Err cut.fault → Cut doing_here s t c c' r r' result
-    turn_cut t c' r' q result cut is = record {
-      fault = cut.fault;
-      result_is = is;
-      cause = cut.cause;
-      stays = cut.stays;
-      done = subst (λ y. CutIn renderer.canvas (renderer.canvas.ruler s.out) cut.fault y s.layout (stage s.out c r) (stage t.out c' r')) (doing_by turn_here.outcome refl)
-          (cut_before renderer.canvas (renderer.canvas.ruler s.out) cut.fault front_here (acts_after (acts_from n (setting_of s) custom indent) (setting_of s) turn_here turn_here.outcome)
-          s.layout (stage s.out c r) (stage t.out c' r') cut.done);
-    }
+    turn_cut t c' r' q result cut is = cut_more (turn_doing (suc n) custom indent i r c) doing_here (acts_after (acts_from n (setting_of s) custom indent) (setting_of s) turn_here turn_here.outcome)
+        s t c c' r r' q result cut is (doing_by turn_here.outcome refl)
 
     module _ (m : State Out H Hi K T renderer completer candidate hinter hint highlighter validator history) (i' : Input) (r' : Ring) (c' : Coming)
         (whole : Whole (turning (suc n) custom indent i r c) s m r' i' c' (Ok Submit)) where
@@ -198,30 +174,16 @@ module _ {Out H Hi K T : Type 0} {renderer : renderers.Renderer.Ghosts Out} {com
           → Does submitted m t (Ok x) → Read line_here s t r' c' (Ok x)
       turn_accepts {A} x t closed =
           let same = ends_by (Ok Submit) whole.outcome_is in
-          let both = does_as (then_do (made (suc n) custom indent i r c) submitted) (edit_of line_here) s t (Ok x) closed_same (does_both (made (suc n) custom indent i r c) submitted s m t (tt {0}) (Ok x) whole.does closed tt) in
+          let both = does_as (then_do (made (suc n) custom indent i r c) submitted) (edit_of line_here) s t (Ok x) closed_same (does_both (made (suc n) custom indent i r c) submitted s m t (tt {0}) (Ok x) whole.does closed) in
           record {
-            does = record { value = both.value; calls = both.calls; layout = both.layout; stays = both.stays; reason = tt; begun = tt };
+            does = record { value = both.value; calls = both.calls; layout = both.layout; stays = both.stays; reason = tt; stops = tt };
             outcome_is = ap (λ (v : Value). Ok v.line.text) (both.value ∙ ap (λ p. p.value) same) ∙ ap (λ p. p.outcome) (sym same);
             ring_is = whole.ring_is ∙ ap (λ p. p.ring) (sym same);
             rest_is = whole.rest_is ∙ ap (λ p. p.rest) (sym same);
           }
 
       -- the close was refused
-      pub close_cut : {A B : Type 0} (t : State Out H Hi K T renderer completer candidate hinter hint highlighter validator history) (e : ReadlineError)
-          (result : Result A ReadlineError) → result ≡ Err e → e ≡ Display → Does {A = B} submitted m t (Err e) → Cut doing_here s t c c' r r' result
-      close_cut {A} {B} t e result is why refused =
-          let closing : Doing = λ a v. Sees (submitted a v).redraws ∷ [] in
-          record {
-            fault = e;
-            result_is = is;
-            cause = refused.reason;
-            stays = stays_both s m t whole.does.stays refused.stays;
-            done = subst (λ y. CutIn renderer.canvas (renderer.canvas.ruler s.out) e y s.layout (stage s.out c r) (stage t.out c' r')) (doing_by (Ok Submit) whole.outcome_is)
-                (cut_onward front_here closing (made (suc n) custom indent i r c) s m (tt {0}) e c r (stage t.out c' r') whole.does (turn_redraws (suc n) (setting_of s) custom indent i r (value_of s) c)
-                (subst (λ y. CutIn renderer.canvas (renderer.canvas.ruler m.out) e (closing (setting_of m) (value_of m)) m.layout y (stage t.out c' r'))
-                (ap (λ y. stage m.out y r') (whole.rest_is ∙ sym (turn_rest (suc n) (setting_of s) custom indent i r (value_of s) c))
-                ∙ ap (stage m.out (rest_of c front_here)) (whole.ring_is ∙ sym (turn_ring (suc n) (setting_of s) custom indent i r (value_of s) c)))
-                (cut_seeing renderer.canvas (renderer.canvas.ruler m.out) e (submitted (setting_of m) (value_of m)).redraws [] m.layout m.out t.out c' r'
-                (shown_in_part renderer.canvas (renderer.canvas.ruler m.out) e (submitted (setting_of m) (value_of m)).redraws m.layout m.out t.out
-                (drawing_shows {A = B} submitted m t (Err e) why refused) refused.begun))));
-          }
+      pub close_cut : {A B : Type 0} (t : State Out H Hi K T renderer completer candidate hinter hint highlighter validator history) (e : ReadlineError) (result : Result A ReadlineError) → result ≡ Err e → Does {A = B} submitted m t (Err e) → Cut doing_here s t c c' r r' result
+      close_cut {A} {B} t e result is refused = cut_on (made (suc n) custom indent i r c) front_here (λ a v. Sees (submitted a v).steps ∷ []) doing_here s m t c c' c' r r' r' result
+          (turn_redraws (suc n) (setting_of s) custom indent i r (value_of s) c) (turn_rest (suc n) (setting_of s) custom indent i r (value_of s) c ∙ sym whole.rest_is) (turn_ring (suc n) (setting_of s) custom indent i r (value_of s) c ∙ sym whole.ring_is)
+          (doing_by (Ok Submit) whole.outcome_is) whole.does (seeing_cut {A = B} submitted (λ a v. []) m t c' c' r' e result is refl refused)

@@ -24,11 +24,11 @@ module _ {Out H Hi K T : Type 0} {renderer : renderers.Renderer.Ghosts Out} {com
   pub obeyed_done : {A B : Type 0} (m : Means) (cmd known : Cmd) (s t : State Out H Hi K T renderer completer candidate hinter hint highlighter validator history) (x : A) (y : B)
       → cmd ≡ known → Does {A = A} (effect m known) s t (Ok x) → Does {A = B} (effect m cmd) s t (Ok y)
   obeyed_done {A} {B} m cmd known s t x y is h =
-      obeyed {A = B} m cmd known s t (Ok y) is (record { value = h.value; calls = h.calls; layout = h.layout; stays = h.stays; reason = tt; begun = tt })
+      obeyed {A = B} m cmd known s t (Ok y) is (record { value = h.value; calls = h.calls; layout = h.layout; stays = h.stays; reason = tt; stops = tt })
 
   -- refused, as a question mark hands it on
   pub obeyed_cut : {A B : Type 0} (m : Means) (cmd known : Cmd) (s t : State Out H Hi K T renderer completer candidate hinter hint highlighter validator history) (e : ReadlineError) (result : Result B ReadlineError)
       → IsErrAnd result (λ x. x ≡ e) → cmd ≡ known → Does {A = A} (effect m known) s t (Err e) → Does (effect m cmd) s t result
   obeyed_cut {A} {B} m cmd known s t e result err is h =
       subst (λ (r : Result B ReadlineError). Does {A = B} (effect m cmd) s t r) (sym (is_err e result err))
-      (obeyed {A = B} m cmd known s t (Err e) is (record { value = tt; calls = tt; layout = tt; stays = h.stays; reason = h.reason; begun = h.begun }))
+      (obeyed {A = B} m cmd known s t (Err e) is (record { value = tt; calls = tt; layout = tt; stays = h.stays; reason = h.reason; stops = h.stops }))

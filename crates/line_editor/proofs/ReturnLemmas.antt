@@ -19,7 +19,9 @@ use Rattle.line_buffer.specs.declared.types.At.TheVariants.{Start}
 use Rattle.line_buffer.specs.declared.types.Word.TheVariants.{Big}
 use Rattle.line_buffer.specs.declared.types.WordAction.{WordAction}
 use Rattle.line_buffer.specs.declared.types.WordAction.TheVariants.{Capitalize, Lowercase, Uppercase}
-use Rattle.line_edits.specs.Edits.{chars_replaced, clusters_after, deleted, text_yanked, transpose_chars_in_group, transpose_words_in_group, edit_word_in_group}
+use Rattle.line_config.specs.Scripts.{Ends}
+use Rattle.line_edits.specs.Steps.{made, answering}
+use Rattle.line_edits.specs.Edits.{chars_replaced, clusters_after, deleted, text_yanked, transpose_chars_in_group, transpose_words_in_group, edit_word_in_group, replacing, replacing_if_any, by, overwritten}
 use Rattle.line_edits.specs.Written.{Written, group_opened, group_closed}
 use Rattle.line_help.specs.Hints.{Hinted}
 use Rattle.line_help.specs.History.{begins_with_space}
@@ -48,7 +50,8 @@ use Rattle.line_editor.specs.Moving.{cursor_moved_if, to_found, to_place, move_h
 use Rattle.line_editor.specs.Remembering.{saved_now, saved_on_leaving, recall, come_back as back_at_end, history_step, history_end}
 use Rattle.line_editor.specs.Returns.{ValueStep, value_after, value_after_all, leaving_by, is_search, searches, StaysAway, ComesBack}
 use Rattle.line_editor.specs.Returns.ValueStep.{Done, Asked}
-use Rattle.line_editor.specs.Rewording.{refreshed_if, edit_word}
+use Rattle.line_editor.specs.Drawing.{refreshed_if}
+use Rattle.line_editor.specs.Rewording.{edit_word}
 use Rattle.line_editor.specs.Values.{Value, Setting, Effect, Saved, then_do, verdict_reply, completion_reply, rewritten, written_of, at_line}
 use Rattle.line_editor.specs.Yanking.{anchored, steps, behind_yank, yanked_by, yank_text, yank_lent, pop_lent}
 use Rattle.line_editor.proofs.GrowthLemmas.{insert_grows, yank_grows, pop_grows, deletion_grows, kill_grows, indent_grows, word_grows, chars_grow, words_grow, over_grows, back_grows}
@@ -204,6 +207,10 @@ exchange_grows c n v =
     let taken : Written = deleted n (group_opened (written_of v)) in
     insert_grows c (clusters_after n v.line) taken.line ∙ deletion_grows (range_of (ForwardChar n) v.line) v.line
 
+any_grows : (b : Bool) (c n : ℕ) (v : Value) → (made (if b then answering true (replacing c n v.line) else Ends false) (written_of v)).line.growth ≡ v.line.growth
+any_grows true c n v = exchange_grows c n v
+any_grows false c n v = refl
+
 keeps_held : (s : Setting) (text : List ℕ) (place : ℕ) (v w : Value) → Held s text place v → Away s v → Keeps v w → Held s text place w
 keeps_held s text place v w h away k = record {
   saved = (λ below. k.saved ∙ h.saved away);
@@ -312,9 +319,9 @@ command_held m (Kill movement) s text at v quiet inside h away = keeps_held s te
 command_held m (Move movement) s text at v quiet inside h away = keeps_held s text at v (effect m (Move movement) s v).value h away (motion_keeps movement s v)
 command_held m Noop s text at v quiet inside h away = keeps_held s text at v (effect m Noop s v).value h away (same v)
 command_held m Repaint s text at v quiet inside h away = keeps_held s text at v (effect m Repaint s v).value h away (kept refl refl refl)
-command_held m (Overwrite c) s text at v quiet inside h away = keeps_held s text at v (effect m (Overwrite c) s v).value h away (either v (is_some (place_forward 1 v.line)) _ _ (kept refl refl (over_grows c (place_forward 1 v.line) (written_of v))) (same v))
+command_held m (Overwrite c) s text at v quiet inside h away = keeps_held s text at v (effect m (Overwrite c) s v).value h away (drawn_keeps (is_some (place_forward 1 v.line)) s v (rewritten (overwritten c) v) (kept refl refl (over_grows c (place_forward 1 v.line) (written_of v))))
 command_held m QuotedInsert s text at v quiet inside h away = keeps_held s text at v (effect m QuotedInsert s v).value h away (same v)
-command_held m (ReplaceChar n c) s text at v quiet inside h away = keeps_held s text at v (effect m (ReplaceChar n c) s v).value h away (either v (is_some (place_forward n v.line)) _ _ (kept refl refl (exchange_grows c n v)) (same v))
+command_held m (ReplaceChar n c) s text at v quiet inside h away = keeps_held s text at v (effect m (ReplaceChar n c) s v).value h away (drawn_keeps (is_some (place_forward n v.line)) s v (rewritten (by (replacing_if_any c n)) v) (kept refl refl (any_grows (is_some (place_forward n v.line)) c n v)))
 command_held m (Replace movement new) s text at v quiet inside h away = keeps_held s text at v (effect m (Replace movement new) s v).value h away (then_keeps v (kill movement s v).value _ (kill_keeps movement s v) (text_keeps new s (kill movement s v).value))
 command_held m ReverseSearchHistory s text at v quiet inside h away = keeps_held s text at v (effect m ReverseSearchHistory s v).value h away (same v)
 command_held m (SelfInsert n c) s text at v quiet inside h away = keeps_held s text at v (effect m (SelfInsert n c) s v).value h away (insertion_keeps c n s v)

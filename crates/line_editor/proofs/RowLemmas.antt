@@ -10,45 +10,33 @@ use Rattle.line_help.specs.declared.validate as verdicts
 use Rattle.line_help.specs.declared.history as histories
 use Rattle.line_keys.specs.declared.command.CmdKind.TheVariants.{MoveCursor}
 use Rattle.line_buffer.specs.Line.{moved_to}
-use Rattle.line_editor.specs.Calls.{Begun}
 use Rattle.line_editor.specs.Commands.{line_up_or_previous, line_down_or_next}
 use Rattle.line_editor.specs.Moving.{cursor_moved_if, to_found, move_line_up, move_line_down}
-use Rattle.line_editor.specs.Redraws.{asked, Redraw}
 use Rattle.line_editor.specs.Remembering.{history_step}
-use Rattle.line_editor.specs.States.{value_of, setting_of, Does}
-use Rattle.line_editor.specs.Values.{Transition}
+use Rattle.line_editor.specs.States.{value_of, setting_of, surface_of, Does}
+use Rattle.line_editor.specs.Steps.{Stops}
+use Rattle.line_editor.specs.Values.{EditStep, Transition}
 use Rattle.line_editor.specs.declared.renderer as renderers
 use Rattle.line_editor.specs.declared.state.State.{State}
-use Rattle.line_editor.proofs.BegunLemmas.{begun_none, begun_nothing}
 use Rattle.line_editor.proofs.DoesLemmas.{does_as, is_err}
+use Rattle.line_editor.proofs.StopsLemmas.{never_stops}
 
 abbrev either : Bool → Transition → Transition → Transition
 either b edit other s v = if b then edit s v else other s v
 
 module _ {Out H Hi K T : Type 0} {renderer : renderers.Renderer.Ghosts Out} {completer : completions.Completer.Ghosts H K} {candidate : completions.Candidate.Ghosts K}
     {hinter : hints.Hinter.Ghosts H T} {hint : hints.Hint.Ghosts T} {highlighter : highlights.Highlighter.Ghosts H} {validator : verdicts.Validator.Ghosts H} {history : histories.History.Ghosts Hi} where
-  -- a motion that asked for nothing was refused before anything was asked
-  unmoved : {A B : Type 0} (edit other : Transition) (s t : State Out H Hi K T renderer completer candidate hinter hint highlighter validator history) (e : ReadlineError)
-      → (edit (setting_of s) (value_of s)).redraws ≡ [] → Does {A = A} edit s t (Err e) → Does {A = B} other s t (Err e)
-  unmoved edit other s t e none h = record {
-    value = tt;
-    calls = tt;
-    layout = tt;
-    stays = h.stays;
-    reason = h.reason;
-    begun = let nothing = begun_nothing renderer.canvas e s.out t.out (subst (λ (xs : List Redraw). Begun renderer.canvas e (asked (renderer.canvas.ruler s.out) s.layout xs).calls s.out t.out) none h.begun) in
-        begun_none renderer.canvas e (asked (renderer.canvas.ruler s.out) s.layout (other (setting_of s) (value_of s)).redraws).calls s.out t.out nothing.0 nothing.1;
-  }
-
+  -- a motion that isn't made has no step that is refused
   either_cut : {A B : Type 0} (b : Bool) (edit other : Transition) (s t : State Out H Hi K T renderer completer candidate hinter hint highlighter validator history) (e : ReadlineError)
-      → (b ≡ false → (edit (setting_of s) (value_of s)).redraws ≡ []) → Does {A = A} edit s t (Err e) → Does {A = B} (either b edit other) s t (Err e)
-  either_cut true edit other s t e none h = record { value = tt; calls = tt; layout = tt; stays = h.stays; reason = h.reason; begun = h.begun }
-  either_cut {A} {B} false edit other s t e none h = unmoved {A = A} {B = B} edit (either false edit other) s t e (none refl) h
+      → (b ≡ false → (edit (setting_of s) (value_of s)).steps ≡ []) → Does {A = A} edit s t (Err e) → Does {A = B} (either b edit other) s t (Err e)
+  either_cut true edit other s t e none h = record { value = tt; calls = tt; layout = tt; stays = h.stays; reason = h.reason; stops = h.stops }
+  either_cut false edit other s t e none h = never_stops renderer.canvas (renderer.canvas.ruler s.out) e (value_of t) (surface_of s) (surface_of t)
+      (subst (λ (xs : List EditStep). Stops renderer.canvas (renderer.canvas.ruler s.out) xs (surface_of s) e (value_of t) (surface_of t)) (none refl) h.stops)
 
   rows_cut : {A B : Type 0} (found : Option ℕ) (other : Transition) (s t : State Out H Hi K T renderer completer candidate hinter hint highlighter validator history) (e : ReadlineError)
       → Does {A = A} (to_found found) s t (Err e) → Does {A = B} (either (is_some found) (to_found found) other) s t (Err e)
   rows_cut {A} {B} found other s t e h = either_cut {A = A} {B = B} (is_some found) (to_found found) other s t e
-      (λ none. ap (λ (b : Bool). (cursor_moved_if MoveCursor b (moved_to found (value_of s).line) (setting_of s) (value_of s)).redraws) none) h
+      (λ none. ap (λ (b : Bool). (cursor_moved_if MoveCursor b (moved_to found (value_of s).line) (setting_of s) (value_of s)).steps) none) h
 
   pub up_cut : {A B : Type 0} (n : ℕ) (s t : State Out H Hi K T renderer completer candidate hinter hint highlighter validator history) (e : ReadlineError) (r : Result B ReadlineError)
       → IsErrAnd r (λ x. x ≡ e) → Does {A = A} (move_line_up n) s t (Err e) → Does (line_up_or_previous n) s t r

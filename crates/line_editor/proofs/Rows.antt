@@ -29,10 +29,11 @@ use Rattle.line_keys.specs.declared.key.KeyEvent.{KeyEvent}
 use Rattle.line_record.specs.Ring.{Ring}
 use Rattle.line_editor.specs.Calls.{Call, Ruler}
 use Rattle.line_editor.specs.Calls.Call.{Draw, Move, Write, Beep}
-use Rattle.line_editor.specs.Courses.{Turn, redraws_in}
+use Rattle.line_editor.specs.Courses.{Turn, steps_in}
 use Rattle.line_editor.specs.Lines.{Told, turn_of, line_from, line_of}
-use Rattle.line_editor.specs.Redraws.{Redraw, asked, fresh}
-use Rattle.line_editor.specs.Values.{Setting}
+use Rattle.line_editor.specs.Redraws.{fresh}
+use Rattle.line_editor.specs.Steps.{asked}
+use Rattle.line_editor.specs.Values.{Setting, EditStep}
 
 -- ---- a display of eighty columns, and lines after `> `
 
@@ -60,12 +61,12 @@ emacs = record { mode = Emacs; input_mode = Inserting; last = Noop; search = Non
 abbrev nothing_bound : Custom
 nothing_bound = record { answers = λ e. None; begins = λ keys. false }
 
-abbrev all_redraws : List Turn → List Redraw
-all_redraws [] = []
-all_redraws (turn ∷ turns) = redraws_in turn ++ all_redraws turns
+abbrev all_steps : List Turn → List EditStep
+all_steps [] = []
+all_steps (turn ∷ turns) = steps_in turn ++ all_steps turns
 
 abbrev calls : Told → List Call
-calls t = (asked plain (fresh Unicode) (all_redraws t.turns)).calls
+calls t = (asked plain (fresh Unicode) (all_steps t.turns)).calls
 
 -- the input ends after these keys
 abbrev pressed : List KeyEvent → Coming

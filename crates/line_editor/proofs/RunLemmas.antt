@@ -19,18 +19,19 @@ use Rattle.line_keys.specs.declared.command.CmdKind.{CmdKind}
 use Rattle.line_record.specs.Ring.{Ring}
 use Rattle.line_editor.specs.Acts.{Act, acts_of, stage, CutIn}
 use Rattle.line_editor.specs.Calls.{Canvas, MadeIn}
-use Rattle.line_editor.specs.Courses.{redraws_in}
+use Rattle.line_editor.specs.Courses.{steps_in}
 use Rattle.line_editor.specs.Lines.{Told, line_of}
 use Rattle.line_editor.specs.Reading.{Telling, drawn_and_turned, line_doing, text_or, Read, Reading, ReadsLine}
-use Rattle.line_editor.specs.Redraws.{asked, fresh}
+use Rattle.line_editor.specs.Redraws.{fresh}
 use Rattle.line_editor.specs.Running.{Helping, helping_by, setting_by, line_meant, acts_meant, line_calls, outcome_of, WholeLine, CutLine, Runs}
-use Rattle.line_editor.specs.States.{hooks_of, value_of, setting_of, reason_of, Reason, Stays, Starts}
+use Rattle.line_editor.specs.States.{hooks_of, value_of, setting_of, surface_of, reason_of, Reason, Stays, Starts}
+use Rattle.line_editor.specs.Steps.{asked, Surface, surface}
 use Rattle.line_editor.specs.Turning.{Doing, Cut, cause_of, Cause}
 use Rattle.line_editor.specs.Values.{Setting, Hooks, IsFailing, empty_at, first_value}
 use Rattle.line_editor.specs.declared.ran.Ran.{Ran}
 use Rattle.line_editor.specs.declared.renderer as renderers
 use Rattle.line_editor.specs.declared.state.State.{State}
-use Rattle.line_editor.proofs.ActsLemmas.{cut_first}
+use Rattle.line_editor.proofs.ActsLemmas.{answered_not, cut_first}
 
 -- no memory for a line, and nothing was read or drawn
 pub not_begun : {R H K T : Type 0} (canvas : Canvas R) (helps : Option H → Helping) (custom : Custom) (prompt : List ℕ) (helper : Option H) (entries : List (List ℕ)) (config : Config) (out : R)
@@ -38,10 +39,13 @@ pub not_begun : {R H K T : Type 0} (canvas : Canvas R) (helps : Option H → Hel
 not_begun canvas helps custom prompt helper entries config out ring feed = record {
   goes = λ told n h. inr (record {
     fault = Memory;
+    value = first_value (setting_by (canvas.ruler out) prompt (helps helper) entries);
+    layout = fresh (canvas.ruler out).mode;
     outcome_is = refl;
     cause = tt;
-    done = cut_first canvas (canvas.ruler out) Memory n (setting_by (canvas.ruler out) prompt (helps helper) entries) custom config.indent_size (new_input config.edit_mode) ring feed.coming
-        (fresh (canvas.ruler out).mode) (stage out feed.coming ring) refl;
+    done = let a : Setting = setting_by (canvas.ruler out) prompt (helps helper) entries in
+        cut_first canvas (canvas.ruler out) Memory (first_value a) n a custom config.indent_size (new_input config.edit_mode) ring feed.coming
+        (stage (surface out (fresh (canvas.ruler out).mode)) feed.coming ring) refl refl;
   });
   told = λ told. told;
   keeps = le_refl feed.bound;
@@ -62,24 +66,20 @@ abbrev refusal_or : {A : Type 0} → ReadlineError → Result A ReadlineError �
 refusal_or f (Ok x) = f
 refusal_or f (Err e) = e
 
-abbrev way : {A : Type 0} → Result A ReadlineError → ℕ
-way (Ok x) = 0
-way (Err e) = 1
-
 same_reason : {X A : Type 0} (f : X → List ℕ) (o : Result X ReadlineError) (result : Result A ReadlineError) (text : List ℕ) (P Q : ReadlineError → Type 0)
     → made_of f o ≡ text_or result text → ((e : ReadlineError) → P e → Q e) → IfErr result P → IfErr o Q
 same_reason f (Ok x) result text P Q is go h = tt
-same_reason f (Err e) (Ok x) text P Q is go h = let h : ◌≡◌ {A = ℕ} 1 0 = ap way is in absurd (omega arith)
+same_reason f (Err e) (Ok x) text P Q is go h = answered_not text e (sym is)
 same_reason f (Err e) (Err x) text P Q is go h = subst Q (sym (ap (refusal_or e) is)) (go x h)
 
 same_fall : {X A : Type 0} (P : Type 0) (f : X → List ℕ) (o : Result X ReadlineError) (result : Result A ReadlineError) (text : List ℕ)
     → made_of f o ≡ text_or result text → OnOk result P → OnOk o P
 same_fall P f (Err e) result text is h = tt
 same_fall P f (Ok x) (Ok y) text is h = h
-same_fall P f (Ok x) (Err e) text is h = let h : ◌≡◌ {A = ℕ} 0 1 = ap way is in absurd (omega arith)
+same_fall P f (Ok x) (Err e) text is h = answered_not (f x) e is
 
 refused_same : {A : Type 0} (result : Result A ReadlineError) (text : List ℕ) (e : ReadlineError) → result ≡ Err e → text_or result text ≡ Err e
-refused_same (Ok x) text e is = let h : ◌≡◌ {A = ℕ} 0 1 = ap way is in absurd (omega arith)
+refused_same (Ok x) text e is = answered_not x e is
 refused_same (Err x) text e is = ap (λ (y : ReadlineError). Err y) (ap (refusal_or e) is)
 
 -- ---- causes
@@ -175,29 +175,32 @@ module _ {Out H Hi K T : Type 0} {renderer : renderers.Renderer.Ghosts Out} {com
       rest_is = read.rest_is ∙ ap (λ p. p.rest) (line_same n);
       calls = subst (λ o. FoldsTo (MadeIn renderer.canvas) out (line_calls (renderer.canvas.ruler out) (as_meant n).turns) o) (sym out_is)
           (subst (λ (p : Told). FoldsTo (MadeIn renderer.canvas) out (line_calls (renderer.canvas.ruler out) p.turns) t.out) (line_same n)
-          (subst (λ l. FoldsTo (MadeIn renderer.canvas) out (asked (renderer.canvas.ruler out) l (flat_map redraws_in (read_as n (setting_of s) (value_of s)).turns)).calls t.out) starts.layout
-          (subst (λ o. FoldsTo (MadeIn renderer.canvas) o (asked (renderer.canvas.ruler o) s.layout (flat_map redraws_in (read_as n (setting_of s) (value_of s)).turns)).calls t.out) starts.out_is read.does.calls)));
+          (subst (λ l. FoldsTo (MadeIn renderer.canvas) out (asked (renderer.canvas.ruler out) l (flat_map steps_in (read_as n (setting_of s) (value_of s)).turns)).calls t.out) starts.layout
+          (subst (λ o. FoldsTo (MadeIn renderer.canvas) o (asked (renderer.canvas.ruler o) s.layout (flat_map steps_in (read_as n (setting_of s) (value_of s)).turns)).calls t.out) starts.out_is read.does.calls)));
     }
 
     why_cut : (e : ReadlineError) → Reason t e → reason_of (renderer.canvas.failed ran.out) ⊤ e
     why_cut e why = reason_to (renderer.canvas.failed t.out) (renderer.canvas.failed ran.out) (Failing (helps s t.helper)) ⊤ e (ap renderer.canvas.failed (sym out_is)) (λ fails. tt) why
 
     cut_line : (n : ℕ) → Cut (done_as n) s t feed.coming feed'.coming ring ring' result
-        → CutLine renderer.canvas (acts_as_meant n) (stage out feed.coming ring) (stage ran.out feed'.coming ring') (outcome_of ran)
+        → CutLine renderer.canvas (acts_as_meant n) out ran.out feed.coming feed'.coming ring ring' (outcome_of ran)
     cut_line n cut = record {
       fault = cut.fault;
+      value = value_of t;
+      layout = t.layout;
       outcome_is = outcome_is ∙ refused_same result t.line.text cut.fault cut.result_is;
       cause = why_cut cut.fault cut.cause;
       done = let u = renderer.canvas.ruler out in
-          subst (λ o. CutIn renderer.canvas u cut.fault (acts_as_meant n) (fresh u.mode) (stage out feed.coming ring) (stage o feed'.coming ring')) (sym out_is)
-          (subst (λ acts. CutIn renderer.canvas u cut.fault acts (fresh u.mode) (stage out feed.coming ring) (stage t.out feed'.coming ring')) (acts_same n)
-          (subst (λ l. CutIn renderer.canvas u cut.fault (done_as n (setting_of s) (value_of s)) l (stage out feed.coming ring) (stage t.out feed'.coming ring')) starts.layout
-          (subst (λ o. CutIn renderer.canvas (renderer.canvas.ruler o) cut.fault (done_as n (setting_of s) (value_of s)) s.layout (stage o feed.coming ring) (stage t.out feed'.coming ring')) starts.out_is cut.done)));
+          let cut_by : List Act → Surface Out → Out → Type 0 = λ acts old new. CutIn renderer.canvas u cut.fault acts (stage old feed.coming ring) (value_of t) (stage (surface new t.layout) feed'.coming ring') in
+          subst (cut_by (acts_as_meant n) (surface out (fresh u.mode))) (sym out_is)
+          (subst (λ acts. cut_by acts (surface out (fresh u.mode)) t.out) (acts_same n)
+          (subst (λ l. cut_by (done_as n (setting_of s) (value_of s)) (surface out l) t.out) starts.layout
+          (subst (λ o. CutIn renderer.canvas (renderer.canvas.ruler o) cut.fault (done_as n (setting_of s) (value_of s)) (stage (surface o s.layout) feed.coming ring) (value_of t) (stage (surface_of t) feed'.coming ring')) starts.out_is cut.done)));
     }
 
     goes_by : (n : ℕ) → Reading (read_as n) (done_as n) s t feed.coming feed'.coming ring ring' result
         → WholeLine renderer.canvas (as_meant n) out ran.out ring' feed'.coming (outcome_of ran)
-        ⊎ CutLine renderer.canvas (acts_as_meant n) (stage out feed.coming ring) (stage ran.out feed'.coming ring') (outcome_of ran)
+        ⊎ CutLine renderer.canvas (acts_as_meant n) out ran.out feed.coming feed'.coming ring ring' (outcome_of ran)
     goes_by n (inl read) = inl (whole_line n read)
     goes_by n (inr cut) = inr (cut_line n cut)
 

@@ -23,7 +23,9 @@ use Rattle.line_buffer.specs.declared.types.WordAction.{WordAction}
 use Rattle.line_buffer.specs.declared.types.WordAction.TheVariants.{Capitalize, Lowercase, Uppercase}
 use Rattle.line_buffer.proofs.ReplayedLemmas.{replayed_all-one, replayed_insertion, replayed_replacement, yank_pop_replayed}
 use Rattle.line_buffer.proofs.SpanLemmas.{IsLater, place_forward-later, deletion_replays}
-use Rattle.line_edits.specs.Edits.{put_behind, text_yanked, updated, popped, deleted, clusters_after, exchanged_for, written_over, overwritten, chars_transposed, transpose_chars_in_group, words_transposed, transpose_words_in_group, word_edited, edit_word_in_group}
+use Rattle.line_config.specs.Scripts.{Ends}
+use Rattle.line_edits.specs.Steps.{Steps, made, answering}
+use Rattle.line_edits.specs.Edits.{put_behind, text_yanked, updated, popped, deleted, clusters_after, exchanged_for, written_over, overwritten, chars_transposed, transpose_chars_in_group, words_transposed, transpose_words_in_group, word_edited, edit_word_in_group, replacing, replacing_if_any, by}
 use Rattle.line_edits.specs.Written.{Written, group_opened, group_closed}
 use Rattle.line_help.specs.Hints.{Hinted}
 use Rattle.line_help.specs.History.{begins_with_space}
@@ -55,7 +57,8 @@ use Rattle.line_editor.specs.Moving.{cursor_moved_if, to_found, to_place, move_h
 use Rattle.line_editor.specs.Remembering.{saved_now, at_place, saved_on_leaving, recall, recalled, restored, hit_shown, history_step, history_end, history_search}
 use Rattle.line_editor.specs.Returns.{ValueStep, value_after, value_after_all}
 use Rattle.line_editor.specs.Returns.ValueStep.{Done, Asked}
-use Rattle.line_editor.specs.Rewording.{refreshed_if, edit_word}
+use Rattle.line_editor.specs.Drawing.{refreshed_if}
+use Rattle.line_editor.specs.Rewording.{edit_word}
 use Rattle.line_editor.specs.UndoAll.{BegunSound, UndoesAll}
 use Rattle.line_editor.specs.Values.{Value, Setting, Effect, then_do, verdict_reply, completion_reply, rewritten, written_of, at_line}
 use Rattle.line_editor.specs.Yanking.{anchored, steps, behind_yank, yanked_by, yank_text, yank_lent, pop_lent}
@@ -239,15 +242,21 @@ complete_reached (Some reply) s v first ok r =
     elected_reached found.start (elected found v.line) s v first ok
     (λ text is. begun_before found.start v.line (not (is_inside_char v.line.text found.start)) (elected_among (v.line.place - found.start) (map (λ o. o.replacement) found.candidates)) text is) r
 
+made_reached : (first : List ℕ) (b : Bool) (x y : Steps Bool) (w : Written) → Reaches first (made x w).held (made x w).line.text → Reaches first (made y w).held (made y w).line.text
+    → (let z = made (if b then x else y) w in Reaches first z.held z.line.text)
+made_reached first true x y w h k = h
+made_reached first false x y w h k = k
+
 char_reached : (c n : ℕ) (s : Setting) (v : Value) (first : List ℕ) → Sound v → Reached first v → Reached first (replace_char c n s v).value
 char_reached c n s v first ok r =
     let w = written_of v in
     let count = clusters_after n v.line in
-    either first (is_some (place_forward n v.line)) _ _
-    (group_reaches (exchanged_for c n count) w first (λ k. typing_reaches c count (deleted n (group_opened w)) first (deleting_reaches first (group_opened w) ok.utf8 ok.boundary k n)) r) r
+    let some = is_some (place_forward n v.line) in
+    drawn_reached some s (rewritten (by (replacing_if_any c n)) v) first (made_reached first some (answering true (replacing c n v.line)) (Ends false) w
+    (group_reaches (exchanged_for c n count) w first (λ k. typing_reaches c count (deleted n (group_opened w)) first (deleting_reaches first (group_opened w) ok.utf8 ok.boundary k n)) r) r)
 
 over_reached : (c : ℕ) (s : Setting) (v : Value) (first : List ℕ) → Sound v → Reached first v → Reached first (overwrite_char c s v).value
-over_reached c s v first ok r = either first (is_some (place_forward 1 v.line)) _ _ (overwriting_reaches first (written_of v) ok.utf8 ok.boundary r c) r
+over_reached c s v first ok r = drawn_reached (is_some (place_forward 1 v.line)) s (rewritten (overwritten c) v) first (overwriting_reaches first (written_of v) ok.utf8 ok.boundary r c)
 
 word_reached : (action : WordAction) (s : Setting) (v : Value) (first : List ℕ) → Sound v → Reached first v → Reached first (edit_word action s v).value
 word_reached action s v first ok r =

@@ -1,9 +1,12 @@
 -- All items of a record taken back give the text that it reaches.
 use Rattle.std.proofs.Common.{◌≡◌, ℕ, zero, suc, ◌≤◌, max, Bool, true, false, List, [], ◌∷◌, length, drop, Ok, refl, sym, ap, subst, arith, ◌∙◌, if◌then◌else◌}
+use Rattle.std.specs.Prelude.{Result, IsErrAnd}
 use Rattle.line_buffer.specs.Line.{Line}
+use Rattle.line_config.specs.declared.errors.ReadlineError.{ReadlineError}
+use Rattle.line_config.specs.declared.errors.ReadlineError.TheVariants.{Memory}
 use Rattle.line_record.specs.Held.{Held, line_back, has_step}
 use Rattle.line_record.specs.Held.Held.{Opened, Stepped}
-use Rattle.line_record.specs.Items.{Item, done_held, held_on}
+use Rattle.line_record.specs.Items.{Item, no_items, done_held, held_on}
 use Rattle.line_record.specs.Items.Item.{Open, Lone, Group}
 use Rattle.line_edits.specs.Edits.{undone}
 use Rattle.line_editor.specs.Leads.{Reaches}
@@ -13,14 +16,16 @@ use Rattle.line_help.specs.declared.highlight as highlights
 use Rattle.line_help.specs.declared.validate as verdicts
 use Rattle.line_help.specs.declared.history as histories
 use Rattle.line_editor.specs.Drawing.{refreshed}
-use Rattle.line_editor.specs.Rewording.{unmarked, undo}
-use Rattle.line_editor.specs.States.{value_of, setting_of, Stays, Does}
+use Rattle.line_editor.specs.Rewording.{unmarking, taking_back, undo}
+use Rattle.line_editor.specs.States.{value_of, setting_of, surface_of, Stays, Does}
+use Rattle.line_editor.specs.Steps.{Stops}
 use Rattle.line_editor.specs.UndoAll.{UndoReaches}
-use Rattle.line_editor.specs.Values.{Value, Setting, unchanged, rewritten}
+use Rattle.line_editor.specs.Values.{Value, Setting, then_do, rewritten}
 use Rattle.line_editor.specs.declared.renderer as renderers
 use Rattle.line_editor.specs.declared.state.State.{State}
-use Rattle.line_editor.proofs.DoesLemmas.{does_as}
+use Rattle.line_editor.proofs.DoesLemmas.{does_as, is_err}
 use Rattle.line_editor.proofs.ReachLemmas.{undo_reached}
+use Rattle.line_editor.proofs.StopsLemmas.{stops_taking_back}
 
 all_back : (n : ℕ) (held : List Held) (l : Line) (first : List ℕ) → length held ≤ n → Reaches first held l.text → (line_back n held l).text ≡ first
 all_back zero [] l first h r = r
@@ -37,15 +42,15 @@ line_rests (suc n) (Opened earlier ∷ held) l first r h =
     line_rests n held (record l { text = earlier }) first r.1 h ∙ ap (λ text. record l { text = text }) (sym r.0)
 line_rests (suc n) (Stepped earlier place newest joinable ∷ held) l first r h = cc
 
-text_by : (s : Setting) (v w x : Value) (b : Bool) (text : List ℕ) → (b ≡ true → w.line.text ≡ text) → (b ≡ false → x.line.text ≡ text)
-    → (if b then refreshed s w else unchanged s x).value.line.text ≡ text
-text_by s v w x true text h k = h refl
-text_by s v w x false text h k = k refl
+text_by : (n : ℕ) (s : Setting) (v : Value) (b : Bool) (text : List ℕ) → (b ≡ true → (rewritten (undone n) v).line.text ≡ text) → (b ≡ false → v.line.text ≡ text)
+    → (if b then then_do (taking_back n) refreshed s v else unmarking n s v).value.line.text ≡ text
+text_by n s v true text h k = h refl
+text_by n s v false text h k = k refl
 
 pub undo_reaches : UndoReaches
 undo_reaches s m v n first r h =
     let back = all_back (max n 1) v.held v.line first (omega (arith, h)) r in
-    text_by s v (rewritten (undone n) v) (unmarked n v) (has_step (max n 1) v.held) first (λ e. back) (λ e. ap (λ (l : Line). l.text) (sym (line_rests (max n 1) v.held v.line first r e)) ∙ back)
+    text_by n s v (has_step (max n 1) v.held) first (λ e. back) (λ e. ap (λ (l : Line). l.text) (sym (line_rests (max n 1) v.held v.line first r e)) ∙ back)
 
 pub unmade_reached : (n : ℕ) (s : Setting) (v : Value) (first : List ℕ) → Reaches first v.held v.line.text → (let w = (undo n s v).value in Reaches first w.held w.line.text)
 unmade_reached n s v first r = by_step (has_step (max n 1) v.held) refl
@@ -54,7 +59,7 @@ unmade_reached n s v first r = by_step (has_step (max n 1) v.held) refl
     back = undo_reached (max n 1) first v.held v.line r
 
     by_step : (b : Bool) → has_step (max n 1) v.held ≡ b
-        → (let w = (if b then refreshed s (rewritten (undone n) v) else unchanged s (unmarked n v)).value in Reaches first w.held w.line.text)
+        → (let w = (if b then then_do (taking_back n) refreshed s v else unmarking n s v).value in Reaches first w.held w.line.text)
     by_step true e = back
     by_step false e = subst (λ (l : Line). Reaches first (drop (max n 1) v.held) l.text) (line_rests (max n 1) v.held v.line first r e) back
 
@@ -68,6 +73,26 @@ items_rest (suc n) (Group oldest newer ∷ items) l h = cc
 
 module _ {Out H Hi K T : Type 0} {renderer : renderers.Renderer.Ghosts Out} {completer : completions.Completer.Ghosts H K} {candidate : completions.Candidate.Ghosts K}
     {hinter : hints.Hinter.Ghosts H T} {hint : hints.Hint.Ghosts T} {highlighter : highlights.Highlighter.Ghosts H} {validator : verdicts.Validator.Ghosts H} {history : histories.History.Ghosts Hi} where
+  -- where memory was wanting nothing is drawn
+  undo_stops : (n : ℕ) (s t : State Out H Hi K T renderer completer candidate hinter hint highlighter validator history) (b : Bool)
+      → value_of t ≡ record (value_of s) { line = t.line; held = [] } → surface_of t ≡ surface_of s
+      → Stops renderer.canvas (renderer.canvas.ruler s.out) (if b then then_do (taking_back n) refreshed (setting_of s) (value_of s) else unmarking n (setting_of s) (value_of s)).steps (surface_of s) Memory (value_of t) (surface_of t)
+  undo_stops n s t true left same = stops_taking_back renderer.canvas (renderer.canvas.ruler s.out) (value_of s) _ (surface_of s) (surface_of t) Memory (value_of t) refl same left
+  undo_stops n s t false left same = stops_taking_back renderer.canvas (renderer.canvas.ruler s.out) (value_of s) _ (surface_of s) (surface_of t) Memory (value_of t) refl same left
+
+  pub undo_refused : {A : Type 0} (n : ℕ) (s t : State Out H Hi K T renderer completer candidate hinter hint highlighter validator history) (result : Result A ReadlineError)
+      → IsErrAnd result (λ e. e ≡ Memory) → t.changes ≡ no_items
+      → value_of t ≡ record (value_of s) { line = t.line; held = held_on t.changes t.line.text }
+      → surface_of t ≡ surface_of s → Stays s t → Does (undo n) s t result
+  undo_refused {A} n s t result is forgotten left same stays = subst (λ (r : Result A ReadlineError). Does {A = A} (undo n) s t r) (sym (is_err Memory result is)) (record {
+    value = tt;
+    calls = tt;
+    layout = tt;
+    stays = stays;
+    reason = tt;
+    stops = undo_stops n s t (has_step (max n 1) (value_of s).held) (left ∙ ap (λ k. record (value_of s) { line = t.line; held = held_on k t.line.text }) forgotten) same;
+  })
+
   -- where marks alone are taken back nothing is drawn
   pub unmade_does : {A : Type 0} (n : ℕ) (s t : State Out H Hi K T renderer completer candidate hinter hint highlighter validator history) (x : A)
       → has_step (max n 1) (held_on s.changes s.line.text) ≡ false
@@ -78,13 +103,13 @@ module _ {Out H Hi K T : Type 0} {renderer : renderers.Renderer.Ghosts Out} {com
   unmade_does n s t x none line held rest out layout stays =
       let v = value_of s in
       let same : t.line ≡ v.line = line ∙ items_rest (max n 1) s.changes.done s.line none in
-      let quiet : unchanged (setting_of s) (unmarked n v) ≡ undo n (setting_of s) v = ap (λ b. if b then refreshed (setting_of s) (rewritten (undone n) v) else unchanged (setting_of s) (unmarked n v)) (sym none) in
-      does_as (λ a w. unchanged a (unmarked n w)) (undo n) s t (Ok x) quiet
+      let quiet : unmarking n (setting_of s) v ≡ undo n (setting_of s) v = ap (λ b. if b then then_do (taking_back n) refreshed (setting_of s) v else unmarking n (setting_of s) v) (sym none) in
+      does_as (unmarking n) (undo n) s t (Ok x) quiet
       (record {
         value = rest ∙ ap (λ l. record v { line = l; held = held_on t.changes t.line.text }) same ∙ ap (λ h. record v { line = v.line; held = h }) held;
         calls = out;
         layout = layout;
         stays = stays;
         reason = tt;
-        begun = tt;
+        stops = tt;
       })

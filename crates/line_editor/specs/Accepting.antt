@@ -1,9 +1,8 @@
 -- Lines that are to be accepted.
-use Rattle.std.specs.Prelude.{ℕ, ◌&&◌, ◌||◌, not, Bool, true, if◌then◌else◌, List, [], ◌∷◌, Option, Some, None, is_some, chars}
+use Rattle.std.specs.Prelude.{ℕ, ◌&&◌, ◌||◌, not, Bool, true, if◌then◌else◌, List, Option, Some, None, is_some, chars}
 use Rattle.std.specs.Char.{is_whitespace}
 use Rattle.std.specs.List.{list_all}
 use Rattle.line_buffer.specs.Line.{Line, text_after}
-use Rattle.line_edits.specs.Written.{group_opened, group_closed}
 use Rattle.line_keys.specs.Replies.{Reply}
 use Rattle.line_help.specs.Validation.{is_valid, has_message}
 use Rattle.line_help.specs.declared.validate.ValidationResult.{ValidationResult}
@@ -16,7 +15,7 @@ use Rattle.line_editor.specs.Inserting.{insert_char}
 use Rattle.line_editor.specs.Moving.{move_buffer_end}
 use Rattle.line_editor.specs.Redraws.{Redraw}
 use Rattle.line_editor.specs.Redraws.Redraw.{Drawn, Bared}
-use Rattle.line_editor.specs.Values.{Value, Setting, Transition, unchanged, then_do, rewritten, verdict_reply, helped, without_hint, with_mark}
+use Rattle.line_editor.specs.Values.{Value, Setting, Transition, unchanged, then_do, redrawn, open_group, close_groups, verdict_reply, helped, without_hint, with_mark}
 
 -- ---- before a line is accepted: without hint, highlighted character and a count's prompt
 
@@ -30,7 +29,7 @@ abbrev pub bared : Value → Setting → Value
 bared v s = with_mark ForcedRefresh s (without_hint v)
 
 abbrev pub bare : Transition
-bare s v = record { value = bared v s; redraws = bare_redraw s v (bared v s) ∷ [] }
+bare s v = redrawn (bare_redraw s v (bared v s)) s (bared v s)
 
 -- ---- what the helper finds
 
@@ -57,14 +56,14 @@ verdict_told (Valid text) draws = told_if draws text ForcedRefresh
 -- told where the groups have been closed
 abbrev pub closed_and_told : ValidationResult → Transition
 closed_and_told found s v =
-    verdict_told found (closes v.held || is_some v.hint) s (rewritten group_closed v)
+    then_do close_groups (verdict_told found (closes v.held || is_some v.hint)) s v
+
+abbrev pub verdict_asked : Transition
+verdict_asked s v = record { value = v; steps = helped v (verdict_reply s v) }
 
 -- a group is opened, and the helper asked
 abbrev pub opened_and_asked : Transition
-opened_and_asked s v = record {
-  value = rewritten group_opened v;
-  redraws = helped (verdict_reply s v);
-}
+opened_and_asked = then_do open_group verdict_asked
 
 -- groups are closed by the way
 abbrev pub validate_by : Option (Reply ValidationResult) → Transition

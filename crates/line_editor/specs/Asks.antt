@@ -1,12 +1,11 @@
 -- What the key tables see of the editor's value, and what their asks make of it.
 use Rattle.std.specs.Prelude.{ℕ, List, Option, None, Some, is_some}
-use Rattle.line_edits.specs.Written.{group_opened, group_closed}
 use Rattle.line_help.specs.Hints.{Hinted}
 use Rattle.line_keys.specs.Refreshing.{Shown, Ask}
 use Rattle.line_keys.specs.Refreshing.Ask.{Line, Message, Prompted, DoingInsert, DoneInserting}
 use Rattle.line_record.specs.Held.{last_inserted}
 use Rattle.line_editor.specs.Drawing.{refreshed, refreshed_behind, told}
-use Rattle.line_editor.specs.Values.{Value, Transition, quietly, rewritten}
+use Rattle.line_editor.specs.Values.{Value, Transition, open_group, close_groups}
 
 abbrev pub completion_in : Option Hinted → Option (List ℕ)
 completion_in None = None
@@ -21,13 +20,7 @@ shown_in v = record {
   last_insert = last_inserted v.held;
 }
 
--- a group opened, and all groups closed
-abbrev pub open_group : Transition
-open_group = quietly (rewritten group_opened)
-
-abbrev pub close_groups : Transition
-close_groups = quietly (rewritten group_closed)
-
+-- what is made where a phrase asks for it
 abbrev pub ask_effect : Ask → Transition
 ask_effect Line = refreshed
 ask_effect (Prompted prompt) = refreshed_behind prompt

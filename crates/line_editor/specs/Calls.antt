@@ -1,11 +1,11 @@
 -- The calls of a renderer and of the helper, what is known of a renderer, and what a call makes of
 -- it.
-use Rattle.std.specs.Prelude.{◌≡◌, ◌⊎◌, ⊤, ℕ, Bool, List, [], ◌∷◌, Option, option_map, Result, OnOk, OnErr, IfErr, IsTrue, IsFalse}
+use Rattle.std.specs.Prelude.{◌≡◌, ◌⊎◌, ℕ, Bool, List, [], ◌∷◌, Option, option_map, Result, OnOk, OnErr, IfErr, IsTrue, IsFalse}
 use Rattle.line_buffer.specs.declared.layout.GraphemeClusterMode.{GraphemeClusterMode}
 use Rattle.line_buffer.specs.declared.layout.Layout.{Layout}
 use Rattle.line_buffer.specs.declared.layout.Position.{Position}
 use Rattle.line_config.specs.declared.errors.ReadlineError.{ReadlineError}
-use Rattle.line_config.specs.declared.errors.ReadlineError.TheVariants.{Display, Helper, Memory}
+use Rattle.line_config.specs.declared.errors.ReadlineError.TheVariants.{Display}
 
 pub data Call : Type 0 where
   -- prompt, line and information drawn whole; without the row of an older drawing's cursor only
@@ -51,34 +51,35 @@ pub record Makes {R A : Type 0} (canvas : Canvas R) (call : Call) (old new : R)
   pub failed : OnErr result (IsTrue (canvas.failed new))
   pub ruler : canvas.ruler new ≡ canvas.ruler old
 
+-- two calls are made, one after the other; or the first is refused since the display has failed, or
+-- it is made and the second is refused
+pub record MakesBoth {R A : Type 0} (canvas : Canvas R) (first second : Call) (old new : R)
+    (result : Result A ReadlineError) : Type 0 where
+  pub made : OnOk result
+      ((between : R) × canvas.made old first between × canvas.made between second new)
+  pub refused : OnErr result
+      (canvas.refused old first new
+      ⊎ ((between : R) × canvas.made old first between × canvas.refused between second new))
+  pub fault : IfErr result (λ e. e ≡ Display)
+  pub failed : OnErr result (IsTrue (canvas.failed new))
+  pub ruler : canvas.ruler new ≡ canvas.ruler old
+
 -- a call is made: by the renderer, or by a helper that gives an answer
 abbrev pub MadeIn : {R : Type 0} → Canvas R → R → Call → R → Type 0
 MadeIn canvas old (Help fails) new = IsFalse fails × (new ≡ old)
 MadeIn canvas old call new = canvas.made old call new
 
--- a call is refused by this fault: by a helper that fails, or by the display
-abbrev pub RefusedIn : {R : Type 0} → Canvas R → ReadlineError → R → Call → R → Type 0
-RefusedIn canvas fault old (Help fails) new = (fault ≡ Helper) × IsTrue fails × (new ≡ old)
-RefusedIn canvas fault old call new = (fault ≡ Display) × canvas.refused old call new
+-- a call is refused by the display; the helper's is none of its
+abbrev pub RefusedIn : {R : Type 0} → Canvas R → R → Call → R → Type 0
+RefusedIn canvas old (Help fails) new = ⊥
+RefusedIn canvas old call new = canvas.refused old call new
 
--- these calls were broken off by a fault: those before it were made, and the next one was refused by
--- it, or memory was wanting for it. None comes after the last one
-unfoldable pub BrokenOff : {R : Type 0} → Canvas R → ReadlineError → List Call → R → R → Type 0
-BrokenOff canvas fault [] old new = ⊥
-BrokenOff {R} canvas fault (call ∷ calls) old new =
-    ((fault ≡ Memory) × (new ≡ old))
-    ⊎ (RefusedIn canvas fault old call new
-    ⊎ ((between : R) × MadeIn canvas old call between × BrokenOff canvas fault calls between new))
-
--- memory was wanting before anything was done, or the calls were broken off
-unfoldable pub Begun : {R : Type 0} → Canvas R → ReadlineError → List Call → R → R → Type 0
-Begun canvas fault calls old new =
-    ((fault ≡ Memory) × (new ≡ old)) ⊎ BrokenOff canvas fault calls old new
-
--- something is asked for
-abbrev pub IsAsked : List Call → Type 0
-IsAsked [] = ⊥
-IsAsked (call ∷ calls) = ⊤
+-- the display broke these calls off: those before it were made, and the next one was refused
+unfoldable pub BrokenOff : {R : Type 0} → Canvas R → List Call → R → R → Type 0
+BrokenOff canvas [] old new = ⊥
+BrokenOff {R} canvas (call ∷ calls) old new =
+    RefusedIn canvas old call new
+    ⊎ ((between : R) × MadeIn canvas old call between × BrokenOff canvas calls between new)
 
 -- a call that writes nothing, whether it is made or refused: the renderer is as it was
 pub record Idles {R A : Type 0} (canvas : Canvas R) (old new : R)

@@ -23,7 +23,7 @@ use Rattle.line_editor.specs.Killing.{kill, replace, killed_into, copied_into}
 use Rattle.line_editor.specs.Moving.{move_by, move_line_up, move_line_down}
 use Rattle.line_editor.specs.Remembering.{history_step, history_end, history_search}
 use Rattle.line_editor.specs.Rewording.{transpose_chars, transpose_words, edit_word, indent, undo}
-use Rattle.line_editor.specs.Values.{Value, Setting, Transition, unchanged}
+use Rattle.line_editor.specs.Values.{Value, Setting, Transition, unchanged, taking}
 use Rattle.line_editor.specs.Yanking.{yank_text, yank_lent, pop_lent}
 use Rattle.line_editor.specs.declared.commands.Status.{Status}
 use Rattle.line_editor.specs.declared.commands.Status.TheVariants.{Proceed, Submit}
@@ -93,6 +93,7 @@ effect m CompleteHint = complete_hint
 effect m AcceptLine = accept
 effect m (AcceptOrInsertLine middle) = accept_or_insert middle
 effect m Interrupt = moved_to_end
+effect m (ViYankTo movement) = taking
 effect m cmd = unchanged
 
 abbrev pub ring_after_command : Cmd → Value → Ring → Ring

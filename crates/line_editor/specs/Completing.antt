@@ -1,5 +1,5 @@
 -- Completion: the word before the cursor exchanged for what its candidates begin with.
-use Rattle.std.specs.Prelude.{ℕ, Bool, ◌-◌, ◌==◌, ◌&&◌, ◌||◌, not, nat_le, nat_lt, if◌then◌else◌, List, [], ◌∷◌, map, length, Option, Some, None}
+use Rattle.std.specs.Prelude.{⊤, ℕ, Bool, ◌-◌, ◌==◌, ◌&&◌, ◌||◌, not, nat_le, nat_lt, if◌then◌else◌, List, [], ◌∷◌, map, length, Option, Some, None}
 use Rattle.std.specs.Option.{option_map_or}
 use Rattle.line_buffer.specs.Insertions.{is_inside_char}
 use Rattle.line_buffer.specs.Line.{Line, replaced}
@@ -7,9 +7,10 @@ use Rattle.line_buffer.specs.Replay.{replacement}
 use Rattle.line_edits.specs.Written.{Written, edited, in_group}
 use Rattle.line_help.specs.CommonPrefix.{longest_common_prefix}
 use Rattle.line_help.specs.Completion.{Completion, nothing_offered}
-use Rattle.line_keys.specs.Replies.{Reply}
+use Rattle.line_keys.specs.Replies.{Reply, fails}
 use Rattle.line_editor.specs.Drawing.{beeped, refreshed}
-use Rattle.line_editor.specs.Values.{Transition, unchanged, then_do, rewritten, helped, completion_reply, update_reply}
+use Rattle.line_editor.specs.Values.EditStep.{Updates}
+use Rattle.line_editor.specs.Values.{Value, EditStep, Transition, unchanged, then_do, rewritten, helped, completion_reply, update_reply}
 
 -- ---- what is put in place of the word
 
@@ -43,11 +44,15 @@ word_put start text w =
 abbrev pub word_replaced : ℕ → List ℕ → Written → Written
 word_replaced start text = in_group (word_put start text)
 
+abbrev pub updates : Option (Reply ⊤) → Value → List EditStep
+updates None v = []
+updates (Some reply) v = Updates v (fails reply) ∷ []
+
 -- by the helper, undone as one
 abbrev pub word_updated : ℕ → List ℕ → Transition
 word_updated start text s v = record {
   value = rewritten (word_replaced start text) v;
-  redraws = helped (update_reply start text s v);
+  steps = updates (update_reply start text s v) v;
 }
 
 abbrev pub word_completed : ℕ → List ℕ → Transition
@@ -68,7 +73,7 @@ candidates_given (Some reply) = option_map_or (λ found. found) reply.answer not
 
 -- the helper is asked for them
 abbrev pub candidates_asked : Transition
-candidates_asked s v = record { value = v; redraws = helped (completion_reply s v) }
+candidates_asked s v = record { value = v; steps = helped v (completion_reply s v) }
 
 -- without a helper nothing is done
 abbrev pub complete_if : Option (Reply Completion) → Transition

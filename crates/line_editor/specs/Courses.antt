@@ -2,16 +2,16 @@
 use Rattle.std.specs.Prelude.{◌≡◌, ⊤, ℕ, Bool, true, false, List, [], ◌∷◌, Result, Err, IsOk, IsErrAnd}
 use Rattle.line_config.specs.declared.errors.ReadlineError.{ReadlineError}
 use Rattle.line_config.specs.declared.errors.ReadlineError.TheVariants.{Eof, Interrupted, Memory}
-use Rattle.line_editor.specs.Redraws.{Redraw}
 use Rattle.line_editor.specs.Sights.{Sight, no_sight, Turns, FitsAll}
+use Rattle.line_editor.specs.Values.{EditStep}
 
 -- a first drawing, or a phrase and a command that leave the line open, with what is to be seen
 -- after them; a phrase and a command that accept the line; what ends the session, with whether a
 -- line break is written after it
 pub data Turn : Type 0 where
-  Open : (redraws : List Redraw) (value : Sight) → Turn
-  Accept : (redraws : List Redraw) (value : Sight) → Turn
-  Last : (redraws : List Redraw) (breaks : Bool) → Turn
+  Open : (steps : List EditStep) (value : Sight) → Turn
+  Accept : (steps : List EditStep) (value : Sight) → Turn
+  Last : (steps : List EditStep) (breaks : Bool) → Turn
 
 -- the endings after which a line break is written
 abbrev pub breaks_after : ReadlineError → Bool
@@ -19,26 +19,26 @@ breaks_after Eof = true
 breaks_after Interrupted = true
 breaks_after why = false
 
-abbrev pub redraws_in : Turn → List Redraw
-redraws_in (Open redraws value) = redraws
-redraws_in (Accept redraws value) = redraws
-redraws_in (Last redraws breaks) = redraws
+abbrev pub steps_in : Turn → List EditStep
+steps_in (Open steps value) = steps
+steps_in (Accept steps value) = steps
+steps_in (Last steps breaks) = steps
 
--- each turn's redraws lead from what is seen to what is to be seen; a line begins with nothing to
+-- each turn's steps lead from what is seen to what is to be seen; a line begins with nothing to
 -- see
 abbrev pub TurnsLead : List ℕ → Sight → List Turn → Type 0
 TurnsLead own x [] = ⊤
-TurnsLead own x (Open redraws y ∷ rest) =
-    Turns own x redraws y × (y.ended ≡ false) × TurnsLead own y rest
-TurnsLead own x (Accept redraws y ∷ rest) =
-    Turns own x redraws y × (y.ended ≡ true) × TurnsLead own no_sight rest
-TurnsLead own x (Last redraws breaks ∷ rest) = FitsAll own x redraws
+TurnsLead own x (Open steps y ∷ rest) =
+    Turns own x steps y × (y.ended ≡ false) × TurnsLead own y rest
+TurnsLead own x (Accept steps y ∷ rest) =
+    Turns own x steps y × (y.ended ≡ true) × TurnsLead own no_sight rest
+TurnsLead own x (Last steps breaks ∷ rest) = FitsAll own x steps
 
 -- the turn that accepts a line, or in which its session ends, is the line's last; only where the
 -- fuel was too small there is none
 abbrev pub EndsLine : Result (List ℕ) ReadlineError → List Turn → Type 0
 EndsLine outcome [] = outcome ≡ Err Memory
-EndsLine outcome (Open redraws value ∷ rest) = EndsLine outcome rest
-EndsLine outcome (Accept redraws value ∷ rest) = IsOk outcome × (rest ≡ [])
-EndsLine outcome (Last redraws breaks ∷ rest) =
+EndsLine outcome (Open steps value ∷ rest) = EndsLine outcome rest
+EndsLine outcome (Accept steps value ∷ rest) = IsOk outcome × (rest ≡ [])
+EndsLine outcome (Last steps breaks ∷ rest) =
     IsErrAnd outcome (λ e. breaks ≡ breaks_after e) × (rest ≡ [])

@@ -1,13 +1,13 @@
 -- Characters and texts put in, and clusters exchanged for characters.
-use Rattle.std.specs.Prelude.{ℕ, ◌==◌, ◌&&◌, not, Bool, if◌then◌else◌, List, [], ◌∷◌, length, is_some}
+use Rattle.std.specs.Prelude.{ℕ, ◌==◌, ◌&&◌, not, Bool, if◌then◌else◌, List, length, is_some}
 use Rattle.line_buffer.specs.Clusters.{place_forward}
 use Rattle.line_buffer.specs.Insertions.{insert as insertion}
-use Rattle.line_edits.specs.Edits.{char_typed, put_behind, chars_replaced, overwritten}
+use Rattle.line_edits.specs.Edits.{typing, char_typed, putting_behind, replacing_if_any, overwriting}
 use Rattle.line_buffer.specs.Short.{is_printable}
 use Rattle.line_edits.specs.Plain.{is_plain}
-use Rattle.line_editor.specs.Drawing.{drawn, asked_anew, refreshed}
+use Rattle.line_editor.specs.Drawing.{drawn, asked_anew, refreshed, refreshed_if}
 use Rattle.line_editor.specs.Redraws.Redraw.{Typed}
-use Rattle.line_editor.specs.Values.{Value, Transition, unchanged, then_do, rewritten}
+use Rattle.line_editor.specs.Values.{Value, Transition, unchanged, then_do, redrawn, rewritten, rewriting}
 
 -- neither hint nor highlighted character
 abbrev pub is_bare : Value → Bool
@@ -22,13 +22,9 @@ may_be_typed c n at_end plain was_bare bare =
 -- a drawing of a character that was put in so many times, at the end or not, into a plain line or
 -- not, with nothing to show before it or something
 abbrev pub put_shown : ℕ → ℕ → Bool → Bool → Bool → Transition
-put_shown c n at_end plain was_bare s v = record {
-  value = v;
-  redraws =
-      (if may_be_typed c n at_end plain was_bare (is_bare v)
-      then Typed s.prompt c v.line.text v.line.place else drawn s v)
-      ∷ [];
-}
+put_shown c n at_end plain was_bare s v =
+    redrawn (if may_be_typed c n at_end plain was_bare (is_bare v)
+    then Typed s.prompt c v.line.text v.line.place else drawn s v) s v
 
 -- with a new hint
 abbrev pub inserted_shown : ℕ → ℕ → Bool → Bool → Bool → Transition
@@ -43,21 +39,21 @@ show_typed c n before =
 
 abbrev pub insert_char : ℕ → ℕ → Transition
 insert_char c n s v =
-    if is_some (insertion c n v.line).answer then show_typed c n v s (rewritten (char_typed c n) v)
+    if is_some (insertion c n v.line).answer
+    then then_do (rewriting (typing c n)) (show_typed c n v) s v
     else unchanged s (rewritten (char_typed c n) v)
 
 -- a text at the cursor, which stays before it
 abbrev pub insert_text : List ℕ → Transition
 insert_text text s v =
-    if length text == 0 then unchanged s v else refreshed s (rewritten (put_behind text) v)
+    if length text == 0 then unchanged s v
+    else then_do (rewriting (putting_behind text)) refreshed s v
 
--- where a cluster stands after the cursor
+-- drawn where a cluster stands after the cursor
 abbrev pub replace_char : ℕ → ℕ → Transition
 replace_char c n s v =
-    if is_some (place_forward n v.line) then refreshed s (rewritten (chars_replaced c n) v)
-    else unchanged s v
+    then_do (rewriting (replacing_if_any c n)) (refreshed_if (is_some (place_forward n v.line))) s v
 
 abbrev pub overwrite_char : ℕ → Transition
 overwrite_char c s v =
-    if is_some (place_forward 1 v.line) then refreshed s (rewritten (overwritten c) v)
-    else unchanged s v
+    then_do (rewriting (overwriting c)) (refreshed_if (is_some (place_forward 1 v.line))) s v

@@ -1,17 +1,17 @@
 -- What is killed, and what is copied into the ring.
-use Rattle.std.specs.Prelude.{ℕ, ◌-◌, ◌==◌, ◌&&◌, if◌then◌else◌, Bool, List, [], ◌∷◌, length, drop, Option, Some, None, is_some, option_map}
+use Rattle.std.specs.Prelude.{ℕ, ◌-◌, ◌==◌, ◌&&◌, if◌then◌else◌, Bool, List, length, drop, Option, Some, None, is_some, option_map}
 use Rattle.std.specs.List.{list_all}
 use Rattle.line_buffer.specs.Range.{range_of, copied_range, span_text, kill_events}
 use Rattle.line_buffer.specs.declared.types.Mode.TheVariants.{Append}
 use Rattle.line_buffer.specs.declared.types.Movement.{Movement}
 use Rattle.line_record.specs.Ring.{Ring, ring_all, killed}
-use Rattle.line_edits.specs.Edits.{range_killed}
+use Rattle.line_edits.specs.Edits.{killing, range_killed}
 use Rattle.line_buffer.specs.Short.{is_printable}
 use Rattle.line_edits.specs.Plain.{is_plain}
 use Rattle.line_editor.specs.Drawing.{drawn, asked_anew}
 use Rattle.line_editor.specs.Inserting.{is_bare, insert_text}
 use Rattle.line_editor.specs.Redraws.Redraw.{Taken}
-use Rattle.line_editor.specs.Values.{Value, Transition, unchanged, then_do, rewritten}
+use Rattle.line_editor.specs.Values.{Value, Transition, unchanged, then_do, redrawn, rewritten, rewriting}
 
 -- whether an erased rest of the row shows what was killed: printable characters from the end of a
 -- line that is plain now, with nothing to show, before and after it
@@ -23,13 +23,9 @@ may_be_taken printable was_bare v =
 -- a drawing of what so many bytes were taken from, printable ones or not, with nothing to show
 -- before it or something
 abbrev pub taken_shown : ℕ → Bool → Bool → Transition
-taken_shown count printable was_bare s v = record {
-  value = v;
-  redraws =
-      (if may_be_taken printable was_bare v
-      then Taken s.prompt count v.line.text v.line.place else drawn s v)
-      ∷ [];
-}
+taken_shown count printable was_bare s v =
+    redrawn (if may_be_taken printable was_bare v
+    then Taken s.prompt count v.line.text v.line.place else drawn s v) s v
 
 -- with a new hint
 abbrev pub killed_shown : ℕ → Bool → Bool → Transition
@@ -44,7 +40,8 @@ show_taken before s v =
 
 abbrev pub kill : Movement → Transition
 kill movement s v =
-    if is_some (range_of movement v.line) then show_taken v s (rewritten (range_killed movement) v)
+    if is_some (range_of movement v.line)
+    then then_do (rewriting (killing movement)) (show_taken v) s v
     else unchanged s (rewritten (range_killed movement) v)
 
 abbrev pub insert_text_if : Option (List ℕ) → Transition

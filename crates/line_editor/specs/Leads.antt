@@ -1,5 +1,5 @@
 -- What commands want to be seen leads from the sight of the value before to that of the one after.
-use Rattle.std.specs.Prelude.{◌≡◌, ℕ, false, List, [], ◌∷◌, Option, IsUtf8, IsCharBoundary}
+use Rattle.std.specs.Prelude.{◌≡◌, ℕ, false, List, [], ◌∷◌, Option, Ok, IsUtf8, IsCharBoundary}
 use Rattle.line_keys.specs.Refreshing.{Ask}
 use Rattle.line_keys.specs.Refreshing.Ask.{Line, Message, Prompted, DoingInsert, DoneInserting}
 use Rattle.line_keys.specs.declared.command.Cmd.{Cmd}
@@ -14,9 +14,12 @@ use Rattle.line_editor.specs.Accepting.{submitted}
 use Rattle.line_editor.specs.Asks.{ask_effect}
 use Rattle.line_editor.specs.Commands.{Means, effect}
 use Rattle.line_editor.specs.Courses.{TurnsLead, EndsLine}
-use Rattle.line_editor.specs.Lines.{line_of}
-use Rattle.line_editor.specs.Sights.{Sight, no_sight, sight_with, sight_of, ended_sight, info_after, Turns}
-use Rattle.line_editor.specs.Values.{Value, Setting, Effect, shown_hint}
+use Rattle.line_editor.specs.Lines.{Turned, turn_of, line_of}
+use Rattle.line_editor.specs.Sights.{Sight, no_sight, sight_with, sight_of, ended_sight, info_after, FitsAll, Turns}
+use Rattle.line_editor.specs.Redraws.{Redraw}
+use Rattle.line_editor.specs.Values.{Value, Setting, EditStep, Effect, shown_hint}
+use Rattle.line_editor.specs.Values.EditStep.{Draws}
+use Rattle.line_editor.specs.declared.commands.Status.{Status}
 
 -- its text is of whole characters, its place between two of them
 pub record Sound (v : Value) : Type 0 where
@@ -33,15 +36,15 @@ Reaches first (Stepped earlier place newest joinable ∷ held) text = Reaches fi
 abbrev pub Leads : Setting → Value → Effect → Type 0
 Leads s v e =
     (info : Option (List ℕ))
-    → Turns s.prompt (sight_of s v info) e.redraws
-    (sight_of s e.value (info_after e.redraws info))
+    → Turns s.prompt (sight_of s v info) e.steps
+    (sight_of s e.value (info_after e.steps info))
 
 -- the display's cursor is at the drawing's end then
 abbrev pub LeadsToEnd : Setting → Value → Effect → Type 0
 LeadsToEnd s v e =
     (info : Option (List ℕ))
-    → Turns s.prompt (sight_of s v info) e.redraws
-    (ended_sight (sight_of s e.value (info_after e.redraws info)))
+    → Turns s.prompt (sight_of s v info) e.steps
+    (ended_sight (sight_of s e.value (info_after e.steps info)))
 
 abbrev pub CommandLeads : Cmd → Setting → Value → Effect → Type 0
 CommandLeads Interrupt s v e = LeadsToEnd s v e
@@ -56,23 +59,42 @@ abbrev pub SubmittingLeads : Type 0
 SubmittingLeads = (s : Setting) (v : Value) → LeadsToEnd s v (submitted s v)
 
 abbrev pub LeadsFrom : Sight → Setting → Effect → Option (List ℕ) → Type 0
-LeadsFrom x s e info = Turns s.prompt x e.redraws (sight_of s e.value info)
+LeadsFrom x s e info = Turns s.prompt x e.steps (sight_of s e.value info)
 
 abbrev pub LeadsBehind : List ℕ → Sight → Setting → Effect → Option (List ℕ) → Type 0
 LeadsBehind prompt x s e info =
-    Turns s.prompt x e.redraws (sight_with false prompt e.value.line.text e.value.line.place info)
+    Turns s.prompt x e.steps (sight_with false prompt e.value.line.text e.value.line.place info)
+
+-- the drawings among steps
+abbrev pub redraws_of : List EditStep → List Redraw
+redraws_of [] = []
+redraws_of (Draws v x ∷ more) = x ∷ redraws_of more
+redraws_of (step ∷ more) = redraws_of more
 
 -- whatever was seen, also a count's prompt; a mark draws nothing
 abbrev pub AskLeads : Ask → Sight → Setting → Effect → Type 0
 AskLeads Line x s e = LeadsFrom x s e (shown_hint e.value)
 AskLeads (Message text kind) x s e = LeadsFrom x s e text
 AskLeads (Prompted prompt) x s e = LeadsBehind prompt x s e (shown_hint e.value)
-AskLeads DoingInsert x s e = e.redraws ≡ []
-AskLeads DoneInserting x s e = e.redraws ≡ []
+AskLeads DoingInsert x s e = redraws_of e.steps ≡ []
+AskLeads DoneInserting x s e = redraws_of e.steps ≡ []
 
 abbrev pub AsksLead : Type 0
 AsksLead =
     (ask : Ask) (s : Setting) (v : Value) (x : Sight) → AskLeads ask x s (ask_effect ask s v)
+
+-- a turn's steps may be asked for where its value is seen; one that doesn't end the session leads to
+-- its value after it
+pub record TurnLeads (s : Setting) (v : Value) (info : Option (List ℕ)) (t : Turned) : Type 0 where
+  pub fits : FitsAll s.prompt (sight_of s v info) t.made.steps
+  pub leads : (status : Status) → t.outcome ≡ Ok status
+      → LeadsFrom (sight_of s v info) s t.made (info_after t.made.steps info)
+
+abbrev pub EachTurnLeads : Type 0
+EachTurnLeads =
+    (n : ℕ) (s : Setting) (custom : Custom) (indent : ℕ) (input : Input) (r : Ring) (v : Value)
+    (info : Option (List ℕ)) (coming : Coming)
+    → TurnLeads s v info (turn_of n s custom indent input r v coming)
 
 -- whatever comes, a line's turns lead from a display that shows nothing of it, each to what it says
 -- is to be seen; the one that accepts the line leads to the drawing's end

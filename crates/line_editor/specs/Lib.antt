@@ -15,7 +15,7 @@ pub mod Lines
 pub mod Moving
 pub mod Reading
 pub mod Redraws
-pub mod Refusals
+pub mod Steps
 pub mod Remembering
 pub mod Returns
 pub mod Rewording

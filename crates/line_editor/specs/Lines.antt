@@ -21,7 +21,7 @@ use Rattle.line_editor.specs.Commands.{means_of, effect, ring_after_command, out
 use Rattle.line_editor.specs.Courses.{Turn, Open, Accept, Last, breaks_after}
 use Rattle.line_editor.specs.Drawing.{refreshed}
 use Rattle.line_editor.specs.Sights.{sight_of, ended_sight, info_after}
-use Rattle.line_editor.specs.Values.{Value, Setting, Effect, first_value, unchanged, then_do}
+use Rattle.line_editor.specs.Values.{Value, Setting, Effect, Transition, first_value, unchanged, then_do, taking}
 use Rattle.line_editor.specs.declared.commands.Status.{Status}
 use Rattle.line_editor.specs.declared.commands.Status.TheVariants.{Proceed, Submit}
 
@@ -37,7 +37,7 @@ pub record Enacted (X : Type 0) : Type 0 where
 
 abbrev pub behind_ask : {X : Type 0} → Effect → Enacted X → Enacted X
 behind_ask e p = record p {
-  made = record { value = p.made.value; redraws = e.redraws ++ p.made.redraws };
+  made = record { value = p.made.value; steps = e.steps ++ p.made.steps };
 }
 
 -- what an answer leads to, and what a refusal does
@@ -53,7 +53,8 @@ stopped s answer input v c =
 
 abbrev pub enacted : {X : Type 0} → Setting → Steps X → Input → Value → Coming → Enacted X
 enacted s (Ends answer) input v c = stopped s (Ok answer) input v c
-enacted s (Asks Needs later) input v c = enacted s (later tt) input v c
+enacted s (Asks Needs later) input v c =
+    behind_ask (taking s v) (enacted s (later tt) input v c)
 enacted s (Asks (Shows ask) later) input v c =
     behind_ask (ask_effect ask s v)
     (enacted s (later (shown_in (ask_effect ask s v).value)) input (ask_effect ask s v).value c)
@@ -134,9 +135,9 @@ opened_by turn t = record t { turns = turn ∷ t.turns }
 abbrev pub submits : Setting → Option (List ℕ) → Turned → Told
 submits s info t =
     let close = submitted s t.made.value in
-    let redraws = t.made.redraws ++ close.redraws in
+    let steps = t.made.steps ++ close.steps in
     record {
-      turns = Accept redraws (ended_sight (sight_of s close.value (info_after redraws info))) ∷ [];
+      turns = Accept steps (ended_sight (sight_of s close.value (info_after steps info))) ∷ [];
       outcome = Ok close.value.line.text;
       value = close.value;
       ring = t.ring;
@@ -145,7 +146,7 @@ submits s info t =
 
 abbrev pub ends : ReadlineError → Turned → Told
 ends e t = record {
-  turns = Last t.made.redraws (breaks_after e) ∷ [];
+  turns = Last t.made.steps (breaks_after e) ∷ [];
   outcome = Err e;
   value = t.made.value;
   ring = t.ring;
@@ -155,8 +156,8 @@ ends e t = record {
 abbrev pub after_turn : (Input → Ring → Option (List ℕ) → Value → Coming → Told) → Setting
     → Option (List ℕ) → Turned → Result Status ReadlineError → Told
 after_turn next s info t (Ok Proceed) =
-    let stands = info_after t.made.redraws info in
-    opened_by (Open t.made.redraws (sight_of s t.made.value stands))
+    let stands = info_after t.made.steps info in
+    opened_by (Open t.made.steps (sight_of s t.made.value stands))
     (next t.input t.ring stands t.made.value t.rest)
 after_turn next s info t (Ok Submit) = submits s info t
 after_turn next s info t (Err e) = ends e t
@@ -176,9 +177,13 @@ line_from (suc n) s custom indent input r info v c =
     after_turn (line_from n s custom indent) s info t t.outcome
 
 abbrev pub drawn_first : Setting → Effect → Told → Told
-drawn_first s e t = opened_by (Open e.redraws (sight_of s e.value (info_after e.redraws None))) t
+drawn_first s e t = opened_by (Open e.steps (sight_of s e.value (info_after e.steps None))) t
+
+-- drawn when memory has been taken for a line
+abbrev pub line_begun : Transition
+line_begun = then_do taking refreshed
 
 unfoldable pub line_of : ℕ → Setting → Custom → ℕ → Input → Ring → Coming → Told
 line_of n s custom indent input r c =
-    let e = refreshed s (first_value s) in
-    drawn_first s e (line_from n s custom indent input r (info_after e.redraws None) e.value c)
+    let e = line_begun s (first_value s) in
+    drawn_first s e (line_from n s custom indent input r (info_after e.steps None) e.value c)

@@ -15,9 +15,8 @@ use Rattle.line_keys.specs.Feeds.{KeyFeed}
 use Rattle.line_keys.specs.Phrases.{Input}
 use Rattle.line_record.specs.Ring.{Ring}
 use Rattle.line_editor.specs.Acts.{Sees, acts_from}
-use Rattle.line_editor.specs.Courses.{redraws_in}
-use Rattle.line_editor.specs.Drawing.{refreshed}
-use Rattle.line_editor.specs.Lines.{Told, line_from, drawn_first}
+use Rattle.line_editor.specs.Courses.{steps_in}
+use Rattle.line_editor.specs.Lines.{Told, line_from, line_begun, drawn_first}
 use Rattle.line_editor.specs.Sights.{info_after}
 use Rattle.line_editor.specs.States.{value_of, setting_of, Does}
 use Rattle.line_editor.specs.Turning.{Doing, Cut, Cause}
@@ -36,22 +35,22 @@ turns_left custom indent input ring c n info s v = line_from n s custom indent i
 -- a drawing, then the turns
 abbrev pub drawn_and_turned : Custom → ℕ → Input → Ring → Coming → ℕ → ⊤ → Telling
 drawn_and_turned custom indent input ring c n none s v =
-    let e = refreshed s v in
-    drawn_first s e (turns_left custom indent input ring c n (info_after e.redraws None) s e.value)
+    let e = line_begun s v in
+    drawn_first s e (turns_left custom indent input ring c n (info_after e.steps None) s e.value)
 
 abbrev pub turns_doing : Custom → ℕ → Input → Ring → Coming → ℕ → Doing
 turns_doing custom indent input r c n s v = acts_from n s custom indent input r v c
 
 abbrev pub line_doing : Custom → ℕ → Input → Ring → Coming → ℕ → Doing
 line_doing custom indent input r c n s v =
-    let e = refreshed s v in
-    Sees e.redraws ∷ turns_doing custom indent input r c n s e.value
+    let e = line_begun s v in
+    Sees e.steps ∷ turns_doing custom indent input r c n s e.value
 
 -- all of it as one edit
 abbrev pub edit_of : Telling → Transition
 edit_of line s v = record {
   value = (line s v).value;
-  redraws = flat_map redraws_in (line s v).turns;
+  steps = flat_map steps_in (line s v).turns;
 }
 
 -- the text that an accepted line has, or why there is none

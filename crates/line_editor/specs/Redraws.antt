@@ -7,7 +7,7 @@ use Rattle.line_buffer.specs.declared.layout.GraphemeClusterMode.{GraphemeCluste
 use Rattle.line_buffer.specs.declared.layout.Layout.{Layout}
 use Rattle.line_buffer.specs.declared.layout.Position.{Position}
 use Rattle.line_editor.specs.Calls.{Call, Ruler}
-use Rattle.line_editor.specs.Calls.Call.{Draw, Move, Write, Beep, ClearScreen, ClearToEol, Help}
+use Rattle.line_editor.specs.Calls.Call.{Draw, Move, Write, Beep, ClearScreen, ClearToEol}
 
 -- it knows of no columns
 pub data Redraw : Type 0 where
@@ -26,8 +26,6 @@ pub data Redraw : Type 0 where
   ToEnd : Redraw
   Beeped : Redraw
   Cleared : Redraw
-  -- nothing; the helper is asked here, and gives an answer or fails
-  Helped : (fails : Bool) → Redraw
 
 -- calls in order, and the layout after them
 pub record Asked : Type 0 where
@@ -106,23 +104,18 @@ may_type r l = not l.has_info && nat_lt (l.cursor.col + 1) r.columns
 abbrev pub may_take : Layout → ℕ → Bool
 may_take l count = not l.has_info && ((l.cursor.row == l.end.row) && nat_le count l.end.col)
 
-abbrev pub one : Ruler → Layout → Redraw → Asked
-one r l (Drawn prompt given text place info) = full r l prompt given text place info
-one r l (Moved text place) = moved l (r.measure (take place text) l.prompt_size)
-one r l (Typed prompt c text place) =
+abbrev pub asked_by : Ruler → Layout → Redraw → Asked
+asked_by r l (Drawn prompt given text place info) = full r l prompt given text place info
+asked_by r l (Moved text place) = moved l (r.measure (take place text) l.prompt_size)
+asked_by r l (Typed prompt c text place) =
     if may_type r l then typed_short l c else full r l prompt true text place None
-one r l (Taken prompt count text place) =
+asked_by r l (Taken prompt count text place) =
     if may_take l count then taken_short l count else full r l prompt true text place None
-one r l (Bared prompt text place) =
+asked_by r l (Bared prompt text place) =
     if l.default_prompt then nothing_asked l else full r l prompt true text place None
-one r l ToEnd = moved l l.end
-one r l Beeped = record { calls = Beep ∷ []; layout = l }
-one r l Cleared = record { calls = ClearScreen ∷ []; layout = fresh l.grapheme_cluster_mode }
-one r l (Helped fails) = record { calls = Help fails ∷ []; layout = l }
+asked_by r l ToEnd = moved l l.end
+asked_by r l Beeped = record { calls = Beep ∷ []; layout = l }
+asked_by r l Cleared = record { calls = ClearScreen ∷ []; layout = fresh l.grapheme_cluster_mode }
 
 abbrev pub then_asked : Asked → Asked → Asked
 then_asked a b = record { calls = a.calls ++ b.calls; layout = b.layout }
-
-abbrev pub asked : Ruler → Layout → List Redraw → Asked
-asked r l [] = nothing_asked l
-asked r l (x ∷ xs) = then_asked (one r l x) (asked r (one r l x).layout xs)

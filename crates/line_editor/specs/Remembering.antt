@@ -1,18 +1,26 @@
 -- The history: entries in place of the line, and the line that was left for them.
-use Rattle.std.specs.Prelude.{ℕ, ◌+◌, ◌-◌, ◌==◌, Bool, true, false, if◌then◌else◌, List, take, length, Option, Some, None}
-use Rattle.line_edits.specs.Edits.{updated, update_in_group}
+use Rattle.std.specs.Prelude.{ℕ, ◌+◌, ◌-◌, ◌==◌, Bool, true, false, if◌then◌else◌, List, [], ◌∷◌, take, length, Option, Some, None}
+use Rattle.line_edits.specs.Edits.{updating, updated, updating_in_group, update_in_group}
 use Rattle.line_help.specs.Search.{Hit, entry_at, searched}
 use Rattle.line_help.specs.declared.search.SearchDirection.{SearchDirection}
 use Rattle.line_help.specs.declared.search.SearchDirection.TheVariants.{Forward, Reverse}
 use Rattle.line_editor.specs.Drawing.{refreshed, beeped}
-use Rattle.line_editor.specs.Values.{Value, Setting, Transition, unchanged, rewritten}
+use Rattle.line_editor.specs.Values.{Value, Setting, Transition, unchanged, then_do, rewritten, rewriting}
+use Rattle.line_editor.specs.Values.EditStep.{Takes}
 
 -- the line kept for coming back to it
 abbrev pub saved_now : Value → Value
 saved_now v = record v { saved = record { text = v.line.text; place = v.line.place } }
 
+abbrev pub saving : Transition
+saving s v = record { value = saved_now v; steps = Takes v ∷ [] }
+
+-- put back
 abbrev pub restored : Value → Value
 restored v = rewritten (updated v.saved.text v.saved.place) v
+
+abbrev pub restoring : Transition
+restoring s v = rewriting (updating v.saved.text v.saved.place) s v
 
 abbrev pub at_place : ℕ → Value → Value
 at_place place v = record v { history = place }
@@ -24,9 +32,16 @@ recalled entry place v = rewritten (update_in_group entry place) v
 abbrev pub saved_on_leaving : Setting → Value → Value
 saved_on_leaving s v = if v.history == length s.entries then saved_now v else v
 
+abbrev pub saving_on_leaving : Transition
+saving_on_leaving s v = record {
+  value = saved_on_leaving s v;
+  steps = if v.history == length s.entries then Takes v ∷ [] else [];
+}
+
 -- an entry in place of the line, the cursor at a place of it
 abbrev pub entry_shown : ℕ → List ℕ → ℕ → Transition
-entry_shown index entry place s v = refreshed s (recalled entry place (at_place index v))
+entry_shown index entry place s v =
+    then_do (rewriting (updating_in_group entry place)) refreshed s (at_place index v)
 
 -- the cursor at its end
 abbrev pub recall : ℕ → Option Hit → Transition
@@ -34,11 +49,12 @@ recall index None s v = unchanged s v
 recall index (Some hit) s v = entry_shown index hit.entry (length hit.entry) s v
 
 abbrev pub come_back : Transition
-come_back s v = refreshed s (restored (at_place (length s.entries) v))
+come_back s v = then_do restoring refreshed s (at_place (length s.entries) v)
 
 -- an entry before the present one
 abbrev pub recalled_earlier : ℕ → Transition
-recalled_earlier index s v = recall index (entry_at index s.entries) s (saved_on_leaving s v)
+recalled_earlier index s v =
+    then_do saving_on_leaving (recall index (entry_at index s.entries)) s v
 
 abbrev pub previous_entry : Transition
 previous_entry s v =

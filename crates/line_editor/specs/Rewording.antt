@@ -1,42 +1,47 @@
 -- Clusters and words exchanged, words in other letters, rows moved in and out, and changes taken
 -- back.
-use Rattle.std.specs.Prelude.{ℕ, ◌==◌, ◌||◌, not, max, Bool, drop, if◌then◌else◌, is_some}
+use Rattle.std.specs.Prelude.{ℕ, ◌==◌, ◌||◌, not, max, Bool, drop, if◌then◌else◌, [], ◌∷◌, is_some}
 use Rattle.line_buffer.specs.LetterCase.{word_to_edit}
 use Rattle.line_buffer.specs.Transpositions.{transposes_chars, transposes_words}
 use Rattle.line_buffer.specs.declared.types.Movement.{Movement}
 use Rattle.line_buffer.specs.declared.types.WordAction.{WordAction}
 use Rattle.line_record.specs.Held.{has_step}
-use Rattle.line_edits.specs.Edits.{transpose_chars_in_group, transpose_words_in_group, edit_word_in_group, indented, undone}
-use Rattle.line_editor.specs.Drawing.{refreshed}
-use Rattle.line_editor.specs.Values.{Value, Transition, unchanged, rewritten}
-
--- drawn where something changed
-abbrev pub refreshed_if : Bool → Transition
-refreshed_if changes s v = if changes then refreshed s v else unchanged s v
+use Rattle.line_edits.specs.Edits.{transposing_chars_in_group, transposing_words_in_group, transpose_words_in_group, editing_word_in_group, indenting, undone}
+use Rattle.line_editor.specs.Drawing.{refreshed, refreshed_if}
+use Rattle.line_editor.specs.Values.{Value, Transition, then_do, rewritten, rewriting}
+use Rattle.line_editor.specs.Values.EditStep.{TakesBack}
 
 abbrev pub transpose_chars : Transition
 transpose_chars s v =
-    refreshed_if (transposes_chars v.line) s (rewritten transpose_chars_in_group v)
+    then_do (rewriting transposing_chars_in_group) (refreshed_if (transposes_chars v.line)) s v
 
 -- also where only the cursor moved
 abbrev pub transpose_words : ℕ → Transition
 transpose_words n s v =
     let w = rewritten (transpose_words_in_group n) v in
-    refreshed_if (transposes_words n v.line || not (w.line.place == v.line.place)) s w
+    then_do (rewriting (transposing_words_in_group n))
+    (refreshed_if (transposes_words n v.line || not (w.line.place == v.line.place))) s v
 
 abbrev pub edit_word : WordAction → Transition
 edit_word action s v =
-    refreshed_if (is_some (word_to_edit v.line)) s (rewritten (edit_word_in_group action) v)
+    then_do (rewriting (editing_word_in_group action))
+    (refreshed_if (is_some (word_to_edit v.line))) s v
 
 abbrev pub indent : Movement → ℕ → Bool → Transition
-indent movement amount dedent s v = refreshed s (rewritten (indented movement amount dedent) v)
+indent movement amount dedent = then_do (rewriting (indenting movement amount dedent)) refreshed
 
 -- marks taken back, from which the line stays
 abbrev pub unmarked : ℕ → Value → Value
 unmarked n v = record v { held = drop (max n 1) v.held }
 
+abbrev pub unmarking : ℕ → Transition
+unmarking n s v = record { value = unmarked n v; steps = TakesBack v ∷ [] }
+
+abbrev pub taking_back : ℕ → Transition
+taking_back n s v = record { value = rewritten (undone n) v; steps = TakesBack v ∷ [] }
+
 -- where no step is among what is taken back, nothing is drawn
 abbrev pub undo : ℕ → Transition
 undo n s v =
-    if has_step (max n 1) v.held then refreshed s (rewritten (undone n) v)
-    else unchanged s (unmarked n v)
+    if has_step (max n 1) v.held then then_do (taking_back n) refreshed s v
+    else unmarking n s v

@@ -3,6 +3,7 @@ use Rattle.std.specs.Prelude.{◌≡◌, ◌⊎◌, ⊤, ℕ, ◌<◌, ◌≤◌
 use Rattle.std.specs.List.{FoldsTo}
 use Rattle.line_buffer.specs.Cells.{origin}
 use Rattle.line_buffer.specs.Line.{Line}
+use Rattle.line_buffer.specs.declared.layout.Layout.{Layout}
 use Rattle.line_config.specs.declared.config.Config.{Config}
 use Rattle.line_config.specs.declared.errors.ReadlineError.{ReadlineError}
 use Rattle.line_help.specs.Completion.{Completion}
@@ -15,14 +16,15 @@ use Rattle.line_keys.specs.Feeds.{KeyFeed}
 use Rattle.line_keys.specs.InputStates.{new_input}
 use Rattle.line_keys.specs.declared.command.CmdKind.{CmdKind}
 use Rattle.line_record.specs.Ring.{Ring}
-use Rattle.line_editor.specs.Acts.{Act, acts_of, Stage, stage, CutIn}
+use Rattle.line_editor.specs.Acts.{Act, acts_of, stage, CutIn}
 use Rattle.line_editor.specs.Calls.{Call, Canvas, Ruler, MadeIn}
-use Rattle.line_editor.specs.Courses.{Turn, redraws_in}
+use Rattle.line_editor.specs.Courses.{Turn, steps_in}
 use Rattle.line_editor.specs.Lines.{Told, line_of}
-use Rattle.line_editor.specs.Redraws.{asked, fresh}
+use Rattle.line_editor.specs.Redraws.{fresh}
+use Rattle.line_editor.specs.Steps.{asked, surface}
 use Rattle.line_editor.specs.States.{reason_of}
 use Rattle.line_editor.specs.Turning.{cause_of}
-use Rattle.line_editor.specs.Values.{Setting, Hooks, hooks_by, IsFailing}
+use Rattle.line_editor.specs.Values.{Value, Setting, Hooks, hooks_by, IsFailing}
 use Rattle.line_editor.specs.declared.ran.Ran.{Ran}
 
 -- what a helper's hooks give, if there is one
@@ -53,7 +55,7 @@ acts_meant n s custom config ring c =
 
 -- the calls of its turns, on a display where nothing is drawn
 abbrev pub line_calls : Ruler → List Turn → List Call
-line_calls r turns = (asked r (fresh r.mode) (flat_map redraws_in turns)).calls
+line_calls r turns = (asked r (fresh r.mode) (flat_map steps_in turns)).calls
 
 -- the line was read and drawn whole
 pub record WholeLine {R : Type 0} (canvas : Canvas R) (line : Told) (old new : R) (ring : Ring)
@@ -64,12 +66,15 @@ pub record WholeLine {R : Type 0} (canvas : Canvas R) (line : Told) (old new : R
   pub calls : FoldsTo (MadeIn canvas) old (line_calls (canvas.ruler old) line.turns) new
 
 -- a fault came that no input gives: the first of these acts were done, and it cut them
-pub record CutLine {R : Type 0} (canvas : Canvas R) (acts : List Act)
-    (old new : Stage R) (outcome : Result (List ℕ) ReadlineError) : Type 0 where
+pub record CutLine {R : Type 0} (canvas : Canvas R) (acts : List Act) (old new : R)
+    (c c' : Coming) (r r' : Ring) (outcome : Result (List ℕ) ReadlineError) : Type 0 where
   pub fault : ReadlineError
+  pub value : Value
+  pub layout : Layout
   pub outcome_is : outcome ≡ Err fault
-  pub cause : reason_of (canvas.failed new.out) ⊤ fault
-  pub done : let r = canvas.ruler old.out in CutIn canvas r fault acts (fresh r.mode) old new
+  pub cause : reason_of (canvas.failed new) ⊤ fault
+  pub done : let ruler = canvas.ruler old in CutIn canvas ruler fault acts
+      (stage (surface old (fresh ruler.mode)) c r) value (stage (surface new layout) c' r')
 
 -- a helper, if there is one, by what it gives
 abbrev pub helping_by : {H : Type 0} → (H → Answers (Reply (Option Hinted)))
@@ -93,8 +98,8 @@ pub record Runs {R H K T : Type 0} (canvas : Canvas R) (helps : Option H → Hel
       let setting = setting_by (canvas.ruler out) prompt (helps helper) entries in
       WholeLine canvas (line_meant n setting custom config ring feed.coming) out ran.out ring'
       feed'.coming (outcome_of ran)
-      ⊎ CutLine canvas (acts_meant n setting custom config ring feed.coming)
-      (stage out feed.coming ring) (stage ran.out feed'.coming ring') (outcome_of ran)
+      ⊎ CutLine canvas (acts_meant n setting custom config ring feed.coming) out ran.out
+      feed.coming feed'.coming ring ring' (outcome_of ran)
   pub told : IsTrue feed'.told → IsTrue feed.told
   pub keeps : feed'.bound ≤ feed.bound
   pub falls : OnOk ran.outcome (feed'.bound < feed.bound)

@@ -1,11 +1,12 @@
--- What redraws lead to, without a screen.
+-- What steps lead to, without a screen.
 use Rattle.std.specs.Prelude.{◌≡◌, ⊤, ℕ, ◌+◌, Bool, true, false, List, [], ◌∷◌, ◌++◌, length, Option, None}
 use Rattle.std.specs.List.{list_all}
 use Rattle.line_buffer.specs.Short.{is_printable}
 use Rattle.line_edits.specs.Plain.{is_plain}
 use Rattle.line_editor.specs.Redraws.{Redraw}
-use Rattle.line_editor.specs.Redraws.Redraw.{Drawn, Moved, Typed, Taken, Bared, ToEnd, Beeped, Cleared, Helped}
-use Rattle.line_editor.specs.Values.{Value, Setting}
+use Rattle.line_editor.specs.Redraws.Redraw.{Drawn, Moved, Typed, Taken, Bared, ToEnd, Beeped, Cleared}
+use Rattle.line_editor.specs.Values.{Value, Setting, EditStep}
+use Rattle.line_editor.specs.Values.EditStep.{Draws}
 
 -- prompt, line, place and information as they were last asked for; `given`: the prompt is the
 -- session's own; `ended`: the cursor was sent to the drawing's end. An empty text counts as
@@ -34,13 +35,13 @@ sight_as = sight_with true
 abbrev pub no_sight : Sight
 no_sight = sight_with false [] [] 0 None
 
-abbrev pub sight : Sight → Redraw → Sight
-sight x (Drawn prompt given text place info) = sight_with given prompt text place info
-sight x (Moved text place) = sight_with x.given x.prompt x.line place x.info
-sight x (Typed prompt c text place) = sight_as prompt text place None
-sight x (Taken prompt count text place) = sight_as prompt text place None
-sight x (Bared prompt text place) = x
-sight x ToEnd = record {
+abbrev pub sight_drawn : Sight → Redraw → Sight
+sight_drawn x (Drawn prompt given text place info) = sight_with given prompt text place info
+sight_drawn x (Moved text place) = sight_with x.given x.prompt x.line place x.info
+sight_drawn x (Typed prompt c text place) = sight_as prompt text place None
+sight_drawn x (Taken prompt count text place) = sight_as prompt text place None
+sight_drawn x (Bared prompt text place) = x
+sight_drawn x ToEnd = record {
   prompt = x.prompt;
   line = x.line;
   place = x.place;
@@ -48,9 +49,13 @@ sight x ToEnd = record {
   given = x.given;
   ended = true;
 }
-sight x Beeped = x
-sight x Cleared = no_sight
-sight x (Helped fails) = x
+sight_drawn x Beeped = x
+sight_drawn x Cleared = no_sight
+
+-- the other steps show nothing
+abbrev pub sight : Sight → EditStep → Sight
+sight x (Draws v redraw) = sight_drawn x redraw
+sight x step = x
 
 pub record TypedFits (x : Sight) (prompt : List ℕ) (c : ℕ) (text : List ℕ)
     (place : ℕ) : Type 0 where
@@ -72,39 +77,47 @@ pub record TakenFits (x : Sight) (prompt : List ℕ) (count : ℕ) (text : List 
   pub end : place ≡ length text
 
 -- where each redraw may be asked for; `own` is the session's prompt
-abbrev pub Fits : List ℕ → Sight → Redraw → Type 0
-Fits own x (Drawn prompt given text place info) = given ≡ true → prompt ≡ own
-Fits own x (Moved text place) = text ≡ x.line
-Fits own x (Typed prompt c text place) =
+abbrev pub FitsDrawn : List ℕ → Sight → Redraw → Type 0
+FitsDrawn own x (Drawn prompt given text place info) = given ≡ true → prompt ≡ own
+FitsDrawn own x (Moved text place) = text ≡ x.line
+FitsDrawn own x (Typed prompt c text place) =
     (x.given ≡ true) × (prompt ≡ own) × (x.ended ≡ false) × TypedFits x prompt c text place
-Fits own x (Taken prompt count text place) =
+FitsDrawn own x (Taken prompt count text place) =
     (x.given ≡ true) × (prompt ≡ own) × TakenFits x prompt count text place
-Fits own x (Bared prompt text place) = x.given ≡ true
-Fits own x redraw = ⊤
+FitsDrawn own x (Bared prompt text place) = x.given ≡ true
+FitsDrawn own x redraw = ⊤
 
-abbrev pub sight_all : Sight → List Redraw → Sight
+abbrev pub Fits : List ℕ → Sight → EditStep → Type 0
+Fits own x (Draws v redraw) = FitsDrawn own x redraw
+Fits own x step = ⊤
+
+abbrev pub sight_all : Sight → List EditStep → Sight
 sight_all x [] = x
 sight_all x (r ∷ rs) = sight_all (sight x r) rs
 
-abbrev pub FitsAll : List ℕ → Sight → List Redraw → Type 0
+abbrev pub FitsAll : List ℕ → Sight → List EditStep → Type 0
 FitsAll own x [] = ⊤
 FitsAll own x (r ∷ rs) = Fits own x r × FitsAll own (sight x r) rs
 
--- redraws that lead from one to the other
-pub record Turns (own : List ℕ) (x : Sight) (rs : List Redraw) (y : Sight) : Type 0 where
+-- steps that lead from one to the other
+pub record Turns (own : List ℕ) (x : Sight) (rs : List EditStep) (y : Sight) : Type 0 where
   pub fits : FitsAll own x rs
   pub leads : sight_all x rs ≡ y
 
--- ---- the information that stands, as a fold of the redraws
+-- ---- the information that stands, as a fold of the steps
 
-abbrev pub info_one : Option (List ℕ) → Redraw → Option (List ℕ)
-info_one info (Drawn prompt given text place new) = new
-info_one info (Typed prompt c text place) = None
-info_one info (Taken prompt count text place) = None
-info_one info Cleared = None
-info_one info redraw = info
+abbrev pub info_drawn : Option (List ℕ) → Redraw → Option (List ℕ)
+info_drawn info (Drawn prompt given text place new) = new
+info_drawn info (Typed prompt c text place) = None
+info_drawn info (Taken prompt count text place) = None
+info_drawn info Cleared = None
+info_drawn info redraw = info
 
-abbrev pub info_after : List Redraw → Option (List ℕ) → Option (List ℕ)
+abbrev pub info_one : Option (List ℕ) → EditStep → Option (List ℕ)
+info_one info (Draws v redraw) = info_drawn info redraw
+info_one info step = info
+
+abbrev pub info_after : List EditStep → Option (List ℕ) → Option (List ℕ)
 info_after [] info = info
 info_after (r ∷ rs) info = info_after rs (info_one info r)
 

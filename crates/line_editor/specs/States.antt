@@ -16,8 +16,9 @@ use Rattle.line_help.specs.declared.validate.Validator as validators
 use Rattle.line_help.specs.declared.history.History as histories
 use Rattle.line_record.specs.Items.{held_on}
 use Rattle.line_editor.specs.Asks.{shown_in, ask_effect}
-use Rattle.line_editor.specs.Calls.{MadeIn, Begun, IsAsked}
-use Rattle.line_editor.specs.Redraws.{asked, fresh}
+use Rattle.line_editor.specs.Calls.{MadeIn}
+use Rattle.line_editor.specs.Redraws.{fresh}
+use Rattle.line_editor.specs.Steps.{asked, Surface, surface, Stops}
 use Rattle.line_editor.specs.Values.{Value, Setting, Hooks, empty_at, hooks_by, Transition, IsFailing}
 use Rattle.line_editor.specs.declared.renderer.Renderer as renderers
 use Rattle.line_editor.specs.declared.state.State.{State}
@@ -100,8 +101,13 @@ module _ {Out H Hi K T : Type 0} {renderer : renderers.Ghosts Out}
       reason_of (renderer.canvas.failed s.out)
       (IsFailing (setting_of s).hooks) e
 
-  -- an edit was made, with its calls in order; or it was refused for a reason, and the calls made
-  -- are the first of them
+  abbrev pub surface_of :
+      State Out H Hi K T renderer completer candidate hinter hint highlighter validator history
+      → Surface Out
+  surface_of s = surface s.out s.layout
+
+  -- an edit was made, with its calls in order; or it was refused for a reason, and its first steps
+  -- were made
   pub record Does {A : Type 0} (edit : Transition)
       (s t : State Out H Hi K T renderer completer candidate hinter hint highlighter validator
       history) (result : Result A ReadlineError) : Type 0 where
@@ -109,24 +115,15 @@ module _ {Out H Hi K T : Type 0} {renderer : renderers.Ghosts Out}
     pub calls : OnOk result
         (FoldsTo (MadeIn renderer.canvas) s.out
         (asked (renderer.canvas.ruler s.out) s.layout
-        (edit (setting_of s) (value_of s)).redraws).calls t.out)
+        (edit (setting_of s) (value_of s)).steps).calls t.out)
     pub layout : OnOk result
         (t.layout
         ≡ (asked (renderer.canvas.ruler s.out) s.layout
-        (edit (setting_of s) (value_of s)).redraws).layout)
+        (edit (setting_of s) (value_of s)).steps).layout)
     pub stays : Stays s t
     pub reason : IfErr result (Reason t)
-    pub begun : IfErr result (λ fault. Begun renderer.canvas fault
-        (asked (renderer.canvas.ruler s.out) s.layout
-        (edit (setting_of s) (value_of s)).redraws).calls s.out t.out)
-
-  -- something is asked for in an edit
-  abbrev pub Shows : Transition
-      → State Out H Hi K T renderer completer candidate hinter hint highlighter validator history
-      → Type 0
-  Shows edit s =
-      IsAsked (asked (renderer.canvas.ruler s.out) s.layout
-      (edit (setting_of s) (value_of s)).redraws).calls
+    pub stops : IfErr result (λ fault. Stops renderer.canvas (renderer.canvas.ruler s.out)
+        (edit (setting_of s) (value_of s)).steps (surface_of s) fault (value_of t) (surface_of t))
 
   -- as a display of the key tables: an ask is an edit; one that is refused is one that was begun
   abbrev pub display_of : KnownDisplay

@@ -20,7 +20,7 @@ use Rattle.line_record.specs.Ring.{Ring}
 use Rattle.line_editor.specs.Acts.{Act, turn_acts, stage, CutIn}
 use Rattle.line_editor.specs.Commands.{Means, effect, ring_after_command, LeavesRing, outcome}
 use Rattle.line_editor.specs.Lines.{Turned, turn_of}
-use Rattle.line_editor.specs.States.{value_of, setting_of, Stays, Reason, Does}
+use Rattle.line_editor.specs.States.{value_of, setting_of, surface_of, Stays, Reason, Does}
 use Rattle.line_editor.specs.Values.{Value, Setting, IsFailing}
 use Rattle.line_editor.specs.declared.commands.Status.{Status}
 use Rattle.line_editor.specs.declared.renderer.Renderer as renderers
@@ -94,7 +94,8 @@ module _ {Out H Hi K T : Type 0} {renderer : renderers.Ghosts Out}
     pub cause : Reason t fault
     pub stays : Stays s t
     pub done : CutIn renderer.canvas (renderer.canvas.ruler s.out) fault
-        (acts (setting_of s) (value_of s)) s.layout (stage s.out c r) (stage t.out c' r')
+        (acts (setting_of s) (value_of s)) (stage (surface_of s) c r) (value_of t)
+        (stage (surface_of t) c' r')
 
   abbrev pub Cause : Custom
       → State Out H Hi K T renderer completer candidate hinter hint highlighter validator history

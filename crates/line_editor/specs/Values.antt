@@ -2,7 +2,9 @@
 use Rattle.std.specs.Prelude.{◌⊎◌, ⊤, ℕ, Bool, true, false, List, [], ◌∷◌, ◌++◌, Option, Some, None, length, ◌==◌, if◌then◌else◌, option_map, IsTrue, IsSomeAnd}
 use Rattle.line_buffer.specs.Line.{Line}
 use Rattle.line_buffer.specs.declared.layout.GraphemeClusterMode.{GraphemeClusterMode}
-use Rattle.line_edits.specs.Written.{Written}
+use Rattle.line_edits.specs.Edits.{by}
+use Rattle.line_edits.specs.Steps.{Steps, answering}
+use Rattle.line_edits.specs.Written.{Written, group_opened, group_closed}
 use Rattle.line_help.specs.Completion.{Completion}
 use Rattle.line_help.specs.Hints.{Hinted, Answers}
 use Rattle.line_keys.specs.Replies.{Reply, fails}
@@ -10,7 +12,6 @@ use Rattle.line_help.specs.declared.validate.ValidationResult.{ValidationResult}
 use Rattle.line_keys.specs.declared.command.CmdKind.{CmdKind}
 use Rattle.line_record.specs.Held.{Held}
 use Rattle.line_editor.specs.Redraws.{Redraw}
-use Rattle.line_editor.specs.Redraws.Redraw.{Helped}
 
 -- the line that was left for the history
 pub record Saved : Type 0 where
@@ -71,9 +72,24 @@ pub record Setting : Type 0 where
 abbrev pub first_value : Setting → Value
 first_value s = empty_at (length s.entries)
 
+-- what an edit does, in order; each step names the value that stands until it is made
+pub data EditStep : Type 0 where
+  -- this is drawn
+  Draws : (value : Value) (redraw : Redraw) → EditStep
+  -- the helper is asked, and gives an answer or fails
+  Helped : (value : Value) (fails : Bool) → EditStep
+  -- the helper is asked for an edit of line and record, and makes it or fails
+  Updates : (value : Value) (fails : Bool) → EditStep
+  -- this edit of line and record is made, which takes memory
+  Edits : (value : Value) (edit : Steps ⊤) → EditStep
+  -- changes are taken back from line and record
+  TakesBack : (value : Value) → EditStep
+  -- memory is taken for something else
+  Takes : (value : Value) → EditStep
+
 pub record Effect : Type 0 where
   pub value : Value
-  pub redraws : List Redraw
+  pub steps : List EditStep
 
 abbrev pub Transition : Type 0
 Transition = Setting → Value → Effect
@@ -81,20 +97,21 @@ Transition = Setting → Value → Effect
 -- ---- one edit, then another
 
 abbrev pub unchanged : Transition
-unchanged s v = record { value = v; redraws = [] }
-
-abbrev pub quietly : (Value → Value) → Transition
-quietly change s v = record { value = change v; redraws = [] }
+unchanged s v = record { value = v; steps = [] }
 
 abbrev pub then_do : Transition → Transition → Transition
 then_do first second s v =
     record {
       value = (second s (first s v).value).value;
-      redraws = (first s v).redraws ++ (second s (first s v).value).redraws;
+      steps = (first s v).steps ++ (second s (first s v).value).steps;
     }
 
 abbrev pub redrawn : Redraw → Transition
-redrawn x s v = record { value = v; redraws = x ∷ [] }
+redrawn x s v = record { value = v; steps = Draws v x ∷ [] }
+
+-- memory is taken for what isn't kept in the value
+abbrev pub taking : Transition
+taking s v = record { value = v; steps = Takes v ∷ [] }
 
 -- ---- the line with its record
 
@@ -103,6 +120,20 @@ written_of v = record { line = v.line; held = v.held }
 
 abbrev pub rewritten : (Written → Written) → Value → Value
 rewritten edit v = record v { line = (edit (written_of v)).line; held = (edit (written_of v)).held }
+
+-- the steps of an edit; nothing is drawn
+abbrev pub rewriting : {A : Type 0} → (Line → Steps A) → Transition
+rewriting edit s v = record {
+  value = rewritten (by edit) v;
+  steps = Edits v (answering tt (edit v.line)) ∷ [];
+}
+
+-- a group opened, for which memory is taken, and all groups closed, which nothing refuses
+abbrev pub open_group : Transition
+open_group s v = record { value = rewritten group_opened v; steps = Takes v ∷ [] }
+
+abbrev pub close_groups : Transition
+close_groups s v = record { value = rewritten group_closed v; steps = [] }
 
 abbrev pub at_line : Line → Value → Value
 at_line line v = record v { line = line }
@@ -124,9 +155,9 @@ abbrev pub update_reply : ℕ → List ℕ → Setting → Value → Option (Rep
 update_reply start text s v = option_map (λ h. h.updates v.line start text) s.hooks
 
 -- a hook is asked, if there is a helper
-abbrev pub helped : {A : Type 0} → Option (Reply A) → List Redraw
-helped None = []
-helped (Some reply) = Helped (fails reply) ∷ []
+abbrev pub helped : {A : Type 0} → Value → Option (Reply A) → List EditStep
+helped v None = []
+helped v (Some reply) = Helped v (fails reply) ∷ []
 
 -- a hook fails at something
 pub record IsFailing (hooks : Option Hooks) : Type 0 where

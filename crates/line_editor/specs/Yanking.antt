@@ -1,13 +1,15 @@
 -- Texts yanked from the ring, and exchanged.
-use Rattle.std.specs.Prelude.{ℕ, ◌||◌, Bool, true, false, if◌then◌else◌, List, Option, Some, None, is_some}
+use Rattle.std.specs.Prelude.{ℕ, ◌||◌, Bool, true, false, if◌then◌else◌, List, [], ◌∷◌, Option, Some, None, is_some}
 use Rattle.line_buffer.specs.Clusters.{place_forward, place_backward}
 use Rattle.line_buffer.specs.Insertions.{yank as yanked_in, can_take_before}
 use Rattle.line_buffer.specs.Line.{Line, moved_to}
 use Rattle.line_buffer.specs.declared.types.Anchor.{Anchor}
 use Rattle.line_buffer.specs.declared.types.Anchor.TheVariants.{After, Before}
-use Rattle.line_edits.specs.Edits.{text_yanked, pop_in_group}
+use Rattle.line_edits.specs.Edits.{yanking, text_yanked, popping_in_group}
+use Rattle.line_edits.specs.Steps.{answering}
 use Rattle.line_editor.specs.Drawing.{refreshed}
-use Rattle.line_editor.specs.Values.{Value, Transition, unchanged, rewritten, at_line}
+use Rattle.line_editor.specs.Values.{Value, Transition, unchanged, then_do, rewritten, rewriting, at_line}
+use Rattle.line_editor.specs.Values.EditStep.{Edits}
 
 -- after the cluster at the cursor
 abbrev pub anchored : Anchor → Line → Line
@@ -28,16 +30,24 @@ yanked_by vi text n v =
     let w = rewritten (text_yanked text n) v in
     if is_some (yanked_in text n v.line).answer then at_line (behind_yank vi w.line) w else w
 
+abbrev pub put : Bool → List ℕ → ℕ → Transition
+put vi text n s v = record {
+  value = yanked_by vi text n v;
+  steps = Edits v (answering tt (yanking text n v.line)) ∷ [];
+}
+
 abbrev pub yank_text : Bool → List ℕ → Anchor → ℕ → Transition
 yank_text vi text anchor n s v =
     let before = at_line (anchored anchor v.line) v in
     if is_some (yanked_in text n before.line).answer || steps anchor v.line
-    then refreshed s (yanked_by vi text n before) else unchanged s (yanked_by vi text n before)
+    then then_do (put vi text n) refreshed s before
+    else unchanged s (yanked_by vi text n before)
 
 -- where so many bytes stand before the cursor, from between two characters on
 abbrev pub pop_text : ℕ → List ℕ → Transition
 pop_text size text s v =
-    if can_take_before size v.line then refreshed s (rewritten (pop_in_group size text) v)
+    if can_take_before size v.line
+    then then_do (rewriting (popping_in_group size text)) refreshed s v
     else unchanged s v
 
 -- ---- what the ring lends

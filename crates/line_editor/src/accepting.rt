@@ -1,5 +1,5 @@
 //! Lines that are to be accepted.
-ghost use Rattle.std.specs.Prelude.{◌≡◌, IfErr, IfOk, OnErr, OnOk, option_copied};
+ghost use Rattle.std.specs.Prelude.{◌≡◌, IfErr, IfOk, OnOk, option_copied};
 ghost use Rattle.line_config.specs.declared.errors.ReadlineError.TheVariants.{Display};
 
 use crate::renderer::Renderer;
@@ -8,10 +8,9 @@ use line_config::{HookFault, ReadlineError};
 use line_help::{Helper, History, ValidationContext, ValidationResult, Validator};
 use line_keys::{CmdKind, Text};
 
-#[tactic(auto, using(crate::proofs::BegunLemmas::begun_none, crate::proofs::BegunLemmas::begun_refused))]
+#[tactic(auto, using(crate::proofs::StopsLemmas::stops_taking))]
 impl<'p, 'h, Out: Renderer, H: Helper + Drop, Hi: History> State<'p, 'h, Out, H, Hi> {
-    ghost use Rattle.line_editor.specs.States.{value_of, setting_of, Does, Shows, Helps, Stays};
-    ghost use Rattle.line_editor.specs.Refusals.{LeavesMade, LeavesUnjudged, LeavesUntold};
+    ghost use Rattle.line_editor.specs.States.{value_of, setting_of, Does, Helps, Stays};
     ghost use Rattle.line_editor.specs.Values.{verdict_reply};
     ghost use Rattle.line_editor.specs.Accepting.{bare, verdict, told_if, verdict_told, closed_and_told, opened_and_asked, validate, accepts_found, newline, accept, accepts, newline_if, accept_or_insert, submitted};
 
@@ -19,7 +18,6 @@ impl<'p, 'h, Out: Renderer, H: Helper + Drop, Hi: History> State<'p, 'h, Out, H,
     /// the prompt isn't the session's own.
     pub(crate) fn bare_line(&mut self) -> Result<(), ReadlineError>
         ensures does { Does bare self.old self.new result }
-        ensures left { OnErr result (LeavesMade bare self.old self.new) }
     {
         let stood = self.hint.is_some() || self.highlight_char;
         self.hint = None;
@@ -51,7 +49,6 @@ impl<'p, 'h, Out: Renderer, H: Helper + Drop, Hi: History> State<'p, 'h, Out, H,
     /// or there is a message.
     fn tell_verdict(&mut self, found: &ValidationResult, draws: bool) -> Result<(), ReadlineError>
         ensures does { Does (verdict_told found.now draws) self.old self.new result }
-        ensures left { OnErr result (LeavesMade (verdict_told found.now draws) self.old self.new) }
         ensures fault { IfErr result (λ e. e ≡ Display) }
     {
         match found {
@@ -69,7 +66,6 @@ impl<'p, 'h, Out: Renderer, H: Helper + Drop, Hi: History> State<'p, 'h, Out, H,
         kind: CmdKind,
     ) -> Result<(), ReadlineError>
         ensures does { Does (told_if draws text.now kind) self.old self.new result }
-        ensures left { OnErr result (LeavesMade (told_if draws text.now kind) self.old self.new) }
         ensures fault { IfErr result (λ e. e ≡ Display) }
     {
         if draws || text.is_some() {
@@ -82,7 +78,6 @@ impl<'p, 'h, Out: Renderer, H: Helper + Drop, Hi: History> State<'p, 'h, Out, H,
     /// Closes the groups, and tells what was found.
     fn close_and_tell(&mut self, found: &ValidationResult) -> Result<(), ReadlineError>
         ensures does { Does (closed_and_told found.now) self.old self.new result }
-        ensures left { OnErr result (LeavesMade (closed_and_told found.now) self.old self.new) }
         ensures fault { IfErr result (λ e. e ≡ Display) }
     {
         let ended = self.changes.end(self.alloc)?;
@@ -93,7 +88,6 @@ impl<'p, 'h, Out: Renderer, H: Helper + Drop, Hi: History> State<'p, 'h, Out, H,
     /// Opens a group, and asks the helper whether the line is whole.
     fn open_and_ask(&mut self) -> Result<ValidationResult, ReadlineError>
         ensures does { Does opened_and_asked self.old self.new result }
-        ensures left { IfErr result (λ e. LeavesUnjudged e self.old self.new) }
         ensures verdict { IfOk result
             (λ found. found ≡ verdict (setting_of self.old) (value_of self.old)) }
     {
@@ -107,8 +101,6 @@ impl<'p, 'h, Out: Renderer, H: Helper + Drop, Hi: History> State<'p, 'h, Out, H,
     /// the group that was opened for it stays open.
     pub fn validate(&mut self) -> Result<ValidationResult, ReadlineError>
         ensures does { Does validate self.old self.new result }
-        ensures left { IfErr result (λ e. LeavesUntold e self.old self.new) }
-        ensures shows { OnErr result (Shows validate self.old) }
         ensures verdict { IfOk result
             (λ found. found ≡ verdict (setting_of self.old) (value_of self.old)) }
     {
@@ -146,7 +138,6 @@ impl<'p, 'h, Out: Renderer, H: Helper + Drop, Hi: History> State<'p, 'h, Out, H,
         found: &ValidationResult,
     ) -> Result<(), ReadlineError>
         ensures does { Does (newline_if accepted found.now) self.old self.new result }
-        ensures shows { OnErr result (Shows (newline_if accepted found.now) self.old) }
     {
         if !accepted && (found.is_valid() || !found.has_message()) {
             self.edit_insert('\n', 1)

@@ -20,7 +20,7 @@ pub enum Status {
     Submit,
 }
 
-#[tactic(auto, using(crate::proofs::BegunLemmas::begun_none))]
+#[tactic(auto, using(crate::proofs::StopsLemmas::stops_taking))]
 impl<'p, 'h, Out: Renderer, H: Helper + Drop, Hi: History> State<'p, 'h, Out, H, Hi> {
     ghost use Rattle.line_buffer.specs.Columns.{line_up, line_down};
     ghost use Rattle.line_editor.specs.States.{value_of, setting_of, Does};

@@ -1,5 +1,5 @@
 //! What a state draws.
-ghost use Rattle.std.specs.Prelude.{◌≡◌, ◌+◌, ◌<◌, ◌≤◌, Some, None, if◌then◌else◌, IfErr, IfOk, IsTrue, OnErr, option_map, option_copied};
+ghost use Rattle.std.specs.Prelude.{◌≡◌, ◌+◌, ◌<◌, ◌≤◌, Some, None, if◌then◌else◌, IfErr, IfOk, IsTrue, option_map, option_copied};
 ghost use Rattle.line_buffer.specs.Cells.{origin};
 ghost use Rattle.line_config.specs.declared.errors.ReadlineError.TheVariants.{Display};
 ghost use Rattle.line_editor.specs.Calls.{Makes};
@@ -97,13 +97,12 @@ fn draw_over<Out: Renderer, H: Highlighter>(
     Ok(layout)
 }
 
-#[tactic(auto, using(crate::proofs::BegunLemmas::begun_none, crate::proofs::BegunLemmas::begun_refused, crate::proofs::BegunLemmas::broken_refused, crate::proofs::BegunLemmas::begun_made, crate::proofs::LeavesLemmas::undrawn_shown, crate::proofs::LeavesLemmas::undrawn_unhelped))]
+#[tactic(auto, using(crate::proofs::StopsLemmas::stops_drawing, crate::proofs::StopsLemmas::broken_refused, crate::proofs::StopsLemmas::broken_both))]
 impl<'p, 'h, Out: Renderer, H: Helper + Drop, Hi: History> State<'p, 'h, Out, H, Hi> {
     ghost use Rattle.line_editor.specs.States.{value_of, setting_of, Stays, Does, Helps};
     ghost use Rattle.line_editor.specs.Values.{hint_reply, with_hint, with_mark};
     ghost use Rattle.line_editor.specs.Drawing.{drawn_behind, drawn_with, repainted, refreshed, refreshed_behind, told, cursor_shown, cursor_moved, moved_to_end, beeped, cleared, cleared_and_drawn};
     ghost use Rattle.line_editor.specs.Drawing.{hint_asked, asked_anew};
-    ghost use Rattle.line_editor.specs.Refusals.{Leaves, LeavesMade, LeavesUndrawn};
     ghost use Rattle.line_editor.specs.Values.{redrawn};
     ghost use Rattle.line_editor.specs.Redraws.Redraw.{Typed, Taken, Bared};
     ghost use Rattle.line_editor.specs.Calls.Call.{ToLeftmost};
@@ -135,7 +134,6 @@ impl<'p, 'h, Out: Renderer, H: Helper + Drop, Hi: History> State<'p, 'h, Out, H,
     /// Asks the helper for the hint. Nothing is drawn.
     pub fn hint(&mut self) -> Result<(), ReadlineError>
         ensures does { Does hint_asked self.old self.new result }
-        ensures left { OnErr result (Leaves (value_of self.old) self.old self.new) }
         ensures helps { Helps (hint_reply (setting_of self.old) (value_of self.old)) result }
     {
         self.hint = self.found_hint()?;
@@ -158,7 +156,6 @@ impl<'p, 'h, Out: Renderer, H: Helper + Drop, Hi: History> State<'p, 'h, Out, H,
     /// Draws the line after a prompt, with the hint that is kept.
     pub(crate) fn draw(&mut self, prompt: &str, given: bool) -> Result<(), ReadlineError>
         ensures does { Does (drawn_behind prompt.now given) self.old self.new result }
-        ensures left { OnErr result (Leaves (value_of self.old) self.old self.new) }
         ensures fault { IfErr result (λ e. e ≡ Display) }
     {
         let pos = self.line.pos();
@@ -180,7 +177,6 @@ impl<'p, 'h, Out: Renderer, H: Helper + Drop, Hi: History> State<'p, 'h, Out, H,
     /// Draws the line with other information in place of the hint.
     pub(crate) fn draw_with(&mut self, info: Option<&str>) -> Result<(), ReadlineError>
         ensures does { Does (drawn_with (option_copied info.entry)) self.old self.new result }
-        ensures left { OnErr result (Leaves (value_of self.old) self.old self.new) }
         ensures fault { IfErr result (λ e. e ≡ Display) }
     {
         let pos = self.line.pos();
@@ -201,7 +197,6 @@ impl<'p, 'h, Out: Renderer, H: Helper + Drop, Hi: History> State<'p, 'h, Out, H,
     /// Draws the line with the hint that is kept. All is drawn anew, whatever the kind.
     pub fn repaint(&mut self, _kind: RefreshKind) -> Result<(), ReadlineError>
         ensures does { Does repainted self.old self.new result }
-        ensures left { OnErr result (Leaves (value_of self.old) self.old self.new) }
         ensures fault { IfErr result (λ e. e ≡ Display) }
     {
         let prompt = self.prompt;
@@ -211,8 +206,6 @@ impl<'p, 'h, Out: Renderer, H: Helper + Drop, Hi: History> State<'p, 'h, Out, H,
     /// Asks the helper for the hint, and whether a character is highlighted.
     pub(crate) fn ask_anew(&mut self) -> Result<(), ReadlineError>
         ensures does { Does asked_anew self.old self.new result }
-        ensures left { OnErr result (Leaves (value_of self.old) self.old self.new) }
-        ensures helps { Helps (hint_reply (setting_of self.old) (value_of self.old)) result }
     {
         self.hint()?;
         self.mark(CmdKind::Other);
@@ -222,7 +215,6 @@ impl<'p, 'h, Out: Renderer, H: Helper + Drop, Hi: History> State<'p, 'h, Out, H,
     /// Draws the line with a new hint.
     pub(crate) fn refresh(&mut self) -> Result<(), ReadlineError>
         ensures does { Does refreshed self.old self.new result }
-        ensures left { IfErr result (λ e. LeavesUndrawn (value_of self.old) e self.old self.new) }
     {
         self.ask_anew()?;
         let prompt = self.prompt;
@@ -232,7 +224,6 @@ impl<'p, 'h, Out: Renderer, H: Helper + Drop, Hi: History> State<'p, 'h, Out, H,
     /// Draws the line with a new hint after another prompt.
     pub(crate) fn refresh_behind(&mut self, prompt: &str) -> Result<(), ReadlineError>
         ensures does { Does (refreshed_behind prompt.now) self.old self.new result }
-        ensures left { IfErr result (λ e. LeavesUndrawn (value_of self.old) e self.old self.new) }
     {
         self.ask_anew()?;
         self.draw(prompt, false)
@@ -241,8 +232,6 @@ impl<'p, 'h, Out: Renderer, H: Helper + Drop, Hi: History> State<'p, 'h, Out, H,
     /// Draws the line with a message, if there is one, in place of the hint.
     pub(crate) fn tell(&mut self, message: Option<&str>, kind: CmdKind) -> Result<(), ReadlineError>
         ensures does { Does (told (option_copied message.entry) kind) self.old self.new result }
-        ensures left { OnErr result (
-            LeavesMade (told (option_copied message.entry) kind) self.old self.new) }
         ensures fault { IfErr result (λ e. e ≡ Display) }
     {
         self.hint = None;
@@ -253,7 +242,6 @@ impl<'p, 'h, Out: Renderer, H: Helper + Drop, Hi: History> State<'p, 'h, Out, H,
     /// Moves the display's cursor to the text's.
     pub(crate) fn show_cursor(&mut self) -> Result<(), ReadlineError>
         ensures does { Does cursor_shown self.old self.new result }
-        ensures left { OnErr result (Leaves (value_of self.old) self.old self.new) }
         ensures fault { IfErr result (λ e. e ≡ Display) }
     {
         let pos = self.line.pos();
@@ -271,7 +259,6 @@ impl<'p, 'h, Out: Renderer, H: Helper + Drop, Hi: History> State<'p, 'h, Out, H,
     /// now, the line is drawn in its place, without hint and message.
     pub fn move_cursor(&mut self, kind: CmdKind) -> Result<(), ReadlineError>
         ensures does { Does (cursor_moved kind) self.old self.new result }
-        ensures left { OnErr result (LeavesMade (cursor_moved kind) self.old self.new) }
         ensures fault { IfErr result (λ e. e ≡ Display) }
     {
         let was_marked = self.highlight_char;
@@ -286,7 +273,6 @@ impl<'p, 'h, Out: Renderer, H: Helper + Drop, Hi: History> State<'p, 'h, Out, H,
     /// Moves the display's cursor to the drawing's end.
     pub fn move_cursor_to_end(&mut self) -> Result<(), ReadlineError>
         ensures does { Does moved_to_end self.old self.new result }
-        ensures left { OnErr result (Leaves (value_of self.old) self.old self.new) }
         ensures fault { IfErr result (λ e. e ≡ Display) }
     {
         if self.layout.cursor == self.layout.end {
@@ -309,7 +295,6 @@ impl<'p, 'h, Out: Renderer, H: Helper + Drop, Hi: History> State<'p, 'h, Out, H,
 
     pub(crate) fn beep(&mut self) -> Result<(), ReadlineError>
         ensures does { Does beeped self.old self.new result }
-        ensures left { OnErr result (Leaves (value_of self.old) self.old self.new) }
         ensures fault { IfErr result (λ e. e ≡ Display) }
     {
         self.out.beep()?;
@@ -319,7 +304,6 @@ impl<'p, 'h, Out: Renderer, H: Helper + Drop, Hi: History> State<'p, 'h, Out, H,
     /// Erases the display. What is kept of the drawing is as before the first one.
     pub fn clear_screen(&mut self) -> Result<(), ReadlineError>
         ensures does { Does cleared self.old self.new result }
-        ensures left { OnErr result (Leaves (value_of self.old) self.old self.new) }
         ensures fault { IfErr result (λ e. e ≡ Display) }
     {
         self.known = None;
@@ -341,7 +325,6 @@ impl<'p, 'h, Out: Renderer, H: Helper + Drop, Hi: History> State<'p, 'h, Out, H,
     pub(crate) fn show_short_typed(&mut self, ch: char) -> Result<(), ReadlineError>
         ensures does { Does (λ s v. redrawn (Typed s.prompt ch v.line.text v.line.place) s v)
             self.old self.new result }
-        ensures left { OnErr result (Leaves (value_of self.old) self.old self.new) }
         ensures fault { IfErr result (λ e. e ≡ Display) }
     {
         if may_type(&self.out, &self.layout) {
@@ -359,7 +342,6 @@ impl<'p, 'h, Out: Renderer, H: Helper + Drop, Hi: History> State<'p, 'h, Out, H,
     pub(crate) fn show_short_taken(&mut self, count: usize) -> Result<(), ReadlineError>
         ensures does { Does (λ s v. redrawn (Taken s.prompt count v.line.text v.line.place) s v)
             self.old self.new result }
-        ensures left { OnErr result (Leaves (value_of self.old) self.old self.new) }
         ensures fault { IfErr result (λ e. e ≡ Display) }
     {
         if may_take(&self.layout, count) {
@@ -367,8 +349,7 @@ impl<'p, 'h, Out: Renderer, H: Helper + Drop, Hi: History> State<'p, 'h, Out, H,
                 col: self.layout.end.col - count as u16,
                 row: self.layout.end.row,
             };
-            self.out.move_cursor(self.layout.cursor, end)?;
-            self.out.clear_to_eol()?;
+            self.out.move_and_clear_to_eol(self.layout.cursor, end)?;
             self.layout.cursor = end;
             self.layout.end = end;
             return Ok(());
@@ -380,7 +361,6 @@ impl<'p, 'h, Out: Renderer, H: Helper + Drop, Hi: History> State<'p, 'h, Out, H,
     pub(crate) fn show_bare(&mut self) -> Result<(), ReadlineError>
         ensures does { Does (λ s v. redrawn (Bared s.prompt v.line.text v.line.place) s v)
             self.old self.new result }
-        ensures left { OnErr result (Leaves (value_of self.old) self.old self.new) }
         ensures fault { IfErr result (λ e. e ≡ Display) }
     {
         if self.layout.default_prompt {

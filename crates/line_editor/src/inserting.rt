@@ -1,6 +1,5 @@
 //! Characters and texts put in.
-ghost use Rattle.std.specs.Prelude.{◌≡◌, IfErr, OnErr};
-ghost use Rattle.line_edits.specs.Edits.{char_typed, put_behind, chars_replaced, overwritten};
+ghost use Rattle.std.specs.Prelude.{◌≡◌};
 ghost use Rattle.line_editor.specs.Inserting.{may_be_typed};
 
 use crate::measured::known_within;
@@ -26,10 +25,9 @@ fn may_be_typed(
     n == 1 && (at_end && (plain && (is_printable(ch) && (was_bare && bare))))
 }
 
-#[tactic(auto, using(crate::proofs::BegunLemmas::begun_none, crate::proofs::BegunLemmas::begun_refused, crate::proofs::ShowsLemmas::insert_shows, crate::proofs::ShowsLemmas::insert_text_shows))]
+#[tactic(auto, using(crate::proofs::StopsLemmas::stops_editing, crate::proofs::StopsLemmas::stops_edited))]
 impl<'p, 'h, Out: Renderer, H: Helper + Drop, Hi: History> State<'p, 'h, Out, H, Hi> {
-    ghost use Rattle.line_editor.specs.States.{value_of, setting_of, Does, Shows};
-    ghost use Rattle.line_editor.specs.Refusals.{LeavesRewritten, LeavesUndrawn};
+    ghost use Rattle.line_editor.specs.States.{value_of, setting_of, Does};
     ghost use Rattle.line_editor.specs.Inserting.{is_bare, inserted_shown, insert_char, insert_text, replace_char, overwrite_char};
 
     /// Whether neither a hint nor a highlighted character stands.
@@ -50,7 +48,6 @@ impl<'p, 'h, Out: Renderer, H: Helper + Drop, Hi: History> State<'p, 'h, Out, H,
         was_bare: bool,
     ) -> Result<(), ReadlineError>
         ensures does { Does (inserted_shown ch n at_end plain was_bare) self.old self.new result }
-        ensures left { IfErr result (λ e. LeavesUndrawn (value_of self.old) e self.old self.new) }
     {
         self.ask_anew()?;
         if may_be_typed(ch, n, at_end, plain, was_bare, self.is_bare()) {
@@ -65,8 +62,6 @@ impl<'p, 'h, Out: Renderer, H: Helper + Drop, Hi: History> State<'p, 'h, Out, H,
     /// shows it.
     pub fn edit_insert(&mut self, ch: char, n: RepeatCount) -> Result<(), ReadlineError>
         ensures does { Does (insert_char ch n) self.old self.new result }
-        ensures left { IfErr result (λ e. LeavesRewritten (char_typed ch n) e self.old self.new) }
-        ensures shows { OnErr result (Shows (insert_char ch n) self.old) }
     {
         let at_end = self.line.is_cursor_at_end();
         let plain = self.plain;
@@ -91,9 +86,6 @@ impl<'p, 'h, Out: Renderer, H: Helper + Drop, Hi: History> State<'p, 'h, Out, H,
     /// Puts a text at the cursor, which stays before it.
     pub fn edit_insert_text(&mut self, text: &str) -> Result<(), ReadlineError>
         ensures does { Does (insert_text text.now) self.old self.new result }
-        ensures left { IfErr result (λ e.
-            LeavesRewritten (put_behind text.now) e self.old self.new) }
-        ensures shows { OnErr result (Shows (insert_text text.now) self.old) }
     {
         if text.is_empty() {
             return Ok(());
@@ -112,8 +104,6 @@ impl<'p, 'h, Out: Renderer, H: Helper + Drop, Hi: History> State<'p, 'h, Out, H,
     /// Exchanges up to `n` clusters after the cursor for a character each.
     pub fn edit_replace_char(&mut self, ch: char, n: RepeatCount) -> Result<(), ReadlineError>
         ensures does { Does (replace_char ch n) self.old self.new result }
-        ensures left { IfErr result (λ e.
-            LeavesRewritten (chars_replaced ch n) e self.old self.new) }
     {
         self.known = None;
         let replaced = replace_chars(
@@ -130,7 +120,6 @@ impl<'p, 'h, Out: Renderer, H: Helper + Drop, Hi: History> State<'p, 'h, Out, H,
     /// Writes a character over the cluster at the cursor.
     pub fn edit_overwrite_char(&mut self, ch: char) -> Result<(), ReadlineError>
         ensures does { Does (overwrite_char ch) self.old self.new result }
-        ensures left { IfErr result (λ e. LeavesRewritten (overwritten ch) e self.old self.new) }
     {
         self.known = None;
         let written = overwrite(

@@ -1,7 +1,7 @@
 //! What is killed, and what is copied into the ring.
-ghost use Rattle.std.specs.Prelude.{◌≡◌, ◌⊎◌, OnErr, OnOk, IfErr};
+ghost use Rattle.std.specs.Prelude.{◌≡◌, ◌⊎◌, OnOk, IfErr};
 ghost use Rattle.line_config.specs.declared.errors.ReadlineError.{ReadlineError};
-ghost use Rattle.line_edits.specs.Edits.{range_killed, unkilled};
+ghost use Rattle.line_edits.specs.Edits.{unkilled};
 
 use crate::measured::known_within;
 use crate::renderer::Renderer;
@@ -13,10 +13,9 @@ use line_help::{Helper, History};
 use line_keys::Text;
 use line_record::KillRing;
 
-#[tactic(auto, using(crate::proofs::BegunLemmas::begun_none, crate::proofs::BegunLemmas::begun_refused))]
+#[tactic(auto, using(crate::proofs::StopsLemmas::stops_editing, crate::proofs::StopsLemmas::stops_edited))]
 impl<'p, 'h, Out: Renderer, H: Helper + Drop, Hi: History> State<'p, 'h, Out, H, Hi> {
-    ghost use Rattle.line_editor.specs.Refusals.{LeavesRewritten, LeavesUndrawn};
-    ghost use Rattle.line_editor.specs.States.{value_of, setting_of, Does, Shows, Stays};
+    ghost use Rattle.line_editor.specs.States.{value_of, setting_of, Does, Stays};
     ghost use Rattle.line_editor.specs.Killing.{may_be_taken, killed_shown, kill, insert_text_if, replace, killed_into, copied_into};
 
     /// Whether what was taken is all that is to be erased: printable characters from the end of a
@@ -36,7 +35,6 @@ impl<'p, 'h, Out: Renderer, H: Helper + Drop, Hi: History> State<'p, 'h, Out, H,
         was_bare: bool,
     ) -> Result<(), ReadlineError>
         ensures does { Does (killed_shown count printable was_bare) self.old self.new result }
-        ensures left { IfErr result (λ e. LeavesUndrawn (value_of self.old) e self.old self.new) }
     {
         self.ask_anew()?;
         if self.may_be_taken(printable, was_bare) {
@@ -59,8 +57,6 @@ impl<'p, 'h, Out: Renderer, H: Helper + Drop, Hi: History> State<'p, 'h, Out, H,
         ring: &mut KillRing,
     ) -> Result<(), ReadlineError>
         ensures does { Does (kill movement.now) self.old self.new result }
-        ensures left { IfErr result (λ e.
-            LeavesRewritten (range_killed movement.now) e self.old self.new) }
         ensures ring { OnOk result
             (ring.new ≡ killed_into movement.now (value_of self.old) ring.old) }
         ensures refused_ring { IfErr result
@@ -91,7 +87,6 @@ impl<'p, 'h, Out: Renderer, H: Helper + Drop, Hi: History> State<'p, 'h, Out, H,
     /// Puts a text at the cursor, if there is one.
     fn insert_some(&mut self, text: &Option<Text>) -> Result<(), ReadlineError>
         ensures does { Does (insert_text_if text.now) self.old self.new result }
-        ensures shows { OnErr result (Shows (insert_text_if text.now) self.old) }
     {
         if let Some(text) = text {
             self.edit_insert_text(text.as_str())

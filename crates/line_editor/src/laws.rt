@@ -1,6 +1,6 @@
 //! Laws of the editor, each the contract of a function that does nothing.
 
-ghost use Rattle.line_editor.specs.Leads.{CommandsLead, SubmittingLeads, AsksLead, LinesLead};
+ghost use Rattle.line_editor.specs.Leads.{CommandsLead, SubmittingLeads, AsksLead, EachTurnLeads, LinesLead};
 ghost use Rattle.line_editor.specs.Returns.{ComesBack};
 ghost use Rattle.line_editor.specs.UndoAll.{UndoReaches, UndoesAll};
 
@@ -18,6 +18,12 @@ pub fn submitting_leads()
 /// What the key tables ask for leads to a display that shows the value, whatever stood there.
 pub fn asks_lead()
     ensures { AsksLead }
+{}
+
+/// From a display that shows the value, whatever information stands, a turn leads to one that shows
+/// the value after it.
+pub fn turn_leads()
+    ensures { EachTurnLeads }
 {}
 
 /// Whatever comes, the turns of a line lead, drawing after drawing, from a display that shows

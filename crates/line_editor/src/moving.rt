@@ -1,5 +1,5 @@
 //! Motions of the cursor.
-ghost use Rattle.std.specs.Prelude.{◌≡◌, is_some, IfErr, IfOk, OnErr};
+ghost use Rattle.std.specs.Prelude.{◌≡◌, is_some, IfErr, IfOk};
 ghost use Rattle.line_config.specs.declared.errors.ReadlineError.TheVariants.{Display};
 ghost use Rattle.line_help.specs.History.{begins_with_space};
 
@@ -10,10 +10,9 @@ use line_config::ReadlineError;
 use line_help::{Helper, History};
 use line_keys::CmdKind;
 
-#[tactic(auto, using(crate::proofs::BegunLemmas::begun_none, crate::proofs::BegunLemmas::begun_refused))]
+#[tactic(auto, using(crate::proofs::StopsLemmas::stops_drawing))]
 impl<'p, 'h, Out: Renderer, H: Helper + Drop, Hi: History> State<'p, 'h, Out, H, Hi> {
     ghost use Rattle.line_buffer.specs.Columns.{line_up, line_down};
-    ghost use Rattle.line_editor.specs.Refusals.{LeavesMade};
     ghost use Rattle.line_editor.specs.States.{value_of, setting_of, Does};
     ghost use Rattle.line_buffer.specs.declared.types.At.TheVariants.{Start};
     ghost use Rattle.line_buffer.specs.declared.types.Word.TheVariants.{Big};
@@ -23,7 +22,6 @@ impl<'p, 'h, Out: Renderer, H: Helper + Drop, Hi: History> State<'p, 'h, Out, H,
     /// Moves back by clusters.
     pub fn edit_move_backward(&mut self, n: RepeatCount) -> Result<(), ReadlineError>
         ensures does { Does (move_backward n) self.old self.new result }
-        ensures left { OnErr result (LeavesMade (move_backward n) self.old self.new) }
     {
         if self.line.move_backward(n) {
             self.move_cursor(CmdKind::MoveCursor)
@@ -35,7 +33,6 @@ impl<'p, 'h, Out: Renderer, H: Helper + Drop, Hi: History> State<'p, 'h, Out, H,
     /// Moves on by clusters.
     pub fn edit_move_forward(&mut self, n: RepeatCount) -> Result<(), ReadlineError>
         ensures does { Does (move_forward n) self.old self.new result }
-        ensures left { OnErr result (LeavesMade (move_forward n) self.old self.new) }
     {
         if self.line.move_forward(n) {
             self.move_cursor(CmdKind::MoveCursor)
@@ -47,7 +44,6 @@ impl<'p, 'h, Out: Renderer, H: Helper + Drop, Hi: History> State<'p, 'h, Out, H,
     /// Moves to the row's start.
     pub fn edit_move_home(&mut self) -> Result<(), ReadlineError>
         ensures does { Does move_home self.old self.new result }
-        ensures left { OnErr result (LeavesMade move_home self.old self.new) }
     {
         if self.line.move_home() {
             self.move_cursor(CmdKind::MoveCursor)
@@ -59,7 +55,6 @@ impl<'p, 'h, Out: Renderer, H: Helper + Drop, Hi: History> State<'p, 'h, Out, H,
     /// Moves to the row's end.
     pub fn edit_move_end(&mut self) -> Result<(), ReadlineError>
         ensures does { Does move_end self.old self.new result }
-        ensures left { OnErr result (LeavesMade move_end self.old self.new) }
     {
         if self.line.move_end() {
             self.move_cursor(CmdKind::MoveCursor)
@@ -71,7 +66,6 @@ impl<'p, 'h, Out: Renderer, H: Helper + Drop, Hi: History> State<'p, 'h, Out, H,
     /// Moves to the text's start.
     pub fn edit_move_buffer_start(&mut self) -> Result<(), ReadlineError>
         ensures does { Does move_buffer_start self.old self.new result }
-        ensures left { OnErr result (LeavesMade move_buffer_start self.old self.new) }
     {
         if self.line.move_buffer_start() {
             self.move_cursor(CmdKind::MoveCursor)
@@ -83,7 +77,6 @@ impl<'p, 'h, Out: Renderer, H: Helper + Drop, Hi: History> State<'p, 'h, Out, H,
     /// Moves to the text's end.
     pub fn edit_move_buffer_end(&mut self, kind: CmdKind) -> Result<(), ReadlineError>
         ensures does { Does (move_buffer_end kind) self.old self.new result }
-        ensures left { OnErr result (LeavesMade (move_buffer_end kind) self.old self.new) }
         ensures fault { IfErr result (λ e. e ≡ Display) }
     {
         if self.line.move_buffer_end() {
@@ -100,7 +93,6 @@ impl<'p, 'h, Out: Renderer, H: Helper + Drop, Hi: History> State<'p, 'h, Out, H,
         n: RepeatCount,
     ) -> Result<(), ReadlineError>
         ensures does { Does (move_to_prev_word word n) self.old self.new result }
-        ensures left { OnErr result (LeavesMade (move_to_prev_word word n) self.old self.new) }
     {
         if self.line.move_to_prev_word(word, n) {
             self.move_cursor(CmdKind::MoveCursor)
@@ -117,7 +109,6 @@ impl<'p, 'h, Out: Renderer, H: Helper + Drop, Hi: History> State<'p, 'h, Out, H,
         n: RepeatCount,
     ) -> Result<(), ReadlineError>
         ensures does { Does (move_to_next_word at word n) self.old self.new result }
-        ensures left { OnErr result (LeavesMade (move_to_next_word at word n) self.old self.new) }
         ensures fault { IfErr result (λ e. e ≡ Display) }
     {
         if self.line.move_to_next_word(at, word, n) {
@@ -130,7 +121,6 @@ impl<'p, 'h, Out: Renderer, H: Helper + Drop, Hi: History> State<'p, 'h, Out, H,
     /// Moves to a character.
     pub fn edit_move_to(&mut self, search: CharSearch, n: RepeatCount) -> Result<(), ReadlineError>
         ensures does { Does (move_to search n) self.old self.new result }
-        ensures left { OnErr result (LeavesMade (move_to search n) self.old self.new) }
     {
         if self.line.move_to(search, n) {
             self.move_cursor(CmdKind::MoveCursor)
@@ -153,7 +143,6 @@ impl<'p, 'h, Out: Renderer, H: Helper + Drop, Hi: History> State<'p, 'h, Out, H,
     /// Moves up by rows. Answers false in the first row.
     pub fn edit_move_line_up(&mut self, n: RepeatCount) -> Result<bool, ReadlineError>
         ensures does { Does (move_line_up n) self.old self.new result }
-        ensures left { OnErr result (LeavesMade (move_line_up n) self.old self.new) }
         ensures answer { IfOk result
             (λ b. b ≡ is_some
             (line_up (setting_of self.old).mode (setting_of self.old).column n self.old.line)) }
@@ -169,7 +158,6 @@ impl<'p, 'h, Out: Renderer, H: Helper + Drop, Hi: History> State<'p, 'h, Out, H,
     /// Moves down by rows. Answers false in the last row.
     pub fn edit_move_line_down(&mut self, n: RepeatCount) -> Result<bool, ReadlineError>
         ensures does { Does (move_line_down n) self.old self.new result }
-        ensures left { OnErr result (LeavesMade (move_line_down n) self.old self.new) }
         ensures answer { IfOk result
             (λ b. b ≡ is_some
             (line_down (setting_of self.old).mode (setting_of self.old).column n self.old.line)) }

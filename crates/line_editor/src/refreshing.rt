@@ -7,10 +7,10 @@ use line_config::ReadlineError;
 use line_help::{Helper, Hint, History};
 use line_keys::{CmdKind, Invoke, Refresher, Text};
 
-#[tactic(auto, using(crate::proofs::BegunLemmas::begun_none))]
+#[tactic(auto, using(crate::proofs::StopsLemmas::stops_taking))]
 impl<'p, 'h, Out: Renderer, H: Helper + Drop, Hi: History> State<'p, 'h, Out, H, Hi> {
     ghost use Rattle.line_editor.specs.States.{Does};
-    ghost use Rattle.line_editor.specs.Asks.{open_group, close_groups};
+    ghost use Rattle.line_editor.specs.Values.{open_group, close_groups};
 
     /// Opens a group: what is changed until it is closed is undone as one.
     pub(crate) fn open_group(&mut self) -> Result<(), ReadlineError>

@@ -1,6 +1,5 @@
 //! The history in place of the line.
-ghost use Rattle.std.specs.Prelude.{◌≡◌, ◌<◌, ◌≤◌, length, IfErr, OnErr, OnOk, IsCharBoundary};
-ghost use Rattle.line_config.specs.declared.errors.ReadlineError.{ReadlineError};
+ghost use Rattle.std.specs.Prelude.{◌≡◌, ◌<◌, ◌≤◌, length, IsCharBoundary};
 
 use crate::renderer::Renderer;
 use crate::saved::SavedLine;
@@ -9,22 +8,14 @@ use line_config::ReadlineError;
 use line_edits::{update, update_grouped};
 use line_help::{Helper, History, SearchDirection};
 
-#[tactic(auto, using(crate::proofs::BegunLemmas::begun_none, crate::proofs::BegunLemmas::begun_refused))]
+#[tactic(auto, using(crate::proofs::StopsLemmas::stops_editing, crate::proofs::StopsLemmas::stops_taking, crate::proofs::StopsLemmas::stops_first, crate::proofs::StopsLemmas::stops_edited))]
 impl<'p, 'h, Out: Renderer, H: Helper + Drop, Hi: History> State<'p, 'h, Out, H, Hi> {
-    ghost use Rattle.line_editor.specs.States.{value_of, setting_of, Does, Stays};
-    ghost use Rattle.line_editor.specs.Refusals.{LeavesEdited, SameBeside};
-    ghost use Rattle.line_editor.specs.Remembering.{at_place, recalled, saved_now, restored, come_back, previous_entry, next_entry, first_entry, last_line, history_step, history_end, entry_shown, recalled_earlier, saved_on_leaving, search_from, history_search};
+    ghost use Rattle.line_editor.specs.States.{setting_of, Does};
+    ghost use Rattle.line_editor.specs.Remembering.{saving, restoring, come_back, previous_entry, next_entry, first_entry, last_line, history_step, history_end, entry_shown, recalled_earlier, saving_on_leaving, search_from, history_search};
 
     /// Keeps the line for coming back to it.
     pub fn backup(&mut self) -> Result<(), ReadlineError>
-        ensures value { OnOk result (value_of self.new ≡ saved_now (value_of self.old)) }
-        ensures left { OnErr result (value_of self.new ≡ value_of self.old) }
-        ensures out { self.new.out ≡ self.old.out }
-        ensures layout { self.new.layout ≡ self.old.layout }
-        ensures line { self.new.line ≡ self.old.line }
-        ensures place { self.new.ctx.place ≡ self.old.ctx.place }
-        ensures stays { Stays self.old self.new }
-        ensures fault { IfErr result (λ e. e ≡ ReadlineError.Memory) }
+        ensures does { Does saving self.old self.new result }
     {
         let pos = self.line.pos();
         self.saved = SavedLine::copy(self.alloc, self.line.as_str(), pos)?;
@@ -33,12 +24,7 @@ impl<'p, 'h, Out: Renderer, H: Helper + Drop, Hi: History> State<'p, 'h, Out, H,
 
     /// Puts the kept line back, as one change.
     pub fn restore(&mut self) -> Result<(), ReadlineError>
-        ensures value { OnOk result (value_of self.new ≡ restored (value_of self.old)) }
-        ensures left { OnErr result (SameBeside (value_of self.old) (value_of self.new)) }
-        ensures out { self.new.out ≡ self.old.out }
-        ensures layout { self.new.layout ≡ self.old.layout }
-        ensures stays { Stays self.old self.new }
-        ensures fault { IfErr result (λ e. e ≡ ReadlineError.Memory) }
+        ensures does { Does restoring self.old self.new result }
     {
         self.known = None;
         update(
@@ -55,9 +41,6 @@ impl<'p, 'h, Out: Renderer, H: Helper + Drop, Hi: History> State<'p, 'h, Out, H,
     /// Back to the line that was left.
     fn come_back(&mut self) -> Result<(), ReadlineError>
         ensures does { Does come_back self.old self.new result }
-        ensures left { let before = at_place (length (setting_of self.old).entries)
-            (value_of self.old) in
-            IfErr result (λ e. LeavesEdited before (restored before) e self.old self.new) }
     {
         let end = self.ctx.history().len();
         self.ctx.set_history_index(end);
@@ -67,15 +50,7 @@ impl<'p, 'h, Out: Renderer, H: Helper + Drop, Hi: History> State<'p, 'h, Out, H,
 
     /// Keeps the line where the history's end is left.
     fn backup_on_leaving(&mut self) -> Result<(), ReadlineError>
-        ensures value { OnOk result
-            (value_of self.new ≡ saved_on_leaving (setting_of self.old) (value_of self.old)) }
-        ensures left { OnErr result (value_of self.new ≡ value_of self.old) }
-        ensures out { self.new.out ≡ self.old.out }
-        ensures layout { self.new.layout ≡ self.old.layout }
-        ensures line { self.new.line ≡ self.old.line }
-        ensures place { self.new.ctx.place ≡ self.old.ctx.place }
-        ensures stays { Stays self.old self.new }
-        ensures fault { IfErr result (λ e. e ≡ ReadlineError.Memory) }
+        ensures does { Does saving_on_leaving self.old self.new result }
     {
         if self.ctx.history_index() == self.ctx.history().len() {
             self.backup()
@@ -89,9 +64,6 @@ impl<'p, 'h, Out: Renderer, H: Helper + Drop, Hi: History> State<'p, 'h, Out, H,
         requires index { index ≤ length (setting_of self.old).entries }
         requires boundary { IsCharBoundary entry.now pos }
         ensures does { Does (entry_shown index entry.now pos) self.old self.new result }
-        ensures left { let before = at_place index (value_of self.old) in
-            IfErr result (λ e. LeavesEdited before (recalled entry.now pos before) e
-            self.old self.new) }
     {
         self.ctx.set_history_index(index);
         self.known = None;

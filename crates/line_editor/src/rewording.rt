@@ -7,19 +7,15 @@ use line_config::ReadlineError;
 use line_edits::{edit_word, indent, transpose_chars, transpose_words, undo};
 use line_help::{Helper, History};
 
-#[tactic(auto, using(crate::proofs::BegunLemmas::begun_none, crate::proofs::BegunLemmas::begun_refused))]
+#[tactic(auto, using(crate::proofs::StopsLemmas::stops_editing, crate::proofs::StopsLemmas::stops_edited, crate::proofs::StopsLemmas::stops_taken_back))]
 impl<'p, 'h, Out: Renderer, H: Helper + Drop, Hi: History> State<'p, 'h, Out, H, Hi> {
-    ghost use Rattle.std.specs.Prelude.{IfErr};
-    ghost use Rattle.line_edits.specs.Edits.{transpose_chars_in_group, transpose_words_in_group, edit_word_in_group, indented, undone};
-    ghost use Rattle.line_editor.specs.Refusals.{LeavesRewritten};
+    ghost use Rattle.line_edits.specs.Edits.{undone};
     ghost use Rattle.line_editor.specs.States.{Does};
     ghost use Rattle.line_editor.specs.Rewording.{transpose_chars, transpose_words, edit_word, indent, undo};
 
     /// Exchanges the clusters around the cursor.
     pub fn edit_transpose_chars(&mut self) -> Result<(), ReadlineError>
         ensures does { Does transpose_chars self.old self.new result }
-        ensures left { IfErr result (λ e.
-            LeavesRewritten transpose_chars_in_group e self.old self.new) }
     {
         self.known = None;
         let done = transpose_chars(
@@ -34,8 +30,6 @@ impl<'p, 'h, Out: Renderer, H: Helper + Drop, Hi: History> State<'p, 'h, Out, H,
     /// Exchanges words.
     pub fn edit_transpose_words(&mut self, n: RepeatCount) -> Result<(), ReadlineError>
         ensures does { Does (transpose_words n) self.old self.new result }
-        ensures left { IfErr result (λ e.
-            LeavesRewritten (transpose_words_in_group n) e self.old self.new) }
     {
         let before = self.line.pos();
         self.known = None;
@@ -56,8 +50,6 @@ impl<'p, 'h, Out: Renderer, H: Helper + Drop, Hi: History> State<'p, 'h, Out, H,
     /// Sets a word's letters in another case.
     pub fn edit_word(&mut self, action: WordAction) -> Result<(), ReadlineError>
         ensures does { Does (edit_word action) self.old self.new result }
-        ensures left { IfErr result (λ e.
-            LeavesRewritten (edit_word_in_group action) e self.old self.new) }
     {
         self.known = None;
         let done = edit_word(
@@ -78,8 +70,6 @@ impl<'p, 'h, Out: Renderer, H: Helper + Drop, Hi: History> State<'p, 'h, Out, H,
         dedent: bool,
     ) -> Result<(), ReadlineError>
         ensures does { Does (indent movement.now amount dedent) self.old self.new result }
-        ensures left { IfErr result (λ e.
-            LeavesRewritten (indented movement.now amount dedent) e self.old self.new) }
     {
         self.known = None;
         indent(
@@ -97,7 +87,6 @@ impl<'p, 'h, Out: Renderer, H: Helper + Drop, Hi: History> State<'p, 'h, Out, H,
     /// Takes back what was recorded last.
     pub(crate) fn edit_undo(&mut self, n: RepeatCount) -> Result<(), ReadlineError>
         ensures does { Does (undo n) self.old self.new result }
-        ensures left { IfErr result (λ e. LeavesRewritten (undone n) e self.old self.new) }
     {
         self.known = None;
         let undone = undo(

@@ -1,6 +1,5 @@
 //! Texts yanked from the ring, and exchanged.
-ghost use Rattle.std.specs.Prelude.{◌≡◌, slice_get, IfErr};
-ghost use Rattle.line_edits.specs.Edits.{pop_in_group};
+ghost use Rattle.std.specs.Prelude.{◌≡◌, slice_get};
 ghost use Rattle.line_editor.specs.Yanking.{anchored, steps, behind_yank};
 
 use crate::renderer::Renderer;
@@ -34,12 +33,10 @@ fn step_back(line: &mut LineBuffer, vi_command: bool)
     }
 }
 
-#[tactic(auto, using(crate::proofs::BegunLemmas::begun_none, crate::proofs::BegunLemmas::begun_refused))]
+#[tactic(auto, using(crate::proofs::StopsLemmas::stops_editing, crate::proofs::StopsLemmas::stops_edited))]
 impl<'p, 'h, Out: Renderer, H: Helper + Drop, Hi: History> State<'p, 'h, Out, H, Hi> {
-    ghost use Rattle.line_editor.specs.Refusals.{LeavesEdited, LeavesRewritten};
-    ghost use Rattle.line_editor.specs.States.{value_of, Does};
-    ghost use Rattle.line_editor.specs.Values.{at_line};
-    ghost use Rattle.line_editor.specs.Yanking.{yanked_by, yank_text, pop_text, yank_lent, pop_lent};
+    ghost use Rattle.line_editor.specs.States.{Does};
+    ghost use Rattle.line_editor.specs.Yanking.{yank_text, pop_text, yank_lent, pop_lent};
     ghost use Rattle.line_keys.specs.Modes.{is_vi_command};
     ghost use Rattle.line_record.specs.Ring.{yanked, turned, exchanged};
 
@@ -54,10 +51,6 @@ impl<'p, 'h, Out: Renderer, H: Helper + Drop, Hi: History> State<'p, 'h, Out, H,
         ensures does { Does
             (yank_text (is_vi_command input_state.now.mode input_state.now.input_mode)
             text.now anchor n) self.old self.new result }
-        ensures left { let vi = is_vi_command input_state.now.mode input_state.now.input_mode in
-            let before = at_line (anchored anchor self.old.line) (value_of self.old) in
-            IfErr result (λ e. LeavesEdited before (yanked_by vi text.now n before) e
-            self.old self.new) }
     {
         self.known = None;
         let stepped = step_on(&mut self.line, anchor);
@@ -80,8 +73,6 @@ impl<'p, 'h, Out: Renderer, H: Helper + Drop, Hi: History> State<'p, 'h, Out, H,
     /// cursor.
     pub fn edit_yank_pop(&mut self, yank_size: usize, text: &str) -> Result<(), ReadlineError>
         ensures does { Does (pop_text yank_size text.now) self.old self.new result }
-        ensures left { IfErr result (λ e.
-            LeavesRewritten (pop_in_group yank_size text.now) e self.old self.new) }
     {
         if !self.line.can_take_before(yank_size) {
             return Ok(());

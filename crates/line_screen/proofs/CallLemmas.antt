@@ -4,11 +4,13 @@ use Rattle.std.specs.List.{FoldsTo, flat_map}
 use Rattle.line_config.specs.declared.device.DeviceFailed.{DeviceFailed}
 use Rattle.line_config.specs.declared.errors.ReadlineError.{ReadlineError}
 use Rattle.line_config.specs.Sending.{Takes, TakesSome, Sends}
-use Rattle.line_buffer.specs.declared.layout.Layout.{Layout}
-use Rattle.line_editor.specs.Acts.{Act, Sees, Gets, Obeys, Stage, stage, SeenInPart, CutIn}
-use Rattle.line_editor.specs.Calls.{Call, Ruler, MadeIn, RefusedIn, BrokenOff, Begun, Makes}
+use Rattle.line_editor.specs.Acts.{Act, Sees, Gets, Obeys, Stage, stage, CutIn}
+use Rattle.line_editor.specs.Calls.{Call, Ruler, MadeIn, RefusedIn, BrokenOff, Makes, MakesBoth}
 use Rattle.line_editor.specs.Calls.Call.{Help}
-use Rattle.line_editor.specs.Redraws.{Redraw, asked}
+use Rattle.line_editor.specs.Redraws.{asked_by}
+use Rattle.line_editor.specs.Steps.{one, asked, Surface, surface, Refusal, StepCut, Stops}
+use Rattle.line_editor.specs.Values.{Value, EditStep}
+use Rattle.line_editor.specs.Values.EditStep.{Draws, Helped, Updates, Edits, TakesBack, Takes as TakingStep}
 use Rattle.line_screen.specs.Calls.{Sent, canvas_of, bytes_of, screen_of, sink_of, display_answer}
 use Rattle.line_screen.specs.declared.renderer.ScreenRenderer.{ScreenRenderer}
 use Rattle.line_config.proofs.Taking.{takes_then}
@@ -30,9 +32,9 @@ module _ {D : Type 0} (held : D → List ℕ) (failed : D → Bool) where
   sent_in (Help fails) a b h = subst (Sent held failed [] a) (sym h.1) (sent_nothing a)
   sent_in _ a b h = h
 
-  screen_in : (fault : ReadlineError) (call : Call) (a b : ScreenRenderer D) → RefusedIn (canvas_of held failed) fault a call b → screen_of b ≡ screen_of a
-  screen_in fault (Help fails) a b h = ap screen_of h.2
-  screen_in fault _ a b h = h.1.screen
+  screen_in : (call : Call) (a b : ScreenRenderer D) → RefusedIn (canvas_of held failed) a call b → screen_of b ≡ screen_of a
+  screen_in (Help fails) a b h = absurd h
+  screen_in _ a b h = h.screen
 
   -- calls that were made sent their bytes in order
   pub sent_in_all : (calls : List Call) (a b : ScreenRenderer D) → FoldsTo (MadeIn (canvas_of held failed)) a calls b → Sent held failed (flat_map (bytes_of (screen_of a)) calls) a b
@@ -44,36 +46,42 @@ module _ {D : Type 0} (held : D → List ℕ) (failed : D → Bool) where
       sent_then (bytes_of (screen_of a) call) more a h.0 b first rest
 
   -- calls that were broken off leave the screen as it is
-  broken_stays : (fault : ReadlineError) (calls : List Call) (a b : ScreenRenderer D) → BrokenOff (canvas_of held failed) fault calls a b → screen_of b ≡ screen_of a
+  broken_stays : (calls : List Call) (a b : ScreenRenderer D) → BrokenOff (canvas_of held failed) calls a b → screen_of b ≡ screen_of a
   unfolding BrokenOff
-  broken_stays fault [] a b h = absurd h
-  broken_stays fault (call ∷ calls) a b (inl h) = ap screen_of h.1
-  broken_stays fault (call ∷ calls) a b (inr (inl h)) = screen_in fault call a b h
-  broken_stays fault (call ∷ calls) a b (inr (inr h)) = broken_stays fault calls h.0 b h.2 ∙ (sent_in call a h.0 h.1).screen
+  broken_stays [] a b h = absurd h
+  broken_stays (call ∷ calls) a b (inl h) = screen_in call a b h
+  broken_stays (call ∷ calls) a b (inr h) = broken_stays calls h.0 b h.2 ∙ (sent_in call a h.0 h.1).screen
 
-  begun_stays : (fault : ReadlineError) (calls : List Call) (a b : ScreenRenderer D) → Begun (canvas_of held failed) fault calls a b → screen_of b ≡ screen_of a
-  unfolding Begun
-  begun_stays fault calls a b (inl h) = ap screen_of h.1
-  begun_stays fault calls a b (inr h) = broken_stays fault calls a b h
+  -- and so do a step that is refused, steps that stop, and acts that a fault cut
+  step_stays : (r : Ruler) (step : EditStep) (e : Refusal) (a b : Surface (ScreenRenderer D)) → StepCut (canvas_of held failed) r a step e b → screen_of b.out ≡ screen_of a.out
+  step_stays r (Draws v x) e a b h = broken_stays (asked_by r a.layout x).calls a.out b.out h.1
+  step_stays r (Helped v fails) e a b h = ap (λ s. screen_of s.out) h.1
+  step_stays r (Updates v fails) e a b h = ap (λ s. screen_of s.out) h.1
+  step_stays r (Edits v edit) e a b h = ap (λ s. screen_of s.out) h.1
+  step_stays r (TakesBack v) e a b h = ap (λ s. screen_of s.out) h.1
+  step_stays r (TakingStep v) e a b h = ap (λ s. screen_of s.out) h.1
 
-  part_stays : (r : Ruler) (fault : ReadlineError) (redraws : List Redraw) (l : Layout) (a b : ScreenRenderer D) → SeenInPart (canvas_of held failed) r fault redraws l a b → screen_of b ≡ screen_of a
-  part_stays r fault [] l a b h = ap screen_of h.1
-  part_stays r fault (x ∷ xs) l a b h = broken_stays fault (asked r l (x ∷ xs)).calls a b h
+  stops_stay : (r : Ruler) (fault : ReadlineError) (v : Value) (steps : List EditStep) (a b : Surface (ScreenRenderer D)) → Stops (canvas_of held failed) r steps a fault v b
+      → screen_of b.out ≡ screen_of a.out
+  unfolding Stops
+  stops_stay r fault v [] a b h = absurd (cc)
+  stops_stay r fault v (step ∷ steps) a b (inl (none, between, made, h)) =
+      stops_stay r fault v steps between b h ∙ (sent_in_all (one r a.layout step).calls a.out between.out made.0).screen
+  stops_stay r fault v (step ∷ steps) a b (inr (e, h, is)) = step_stays r step e a b h
 
-  -- and so do acts that a fault cut
-  pub cut_stays : (r : Ruler) (fault : ReadlineError) (acts : List Act) (l : Layout) (old new : Stage (ScreenRenderer D)) → CutIn (canvas_of held failed) r fault acts l old new → screen_of new.out ≡ screen_of old.out
+  pub cut_stays : (r : Ruler) (fault : ReadlineError) (v : Value) (acts : List Act) (old new : Stage (ScreenRenderer D)) → CutIn (canvas_of held failed) r fault acts old v new
+      → screen_of new.drawn.out ≡ screen_of old.drawn.out
   unfolding CutIn
-  cut_stays r fault [] l old new h = absurd h
-  cut_stays r fault (Sees redraws ∷ more) l old new (inl h) = part_stays r fault redraws l old.out new.out h.0
-  cut_stays r fault (Sees redraws ∷ more) l old new (inr (out, made, h)) =
-      cut_stays r fault more (asked r l redraws).layout (stage out old.coming old.ring) new h ∙ (sent_in_all (asked r l redraws).calls old.out out made).screen
-  cut_stays r fault (Gets rest ∷ more) l old new (inl (memory, inl same)) = ap (λ x. screen_of x.out) same
-  cut_stays r fault (Gets rest ∷ more) l old new (inl (memory, inr lost)) = ap (λ x. screen_of x.out) lost
-  cut_stays r fault (Gets rest ∷ more) l old new (inr h) = cut_stays r fault more l (stage old.out rest old.ring) new h
-  cut_stays r fault (Obeys textless ring redraws ∷ more) l old new (inl h) = ap (λ x. screen_of x.out) h.1
-  cut_stays r fault (Obeys textless ring redraws ∷ more) l old new (inr (inl h)) = begun_stays fault (asked r l redraws).calls old.out new.out h.0
-  cut_stays r fault (Obeys textless ring redraws ∷ more) l old new (inr (inr (out, made, h))) =
-      cut_stays r fault more (asked r l redraws).layout (stage out old.coming ring) new h ∙ (sent_in_all (asked r l redraws).calls old.out out made).screen
+  cut_stays r fault v [] old new h = absurd h
+  cut_stays r fault v (Sees steps ∷ more) old new (inl h) = stops_stay r fault v steps old.drawn new.drawn h.0
+  cut_stays r fault v (Sees steps ∷ more) old new (inr (out, made, h)) =
+      cut_stays r fault v more (stage (surface out (asked r old.drawn.layout steps).layout) old.coming old.ring) new h ∙ (sent_in_all (asked r old.drawn.layout steps).calls old.drawn.out out made).screen
+  cut_stays r fault v (Gets value rest ∷ more) old new (inl (memory, value_is, inl same)) = ap (λ x. screen_of x.drawn.out) same
+  cut_stays r fault v (Gets value rest ∷ more) old new (inl (memory, value_is, inr lost)) = ap (λ x. screen_of x.drawn.out) lost
+  cut_stays r fault v (Gets value rest ∷ more) old new (inr h) = cut_stays r fault v more (stage old.drawn rest old.ring) new h
+  cut_stays r fault v (Obeys textless ring steps ∷ more) old new (inl h) = stops_stay r fault v steps old.drawn new.drawn h.0
+  cut_stays r fault v (Obeys textless ring steps ∷ more) old new (inr (out, made, h)) =
+      cut_stays r fault v more (stage (surface out (asked r old.drawn.layout steps).layout) old.coming ring) new h ∙ (sent_in_all (asked r old.drawn.layout steps).calls old.drawn.out out made).screen
 
   -- a call sends its bytes to the sink, and its answer is the display's
   pub makes_call : (call : Call) (old : ScreenRenderer D) (d : D) (bytes : List ℕ) (sent : Result (Unit {0}) DeviceFailed) (result : Result (Unit {0}) ReadlineError)
@@ -97,6 +105,14 @@ module _ {D : Type 0} (held : D → List ℕ) (failed : D → Bool) where
         failed = sends.err;
         ruler = refl;
       })
+
+  -- one call after another that was made
+  pub makes_then : (first second : Call) (old between new : ScreenRenderer D) (u : Unit {0}) (result : Result (Unit {0}) ReadlineError) → Makes (canvas_of held failed) first old between (Ok u)
+      → Makes (canvas_of held failed) second between new result → MakesBoth (canvas_of held failed) first second old new result
+  makes_then first second old between new u (Ok v) one other =
+      record { made = (between, one.made, other.made); refused = tt; fault = tt; failed = tt; ruler = other.ruler ∙ one.ruler }
+  makes_then first second old between new u (Err e) one other =
+      record { made = tt; refused = inr (between, one.made, other.refused); fault = other.fault; failed = other.failed; ruler = other.ruler ∙ one.ruler }
 
 -- the columns of a screen
 pub columns_in : {D : Type 0} (r : ScreenRenderer D) → (2 ≤ (screen_of r).columns) × ((screen_of r).columns ≤ 1000)

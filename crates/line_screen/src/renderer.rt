@@ -3,7 +3,7 @@
 ghost use Rattle.std.specs.Prelude.{◌≡◌, ◌≤◌, ◌++◌, ◌∷◌, [], IsTrue, OnOk, OnErr, IfErr, false};
 ghost use Rattle.line_screen.specs.Calls.{Screen, screen_of, sink_of, canvas_of, display_answer};
 
-use crate::drawing::sequences::{clear, go, send_flushed};
+use crate::drawing::sequences::{clear, go, send_flushed, send_move};
 use crate::drawing::whole::{Shown, draw};
 use crate::grid::Grid;
 use crate::measuring::{measure, measure_on};
@@ -127,6 +127,12 @@ impl<D: Sink + Drop> Renderer for ScreenRenderer<D> {
 
     fn clear_to_eol(&mut self) -> Result<(), ReadlineError> {
         answer(send_flushed(&mut self.sink, b"\x1B[K"))
+    }
+
+    /// The bytes of both go out together.
+    fn move_and_clear_to_eol(&mut self, old: Position, new: Position) -> Result<(), ReadlineError> {
+        answer(send_move(&mut self.sink, old, new))?;
+        self.clear_to_eol()
     }
 
     /// Writes nothing: no call leaves the cursor elsewhere.

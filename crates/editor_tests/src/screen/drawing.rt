@@ -184,6 +184,7 @@ const CALLS: &str = "
     audible down        = ␛[2B␛[10C
     audible write c     = c
     audible clear_to_eol = ␛[K
+    audible move_and_clear_to_eol = ␛[2A␛[10D␛[K
     audible clear_screen = ␛[H␛[J
     audible leftmost    = nothing
     audible begin       = nothing
@@ -220,6 +221,7 @@ fn call_made<Out: Renderer>(
         "write" => screen.write_and_flush(text.as_str()),
         "beep" => screen.beep(),
         "clear_to_eol" => screen.clear_to_eol(),
+        "move_and_clear_to_eol" => screen.move_and_clear_to_eol(HERE, THERE),
         "clear_screen" => screen.clear_screen(),
         "clear_rows" => screen.clear_rows(&layout),
         "leftmost" => screen.move_cursor_at_leftmost(),
@@ -316,6 +318,7 @@ const PASSED_ON: &str = "
     clear_screen        = written
     clear_rows          = written
     clear_to_eol        = written
+    move_and_clear_to_eol = written
     stay                = nothing
 ";
 

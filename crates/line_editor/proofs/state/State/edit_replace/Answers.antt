@@ -8,8 +8,8 @@ returns-in_err-edit_kill-clause-does g c =
 
 pub returns-in_err-insert_some-clause-does : goal.returns-in_err-insert_some-clause-does
 returns-in_err-insert_some-clause-does g c =
-    does_both_by (kill c.args.movement.now) (insert_text_if c.args.text.now) _ _ _ _ _ _ c.from_residual-in_err-insert_some.ensures.1 c.in_ok-edit_kill.ensures.does c.in_err-insert_some.ensures.does c.in_err-insert_some.ensures.shows
+    does_both_by (kill c.args.movement.now) (insert_text_if c.args.text.now) _ _ _ _ _ _ c.from_residual-in_err-insert_some.ensures.1 c.in_ok-edit_kill.ensures.does c.in_err-insert_some.ensures.does
 
 pub returns-clause-does : goal.returns-clause-does
 returns-clause-does g c =
-    does_both (kill c.args.movement.now) (insert_text_if c.args.text.now) _ _ _ _ _ c.in_ok-edit_kill.ensures.does c.in_ok-insert_some.ensures.does tt
+    does_both (kill c.args.movement.now) (insert_text_if c.args.text.now) _ _ _ _ _ c.in_ok-edit_kill.ensures.does c.in_ok-insert_some.ensures.does

@@ -1,5 +1,5 @@
 use Rattle.std.proofs.Common.{refl, sym, ◌∙◌}
-use Rattle.line_editor.proofs.UndoLemmas.{unmade_does}
+use Rattle.line_editor.proofs.UndoLemmas.{unmade_does, undo_refused}
 use Rattle.line_editor.proofs.state.State.edit_undo.Goals as goal
 
 pub returns-else-undone : goal.returns-else-undone
@@ -8,5 +8,11 @@ returns-else-undone g c =
     record {
       does = unmade_does c.args.n _ _ _ (sym writes.answers ∙ c.if-undone.false) writes.line writes.held refl refl refl
           (record { ruler = refl; prompt = refl; history_is = refl; hooks_are = refl; marks_are = refl });
-      left = tt;
+    }
+
+pub returns-in_err-undone : goal.returns-in_err-undone
+returns-in_err-undone g c =
+    record {
+      does = undo_refused c.args.n _ _ _ c.from_residual.ensures.1 c.in_err-undone.ensures.left.forgotten refl refl
+          (record { ruler = refl; prompt = refl; history_is = refl; hooks_are = refl; marks_are = refl });
     }

@@ -1,7 +1,7 @@
 use Rattle.line_keys.specs.declared.command.CmdKind.TheVariants.{ForcedRefresh}
 use Rattle.line_editor.specs.Drawing.{moved_to_end}
 use Rattle.line_editor.specs.Moving.{move_buffer_end}
-use Rattle.line_editor.proofs.DoesLemmas.{does_both, does_cut_by, drawing_shows}
+use Rattle.line_editor.proofs.DoesLemmas.{does_both, does_cut_by}
 use Rattle.line_editor.proofs.state.State.submit.Goals as goal
 
 pub returns-in_err-edit_move_buffer_end-clause-does : goal.returns-in_err-edit_move_buffer_end-clause-does
@@ -10,4 +10,4 @@ returns-in_err-edit_move_buffer_end-clause-does g c = does_cut_by (move_buffer_e
 pub returns-clause-does : goal.returns-clause-does
 returns-clause-does g c =
     does_both (move_buffer_end ForcedRefresh) moved_to_end _ _ _ _ _
-    c.in_ok-edit_move_buffer_end.ensures.does c.move_cursor_to_end.ensures.does (drawing_shows moved_to_end _ _ _ c.move_cursor_to_end.ensures.fault c.move_cursor_to_end.ensures.does)
+    c.in_ok-edit_move_buffer_end.ensures.does c.move_cursor_to_end.ensures.does

@@ -24,4 +24,4 @@ turns-preserved g c = (
 pub returns-in-Submit : goal.returns-in-Submit
 returns-in-Submit g c =
     carries_closed (Unit {0}) _ _ _ _ _ _ _ _ _ _ c.turns.invariant.0 _ (same_custom c.turns.input_state c.args.input_state.now g.D.Decides.decides c.turns.invariant.1)
-    _ _ _ _ _ _ (rw c.in-Submit.is at c.in_ok-turn.ensures.turn) c.submit.ensures.fault c.submit.ensures.does
+    _ _ _ _ _ _ (rw c.in-Submit.is at c.in_ok-turn.ensures.turn) c.submit.ensures.does

@@ -1,0 +1,55 @@
+-- An entry in place of the line, or the line that was left.
+use Rattle.std.proofs.Common.{◌≡◌, ℕ, true, take, refl, sym, ap, ◌∙◌}
+use Rattle.std.specs.Prelude.{Option, Some, length, Result, Err, Ok, IsErrAnd}
+use Rattle.line_config.specs.declared.errors.ReadlineError.{ReadlineError}
+use Rattle.line_help.specs.Search.{Hit, entry_at, searched}
+use Rattle.line_help.specs.declared.completion as completions
+use Rattle.line_help.specs.declared.hint as hints
+use Rattle.line_help.specs.declared.highlight as highlights
+use Rattle.line_help.specs.declared.validate as verdicts
+use Rattle.line_help.specs.declared.history as histories
+use Rattle.line_help.specs.declared.search.SearchDirection.{SearchDirection}
+use Rattle.line_editor.specs.Drawing.{refreshed}
+use Rattle.line_editor.specs.Remembering.{at_place, saving_on_leaving, restoring, come_back, entry_shown, recall, recalled_earlier, hit_shown, search_from}
+use Rattle.line_editor.specs.States.{value_of, setting_of, surface_of, Stays, Does}
+use Rattle.line_editor.specs.Values.{Transition, then_do}
+use Rattle.line_editor.specs.declared.renderer as renderers
+use Rattle.line_editor.specs.declared.state.State.{State}
+use Rattle.line_editor.proofs.DoesLemmas.{does_as, does_both, does_cut_by, does_from, setting_stays}
+
+module _ {Out H Hi K T : Type 0} {renderer : renderers.Renderer.Ghosts Out} {completer : completions.Completer.Ghosts H K} {candidate : completions.Candidate.Ghosts K}
+    {hinter : hints.Hinter.Ghosts H T} {hint : hints.Hint.Ghosts T} {highlighter : highlights.Highlighter.Ghosts H} {validator : verdicts.Validator.Ghosts H} {history : histories.History.Ghosts Hi} where
+  -- the line wasn't saved
+  pub recall_cut : {A B : Type 0} (index : ℕ) (s t : State Out H Hi K T renderer completer candidate hinter hint highlighter validator history) (e : ReadlineError) (result : Result B ReadlineError)
+      → IsErrAnd result (λ x. x ≡ e) → Does {A = A} saving_on_leaving s t (Err e) → Does (recalled_earlier index) s t result
+  recall_cut index s t e result is h =
+      let shown = recall index (entry_at index (setting_of s).entries) in
+      does_as (then_do saving_on_leaving shown) (recalled_earlier index) s t result refl (does_cut_by saving_on_leaving shown s t e result is h)
+
+  pub recall_shown : {A B : Type 0} (index : ℕ) (hit : Hit) (s m t : State Out H Hi K T renderer completer candidate hinter hint highlighter validator history) (x : A) (result : Result B ReadlineError)
+      → entry_at index (setting_of s).entries ≡ Some hit → Does saving_on_leaving s m (Ok x) → Does (entry_shown index hit.entry (length hit.entry)) m t result → Does (recalled_earlier index) s t result
+  recall_shown index hit s m t x result found h k =
+      let shown = recall index (entry_at index (setting_of s).entries) in
+      does_as (then_do saving_on_leaving shown) (recalled_earlier index) s t result refl (does_both saving_on_leaving shown s m t x result h
+      (does_as (entry_shown index hit.entry (length hit.entry)) shown m t result (ap (λ (o : Option Hit). recall index o (setting_of m) (value_of m)) (sym found)) k))
+
+  -- where the place was moved before
+  from_place : (edit : Transition) (place : ℕ) (s m : State Out H Hi K T renderer completer candidate hinter hint highlighter validator history)
+      → value_of m ≡ at_place place (value_of s) → Stays s m → edit (setting_of m) (value_of m) ≡ edit (setting_of s) (at_place place (value_of s))
+  from_place edit place s m value stays = ap (λ a. edit a (value_of m)) (setting_stays s m stays) ∙ ap (edit (setting_of s)) value
+
+  -- the line that was left wasn't put back
+  pub back_cut : {A B : Type 0} (s m t : State Out H Hi K T renderer completer candidate hinter hint highlighter validator history) (e : ReadlineError) (result : Result B ReadlineError)
+      → IsErrAnd result (λ x. x ≡ e) → value_of m ≡ at_place (length (setting_of s).entries) (value_of s) → surface_of m ≡ surface_of s → Stays s m → Does {A = A} restoring m t (Err e) → Does come_back s t result
+  back_cut s m t e result is value same stays h =
+      does_from (then_do restoring refreshed) come_back s m t result (from_place (then_do restoring refreshed) (length (setting_of s).entries) s m value stays) same stays
+      (does_cut_by restoring refreshed m t e result is h)
+
+  -- an entry was found
+  pub found_shown : {A : Type 0} (dir : SearchDirection) (place : ℕ) (hit : Hit) (s m t : State Out H Hi K T renderer completer candidate hinter hint highlighter validator history) (result : Result A ReadlineError)
+      → searched true (take s.line.place s.line.text) place dir (setting_of s).entries ≡ Some hit → value_of m ≡ at_place place (value_of s) → surface_of m ≡ surface_of s → Stays s m
+      → Does (entry_shown hit.idx hit.entry hit.pos) m t result → Does (search_from dir place) s t result
+  found_shown dir place hit s m t result found value same stays h =
+      let shown : Transition = entry_shown hit.idx hit.entry hit.pos in
+      does_from shown (search_from dir place) s m t result
+      (from_place shown place s m value stays ∙ sym (ap (λ (o : Option Hit). hit_shown o (setting_of s) (at_place place (value_of s))) found)) same stays h

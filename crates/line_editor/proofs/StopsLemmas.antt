@@ -1,0 +1,172 @@
+-- Steps of which the first ones were made, and a fault.
+use Rattle.std.proofs.Common.{◌≡◌, ◌⊎◌, Bool, true, false, true≢false, List, [], ◌∷◌, ◌++◌, refl, sym, ap, subst, ◌∙◌, inl, inr, append_assoc}
+use Rattle.std.specs.Prelude.{⊤, Option, Some, None, is_some, Result, Ok, Err, IfErr, IsFalse}
+use Rattle.std.specs.List.{FoldsTo}
+use Rattle.line_buffer.specs.declared.layout.Layout.{Layout}
+use Rattle.line_config.specs.declared.errors.ReadlineError.{ReadlineError}
+use Rattle.line_config.specs.declared.errors.ReadlineError.TheVariants.{Display, Helper, Memory}
+use Rattle.line_edits.specs.Steps.{Steps, StopsIn}
+use Rattle.line_keys.specs.Replies.{Reply, fails}
+use Rattle.line_editor.specs.Calls.{Call, Canvas, Ruler, MadeIn, RefusedIn, BrokenOff}
+use Rattle.line_editor.specs.Calls.Call.{Help}
+use Rattle.line_editor.specs.Completing.{updates}
+use Rattle.line_editor.specs.Redraws.{Redraw, Asked, asked_by, then_asked}
+use Rattle.line_editor.specs.States.{fails_by, IsHelpFault}
+use Rattle.line_editor.specs.Steps.{one, asked, Surface, surface, refusal, SameBeside, Unhelped, StepMade, Stops}
+use Rattle.line_editor.specs.Values.{Value, EditStep, written_of, helped}
+use Rattle.line_editor.specs.Values.EditStep.{Draws, Edits, TakesBack, Takes}
+
+-- ---- calls
+
+-- what a renderer does
+abbrev pub draws : Call → Bool
+draws (Help fails) = false
+draws call = true
+
+pub made_by : {R : Type 0} (canvas : Canvas R) (call : Call) (old new : R) → draws call ≡ true → canvas.made old call new → MadeIn canvas old call new
+made_by canvas (Help fails) old new is h = absurd (true≢false (sym is))
+made_by canvas _ old new is h = h
+
+refused_by : {R : Type 0} (canvas : Canvas R) (call : Call) (old new : R) → draws call ≡ true → canvas.refused old call new → RefusedIn canvas old call new
+refused_by canvas (Help fails) old new is h = absurd (true≢false (sym is))
+refused_by canvas _ old new is h = h
+
+-- the first one was refused
+pub broken_refused : {R : Type 0} (canvas : Canvas R) (call : Call) (calls : List Call) (old new : R) → draws call ≡ true → canvas.refused old call new → BrokenOff canvas (call ∷ calls) old new
+unfolding BrokenOff
+broken_refused canvas call calls old new is h = inl (refused_by canvas call old new is h)
+
+-- the first of two was refused, or it was made and the second one was refused
+pub broken_both : {R : Type 0} (canvas : Canvas R) (first second : Call) (old new : R) → draws first ≡ true → draws second ≡ true
+    → canvas.refused old first new ⊎ ((between : R) × canvas.made old first between × canvas.refused between second new) → BrokenOff canvas (first ∷ second ∷ []) old new
+unfolding BrokenOff
+broken_both canvas first second old new is also (inl h) = broken_refused canvas first (second ∷ []) old new is h
+broken_both canvas first second old new is also (inr (between, h, k)) = inr (between, made_by canvas first old between is h, broken_refused canvas second [] between new also k)
+
+pub folds_both : {R : Type 0} (made : R → Call → R → Type 0) (calls more : List Call) (old between new : R) → FoldsTo made old calls between → FoldsTo made between more new
+    → FoldsTo made old (calls ++ more) new
+folds_both made [] more old between new h k = subst (λ x. FoldsTo made x more new) (sym h) k
+folds_both made (call ∷ calls) more old between new h k = (h.0, h.1, folds_both made calls more h.0 between new h.2 k)
+
+pub folds_apart : {R : Type 0} (made : R → Call → R → Type 0) (calls more : List Call) (old new : R) → FoldsTo made old (calls ++ more) new
+    → (between : R) × FoldsTo made old calls between × FoldsTo made between more new
+folds_apart made [] more old new h = (old, refl, h)
+folds_apart made (call ∷ calls) more old new h =
+    let parts = folds_apart made calls more h.0 new h.2 in
+    (parts.0, (h.0, h.1, parts.1), parts.2)
+
+asked_joined : (a : Asked) (b : Asked) (c : Asked) → then_asked a (then_asked b c) ≡ then_asked (then_asked a b) c
+asked_joined a b c = ap (λ calls. record { calls = calls; layout = c.layout }) (sym (append_assoc a.calls b.calls c.calls))
+
+-- steps after others are asked on the layout that those leave
+pub asked_both : (r : Ruler) (l : Layout) (xs ys : List EditStep) → asked r l (xs ++ ys) ≡ then_asked (asked r l xs) (asked r (asked r l xs).layout ys)
+asked_both r l [] ys = refl
+asked_both r l (x ∷ xs) ys = ap (then_asked (one r l x)) (asked_both r (one r l x).layout xs ys) ∙ asked_joined (one r l x) (asked r (one r l x).layout xs) _
+
+-- ---- a hook that was asked
+
+pub help_made : {R A : Type 0} (canvas : Canvas R) (r : Ruler) (l : Layout) (v : Value) (reply : Option (Reply A)) (old new : R) → IsFalse (fails_by reply) → new ≡ old
+    → FoldsTo (MadeIn canvas) old (asked r l (helped v reply)).calls new
+help_made canvas r l v None old new works same = sym same
+help_made canvas r l v (Some reply) old new works same = (old, (works, refl), sym same)
+
+pub help_layout : {A : Type 0} (r : Ruler) (l : Layout) (v : Value) (reply : Option (Reply A)) → (asked r l (helped v reply)).layout ≡ l
+help_layout r l v None = refl
+help_layout r l v (Some reply) = refl
+
+-- ---- where steps stop
+
+module _ {R : Type 0} (canvas : Canvas R) (r : Ruler) where
+  -- nowhere where there are none
+  pub never_stops : {Z : Type 0} (fault : ReadlineError) (v : Value) (old new : Surface R) → Stops canvas r [] old fault v new → Z
+  unfolding Stops
+  never_stops fault v old new h = absurd (cc)
+
+  -- at a drawing
+  pub stops_drawing : (stands : Value) (x : Redraw) (more : List EditStep) (old new : Surface R) (fault : ReadlineError) (v : Value)
+      → fault ≡ Display → BrokenOff canvas (asked_by r old.layout x).calls old.out new.out → new.layout ≡ old.layout → v ≡ stands
+      → Stops canvas r (Draws stands x ∷ more) old fault v new
+  unfolding Stops
+  stops_drawing stands x more old new fault v is broken layout value = inr (refusal fault v, (is, broken, layout, value), refl)
+
+  -- another drawing asks the same
+  pub stops_drawn_as : (stands : Value) (x y : Redraw) (old new : Surface R) (fault : ReadlineError) (v : Value)
+      → asked_by r old.layout x ≡ asked_by r old.layout y → Stops canvas r (Draws stands x ∷ []) old fault v new → Stops canvas r (Draws stands y ∷ []) old fault v new
+  unfolding Stops
+  stops_drawn_as stands x y old new fault v same (inl (none, between, made, h)) = absurd (cc)
+  stops_drawn_as stands x y old new fault v same (inr (e, (is, broken, layout, value), at)) =
+      inr (e, (is, subst (λ (a : Asked). BrokenOff canvas a.calls old.out new.out) same broken, layout, value), at)
+
+  -- at an edit of the line
+  pub stops_editing : (stands : Value) (edit : Steps ⊤) (more : List EditStep) (old new : Surface R) (fault : ReadlineError) (v : Value)
+      → fault ≡ Memory → new ≡ old → SameBeside stands v → StopsIn edit (written_of stands) (written_of v) → Stops canvas r (Edits stands edit ∷ more) old fault v new
+  unfolding Stops
+  stops_editing stands edit more old new fault v is same value left = inr (refusal fault v, (is, same, value, left), refl)
+
+  -- where changes are taken back
+  pub stops_taking_back : (stands : Value) (more : List EditStep) (old new : Surface R) (fault : ReadlineError) (v : Value)
+      → fault ≡ Memory → new ≡ old → v ≡ record stands { line = v.line; held = [] } → Stops canvas r (TakesBack stands ∷ more) old fault v new
+  unfolding Stops
+  stops_taking_back stands more old new fault v is same value = inr (refusal fault v, (is, same, value), refl)
+
+  pub stops_taking : (stands : Value) (more : List EditStep) (old new : Surface R) (fault : ReadlineError) (v : Value)
+      → fault ≡ Memory → new ≡ old → v ≡ stands → Stops canvas r (Takes stands ∷ more) old fault v new
+  unfolding Stops
+  stops_taking stands more old new fault v is same value = inr (refusal fault v, (is, same, value), refl)
+
+  unhelped_by : {A : Type 0} (reply : Reply A) (fault : ReadlineError) → IsHelpFault (Some reply) fault → Unhelped (fails reply) fault
+  unhelped_by reply Helper why = why
+  unhelped_by reply Memory why = tt
+  unhelped_by reply _ why = absurd why
+
+  -- a hook was asked
+  pub stops_asking : {A : Type 0} (stands : Value) (reply : Option (Reply A)) (old new : Surface R) (fault : ReadlineError) (v : Value)
+      → IsHelpFault reply fault → new ≡ old → v ≡ stands → Stops canvas r (helped stands reply) old fault v new
+  unfolding Stops
+  stops_asking stands None old new fault v why same value = absurd why
+  stops_asking stands (Some reply) old new fault v why same value = inr (refusal fault v, (unhelped_by reply fault why, same, value), refl)
+
+  -- it was asked to make an edit of the line
+  pub stops_updating : (stands : Value) (reply : Option (Reply ⊤)) (old new : Surface R) (fault : ReadlineError) (v : Value)
+      → is_some reply ≡ true → Unhelped (fails_by reply) fault → new ≡ old → SameBeside stands v → Stops canvas r (updates reply stands) old fault v new
+  unfolding Stops
+  stops_updating stands None old new fault v some why same value = absurd (true≢false (sym some))
+  stops_updating stands (Some reply) old new fault v some why same value = inr (refusal fault v, (why, same, value), refl)
+
+  -- behind a step that was made
+  pub stops_after : (step : EditStep) (more : List EditStep) (old between new : Surface R) (fault : ReadlineError) (v : Value)
+      → StepMade canvas r old step between → Stops canvas r more between fault v new → Stops canvas r (step ∷ more) old fault v new
+  unfolding Stops
+  stops_after step more old between new fault v made h = inl (tt, between, made, h)
+
+  -- behind an edit of the line
+  pub stops_edited : {A : Type 0} (stands : Value) (edit : Steps ⊤) (more : List EditStep) (old new : Surface R) (v : Value) (result : Result A ReadlineError)
+      → IfErr result (λ fault. Stops canvas r more old fault v new) → IfErr result (λ fault. Stops canvas r (Edits stands edit ∷ more) old fault v new)
+  stops_edited stands edit more old new v (Ok x) h = tt
+  stops_edited stands edit more old new v (Err fault) h = stops_after (Edits stands edit) more old old new fault v (refl, refl) h
+
+  -- behind changes that were taken back
+  pub stops_taken_back : {A : Type 0} (stands : Value) (more : List EditStep) (old new : Surface R) (v : Value) (result : Result A ReadlineError)
+      → IfErr result (λ fault. Stops canvas r more old fault v new) → IfErr result (λ fault. Stops canvas r (TakesBack stands ∷ more) old fault v new)
+  stops_taken_back stands more old new v (Ok x) h = tt
+  stops_taken_back stands more old new v (Err fault) h = stops_after (TakesBack stands) more old old new fault v (refl, refl) h
+
+  -- more are to come after them
+  pub stops_before : (xs ys : List EditStep) (old new : Surface R) (fault : ReadlineError) (v : Value) → Stops canvas r xs old fault v new → Stops canvas r (xs ++ ys) old fault v new
+  unfolding Stops
+  stops_before [] ys old new fault v h = absurd (cc)
+  stops_before (x ∷ xs) ys old new fault v (inl (none, between, made, h)) = inl (none, between, made, stops_before xs ys between new fault v h)
+  stops_before (x ∷ xs) ys old new fault v (inr h) = inr h
+
+  pub stops_first : (step : EditStep) (more : List EditStep) (old new : Surface R) (fault : ReadlineError) (v : Value)
+      → Stops canvas r (step ∷ []) old fault v new → Stops canvas r (step ∷ more) old fault v new
+  stops_first step more old new fault v h = stops_before (step ∷ []) more old new fault v h
+
+  -- those before them were made
+  pub stops_behind : (xs ys : List EditStep) (l : Layout) (old out : R) (new : Surface R) (fault : ReadlineError) (v : Value)
+      → FoldsTo (MadeIn canvas) old (asked r l xs).calls out → Stops canvas r ys (surface out (asked r l xs).layout) fault v new → Stops canvas r (xs ++ ys) (surface old l) fault v new
+  stops_behind [] ys l old out new fault v made h = subst (λ x. Stops canvas r ys (surface x l) fault v new) (sym made) h
+  stops_behind (x ∷ xs) ys l old out new fault v made h =
+      let parts = folds_apart (MadeIn canvas) (one r l x).calls (asked r (one r l x).layout xs).calls old out made in
+      let between : Surface R = surface parts.0 (one r l x).layout in
+      stops_after x (xs ++ ys) (surface old l) between new fault v (parts.1, refl) (stops_behind xs ys (one r l x).layout parts.0 out new fault v parts.2 h)

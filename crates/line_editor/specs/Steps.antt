@@ -1,0 +1,100 @@
+-- What the steps of an edit ask of a renderer, and where a fault stops them.
+use Rattle.std.specs.Prelude.{◌≡◌, ⊤, Bool, List, [], ◌∷◌, Err, IsTrue}
+use Rattle.std.specs.List.{FoldsTo}
+use Rattle.line_buffer.specs.declared.layout.Layout.{Layout}
+use Rattle.line_config.specs.Scripts.{Script, Ends, Asks, World, Goes}
+use Rattle.line_config.specs.declared.errors.ReadlineError.{ReadlineError}
+use Rattle.line_config.specs.declared.errors.ReadlineError.TheVariants.{Display, Helper, Memory}
+use Rattle.line_edits.specs.Steps.{StopsIn}
+use Rattle.line_editor.specs.Calls.{Canvas, Ruler, MadeIn, BrokenOff}
+use Rattle.line_editor.specs.Calls.Call.{Help}
+use Rattle.line_editor.specs.Redraws.{Asked, asked_by, nothing_asked, then_asked}
+use Rattle.line_editor.specs.Values.{Value, EditStep, written_of}
+use Rattle.line_editor.specs.Values.EditStep.{Draws, Helped, Updates, Edits, TakesBack, Takes}
+
+-- ---- the calls of steps that are made
+
+abbrev pub help_asked : Layout → Bool → Asked
+help_asked l fails = record { calls = Help fails ∷ []; layout = l }
+
+abbrev pub one : Ruler → Layout → EditStep → Asked
+one r l (Draws v x) = asked_by r l x
+one r l (Helped v fails) = help_asked l fails
+one r l (Updates v fails) = help_asked l fails
+one r l (Edits v edit) = nothing_asked l
+one r l (TakesBack v) = nothing_asked l
+one r l (Takes v) = nothing_asked l
+
+abbrev pub asked : Ruler → Layout → List EditStep → Asked
+asked r l [] = nothing_asked l
+asked r l (x ∷ xs) = then_asked (one r l x) (asked r (one r l x).layout xs)
+
+-- ---- where a fault stops them
+
+-- a renderer, and what is kept of its drawing
+pub record Surface (R : Type 0) : Type 0 where
+  pub out : R
+  pub layout : Layout
+
+abbrev pub surface : {R : Type 0} → R → Layout → Surface R
+surface out layout = record { out = out; layout = layout }
+
+-- a fault, and the value that it leaves
+pub record Refusal : Type 0 where
+  pub fault : ReadlineError
+  pub value : Value
+
+abbrev pub refusal : ReadlineError → Value → Refusal
+refusal fault value = record { fault = fault; value = value }
+
+-- the helper fails, or finds no memory
+abbrev pub Unhelped : Bool → ReadlineError → Type 0
+Unhelped fails Helper = IsTrue fails
+Unhelped fails Memory = ⊤
+Unhelped fails why = ⊥
+
+-- what an edit of line and record that was refused leaves: all else is as it was
+abbrev pub SameBeside : Value → Value → Type 0
+SameBeside v w = w ≡ record v { line = w.line; held = w.held }
+
+-- a step is made by its calls
+abbrev pub StepMade : {R : Type 0} → Canvas R → Ruler → Surface R → EditStep → Surface R → Type 0
+StepMade canvas r s step t =
+    FoldsTo (MadeIn canvas) s.out (one r s.layout step).calls t.out
+    × (t.layout ≡ (one r s.layout step).layout)
+
+-- one that is refused leaves the value that stands, and what is kept of the drawing. The display
+-- refuses drawings alone, of which it has the first calls; memory is wanting for edits alone, and
+-- where it says so
+abbrev pub StepCut : {R : Type 0} → Canvas R → Ruler → Surface R → EditStep → Refusal → Surface R
+    → Type 0
+StepCut canvas r s (Draws v x) e t =
+    (e.fault ≡ Display) × BrokenOff canvas (asked_by r s.layout x).calls s.out t.out
+    × (t.layout ≡ s.layout) × (e.value ≡ v)
+StepCut canvas r s (Helped v fails) e t = Unhelped fails e.fault × (t ≡ s) × (e.value ≡ v)
+StepCut canvas r s (Updates v fails) e t =
+    Unhelped fails e.fault × (t ≡ s) × SameBeside v e.value
+StepCut canvas r s (Edits v edit) e t =
+    (e.fault ≡ Memory) × (t ≡ s) × SameBeside v e.value
+    × StopsIn edit (written_of v) (written_of e.value)
+StepCut canvas r s (TakesBack v) e t =
+    (e.fault ≡ Memory) × (t ≡ s) × (e.value ≡ record v { line = e.value.line; held = [] })
+StepCut canvas r s (Takes v) e t = (e.fault ≡ Memory) × (t ≡ s) × (e.value ≡ v)
+
+-- steps one after the other
+abbrev pub in_order : List EditStep → Script EditStep (λ step. ⊤) ⊤
+in_order [] = Ends tt
+in_order (step ∷ steps) = Asks step (λ none. in_order steps)
+
+abbrev pub edit_world : {R : Type 0} → Canvas R → Ruler
+    → World EditStep (λ step. ⊤) (Surface R) Refusal
+edit_world canvas r = record {
+  made = λ s step none t. StepMade canvas r s step t;
+  cut = λ s step e t. StepCut canvas r s step e t;
+}
+
+-- the first of these steps were made, and this fault cut the next one, which left this value
+unfoldable pub Stops : {R : Type 0} → Canvas R → Ruler → List EditStep → Surface R → ReadlineError
+    → Value → Surface R → Type 0
+Stops canvas r steps old fault value new =
+    Goes (edit_world canvas r) (in_order steps) old (Err (refusal fault value)) new
