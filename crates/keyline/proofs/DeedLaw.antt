@@ -1,20 +1,14 @@
 -- A session's deeds come to its report, and any first ones of them to the first of its lines.
 use Rattle.std.proofs.Common.{◌≡◌, ℕ, zero, suc, ◌≤◌, List, [], ◌∷◌, ◌++◌, length, refl, sym, ap, ◌∙◌, subst, append-nil, append_assoc, Result, Ok, Err, arith}
-use Rattle.std.specs.Prelude.{⊤}
-use Rattle.line_buffer.specs.declared.layout.Layout.{Layout}
 use Rattle.line_config.specs.declared.errors.ReadlineError.{ReadlineError}
-use Rattle.line_editor.specs.Acts.{Act, Sees, Gets, Obeys}
-use Rattle.line_editor.specs.Calls.{Call}
-use Rattle.line_editor.specs.Calls.Call.{Help}
 use Rattle.line_editor.specs.Lines.{Told}
 use Rattle.line_editor.specs.Redraws.{fresh}
 use Rattle.line_screen.specs.Calls.{Screen}
 use Rattle.line_keys.specs.Coming.{Coming}
-use Rattle.keyline.specs.Deeds.{SessionDeed, Draws, Helped, Hears, Keeps, Writes, bytes_drawn, left_of_deeds, lines_kept, lines_written, call_deeds, act_deeds, acts_in, close_deeds, line_deeds, deeds_after, session_deeds, AreFirst, DeedsTell}
+use Rattle.keyline.specs.Deeds.{SessionDeed, Draws, Helped, Hears, Keeps, Writes, bytes_drawn, left_of_deeds, lines_kept, lines_written, act_deeds, acts_in, close_deeds, line_deeds, deeds_after, session_deeds, AreFirst, DeedsTell}
 use Rattle.keyline.specs.Playing.{accepted_of}
 use Rattle.keyline.specs.Sessions.{Given, LineGiven, SessionState, Report, for_line, line_in, after_line, line_reported, line_bytes, display_bytes, screens_for, session_by}
-use Rattle.keyline.specs.Shows.{drawn_by}
-use Rattle.keyline.proofs.DeedLemmas.{drawn_both, left_both, kept_both, written_both, deeds_drawn, deeds_left, deeds_kept, deeds_written}
+use Rattle.keyline.proofs.DeedLemmas.{Ordered, as_acts, drawn_both, left_both, kept_both, written_both, deeds_drawn, deeds_left, deeds_kept, deeds_written}
 
 -- ---- what all of them come to
 
@@ -54,15 +48,6 @@ told (suc n) g at x =
 
 -- ---- what the first of them come to: a line is written right after it was kept
 
--- where these are the lines kept and not yet written
-abbrev Ordered : List (List ℕ) → List SessionDeed → Type 0
-Ordered hand [] = ⊤
-Ordered hand (Draws bytes ∷ more) = Ordered hand more
-Ordered hand (Helped fails ∷ more) = Ordered hand more
-Ordered hand (Hears rest ∷ more) = Ordered hand more
-Ordered hand (Keeps line ∷ more) = (hand ≡ []) × Ordered (line ∷ []) more
-Ordered hand (Writes line ∷ more) = (hand ≡ line ∷ []) × Ordered [] more
-
 record Hand (hand : List (List ℕ)) (done : List SessionDeed) : Type 0 where
   in_hand : List (List ℕ)
   one : length in_hand ≤ 1
@@ -80,21 +65,6 @@ hand_of hand (Writes line ∷ done) next one is =
     let r = hand_of [] done next (search arith) is.1 in
     record { in_hand = r.in_hand; one = r.one; kept = ap (λ lines. lines ++ lines_kept done) is.0 ∙ ap (λ lines. line ∷ lines) r.kept }
 
-ordered_calls : (s : Screen) (calls : List Call) (more : List SessionDeed) → Ordered [] more → Ordered [] (call_deeds s calls ++ more)
-ordered_calls s [] more is = is
-ordered_calls s (Help fails ∷ calls) more is = ordered_calls s calls more is
-ordered_calls s (_ ∷ calls) more is = ordered_calls s calls more is
-
-ordered_acts : (s : Screen) (l : Layout) (acts : List Act) (more : List SessionDeed) → Ordered [] more → Ordered [] (act_deeds s l acts ++ more)
-ordered_acts s l [] more is = is
-ordered_acts s l (Sees redraws ∷ acts) more is =
-    let a = drawn_by s l redraws in
-    subst (λ deeds. Ordered [] deeds) (sym (append_assoc (call_deeds s a.calls) (act_deeds s a.layout acts) more)) (ordered_calls s a.calls _ (ordered_acts s a.layout acts more is))
-ordered_acts s l (Gets rest ∷ acts) more is = ordered_acts s l acts more is
-ordered_acts s l (Obeys textless ring redraws ∷ acts) more is =
-    let a = drawn_by s l redraws in
-    subst (λ deeds. Ordered [] deeds) (sym (append_assoc (call_deeds s a.calls) (act_deeds s a.layout acts) more)) (ordered_calls s a.calls _ (ordered_acts s a.layout acts more is))
-
 ordered_close : (o : Result (List ℕ) ReadlineError) (more : List SessionDeed) → Ordered [] more → Ordered [] (close_deeds o ++ deeds_after o more)
 ordered_close (Ok text) more is = (refl, (refl, is))
 ordered_close (Err e) more is = tt
@@ -111,7 +81,7 @@ ordered (suc n) g at x =
     let l = fresh s.mode in
     let others = session_deeds n g later (after_line g t x) in
     subst (λ deeds. Ordered [] deeds) (sym (append_assoc (act_deeds s l acts) (close_deeds t.outcome) (deeds_after t.outcome others)))
-    (ordered_acts s l acts (close_deeds t.outcome ++ deeds_after t.outcome others) (ordered_close t.outcome others (ordered n g later (after_line g t x))))
+    ((as_acts s x.coming l acts).ordered (close_deeds t.outcome ++ deeds_after t.outcome others) (ordered_close t.outcome others (ordered n g later (after_line g t x))))
 
 are_first : (lines : List (List ℕ)) (deeds done next : List SessionDeed) → Ordered [] deeds → lines_kept deeds ≡ lines → deeds ≡ done ++ next → AreFirst done lines
 are_first lines deeds done next is kept split =

@@ -1,12 +1,13 @@
 -- Deeds one after the other, done and cut.
-use Rattle.std.proofs.Common.{◌≡◌, ℕ, zero, suc, Bool, true, false, List, [], ◌∷◌, ◌++◌, inl, inr, refl, sym, ap, ◌∙◌, subst, append-nil, append_assoc, Option, None, Result, Ok, Err}
+use Rattle.std.proofs.Common.{◌≡◌, ℕ, zero, suc, Bool, true, false, List, [], ◌∷◌, ◌++◌, ◌⊎◌, inl, inr, refl, sym, ap, ◌∙◌, subst, append-nil, append_assoc, Option, Result, Ok, Err}
 use Rattle.std.specs.List.{FoldsTo, flat_map}
-use Rattle.std.specs.Prelude.{⊤, IsFalse}
+use Rattle.std.specs.Prelude.{⊤}
 use Rattle.std.proofs.lemmas.Grind.{flat_map-append}
 use Rattle.line_buffer.specs.declared.layout.Layout.{Layout}
 use Rattle.line_config.specs.declared.errors.ReadlineError.{ReadlineError}
 use Rattle.line_config.specs.declared.errors.ReadlineError.TheVariants.{Display, Lines, Helper, Memory}
 use Rattle.line_config.specs.Sending.{Takes, TakesSome}
+use Rattle.line_config.proofs.ScriptLaws.{fault_or}
 use Rattle.line_config.proofs.Taking.{takes_none, takes_then, taken_of}
 use Rattle.line_help.specs.History.{Filed, filed_with, filed_with_all}
 use Rattle.line_keys.specs.Answers.{Custom}
@@ -14,14 +15,15 @@ use Rattle.line_keys.specs.Coming.{Coming, left_by}
 use Rattle.line_keys.specs.Phrases.{Input}
 use Rattle.line_keys.specs.InputStates.{new_input}
 use Rattle.line_record.specs.Ring.{Ring}
-use Rattle.line_editor.specs.Acts.{Act, Sees, Gets, Obeys, Stage, stage, SeenInPart, CutIn, acts_after, acts_from, acts_of, turn_acts}
-use Rattle.line_editor.specs.Calls.{Call, Canvas, MadeIn, RefusedIn, BrokenOff, Begun}
+use Rattle.line_editor.specs.Acts.{Act, Sees, Gets, Obeys, Stage, stage, CutIn, acts_after, acts_from, acts_of, turn_acts}
+use Rattle.line_editor.specs.Calls.{Call, Canvas, MadeIn, RefusedIn, BrokenOff}
 use Rattle.line_editor.specs.Calls.Call.{Help}
-use Rattle.line_editor.specs.Drawing.{refreshed}
 use Rattle.line_editor.specs.Lines.{Told, Turned, turn_of, after_turn, line_from, line_of}
-use Rattle.line_editor.specs.Redraws.{Redraw, Asked, asked, fresh}
+use Rattle.line_editor.specs.Redraws.{Asked, asked_by, fresh}
 use Rattle.line_editor.specs.Sights.{info_after}
-use Rattle.line_editor.specs.Values.{Value, Setting, Effect, first_value}
+use Rattle.line_editor.specs.Steps.{one, asked, Surface, surface, Refusal, Unhelped, StepCut, Stops as StepsStop}
+use Rattle.line_editor.specs.Values.{Value, Setting, EditStep}
+use Rattle.line_editor.specs.Values.EditStep.{Draws as DrawStep, Helped as HelpStep, Updates as UpdateStep, Edits as EditingStep, TakesBack as BackStep, Takes as TakingStep}
 use Rattle.line_editor.specs.declared.commands.Status.{Status}
 use Rattle.line_editor.specs.declared.commands.Status.TheVariants.{Proceed, Submit}
 use Rattle.line_editor.proofs.ActsLemmas.{asked_of, asked_same, rest_of, turn_rest, whole_redraws}
@@ -62,153 +64,73 @@ answers_both [] ys h k = k
 answers_both (Helped fails ∷ xs) ys h k = (h.0, answers_both xs ys h.1 k)
 answers_both (_ ∷ xs) ys h k = answers_both xs ys h k
 
-answers_apart : (xs ys : List SessionDeed) → HelperAnswers (xs ++ ys) → HelperAnswers xs × HelperAnswers ys
-answers_apart [] ys h = (tt, h)
-answers_apart (Helped fails ∷ xs) ys h = let parts = answers_apart xs ys h.1 in ((h.0, parts.0), parts.1)
-answers_apart (_ ∷ xs) ys h = answers_apart xs ys h
+-- ---- deeds of calls and of acts
 
--- ---- calls
+-- each line is written right after it was kept; these are kept and not yet written
+abbrev pub Ordered : List (List ℕ) → List SessionDeed → Type 0
+Ordered hand [] = ⊤
+Ordered hand (Keeps line ∷ more) = (hand ≡ []) × Ordered (line ∷ []) more
+Ordered hand (Writes line ∷ more) = (hand ≡ line ∷ []) × Ordered [] more
+Ordered hand (deed ∷ more) = Ordered hand more
 
--- each time that they ask the helper it gives an answer
-abbrev pub Answered : List Call → Type 0
-Answered [] = ⊤
-Answered (Help fails ∷ more) = IsFalse fails × Answered more
-Answered (call ∷ more) = Answered more
-
-answered_apart : (xs ys : List Call) → Answered (xs ++ ys) → Answered xs × Answered ys
-answered_apart [] ys h = (tt, h)
-answered_apart (Help fails ∷ xs) ys h = let parts = answered_apart xs ys h.1 in ((h.0, parts.0), parts.1)
-answered_apart (_ ∷ xs) ys h = answered_apart xs ys h
-
-answered_both : (xs ys : List Call) → Answered xs → Answered ys → Answered (xs ++ ys)
-answered_both [] ys h k = k
-answered_both (Help fails ∷ xs) ys h k = (h.0, answered_both xs ys h.1 k)
-answered_both (_ ∷ xs) ys h k = answered_both xs ys h k
-
-pub made_answered : {R : Type 0} (canvas : Canvas R) (calls : List Call) (a b : R) → FoldsTo (MadeIn canvas) a calls b → Answered calls
-made_answered canvas [] a b h = tt
-made_answered canvas (Help fails ∷ calls) a b h = (h.1.0, made_answered canvas calls h.0 b h.2)
-made_answered canvas (_ ∷ calls) a b h = made_answered canvas calls h.0 b h.2
+-- they draw and ask as these calls do, and leave c' to come after c; no line is kept or written. Memory may be wanting
+-- before them where it may be before what follows
+pub record AsCalls (s : Screen) (c c' : Coming) (deeds : List SessionDeed) (calls : List Call) : Type 0 where
+  pub drawn : bytes_drawn deeds ≡ flat_map (bytes_of s) calls
+  pub left : left_of_deeds c deeds ≡ c'
+  pub kept : lines_kept deeds ≡ []
+  pub written : lines_written deeds ≡ []
+  pub answered : HelperAnswers (call_deeds s calls) → HelperAnswers deeds
+  pub takes : (adds : Bool) (tail : List SessionDeed) → TakesMemory adds tail → TakesMemory adds (deeds ++ tail)
+  pub ordered : (tail : List SessionDeed) → Ordered [] tail → Ordered [] (deeds ++ tail)
 
 module _ (s : Screen) where
-  calls_drawn : (calls : List Call) → bytes_drawn (call_deeds s calls) ≡ flat_map (bytes_of s) calls
-  calls_drawn [] = refl
-  calls_drawn (Help fails ∷ calls) = calls_drawn calls
-  calls_drawn (call ∷ calls) = ap (λ zs. bytes_of s call ++ zs) (calls_drawn calls)
+  as_none : (c : Coming) → AsCalls s c c [] []
+  as_none c = record { drawn = refl; left = refl; kept = refl; written = refl; answered = λ h. h; takes = λ adds tail h. h; ordered = λ tail h. h }
 
-  calls_ask : (calls : List Call) → HelperAnswers (call_deeds s calls) → Answered calls
-  calls_ask [] h = tt
-  calls_ask (Help fails ∷ calls) h = (h.0, calls_ask calls h.1)
-  calls_ask (_ ∷ calls) h = calls_ask calls h
+  as_call : (c c' : Coming) (call : Call) (deeds : List SessionDeed) (calls : List Call) → AsCalls s c c' deeds calls → AsCalls s c c' (call_deed s call ∷ deeds) (call ∷ calls)
+  as_call c c' (Help fails) deeds calls r =
+      record { drawn = r.drawn; left = r.left; kept = r.kept; written = r.written; answered = λ h. (h.0, r.answered h.1); takes = λ adds tail h. tt; ordered = r.ordered }
+  as_call c c' call deeds calls r =
+      record { drawn = ap (λ zs. bytes_of s call ++ zs) r.drawn; left = r.left; kept = r.kept; written = r.written; answered = r.answered; takes = λ adds tail h. tt; ordered = r.ordered }
 
-  calls_answered : (calls : List Call) → Answered calls → HelperAnswers (call_deeds s calls)
-  calls_answered [] h = tt
-  calls_answered (Help fails ∷ calls) h = (h.0, calls_answered calls h.1)
-  calls_answered (_ ∷ calls) h = calls_answered calls h
+  as_calls : (c c' : Coming) (first : List Call) (deeds : List SessionDeed) (calls : List Call) → AsCalls s c c' deeds calls → AsCalls s c c' (call_deeds s first ++ deeds) (first ++ calls)
+  as_calls c c' [] deeds calls r = r
+  as_calls c c' (call ∷ first) deeds calls r = as_call c c' call (call_deeds s first ++ deeds) (first ++ calls) (as_calls c c' first deeds calls r)
 
-  calls_left : (c : Coming) (calls : List Call) → left_of_deeds c (call_deeds s calls) ≡ c
-  calls_left c [] = refl
-  calls_left c (Help fails ∷ calls) = calls_left c calls
-  calls_left c (_ ∷ calls) = calls_left c calls
+  as_alone : (c : Coming) (calls : List Call) → AsCalls s c c (call_deeds s calls) calls
+  as_alone c [] = as_none c
+  as_alone c (call ∷ calls) = as_call c c call (call_deeds s calls) calls (as_alone c calls)
 
-  calls_kept : (calls : List Call) → lines_kept (call_deeds s calls) ≡ []
-  calls_kept [] = refl
-  calls_kept (Help fails ∷ calls) = calls_kept calls
-  calls_kept (_ ∷ calls) = calls_kept calls
+  as_heard : (c rest c' : Coming) (deeds : List SessionDeed) (calls : List Call) → AsCalls s rest c' deeds calls → AsCalls s c c' (Hears rest ∷ deeds) calls
+  as_heard c rest c' deeds calls r =
+      record { drawn = r.drawn; left = r.left; kept = r.kept; written = r.written; answered = r.answered; takes = λ adds tail h. tt; ordered = r.ordered }
 
-  calls_written : (calls : List Call) → lines_written (call_deeds s calls) ≡ []
-  calls_written [] = refl
-  calls_written (Help fails ∷ calls) = calls_written calls
-  calls_written (_ ∷ calls) = calls_written calls
+  pub as_acts : (c : Coming) (l : Layout) (acts : List Act) → AsCalls s c (rest_of c acts) (act_deeds s l acts) (asked_of (ruler_of s) l acts).calls
+  as_acts c l [] = as_none c
+  as_acts c l (Sees steps ∷ more) = let x = drawn_by s l steps in as_calls c (rest_of c more) x.calls (act_deeds s x.layout more) _ (as_acts c x.layout more)
+  as_acts c l (Gets value rest ∷ more) = as_heard c rest (rest_of rest more) (act_deeds s l more) _ (as_acts rest l more)
+  as_acts c l (Obeys textless ring steps ∷ more) = let x = drawn_by s l steps in as_calls c (rest_of c more) x.calls (act_deeds s x.layout more) _ (as_acts c x.layout more)
 
-  -- ---- acts
-
-  abbrev asks_of : Layout → List Redraw → List SessionDeed
-  asks_of l redraws = call_deeds s (drawn_by s l redraws).calls
-
-  drawn_then : (l : Layout) (redraws : List Redraw) (deeds : List SessionDeed) (calls : List Call) → bytes_drawn deeds ≡ flat_map (bytes_of s) calls
-      → bytes_drawn (asks_of l redraws ++ deeds) ≡ flat_map (bytes_of s) ((drawn_by s l redraws).calls ++ calls)
-  drawn_then l redraws deeds calls is =
-      let first = (drawn_by s l redraws).calls in
-      drawn_both (asks_of l redraws) deeds ∙ (ap (λ zs. zs ++ bytes_drawn deeds) (calls_drawn first)
-      ∙ (ap (λ zs. flat_map (bytes_of s) first ++ zs) is ∙ sym (flat_map-append (bytes_of s) first calls)))
-
-  acts_drawn : (l : Layout) (acts : List Act) → bytes_drawn (act_deeds s l acts) ≡ flat_map (bytes_of s) (asked_of (ruler_of s) l acts).calls
-  acts_drawn l [] = refl
-  acts_drawn l (Sees redraws ∷ more) = let l' = (drawn_by s l redraws).layout in drawn_then l redraws (act_deeds s l' more) _ (acts_drawn l' more)
-  acts_drawn l (Gets rest ∷ more) = acts_drawn l more
-  acts_drawn l (Obeys textless ring redraws ∷ more) = let l' = (drawn_by s l redraws).layout in drawn_then l redraws (act_deeds s l' more) _ (acts_drawn l' more)
-
-  left_then : (c : Coming) (l : Layout) (redraws : List Redraw) (deeds : List SessionDeed) → left_of_deeds c (asks_of l redraws ++ deeds) ≡ left_of_deeds c deeds
-  left_then c l redraws deeds = left_both c (asks_of l redraws) deeds ∙ ap (λ d. left_of_deeds d deeds) (calls_left c (drawn_by s l redraws).calls)
-
-  ask_then : (l : Layout) (redraws : List Redraw) (more : List Act) → (let l' = (drawn_by s l redraws).layout in
-      (HelperAnswers (act_deeds s l' more) → Answered (asked_of (ruler_of s) l' more).calls)
-      → HelperAnswers (asks_of l redraws ++ act_deeds s l' more) → Answered ((drawn_by s l redraws).calls ++ (asked_of (ruler_of s) l' more).calls))
-  ask_then l redraws more rest h =
-      let first = (drawn_by s l redraws).calls in
-      let l' = (drawn_by s l redraws).layout in
-      let parts = answers_apart (asks_of l redraws) (act_deeds s l' more) h in
-      answered_both first (asked_of (ruler_of s) l' more).calls (calls_ask first parts.0) (rest parts.1)
-
-  answered_then : (l : Layout) (redraws : List Redraw) (more : List Act) → (let l' = (drawn_by s l redraws).layout in
-      (Answered (asked_of (ruler_of s) l' more).calls → HelperAnswers (act_deeds s l' more))
-      → Answered ((drawn_by s l redraws).calls ++ (asked_of (ruler_of s) l' more).calls) → HelperAnswers (asks_of l redraws ++ act_deeds s l' more))
-  answered_then l redraws more rest h =
-      let first = (drawn_by s l redraws).calls in
-      let l' = (drawn_by s l redraws).layout in
-      let parts = answered_apart first (asked_of (ruler_of s) l' more).calls h in
-      answers_both (asks_of l redraws) (act_deeds s l' more) (calls_answered first parts.0) (rest parts.1)
-
-  acts_left : (c : Coming) (l : Layout) (acts : List Act) → left_of_deeds c (act_deeds s l acts) ≡ rest_of c acts
-  acts_left c l [] = refl
-  acts_left c l (Sees redraws ∷ more) = left_then c l redraws _ ∙ acts_left c (drawn_by s l redraws).layout more
-  acts_left c l (Gets rest ∷ more) = acts_left rest l more
-  acts_left c l (Obeys textless ring redraws ∷ more) = left_then c l redraws _ ∙ acts_left c (drawn_by s l redraws).layout more
-
-  kept_then : (l : Layout) (redraws : List Redraw) (deeds : List SessionDeed) → lines_kept deeds ≡ [] → lines_kept (asks_of l redraws ++ deeds) ≡ []
-  kept_then l redraws deeds none = kept_both (asks_of l redraws) deeds ∙ (ap (λ lines. lines ++ lines_kept deeds) (calls_kept (drawn_by s l redraws).calls) ∙ none)
-
-  acts_kept : (l : Layout) (acts : List Act) → lines_kept (act_deeds s l acts) ≡ []
-  acts_kept l [] = refl
-  acts_kept l (Sees redraws ∷ more) = kept_then l redraws _ (acts_kept (drawn_by s l redraws).layout more)
-  acts_kept l (Gets rest ∷ more) = acts_kept l more
-  acts_kept l (Obeys textless ring redraws ∷ more) = kept_then l redraws _ (acts_kept (drawn_by s l redraws).layout more)
-
-  written_then : (l : Layout) (redraws : List Redraw) (deeds : List SessionDeed) → lines_written deeds ≡ [] → lines_written (asks_of l redraws ++ deeds) ≡ []
-  written_then l redraws deeds none = written_both (asks_of l redraws) deeds ∙ (ap (λ lines. lines ++ lines_written deeds) (calls_written (drawn_by s l redraws).calls) ∙ none)
-
-  acts_written : (l : Layout) (acts : List Act) → lines_written (act_deeds s l acts) ≡ []
-  acts_written l [] = refl
-  acts_written l (Sees redraws ∷ more) = written_then l redraws _ (acts_written (drawn_by s l redraws).layout more)
-  acts_written l (Gets rest ∷ more) = acts_written l more
-  acts_written l (Obeys textless ring redraws ∷ more) = written_then l redraws _ (acts_written (drawn_by s l redraws).layout more)
-
-  acts_ask : (l : Layout) (acts : List Act) → HelperAnswers (act_deeds s l acts) → Answered (asked_of (ruler_of s) l acts).calls
-  acts_ask l [] h = tt
-  acts_ask l (Sees redraws ∷ more) h = ask_then l redraws more (acts_ask (drawn_by s l redraws).layout more) h
-  acts_ask l (Gets rest ∷ more) h = acts_ask l more h
-  acts_ask l (Obeys textless ring redraws ∷ more) h = ask_then l redraws more (acts_ask (drawn_by s l redraws).layout more) h
-
-  acts_answered : (l : Layout) (acts : List Act) → Answered (asked_of (ruler_of s) l acts).calls → HelperAnswers (act_deeds s l acts)
-  acts_answered l [] h = tt
-  acts_answered l (Sees redraws ∷ more) h = answered_then l redraws more (acts_answered (drawn_by s l redraws).layout more) h
-  acts_answered l (Gets rest ∷ more) h = acts_answered l more h
-  acts_answered l (Obeys textless ring redraws ∷ more) h = answered_then l redraws more (acts_answered (drawn_by s l redraws).layout more) h
+  -- calls that were made had the helper's answers
+  pub made_answered : {R : Type 0} (canvas : Canvas R) (calls : List Call) (a b : R) → FoldsTo (MadeIn canvas) a calls b → HelperAnswers (call_deeds s calls)
+  made_answered canvas [] a b h = tt
+  made_answered canvas (Help fails ∷ calls) a b h = (h.1.0, made_answered canvas calls h.0 b h.2)
+  made_answered canvas (_ ∷ calls) a b h = made_answered canvas calls h.0 b h.2
 
 -- ---- what a line's acts leave to come
 
 rest_both : (c : Coming) (acts more : List Act) → rest_of c (acts ++ more) ≡ rest_of (rest_of c acts) more
 rest_both c [] more = refl
-rest_both c (Sees redraws ∷ acts) more = rest_both c acts more
-rest_both c (Gets rest ∷ acts) more = rest_both rest acts more
-rest_both c (Obeys textless ring redraws ∷ acts) more = rest_both c acts more
+rest_both c (Sees steps ∷ acts) more = rest_both c acts more
+rest_both c (Gets value rest ∷ acts) more = rest_both rest acts more
+rest_both c (Obeys textless ring steps ∷ acts) more = rest_both c acts more
 
 after_rest : (s : Setting) (info : Option (List ℕ)) (t : Turned) (o : Result Status ReadlineError)
     (next : Input → Ring → Option (List ℕ) → Value → Coming → Told) (acts : Input → Ring → Value → Coming → List Act)
     → ((info : Option (List ℕ)) → rest_of t.rest (acts t.input t.ring t.made.value t.rest) ≡ (next t.input t.ring info t.made.value t.rest).rest)
     → rest_of t.rest (acts_after acts s t o) ≡ (after_turn next s info t o).rest
-after_rest s info t (Ok Proceed) next acts same = same (info_after t.made.redraws info)
+after_rest s info t (Ok Proceed) next acts same = same (info_after t.made.steps info)
 after_rest s info t (Ok Submit) next acts same = refl
 after_rest s info t (Err e) next acts same = refl
 
@@ -225,9 +147,7 @@ line_rest (suc n) s custom indent i r info v c =
 whole_rest : (n : ℕ) (s : Setting) (custom : Custom) (indent : ℕ) (i : Input) (r : Ring) (c : Coming)
     → rest_of c (acts_of n s custom indent i r c) ≡ (line_of n s custom indent i r c).rest
 unfolding line_of acts_of
-whole_rest n s custom indent i r c =
-    let e : Effect = refreshed s (first_value s) in
-    line_rest n s custom indent i r (info_after e.redraws None) e.value c
+whole_rest n s custom indent i r c = line_rest n s custom indent i r _ _ c
 
 -- ---- a line
 
@@ -243,22 +163,16 @@ module _ (n : ℕ) (g : Given) (x : SessionState) where
       let s = g.screen in
       let l = fresh s.mode in
       let calls : Asked → List Call = λ a. a.calls in
-      let of_redraws : List Redraw → List Call = λ redraws. (asked (ruler_of s) l redraws).calls in
+      let of_steps : List EditStep → List Call = λ steps. (asked (ruler_of s) l steps).calls in
       ap calls (asked_same (ruler_of s) l (acts_in n g x))
-      ∙ ap of_redraws (whole_redraws n (setting_in g x.history.kept.entries) g.custom g.config.indent_size (new_input g.config.edit_mode) x.ring x.coming)
+      ∙ ap of_steps (whole_redraws n (setting_in g x.history.kept.entries) g.custom g.config.indent_size (new_input g.config.edit_mode) x.ring x.coming)
 
-  pub line_drawn : bytes_drawn in_line ≡ flat_map (bytes_of g.screen) (calls_of g.screen read)
-  line_drawn = acts_drawn g.screen (fresh g.screen.mode) (acts_in n g x) ∙ ap (flat_map (bytes_of g.screen)) same_calls
-
-  line_ask : HelperAnswers in_line → Answered (calls_of g.screen read)
-  line_ask h = subst Answered same_calls (acts_ask g.screen (fresh g.screen.mode) (acts_in n g x) h)
-
-  line_answered : Answered (calls_of g.screen read) → HelperAnswers in_line
-  line_answered h = acts_answered g.screen (fresh g.screen.mode) (acts_in n g x) (subst Answered (sym same_calls) h)
-
-  pub line_left : left_of_deeds x.coming in_line ≡ read.rest
-  line_left = acts_left g.screen x.coming (fresh g.screen.mode) (acts_in n g x)
-      ∙ whole_rest n (setting_in g x.history.kept.entries) g.custom g.config.indent_size (new_input g.config.edit_mode) x.ring x.coming
+  pub in_acts : AsCalls g.screen x.coming read.rest in_line (calls_of g.screen read)
+  in_acts =
+      let l = fresh g.screen.mode in
+      let rest = whole_rest n (setting_in g x.history.kept.entries) g.custom g.config.indent_size (new_input g.config.edit_mode) x.ring x.coming in
+      subst (λ c. AsCalls g.screen x.coming c in_line (calls_of g.screen read)) rest
+      (subst (λ calls. AsCalls g.screen x.coming (rest_of x.coming (acts_in n g x)) in_line calls) same_calls (as_acts g.screen x.coming l (acts_in n g x)))
 
 close_drawn : (o : Result (List ℕ) ReadlineError) → bytes_drawn (close_deeds o) ≡ break_if (breaks o)
 close_drawn (Ok text) = append-nil _
@@ -287,25 +201,24 @@ module _ (n : ℕ) (g : Given) (x : SessionState) where
   abbrev lined : List SessionDeed
   lined = act_deeds g.screen (fresh g.screen.mode) (acts_in n g x)
 
+  abbrev as_lined : AsCalls g.screen x.coming (line_in n g x).rest lined (calls_of g.screen (line_in n g x))
+  as_lined = in_acts n g x
+
   pub deeds_drawn : bytes_drawn (line_deeds n g x) ≡ line_bytes g.screen (line_in n g x)
-  deeds_drawn = drawn_both lined (close_deeds outcome) ∙ (ap (λ zs. zs ++ bytes_drawn (close_deeds outcome)) (line_drawn n g x)
+  deeds_drawn = drawn_both lined (close_deeds outcome) ∙ (ap (λ zs. zs ++ bytes_drawn (close_deeds outcome)) as_lined.drawn
       ∙ ap (λ zs. flat_map (bytes_of g.screen) (calls_of g.screen (line_in n g x)) ++ zs) (close_drawn outcome))
 
-  pub deeds_ask : HelperAnswers (line_deeds n g x) → Answered (calls_of g.screen (line_in n g x))
-  deeds_ask h = line_ask n g x (answers_apart lined (close_deeds outcome) h).0
-
-  pub deeds_answered : Answered (calls_of g.screen (line_in n g x)) → HelperAnswers (line_deeds n g x)
-  deeds_answered h = answers_both lined (close_deeds outcome) (line_answered n g x h) (close_answered outcome)
+  pub deeds_answered : HelperAnswers (call_deeds g.screen (calls_of g.screen (line_in n g x))) → HelperAnswers (line_deeds n g x)
+  deeds_answered h = answers_both lined (close_deeds outcome) (as_lined.answered h) (close_answered outcome)
 
   pub deeds_left : left_of_deeds x.coming (line_deeds n g x) ≡ (line_in n g x).rest
-  deeds_left = left_both x.coming lined (close_deeds outcome) ∙ (close_left (left_of_deeds x.coming lined) outcome ∙ line_left n g x)
+  deeds_left = left_both x.coming lined (close_deeds outcome) ∙ (close_left (left_of_deeds x.coming lined) outcome ∙ as_lined.left)
 
   pub deeds_kept : lines_kept (line_deeds n g x) ≡ accepted_of outcome
-  deeds_kept = kept_both lined (close_deeds outcome) ∙ (ap (λ lines. lines ++ lines_kept (close_deeds outcome)) (acts_kept g.screen (fresh g.screen.mode) (acts_in n g x)) ∙ close_kept outcome)
+  deeds_kept = kept_both lined (close_deeds outcome) ∙ (ap (λ lines. lines ++ lines_kept (close_deeds outcome)) as_lined.kept ∙ close_kept outcome)
 
   pub deeds_written : lines_written (line_deeds n g x) ≡ accepted_of outcome
-  deeds_written =
-      written_both lined (close_deeds outcome) ∙ (ap (λ lines. lines ++ lines_written (close_deeds outcome)) (acts_written g.screen (fresh g.screen.mode) (acts_in n g x)) ∙ close_written outcome)
+  deeds_written = written_both lined (close_deeds outcome) ∙ (ap (λ lines. lines ++ lines_written (close_deeds outcome)) as_lined.written ∙ close_written outcome)
 
 -- ---- the history
 
@@ -353,28 +266,6 @@ stops_more adds Helper c xs ys left begun torn p = (p.0, fails_more xs ys p.1, p
 stops_more adds Memory c xs ys left begun torn (inl here, undrawn, unwritten) = (inl (here.0, takes_more adds xs ys here.1), undrawn, unwritten)
 stops_more adds Memory c xs ys left begun torn (inr lost, undrawn, unwritten) = (inr (lost.0, heard_more xs ys lost.1), undrawn, unwritten)
 stops_more adds _ c xs ys left begun torn p = absurd p
-
--- ---- where memory may be wanting: before a line's calls and acts, if it may be before what follows them
-
-module _ (adds : Bool) (s : Screen) where
-  abbrev May : List SessionDeed → Type 0
-  May deeds = TakesMemory adds deeds
-
-  calls_take : (calls : List Call) (tail : List SessionDeed) → May tail → May (call_deeds s calls ++ tail)
-  calls_take [] tail takes = takes
-  calls_take (Help fails ∷ calls) tail takes = tt
-  calls_take (_ ∷ calls) tail takes = tt
-
-  drawn_take : (calls : List Call) (deeds tail : List SessionDeed) → May (deeds ++ tail) → May ((call_deeds s calls ++ deeds) ++ tail)
-  drawn_take calls deeds tail takes = subst May (sym (append_assoc (call_deeds s calls) deeds tail)) (calls_take calls (deeds ++ tail) takes)
-
-  acts_take : (l : Layout) (acts : List Act) (tail : List SessionDeed) → May tail → May (act_deeds s l acts ++ tail)
-  acts_take l [] tail takes = takes
-  acts_take l (Sees redraws ∷ more) tail takes =
-      let a = drawn_by s l redraws in drawn_take a.calls (act_deeds s a.layout more) tail (acts_take a.layout more tail takes)
-  acts_take l (Gets rest ∷ more) tail takes = tt
-  acts_take l (Obeys textless ring redraws ∷ more) tail takes =
-      let a = drawn_by s l redraws in drawn_take a.calls (act_deeds s a.layout more) tail (acts_take a.layout more tail takes)
 
 -- ---- deeds that were done, and deeds that were cut
 
@@ -498,151 +389,162 @@ module _ {D L : Type 0} (shown : D → List ℕ) (written_in : L → List ℕ) (
     abbrev on : ScreenRenderer D → Work D L
     on out = work (sink_of out) lines history
 
-    untouched : (deeds : List SessionDeed) (c c' : Coming) (a b : ScreenRenderer D) (bytes : List ℕ) → Takes shown (sink_of a) (sink_of b) bytes → bytes ≡ bytes_drawn deeds
-        → HelperAnswers deeds → lines_kept deeds ≡ [] → lines_written deeds ≡ [] → c' ≡ left_of_deeds c deeds → AllDone deeds c (on a) (on b) c'
-    untouched deeds c c' a b bytes took is helped kept written left =
+    untouched : (s : Screen) (deeds : List SessionDeed) (calls : List Call) (c c' left : Coming) (a b : ScreenRenderer D) → AsCalls s c c' deeds calls → left ≡ c'
+        → Takes shown (sink_of a) (sink_of b) (flat_map (bytes_of s) calls) → HelperAnswers (call_deeds s calls) → AllDone deeds c (on a) (on b) left
+    untouched s deeds calls c c' left a b r is took helped =
         let B : List ℕ → Type 0 = Takes shown (sink_of a) (sink_of b) in
         let W : List (List ℕ) → Type 0 = λ these. Takes written_in lines lines (lines_text these) in
         record {
-          drawn = subst B is took;
-          helped = helped;
-          wrote = subst W (sym written) (takes_none written_in lines lines refl);
-          history_is = sym (ap (λ these. remembered adds these history) kept ∙ remembered_none adds history);
-          left_is = left;
+          drawn = subst B (sym r.drawn) took;
+          helped = r.answered helped;
+          wrote = subst W (sym r.written) (takes_none written_in lines lines refl);
+          history_is = sym (ap (λ these. remembered adds these history) r.kept ∙ remembered_none adds history);
+          left_is = is ∙ sym r.left;
         }
 
     -- all acts of a line were done
     pub done_acts : (n : ℕ) (g : Given) (x : SessionState) (a b : ScreenRenderer D) (left : Coming) → Takes shown (sink_of a) (sink_of b) (flat_map (bytes_of g.screen) (calls_of g.screen (line_in n g x)))
-        → Answered (calls_of g.screen (line_in n g x)) → left ≡ (line_in n g x).rest → AllDone (act_deeds g.screen (fresh g.screen.mode) (acts_in n g x)) x.coming (on a) (on b) left
-    done_acts n g x a b left took answered is =
-        let l = fresh g.screen.mode in
-        untouched (act_deeds g.screen l (acts_in n g x)) x.coming left a b _ took (sym (line_drawn n g x)) (line_answered n g x answered) (acts_kept g.screen l (acts_in n g x)) (acts_written g.screen l (acts_in n g x))
-        (is ∙ sym (line_left n g x))
+        → HelperAnswers (call_deeds g.screen (calls_of g.screen (line_in n g x))) → left ≡ (line_in n g x).rest
+        → AllDone (act_deeds g.screen (fresh g.screen.mode) (acts_in n g x)) x.coming (on a) (on b) left
+    done_acts n g x a b left took answered is = untouched g.screen _ _ x.coming _ left a b (in_acts n g x) is took answered
 
-    module _ (show_failed : D → Bool) (s : Screen) (why : ReadlineError) where
+    module _ (show_failed : D → Bool) (s : Screen) where
       abbrev Made : List Call → ScreenRenderer D → ScreenRenderer D → Type 0
       Made calls a b = FoldsTo (MadeIn (canvas_of shown show_failed)) a calls b
-
-      -- memory was wanting before the first
-      stay : why ≡ Memory → (deeds : List SessionDeed) → TakesMemory adds deeds → (c : Coming) (a b : ScreenRenderer D) → b ≡ a → CutAt deeds c (on a) (on b) c why
-      stay memory deeds takes c a b same =
-          let P : ReadlineError → Type 0 = λ why. Stops adds why c deeds c [] [] in
-          cut_first deeds c c (on a) (on b) why (subst P (sym memory) (inl (refl, takes), refl, refl)) (ap sink_of same) refl refl
 
       done_calls : (calls : List Call) (c : Coming) (a b : ScreenRenderer D) → screen_of a ≡ s → Made calls a b → AllDone (call_deeds s calls) c (on a) (on b) c
       done_calls calls c a b is made =
           let P : Screen → Type 0 = λ s. Takes shown (sink_of a) (sink_of b) (flat_map (bytes_of s) calls) in
-          untouched (call_deeds s calls) c c a b _ (subst P is (sent_in_all shown show_failed calls a b made).takes) (sym (calls_drawn s calls))
-          (calls_answered s calls (made_answered (canvas_of shown show_failed) calls a b made)) (calls_kept s calls) (calls_written s calls) (sym (calls_left s c calls))
+          untouched s (call_deeds s calls) calls c c c a b (as_alone s c calls) refl (subst P is (sent_in_all shown show_failed calls a b made).takes)
+          (made_answered s (canvas_of shown show_failed) calls a b made)
 
       screen_kept : (calls : List Call) (a b : ScreenRenderer D) → screen_of a ≡ s → Made calls a b → screen_of b ≡ s
       screen_kept calls a b is made = (sent_in_all shown show_failed calls a b made).screen ∙ is
 
-      -- the first was refused: the helper failed, or the display
-      cut_call : (call : Call) (deeds : List SessionDeed) (c : Coming) (a b : ScreenRenderer D) → screen_of a ≡ s → RefusedIn (canvas_of shown show_failed) why a call b
-          → CutAt (call_deed s call ∷ deeds) c (on a) (on b) c why
-      cut_call (Help fails) deeds c a b is h =
-          let P : ReadlineError → Type 0 = λ why. Stops adds why c (Helped fails ∷ deeds) c [] [] in
-          cut_first (Helped fails ∷ deeds) c c (on a) (on b) why (subst P (sym h.0) (refl, h.1, refl, refl)) (ap sink_of h.2) refl refl
+      -- calls that the display broke off
+      cut_call : (call : Call) (deeds : List SessionDeed) (c : Coming) (a b : ScreenRenderer D) → screen_of a ≡ s → RefusedIn (canvas_of shown show_failed) a call b
+          → CutAt (call_deed s call ∷ deeds) c (on a) (on b) c Display
+      cut_call (Help fails) deeds c a b is h = absurd h
       cut_call call deeds c a b is h =
           let P : Screen → Type 0 = λ s. TakesSome shown (sink_of a) (sink_of b) (bytes_of s call) in
-          let Q : ReadlineError → Type 0 = λ why. CutAt (Draws (bytes_of s call) ∷ deeds) c (on a) (on b) c why in
-          subst Q (sym h.0) (cut_drawing (bytes_of s call) deeds c (on a) (on b) (subst P is h.1.begins) refl refl)
+          cut_drawing (bytes_of s call) deeds c (on a) (on b) (subst P is h.begins) refl refl
 
-      -- calls that others follow
-      cut_calls : (calls : List Call) (tail : List SessionDeed) → TakesMemory adds tail → (c : Coming) (a b : ScreenRenderer D) → screen_of a ≡ s
-          → BrokenOff (canvas_of shown show_failed) why calls a b → CutAt (call_deeds s calls ++ tail) c (on a) (on b) c why
+      cut_calls : (calls : List Call) (tail : List SessionDeed) (c : Coming) (a b : ScreenRenderer D) → screen_of a ≡ s → BrokenOff (canvas_of shown show_failed) calls a b
+          → CutAt (call_deeds s calls ++ tail) c (on a) (on b) c Display
       unfolding BrokenOff
-      cut_calls [] tail takes c a b is h = absurd h
-      cut_calls (call ∷ calls) tail takes c a b is (inl h) = stay h.0 (call_deeds s (call ∷ calls) ++ tail) (calls_take adds s (call ∷ calls) tail takes) c a b h.1
-      cut_calls (call ∷ calls) tail takes c a b is (inr (inl h)) = cut_call call (call_deeds s calls ++ tail) c a b is h
-      cut_calls (call ∷ calls) tail takes c a b is (inr (inr h)) =
+      cut_calls [] tail c a b is h = absurd h
+      cut_calls (call ∷ calls) tail c a b is (inl h) = cut_call call (call_deeds s calls ++ tail) c a b is h
+      cut_calls (call ∷ calls) tail c a b is (inr h) =
           let made : Made (call ∷ []) a h.0 = (h.0, h.1, refl) in
-          cut_after (call_deed s call ∷ []) (call_deeds s calls ++ tail) c c (on a) (on h.0) (on b) c why (done_calls (call ∷ []) c a h.0 is made)
-          (cut_calls calls tail takes c h.0 b (screen_kept (call ∷ []) a h.0 is made) h.2)
+          cut_after (call_deed s call ∷ []) (call_deeds s calls ++ tail) c c (on a) (on h.0) (on b) c Display (done_calls (call ∷ []) c a h.0 is made)
+          (cut_calls calls tail c h.0 b (screen_kept (call ∷ []) a h.0 is made) h.2)
 
-      cut_heard : (rest : Coming) (deeds : List SessionDeed) (c left : Coming) (a b : ScreenRenderer D) → CutAt deeds rest (on a) (on b) left why → CutAt (Hears rest ∷ deeds) c (on a) (on b) left why
-      cut_heard rest deeds c left a b r =
-          let first = untouched (Hears rest ∷ []) c rest a a [] (takes_none shown (sink_of a) (sink_of a) refl) refl tt refl refl refl in
+      -- a fault before the first, with the screen as it was: memory was wanting, or the helper refused
+      stands : (why : ReadlineError) (deeds : List SessionDeed) (c left : Coming) (a b : ScreenRenderer D) → Stops adds why c deeds left [] [] → b ≡ a → CutAt deeds c (on a) (on b) left why
+      stands why deeds c left a b stops same = cut_first deeds c left (on a) (on b) why stops (ap sink_of same) refl refl
+
+      wants : (why : ReadlineError) (deeds : List SessionDeed) (c : Coming) → why ≡ Memory → TakesMemory adds deeds → Stops adds why c deeds c [] []
+      wants why deeds c is takes = subst (λ why. Stops adds why c deeds c [] []) (sym is) (inl (refl, takes), refl, refl)
+
+      unhelped : (why : ReadlineError) (fails : Bool) (deeds : List SessionDeed) (c : Coming) → Unhelped fails why → Stops adds why c (Helped fails ∷ deeds) c [] []
+      unhelped Helper fails deeds c h = (refl, h, refl, refl)
+      unhelped Memory fails deeds c h = (inl (refl, tt), refl, refl)
+      unhelped _ fails deeds c h = absurd h
+
+      -- ---- steps: one that was refused, and those of which the first were made
+
+      cut_step : (step : EditStep) (deeds : List SessionDeed) → TakesMemory adds deeds → (c : Coming) (e : Refusal) (a b : Surface (ScreenRenderer D)) → screen_of a.out ≡ s
+          → StepCut (canvas_of shown show_failed) (ruler_of s) a step e b → CutAt (call_deeds s (one (ruler_of s) a.layout step).calls ++ deeds) c (on a.out) (on b.out) c e.fault
+      cut_step (DrawStep v x) deeds takes c e a b is h =
+          let calls = (asked_by (ruler_of s) a.layout x).calls in
+          subst (λ why. CutAt (call_deeds s calls ++ deeds) c (on a.out) (on b.out) c why) (sym h.0) (cut_calls calls deeds c a.out b.out is h.1)
+      cut_step (HelpStep v fails) deeds takes c e a b is h = stands e.fault (Helped fails ∷ deeds) c c a.out b.out (unhelped e.fault fails deeds c h.0) (ap (λ x. x.out) h.1)
+      cut_step (UpdateStep v fails) deeds takes c e a b is h = stands e.fault (Helped fails ∷ deeds) c c a.out b.out (unhelped e.fault fails deeds c h.0) (ap (λ x. x.out) h.1)
+      cut_step (EditingStep v edit) deeds takes c e a b is h = stands e.fault deeds c c a.out b.out (wants e.fault deeds c h.0 takes) (ap (λ x. x.out) h.1)
+      cut_step (BackStep v) deeds takes c e a b is h = stands e.fault deeds c c a.out b.out (wants e.fault deeds c h.0 takes) (ap (λ x. x.out) h.1)
+      cut_step (TakingStep v) deeds takes c e a b is h = stands e.fault deeds c c a.out b.out (wants e.fault deeds c h.0 takes) (ap (λ x. x.out) h.1)
+
+      behind_calls : (xs ys : List Call) (tail : List SessionDeed) → call_deeds s xs ++ (call_deeds s ys ++ tail) ≡ call_deeds s (xs ++ ys) ++ tail
+      behind_calls [] ys tail = refl
+      behind_calls (x ∷ xs) ys tail = ap (λ deeds. call_deed s x ∷ deeds) (behind_calls xs ys tail)
+
+      cut_steps : (steps : List EditStep) (tail : List SessionDeed) → TakesMemory adds tail → (c : Coming) (why : ReadlineError) (v : Value) (a b : Surface (ScreenRenderer D)) → screen_of a.out ≡ s
+          → StepsStop (canvas_of shown show_failed) (ruler_of s) steps a why v b → CutAt (call_deeds s (drawn_by s a.layout steps).calls ++ tail) c (on a.out) (on b.out) c why
+      unfolding StepsStop
+      cut_steps [] tail takes c why v a b is h = absurd (cc)
+      cut_steps (step ∷ steps) tail takes c why v a b is (inl (none, between, made, h)) =
+          let x = one (ruler_of s) a.layout step in
+          let After : Layout → Type 0 = λ l. CutAt (call_deeds s (drawn_by s l steps).calls ++ tail) c (on between.out) (on b.out) c why in
+          let rest = cut_steps steps tail takes c why v between b (screen_kept x.calls a.out between.out is made.0) h in
+          subst (λ deeds. CutAt deeds c (on a.out) (on b.out) c why) (behind_calls x.calls (drawn_by s x.layout steps).calls tail)
+          (cut_after (call_deeds s x.calls) _ c c (on a.out) (on between.out) (on b.out) c why (done_calls x.calls c a.out between.out is made.0) (subst After made.1 rest))
+      cut_steps (step ∷ steps) tail takes c why v a b is (inr (e, h, same)) =
+          let x = one (ruler_of s) a.layout step in
+          let more = (drawn_by s x.layout steps).calls in
+          let why_is : e.fault ≡ why = sym (ap (λ (r : Result ⊤ Refusal). (fault_or e r).fault) same) in
+          subst (λ deeds. CutAt deeds c (on a.out) (on b.out) c why) (behind_calls x.calls more tail)
+          (subst (λ why. CutAt (call_deeds s x.calls ++ (call_deeds s more ++ tail)) c (on a.out) (on b.out) c why) why_is
+          (cut_step step (call_deeds s more ++ tail) ((as_alone s c more).takes adds tail takes) c e a b is h))
+
+      -- ---- acts: their steps, and then others
+
+      joined : (steps : List EditStep) (l : Layout) (more : List Act) (tail : List SessionDeed)
+          → call_deeds s (drawn_by s l steps).calls ++ (act_deeds s (drawn_by s l steps).layout more ++ tail) ≡ act_deeds s l (Sees steps ∷ more) ++ tail
+      joined steps l more tail = sym (append_assoc (call_deeds s (drawn_by s l steps).calls) (act_deeds s (drawn_by s l steps).layout more) tail)
+
+      cut_seen : (steps : List EditStep) (more : List Act) (tail : List SessionDeed) → TakesMemory adds tail → (c left : Coming) (why : ReadlineError) (v : Value) (a b : Surface (ScreenRenderer D))
+          → screen_of a.out ≡ s → left ≡ c → StepsStop (canvas_of shown show_failed) (ruler_of s) steps a why v b
+          → CutAt (act_deeds s a.layout (Sees steps ∷ more) ++ tail) c (on a.out) (on b.out) left why
+      cut_seen steps more tail takes c left why v a b is same h =
+          let l = (drawn_by s a.layout steps).layout in
+          subst (λ left. CutAt (act_deeds s a.layout (Sees steps ∷ more) ++ tail) c (on a.out) (on b.out) left why) (sym same)
+          (subst (λ deeds. CutAt deeds c (on a.out) (on b.out) c why) (joined steps a.layout more tail)
+          (cut_steps steps (act_deeds s l more ++ tail) ((as_acts s c l more).takes adds tail takes) c why v a b is h))
+
+      cut_behind : (steps : List EditStep) (more : List Act) (tail : List SessionDeed) (c left : Coming) (why : ReadlineError) (a : Surface (ScreenRenderer D)) (m b : ScreenRenderer D)
+          → screen_of a.out ≡ s → Made (drawn_by s a.layout steps).calls a.out m → CutAt (act_deeds s (drawn_by s a.layout steps).layout more ++ tail) c (on m) (on b) left why
+          → CutAt (act_deeds s a.layout (Sees steps ∷ more) ++ tail) c (on a.out) (on b) left why
+      cut_behind steps more tail c left why a m b is made r =
+          let x = drawn_by s a.layout steps in
+          subst (λ deeds. CutAt deeds c (on a.out) (on b) left why) (joined steps a.layout more tail)
+          (cut_after (call_deeds s x.calls) (act_deeds s x.layout more ++ tail) c c (on a.out) (on m) (on b) left why (done_calls x.calls c a.out m is made) r)
+
+      cut_heard : (rest : Coming) (deeds : List SessionDeed) (c left : Coming) (why : ReadlineError) (a b : ScreenRenderer D) → CutAt deeds rest (on a) (on b) left why
+          → CutAt (Hears rest ∷ deeds) c (on a) (on b) left why
+      cut_heard rest deeds c left why a b r =
+          let heard = as_heard s c rest rest [] [] (as_none s rest) in
+          let first = untouched s (Hears rest ∷ []) [] c rest rest a a heard refl (takes_none shown (sink_of a) (sink_of a) refl) tt in
           cut_after (Hears rest ∷ []) deeds c rest (on a) (on a) (on b) left why first r
 
-      -- a paste that found no memory
-      cut_unheard : (rest : Coming) (deeds : List SessionDeed) (c left : Coming) (a b : ScreenRenderer D) → why ≡ Memory → left ≡ left_by Memory → b ≡ a
-          → CutAt (Hears rest ∷ deeds) c (on a) (on b) left why
-      cut_unheard rest deeds c left a b is lost same =
-          let P : ReadlineError → Type 0 = λ why. Stops adds why c (Hears rest ∷ deeds) left [] [] in
-          cut_first (Hears rest ∷ deeds) c left (on a) (on b) why (subst P (sym is) (inr (lost, tt), refl, refl)) (ap sink_of same) refl refl
-
-      here : (deeds : List SessionDeed) (c left : Coming) (a b : ScreenRenderer D) → left ≡ c → CutAt deeds c (on a) (on b) c why → CutAt deeds c (on a) (on b) left why
-      here deeds c left a b same r = let P : Coming → Type 0 = λ left. CutAt deeds c (on a) (on b) left why in subst P (sym same) r
-
-      -- what is asked for of the screen by an act, and then others
-      abbrev drawing : List Redraw → Layout → List Act → List SessionDeed → List SessionDeed
-      drawing redraws l more tail = call_deeds s (drawn_by s l redraws).calls ++ (act_deeds s (drawn_by s l redraws).layout more ++ tail)
-
-      joined : (redraws : List Redraw) (l : Layout) (more : List Act) (tail : List SessionDeed) → drawing redraws l more tail ≡ act_deeds s l (Sees redraws ∷ more) ++ tail
-      joined redraws l more tail = sym (append_assoc (call_deeds s (drawn_by s l redraws).calls) (act_deeds s (drawn_by s l redraws).layout more) tail)
-
-      cut_drawn : (redraws : List Redraw) (l : Layout) (more : List Act) (tail : List SessionDeed) → TakesMemory adds tail → (c : Coming) (a b : ScreenRenderer D) → screen_of a ≡ s
-          → BrokenOff (canvas_of shown show_failed) why (drawn_by s l redraws).calls a b → CutAt (act_deeds s l (Sees redraws ∷ more) ++ tail) c (on a) (on b) c why
-      cut_drawn redraws l more tail takes c a b is h =
-          let x = drawn_by s l redraws in
-          subst (λ deeds. CutAt deeds c (on a) (on b) c why) (joined redraws l more tail)
-          (cut_calls x.calls (act_deeds s x.layout more ++ tail) (acts_take adds s x.layout more tail takes) c a b is h)
-
-      -- memory was wanting before it
-      unbegun : (redraws : List Redraw) (l : Layout) (more : List Act) (tail : List SessionDeed) → TakesMemory adds tail → (c : Coming) (a b : ScreenRenderer D) → (why ≡ Memory) × (b ≡ a)
-          → CutAt (act_deeds s l (Sees redraws ∷ more) ++ tail) c (on a) (on b) c why
-      unbegun redraws l more tail takes c a b h = let acts = Sees redraws ∷ more in stay h.0 (act_deeds s l acts ++ tail) (acts_take adds s l acts tail takes) c a b h.1
-
-      cut_seen : (redraws : List Redraw) (l : Layout) (more : List Act) (tail : List SessionDeed) → TakesMemory adds tail → (c : Coming) (a b : ScreenRenderer D) → screen_of a ≡ s
-          → SeenInPart (canvas_of shown show_failed) (ruler_of s) why redraws l a b → CutAt (act_deeds s l (Sees redraws ∷ more) ++ tail) c (on a) (on b) c why
-      cut_seen [] l more tail takes c a b is h = unbegun [] l more tail takes c a b h
-      cut_seen (x ∷ xs) l more tail takes c a b is h = cut_drawn (x ∷ xs) l more tail takes c a b is h
-
-      cut_obeyed : (redraws : List Redraw) (l : Layout) (more : List Act) (tail : List SessionDeed) → TakesMemory adds tail → (c : Coming) (a b : ScreenRenderer D) → screen_of a ≡ s
-          → Begun (canvas_of shown show_failed) why (drawn_by s l redraws).calls a b → CutAt (act_deeds s l (Sees redraws ∷ more) ++ tail) c (on a) (on b) c why
-      unfolding Begun
-      cut_obeyed redraws l more tail takes c a b is (inl h) = unbegun redraws l more tail takes c a b h
-      cut_obeyed redraws l more tail takes c a b is (inr h) = cut_drawn redraws l more tail takes c a b is h
-
-      cut_behind : (redraws : List Redraw) (l : Layout) (more : List Act) (tail : List SessionDeed) (c left : Coming) (a m b : ScreenRenderer D) → screen_of a ≡ s
-          → Made (drawn_by s l redraws).calls a m → CutAt (act_deeds s (drawn_by s l redraws).layout more ++ tail) c (on m) (on b) left why
-          → CutAt (act_deeds s l (Sees redraws ∷ more) ++ tail) c (on a) (on b) left why
-      cut_behind redraws l more tail c left a m b is made r =
-          let x = drawn_by s l redraws in
-          subst (λ deeds. CutAt deeds c (on a) (on b) left why) (joined redraws l more tail)
-          (cut_after (call_deeds s x.calls) (act_deeds s x.layout more ++ tail) c c (on a) (on m) (on b) left why (done_calls x.calls c a m is made) r)
+      -- a read that found no memory, perhaps for a paste
+      unheard : (why : ReadlineError) (rest : Coming) (deeds : List SessionDeed) (old new : Stage (ScreenRenderer D)) → why ≡ Memory
+          → (new ≡ old) ⊎ (new ≡ stage old.drawn (left_by Memory) old.ring) → CutAt (Hears rest ∷ deeds) old.coming (on old.drawn.out) (on new.drawn.out) new.coming why
+      unheard why rest deeds old new is (inl same) =
+          let S : Coming → Type 0 = λ left. Stops adds why old.coming (Hears rest ∷ deeds) left [] [] in
+          stands why (Hears rest ∷ deeds) old.coming new.coming old.drawn.out new.drawn.out (subst S (ap (λ x. x.coming) (sym same)) (wants why (Hears rest ∷ deeds) old.coming is tt)) (ap (λ x. x.drawn.out) same)
+      unheard why rest deeds old new is (inr lost) =
+          let P : ReadlineError → Type 0 = λ why. Stops adds why old.coming (Hears rest ∷ deeds) new.coming [] [] in
+          stands why (Hears rest ∷ deeds) old.coming new.coming old.drawn.out new.drawn.out (subst P (sym is) (inr (ap (λ x. x.coming) lost, tt), refl, refl)) (ap (λ x. x.drawn.out) lost)
 
       -- acts that others follow
-      pub cut_acts : (acts : List Act) (tail : List SessionDeed) → TakesMemory adds tail → (l : Layout) (old new : Stage (ScreenRenderer D)) → screen_of old.out ≡ s
-          → CutIn (canvas_of shown show_failed) (ruler_of s) why acts l old new
-          → CutAt (act_deeds s l acts ++ tail) old.coming (on old.out) (on new.out) new.coming why
+      pub cut_acts : (acts : List Act) (tail : List SessionDeed) → TakesMemory adds tail → (why : ReadlineError) (v : Value) (old new : Stage (ScreenRenderer D)) → screen_of old.drawn.out ≡ s
+          → CutIn (canvas_of shown show_failed) (ruler_of s) why acts old v new
+          → CutAt (act_deeds s old.drawn.layout acts ++ tail) old.coming (on old.drawn.out) (on new.drawn.out) new.coming why
       unfolding CutIn
-      cut_acts [] tail takes l old new is h = absurd h
-      cut_acts (Sees redraws ∷ more) tail takes l old new is (inl h) =
-          here (act_deeds s l (Sees redraws ∷ more) ++ tail) old.coming new.coming old.out new.out (ap (λ x. x.coming) h.1)
-          (cut_seen redraws l more tail takes old.coming old.out new.out is h.0)
-      cut_acts (Sees redraws ∷ more) tail takes l old new is (inr (out, made, h)) =
-          let a = drawn_by s l redraws in
-          cut_behind redraws l more tail old.coming new.coming old.out out new.out is made
-          (cut_acts more tail takes a.layout (stage out old.coming old.ring) new (screen_kept a.calls old.out out is made) h)
-      cut_acts (Gets rest ∷ more) tail takes l old new is (inl (memory, inl same)) =
-          let deeds = Hears rest ∷ (act_deeds s l more ++ tail) in
-          here deeds old.coming new.coming old.out new.out (ap (λ x. x.coming) same) (stay memory deeds tt old.coming old.out new.out (ap (λ x. x.out) same))
-      cut_acts (Gets rest ∷ more) tail takes l old new is (inl (memory, inr lost)) =
-          cut_unheard rest (act_deeds s l more ++ tail) old.coming new.coming old.out new.out memory (ap (λ x. x.coming) lost) (ap (λ x. x.out) lost)
-      cut_acts (Gets rest ∷ more) tail takes l old new is (inr h) =
-          cut_heard rest (act_deeds s l more ++ tail) old.coming new.coming old.out new.out (cut_acts more tail takes l (stage old.out rest old.ring) new is h)
-      cut_acts (Obeys textless ring redraws ∷ more) tail takes l old new is (inl h) =
-          let acts = Obeys textless ring redraws ∷ more in
-          let deeds = act_deeds s l acts ++ tail in
-          here deeds old.coming new.coming old.out new.out (ap (λ x. x.coming) h.1)
-          (stay h.0 deeds (acts_take adds s l acts tail takes) old.coming old.out new.out (ap (λ x. x.out) h.1))
-      cut_acts (Obeys textless ring redraws ∷ more) tail takes l old new is (inr (inl h)) =
-          here (act_deeds s l (Obeys textless ring redraws ∷ more) ++ tail) old.coming new.coming old.out new.out h.1
-          (cut_obeyed redraws l more tail takes old.coming old.out new.out is h.0)
-      cut_acts (Obeys textless ring redraws ∷ more) tail takes l old new is (inr (inr (out, made, h))) =
-          let a = drawn_by s l redraws in
-          cut_behind redraws l more tail old.coming new.coming old.out out new.out is made
-          (cut_acts more tail takes a.layout (stage out old.coming ring) new (screen_kept a.calls old.out out is made) h)
+      cut_acts [] tail takes why v old new is h = absurd h
+      cut_acts (Sees steps ∷ more) tail takes why v old new is (inl h) =
+          cut_seen steps more tail takes old.coming new.coming why v old.drawn new.drawn is (ap (λ x. x.coming) h.1) h.0
+      cut_acts (Sees steps ∷ more) tail takes why v old new is (inr (out, made, h)) =
+          let a = drawn_by s old.drawn.layout steps in
+          cut_behind steps more tail old.coming new.coming why old.drawn out new.drawn.out is made
+          (cut_acts more tail takes why v (stage (surface out a.layout) old.coming old.ring) new (screen_kept a.calls old.drawn.out out is made) h)
+      cut_acts (Gets value rest ∷ more) tail takes why v old new is (inl (memory, value_is, left)) = unheard why rest (act_deeds s old.drawn.layout more ++ tail) old new memory left
+      cut_acts (Gets value rest ∷ more) tail takes why v old new is (inr h) =
+          cut_heard rest (act_deeds s old.drawn.layout more ++ tail) old.coming new.coming why old.drawn.out new.drawn.out
+          (cut_acts more tail takes why v (stage old.drawn rest old.ring) new is h)
+      cut_acts (Obeys textless ring steps ∷ more) tail takes why v old new is (inl h) =
+          cut_seen steps more tail takes old.coming new.coming why v old.drawn new.drawn is h.1 h.0
+      cut_acts (Obeys textless ring steps ∷ more) tail takes why v old new is (inr (out, made, h)) =
+          let a = drawn_by s old.drawn.layout steps in
+          cut_behind steps more tail old.coming new.coming why old.drawn out new.drawn.out is made
+          (cut_acts more tail takes why v (stage (surface out a.layout) old.coming ring) new (screen_kept a.calls old.drawn.out out is made) h)

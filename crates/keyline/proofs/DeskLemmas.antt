@@ -9,7 +9,6 @@ use Rattle.line_help.specs.History.{Filed}
 use Rattle.line_keys.specs.Answers.{Custom}
 use Rattle.line_keys.specs.Coming.{Coming, made_of}
 use Rattle.line_keys.specs.Feeds.{KeyFeed}
-use Rattle.line_keys.specs.InputStates.{new_input}
 use Rattle.line_record.specs.Ring.{Ring}
 use Rattle.line_editor.specs.Acts.{stage}
 use Rattle.line_editor.specs.Courses.{breaks_after}
@@ -17,6 +16,7 @@ use Rattle.line_editor.specs.Lines.{Told}
 use Rattle.line_editor.specs.Redraws.{fresh}
 use Rattle.line_editor.specs.Running.{Helping, Runs, WholeLine, CutLine, acts_meant, line_meant, outcome_of, line_calls, setting_by}
 use Rattle.line_editor.specs.States.{reason_of}
+use Rattle.line_editor.specs.Steps.{surface}
 use Rattle.line_editor.specs.Turning.{cause_of}
 use Rattle.line_editor.specs.Values.{Setting}
 use Rattle.line_editor.specs.declared.ran.Ran.{Ran}
@@ -27,13 +27,13 @@ use Rattle.line_screen.specs.declared.reading.reader.KeyReader.{KeyReader}
 use Rattle.line_screen.specs.declared.renderer.ScreenRenderer.{ScreenRenderer}
 use Rattle.line_screen.proofs.CallLemmas.{sent_in_all, cut_stays}
 use Rattle.keyline.specs.Closing.{Closes, CloseReason, work}
-use Rattle.keyline.specs.Deeds.{SessionDeed, act_deeds, acts_in, close_deeds, line_deeds}
+use Rattle.keyline.specs.Deeds.{SessionDeed, HelperAnswers, call_deeds, act_deeds, acts_in, close_deeds, line_deeds}
 use Rattle.keyline.specs.Desks.{Lined, TakesLine, DeskReason, feed_of, session_state_of, work_of}
 use Rattle.keyline.specs.Known.{Known}
 use Rattle.keyline.specs.Playing.{Work, Cut, LineWhole, LineCut, SessionReason}
 use Rattle.keyline.specs.Sessions.{Given, given_by, breaks, calls_of, line_in, history_after}
 use Rattle.keyline.specs.declared.desk.Desk.{Desk}
-use Rattle.keyline.proofs.DeedLemmas.{Answered, cut_acts, cut_after, deeds_answered, done_acts, made_answered}
+use Rattle.keyline.proofs.DeedLemmas.{cut_acts, cut_after, deeds_answered, done_acts, made_answered}
 use Rattle.line_config.proofs.Taking.{takes_then}
 
 -- ---- faults
@@ -106,7 +106,7 @@ module _ {S H D L K T : Type 0} (k : Known S D L) (helps : Option H → Helping)
   come = (items_of k.feed old.reader).coming
 
   abbrev WentCut : ℕ → Type 0
-  WentCut n = CutLine (canvas_of k.shown k.show_failed) (acts_meant n setting custom config old.ring come) (stage old.out come old.ring) (stage ran.out (items_of k.feed reader).coming ring) (outcome_of ran)
+  WentCut n = CutLine (canvas_of k.shown k.show_failed) (acts_meant n setting custom config old.ring come) old.out ran.out come (items_of k.feed reader).coming old.ring ring (outcome_of ran)
 
   abbrev Went : ℕ → Type 0
   Went n = WentWhole (line_meant n setting custom config old.ring come) ⊎ WentCut n
@@ -115,8 +115,8 @@ module _ {S H D L K T : Type 0} (k : Known S D L) (helps : Option H → Helping)
   screen_by n (inl w) =
       (sent_in_all k.shown k.show_failed (line_calls (ruler_of (screen_of old.out)) (line_meant n setting custom config old.ring come).turns) old.out ran.out w.calls).screen
   screen_by n (inr w) =
-      cut_stays k.shown k.show_failed (ruler_of (screen_of old.out)) w.fault (acts_meant n setting custom config old.ring come) (fresh (ruler_of (screen_of old.out)).mode)
-      (stage old.out come old.ring) (stage ran.out (items_of k.feed reader).coming ring) w.done
+      cut_stays k.shown k.show_failed (ruler_of (screen_of old.out)) w.fault w.value (acts_meant n setting custom config old.ring come)
+      (stage (surface old.out (fresh (screen_of old.out).mode)) come old.ring) (stage (surface ran.out w.layout) (items_of k.feed reader).coming ring) w.done
 
   screen_stays : RunsAt → IsTrue (items_of k.feed reader).told → screen_of ran.out ≡ screen_of old.out
   screen_stays runs t =
@@ -159,9 +159,9 @@ module _ {S H D L K T : Type 0} (k : Known S D L) (helps : Option H → Helping)
     CutAs deeds = LineCut k.shown k.written_in config.auto_add_history deeds come (work_of k old) (work_of k new) left result
 
     -- the helper gave an answer wherever it was asked
-    answered : (n : ℕ) → let t = line_in n given (session_state_of k old) in WentWhole t → Answered (calls_of given.screen t)
+    answered : (n : ℕ) → let t = line_in n given (session_state_of k old) in WentWhole t → HelperAnswers (call_deeds given.screen (calls_of given.screen t))
     answered n w =
-        let t = line_in n given (session_state_of k old) in made_answered (canvas_of k.shown k.show_failed) (calls_of given.screen t) old.out ran.out w.calls
+        let t = line_in n given (session_state_of k old) in made_answered given.screen (canvas_of k.shown k.show_failed) (calls_of given.screen t) old.out ran.out w.calls
 
     after_whole : (n : ℕ) → let x = session_state_of k old in WentWhole (line_in n given x) → EndedAs (line_in n given x).outcome
         → Lined k given (line_in n given x) (line_deeds n given x) old new result
@@ -196,8 +196,8 @@ module _ {S H D L K T : Type 0} (k : Known S D L) (helps : Option H → Helping)
         let s = screen_of old.out in
         let same = stays (unbroken _ _ w.fault w.cause) in
         let W : Work D L → Type 0 = λ after. Cut k.shown k.written_in config.auto_add_history (line_deeds n given x) come (work_of k old) after left w.fault in
-        let so = cut_acts k.shown k.written_in config.auto_add_history old.lines old.history k.show_failed s w.fault
-        (acts_in n given x) (close_deeds (line_in n given x).outcome) tt (fresh s.mode) (stage old.out come old.ring) (stage ran.out left ring) refl w.done in
+        let so = cut_acts k.shown k.written_in config.auto_add_history old.lines old.history k.show_failed s
+        (acts_in n given x) (close_deeds (line_in n given x).outcome) tt w.fault w.value (stage (surface old.out (fresh s.mode)) come old.ring) (stage (surface ran.out w.layout) left ring) refl w.done in
         record { fault = w.fault; result_is = same.1; goes = subst W (sym same.0) so }
 
     lined : (n : ℕ) → Went n → Ends (outcome_of ran) → let x = session_state_of k old in

@@ -1,5 +1,5 @@
 -- Lines and sessions over what opens more: the same, or cut at a read that draws nothing more.
-use Rattle.std.proofs.Common.{◌≡◌, ◌⊎◌, inl, inr, ℕ, zero, suc, false, List, [], ◌∷◌, ◌++◌, Option, None, refl, sym, ap, ◌∙◌, subst, append-nil, append_assoc, Result, Ok, Err}
+use Rattle.std.proofs.Common.{◌≡◌, ◌⊎◌, inl, inr, ℕ, zero, suc, false, List, [], ◌∷◌, ◌++◌, Option, refl, sym, ap, ◌∙◌, subst, append-nil, append_assoc, Result, Ok, Err}
 use Rattle.std.specs.Prelude.{OnOk, IfErr, flat_map}
 use Rattle.std.proofs.lemmas.Grind.{flat_map-append}
 use Rattle.line_config.specs.declared.errors.ReadlineError.{ReadlineError}
@@ -15,15 +15,15 @@ use Rattle.line_keys.specs.declared.command.Cmd.{Cmd}
 use Rattle.line_record.specs.Ring.{Ring}
 use Rattle.line_editor.specs.Asks.{shown_in, ask_effect}
 use Rattle.line_editor.specs.Commands.{means_of, effect}
-use Rattle.line_editor.specs.Courses.{Turn, Open, breaks_after, redraws_in}
-use Rattle.line_editor.specs.Drawing.{refreshed}
+use Rattle.line_editor.specs.Courses.{Turn, Open, breaks_after, steps_in}
 use Rattle.line_editor.specs.Lines.{Enacted, Turned, Told, either_way, stopped, enacted, behind_ask, line_phrase, phrase_enacted, reset_by, turned_by, turn_of, opened_by, after_turn, line_from, line_of}
-use Rattle.line_editor.specs.Redraws.{Redraw, asked, fresh}
+use Rattle.line_editor.specs.Redraws.{fresh}
 use Rattle.line_editor.specs.Sights.{sight_of, info_after}
-use Rattle.line_editor.specs.Values.{Value, Setting, Effect, first_value}
+use Rattle.line_editor.specs.Steps.{asked}
+use Rattle.line_editor.specs.Values.{Value, Setting, EditStep, Effect, taking}
 use Rattle.line_editor.specs.declared.commands.Status.{Status}
 use Rattle.line_editor.specs.declared.commands.Status.TheVariants.{Proceed, Submit}
-use Rattle.line_editor.proofs.DoesLemmas.{asked_both}
+use Rattle.line_editor.proofs.StopsLemmas.{asked_both}
 use Rattle.line_screen.specs.Calls.{Screen, bytes_of, ruler_of}
 use Rattle.line_screen.specs.Drawing.{break_if}
 use Rattle.keyline.specs.FewerKeys.{IsBeginning, LinesBegin, SessionsBegin}
@@ -83,8 +83,8 @@ record Ended {X : Type 0} (p q : Enacted X) : Type 0 where
   why : ReadlineError
   answer : p.answer ≡ Err why
   unbroken : breaks_after why ≡ false
-  later : List Redraw
-  begins : q.made.redraws ≡ p.made.redraws ++ later
+  later : List EditStep
+  begins : q.made.steps ≡ p.made.steps ++ later
 
 abbrev Goes : {X : Type 0} → Enacted X → Enacted X → Type 0
 Goes p q = Same p q ⊎ Ended p q
@@ -92,7 +92,7 @@ Goes p q = Same p q ⊎ Ended p q
 goes_behind : {X : Type 0} (e : Effect) (p q : Enacted X) → Goes p q → Goes (behind_ask e p) (behind_ask e q)
 goes_behind e p q (inl same) = inl (record {
   answer = same.answer;
-  made = ap (λ m. record { value = m.value; redraws = e.redraws ++ m.redraws }) same.made;
+  made = ap (λ m. record { value = m.value; steps = e.steps ++ m.steps }) same.made;
   input = same.input;
   rest = same.rest;
 })
@@ -101,7 +101,7 @@ goes_behind e p q (inr cut) = inr (record {
   answer = cut.answer;
   unbroken = cut.unbroken;
   later = cut.later;
-  begins = ap (λ r. e.redraws ++ r) cut.begins ∙ sym (append_assoc e.redraws p.made.redraws cut.later);
+  begins = ap (λ r. e.steps ++ r) cut.begins ∙ sym (append_assoc e.steps p.made.steps cut.later);
 })
 
 module _ (s : Setting) where
@@ -112,11 +112,11 @@ module _ (s : Setting) where
 
     read_goes : (r q : Result (Item item) ReadlineError) → OnOk r ((r ≡ q) × Agrees (behind h) (behind c)) → IfErr r (λ e. breaks_after e ≡ false) → Goes (led h r) (led c q)
     read_goes (Ok x) q alike unbroken = subst (λ y. Goes (led h (Ok x)) (led c y)) alike.0 (later x (alike.1, never_behind h on.1))
-    read_goes (Err e) q alike unbroken = inr (record { why = e; answer = refl; unbroken = unbroken; later = (led c q).made.redraws; begins = refl })
+    read_goes (Err e) q alike unbroken = inr (record { why = e; answer = refl; unbroken = unbroken; later = (led c q).made.steps; begins = refl })
 
   goes : {X : Type 0} (t : Steps X) (input : Input) (v : Value) (h c : Coming) → Opens h c → Goes (enacted s t input v h) (enacted s t input v c)
   goes (Ends x) input v h c on = inl (record { answer = refl; made = refl; input = refl; rest = on })
-  goes (Asks Needs t) input v h c on = goes (t tt) input v h c on
+  goes (Asks Needs t) input v h c on = goes_behind (taking s v) _ _ (goes (t tt) input v h c on)
   goes (Asks (Shows ask) t) input v h c on =
       let e = ask_effect ask s v in
       let next = t (shown_in e.value) in
@@ -142,8 +142,8 @@ record StoppedTurn (t u : Turned) : Type 0 where
   why : ReadlineError
   outcome : t.outcome ≡ Err why
   unbroken : breaks_after why ≡ false
-  later : List Redraw
-  begins : u.made.redraws ≡ t.made.redraws ++ later
+  later : List EditStep
+  begins : u.made.steps ≡ t.made.steps ++ later
 
 abbrev TurnGoes : Turned → Turned → Type 0
 TurnGoes t u = SameTurn t u ⊎ StoppedTurn t u
@@ -159,10 +159,10 @@ module _ (s : Setting) (indent : ℕ) (ring : Ring) where
   turned_same (Ok cmd) made input r l on = record { outcome = refl; made = refl; ring = refl; input = refl; rest = on }
   turned_same (Err e) made input r l on = record { outcome = refl; made = refl; ring = refl; input = refl; rest = on }
 
-  -- a command's redraws come after its phrase's
-  turned_redraws : (a : Result Cmd ReadlineError) (q : Enacted Cmd) → IsBeginning q.made.redraws (turned_by s indent ring a q).made.redraws
-  turned_redraws (Ok cmd) q = ((effect (means_of q.input indent (reset_by cmd ring)) cmd s q.made.value).redraws, refl)
-  turned_redraws (Err e) q = ([], sym (append-nil q.made.redraws))
+  -- a command's steps come after its phrase's
+  turned_steps : (a : Result Cmd ReadlineError) (q : Enacted Cmd) → IsBeginning q.made.steps (turned_by s indent ring a q).made.steps
+  turned_steps (Ok cmd) q = ((effect (means_of q.input indent (reset_by cmd ring)) cmd s q.made.value).steps, refl)
+  turned_steps (Err e) q = ([], sym (append-nil q.made.steps))
 
   turned_goes : (p q : Enacted Cmd) → Goes p q → TurnGoes (turned_by s indent ring p.answer p) (turned_by s indent ring q.answer q)
   turned_goes p q (inl same) =
@@ -172,14 +172,14 @@ module _ (s : Setting) (indent : ℕ) (ring : Ring) where
       (subst (λ i. T (turned p.answer p.made i q.rest)) same.input
       (turned_same p.answer p.made p.input p.rest q.rest same.rest))))
   turned_goes p q (inr cut) =
-      let more = turned_redraws q.answer q in
+      let more = turned_steps q.answer q in
       let T : Turned → Type 0 = λ t. StoppedTurn t (turned_by s indent ring q.answer q) in
       inr (subst (λ a. T (turned_by s indent ring a p)) (sym cut.answer) (record {
         why = cut.why;
         outcome = refl;
         unbroken = cut.unbroken;
         later = cut.later ++ more.0;
-        begins = more.1 ∙ (ap (λ r. r ++ more.0) cut.begins ∙ append_assoc p.made.redraws cut.later more.0);
+        begins = more.1 ∙ (ap (λ r. r ++ more.0) cut.begins ∙ append_assoc p.made.steps cut.later more.0);
       }))
 
 turn_goes : (n : ℕ) (s : Setting) (custom : Custom) (indent : ℕ) (input : Input) (ring : Ring) (v : Value) (h c : Coming) → Opens h c
@@ -200,8 +200,8 @@ record StoppedLine (t u : Told) : Type 0 where
   why : ReadlineError
   outcome : t.outcome ≡ Err why
   unbroken : breaks_after why ≡ false
-  later : List Redraw
-  begins : flat_map redraws_in u.turns ≡ flat_map redraws_in t.turns ++ later
+  later : List EditStep
+  begins : flat_map steps_in u.turns ≡ flat_map steps_in t.turns ++ later
 
 abbrev LineGoes : Told → Told → Type 0
 LineGoes t u = SameLine t u ⊎ StoppedLine t u
@@ -213,7 +213,7 @@ opened_goes turn t u (inr cut) = inr (record {
   outcome = cut.outcome;
   unbroken = cut.unbroken;
   later = cut.later;
-  begins = ap (λ r. redraws_in turn ++ r) cut.begins ∙ sym (append_assoc (redraws_in turn) (flat_map redraws_in t.turns) cut.later);
+  begins = ap (λ r. steps_in turn ++ r) cut.begins ∙ sym (append_assoc (steps_in turn) (flat_map steps_in t.turns) cut.later);
 })
 
 abbrev turned_as : Result Status ReadlineError → Effect → Ring → Input → Coming → Turned
@@ -225,17 +225,17 @@ module _ (next : Input → Ring → Option (List ℕ) → Value → Coming → T
   after_same : (o : Result Status ReadlineError) (made : Effect) (ring : Ring) (input : Input) (r l : Coming) → Opens r l
       → LineGoes (after_turn next s info (turned_as o made ring input r) o) (after_turn next s info (turned_as o made ring input l) o)
   after_same (Ok Proceed) made ring input r l on =
-      let stands = info_after made.redraws info in
-      opened_goes (Open made.redraws (sight_of s made.value stands)) (next input ring stands made.value r) (next input ring stands made.value l)
+      let stands = info_after made.steps info in
+      opened_goes (Open made.steps (sight_of s made.value stands)) (next input ring stands made.value r) (next input ring stands made.value l)
       (on_next input ring stands made.value r l on)
   after_same (Ok Submit) made ring input r l on = inl (record { turns = refl; outcome = refl; ring = refl; rest = on })
   after_same (Err e) made ring input r l on = inl (record { turns = refl; outcome = refl; ring = refl; rest = on })
 
-  -- a turn's redraws come first
-  after_redraws : (u : Turned) (o : Result Status ReadlineError) → IsBeginning u.made.redraws (flat_map redraws_in (after_turn next s info u o).turns)
-  after_redraws u (Ok Proceed) = (_, refl)
-  after_redraws u (Ok Submit) = (_, append_assoc u.made.redraws _ [])
-  after_redraws u (Err e) = ([], refl)
+  -- a turn's steps come first
+  after_steps : (u : Turned) (o : Result Status ReadlineError) → IsBeginning u.made.steps (flat_map steps_in (after_turn next s info u o).turns)
+  after_steps u (Ok Proceed) = (_, refl)
+  after_steps u (Ok Submit) = (_, append_assoc u.made.steps _ [])
+  after_steps u (Err e) = ([], refl)
 
   after_goes : (t u : Turned) → TurnGoes t u → LineGoes (after_turn next s info t t.outcome) (after_turn next s info u u.outcome)
   after_goes t u (inl same) =
@@ -246,7 +246,7 @@ module _ (next : Input → Ring → Option (List ℕ) → Value → Coming → T
       (subst (λ i. T (after_turn next s info (turned_as t.outcome t.made t.ring i u.rest) t.outcome)) same.input
       (after_same t.outcome t.made t.ring t.input t.rest u.rest same.rest))))
   after_goes t u (inr cut) =
-      let more = after_redraws u u.outcome in
+      let more = after_steps u u.outcome in
       let T : Told → Type 0 = λ told. StoppedLine told (after_turn next s info u u.outcome) in
       inr (subst (λ o. T (after_turn next s info t o)) (sym cut.outcome) (record {
         why = cut.why;
@@ -254,7 +254,7 @@ module _ (next : Input → Ring → Option (List ℕ) → Value → Coming → T
         unbroken = cut.unbroken;
         later = cut.later ++ more.0;
         begins = more.1 ∙ (ap (λ r. r ++ more.0) cut.begins
-            ∙ (append_assoc t.made.redraws cut.later more.0 ∙ ap (λ r. r ++ (cut.later ++ more.0)) (sym (append-nil t.made.redraws))));
+            ∙ (append_assoc t.made.steps cut.later more.0 ∙ ap (λ r. r ++ (cut.later ++ more.0)) (sym (append-nil t.made.steps))));
       }))
 
 from_goes : (n : ℕ) (s : Setting) (custom : Custom) (indent : ℕ) (input : Input) (ring : Ring) (info : Option (List ℕ)) (v : Value) (h c : Coming) → Opens h c
@@ -268,18 +268,14 @@ from_goes (suc n) s custom indent input ring info v h c on =
 line_goes : (n : ℕ) (s : Setting) (custom : Custom) (indent : ℕ) (input : Input) (ring : Ring) (h c : Coming) → Opens h c
     → LineGoes (line_of n s custom indent input ring h) (line_of n s custom indent input ring c)
 unfolding line_of
-line_goes n s custom indent input ring h c on =
-    let e = refreshed s (first_value s) in
-    let stands = info_after e.redraws None in
-    opened_goes (Open e.redraws (sight_of s e.value stands)) (line_from n s custom indent input ring stands e.value h) (line_from n s custom indent input ring stands e.value c)
-    (from_goes n s custom indent input ring stands e.value h c on)
+line_goes n s custom indent input ring h c on = opened_goes _ _ _ (from_goes n s custom indent input ring _ _ h c on)
 
 -- ---- display bytes
 
-abbrev bytes_for : Screen → List Redraw → List ℕ
-bytes_for s redraws = flat_map (bytes_of s) (asked (ruler_of s) (fresh s.mode) redraws).calls
+abbrev bytes_for : Screen → List EditStep → List ℕ
+bytes_for s xs = flat_map (bytes_of s) (asked (ruler_of s) (fresh s.mode) xs).calls
 
-bytes_both : (s : Screen) (xs ys : List Redraw) → IsBeginning (bytes_for s xs) (bytes_for s (xs ++ ys))
+bytes_both : (s : Screen) (xs ys : List EditStep) → IsBeginning (bytes_for s xs) (bytes_for s (xs ++ ys))
 bytes_both s xs ys =
     let a = asked (ruler_of s) (fresh s.mode) xs in (
       flat_map (bytes_of s) (asked (ruler_of s) a.layout ys).calls,
@@ -292,22 +288,22 @@ further xs ys zs begins = (begins.0 ++ zs, ap (λ r. r ++ zs) begins.1 ∙ appen
 
 -- a line that is cut draws no new row
 cut_bytes : (s : Screen) (t : Told) (o : Result (List ℕ) ReadlineError) (why : ReadlineError) → o ≡ Err why → breaks_after why ≡ false
-    → bytes_for s (flat_map redraws_in t.turns) ++ break_if (breaks o) ≡ bytes_for s (flat_map redraws_in t.turns)
+    → bytes_for s (flat_map steps_in t.turns) ++ break_if (breaks o) ≡ bytes_for s (flat_map steps_in t.turns)
 cut_bytes s t o why is unbroken =
-    let drawn = bytes_for s (flat_map redraws_in t.turns) in
+    let drawn = bytes_for s (flat_map steps_in t.turns) in
     ap (λ x. drawn ++ break_if (breaks x)) is ∙ (ap (λ b. drawn ++ break_if b) unbroken ∙ append-nil drawn)
 
 stopped_bytes : (s : Screen) (t u : Told) → StoppedLine t u → IsBeginning (line_bytes s t) (line_bytes s u)
 stopped_bytes s t u cut =
-    let drawn = flat_map redraws_in t.turns in
+    let drawn = flat_map steps_in t.turns in
     let begins = subst (λ r. IsBeginning (bytes_for s drawn) (bytes_for s r)) (sym cut.begins) (bytes_both s drawn cut.later) in
     subst (λ x. IsBeginning x (line_bytes s u)) (sym (cut_bytes s t t.outcome cut.why cut.outcome cut.unbroken))
-    (further (bytes_for s drawn) (bytes_for s (flat_map redraws_in u.turns)) (break_if (breaks u.outcome)) begins)
+    (further (bytes_for s drawn) (bytes_for s (flat_map steps_in u.turns)) (break_if (breaks u.outcome)) begins)
 
 same_bytes : (s : Screen) (t u : Told) → SameLine t u → line_bytes s t ≡ line_bytes s u
 same_bytes s t u same =
-    ap (λ turns. bytes_for s (flat_map redraws_in turns) ++ break_if (breaks t.outcome)) same.turns
-    ∙ ap (λ o. bytes_for s (flat_map redraws_in u.turns) ++ break_if (breaks o)) same.outcome
+    ap (λ turns. bytes_for s (flat_map steps_in turns) ++ break_if (breaks t.outcome)) same.turns
+    ∙ ap (λ o. bytes_for s (flat_map steps_in u.turns) ++ break_if (breaks o)) same.outcome
 
 line_begins : (s : Screen) (t u : Told) → LineGoes t u → IsBeginning (line_bytes s t) (line_bytes s u)
 line_begins s t u (inl same) = ([], sym (same_bytes s t u same) ∙ sym (append-nil (line_bytes s t)))

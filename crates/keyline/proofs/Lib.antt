@@ -18,3 +18,4 @@ pub mod SessionSteps
 pub mod ShowCourse
 mod ShowRows
 pub mod ShowSteps
+pub mod TurnShowLemmas

@@ -42,11 +42,12 @@ use Rattle.line_editor.specs.Accepting.{accept_or_insert}
 use Rattle.line_editor.specs.Asks.{shown_in}
 use Rattle.line_editor.specs.Commands.{in_vi_command, means_of}
 use Rattle.line_editor.specs.Drawing.{refreshed}
-use Rattle.line_editor.specs.Lines.{Enacted, Told, Turned, enacted, with_group_begun, phrase_enacted, reset_by, turned_by, turn_of, after_turn, line_from, line_of}
+use Rattle.line_editor.specs.Lines.{Enacted, Told, Turned, enacted, with_group_begun, phrase_enacted, reset_by, turned_by, turn_of, after_turn, line_begun, line_from, line_of}
 use Rattle.line_editor.specs.Moving.{cursor_moved_if}
 use Rattle.line_editor.specs.Sights.{info_after}
-use Rattle.line_editor.specs.Values.{Setting, Value, empty_at, first_value, unchanged, at_line}
-use Rattle.line_editor.specs.Yanking.{behind_yank, yanked_by, yank_text}
+use Rattle.line_editor.specs.Values.{Setting, Value, EditStep, empty_at, first_value, unchanged, then_do, at_line}
+use Rattle.line_editor.specs.Values.EditStep.{Takes}
+use Rattle.line_editor.specs.Yanking.{behind_yank, yanked_by, put as put_yanked, yank_text}
 use Rattle.line_screen.specs.KeyGrammar.{coming_of}
 use Rattle.line_screen.specs.Pasting.{paste_start, with_newlines}
 use Rattle.line_screen.proofs.Pasting.{pasted_text_is_before_its_mark}
@@ -124,8 +125,13 @@ enters Vi Overwriting custom last search shown n free =
 
 -- ---- what the phrases are to the value
 
-abbrev paste_enacted : EditMode → List ℕ → Setting → Input → Value → Coming → Enacted Cmd
-paste_enacted mode text s input v rest = record { answer = Ok (Insert 1 text); made = unchanged s v; input = kept_after mode text input; rest = rest }
+abbrev memory_for : EditMode → Value → List EditStep
+memory_for Emacs v = []
+memory_for Vi v = Takes v ∷ []
+
+abbrev paste_enacted : EditMode → List ℕ → Input → Value → Coming → Enacted Cmd
+paste_enacted mode text input v rest =
+    record { answer = Ok (Insert 1 text); made = record { value = v; steps = memory_for mode v }; input = kept_after mode text input; rest = rest }
 
 abbrev enter_enacted : Setting → Input → Value → Coming → Enacted Cmd
 enter_enacted s input v rest = record { answer = Ok (AcceptOrInsertLine true); made = unchanged s v; input = input; rest = rest }
@@ -134,13 +140,13 @@ abbrev grouped : ℕ → Cmd → Input → Shown → Steps Cmd
 grouped n cmd input shown = steps (with_group_begun cmd input shown) n
 
 enacts_keeping : (n : ℕ) (mode : EditMode) (text : List ℕ) (s : Setting) (input : Input) (v : Value) (rest : Coming)
-    → enacted s (after (grouped n) input (shown_in v) (pasting mode input)) input v (Pasted text rest) ≡ paste_enacted mode text s input v rest
+    → enacted s (after (grouped n) input (shown_in v) (pasting mode input)) input v (Pasted text rest) ≡ paste_enacted mode text input v rest
 unfolding answered
 enacts_keeping n Emacs text s input v rest = refl
 enacts_keeping n Vi text s input v rest = refl
 
 enacts_paste : (n : ℕ) (s : Setting) (custom : Custom) (input : Input) (v : Value) (text : List ℕ) (rest : Coming) → IsUnbound custom
-    → phrase_enacted (suc (suc n)) s custom input v (Pressed paste_start (Pasted text rest)) ≡ paste_enacted input.mode text s input v rest
+    → phrase_enacted (suc (suc n)) s custom input v (Pressed paste_start (Pasted text rest)) ≡ paste_enacted input.mode text input v rest
 unfolding and_then with_read
 enacts_paste n s custom input v text rest free =
     ap (λ script. enacted s (after (grouped (suc (suc n))) input (shown_in v) script) input v (Pasted text rest)) (pastes input.mode input.input_mode custom input.last input.search (shown_in v) n free)
@@ -174,9 +180,10 @@ put_into_empty text l empty grows =
     subst (λ b. (yanked_in text 1 (record l { growth = b })).line.text ≡ text) (sym grows)
     (subst (λ t. (yanked_in text 1 (record l { text = t; growth = true })).line.text ≡ text) (sym empty) (put_into text l.place l.limit))
 
-refreshed_if : (b : Bool) (s : Setting) (v : Value) → (if b then refreshed s v else unchanged s v).value.line ≡ v.line
-refreshed_if true s v = refl
-refreshed_if false s v = refl
+drawn_if : (b vi : Bool) (text : List ℕ) (n : ℕ) (s : Setting) (v : Value)
+    → (if b then then_do (put_yanked vi text n) refreshed s v else unchanged s (yanked_by vi text n v)).value.line ≡ (yanked_by vi text n v).line
+drawn_if true vi text n s v = refl
+drawn_if false vi text n s v = refl
 
 -- the step back moves the cursor alone
 stepped_text : (vi : Bool) (l : Line) → (behind_yank vi l).text ≡ l.text
@@ -191,14 +198,14 @@ pasted_text : (vi : Bool) (text : List ℕ) (s : Setting) (v : Value) → v.line
 pasted_text vi text s v empty grows =
     let put : Bool = is_some (yanked_in text 1 v.line).answer in
     let before : Value = at_line v.line v in
-    ap (λ l. l.text) (refreshed_if (put || false) s (yanked_by vi text 1 before))
+    ap (λ l. l.text) (drawn_if (put || false) vi text 1 s before)
     ∙ stepped_if put vi _
     ∙ put_into_empty text v.line empty grows
 
 -- ---- the turns
 
 abbrev paste_turn : EditMode → List ℕ → Setting → ℕ → Input → Ring → Value → Coming → Turned
-paste_turn mode text s indent input r v rest = turned_by s indent r (Ok (Insert 1 text)) (paste_enacted mode text s input v rest)
+paste_turn mode text s indent input r v rest = turned_by s indent r (Ok (Insert 1 text)) (paste_enacted mode text input v rest)
 
 abbrev enter_turn : Setting → ℕ → Input → Ring → Value → Coming → Turned
 enter_turn s indent input r v rest = turned_by s indent r (Ok (AcceptOrInsertLine true)) (enter_enacted s input v rest)
@@ -242,7 +249,7 @@ paste_accepts n s custom indent input r info v text rest free empty =
     let t : Turned = paste_turn input.mode text bare indent input r v (Pressed enter rest) in
     let vi : Bool = in_vi_command (means_of (kept_after input.mode text input) indent (reset_by (Insert 1 text) r)) in
     let typed : t.made.value.line.text ≡ text = pasted_text vi text bare v empty.empty empty.grows in
-    let a = enter_accepts n s custom indent t.input t.ring (info_after t.made.redraws info) t.made.value rest free in
+    let a = enter_accepts n s custom indent t.input t.ring (info_after t.made.steps info) t.made.value rest free in
     subst (λ (t : Turned). Accepts (after_turn (line_from (suc n) bare custom indent) bare info t t.outcome) text rest) (sym (turns_by_paste n bare custom indent input r v text (Pressed enter rest) free)) (record {
       outcome = a.outcome ∙ ap Ok typed;
       rest_is = a.rest_is;
@@ -278,8 +285,8 @@ pub pasted_lines_are_accepted : PastedLinesAreAccepted
 unfolding line_of
 pasted_lines_are_accepted n g x text more last none free paste is =
     let s : Setting = setting_in g x.history.kept.entries in
-    let e = refreshed s (first_value s) in
-    let a = pastes_are_accepted n s g.custom g.config.indent_size (new_input g.config.edit_mode) x.ring (info_after e.redraws None) e.value text more last none free (record { empty = refl; grows = refl }) paste in
+    let e = line_begun s (first_value s) in
+    let a = pastes_are_accepted n s g.custom g.config.indent_size (new_input g.config.edit_mode) x.ring (info_after e.steps None) e.value text more last none free (record { empty = refl; grows = refl }) paste in
     subst (λ c. Accepts (line_of (suc (suc n)) s g.custom g.config.indent_size (new_input g.config.edit_mode) x.ring c) text (coming_from g.config.edit_mode more last)) (sym is)
     (record { outcome = a.outcome; rest_is = a.rest_is })
 

@@ -3,12 +3,13 @@ use Rattle.std.proofs.Common.{◌≡◌, ℕ, zero, suc, List, [], ◌∷◌, �
 use Rattle.std.specs.List.{flat_map}
 use Rattle.line_buffer.specs.declared.layout.Layout.{Layout}
 use Rattle.line_config.specs.declared.errors.ReadlineError.{ReadlineError}
-use Rattle.line_editor.specs.Courses.{Turn, Open, Accept, Last, TurnsLead, EndsLine, redraws_in}
+use Rattle.line_editor.specs.Courses.{Turn, Open, Accept, Last, TurnsLead, EndsLine, steps_in}
 use Rattle.line_editor.specs.Lines.{Told}
-use Rattle.line_editor.specs.Redraws.{Redraw, Asked, fresh}
+use Rattle.line_editor.specs.Redraws.{Asked, fresh}
 use Rattle.line_editor.specs.Sights.{Sight, no_sight}
-use Rattle.line_editor.proofs.DoesLemmas.{asked_both}
+use Rattle.line_editor.specs.Values.{EditStep}
 use Rattle.line_editor.proofs.LineLeads.{lines_lead}
+use Rattle.line_editor.proofs.StopsLemmas.{asked_both}
 use Rattle.line_keys.specs.InputStates.{new_input}
 use Rattle.line_screen.specs.Calls.{Screen, bytes_of, ruler_of}
 use Rattle.line_screen.specs.Drawing.{row_break, break_if}
@@ -30,34 +31,34 @@ course_both own x (Last rs b ∷ rest) us text h end k = elim end.0 [ ]
 
 -- an accepted line's parts are its calls' bytes and CR LF, and a last line's its calls' and what its ending gives
 module _ (s : Screen) where
-  first_bytes : (l : Layout) (rs more : List Redraw) → bytes_for s l (rs ++ more) ≡ bytes_for s l rs ++ bytes_for s (drawn_by s l rs).layout more
+  first_bytes : (l : Layout) (rs more : List EditStep) → bytes_for s l (rs ++ more) ≡ bytes_for s l rs ++ bytes_for s (drawn_by s l rs).layout more
   first_bytes l rs more =
       ap (λ (a : Asked). flat_map (bytes_of s) a.calls) (asked_both (ruler_of s) l rs more) ∙ flat_both (bytes_of s) (drawn_by s l rs).calls (drawn_by s (drawn_by s l rs).layout more).calls
 
-  -- the last redraws of a line
-  none_more : (rs : List Redraw) → rs ≡ rs ++ []
+  -- the last steps of a line
+  none_more : (rs : List EditStep) → rs ≡ rs ++ []
   none_more rs = sym (append-nil rs)
 
   accepted_parts : (l : Layout) (ts us : List Turn) (text : List ℕ) → EndsLine (Ok text) ts
-      → all_of (parts_of s l (ts ++ us)) ≡ (bytes_for s l (flat_map redraws_in ts) ++ row_break) ++ all_of (parts_of s (fresh s.mode) us)
+      → all_of (parts_of s l (ts ++ us)) ≡ (bytes_for s l (flat_map steps_in ts) ++ row_break) ++ all_of (parts_of s (fresh s.mode) us)
   accepted_parts l [] us text end = cc
   accepted_parts l (Open rs y ∷ rest) us text end =
       let m = (drawn_by s l rs).layout in
-      let more = flat_map redraws_in rest in
+      let more = flat_map steps_in rest in
       let later = all_of (parts_of s (fresh s.mode) us) in
       ap (λ b. bytes_for s l rs ++ b) (accepted_parts m rest us text end)
       ∙ sym (append_assoc (bytes_for s l rs) (bytes_for s m more ++ row_break) later)
       ∙ ap (λ b. b ++ later) (sym (append_assoc (bytes_for s l rs) (bytes_for s m more) row_break) ∙ ap (λ b. b ++ row_break) (sym (first_bytes l rs more)))
   accepted_parts l (Accept rs y ∷ rest) us text end =
       ap (λ ts. (bytes_for s l rs ++ row_break) ++ all_of (parts_of s (fresh s.mode) (ts ++ us))) end.1
-      ∙ ap (λ xs. (bytes_for s l xs ++ row_break) ++ all_of (parts_of s (fresh s.mode) us)) (none_more rs ∙ ap (λ ts. rs ++ flat_map redraws_in ts) (sym end.1))
+      ∙ ap (λ xs. (bytes_for s l xs ++ row_break) ++ all_of (parts_of s (fresh s.mode) us)) (none_more rs ∙ ap (λ ts. rs ++ flat_map steps_in ts) (sym end.1))
   accepted_parts l (Last rs b ∷ rest) us text end = elim end.0 [ ]
 
-  last_parts : (l : Layout) (ts : List Turn) (e : ReadlineError) → EndsLine (Err e) ts → all_of (parts_of s l ts) ≡ bytes_for s l (flat_map redraws_in ts) ++ break_if (breaks (Err e))
+  last_parts : (l : Layout) (ts : List Turn) (e : ReadlineError) → EndsLine (Err e) ts → all_of (parts_of s l ts) ≡ bytes_for s l (flat_map steps_in ts) ++ break_if (breaks (Err e))
   last_parts l [] e end = ap (λ (o : Result (List ℕ) ReadlineError). break_if (breaks o)) (sym end)
   last_parts l (Open rs y ∷ rest) e end =
       let m = (drawn_by s l rs).layout in
-      let more = flat_map redraws_in rest in
+      let more = flat_map steps_in rest in
       ap (λ b. bytes_for s l rs ++ b) (last_parts m rest e end)
       ∙ sym (append_assoc (bytes_for s l rs) (bytes_for s m more) (break_if (breaks (Err e))))
       ∙ ap (λ b. b ++ break_if (breaks (Err e))) (sym (first_bytes l rs more))
@@ -65,7 +66,7 @@ module _ (s : Screen) where
   last_parts l (Last rs b ∷ rest) e end =
       append-nil (bytes_for s l rs ++ break_if b)
       ∙ ap (λ c. bytes_for s l rs ++ break_if c) end.0
-      ∙ ap (λ xs. bytes_for s l xs ++ break_if (breaks (Err e))) (none_more rs ∙ ap (λ ts. rs ++ flat_map redraws_in ts) (sym end.1))
+      ∙ ap (λ xs. bytes_for s l xs ++ break_if (breaks (Err e))) (none_more rs ∙ ap (λ ts. rs ++ flat_map steps_in ts) (sym end.1))
 
 -- ---- a session
 
@@ -82,7 +83,7 @@ line_shown g t later (Ok text) is course ends rest =
     record {
       course = course_both g.prompt no_sight t.turns (turns_of later) text course end rest.course;
       bytes = accepted_parts s l t.turns (turns_of later) text end
-          ∙ ap (λ o. (bytes_for s l (flat_map redraws_in t.turns) ++ break_if (breaks o)) ++ all_of (parts_of s l (turns_of later))) (sym is)
+          ∙ ap (λ o. (bytes_for s l (flat_map steps_in t.turns) ++ break_if (breaks o)) ++ all_of (parts_of s l (turns_of later))) (sym is)
           ∙ ap (λ b. line_bytes s t ++ b) rest.bytes;
     }
 line_shown g t later (Err e) is course ends rest =
@@ -93,7 +94,7 @@ line_shown g t later (Err e) is course ends rest =
       course = subst (TurnsLead g.prompt no_sight) (sym (append-nil t.turns)) course;
       bytes = ap (λ ts. all_of (parts_of s l ts)) (append-nil t.turns)
           ∙ last_parts s l t.turns e end
-          ∙ ap (λ o. bytes_for s l (flat_map redraws_in t.turns) ++ break_if (breaks o)) (sym is)
+          ∙ ap (λ o. bytes_for s l (flat_map steps_in t.turns) ++ break_if (breaks o)) (sym is)
           ∙ sym (append-nil (line_bytes s t));
     }
 

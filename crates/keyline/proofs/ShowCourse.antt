@@ -3,8 +3,10 @@ use Rattle.std.proofs.Common.{◌≡◌, ℕ, ◌≤◌, Bool, true, false, List
 use Rattle.std.specs.List.{filter, flat_map}
 use Rattle.line_buffer.specs.declared.layout.Layout.{Layout}
 use Rattle.line_editor.specs.Courses.{Turn, Open, Accept, Last, TurnsLead}
-use Rattle.line_editor.specs.Redraws.{Redraw, one, fresh}
+use Rattle.line_editor.specs.Redraws.{fresh}
 use Rattle.line_editor.specs.Sights.{Sight, no_sight, sight, sight_all, FitsAll}
+use Rattle.line_editor.specs.Steps.{one}
+use Rattle.line_editor.specs.Values.{EditStep}
 use Rattle.line_screen.specs.Calls.{Screen, bytes_of, ruler_of}
 use Rattle.line_screen.specs.Chain.{View, Good, empty_view}
 use Rattle.line_screen.specs.Display.{Display, Placed, meaning, at_cursor}
@@ -12,8 +14,8 @@ use Rattle.line_screen.specs.Drawing.{row_break, break_if, next_row}
 use Rattle.line_screen.specs.Laws.{widths}
 use Rattle.line_screen.specs.Showing.{finish_of, cursor_of, above}
 use Rattle.line_screen.proofs.LawLemmas.{start_is_empty, shown_is_meant, line_ends_anywhere, ended_line_stays}
-use Rattle.keyline.specs.Shows.{picture, LowAll, LowTurns, top_by, top_after, next_top, above_by, above_after, drawn_by, bytes_for, HasMeaning, MomentShown, EachShown, DrawingsShow}
-use Rattle.keyline.proofs.ShowSteps.{place_in, view_in, Holds, fresh_holds, step}
+use Rattle.keyline.specs.Shows.{picture, place_in, view_in, DisplayHolds, LowAll, LowTurns, top_by, top_after, next_top, above_by, above_after, drawn_by, bytes_for, HasMeaning, MomentShown, EachShown, DrawingsShow}
+use Rattle.keyline.proofs.ShowSteps.{fresh_holds, step}
 
 pub flat_both : {A B : Type 0} (f : A → List B) (xs ys : List A) → flat_map f (xs ++ ys) ≡ flat_map f xs ++ flat_map f ys
 flat_both f [] ys = refl
@@ -23,10 +25,10 @@ some_same : {a b : Display} → Some a ≡ Some b → a ≡ b
 some_same e = cc
 
 module _ (s : Screen) (low : 2 ≤ s.columns) (high : s.columns ≤ 1000) (own : List ℕ) where
-  -- redraws one after the other
-  pub steps : (bytes : List ℕ) (over : List Placed) (top : ℕ) (l : Layout) (x : Sight) (rs : List Redraw) → Holds s bytes over top l x → FitsAll own x rs → LowAll s x rs
-      → Holds s (bytes ++ bytes_for s l rs) (above_after rs over) (top_after rs top) (drawn_by s l rs).layout (sight_all x rs)
-  steps bytes over top l x [] h fits rows = subst (λ b. Holds s b over top l x) (sym (append-nil bytes)) h
+  -- steps one after the other
+  pub steps : (bytes : List ℕ) (over : List Placed) (top : ℕ) (l : Layout) (x : Sight) (rs : List EditStep) → DisplayHolds s bytes over top l x → FitsAll own x rs → LowAll s x rs
+      → DisplayHolds s (bytes ++ bytes_for s l rs) (above_after rs over) (top_after rs top) (drawn_by s l rs).layout (sight_all x rs)
+  steps bytes over top l x [] h fits rows = subst (λ b. DisplayHolds s b over top l x) (sym (append-nil bytes)) h
   steps bytes over top l x (r ∷ rs) h fits rows =
       let a = one (ruler_of s) l r in
       let new = flat_map (bytes_of s) a.calls in
@@ -34,7 +36,7 @@ module _ (s : Screen) (low : 2 ≤ s.columns) (high : s.columns ≤ 1000) (own :
       let rest = steps (bytes ++ new) (above_by r over) (top_by r top) a.layout (sight x r) rs first fits.1 rows.1 in
       let joined : (bytes ++ new) ++ bytes_for s a.layout rs ≡ bytes ++ bytes_for s l (r ∷ rs) =
       append_assoc bytes new (bytes_for s a.layout rs) ∙ ap (λ b. bytes ++ b) (sym (flat_both (bytes_of s) a.calls (drawn_by s a.layout rs).calls)) in
-      subst (λ b. Holds s b (above_after (r ∷ rs) over) (top_after (r ∷ rs) top) (drawn_by s l (r ∷ rs)).layout (sight_all x (r ∷ rs))) joined rest
+      subst (λ b. DisplayHolds s b (above_after (r ∷ rs) over) (top_after (r ∷ rs) top) (drawn_by s l (r ∷ rs)).layout (sight_all x (r ∷ rs))) joined rest
 
   place_by : (x : Sight) (b : Bool) → x.ended ≡ b → place_in s x ≡ (if b then finish_of s.columns (widths s) (picture x) else cursor_of s.columns (widths s) (picture x))
   place_by x b e = ap (λ t. if t then finish_of s.columns (widths s) (picture x) else cursor_of s.columns (widths s) (picture x)) e
@@ -64,7 +66,7 @@ module _ (s : Screen) (low : 2 ≤ s.columns) (high : s.columns ≤ 1000) (own :
       let closing = line_ends_anywhere s (omega arith) bytes over (view_in s top x) g in
       subst (λ xs. Good s.columns (widths s) (bytes ++ row_break) xs (empty_view (next_top s top x))) (ap (λ (d : Display). d.placed) (some_same (sym e.1 ∙ closing.1))) e.2
 
-  shown_each : (bytes : List ℕ) (over : List Placed) (top : ℕ) (l : Layout) (x : Sight) (turns : List Turn) → Holds s bytes over top l x → TurnsLead own x turns → LowTurns s x turns → EachShown s bytes top over l turns
+  shown_each : (bytes : List ℕ) (over : List Placed) (top : ℕ) (l : Layout) (x : Sight) (turns : List Turn) → DisplayHolds s bytes over top l x → TurnsLead own x turns → LowTurns s x turns → EachShown s bytes top over l turns
   shown_each bytes over top l x [] h course rows = tt
   shown_each bytes over top l x (Open rs y ∷ rest) h course rows =
       let t = course.0 in
@@ -72,7 +74,7 @@ module _ (s : Screen) (low : 2 ≤ s.columns) (high : s.columns ≤ 1000) (own :
       let now = top_after rs top in
       let kept = above_after rs over in
       let layout = (drawn_by s l rs).layout in
-      let done : Holds s new kept now layout y = subst (Holds s new kept now layout) t.leads (steps bytes over top l x rs h t.fits rows.0) in
+      let done : DisplayHolds s new kept now layout y = subst (DisplayHolds s new kept now layout) t.leads (steps bytes over top l x rs h t.fits rows.0) in
       (moment new kept now y done.good course.1, shown_each new kept now layout y rest done course.2 rows.1)
   shown_each bytes over top l x (Accept rs y ∷ rest) h course rows =
       let t = course.0 in
@@ -80,7 +82,7 @@ module _ (s : Screen) (low : 2 ≤ s.columns) (high : s.columns ≤ 1000) (own :
       let now = top_after rs top in
       let kept = above_after rs over in
       let layout = (drawn_by s l rs).layout in
-      let done : Holds s new kept now layout y = subst (Holds s new kept now layout) t.leads (steps bytes over top l x rs h t.fits rows.0) in
+      let done : DisplayHolds s new kept now layout y = subst (DisplayHolds s new kept now layout) t.leads (steps bytes over top l x rs h t.fits rows.0) in
       let means = closed new kept (view_in s now y) done.good true in
       let next = next_line new kept now y done.good course.1 in (
         means,

@@ -1,4 +1,4 @@
--- A redraw leads from what is shown before it to what is to be shown after it.
+-- A step leads from what is shown before it to what is to be shown after it.
 use Rattle.std.proofs.Common.{◌≡◌, ◌≢◌, ℕ, ◌+◌, ◌==◌, ◌&&◌, not, ◌^◌, ◌<◌, ◌≤◌, inl, inr, nat_lt, nat_le, Bool, true, false, List, [], ◌∷◌, ◌++◌, take, length, length-append, Option, Some, None, is_some, encode_utf8, refl, sym, ap, ◌∙◌, subst, append_assoc, append-nil, arith, if◌then◌else◌}
 use Rattle.std.specs.List.{list_all, filter, flat_map, FoldsTo}
 use Rattle.std.proofs.lemmas.Bool.{and_parts, and_from, not-true, eqb-true, lt-ltb, ltb-true}
@@ -11,9 +11,12 @@ use Rattle.line_buffer.specs.declared.layout.Layout.{Layout}
 use Rattle.line_buffer.specs.declared.layout.Position.{Position}
 use Rattle.line_editor.specs.Calls.{Call}
 use Rattle.line_editor.specs.Calls.Call.{Draw, Move, Write, Beep, ClearScreen, ClearToEol, Help}
-use Rattle.line_editor.specs.Redraws.{Redraw, info_text, fresh, layout_of, full, nothing_asked, moved_by_call, column_on, column_back, typed_short, taken_short, may_type, may_take, one}
-use Rattle.line_editor.specs.Redraws.Redraw.{Drawn, Moved, Typed, Taken, Bared, ToEnd, Beeped, Cleared, Helped}
+use Rattle.line_editor.specs.Redraws.{info_text, fresh, layout_of, full, nothing_asked, moved_by_call, column_on, column_back, typed_short, taken_short, may_type, may_take}
+use Rattle.line_editor.specs.Redraws.Redraw.{Drawn, Moved, Typed, Taken, Bared, ToEnd, Beeped, Cleared}
 use Rattle.line_editor.specs.Sights.{Sight, sight_with, sight_as, no_sight, sight, ended_sight, TypedFits, TakenFits, Fits}
+use Rattle.line_editor.specs.Steps.{one}
+use Rattle.line_editor.specs.Values.{EditStep}
+use Rattle.line_editor.specs.Values.EditStep.{Draws, Helped, Updates, Edits, TakesBack, Takes}
 use Rattle.line_screen.specs.Calls.{Screen, bytes_of, ruler_of}
 use Rattle.line_screen.specs.Chain.{View, Good, Inside, LeadsView, empty_view, Types}
 use Rattle.line_screen.specs.Display.{Placed, right}
@@ -26,24 +29,7 @@ use Rattle.line_screen.proofs.LawLemmas.{calls_lead, place_is_free, measures_go_
 use Rattle.line_screen.proofs.Leading.{line_items, line_cursor, over_again}
 use Rattle.line_screen.proofs.ListLemmas.{filter_none, list_all_true}
 use Rattle.line_screen.proofs.ShortLemmas.{typing_leads, killing_leads}
-use Rattle.keyline.specs.Shows.{picture, Low, top_by, above_by}
-
--- the cursor's cell, counted from the top: its place in the line, or the drawing's end
-abbrev pub place_in : Screen → Sight → Position
-place_in s x = if x.ended then finish_of s.columns (widths s) (picture x) else cursor_of s.columns (widths s) (picture x)
-
-abbrev pub view_in : Screen → ℕ → Sight → View
-view_in s top x = record { shown = picture x; top = top; place = place_in s x }
-
--- the bytes so far show what is to be seen, and the layout that is kept tells where its cursor and its end are, whether
--- information stands, and whether its prompt is the session's own
-pub record Holds (s : Screen) (bytes : List ℕ) (over : List Placed) (top : ℕ) (l : Layout) (x : Sight) : Type 0 where
-  pub good : Good s.columns (widths s) bytes over (view_in s top x)
-  pub cursor : l.cursor ≡ place_in s x
-  pub finish : l.end ≡ finish_of s.columns (widths s) (picture x)
-  pub prompt_size : l.prompt_size ≡ measure_of s.mode s.columns x.prompt origin
-  pub info_is : l.has_info ≡ is_some x.info
-  pub given_is : l.default_prompt ≡ x.given
+use Rattle.keyline.specs.Shows.{picture, place_in, view_in, DisplayHolds, Low, LowStep, top_by, above_by}
 
 same_if : (a b : Position) → same_cell a b ≡ true → a ≡ b
 same_if a b h =
@@ -116,7 +102,7 @@ module _ (s : Screen) (low : 2 ≤ s.columns) (high : s.columns ≤ 1000) where
 
   drawn_holds : (bytes : List ℕ) (over : List Placed) (top : ℕ) (l : Layout) (x : Sight) (prompt : List ℕ) (given : Bool) (text : List ℕ) (at : ℕ) (info : Option (List ℕ))
       → Good s.columns (widths s) bytes over (view_in s top x) → l.cursor ≡ place_in s x → Low s (sight_with given prompt text at info)
-      → (let a = full (ruler_of s) l prompt given text at info in Holds s (bytes ++ flat_map (bytes_of s) a.calls) over top a.layout (sight_with given prompt text at info))
+      → (let a = full (ruler_of s) l prompt given text at info in DisplayHolds s (bytes ++ flat_map (bytes_of s) a.calls) over top a.layout (sight_with given prompt text at info))
   drawn_holds bytes over top l x prompt given text at info g cursor rows =
       let y = sight_with given prompt text at info in
       let new = layout_of (ruler_of s) (measure_of s.mode s.columns prompt origin) given text at info in
@@ -140,10 +126,10 @@ module _ (s : Screen) (low : 2 ≤ s.columns) (high : s.columns ≤ 1000) where
 
   -- ---- moves
 
-  moved_if : (bytes : List ℕ) (over : List Placed) (top : ℕ) (l : Layout) (x : Sight) (at : ℕ) (cursor : Position) (b : Bool) → Holds s bytes over top l x
+  moved_if : (bytes : List ℕ) (over : List Placed) (top : ℕ) (l : Layout) (x : Sight) (at : ℕ) (cursor : Position) (b : Bool) → DisplayHolds s bytes over top l x
       → (let y = sight_with x.given x.prompt x.line at x.info in
       cursor ≡ cursor_of s.columns (widths s) (picture y) → Low s y → same_cell l.cursor cursor ≡ b
-      → (let a = if b then nothing_asked l else moved_by_call l cursor in Holds s (bytes ++ flat_map (bytes_of s) a.calls) over top a.layout y))
+      → (let a = if b then nothing_asked l else moved_by_call l cursor in DisplayHolds s (bytes ++ flat_map (bytes_of s) a.calls) over top a.layout y))
   moved_if bytes over top l x at cursor true h is rows e =
       let y = sight_with x.given x.prompt x.line at x.info in
       let here : place_in s x ≡ cursor_of s.columns (widths s) (picture y) = sym h.cursor ∙ same_if l.cursor cursor e ∙ is in
@@ -170,8 +156,8 @@ module _ (s : Screen) (low : 2 ≤ s.columns) (high : s.columns ≤ 1000) where
         given_is = h.given_is;
       }
 
-  end_if : (bytes : List ℕ) (over : List Placed) (top : ℕ) (l : Layout) (x : Sight) (b : Bool) → Holds s bytes over top l x → Low s x → same_cell l.cursor l.end ≡ b
-      → (let a = if b then nothing_asked l else moved_by_call l l.end in Holds s (bytes ++ flat_map (bytes_of s) a.calls) over top a.layout (ended_sight x))
+  end_if : (bytes : List ℕ) (over : List Placed) (top : ℕ) (l : Layout) (x : Sight) (b : Bool) → DisplayHolds s bytes over top l x → Low s x → same_cell l.cursor l.end ≡ b
+      → (let a = if b then nothing_asked l else moved_by_call l l.end in DisplayHolds s (bytes ++ flat_map (bytes_of s) a.calls) over top a.layout (ended_sight x))
   end_if bytes over top l x true h rows e =
       let here : place_in s x ≡ finish_of s.columns (widths s) (picture x) = sym h.cursor ∙ same_if l.cursor l.end e ∙ h.finish in
       record {
@@ -216,9 +202,9 @@ module _ (s : Screen) (low : 2 ≤ s.columns) (high : s.columns ≤ 1000) where
   typed_is x prompt c text at t =
       ap (λ p. sight_as p text at None) t.prompt_is ∙ ap (λ p. sight_as x.prompt p at None) t.text_is ∙ ap (λ n. sight_as x.prompt (x.line ++ c ∷ []) n None) t.behind
 
-  typed_if : (bytes : List ℕ) (over : List Placed) (top : ℕ) (l : Layout) (x : Sight) (prompt : List ℕ) (c : ℕ) (text : List ℕ) (at : ℕ) (b : Bool) → Holds s bytes over top l x
+  typed_if : (bytes : List ℕ) (over : List Placed) (top : ℕ) (l : Layout) (x : Sight) (prompt : List ℕ) (c : ℕ) (text : List ℕ) (at : ℕ) (b : Bool) → DisplayHolds s bytes over top l x
       → x.given ≡ true → x.ended ≡ false → TypedFits x prompt c text at → Low s (sight_as prompt text at None) → may_type (ruler_of s) l ≡ b
-      → (let a = if b then typed_short l c else full (ruler_of s) l prompt true text at None in Holds s (bytes ++ flat_map (bytes_of s) a.calls) over top a.layout (sight_as prompt text at None))
+      → (let a = if b then typed_short l c else full (ruler_of s) l prompt true text at None in DisplayHolds s (bytes ++ flat_map (bytes_of s) a.calls) over top a.layout (sight_as prompt text at None))
   typed_if bytes over top l x prompt c text at false h given unended t rows e = drawn_holds bytes over top l x prompt true text at None h.good h.cursor rows
   typed_if bytes over top l x prompt c text at true h given unended t rows e =
       let w = view_in s top x in
@@ -236,7 +222,7 @@ module _ (s : Screen) (low : 2 ≤ s.columns) (high : s.columns ≤ 1000) where
       let place_is : right 1 w.place ≡ cursor_of s.columns (widths s) (picture y) = typed_place w there c leads in
       let end : y.place ≡ length y.line = let count = length-append x.line (c ∷ []) in let last = t.end in omega arith in
       let cursor_is : column_on l.cursor ≡ cursor_of s.columns (widths s) (picture y) = ap column_on h.cursor ∙ place_is in
-      let done : Holds s new over top (typed_short l c).layout y = record {
+      let done : DisplayHolds s new over top (typed_short l c).layout y = record {
         good = subst (λ p. Good s.columns (widths s) new over (record { shown = picture y; top = top; place = p })) place_is good;
         cursor = cursor_is;
         finish = cursor_is ∙ sym (end_is_cursor (picture y) refl end);
@@ -244,7 +230,7 @@ module _ (s : Screen) (low : 2 ≤ s.columns) (high : s.columns ≤ 1000) where
         info_is = not-true l.has_info parts.0;
         given_is = h.given_is ∙ given;
       } in
-      subst (Holds s new over top (typed_short l c).layout) (sym (typed_is x prompt c text at t)) done
+      subst (DisplayHolds s new over top (typed_short l c).layout) (sym (typed_is x prompt c text at t)) done
 
   -- ---- a kill at the line's end
 
@@ -268,9 +254,9 @@ module _ (s : Screen) (low : 2 ≤ s.columns) (high : s.columns ≤ 1000) where
   taken_is : (x : Sight) (prompt : List ℕ) (count : ℕ) (text : List ℕ) (at : ℕ) → TakenFits x prompt count text at → sight_as prompt text at None ≡ sight_as x.prompt text (length text) None
   taken_is x prompt count text at t = ap (λ p. sight_as p text at None) t.prompt_is ∙ ap (λ n. sight_as x.prompt text n None) t.end
 
-  taken_if : (bytes : List ℕ) (over : List Placed) (top : ℕ) (l : Layout) (x : Sight) (prompt : List ℕ) (count : ℕ) (text : List ℕ) (at : ℕ) (b : Bool) → Holds s bytes over top l x
+  taken_if : (bytes : List ℕ) (over : List Placed) (top : ℕ) (l : Layout) (x : Sight) (prompt : List ℕ) (count : ℕ) (text : List ℕ) (at : ℕ) (b : Bool) → DisplayHolds s bytes over top l x
       → x.given ≡ true → TakenFits x prompt count text at → Low s (sight_as prompt text at None) → may_take l count ≡ b
-      → (let a = if b then taken_short l count else full (ruler_of s) l prompt true text at None in Holds s (bytes ++ flat_map (bytes_of s) a.calls) over top a.layout (sight_as prompt text at None))
+      → (let a = if b then taken_short l count else full (ruler_of s) l prompt true text at None in DisplayHolds s (bytes ++ flat_map (bytes_of s) a.calls) over top a.layout (sight_as prompt text at None))
   taken_if bytes over top l x prompt count text at false h given t rows e = drawn_holds bytes over top l x prompt true text at None h.good h.cursor rows
   taken_if bytes over top l x prompt count text at true h given t rows e =
       let w = view_in s top x in
@@ -293,7 +279,7 @@ module _ (s : Screen) (low : 2 ≤ s.columns) (high : s.columns ≤ 1000) where
       let same : bytes ++ flat_map (bytes_of s) (Move w.place to ∷ ClearToEol ∷ []) ≡ new =
       ap (λ p. bytes ++ flat_map (bytes_of s) (Move p to ∷ ClearToEol ∷ [])) (sym h.cursor) ∙ ap (λ p. bytes ++ flat_map (bytes_of s) (Move l.cursor p ∷ ClearToEol ∷ [])) (sym back) in
       let cursor_is : column_back count l.end ≡ cursor_of s.columns (widths s) (picture y) = back ∙ place_is in
-      let done : Holds s new over top (taken_short l count).layout y = record {
+      let done : DisplayHolds s new over top (taken_short l count).layout y = record {
         good = subst (λ p. Good s.columns (widths s) new over (record { shown = picture y; top = top; place = p })) place_is (subst (λ b. Good s.columns (widths s) b over there) same good);
         cursor = cursor_is;
         finish = cursor_is ∙ sym (end_is_cursor (picture y) refl refl);
@@ -301,44 +287,50 @@ module _ (s : Screen) (low : 2 ≤ s.columns) (high : s.columns ≤ 1000) where
         info_is = not-true l.has_info parts.0;
         given_is = h.given_is ∙ given;
       } in
-      subst (Holds s new over top (taken_short l count).layout) (sym (taken_is x prompt count text at t)) done
+      subst (DisplayHolds s new over top (taken_short l count).layout) (sym (taken_is x prompt count text at t)) done
 
-  -- ---- nothing is drawn where the session's own prompt stands
+  -- ---- no call, also where the session's own prompt stands
 
-  bared_if : (bytes : List ℕ) (over : List Placed) (top : ℕ) (l : Layout) (x : Sight) (prompt text : List ℕ) (at : ℕ) (b : Bool) → Holds s bytes over top l x → b ≡ true
-      → (let a = if b then nothing_asked l else full (ruler_of s) l prompt true text at None in Holds s (bytes ++ flat_map (bytes_of s) a.calls) over top a.layout x)
-  bared_if bytes over top l x prompt text at true h e =
-      record { good = none_led bytes over (view_in s top x) h.good; cursor = h.cursor; finish = h.finish; prompt_size = h.prompt_size; info_is = h.info_is; given_is = h.given_is }
+  still_holds : (bytes : List ℕ) (over : List Placed) (top : ℕ) (l : Layout) (x : Sight) → DisplayHolds s bytes over top l x → DisplayHolds s (bytes ++ []) over top l x
+  still_holds bytes over top l x h = subst (λ b. DisplayHolds s b over top l x) (sym (append-nil bytes)) h
+
+  bared_if : (bytes : List ℕ) (over : List Placed) (top : ℕ) (l : Layout) (x : Sight) (prompt text : List ℕ) (at : ℕ) (b : Bool) → DisplayHolds s bytes over top l x → b ≡ true
+      → (let a = if b then nothing_asked l else full (ruler_of s) l prompt true text at None in DisplayHolds s (bytes ++ flat_map (bytes_of s) a.calls) over top a.layout x)
+  bared_if bytes over top l x prompt text at true h e = still_holds bytes over top l x h
   bared_if bytes over top l x prompt text at false h e = cc
 
   -- ---- a call that changes nothing
 
-  same_holds : (bytes : List ℕ) (over : List Placed) (top : ℕ) (l : Layout) (x : Sight) (call : Call) → Holds s bytes over top l x
-      → LeadsView s.columns (widths s) (view_in s top x) call (view_in s top x) → call ≢ ClearScreen → Holds s (bytes ++ flat_map (bytes_of s) (call ∷ [])) over top l x
+  same_holds : (bytes : List ℕ) (over : List Placed) (top : ℕ) (l : Layout) (x : Sight) (call : Call) → DisplayHolds s bytes over top l x
+      → LeadsView s.columns (widths s) (view_in s top x) call (view_in s top x) → call ≢ ClearScreen → DisplayHolds s (bytes ++ flat_map (bytes_of s) (call ∷ [])) over top l x
   same_holds bytes over top l x call h leads other =
       record { good = one_led bytes over (view_in s top x) (view_in s top x) call h.good leads refl other; cursor = h.cursor; finish = h.finish; prompt_size = h.prompt_size; info_is = h.info_is; given_is = h.given_is }
 
   -- ---- before anything is drawn
 
-  pub fresh_holds : (bytes : List ℕ) (over : List Placed) (top : ℕ) (l : Layout) → Good s.columns (widths s) bytes over (empty_view top) → Holds s bytes over top (fresh l.grapheme_cluster_mode) no_sight
+  pub fresh_holds : (bytes : List ℕ) (over : List Placed) (top : ℕ) (l : Layout) → Good s.columns (widths s) bytes over (empty_view top) → DisplayHolds s bytes over top (fresh l.grapheme_cluster_mode) no_sight
   fresh_holds bytes over top l g = record { good = g; cursor = refl; finish = refl; prompt_size = sym nothing_measured; info_is = refl; given_is = refl }
 
-  -- ---- every redraw
+  -- ---- every step
 
-  pub step : (own bytes : List ℕ) (over : List Placed) (top : ℕ) (l : Layout) (x : Sight) (r : Redraw) → Holds s bytes over top l x → Fits own x r → Low s (sight x r)
-      → Holds s (bytes ++ flat_map (bytes_of s) (one (ruler_of s) l r).calls) (above_by r over) (top_by r top) (one (ruler_of s) l r).layout (sight x r)
-  step own bytes over top l x (Drawn prompt given text at info) h fits rows = drawn_holds bytes over top l x prompt given text at info h.good h.cursor rows
-  step own bytes over top l x (Moved text at) h fits rows =
+  pub step : (own bytes : List ℕ) (over : List Placed) (top : ℕ) (l : Layout) (x : Sight) (r : EditStep) → DisplayHolds s bytes over top l x → Fits own x r → LowStep s x r
+      → DisplayHolds s (bytes ++ flat_map (bytes_of s) (one (ruler_of s) l r).calls) (above_by r over) (top_by r top) (one (ruler_of s) l r).layout (sight x r)
+  step own bytes over top l x (Draws v (Drawn prompt given text at info)) h fits rows = drawn_holds bytes over top l x prompt given text at info h.good h.cursor rows
+  step own bytes over top l x (Draws v (Moved text at)) h fits rows =
       let y = sight_with x.given x.prompt x.line at x.info in
       let cursor = measure_of s.mode s.columns (take at text) l.prompt_size in
       let measured = measures_go_on s some (picture y) in
       let is : cursor ≡ cursor_of s.columns (widths s) (picture y) =
       ap (measure_of s.mode s.columns (take at text)) h.prompt_size ∙ ap (λ t. measure_of s.mode s.columns (take at t) (measure_of s.mode s.columns x.prompt origin)) fits ∙ measured.0 rows.cursor in
       moved_if bytes over top l x at cursor (same_cell l.cursor cursor) h is rows refl
-  step own bytes over top l x (Typed prompt c text at) h fits rows = typed_if bytes over top l x prompt c text at (may_type (ruler_of s) l) h fits.0 fits.2 fits.3 rows refl
-  step own bytes over top l x (Taken prompt count text at) h fits rows = taken_if bytes over top l x prompt count text at (may_take l count) h fits.0 fits.2 rows refl
-  step own bytes over top l x (Bared prompt text at) h fits rows = bared_if bytes over top l x prompt text at l.default_prompt h (h.given_is ∙ fits)
-  step own bytes over top l x ToEnd h fits rows = end_if bytes over top l x (same_cell l.cursor l.end) h (record { finish = rows.finish; cursor = rows.cursor }) refl
-  step own bytes over top l x Beeped h fits rows = same_holds bytes over top l x Beep h refl (λ e. cc)
-  step own bytes over top l x Cleared h fits rows = fresh_holds (bytes ++ flat_map (bytes_of s) (ClearScreen ∷ [])) [] 0 l (cleared_led bytes over (view_in s top x) h.good)
-  step own bytes over top l x (Helped fails) h fits rows = same_holds bytes over top l x (Help fails) h refl (λ e. cc)
+  step own bytes over top l x (Draws v (Typed prompt c text at)) h fits rows = typed_if bytes over top l x prompt c text at (may_type (ruler_of s) l) h fits.0 fits.2 fits.3 rows refl
+  step own bytes over top l x (Draws v (Taken prompt count text at)) h fits rows = taken_if bytes over top l x prompt count text at (may_take l count) h fits.0 fits.2 rows refl
+  step own bytes over top l x (Draws v (Bared prompt text at)) h fits rows = bared_if bytes over top l x prompt text at l.default_prompt h (h.given_is ∙ fits)
+  step own bytes over top l x (Draws v ToEnd) h fits rows = end_if bytes over top l x (same_cell l.cursor l.end) h (record { finish = rows.finish; cursor = rows.cursor }) refl
+  step own bytes over top l x (Draws v Beeped) h fits rows = same_holds bytes over top l x Beep h refl (λ e. cc)
+  step own bytes over top l x (Draws v Cleared) h fits rows = fresh_holds (bytes ++ flat_map (bytes_of s) (ClearScreen ∷ [])) [] 0 l (cleared_led bytes over (view_in s top x) h.good)
+  step own bytes over top l x (Helped v fails) h fits rows = same_holds bytes over top l x (Help fails) h refl (λ e. cc)
+  step own bytes over top l x (Updates v fails) h fits rows = same_holds bytes over top l x (Help fails) h refl (λ e. cc)
+  step own bytes over top l x (Edits v edit) h fits rows = still_holds bytes over top l x h
+  step own bytes over top l x (TakesBack v) h fits rows = still_holds bytes over top l x h
+  step own bytes over top l x (Takes v) h fits rows = still_holds bytes over top l x h

@@ -67,11 +67,11 @@ call_deeds s (call ∷ calls) = call_deed s call ∷ call_deeds s calls
 -- its acts, by the calls that they ask where this layout is kept
 abbrev pub act_deeds : Screen → Layout → List Act → List SessionDeed
 act_deeds s l [] = []
-act_deeds s l (Sees redraws ∷ more) =
-    call_deeds s (drawn_by s l redraws).calls ++ act_deeds s (drawn_by s l redraws).layout more
-act_deeds s l (Gets rest ∷ more) = Hears rest ∷ act_deeds s l more
-act_deeds s l (Obeys textless ring redraws ∷ more) =
-    call_deeds s (drawn_by s l redraws).calls ++ act_deeds s (drawn_by s l redraws).layout more
+act_deeds s l (Sees steps ∷ more) =
+    call_deeds s (drawn_by s l steps).calls ++ act_deeds s (drawn_by s l steps).layout more
+act_deeds s l (Gets value rest ∷ more) = Hears rest ∷ act_deeds s l more
+act_deeds s l (Obeys textless ring steps ∷ more) =
+    call_deeds s (drawn_by s l steps).calls ++ act_deeds s (drawn_by s l steps).layout more
 
 -- its end: an accepted line is kept, and then written
 abbrev pub accept_deeds : Result (List ℕ) ReadlineError → List SessionDeed

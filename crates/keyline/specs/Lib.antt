@@ -17,3 +17,4 @@ pub mod SessionLaws
 pub mod SessionShows
 pub mod Sessions
 pub mod Shows
+pub mod TurnShows

@@ -11,9 +11,9 @@ use Rattle.line_keys.specs.declared.command.Cmd.TheVariants.{SelfInsert}
 use Rattle.line_record.specs.Ring.{Ring}
 use Rattle.line_editor.specs.Inserting.{is_bare, insert_char}
 use Rattle.line_editor.specs.Lines.{phrase_enacted, turn_of}
-use Rattle.line_editor.specs.Redraws.{Redraw}
+use Rattle.line_editor.specs.Redraws.{nothing_asked}
 use Rattle.line_editor.specs.Sights.{Sight, sight_all, FitsAll}
-use Rattle.line_editor.specs.Values.{Value, Setting, unchanged}
+use Rattle.line_editor.specs.Values.{Value, Setting, EditStep}
 use Rattle.line_screen.specs.Calls.{Screen}
 use Rattle.line_screen.specs.Chain.{is_simple}
 use Rattle.keyline.specs.Shows.{drawn_by, bytes_for}
@@ -23,12 +23,12 @@ pub record TellsSight (l : Layout) (x : Sight) : Type 0 where
   pub info_is : l.has_info ≡ is_some x.info
   pub given_is : l.default_prompt ≡ x.given
 
--- and so after any redraws
+-- and so after any steps
 abbrev pub LayoutsTell : Type 0
 LayoutsTell =
-    (s : Screen) (own : List ℕ) (redraws : List Redraw) (l : Layout) (x : Sight)
-    → TellsSight l x → FitsAll own x redraws
-    → TellsSight (drawn_by s l redraws).layout (sight_all x redraws)
+    (s : Screen) (own : List ℕ) (steps : List EditStep) (l : Layout) (x : Sight)
+    → TellsSight l x → FitsAll own x steps
+    → TellsSight (drawn_by s l steps).layout (sight_all x steps)
 
 -- printable ASCII at the end of a line of printable ASCII and newlines, with room, and with neither
 -- hint nor highlighted character before or after
@@ -44,7 +44,9 @@ pub record TypedAtEnd (a : Setting) (v : Value) (c : ℕ) : Type 0 where
 pub record ReadAlone (n : ℕ) (a : Setting) (custom : Custom) (input : Input) (v : Value)
     (coming : Coming) (c : ℕ) : Type 0 where
   pub answer : (phrase_enacted n a custom input v coming).answer ≡ Ok (SelfInsert 1 c)
-  pub made : (phrase_enacted n a custom input v coming).made ≡ unchanged a v
+  pub value_is : (phrase_enacted n a custom input v coming).made.value ≡ v
+  pub unasked : (s : Screen) (l : Layout)
+      → drawn_by s l (phrase_enacted n a custom input v coming).made.steps ≡ nothing_asked l
 
 -- where no information stands and it doesn't come into the last column, its turn sends its byte
 abbrev pub OneByte : Type 0
@@ -53,4 +55,4 @@ OneByte =
     (input : Input) (r : Ring) (v : Value) (coming : Coming) (c : ℕ)
     → ReadAlone n a custom input v coming c → TypedAtEnd a v c
     → l.has_info ≡ false → l.cursor.col + 1 < s.columns
-    → bytes_for s l (turn_of n a custom indent input r v coming).made.redraws ≡ c ∷ []
+    → bytes_for s l (turn_of n a custom indent input r v coming).made.steps ≡ c ∷ []

@@ -13,11 +13,11 @@ use Rattle.keyline.specs.Shows.{drawn_by, bytes_for, LowTurns, EachShown}
 -- the display bytes in parts: one for each moment, and one for each line's close
 abbrev pub parts_of : Screen → Layout → List Turn → List (List ℕ)
 parts_of s l [] = []
-parts_of s l (Open redraws y ∷ rest) =
-    bytes_for s l redraws ∷ parts_of s (drawn_by s l redraws).layout rest
-parts_of s l (Accept redraws y ∷ rest) =
-    (bytes_for s l redraws ++ row_break) ∷ parts_of s (fresh s.mode) rest
-parts_of s l (Last redraws breaks ∷ rest) = (bytes_for s l redraws ++ break_if breaks) ∷ []
+parts_of s l (Open steps y ∷ rest) =
+    bytes_for s l steps ∷ parts_of s (drawn_by s l steps).layout rest
+parts_of s l (Accept steps y ∷ rest) =
+    (bytes_for s l steps ++ row_break) ∷ parts_of s (fresh s.mode) rest
+parts_of s l (Last steps breaks ∷ rest) = (bytes_for s l steps ++ break_if breaks) ∷ []
 
 abbrev pub all_of : List (List ℕ) → List ℕ
 all_of parts = flat_map (λ part. part) parts

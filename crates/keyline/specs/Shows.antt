@@ -1,15 +1,22 @@
 -- What a display shows over a session: what is to be seen of a line at its top, and what above.
-use Rattle.std.specs.Prelude.{◌≡◌, ⊤, ℕ, ◌+◌, ◌≤◌, Bool, true, false, if◌then◌else◌, List, [], ◌∷◌, ◌++◌, Some}
+use Rattle.std.specs.Prelude.{◌≡◌, ⊤, ℕ, ◌+◌, ◌≤◌, Bool, true, false, if◌then◌else◌, List, [], ◌∷◌, ◌++◌, Some, is_some}
 use Rattle.std.specs.List.{filter, flat_map}
+use Rattle.line_buffer.specs.Cells.{origin}
 use Rattle.line_buffer.specs.declared.layout.Layout.{Layout}
+use Rattle.line_buffer.specs.declared.layout.Position.{Position}
 use Rattle.line_editor.specs.Courses.{Turn, Open, Accept, Last, TurnsLead}
-use Rattle.line_editor.specs.Redraws.{Redraw, Asked, asked, fresh, info_text}
+use Rattle.line_editor.specs.Redraws.{Asked, fresh, info_text}
 use Rattle.line_editor.specs.Redraws.Redraw.{Cleared}
-use Rattle.line_editor.specs.Sights.{Sight, sight, no_sight}
+use Rattle.line_editor.specs.Sights.{Sight, sight, sight_drawn, no_sight}
+use Rattle.line_editor.specs.Steps.{asked}
+use Rattle.line_editor.specs.Values.{EditStep}
+use Rattle.line_editor.specs.Values.EditStep.{Draws}
 use Rattle.line_screen.specs.Calls.{Screen, bytes_of, ruler_of}
+use Rattle.line_screen.specs.Chain.{View, Good}
 use Rattle.line_screen.specs.Display.{Display, Placed, meaning}
 use Rattle.line_screen.specs.Drawing.{row_break, break_if}
 use Rattle.line_screen.specs.Laws.{widths}
+use Rattle.line_screen.specs.Measure.{measure_of}
 use Rattle.line_screen.specs.Showing.{Picture, Shows, finish_of, cursor_of, above}
 
 -- ---- what is to be seen, as one drawing from nothing
@@ -17,32 +24,55 @@ use Rattle.line_screen.specs.Showing.{Picture, Shows, finish_of, cursor_of, abov
 abbrev pub picture : Sight → Picture
 picture x = record { prompt = x.prompt; line = x.line; place = x.place; info = info_text x.info }
 
+-- the cursor's cell, counted from the top: its place in the line, or the drawing's end
+abbrev pub place_in : Screen → Sight → Position
+place_in s x = if x.ended then finish_of s.columns (widths s) (picture x)
+    else cursor_of s.columns (widths s) (picture x)
+
+abbrev pub view_in : Screen → ℕ → Sight → View
+view_in s top x = record { shown = picture x; top = top; place = place_in s x }
+
+-- the bytes so far show what is to be seen, and the layout that is kept tells where its cursor and
+-- its end are, whether information stands, and whether its prompt is the session's own
+pub record DisplayHolds (s : Screen) (bytes : List ℕ) (over : List Placed) (top : ℕ) (l : Layout)
+    (x : Sight) : Type 0 where
+  pub good : Good s.columns (widths s) bytes over (view_in s top x)
+  pub cursor : l.cursor ≡ place_in s x
+  pub finish : l.end ≡ finish_of s.columns (widths s) (picture x)
+  pub prompt_size : l.prompt_size ≡ measure_of s.mode s.columns x.prompt origin
+  pub info_is : l.has_info ≡ is_some x.info
+  pub given_is : l.default_prompt ≡ x.given
+
 -- ---- the premise: rows are counted to 65,535
 
 pub record Low (s : Screen) (x : Sight) : Type 0 where
   pub finish : (finish_of s.columns (widths s) (picture x)).row ≤ 65535
   pub cursor : (cursor_of s.columns (widths s) (picture x)).row ≤ 65535
 
-abbrev pub LowAll : Screen → Sight → List Redraw → Type 0
+abbrev pub LowStep : Screen → Sight → EditStep → Type 0
+LowStep s x (Draws value redraw) = Low s (sight_drawn x redraw)
+LowStep s x step = ⊤
+
+abbrev pub LowAll : Screen → Sight → List EditStep → Type 0
 LowAll s x [] = ⊤
-LowAll s x (r ∷ rs) = Low s (sight x r) × LowAll s (sight x r) rs
+LowAll s x (r ∷ rs) = LowStep s x r × LowAll s (sight x r) rs
 
 abbrev pub LowTurns : Screen → Sight → List Turn → Type 0
 LowTurns s x [] = ⊤
-LowTurns s x (Open redraws y ∷ rest) = LowAll s x redraws × LowTurns s y rest
-LowTurns s x (Accept redraws y ∷ rest) = LowAll s x redraws × LowTurns s no_sight rest
-LowTurns s x (Last redraws breaks ∷ rest) = LowAll s x redraws
+LowTurns s x (Open steps y ∷ rest) = LowAll s x steps × LowTurns s y rest
+LowTurns s x (Accept steps y ∷ rest) = LowAll s x steps × LowTurns s no_sight rest
+LowTurns s x (Last steps breaks ∷ rest) = LowAll s x steps
 
 -- ---- tops, and the rows above: a line's top is the row of its prompt's first cell
 
-abbrev pub clears : Redraw → Bool
-clears Cleared = true
-clears redraw = false
+abbrev pub clears : EditStep → Bool
+clears (Draws value Cleared) = true
+clears step = false
 
-abbrev pub top_by : Redraw → ℕ → ℕ
+abbrev pub top_by : EditStep → ℕ → ℕ
 top_by r top = if clears r then 0 else top
 
-abbrev pub top_after : List Redraw → ℕ → ℕ
+abbrev pub top_after : List EditStep → ℕ → ℕ
 top_after [] top = top
 top_after (r ∷ rs) top = top_after rs (top_by r top)
 
@@ -51,20 +81,20 @@ abbrev pub next_top : Screen → ℕ → Sight → ℕ
 next_top s top x = top + (finish_of s.columns (widths s) (picture x)).row + 1
 
 -- what stands in the rows above stays until the screen is cleared
-abbrev pub above_by : Redraw → List Placed → List Placed
+abbrev pub above_by : EditStep → List Placed → List Placed
 above_by r over = if clears r then [] else over
 
-abbrev pub above_after : List Redraw → List Placed → List Placed
+abbrev pub above_after : List EditStep → List Placed → List Placed
 above_after [] over = over
 above_after (r ∷ rs) over = above_after rs (above_by r over)
 
 -- ---- what is sent
 
-abbrev pub drawn_by : Screen → Layout → List Redraw → Asked
-drawn_by s l redraws = asked (ruler_of s) l redraws
+abbrev pub drawn_by : Screen → Layout → List EditStep → Asked
+drawn_by s l steps = asked (ruler_of s) l steps
 
-abbrev pub bytes_for : Screen → Layout → List Redraw → List ℕ
-bytes_for s l redraws = flat_map (bytes_of s) (drawn_by s l redraws).calls
+abbrev pub bytes_for : Screen → Layout → List EditStep → List ℕ
+bytes_for s l steps = flat_map (bytes_of s) (drawn_by s l steps).calls
 
 -- ---- what these bytes mean
 
@@ -86,19 +116,19 @@ pub record MomentShown (s : Screen) (bytes : List ℕ) (x : Sight) (top : ℕ) (
 -- is shown; all that an accepted line left stands above the next one
 abbrev pub EachShown : Screen → List ℕ → ℕ → List Placed → Layout → List Turn → Type 0
 EachShown s bytes top over l [] = ⊤
-EachShown s bytes top over l (Open redraws y ∷ rest) =
-    let new = bytes ++ bytes_for s l redraws in
-    let now = top_after redraws top in
-    let kept = above_after redraws over in
-    MomentShown s new y now kept × EachShown s new now kept (drawn_by s l redraws).layout rest
-EachShown s bytes top over l (Accept redraws y ∷ rest) =
-    let new = (bytes ++ bytes_for s l redraws) ++ row_break in
-    let now = top_after redraws top in
-    (m : HasMeaning s new now (above_after redraws over))
+EachShown s bytes top over l (Open steps y ∷ rest) =
+    let new = bytes ++ bytes_for s l steps in
+    let now = top_after steps top in
+    let kept = above_after steps over in
+    MomentShown s new y now kept × EachShown s new now kept (drawn_by s l steps).layout rest
+EachShown s bytes top over l (Accept steps y ∷ rest) =
+    let new = (bytes ++ bytes_for s l steps) ++ row_break in
+    let now = top_after steps top in
+    (m : HasMeaning s new now (above_after steps over))
     × EachShown s new (next_top s now y) m.display.placed (fresh s.mode) rest
-EachShown s bytes top over l (Last redraws breaks ∷ rest) =
-    HasMeaning s ((bytes ++ bytes_for s l redraws) ++ break_if breaks) (top_after redraws top)
-    (above_after redraws over)
+EachShown s bytes top over l (Last steps breaks ∷ rest) =
+    HasMeaning s ((bytes ++ bytes_for s l steps) ++ break_if breaks) (top_after steps top)
+    (above_after steps over)
 
 -- on a display that was blank, over a course of turns whose drawings stay within the rows that can
 -- be counted

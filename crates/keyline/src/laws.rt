@@ -18,6 +18,7 @@ ghost use Rattle.keyline.specs.SessionLaws.{ColumnsAreFree, LastAreKept};
 ghost use Rattle.keyline.specs.SessionShows.{SessionsShow};
 ghost use Rattle.keyline.specs.Sessions.{given_by};
 ghost use Rattle.keyline.specs.Shows.{DrawingsShow};
+ghost use Rattle.keyline.specs.TurnShows.{CommandsShow, TurnsShow};
 
 use crate::prompter::Prompter;
 use crate::session::{Ended, LineRead, Session};
@@ -85,6 +86,18 @@ pub fn lines<
 /// and all that was sent has a meaning. The rows above keep their cells until a screen is cleared.
 pub fn drawings_show()
     ensures { DrawingsShow }
+{}
+
+/// From any display that shows a value, the bytes of a command lead to one that shows the value
+/// after it; an interruption leaves the cursor at the drawing's end.
+pub fn commands_show()
+    ensures { CommandsShow }
+{}
+
+/// From any display that shows a value, the bytes of a turn, whatever is read in it, lead to one
+/// that shows the value after it. A course of turns is one after the other.
+pub fn turns_show()
+    ensures { TurnsShow }
 {}
 
 /// A printable character of ASCII that is read alone, at the end of a line of such characters and

@@ -1,0 +1,5 @@
+use Rattle.keyline.proofs.TurnShowLemmas.{turns_show}
+use Rattle.keyline.proofs.laws.turns_show.Goals as goal
+
+pub returns : goal.returns
+returns c = turns_show
