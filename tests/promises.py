@@ -19,6 +19,7 @@ from names import CRATES, LIBRARIES, NAMES, TOP, Crate, files_under, line_of, li
 WORD = re.compile(r"`([^`]+)`|[()]")
 LINK = re.compile(r"\[([^\]\n]+)\]\(([^)#\s]+)(?:#(L\d+|[\w-]+))?\)")
 LINE = re.compile(r"L\d+")
+MERGED = re.compile(r"(<{7}|={7}|>{7})( |$)")
 WEB = re.compile(r"\w+:")
 
 
@@ -164,6 +165,13 @@ def check_links(checks):
                 checks.expect(at and part in ("", f"L{at}"), f"{document}: {words} stands in line {at} of {path}, not {part}")
 
 
+def check_merges(checks):
+    """No document has lines that a broken merge leaves."""
+    for document in documents():
+        left = [at for at, line in enumerate(lines_of(document), 1) if MERGED.match(line)]
+        checks.expect(not left, f"{document}: a broken merge left its marks in lines {left}")
+
+
 def write(crates):
     """Writes docs/NAMES.md, and the numbers of the lines that are linked."""
     with open(os.path.join(TOP, *NAMES), "w", encoding="utf-8") as it:
@@ -247,6 +255,7 @@ def main(words):
     check_crates(checks)
     check_definitions(checks, crates)
     check_links(checks)
+    check_merges(checks)
     check_wrong_bodies(checks)
     check_parts(checks)
     check_logs(checks)
