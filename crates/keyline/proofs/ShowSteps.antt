@@ -114,7 +114,7 @@ module _ (s : Screen) (low : 2 ≤ s.columns) (high : s.columns ≤ 1000) where
       let row_a = ap (λ p. p.row) cursor_is in
       let row_b = ap (λ p. p.row) finish_is in
       record {
-        good = one_led bytes over (view_in s top x) (view_in s top y) (Draw (Some l.cursor.row) prompt text (info_text info) new.end new.cursor) g
+        good = one_led bytes over (view_in s top x) (view_in s top y) (Draw prompt text at info (Some l) new) g
             (ap (λ p. p.row) cursor, record { prompt_is = refl; line_is = refl; info_is = refl; finish_is = finish_is; cursor_is = cursor_is; top_is = refl; place_is = sym cursor_is; finish_row = omega arith; cursor_row = omega arith })
             refl (λ e. cc);
         cursor = cursor_is;

@@ -1,5 +1,5 @@
 -- Whole lines, computed from their keys: the calls asked of a display whose characters have one column each, and the outcome.
-use Rattle.std.proofs.Common.{◌≡◌, ℕ, ◌+◌, true, false, List, [], ◌∷◌, ◌++◌, length, Some, None, refl}
+use Rattle.std.proofs.Common.{◌≡◌, ℕ, ◌+◌, Bool, true, false, List, [], ◌∷◌, ◌++◌, length, Some, None, refl}
 use Rattle.std.specs.Fmt.{digits}
 use Rattle.std.specs.Prelude.{codes, Ok, Err, if◌then◌else◌}
 use Rattle.unicode_segmentation.proofs.Computing.{unicode_segmentation}
@@ -8,6 +8,7 @@ use Rattle.line_buffer.specs.RowRanges.{behind_newlines}
 use Rattle.line_buffer.specs.Transpositions.{after_words, before_words}
 use Rattle.line_buffer.specs.Words.{starts_of, ends_of}
 use Rattle.line_buffer.specs.declared.layout.GraphemeClusterMode.TheVariants.{Unicode}
+use Rattle.line_buffer.specs.declared.layout.Layout.{Layout}
 use Rattle.line_buffer.specs.declared.layout.Position.{Position}
 use Rattle.line_config.specs.declared.errors.ReadlineError.TheVariants.{Eof}
 use Rattle.line_config.specs.declared.settings.EditMode.TheVariants.{Emacs}
@@ -76,9 +77,24 @@ pressed (key ∷ more) = Pressed key (pressed more)
 abbrev at : ℕ → Position
 at column = record { col = column; row = 0 }
 
--- all drawn, no hint
-abbrev draw : List ℕ → ℕ → ℕ → Call
-draw line finish cursor = Draw (Some 0) own line [] (at finish) (at cursor)
+-- where the prompt, the cursor and the whole drawing end; no hint
+abbrev laid : Bool → ℕ → ℕ → ℕ → Layout
+laid given prompt cursor finish = record {
+  grapheme_cluster_mode = Unicode;
+  prompt_size = at prompt;
+  default_prompt = given;
+  cursor = at cursor;
+  end = at finish;
+  has_info = false;
+}
+
+-- behind the session's own prompt, the cursor at the end
+abbrev own_laid : ℕ → Layout
+own_laid finish = laid true 2 finish finish
+
+-- a line drawn so, in the place of another drawing
+abbrev draw : List ℕ → Layout → Call
+draw line old = Draw own line (length line) None (Some old) (own_laid (2 + length line))
 
 -- whatever the ring holds
 module _ (r : Ring) where
@@ -90,7 +106,7 @@ module _ (r : Ring) where
   abbrev a_left_enter : Told
   a_left_enter = line [] nothing_bound (typed 0x61 ∷ key_with Left none ∷ key_with Enter none ∷ [])
 
-  a_left_enter_calls : calls a_left_enter ≡ draw [] 2 2 ∷ Write (codes "a") ∷ Move (at 3) (at 2) ∷ Move (at 2) (at 3) ∷ []
+  a_left_enter_calls : calls a_left_enter ≡ draw [] (fresh Unicode) ∷ Write (codes "a") ∷ Move (at 3) (at 2) ∷ Move (at 2) (at 3) ∷ []
   unfolding unicode_segmentation line_of line_from turn_of answered following needing with_read from_key asking becoming deciding and_then counting followed emacs_deed common_deed
   a_left_enter_calls = refl
 
@@ -103,7 +119,7 @@ module _ (r : Ring) where
   abbrev two_x : Told
   two_x = line [] nothing_bound (key_with (Char 0x32) alt ∷ typed 0x78 ∷ [])
 
-  two_x_calls : calls two_x ≡ draw [] 2 2 ∷ Draw (Some 0) (codes "(arg: 2) ") [] [] (at 9) (at 9) ∷ draw [] 2 2 ∷ draw (codes "xx") 4 4 ∷ []
+  two_x_calls : calls two_x ≡ draw [] (fresh Unicode) ∷ Draw (codes "(arg: 2) ") [] 0 None (Some (own_laid 2)) (laid false 9 9 9) ∷ draw [] (laid false 9 9 9) ∷ draw (codes "xx") (own_laid 2) ∷ []
   unfolding unicode_segmentation line_of line_from turn_of answered following needing with_read from_key asking becoming deciding and_then counting followed emacs_deed common_deed digits
   two_x_calls = refl
 
@@ -116,7 +132,7 @@ module _ (r : Ring) where
   abbrev lone_word : Told
   lone_word = line [] nothing_bound (typed 0x77 ∷ key_with (Char 0x41) ctrl ∷ key_with (Char 0x74) alt ∷ [])
 
-  lone_word_calls : calls lone_word ≡ draw [] 2 2 ∷ Write (codes "w") ∷ Move (at 3) (at 2) ∷ draw (codes "w") 3 3 ∷ []
+  lone_word_calls : calls lone_word ≡ draw [] (fresh Unicode) ∷ Write (codes "w") ∷ Move (at 3) (at 2) ∷ draw (codes "w") (laid true 2 2 3) ∷ []
   unfolding unicode_segmentation line_of line_from turn_of answered following needing with_read from_key asking becoming deciding and_then counting followed emacs_deed common_deed after_words before_words starts_of ends_of
   lone_word_calls = refl
 
@@ -128,7 +144,7 @@ module _ (r : Ring) where
     begins = λ ks. begins_with ks (single (key_with (Char 0x4F) ctrl));
   }
 
-  search_calls : calls (line [] ctrl_o (key_with (Char 0x4F) ctrl ∷ [])) ≡ draw [] 2 2 ∷ Beep ∷ []
+  search_calls : calls (line [] ctrl_o (key_with (Char 0x4F) ctrl ∷ [])) ≡ draw [] (fresh Unicode) ∷ Beep ∷ []
   unfolding unicode_segmentation line_of line_from turn_of answered following needing with_read from_key asking becoming deciding and_then counting followed emacs_deed common_deed
   search_calls = refl
 
@@ -148,8 +164,8 @@ module _ (r : Ring) where
 
   -- the third step up draws nothing
   up_and_down_calls : calls up_and_down
-      ≡ draw [] 2 2 ∷ Write (codes "c") ∷ Write (codes "u") ∷ Write (codes "r")
-      ∷ draw (codes "line1") 7 7 ∷ draw (codes "line0") 7 7 ∷ draw (codes "line1") 7 7 ∷ draw (codes "cur") 5 5 ∷ []
+      ≡ draw [] (fresh Unicode) ∷ Write (codes "c") ∷ Write (codes "u") ∷ Write (codes "r")
+      ∷ draw (codes "line1") (own_laid 5) ∷ draw (codes "line0") (own_laid 7) ∷ draw (codes "line1") (own_laid 7) ∷ draw (codes "cur") (own_laid 7) ∷ []
   unfolding unicode_segmentation line_of line_from turn_of answered following needing with_read from_key asking becoming deciding and_then counting followed emacs_deed common_deed line_up line_down behind_newlines
   up_and_down_calls = refl
 

@@ -1,6 +1,6 @@
 -- The calls of a renderer and of the helper, what is known of a renderer, and what a call makes of
 -- it.
-use Rattle.std.specs.Prelude.{◌≡◌, ◌⊎◌, ℕ, Bool, List, [], ◌∷◌, Option, option_map, Result, OnOk, OnErr, IfErr, IsTrue, IsFalse}
+use Rattle.std.specs.Prelude.{◌≡◌, ◌⊎◌, ℕ, Bool, List, [], ◌∷◌, Option, Result, OnOk, OnErr, IfErr, IsTrue, IsFalse}
 use Rattle.line_buffer.specs.declared.layout.GraphemeClusterMode.{GraphemeClusterMode}
 use Rattle.line_buffer.specs.declared.layout.Layout.{Layout}
 use Rattle.line_buffer.specs.declared.layout.Position.{Position}
@@ -8,14 +8,15 @@ use Rattle.line_config.specs.declared.errors.ReadlineError.{ReadlineError}
 use Rattle.line_config.specs.declared.errors.ReadlineError.TheVariants.{Display}
 
 pub data Call : Type 0 where
-  -- prompt, line and information drawn whole; without the row of an older drawing's cursor only
+  -- prompt, line and information drawn whole, in the place of an older drawing; without one only
   -- what is new is drawn
-  Draw : (old_row : Option ℕ) (prompt line info : List ℕ) (finish cursor : Position) → Call
+  Draw : (prompt text : List ℕ) (place : ℕ) (info : Option (List ℕ)) (old : Option Layout)
+      (new : Layout) → Call
   Move : (old new : Position) → Call
   Write : (text : List ℕ) → Call
   Beep : Call
   ClearScreen : Call
-  ClearRows : (row : ℕ) → Call
+  ClearRows : (layout : Layout) → Call
   ClearToEol : Call
   ToLeftmost : Call
   -- the helper is asked, and gives an answer or fails; nothing is drawn
@@ -37,10 +38,6 @@ pub record Canvas (R : Type 0) : Type 1 where
   pub refused : R → Call → R → Type 0
   pub failed : R → Bool
   pub ruler : R → Ruler
-
--- the row of the cursor of an older drawing, if there is one
-abbrev pub old_row : Option Layout → Option ℕ
-old_row old = option_map (λ l. l.cursor.row) old
 
 -- a call is made, or refused since the display has failed
 pub record Makes {R A : Type 0} (canvas : Canvas R) (call : Call) (old new : R)

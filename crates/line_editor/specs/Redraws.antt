@@ -62,7 +62,7 @@ abbrev pub full : Ruler → Layout → List ℕ → Bool → List ℕ → ℕ �
 full r l prompt given text place info =
     let new = layout_of r (r.measure prompt origin) given text place info in
     record {
-      calls = Draw (Some l.cursor.row) prompt text (info_text info) new.end new.cursor ∷ [];
+      calls = Draw prompt text place info (Some l) new ∷ [];
       layout = new;
     }
 

@@ -5,7 +5,7 @@ ghost use Rattle.line_config.specs.declared.errors.ReadlineError.TheVariants.{Di
 ghost use Rattle.line_editor.specs.Calls.{Makes};
 ghost use Rattle.line_editor.specs.Calls.Call.{Draw};
 ghost use Rattle.line_editor.specs.Values.{hooks_by, marked_by};
-ghost use Rattle.line_editor.specs.Redraws.{layout_of, info_text, may_type, may_take};
+ghost use Rattle.line_editor.specs.Redraws.{layout_of, may_type, may_take};
 
 use crate::renderer::{RefreshKind, Renderer};
 use crate::state::State;
@@ -83,8 +83,8 @@ fn draw_over<Out: Renderer, H: Highlighter>(
     ensures makes { let ruler = Out.canvas.ruler out.old in
         let new = layout_of ruler (ruler.measure prompt.now origin) given line.now.text
         line.now.place (option_copied info.entry) in
-        Makes Out.canvas (Draw (Some old.cursor.row) prompt.now line.now.text
-        (info_text (option_copied info.entry)) new.end new.cursor) out.old out.new result }
+        Makes Out.canvas (Draw prompt.now line.now.text line.now.place
+        (option_copied info.entry) (Some old) new) out.old out.new result }
     ensures layout { let ruler = Out.canvas.ruler out.old in
         IfOk result (λ new. new ≡ layout_of ruler (ruler.measure prompt.now origin) given
         line.now.text line.now.place (option_copied info.entry)) }

@@ -3,9 +3,9 @@ ghost use Rattle.std.specs.Prelude.{◌≡◌, true, take, Some, OnErr, IfErr, I
 ghost use Rattle.line_edits.specs.Plain.{is_plain};
 ghost use Rattle.line_editor.specs.Known.{IsKnown};
 ghost use Rattle.line_config.specs.declared.errors.ReadlineError.TheVariants.{Display};
-ghost use Rattle.line_editor.specs.Calls.{Canvas, Makes, MakesBoth, Idles, old_row};
+ghost use Rattle.line_editor.specs.Calls.{Canvas, Makes, MakesBoth, Idles};
 ghost use Rattle.line_editor.specs.Calls.Call.{Draw, Move, Write, Beep, ClearScreen, ClearRows, ClearToEol, ToLeftmost};
-ghost use Rattle.line_editor.specs.Redraws.{layout_of, info_text};
+ghost use Rattle.line_editor.specs.Redraws.{layout_of};
 
 use line_buffer::{GraphemeClusterMode, Layout, LineBuffer, Position, Unit};
 use line_config::ReadlineError;
@@ -45,9 +45,8 @@ pub trait Renderer: Drop {
         new_layout: &Layout,
         highlighter: Option<&H>,
     ) -> Result<(), ReadlineError>
-        ensures { Makes canvas (Draw (old_row old_layout) prompt.now line.now.text
-            (info_text (option_copied hint.entry)) new_layout.now.end new_layout.now.cursor)
-            self.old self.new result };
+        ensures { Makes canvas (Draw prompt.now line.now.text line.now.place
+            (option_copied hint.entry) old_layout new_layout.now) self.old self.new result };
 
     /// Writes a text at the cursor.
     fn write_and_flush(&mut self, text: &str) -> Result<(), ReadlineError>
@@ -62,7 +61,7 @@ pub trait Renderer: Drop {
 
     /// Erases the rows of a drawing, and all below.
     fn clear_rows(&mut self, layout: &Layout) -> Result<(), ReadlineError>
-        ensures { Makes canvas (ClearRows layout.now.cursor.row) self.old self.new result };
+        ensures { Makes canvas (ClearRows layout.now) self.old self.new result };
 
     /// Erases from the cursor to its row's end.
     fn clear_to_eol(&mut self) -> Result<(), ReadlineError>

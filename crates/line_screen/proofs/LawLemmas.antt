@@ -48,13 +48,13 @@ calls_lead s low high bytes over a b call g h =
 
 -- a line's top is never above the one before, but where the screen is cleared
 top_grows : (s : Screen) (a b : View) (call : Call) → LeadsView s.columns (widths s) a call b → call ≢ ClearScreen → a.top ≤ b.top
-top_grows s a b (Draw old prompt line info finish cursor) h none = let same : b.top ≡ a.top = h.1.top_is in omega arith
+top_grows s a b (Draw prompt text place info old new) h none = let same : b.top ≡ a.top = h.1.top_is in omega arith
 top_grows s a b (Move old new) h none = let same : b.top ≡ a.top = ap (λ (w : View). w.top) h.view in omega arith
 top_grows s a b (Write text) (inl h) none = let same : b.top ≡ a.top = ap (λ (w : View). w.top) h.view in omega arith
 top_grows s a b (Write text) (inr h) none = let same : b.top ≡ a.top + (finish_of s.columns (widths s) a.shown).row + 1 = ap (λ (w : View). w.top) h.view in omega arith
 top_grows s a b Beep h none = let same : b.top ≡ a.top = ap (λ (w : View). w.top) h in omega arith
 top_grows s a b ClearScreen h none = absurd (none refl)
-top_grows s a b (ClearRows row) h none = let same : b.top ≡ a.top = ap (λ (w : View). w.top) h.1 in omega arith
+top_grows s a b (ClearRows layout) h none = let same : b.top ≡ a.top = ap (λ (w : View). w.top) h.1 in omega arith
 top_grows s a b ClearToEol h none = let same : b.top ≡ a.top = ap (λ (w : View). w.top) h.view in omega arith
 top_grows s a b ToLeftmost h none = let same : b.top ≡ a.top = ap (λ (w : View). w.top) h in omega arith
 top_grows s a b (Help fails) h none = let same : b.top ≡ a.top = ap (λ (w : View). w.top) h in omega arith

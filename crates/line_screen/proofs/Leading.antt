@@ -13,7 +13,8 @@ use Rattle.line_config.specs.declared.settings.BellStyle.{BellStyle}
 use Rattle.line_config.specs.declared.settings.BellStyle.TheVariants as Bells
 use Rattle.line_editor.specs.Calls.{Call}
 use Rattle.line_editor.specs.Calls.Call.{Draw, Move, Write, Beep, ClearScreen, ClearRows, ClearToEol, ToLeftmost, Help}
-use Rattle.line_screen.specs.Calls.{Screen, bytes_of, bell_bytes, drawing_bytes}
+use Rattle.line_editor.specs.Redraws.{info_text}
+use Rattle.line_screen.specs.Calls.{Screen, bytes_of, bell_bytes, old_row, drawing_bytes}
 use Rattle.line_screen.specs.Chain.{View, Good, Inside, empty_view, Replaces, Redraws, is_simple, with_letter, Types, ClosesLine, cut_line, LeadsView, with_place}
 use Rattle.line_screen.specs.Display.{Placed, Display, read, start, put_down, is_printable, right, ends_before, starts_before, is_cut, stays_in_row, at_cursor, erased_below, erased_right}
 use Rattle.line_screen.specs.Display.DisplayReading.{Text, Lost}
@@ -425,8 +426,8 @@ write_led s some few bytes over a b text g (inr t) =
 
 pub leads : (s : Screen) → 1 ≤ s.columns → s.columns < 2 ^ 64 → (bytes : List ℕ) (over : List Placed) (a b : View) (call : Call) → Good s.columns (cluster_width s.mode s.columns) bytes over a
     → LeadsView s.columns (cluster_width s.mode s.columns) a call b → Led s bytes over a call b
-leads s some few bytes over a b (Draw old prompt line info finish cursor) g h =
-    same_over s bytes over a (Draw old prompt line info finish cursor) b g (draw_good s.mode s.columns some few bytes over a b old prompt line info finish cursor g h.0 h.1)
+leads s some few bytes over a b (Draw prompt text place info old new) g h =
+    same_over s bytes over a (Draw prompt text place info old new) b g (draw_good s.mode s.columns some few bytes over a b (old_row old) prompt text (info_text info) new.end new.cursor g h.0 h.1)
 leads s some few bytes over a b (Move old new) g h =
     same_over s bytes over a (Move old new) b g
     (subst (λ p. Good s.columns (cluster_width s.mode s.columns) (bytes ++ move_bytes p new) over b) (sym h.old_is)
@@ -441,8 +442,8 @@ leads s some few bytes over a b ClearScreen g h =
       good = subst (Good s.columns (cluster_width s.mode s.columns) (bytes ++ (go_home ++ erase_to_end)) []) (sym h) (screen_good s.mode s.columns some few bytes over a g);
       stays = λ no. absurd (no refl);
     }
-leads s some few bytes over a b (ClearRows row) g h =
-    same_over s bytes over a (ClearRows row) b g
+leads s some few bytes over a b (ClearRows layout) g h =
+    same_over s bytes over a (ClearRows layout) b g
     (subst (λ n. Good s.columns (cluster_width s.mode s.columns) (bytes ++ clearing_bytes n) over b) (sym h.0)
     (subst (Good s.columns (cluster_width s.mode s.columns) (bytes ++ clearing_bytes a.place.row) over) (sym h.1) (rows_good s.mode s.columns some few bytes over a g)))
 leads s some few bytes over a b ClearToEol g h =

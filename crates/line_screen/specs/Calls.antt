@@ -1,6 +1,7 @@
 -- The bytes of each drawing call on a screen, and what a call does to the screen and its sink.
-use Rattle.std.specs.Prelude.{◌≡◌, ℕ, Bool, false, IsTrue, List, [], ◌∷◌, ◌++◌, Option, Some, None, Result, Ok, Err}
+use Rattle.std.specs.Prelude.{◌≡◌, ℕ, Bool, false, IsTrue, List, [], ◌∷◌, ◌++◌, Option, Some, None, option_map, Result, Ok, Err}
 use Rattle.line_buffer.specs.declared.layout.GraphemeClusterMode.{GraphemeClusterMode}
+use Rattle.line_buffer.specs.declared.layout.Layout.{Layout}
 use Rattle.line_buffer.specs.declared.layout.Position.{Position}
 use Rattle.line_config.specs.declared.device.DeviceFailed.{DeviceFailed}
 use Rattle.line_config.specs.declared.errors.ReadlineError.{ReadlineError}
@@ -10,6 +11,7 @@ use Rattle.line_config.specs.declared.settings.BellStyle.{BellStyle}
 use Rattle.line_config.specs.declared.settings.BellStyle.TheVariants.{Audible}
 use Rattle.line_editor.specs.Calls.{Call, Canvas, Ruler}
 use Rattle.line_editor.specs.Calls.Call.{Draw, Move, Write, Beep, ClearScreen, ClearRows, ClearToEol, ToLeftmost, Help}
+use Rattle.line_editor.specs.Redraws.{info_text}
 use Rattle.line_screen.specs.Drawing.{drawing, full_drawing, clearing_bytes, move_bytes, erase_to_end, erase_to_row_end, go_home}
 use Rattle.line_screen.specs.Measure.{cluster_width, measure_of}
 use Rattle.line_screen.specs.declared.renderer.ScreenRenderer.{ScreenRenderer}
@@ -44,6 +46,10 @@ drawing_bytes columns wide
     (Some row) prompt line info finish cursor = full_drawing columns wide row prompt line info
     finish cursor
 
+-- the row of the cursor of an older drawing, if there is one
+abbrev pub old_row : Option Layout → Option ℕ
+old_row old = option_map (λ l. l.cursor.row) old
+
 abbrev pub bell_bytes : BellStyle → List ℕ
 bell_bytes Audible = 0x07 ∷ []
 bell_bytes style = []
@@ -51,13 +57,14 @@ bell_bytes style = []
 -- each drawing ends in its own cells, so no call leaves the cursor elsewhere than it says; the
 -- helper's draws nothing
 abbrev pub bytes_of : Screen → Call → List ℕ
-bytes_of s (Draw old prompt line info finish cursor) = drawing_bytes s.columns
-    (cluster_width s.mode s.columns) old prompt line info finish cursor
+bytes_of s (Draw prompt text place info old new) =
+    drawing_bytes s.columns (cluster_width s.mode s.columns) (old_row old) prompt text
+    (info_text info) new.end new.cursor
 bytes_of s (Move old new) = move_bytes old new
 bytes_of s (Write text) = text
 bytes_of s Beep = bell_bytes s.bell
 bytes_of s ClearScreen = go_home ++ erase_to_end
-bytes_of s (ClearRows row) = clearing_bytes row
+bytes_of s (ClearRows layout) = clearing_bytes layout.cursor.row
 bytes_of s ClearToEol = erase_to_row_end
 bytes_of s ToLeftmost = []
 bytes_of s (Help fails) = []

@@ -5,6 +5,8 @@ use Rattle.line_buffer.specs.Cells.{origin}
 use Rattle.line_buffer.specs.declared.layout.Position.{Position}
 use Rattle.line_editor.specs.Calls.{Call}
 use Rattle.line_editor.specs.Calls.Call.{Draw, Move, Write, Beep, ClearScreen, ClearRows, ClearToEol, ToLeftmost, Help}
+use Rattle.line_editor.specs.Redraws.{info_text}
+use Rattle.line_screen.specs.Calls.{old_row}
 use Rattle.line_screen.specs.Display.{Display, Placed, is_printable, read, start}
 use Rattle.line_screen.specs.Drawing.{row_break}
 use Rattle.line_screen.specs.Showing.{Picture, nothing, Stands, cells_of, finish_of, cursor_of, down, down_placed, above, from_top}
@@ -123,14 +125,15 @@ pub record ErasesKilled (columns : ℕ) (wide : List ℕ → Option ℕ) (a b : 
   pub view : b ≡ record { shown = cut_line a.shown line; top = a.top; place = a.place }
 
 abbrev pub LeadsView : ℕ → (List ℕ → Option ℕ) → View → Call → View → Type 0
-LeadsView columns wide a (Draw old prompt line info finish cursor) b = Replaces old a
-    × Redraws columns wide a prompt line info finish cursor b
+LeadsView columns wide a (Draw prompt text place info old new) b = Replaces (old_row old) a
+    × Redraws columns wide a prompt text (info_text info) new.end new.cursor b
 LeadsView columns wide a (Move old new) b = Moves columns a old new b
 LeadsView columns wide a (Write text) b =
     Types columns wide a text b ⊎ ClosesLine columns wide a text b
 LeadsView columns wide a Beep b = b ≡ a
 LeadsView columns wide a ClearScreen b = b ≡ empty_view 0
-LeadsView columns wide a (ClearRows row) b = (row ≡ a.place.row) × (b ≡ empty_view a.top)
+LeadsView columns wide a (ClearRows layout) b = (layout.cursor.row ≡ a.place.row)
+    × (b ≡ empty_view a.top)
 LeadsView columns wide a ClearToEol b = ErasesKilled columns wide a b
 LeadsView columns wide a ToLeftmost b = b ≡ a
 LeadsView columns wide a (Help fails) b = b ≡ a
