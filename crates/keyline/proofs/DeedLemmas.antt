@@ -455,8 +455,8 @@ module _ {D L : Type 0} (shown : D → List ℕ) (written_in : L → List ℕ) (
 
       cut_step : (step : EditStep) (deeds : List SessionDeed) → TakesMemory adds deeds → (c : Coming) (e : Refusal) (a b : Surface (ScreenRenderer D)) → screen_of a.out ≡ s
           → StepCut (canvas_of shown show_failed) (ruler_of s) a step e b → CutAt (call_deeds s (one (ruler_of s) a.layout step).calls ++ deeds) c (on a.out) (on b.out) c e.fault
-      cut_step (DrawStep v x) deeds takes c e a b is h =
-          let calls = (asked_by (ruler_of s) a.layout x).calls in
+      cut_step (DrawStep v marks x) deeds takes c e a b is h =
+          let calls = (asked_by (ruler_of s) marks a.layout x).calls in
           subst (λ why. CutAt (call_deeds s calls ++ deeds) c (on a.out) (on b.out) c why) (sym h.0) (cut_calls calls deeds c a.out b.out is h.1)
       cut_step (HelpStep v fails) deeds takes c e a b is h = stands e.fault (Helped fails ∷ deeds) c c a.out b.out (unhelped e.fault fails deeds c h.0) (ap (λ x. x.out) h.1)
       cut_step (UpdateStep v fails) deeds takes c e a b is h = stands e.fault (Helped fails ∷ deeds) c c a.out b.out (unhelped e.fault fails deeds c h.0) (ap (λ x. x.out) h.1)

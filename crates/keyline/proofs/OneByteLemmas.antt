@@ -12,6 +12,7 @@ use Rattle.line_config.specs.declared.errors.ReadlineError.{ReadlineError}
 use Rattle.line_keys.specs.declared.command.Cmd.{Cmd}
 use Rattle.line_keys.specs.declared.command.Cmd.TheVariants.{SelfInsert}
 use Rattle.line_record.specs.Ring.{Ring}
+use Rattle.line_editor.specs.Calls.{Marks}
 use Rattle.line_editor.specs.Drawing.{drawn, asked_anew}
 use Rattle.line_keys.specs.Replies.{Reply, fails}
 use Rattle.line_editor.specs.Inserting.{is_bare, may_be_typed, show_typed, insert_char}
@@ -38,36 +39,36 @@ moved_tells l x cursor true h = h
 moved_tells l x cursor false h = record { info_is = h.info_is; given_is = h.given_is }
 
 one_tells : (s : Screen) (own : List ℕ) (l : Layout) (x : Sight) (r : EditStep) → TellsSight l x → Fits own x r → TellsSight (one (ruler_of s) l r).layout (sight x r)
-one_tells s own l x (Draws v (Drawn prompt given text at info)) h fits = record { info_is = refl; given_is = refl }
-one_tells s own l x (Draws v (Moved text at)) h fits =
+one_tells s own l x (Draws v m (Drawn prompt given text at info)) h fits = record { info_is = refl; given_is = refl }
+one_tells s own l x (Draws v m (Moved text at)) h fits =
     let cursor = (ruler_of s).measure (take at text) l.prompt_size in
     let t = moved_tells l x cursor (same_cell l.cursor cursor) h in
     record { info_is = t.info_is; given_is = t.given_is }
-one_tells s own l x (Draws v (Typed prompt c text at)) h fits = by_test (may_type (ruler_of s) l) refl
+one_tells s own l x (Draws v m (Typed prompt c text at)) h fits = by_test (may_type (ruler_of s) l) refl
   where
-    by_test : (b : Bool) → may_type (ruler_of s) l ≡ b → TellsSight (if b then typed_short l c else full (ruler_of s) l prompt true text at None).layout (sight x (Draws v (Typed prompt c text at)))
+    by_test : (b : Bool) → may_type (ruler_of s) l ≡ b → TellsSight (if b then typed_short l c else full (ruler_of s) m l prompt true text at None).layout (sight x (Draws v m (Typed prompt c text at)))
     by_test true e = record { info_is = not-true l.has_info (and_parts (not l.has_info) _ e).0; given_is = h.given_is ∙ fits.0 }
     by_test false e = record { info_is = refl; given_is = refl }
-one_tells s own l x (Draws v (Taken prompt count text at)) h fits = by_test (may_take l count) refl
+one_tells s own l x (Draws v m (Taken prompt count text at)) h fits = by_test (may_take l count) refl
   where
-    by_test : (b : Bool) → may_take l count ≡ b → TellsSight (if b then taken_short l count else full (ruler_of s) l prompt true text at None).layout (sight x (Draws v (Taken prompt count text at)))
+    by_test : (b : Bool) → may_take l count ≡ b → TellsSight (if b then taken_short l count else full (ruler_of s) m l prompt true text at None).layout (sight x (Draws v m (Taken prompt count text at)))
     by_test true e = record { info_is = not-true l.has_info (and_parts (not l.has_info) _ e).0; given_is = h.given_is ∙ fits.0 }
     by_test false e = record { info_is = refl; given_is = refl }
-one_tells s own l x (Draws v (Bared prompt text at)) h fits = by_test l.default_prompt (h.given_is ∙ fits)
+one_tells s own l x (Draws v m (Bared prompt text at)) h fits = by_test l.default_prompt (h.given_is ∙ fits)
   where
-    by_test : (b : Bool) → b ≡ true → TellsSight (if b then nothing_asked l else full (ruler_of s) l prompt true text at None).layout x
+    by_test : (b : Bool) → b ≡ true → TellsSight (if b then nothing_asked l else full (ruler_of s) m l prompt true text at None).layout x
     by_test true e = h
     by_test false e = cc
-one_tells s own l x (Draws v ToEnd) h fits =
+one_tells s own l x (Draws v m ToEnd) h fits =
     let t = moved_tells l x l.end (same_cell l.cursor l.end) h in
     record { info_is = t.info_is; given_is = t.given_is }
-one_tells s own l x (Draws v Beeped) h fits = h
+one_tells s own l x (Draws v m Beeped) h fits = h
 one_tells s own l x (Helped v fails) h fits = h
 one_tells s own l x (Updates v fails) h fits = h
 one_tells s own l x (Edits v edit) h fits = h
 one_tells s own l x (TakesBack v) h fits = h
 one_tells s own l x (Takes v) h fits = h
-one_tells s own l x (Draws v Cleared) h fits = record { info_is = refl; given_is = refl }
+one_tells s own l x (Draws v m Cleared) h fits = record { info_is = refl; given_is = refl }
 
 pub layouts_tell : LayoutsTell
 layouts_tell s own [] l x h fits = h
@@ -83,10 +84,10 @@ may_type_it v w c printable plain end before after =
 -- its drawing is the short one, behind a step that sends nothing and what the helper is asked
 shown_short : (a : Setting) (v u : Value) (step : EditStep) (c : ℕ) (b : Bool) → b ≡ true → is_printable c ≡ true → list_all is_simple v.line.text ≡ true → v.line.place ≡ length v.line.text
     → is_bare v ≡ true → (let shown = show_typed c 1 v a u in let e : Effect = if b then record { value = shown.value; steps = step ∷ shown.steps } else unchanged a u in
-    is_bare e.value ≡ true → e.steps ≡ step ∷ (helped u (hint_reply a u) ++ (Draws e.value (Typed a.prompt c e.value.line.text e.value.line.place) ∷ [])))
+    is_bare e.value ≡ true → e.steps ≡ step ∷ (helped u (hint_reply a u) ++ (Draws e.value a.marks (Typed a.prompt c e.value.line.text e.value.line.place) ∷ [])))
 shown_short a v u step c true room printable plain end before after =
     let w = (asked_anew a u).value in
-    ap (λ b. step ∷ (helped u (hint_reply a u) ++ (Draws w (if b then Typed a.prompt c w.line.text w.line.place else drawn a w) ∷ []))) (may_type_it v w c printable plain end before after)
+    ap (λ b. step ∷ (helped u (hint_reply a u) ++ (Draws w a.marks (if b then Typed a.prompt c w.line.text w.line.place else drawn a w) ∷ []))) (may_type_it v w c printable plain end before after)
 shown_short a v u step c false room printable plain end before after = cc
 
 -- neither sends anything
@@ -97,20 +98,20 @@ help_bytes s l u step (Some reply) steps nothing = ap (λ a. flat_map (bytes_of 
 
 sent_short : (s : Screen) (l : Layout) (a : Setting) (v u : Value) (step : EditStep) (c : ℕ) (b : Bool) → b ≡ true → is_printable c ≡ true → list_all is_simple v.line.text ≡ true → v.line.place ≡ length v.line.text
     → is_bare v ≡ true → (let shown = show_typed c 1 v a u in let e : Effect = if b then record { value = shown.value; steps = step ∷ shown.steps } else unchanged a u in
-    is_bare e.value ≡ true → one (ruler_of s) l step ≡ nothing_asked l → bytes_for s l e.steps ≡ bytes_for s l (Draws e.value (Typed a.prompt c e.value.line.text e.value.line.place) ∷ []))
+    is_bare e.value ≡ true → one (ruler_of s) l step ≡ nothing_asked l → bytes_for s l e.steps ≡ bytes_for s l (Draws e.value a.marks (Typed a.prompt c e.value.line.text e.value.line.place) ∷ []))
 sent_short s l a v u step c b room printable plain end before after nothing =
     let shown = show_typed c 1 v a u in
     let e : Effect = if b then record { value = shown.value; steps = step ∷ shown.steps } else unchanged a u in
     ap (bytes_for s l) (shown_short a v u step c b room printable plain end before after)
-    ∙ help_bytes s l u step (hint_reply a u) (Draws e.value (Typed a.prompt c e.value.line.text e.value.line.place) ∷ []) nothing
+    ∙ help_bytes s l u step (hint_reply a u) (Draws e.value a.marks (Typed a.prompt c e.value.line.text e.value.line.place) ∷ []) nothing
 
 typed_bytes : (s : Screen) (l : Layout) (a : Setting) (v : Value) (c : ℕ) → TypedAtEnd a v c
-    → (let e = insert_char c 1 a v in bytes_for s l e.steps ≡ bytes_for s l (Draws e.value (Typed a.prompt c e.value.line.text e.value.line.place) ∷ []))
+    → (let e = insert_char c 1 a v in bytes_for s l e.steps ≡ bytes_for s l (Draws e.value a.marks (Typed a.prompt c e.value.line.text e.value.line.place) ∷ []))
 typed_bytes s l a v c t = sent_short s l a v _ _ c (is_some (insertion c 1 v.line).answer) t.room t.printable t.plain t.end t.before t.after refl
 
-short_bytes : (s : Screen) (l : Layout) (v : Value) (prompt : List ℕ) (c : ℕ) (text : List ℕ) (at : ℕ) → is_printable c ≡ true → l.has_info ≡ false → l.cursor.col + 1 < s.columns → bytes_for s l (Draws v (Typed prompt c text at) ∷ []) ≡ c ∷ []
-short_bytes s l v prompt c text at printable none room =
-    ap (λ b. flat_map (bytes_of s) ((if b then typed_short l c else full (ruler_of s) l prompt true text at None).calls ++ [])) (and_from (not l.has_info) (nat_lt (l.cursor.col + 1) s.columns) (ap not none) (lt-ltb (l.cursor.col + 1) s.columns room))
+short_bytes : (s : Screen) (l : Layout) (v : Value) (m : Option Marks) (prompt : List ℕ) (c : ℕ) (text : List ℕ) (at : ℕ) → is_printable c ≡ true → l.has_info ≡ false → l.cursor.col + 1 < s.columns → bytes_for s l (Draws v m (Typed prompt c text at) ∷ []) ≡ c ∷ []
+short_bytes s l v m prompt c text at printable none room =
+    ap (λ b. flat_map (bytes_of s) ((if b then typed_short l c else full (ruler_of s) m l prompt true text at None).calls ++ [])) (and_from (not l.has_info) (nat_lt (l.cursor.col + 1) s.columns) (ap not none) (lt-ltb (l.cursor.col + 1) s.columns room))
     ∙ append-nil (encode_utf8 c) ∙ encode_ascii c (small c printable)
 
 turned_steps : (a : Setting) (indent : ℕ) (r : Ring) (v : Value) (c : ℕ) (p : Enacted Cmd) (answer : Result Cmd ReadlineError) → answer ≡ Ok (SelfInsert 1 c) → p.made.value ≡ v
@@ -131,4 +132,4 @@ one_byte n s l a custom indent input r v coming c alone t none room =
     let e = insert_char c 1 a v in
     ap (bytes_for s l) (turned_steps a indent r v c p p.answer alone.answer alone.value_is)
     ∙ unasked_bytes s l p.made.steps e.steps (alone.unasked s l)
-    ∙ typed_bytes s l a v c t ∙ short_bytes s l e.value a.prompt c e.value.line.text e.value.line.place t.printable none room
+    ∙ typed_bytes s l a v c t ∙ short_bytes s l e.value a.marks a.prompt c e.value.line.text e.value.line.place t.printable none room

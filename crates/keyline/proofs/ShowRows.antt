@@ -23,7 +23,7 @@ a = codes "a"
 
 -- whichever value stands
 drawing : Redraw → EditStep
-drawing x = Draws (empty_at 0) x
+drawing x = Draws (empty_at 0) None x
 
 -- `a`, Ctrl-L, Enter, then the end of the input
 row : List Turn

@@ -9,7 +9,7 @@ use Rattle.line_buffer.specs.Cells.{origin}
 use Rattle.line_buffer.specs.Short.{is_printable}
 use Rattle.line_buffer.specs.declared.layout.Layout.{Layout}
 use Rattle.line_buffer.specs.declared.layout.Position.{Position}
-use Rattle.line_editor.specs.Calls.{Call}
+use Rattle.line_editor.specs.Calls.{Call, Marks}
 use Rattle.line_editor.specs.Calls.Call.{Draw, Move, Write, Beep, ClearScreen, ClearToEol, Help}
 use Rattle.line_editor.specs.Redraws.{info_text, fresh, layout_of, full, nothing_asked, moved_by_call, column_on, column_back, typed_short, taken_short, may_type, may_take}
 use Rattle.line_editor.specs.Redraws.Redraw.{Drawn, Moved, Typed, Taken, Bared, ToEnd, Beeped, Cleared}
@@ -100,10 +100,10 @@ module _ (s : Screen) (low : 2 ≤ s.columns) (high : s.columns ≤ 1000) where
 
   -- ---- a full drawing, over anything that is shown, with any layout whose cursor is the display's
 
-  drawn_holds : (bytes : List ℕ) (over : List Placed) (top : ℕ) (l : Layout) (x : Sight) (prompt : List ℕ) (given : Bool) (text : List ℕ) (at : ℕ) (info : Option (List ℕ))
+  drawn_holds : (bytes : List ℕ) (over : List Placed) (top : ℕ) (m : Option Marks) (l : Layout) (x : Sight) (prompt : List ℕ) (given : Bool) (text : List ℕ) (at : ℕ) (info : Option (List ℕ))
       → Good s.columns (widths s) bytes over (view_in s top x) → l.cursor ≡ place_in s x → Low s (sight_with given prompt text at info)
-      → (let a = full (ruler_of s) l prompt given text at info in DisplayHolds s (bytes ++ flat_map (bytes_of s) a.calls) over top a.layout (sight_with given prompt text at info))
-  drawn_holds bytes over top l x prompt given text at info g cursor rows =
+      → (let a = full (ruler_of s) m l prompt given text at info in DisplayHolds s (bytes ++ flat_map (bytes_of s) a.calls) over top a.layout (sight_with given prompt text at info))
+  drawn_holds bytes over top m l x prompt given text at info g cursor rows =
       let y = sight_with given prompt text at info in
       let new = layout_of (ruler_of s) (measure_of s.mode s.columns prompt origin) given text at info in
       let measured = measures_go_on s some (picture y) in
@@ -114,7 +114,7 @@ module _ (s : Screen) (low : 2 ≤ s.columns) (high : s.columns ≤ 1000) where
       let row_a = ap (λ p. p.row) cursor_is in
       let row_b = ap (λ p. p.row) finish_is in
       record {
-        good = one_led bytes over (view_in s top x) (view_in s top y) (Draw prompt text at info (Some l) new) g
+        good = one_led bytes over (view_in s top x) (view_in s top y) (Draw prompt text at info (Some l) new m) g
             (ap (λ p. p.row) cursor, record { prompt_is = refl; line_is = refl; info_is = refl; finish_is = finish_is; cursor_is = cursor_is; top_is = refl; place_is = sym cursor_is; finish_row = omega arith; cursor_row = omega arith })
             refl (λ e. cc);
         cursor = cursor_is;
@@ -202,11 +202,11 @@ module _ (s : Screen) (low : 2 ≤ s.columns) (high : s.columns ≤ 1000) where
   typed_is x prompt c text at t =
       ap (λ p. sight_as p text at None) t.prompt_is ∙ ap (λ p. sight_as x.prompt p at None) t.text_is ∙ ap (λ n. sight_as x.prompt (x.line ++ c ∷ []) n None) t.behind
 
-  typed_if : (bytes : List ℕ) (over : List Placed) (top : ℕ) (l : Layout) (x : Sight) (prompt : List ℕ) (c : ℕ) (text : List ℕ) (at : ℕ) (b : Bool) → DisplayHolds s bytes over top l x
+  typed_if : (bytes : List ℕ) (over : List Placed) (top : ℕ) (m : Option Marks) (l : Layout) (x : Sight) (prompt : List ℕ) (c : ℕ) (text : List ℕ) (at : ℕ) (b : Bool) → DisplayHolds s bytes over top l x
       → x.given ≡ true → x.ended ≡ false → TypedFits x prompt c text at → Low s (sight_as prompt text at None) → may_type (ruler_of s) l ≡ b
-      → (let a = if b then typed_short l c else full (ruler_of s) l prompt true text at None in DisplayHolds s (bytes ++ flat_map (bytes_of s) a.calls) over top a.layout (sight_as prompt text at None))
-  typed_if bytes over top l x prompt c text at false h given unended t rows e = drawn_holds bytes over top l x prompt true text at None h.good h.cursor rows
-  typed_if bytes over top l x prompt c text at true h given unended t rows e =
+      → (let a = if b then typed_short l c else full (ruler_of s) m l prompt true text at None in DisplayHolds s (bytes ++ flat_map (bytes_of s) a.calls) over top a.layout (sight_as prompt text at None))
+  typed_if bytes over top m l x prompt c text at false h given unended t rows e = drawn_holds bytes over top m l x prompt true text at None h.good h.cursor rows
+  typed_if bytes over top m l x prompt c text at true h given unended t rows e =
       let w = view_in s top x in
       let parts = and_parts (not l.has_info) (nat_lt (l.cursor.col + 1) s.columns) e in
       let none : info_text x.info ≡ [] = no_text x.info (sym h.info_is ∙ not-true l.has_info parts.0) in
@@ -254,11 +254,11 @@ module _ (s : Screen) (low : 2 ≤ s.columns) (high : s.columns ≤ 1000) where
   taken_is : (x : Sight) (prompt : List ℕ) (count : ℕ) (text : List ℕ) (at : ℕ) → TakenFits x prompt count text at → sight_as prompt text at None ≡ sight_as x.prompt text (length text) None
   taken_is x prompt count text at t = ap (λ p. sight_as p text at None) t.prompt_is ∙ ap (λ n. sight_as x.prompt text n None) t.end
 
-  taken_if : (bytes : List ℕ) (over : List Placed) (top : ℕ) (l : Layout) (x : Sight) (prompt : List ℕ) (count : ℕ) (text : List ℕ) (at : ℕ) (b : Bool) → DisplayHolds s bytes over top l x
+  taken_if : (bytes : List ℕ) (over : List Placed) (top : ℕ) (m : Option Marks) (l : Layout) (x : Sight) (prompt : List ℕ) (count : ℕ) (text : List ℕ) (at : ℕ) (b : Bool) → DisplayHolds s bytes over top l x
       → x.given ≡ true → TakenFits x prompt count text at → Low s (sight_as prompt text at None) → may_take l count ≡ b
-      → (let a = if b then taken_short l count else full (ruler_of s) l prompt true text at None in DisplayHolds s (bytes ++ flat_map (bytes_of s) a.calls) over top a.layout (sight_as prompt text at None))
-  taken_if bytes over top l x prompt count text at false h given t rows e = drawn_holds bytes over top l x prompt true text at None h.good h.cursor rows
-  taken_if bytes over top l x prompt count text at true h given t rows e =
+      → (let a = if b then taken_short l count else full (ruler_of s) m l prompt true text at None in DisplayHolds s (bytes ++ flat_map (bytes_of s) a.calls) over top a.layout (sight_as prompt text at None))
+  taken_if bytes over top m l x prompt count text at false h given t rows e = drawn_holds bytes over top m l x prompt true text at None h.good h.cursor rows
+  taken_if bytes over top m l x prompt count text at true h given t rows e =
       let w = view_in s top x in
       let parts = and_parts (not l.has_info) ((l.cursor.row == l.end.row) && nat_le count l.end.col) e in
       let both = and_parts (l.cursor.row == l.end.row) (nat_le count l.end.col) parts.1 in
@@ -294,10 +294,10 @@ module _ (s : Screen) (low : 2 ≤ s.columns) (high : s.columns ≤ 1000) where
   still_holds : (bytes : List ℕ) (over : List Placed) (top : ℕ) (l : Layout) (x : Sight) → DisplayHolds s bytes over top l x → DisplayHolds s (bytes ++ []) over top l x
   still_holds bytes over top l x h = subst (λ b. DisplayHolds s b over top l x) (sym (append-nil bytes)) h
 
-  bared_if : (bytes : List ℕ) (over : List Placed) (top : ℕ) (l : Layout) (x : Sight) (prompt text : List ℕ) (at : ℕ) (b : Bool) → DisplayHolds s bytes over top l x → b ≡ true
-      → (let a = if b then nothing_asked l else full (ruler_of s) l prompt true text at None in DisplayHolds s (bytes ++ flat_map (bytes_of s) a.calls) over top a.layout x)
-  bared_if bytes over top l x prompt text at true h e = still_holds bytes over top l x h
-  bared_if bytes over top l x prompt text at false h e = cc
+  bared_if : (bytes : List ℕ) (over : List Placed) (top : ℕ) (m : Option Marks) (l : Layout) (x : Sight) (prompt text : List ℕ) (at : ℕ) (b : Bool) → DisplayHolds s bytes over top l x → b ≡ true
+      → (let a = if b then nothing_asked l else full (ruler_of s) m l prompt true text at None in DisplayHolds s (bytes ++ flat_map (bytes_of s) a.calls) over top a.layout x)
+  bared_if bytes over top m l x prompt text at true h e = still_holds bytes over top l x h
+  bared_if bytes over top m l x prompt text at false h e = cc
 
   -- ---- a call that changes nothing
 
@@ -315,20 +315,20 @@ module _ (s : Screen) (low : 2 ≤ s.columns) (high : s.columns ≤ 1000) where
 
   pub step : (own bytes : List ℕ) (over : List Placed) (top : ℕ) (l : Layout) (x : Sight) (r : EditStep) → DisplayHolds s bytes over top l x → Fits own x r → LowStep s x r
       → DisplayHolds s (bytes ++ flat_map (bytes_of s) (one (ruler_of s) l r).calls) (above_by r over) (top_by r top) (one (ruler_of s) l r).layout (sight x r)
-  step own bytes over top l x (Draws v (Drawn prompt given text at info)) h fits rows = drawn_holds bytes over top l x prompt given text at info h.good h.cursor rows
-  step own bytes over top l x (Draws v (Moved text at)) h fits rows =
+  step own bytes over top l x (Draws v m (Drawn prompt given text at info)) h fits rows = drawn_holds bytes over top m l x prompt given text at info h.good h.cursor rows
+  step own bytes over top l x (Draws v m (Moved text at)) h fits rows =
       let y = sight_with x.given x.prompt x.line at x.info in
       let cursor = measure_of s.mode s.columns (take at text) l.prompt_size in
       let measured = measures_go_on s some (picture y) in
       let is : cursor ≡ cursor_of s.columns (widths s) (picture y) =
       ap (measure_of s.mode s.columns (take at text)) h.prompt_size ∙ ap (λ t. measure_of s.mode s.columns (take at t) (measure_of s.mode s.columns x.prompt origin)) fits ∙ measured.0 rows.cursor in
       moved_if bytes over top l x at cursor (same_cell l.cursor cursor) h is rows refl
-  step own bytes over top l x (Draws v (Typed prompt c text at)) h fits rows = typed_if bytes over top l x prompt c text at (may_type (ruler_of s) l) h fits.0 fits.2 fits.3 rows refl
-  step own bytes over top l x (Draws v (Taken prompt count text at)) h fits rows = taken_if bytes over top l x prompt count text at (may_take l count) h fits.0 fits.2 rows refl
-  step own bytes over top l x (Draws v (Bared prompt text at)) h fits rows = bared_if bytes over top l x prompt text at l.default_prompt h (h.given_is ∙ fits)
-  step own bytes over top l x (Draws v ToEnd) h fits rows = end_if bytes over top l x (same_cell l.cursor l.end) h (record { finish = rows.finish; cursor = rows.cursor }) refl
-  step own bytes over top l x (Draws v Beeped) h fits rows = same_holds bytes over top l x Beep h refl (λ e. cc)
-  step own bytes over top l x (Draws v Cleared) h fits rows = fresh_holds (bytes ++ flat_map (bytes_of s) (ClearScreen ∷ [])) [] 0 l (cleared_led bytes over (view_in s top x) h.good)
+  step own bytes over top l x (Draws v m (Typed prompt c text at)) h fits rows = typed_if bytes over top m l x prompt c text at (may_type (ruler_of s) l) h fits.0 fits.2 fits.3 rows refl
+  step own bytes over top l x (Draws v m (Taken prompt count text at)) h fits rows = taken_if bytes over top m l x prompt count text at (may_take l count) h fits.0 fits.2 rows refl
+  step own bytes over top l x (Draws v m (Bared prompt text at)) h fits rows = bared_if bytes over top m l x prompt text at l.default_prompt h (h.given_is ∙ fits)
+  step own bytes over top l x (Draws v m ToEnd) h fits rows = end_if bytes over top l x (same_cell l.cursor l.end) h (record { finish = rows.finish; cursor = rows.cursor }) refl
+  step own bytes over top l x (Draws v m Beeped) h fits rows = same_holds bytes over top l x Beep h refl (λ e. cc)
+  step own bytes over top l x (Draws v m Cleared) h fits rows = fresh_holds (bytes ++ flat_map (bytes_of s) (ClearScreen ∷ [])) [] 0 l (cleared_led bytes over (view_in s top x) h.good)
   step own bytes over top l x (Helped v fails) h fits rows = same_holds bytes over top l x (Help fails) h refl (λ e. cc)
   step own bytes over top l x (Updates v fails) h fits rows = same_holds bytes over top l x (Help fails) h refl (λ e. cc)
   step own bytes over top l x (Edits v edit) h fits rows = still_holds bytes over top l x h

@@ -50,7 +50,7 @@ pub record Low (s : Screen) (x : Sight) : Type 0 where
   pub cursor : (cursor_of s.columns (widths s) (picture x)).row ≤ 65535
 
 abbrev pub LowStep : Screen → Sight → EditStep → Type 0
-LowStep s x (Draws value redraw) = Low s (sight_drawn x redraw)
+LowStep s x (Draws value marks redraw) = Low s (sight_drawn x redraw)
 LowStep s x step = ⊤
 
 abbrev pub LowAll : Screen → Sight → List EditStep → Type 0
@@ -66,7 +66,7 @@ LowTurns s x (Last steps breaks ∷ rest) = LowAll s x steps
 -- ---- tops, and the rows above: a line's top is the row of its prompt's first cell
 
 abbrev pub clears : EditStep → Bool
-clears (Draws value Cleared) = true
+clears (Draws value marks Cleared) = true
 clears step = false
 
 abbrev pub top_by : EditStep → ℕ → ℕ

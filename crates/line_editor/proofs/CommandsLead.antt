@@ -169,7 +169,7 @@ search_leads Forward s v = either s v (v.history == length s.entries) _ _ (λ e.
 -- ---- lines that are to be accepted
 
 bared_by : (s : Setting) (v w : Value) (b : Bool) → w.line ≡ v.line
-    → Leads s v (record { value = w; steps = Draws w (if b then Drawn s.prompt true w.line.text w.line.place None else Bared s.prompt w.line.text w.line.place) ∷ [] })
+    → Leads s v (record { value = w; steps = Draws w s.marks (if b then Drawn s.prompt true w.line.text w.line.place None else Bared s.prompt w.line.text w.line.place) ∷ [] })
 bared_by s v w true h info = record { fits = ((λ e. refl), tt); leads = refl }
 bared_by s v w false h info = record { fits = (refl, tt); leads = ap (λ (l : Line). sight_as s.prompt l.text l.place info) (sym h) }
 

@@ -26,7 +26,7 @@ asks a = then_asked a (nothing_asked a.layout)
 module _ {Out H Hi K T : Type 0} {renderer : renderers.Renderer.Ghosts Out} {completer : completions.Completer.Ghosts H K} {candidate : completions.Candidate.Ghosts K}
     {hinter : hints.Hinter.Ghosts H T} {hint : hints.Hint.Ghosts T} {highlighter : highlights.Highlighter.Ghosts H} {validator : verdicts.Validator.Ghosts H} {history : histories.History.Ghosts Hi} where
   drawn_as : {A : Type 0} (x y : Setting → Value → Redraw) (s t : State Out H Hi K T renderer completer candidate hinter hint highlighter validator history) (result : Result A ReadlineError)
-      → (let r : Ruler = renderer.canvas.ruler s.out in asked_by r s.layout (x (setting_of s) (value_of s)) ≡ asked_by r s.layout (y (setting_of s) (value_of s)))
+      → (let r : Ruler = renderer.canvas.ruler s.out in asked_by r (setting_of s).marks s.layout (x (setting_of s) (value_of s)) ≡ asked_by r (setting_of s).marks s.layout (y (setting_of s) (value_of s)))
       → Does (λ a v. redrawn (x a v) a v) s t result → Does (λ a v. redrawn (y a v) a v) s t result
   drawn_as x y s t result same h = record {
     value = h.value;
@@ -34,21 +34,21 @@ module _ {Out H Hi K T : Type 0} {renderer : renderers.Renderer.Ghosts Out} {com
     layout = subst (λ (a : Asked). OnOk result (t.layout ≡ (asks a).layout)) same h.layout;
     stays = h.stays;
     reason = h.reason;
-    stops = if_refused result (λ fault c. stops_drawn_as renderer.canvas (renderer.canvas.ruler s.out) (value_of s) (x (setting_of s) (value_of s)) (y (setting_of s) (value_of s))
+    stops = if_refused result (λ fault c. stops_drawn_as renderer.canvas (renderer.canvas.ruler s.out) (value_of s) (setting_of s).marks (x (setting_of s) (value_of s)) (y (setting_of s) (value_of s))
         (surface_of s) (surface_of t) fault (value_of t) same c) h.stops;
   }
 
   pub typed_drawn : {A : Type 0} (c : ℕ) (s t : State Out H Hi K T renderer completer candidate hinter hint highlighter validator history) (result : Result A ReadlineError)
       → may_type (renderer.canvas.ruler s.out) s.layout ≡ false → Does (drawn_with None) s t result → Does (λ a v. redrawn (Typed a.prompt c v.line.text v.line.place) a v) s t result
   typed_drawn c s t result is h = drawn_as (λ a v. Drawn a.prompt true v.line.text v.line.place None) (λ a v. Typed a.prompt c v.line.text v.line.place) s t result
-      (ap (λ b. if b then typed_short s.layout c else full (renderer.canvas.ruler s.out) s.layout s.prompt.now true s.line.text s.line.place None) (sym is)) h
+      (ap (λ b. if b then typed_short s.layout c else full (renderer.canvas.ruler s.out) (setting_of s).marks s.layout s.prompt.now true s.line.text s.line.place None) (sym is)) h
 
   pub taken_drawn : {A : Type 0} (count : ℕ) (s t : State Out H Hi K T renderer completer candidate hinter hint highlighter validator history) (result : Result A ReadlineError)
       → may_take s.layout count ≡ false → Does (drawn_with None) s t result → Does (λ a v. redrawn (Taken a.prompt count v.line.text v.line.place) a v) s t result
   taken_drawn count s t result is h = drawn_as (λ a v. Drawn a.prompt true v.line.text v.line.place None) (λ a v. Taken a.prompt count v.line.text v.line.place) s t result
-      (ap (λ b. if b then taken_short s.layout count else full (renderer.canvas.ruler s.out) s.layout s.prompt.now true s.line.text s.line.place None) (sym is)) h
+      (ap (λ b. if b then taken_short s.layout count else full (renderer.canvas.ruler s.out) (setting_of s).marks s.layout s.prompt.now true s.line.text s.line.place None) (sym is)) h
 
   pub bared_drawn : {A : Type 0} (s t : State Out H Hi K T renderer completer candidate hinter hint highlighter validator history) (result : Result A ReadlineError)
       → s.layout.default_prompt ≡ false → Does (drawn_with None) s t result → Does (λ a v. redrawn (Bared a.prompt v.line.text v.line.place) a v) s t result
   bared_drawn s t result is h = drawn_as (λ a v. Drawn a.prompt true v.line.text v.line.place None) (λ a v. Bared a.prompt v.line.text v.line.place) s t result
-      (ap (λ b. if b then nothing_asked s.layout else full (renderer.canvas.ruler s.out) s.layout s.prompt.now true s.line.text s.line.place None) (sym is)) h
+      (ap (λ b. if b then nothing_asked s.layout else full (renderer.canvas.ruler s.out) (setting_of s).marks s.layout s.prompt.now true s.line.text s.line.place None) (sym is)) h

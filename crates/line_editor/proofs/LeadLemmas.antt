@@ -108,8 +108,8 @@ asking_leads u None s v w h info = record { fits = tt; leads = ap (λ (l : Line)
 asking_leads u (Some reply) s v w h info = record { fits = (tt, tt); leads = ap (λ (l : Line). sight_as s.prompt l.text l.place info) (sym h) }
 
 -- what is drawn in full hides what was asked before
-pub redrawn_leads : {A : Type 0} (x : Redraw) (u : Value) (reply : Option (Reply A)) (s : Setting) (v w : Value) → ((y : Sight) → Fits s.prompt y (Draws u x))
-    → Leads s v (record { value = w; steps = Draws u x ∷ (helped u reply ++ (Draws w (drawn s w) ∷ [])) })
+pub redrawn_leads : {A : Type 0} (x : Redraw) (u : Value) (reply : Option (Reply A)) (s : Setting) (v w : Value) → ((y : Sight) → Fits s.prompt y (Draws u s.marks x))
+    → Leads s v (record { value = w; steps = Draws u s.marks x ∷ (helped u reply ++ (Draws w s.marks (drawn s w) ∷ [])) })
 redrawn_leads x u None s v w h info = record { fits = (h (sight_of s v info), ((λ e. refl), tt)); leads = refl }
 redrawn_leads x u (Some reply) s v w h info = record { fits = (h (sight_of s v info), (tt, ((λ e. refl), tt))); leads = refl }
 
@@ -142,7 +142,7 @@ refresh_if_leads edit s v b h =
 -- ---- the cursor
 
 shown_or_drawn : (s : Setting) (v w : Value) (b : Bool) → w.line.text ≡ v.line.text
-    → Leads s v (record { value = w; steps = Draws w (if b then Drawn s.prompt true w.line.text w.line.place None else Moved w.line.text w.line.place) ∷ [] })
+    → Leads s v (record { value = w; steps = Draws w s.marks (if b then Drawn s.prompt true w.line.text w.line.place None else Moved w.line.text w.line.place) ∷ [] })
 shown_or_drawn s v w true h info = record { fits = ((λ e. refl), tt); leads = refl }
 shown_or_drawn s v w false h info = record { fits = (h, tt); leads = ap (λ t. sight_as s.prompt t w.line.place info) (sym h) }
 
@@ -200,7 +200,7 @@ abbrev typed_alone : ℕ → ℕ → Value → Value → Bool
 typed_alone c n v w = may_be_typed c n (v.line.place == length v.line.text) (is_plain v.line.text) (is_bare v) (is_bare w)
 
 typed_by : (s : Setting) (c n : ℕ) (v w : Value) (b : Bool) → typed_alone c n v w ≡ b → (typed_alone c n v w ≡ true → w.line ≡ put_at_cursor (encode_utf8 c) v.line)
-    → Leads s v (record { value = w; steps = Draws w (if b then Typed s.prompt c w.line.text w.line.place else drawn s w) ∷ [] })
+    → Leads s v (record { value = w; steps = Draws w s.marks (if b then Typed s.prompt c w.line.text w.line.place else drawn s w) ∷ [] })
 typed_by s c n v w false e put info = record { fits = ((λ x. refl), tt); leads = refl }
 typed_by s c n v w true e put info =
     let a = and_parts (n == 1) _ e in
@@ -270,7 +270,7 @@ taken_alone v w = may_be_taken (list_all is_printable (drop (length w.line.text)
 
 taken_by : (s : Setting) (v w : Value) (from upto : ℕ) (b : Bool) → taken_alone v w ≡ b → (is_plain v.line.text ≡ true → Low v.line.text from upto)
     → w.line.text ≡ replace_range v.line.text from upto [] → w.line.place ≡ from
-    → Leads s v (record { value = w; steps = Draws w (if b then Taken s.prompt (length v.line.text - length w.line.text) w.line.text w.line.place else drawn s w) ∷ [] })
+    → Leads s v (record { value = w; steps = Draws w s.marks (if b then Taken s.prompt (length v.line.text - length w.line.text) w.line.text w.line.place else drawn s w) ∷ [] })
 taken_by s v w from upto false e low text place info = record { fits = ((λ x. refl), tt); leads = refl }
 taken_by s v w from upto true e low text place info =
     let before = v.line.text in

@@ -92,9 +92,9 @@ laid given prompt cursor finish = record {
 abbrev own_laid : ℕ → Layout
 own_laid finish = laid true 2 finish finish
 
--- a line drawn so, in the place of another drawing
+-- a line drawn so, in the place of another drawing, without highlighter
 abbrev draw : List ℕ → Layout → Call
-draw line old = Draw own line (length line) None (Some old) (own_laid (2 + length line))
+draw line old = Draw own line (length line) None (Some old) (own_laid (2 + length line)) None
 
 -- whatever the ring holds
 module _ (r : Ring) where
@@ -119,7 +119,7 @@ module _ (r : Ring) where
   abbrev two_x : Told
   two_x = line [] nothing_bound (key_with (Char 0x32) alt ∷ typed 0x78 ∷ [])
 
-  two_x_calls : calls two_x ≡ draw [] (fresh Unicode) ∷ Draw (codes "(arg: 2) ") [] 0 None (Some (own_laid 2)) (laid false 9 9 9) ∷ draw [] (laid false 9 9 9) ∷ draw (codes "xx") (own_laid 2) ∷ []
+  two_x_calls : calls two_x ≡ draw [] (fresh Unicode) ∷ Draw (codes "(arg: 2) ") [] 0 None (Some (own_laid 2)) (laid false 9 9 9) None ∷ draw [] (laid false 9 9 9) ∷ draw (codes "xx") (own_laid 2) ∷ []
   unfolding unicode_segmentation line_of line_from turn_of answered following needing with_read from_key asking becoming deciding and_then counting followed emacs_deed common_deed digits
   two_x_calls = refl
 

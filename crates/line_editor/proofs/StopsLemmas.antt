@@ -7,7 +7,7 @@ use Rattle.line_config.specs.declared.errors.ReadlineError.{ReadlineError}
 use Rattle.line_config.specs.declared.errors.ReadlineError.TheVariants.{Display, Helper, Memory}
 use Rattle.line_edits.specs.Steps.{Steps, StopsIn}
 use Rattle.line_keys.specs.Replies.{Reply, fails}
-use Rattle.line_editor.specs.Calls.{Call, Canvas, Ruler, MadeIn, RefusedIn, BrokenOff}
+use Rattle.line_editor.specs.Calls.{Call, Canvas, Marks, Ruler, MadeIn, RefusedIn, BrokenOff}
 use Rattle.line_editor.specs.Calls.Call.{Help}
 use Rattle.line_editor.specs.Completing.{updates}
 use Rattle.line_editor.specs.Redraws.{Redraw, Asked, asked_by, then_asked}
@@ -83,18 +83,18 @@ module _ {R : Type 0} (canvas : Canvas R) (r : Ruler) where
   never_stops fault v old new h = absurd (cc)
 
   -- at a drawing
-  pub stops_drawing : (stands : Value) (x : Redraw) (more : List EditStep) (old new : Surface R) (fault : ReadlineError) (v : Value)
-      → fault ≡ Display → BrokenOff canvas (asked_by r old.layout x).calls old.out new.out → new.layout ≡ old.layout → v ≡ stands
-      → Stops canvas r (Draws stands x ∷ more) old fault v new
+  pub stops_drawing : (stands : Value) (marks : Option Marks) (x : Redraw) (more : List EditStep) (old new : Surface R) (fault : ReadlineError) (v : Value)
+      → fault ≡ Display → BrokenOff canvas (asked_by r marks old.layout x).calls old.out new.out → new.layout ≡ old.layout → v ≡ stands
+      → Stops canvas r (Draws stands marks x ∷ more) old fault v new
   unfolding Stops
-  stops_drawing stands x more old new fault v is broken layout value = inr (refusal fault v, (is, broken, layout, value), refl)
+  stops_drawing stands marks x more old new fault v is broken layout value = inr (refusal fault v, (is, broken, layout, value), refl)
 
   -- another drawing asks the same
-  pub stops_drawn_as : (stands : Value) (x y : Redraw) (old new : Surface R) (fault : ReadlineError) (v : Value)
-      → asked_by r old.layout x ≡ asked_by r old.layout y → Stops canvas r (Draws stands x ∷ []) old fault v new → Stops canvas r (Draws stands y ∷ []) old fault v new
+  pub stops_drawn_as : (stands : Value) (marks : Option Marks) (x y : Redraw) (old new : Surface R) (fault : ReadlineError) (v : Value)
+      → asked_by r marks old.layout x ≡ asked_by r marks old.layout y → Stops canvas r (Draws stands marks x ∷ []) old fault v new → Stops canvas r (Draws stands marks y ∷ []) old fault v new
   unfolding Stops
-  stops_drawn_as stands x y old new fault v same (inl (none, between, made, h)) = absurd (cc)
-  stops_drawn_as stands x y old new fault v same (inr (e, (is, broken, layout, value), at)) =
+  stops_drawn_as stands marks x y old new fault v same (inl (none, between, made, h)) = absurd (cc)
+  stops_drawn_as stands marks x y old new fault v same (inr (e, (is, broken, layout, value), at)) =
       inr (e, (is, subst (λ (a : Asked). BrokenOff canvas a.calls old.out new.out) same broken, layout, value), at)
 
   -- at an edit of the line

@@ -6,12 +6,17 @@ use Rattle.line_buffer.specs.declared.layout.Layout.{Layout}
 use Rattle.line_buffer.specs.declared.layout.Position.{Position}
 use Rattle.line_config.specs.declared.errors.ReadlineError.{ReadlineError}
 use Rattle.line_config.specs.declared.errors.ReadlineError.TheVariants.{Display}
+use Rattle.line_keys.specs.declared.command.CmdKind.{CmdKind}
+
+-- which characters a highlighter marks, by line, place and reason of the drawing
+abbrev pub Marks : Type 0
+Marks = List ℕ → ℕ → CmdKind → Bool
 
 pub data Call : Type 0 where
   -- prompt, line and information drawn whole, in the place of an older drawing; without one only
-  -- what is new is drawn
+  -- what is new is drawn. A highlighter, if one is handed in, is known by its marks
   Draw : (prompt text : List ℕ) (place : ℕ) (info : Option (List ℕ)) (old : Option Layout)
-      (new : Layout) → Call
+      (new : Layout) (marks : Option Marks) → Call
   Move : (old new : Position) → Call
   Write : (text : List ℕ) → Call
   Beep : Call

@@ -68,7 +68,7 @@ LeadsBehind prompt x s e info =
 -- the drawings among steps
 abbrev pub redraws_of : List EditStep → List Redraw
 redraws_of [] = []
-redraws_of (Draws v x ∷ more) = x ∷ redraws_of more
+redraws_of (Draws v marks x ∷ more) = x ∷ redraws_of more
 redraws_of (step ∷ more) = redraws_of more
 
 -- whatever was seen, also a count's prompt; a mark draws nothing

@@ -6,7 +6,7 @@ use Rattle.line_buffer.specs.Cells.{origin}
 use Rattle.line_buffer.specs.declared.layout.GraphemeClusterMode.{GraphemeClusterMode}
 use Rattle.line_buffer.specs.declared.layout.Layout.{Layout}
 use Rattle.line_buffer.specs.declared.layout.Position.{Position}
-use Rattle.line_editor.specs.Calls.{Call, Ruler}
+use Rattle.line_editor.specs.Calls.{Call, Marks, Ruler}
 use Rattle.line_editor.specs.Calls.Call.{Draw, Move, Write, Beep, ClearScreen, ClearToEol}
 
 -- it knows of no columns
@@ -58,11 +58,13 @@ layout_of r start given text place info = record {
   has_info = is_some info;
 }
 
-abbrev pub full : Ruler → Layout → List ℕ → Bool → List ℕ → ℕ → Option (List ℕ) → Asked
-full r l prompt given text place info =
+-- highlighted by these marks, if there are any
+abbrev pub full : Ruler → Option Marks → Layout → List ℕ → Bool → List ℕ → ℕ → Option (List ℕ)
+    → Asked
+full r marks l prompt given text place info =
     let new = layout_of r (r.measure prompt origin) given text place info in
     record {
-      calls = Draw prompt text place info (Some l) new ∷ [];
+      calls = Draw prompt text place info (Some l) new marks ∷ [];
       layout = new;
     }
 
@@ -104,18 +106,20 @@ may_type r l = not l.has_info && nat_lt (l.cursor.col + 1) r.columns
 abbrev pub may_take : Layout → ℕ → Bool
 may_take l count = not l.has_info && ((l.cursor.row == l.end.row) && nat_le count l.end.col)
 
-abbrev pub asked_by : Ruler → Layout → Redraw → Asked
-asked_by r l (Drawn prompt given text place info) = full r l prompt given text place info
-asked_by r l (Moved text place) = moved l (r.measure (take place text) l.prompt_size)
-asked_by r l (Typed prompt c text place) =
-    if may_type r l then typed_short l c else full r l prompt true text place None
-asked_by r l (Taken prompt count text place) =
-    if may_take l count then taken_short l count else full r l prompt true text place None
-asked_by r l (Bared prompt text place) =
-    if l.default_prompt then nothing_asked l else full r l prompt true text place None
-asked_by r l ToEnd = moved l l.end
-asked_by r l Beeped = record { calls = Beep ∷ []; layout = l }
-asked_by r l Cleared = record { calls = ClearScreen ∷ []; layout = fresh l.grapheme_cluster_mode }
+abbrev pub asked_by : Ruler → Option Marks → Layout → Redraw → Asked
+asked_by r marks l (Drawn prompt given text place info) =
+    full r marks l prompt given text place info
+asked_by r marks l (Moved text place) = moved l (r.measure (take place text) l.prompt_size)
+asked_by r marks l (Typed prompt c text place) =
+    if may_type r l then typed_short l c else full r marks l prompt true text place None
+asked_by r marks l (Taken prompt count text place) =
+    if may_take l count then taken_short l count else full r marks l prompt true text place None
+asked_by r marks l (Bared prompt text place) =
+    if l.default_prompt then nothing_asked l else full r marks l prompt true text place None
+asked_by r marks l ToEnd = moved l l.end
+asked_by r marks l Beeped = record { calls = Beep ∷ []; layout = l }
+asked_by r marks l Cleared =
+    record { calls = ClearScreen ∷ []; layout = fresh l.grapheme_cluster_mode }
 
 abbrev pub then_asked : Asked → Asked → Asked
 then_asked a b = record { calls = a.calls ++ b.calls; layout = b.layout }

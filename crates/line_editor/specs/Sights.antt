@@ -54,7 +54,7 @@ sight_drawn x Cleared = no_sight
 
 -- the other steps show nothing
 abbrev pub sight : Sight → EditStep → Sight
-sight x (Draws v redraw) = sight_drawn x redraw
+sight x (Draws v marks redraw) = sight_drawn x redraw
 sight x step = x
 
 pub record TypedFits (x : Sight) (prompt : List ℕ) (c : ℕ) (text : List ℕ)
@@ -88,7 +88,7 @@ FitsDrawn own x (Bared prompt text place) = x.given ≡ true
 FitsDrawn own x redraw = ⊤
 
 abbrev pub Fits : List ℕ → Sight → EditStep → Type 0
-Fits own x (Draws v redraw) = FitsDrawn own x redraw
+Fits own x (Draws v marks redraw) = FitsDrawn own x redraw
 Fits own x step = ⊤
 
 abbrev pub sight_all : Sight → List EditStep → Sight
@@ -114,7 +114,7 @@ info_drawn info Cleared = None
 info_drawn info redraw = info
 
 abbrev pub info_one : Option (List ℕ) → EditStep → Option (List ℕ)
-info_one info (Draws v redraw) = info_drawn info redraw
+info_one info (Draws v marks redraw) = info_drawn info redraw
 info_one info step = info
 
 abbrev pub info_after : List EditStep → Option (List ℕ) → Option (List ℕ)

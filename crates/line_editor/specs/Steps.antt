@@ -18,7 +18,7 @@ abbrev pub help_asked : Layout → Bool → Asked
 help_asked l fails = record { calls = Help fails ∷ []; layout = l }
 
 abbrev pub one : Ruler → Layout → EditStep → Asked
-one r l (Draws v x) = asked_by r l x
+one r l (Draws v marks x) = asked_by r marks l x
 one r l (Helped v fails) = help_asked l fails
 one r l (Updates v fails) = help_asked l fails
 one r l (Edits v edit) = nothing_asked l
@@ -68,8 +68,8 @@ StepMade canvas r s step t =
 -- where it says so
 abbrev pub StepCut : {R : Type 0} → Canvas R → Ruler → Surface R → EditStep → Refusal → Surface R
     → Type 0
-StepCut canvas r s (Draws v x) e t =
-    (e.fault ≡ Display) × BrokenOff canvas (asked_by r s.layout x).calls s.out t.out
+StepCut canvas r s (Draws v marks x) e t =
+    (e.fault ≡ Display) × BrokenOff canvas (asked_by r marks s.layout x).calls s.out t.out
     × (t.layout ≡ s.layout) × (e.value ≡ v)
 StepCut canvas r s (Helped v fails) e t = Unhelped fails e.fault × (t ≡ s) × (e.value ≡ v)
 StepCut canvas r s (Updates v fails) e t =

@@ -11,6 +11,7 @@ use Rattle.line_keys.specs.Replies.{Reply, fails}
 use Rattle.line_help.specs.declared.validate.ValidationResult.{ValidationResult}
 use Rattle.line_keys.specs.declared.command.CmdKind.{CmdKind}
 use Rattle.line_record.specs.Held.{Held}
+use Rattle.line_editor.specs.Calls.{Marks}
 use Rattle.line_editor.specs.Redraws.{Redraw}
 
 -- the line that was left for the history
@@ -64,7 +65,7 @@ pub record Setting : Type 0 where
   pub mode : GraphemeClusterMode
   -- of the helper, if there is one; highlighted characters only where the display has colours
   pub hooks : Option Hooks
-  pub marks : Option (List ℕ → ℕ → CmdKind → Bool)
+  pub marks : Option Marks
   -- the history, oldest first
   pub entries : List (List ℕ)
 
@@ -74,8 +75,8 @@ first_value s = empty_at (length s.entries)
 
 -- what an edit does, in order; each step names the value that stands until it is made
 pub data EditStep : Type 0 where
-  -- this is drawn
-  Draws : (value : Value) (redraw : Redraw) → EditStep
+  -- this is drawn, highlighted by these marks, if there are any
+  Draws : (value : Value) (marks : Option Marks) (redraw : Redraw) → EditStep
   -- the helper is asked, and gives an answer or fails
   Helped : (value : Value) (fails : Bool) → EditStep
   -- the helper is asked for an edit of line and record, and makes it or fails
@@ -107,7 +108,7 @@ then_do first second s v =
     }
 
 abbrev pub redrawn : Redraw → Transition
-redrawn x s v = record { value = v; steps = Draws v x ∷ [] }
+redrawn x s v = record { value = v; steps = Draws v s.marks x ∷ [] }
 
 -- memory is taken for what isn't kept in the value
 abbrev pub taking : Transition
@@ -199,7 +200,7 @@ shown_hint v = option_map (λ h. h.display) v.hint
 
 -- ---- highlighted characters
 
-abbrev pub marked_by : Option (List ℕ → ℕ → CmdKind → Bool) → List ℕ → ℕ → CmdKind → Bool
+abbrev pub marked_by : Option Marks → List ℕ → ℕ → CmdKind → Bool
 marked_by None text place kind = false
 marked_by (Some marks) text place kind = marks text place kind
 

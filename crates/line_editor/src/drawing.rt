@@ -25,8 +25,10 @@ fn display_of<T: Hint>(hint: &Option<T>) -> Option<&str>
 }
 
 /// The helper, where the display has colours.
-pub(crate) fn highlighter_of<H>(helper: &Option<H>, colours: bool) -> Option<&H>
-    ensures { option_copied result ≡ (if colours then helper.now else None) }
+pub(crate) fn highlighter_of<H: Highlighter>(helper: &Option<H>, colours: bool) -> Option<&H>
+    ensures value { option_copied result ≡ (if colours then helper.now else None) }
+    ensures marks { option_map H.marks (option_copied result)
+        ≡ (if colours then option_map H.marks helper.now else None) }
 {
     if colours { helper.as_ref() } else { None }
 }
@@ -84,7 +86,9 @@ fn draw_over<Out: Renderer, H: Highlighter>(
         let new = layout_of ruler (ruler.measure prompt.now origin) given line.now.text
         line.now.place (option_copied info.entry) in
         Makes Out.canvas (Draw prompt.now line.now.text line.now.place
-        (option_copied info.entry) (Some old) new) out.old out.new result }
+        (option_copied info.entry) (Some old) new
+        (if ruler.colours then option_map H.marks helper.now else None))
+        out.old out.new result }
     ensures layout { let ruler = Out.canvas.ruler out.old in
         IfOk result (λ new. new ≡ layout_of ruler (ruler.measure prompt.now origin) given
         line.now.text line.now.place (option_copied info.entry)) }

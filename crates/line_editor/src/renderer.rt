@@ -1,5 +1,5 @@
 //! What draws a line.
-ghost use Rattle.std.specs.Prelude.{◌≡◌, true, take, Some, OnErr, IfErr, IsTrue, IsCharBoundary, option_copied};
+ghost use Rattle.std.specs.Prelude.{◌≡◌, true, take, Some, OnErr, IfErr, IsTrue, IsCharBoundary, option_copied, option_map};
 ghost use Rattle.line_edits.specs.Plain.{is_plain};
 ghost use Rattle.line_editor.specs.Known.{IsKnown};
 ghost use Rattle.line_config.specs.declared.errors.ReadlineError.TheVariants.{Display};
@@ -46,7 +46,8 @@ pub trait Renderer: Drop {
         highlighter: Option<&H>,
     ) -> Result<(), ReadlineError>
         ensures { Makes canvas (Draw prompt.now line.now.text line.now.place
-            (option_copied hint.entry) old_layout new_layout.now) self.old self.new result };
+            (option_copied hint.entry) old_layout new_layout.now
+            (option_map H.marks (option_copied highlighter.entry))) self.old self.new result };
 
     /// Writes a text at the cursor.
     fn write_and_flush(&mut self, text: &str) -> Result<(), ReadlineError>

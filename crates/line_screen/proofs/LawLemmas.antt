@@ -48,7 +48,7 @@ calls_lead s low high bytes over a b call g h =
 
 -- a line's top is never above the one before, but where the screen is cleared
 top_grows : (s : Screen) (a b : View) (call : Call) → LeadsView s.columns (widths s) a call b → call ≢ ClearScreen → a.top ≤ b.top
-top_grows s a b (Draw prompt text place info old new) h none = let same : b.top ≡ a.top = h.1.top_is in omega arith
+top_grows s a b (Draw prompt text place info old new marks) h none = let same : b.top ≡ a.top = h.1.top_is in omega arith
 top_grows s a b (Move old new) h none = let same : b.top ≡ a.top = ap (λ (w : View). w.top) h.view in omega arith
 top_grows s a b (Write text) (inl h) none = let same : b.top ≡ a.top = ap (λ (w : View). w.top) h.view in omega arith
 top_grows s a b (Write text) (inr h) none = let same : b.top ≡ a.top + (finish_of s.columns (widths s) a.shown).row + 1 = ap (λ (w : View). w.top) h.view in omega arith

@@ -426,8 +426,8 @@ write_led s some few bytes over a b text g (inr t) =
 
 pub leads : (s : Screen) → 1 ≤ s.columns → s.columns < 2 ^ 64 → (bytes : List ℕ) (over : List Placed) (a b : View) (call : Call) → Good s.columns (cluster_width s.mode s.columns) bytes over a
     → LeadsView s.columns (cluster_width s.mode s.columns) a call b → Led s bytes over a call b
-leads s some few bytes over a b (Draw prompt text place info old new) g h =
-    same_over s bytes over a (Draw prompt text place info old new) b g (draw_good s.mode s.columns some few bytes over a b (old_row old) prompt text (info_text info) new.end new.cursor g h.0 h.1)
+leads s some few bytes over a b (Draw prompt text place info old new marks) g h =
+    same_over s bytes over a (Draw prompt text place info old new marks) b g (draw_good s.mode s.columns some few bytes over a b (old_row old) prompt text (info_text info) new.end new.cursor g h.0 h.1)
 leads s some few bytes over a b (Move old new) g h =
     same_over s bytes over a (Move old new) b g
     (subst (λ p. Good s.columns (cluster_width s.mode s.columns) (bytes ++ move_bytes p new) over b) (sym h.old_is)

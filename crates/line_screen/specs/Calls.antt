@@ -57,7 +57,7 @@ bell_bytes style = []
 -- each drawing ends in its own cells, so no call leaves the cursor elsewhere than it says; the
 -- helper's draws nothing
 abbrev pub bytes_of : Screen → Call → List ℕ
-bytes_of s (Draw prompt text place info old new) =
+bytes_of s (Draw prompt text place info old new marks) =
     drawing_bytes s.columns (cluster_width s.mode s.columns) (old_row old) prompt text
     (info_text info) new.end new.cursor
 bytes_of s (Move old new) = move_bytes old new
