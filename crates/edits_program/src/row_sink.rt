@@ -65,9 +65,11 @@ impl<'a> RowSink<'a> {
 }
 
 impl<'a> Sink for RowSink<'a> {
-    ghost use Rattle.std.specs.Prelude.{false};
+    ghost use Rattle.std.specs.Prelude.{[], false};
 
     ghost held = { λ s. s.taken.bytes };
+
+    ghost waits = { λ _. [] };
 
     ghost has_failed = { λ _. false };
 

@@ -42,7 +42,11 @@ impl Narrow {
 }
 
 impl Sink for Narrow {
+    ghost use Rattle.std.specs.Prelude.{[]};
+
     ghost held = { λ s. s.taken.bytes };
+
+    ghost waits = { λ _. [] };
 
     ghost has_failed = { λ s. s.failed };
 
@@ -94,7 +98,11 @@ impl Barred {
 }
 
 impl Sink for Barred {
+    ghost use Rattle.std.specs.Prelude.{[]};
+
     ghost held = { λ s. s.taken.bytes };
+
+    ghost waits = { λ _. [] };
 
     ghost has_failed = { λ s. s.failed };
 

@@ -63,6 +63,8 @@ impl<S: Source> Source for Boxed<S> {
 impl<D: Sink> Sink for Boxed<D> {
     ghost held = { D.held };
 
+    ghost waits = { D.waits };
+
     ghost has_failed = { D.has_failed };
 
     fn write(&mut self, bytes: &[u8]) -> Result<(), DeviceFailed> {

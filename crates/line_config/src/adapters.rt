@@ -255,6 +255,8 @@ impl<W: Write> Sink for WriteSink<W> {
 
     ghost held = { taken };
 
+    ghost waits = { unsent_of };
+
     ghost has_failed = { λ s. s.failed };
 
     fn write(&mut self, bytes: &[u8]) -> Result<(), DeviceFailed>

@@ -1,5 +1,5 @@
 //! Where bytes come from and go to: the traits `Source` and `Sink`.
-ghost use Rattle.std.specs.Prelude.{◌≡◌, ◌≤◌, ◌++◌, ℕ, Bool, List, IsTrue, OnOk, IsErr, is_err, length, take};
+ghost use Rattle.std.specs.Prelude.{◌≡◌, ◌≤◌, ◌++◌, [], ℕ, Bool, List, IsTrue, OnOk, IsErr, is_err, length, take};
 ghost use Rattle.line_config.specs.Feed.{Feed, GivesByte, GivesBytes};
 ghost use Rattle.line_config.specs.Sending.{AppendsSome};
 
@@ -55,6 +55,10 @@ pub trait Sink {
     // The bytes taken so far.
     ghost held: { Self → List ℕ };
 
+    // Those that wait: they are taken, and not passed on yet. In a sink that gathers none nothing
+    // waits.
+    ghost waits: { Self → List ℕ };
+
     ghost has_failed: { Self → Bool };
 
     /// Takes all the bytes, or fails. A write that fails may have taken the first of them.
@@ -69,6 +73,7 @@ pub trait Sink {
     /// Passes on what was written, where the sink gathers it first.
     fn flush(&mut self) -> Result<(), DeviceFailed>
         ensures held { held self.new ≡ held self.old }
+        ensures waits { OnOk result (waits self.new ≡ []) }
         ensures failure { has_failed self.new ≡ is_err result }
         ensures for_good { IsTrue (has_failed self.old) → IsErr result };
 

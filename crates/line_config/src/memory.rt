@@ -117,6 +117,8 @@ impl VecSink {
 impl Sink for VecSink {
     ghost held = { λ s. s.bytes.items };
 
+    ghost waits = { λ _. [] };
+
     ghost has_failed = { λ s. s.failed };
 
     fn write(&mut self, bytes: &[u8]) -> Result<(), DeviceFailed>

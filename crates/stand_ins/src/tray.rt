@@ -97,9 +97,11 @@ impl Tray {
 }
 
 impl Sink for Tray {
-    ghost use Rattle.std.specs.Prelude.{take};
+    ghost use Rattle.std.specs.Prelude.{[], take};
 
     ghost held = { λ s. take s.len s.bytes };
+
+    ghost waits = { λ _. [] };
 
     ghost has_failed = { λ s. s.failed };
 

@@ -1,6 +1,6 @@
 //! Sinks that fail, and that know what waits in them.
 
-ghost use Rattle.std.specs.Prelude.{false};
+ghost use Rattle.std.specs.Prelude.{[], false, if◌then◌else◌};
 
 use line_config::{DeviceFailed, Log, Sink};
 
@@ -24,6 +24,8 @@ impl FailsAfter {
 
 impl Sink for FailsAfter {
     ghost held = { λ s. s.taken.bytes };
+
+    ghost waits = { λ _. [] };
 
     ghost has_failed = { λ s. s.failed };
 
@@ -78,6 +80,8 @@ impl Gathers {
 
 impl Sink for Gathers {
     ghost held = { λ s. s.taken.bytes };
+
+    ghost waits = { λ s. if s.waiting then s.taken.bytes else [] };
 
     ghost has_failed = { λ _. false };
 
