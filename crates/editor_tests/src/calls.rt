@@ -204,6 +204,11 @@ impl Renderer for CallList {
         self.note(format!(in self.alloc; "clear row"))
     }
 
+    fn move_and_clear_to_eol(&mut self, old: Position, new: Position) -> Result<(), ReadlineError> {
+        self.move_cursor(old, new)?;
+        self.clear_to_eol()
+    }
+
     fn move_cursor_at_leftmost(&mut self) -> Result<(), ReadlineError> {
         self.note(format!(in self.alloc; "leftmost"))
     }

@@ -408,28 +408,28 @@ module _ {D L : Type 0} (shown : D → List ℕ) (written_in : L → List ℕ) (
         → AllDone (act_deeds g.screen (fresh g.screen.mode) (acts_in n g x)) x.coming (on a) (on b) left
     done_acts n g x a b left took answered is = untouched g.screen _ _ x.coming _ left a b (in_acts n g x) is took answered
 
-    module _ (show_failed : D → Bool) (s : Screen) where
+    module _ (waits : D → List ℕ) (show_failed : D → Bool) (s : Screen) where
       abbrev Made : List Call → ScreenRenderer D → ScreenRenderer D → Type 0
-      Made calls a b = FoldsTo (MadeIn (canvas_of shown show_failed)) a calls b
+      Made calls a b = FoldsTo (MadeIn (canvas_of shown waits show_failed)) a calls b
 
       done_calls : (calls : List Call) (c : Coming) (a b : ScreenRenderer D) → screen_of a ≡ s → Made calls a b → AllDone (call_deeds s calls) c (on a) (on b) c
       done_calls calls c a b is made =
           let P : Screen → Type 0 = λ s. Takes shown (sink_of a) (sink_of b) (flat_map (bytes_of s) calls) in
-          untouched s (call_deeds s calls) calls c c c a b (as_alone s c calls) refl (subst P is (sent_in_all shown show_failed calls a b made).takes)
-          (made_answered s (canvas_of shown show_failed) calls a b made)
+          untouched s (call_deeds s calls) calls c c c a b (as_alone s c calls) refl (subst P is (sent_in_all shown waits show_failed calls a b made).takes)
+          (made_answered s (canvas_of shown waits show_failed) calls a b made)
 
       screen_kept : (calls : List Call) (a b : ScreenRenderer D) → screen_of a ≡ s → Made calls a b → screen_of b ≡ s
-      screen_kept calls a b is made = (sent_in_all shown show_failed calls a b made).screen ∙ is
+      screen_kept calls a b is made = (sent_in_all shown waits show_failed calls a b made).screen ∙ is
 
       -- calls that the display broke off
-      cut_call : (call : Call) (deeds : List SessionDeed) (c : Coming) (a b : ScreenRenderer D) → screen_of a ≡ s → RefusedIn (canvas_of shown show_failed) a call b
+      cut_call : (call : Call) (deeds : List SessionDeed) (c : Coming) (a b : ScreenRenderer D) → screen_of a ≡ s → RefusedIn (canvas_of shown waits show_failed) a call b
           → CutAt (call_deed s call ∷ deeds) c (on a) (on b) c Display
       cut_call (Help fails) deeds c a b is h = absurd h
       cut_call call deeds c a b is h =
           let P : Screen → Type 0 = λ s. TakesSome shown (sink_of a) (sink_of b) (bytes_of s call) in
           cut_drawing (bytes_of s call) deeds c (on a) (on b) (subst P is h.begins) refl refl
 
-      cut_calls : (calls : List Call) (tail : List SessionDeed) (c : Coming) (a b : ScreenRenderer D) → screen_of a ≡ s → BrokenOff (canvas_of shown show_failed) calls a b
+      cut_calls : (calls : List Call) (tail : List SessionDeed) (c : Coming) (a b : ScreenRenderer D) → screen_of a ≡ s → BrokenOff (canvas_of shown waits show_failed) calls a b
           → CutAt (call_deeds s calls ++ tail) c (on a) (on b) c Display
       unfolding BrokenOff
       cut_calls [] tail c a b is h = absurd h
@@ -454,7 +454,7 @@ module _ {D L : Type 0} (shown : D → List ℕ) (written_in : L → List ℕ) (
       -- ---- steps: one that was refused, and those of which the first were made
 
       cut_step : (step : EditStep) (deeds : List SessionDeed) → TakesMemory adds deeds → (c : Coming) (e : Refusal) (a b : Surface (ScreenRenderer D)) → screen_of a.out ≡ s
-          → StepCut (canvas_of shown show_failed) (ruler_of s) a step e b → CutAt (call_deeds s (one (ruler_of s) a.layout step).calls ++ deeds) c (on a.out) (on b.out) c e.fault
+          → StepCut (canvas_of shown waits show_failed) (ruler_of s) a step e b → CutAt (call_deeds s (one (ruler_of s) a.layout step).calls ++ deeds) c (on a.out) (on b.out) c e.fault
       cut_step (DrawStep v marks x) deeds takes c e a b is h =
           let calls = (asked_by (ruler_of s) marks a.layout x).calls in
           subst (λ why. CutAt (call_deeds s calls ++ deeds) c (on a.out) (on b.out) c why) (sym h.0) (cut_calls calls deeds c a.out b.out is h.1)
@@ -469,7 +469,7 @@ module _ {D L : Type 0} (shown : D → List ℕ) (written_in : L → List ℕ) (
       behind_calls (x ∷ xs) ys tail = ap (λ deeds. call_deed s x ∷ deeds) (behind_calls xs ys tail)
 
       cut_steps : (steps : List EditStep) (tail : List SessionDeed) → TakesMemory adds tail → (c : Coming) (why : ReadlineError) (v : Value) (a b : Surface (ScreenRenderer D)) → screen_of a.out ≡ s
-          → StepsStop (canvas_of shown show_failed) (ruler_of s) steps a why v b → CutAt (call_deeds s (drawn_by s a.layout steps).calls ++ tail) c (on a.out) (on b.out) c why
+          → StepsStop (canvas_of shown waits show_failed) (ruler_of s) steps a why v b → CutAt (call_deeds s (drawn_by s a.layout steps).calls ++ tail) c (on a.out) (on b.out) c why
       unfolding StepsStop
       cut_steps [] tail takes c why v a b is h = absurd (cc)
       cut_steps (step ∷ steps) tail takes c why v a b is (inl (none, between, made, h)) =
@@ -493,7 +493,7 @@ module _ {D L : Type 0} (shown : D → List ℕ) (written_in : L → List ℕ) (
       joined steps l more tail = sym (append_assoc (call_deeds s (drawn_by s l steps).calls) (act_deeds s (drawn_by s l steps).layout more) tail)
 
       cut_seen : (steps : List EditStep) (more : List Act) (tail : List SessionDeed) → TakesMemory adds tail → (c left : Coming) (why : ReadlineError) (v : Value) (a b : Surface (ScreenRenderer D))
-          → screen_of a.out ≡ s → left ≡ c → StepsStop (canvas_of shown show_failed) (ruler_of s) steps a why v b
+          → screen_of a.out ≡ s → left ≡ c → StepsStop (canvas_of shown waits show_failed) (ruler_of s) steps a why v b
           → CutAt (act_deeds s a.layout (Sees steps ∷ more) ++ tail) c (on a.out) (on b.out) left why
       cut_seen steps more tail takes c left why v a b is same h =
           let l = (drawn_by s a.layout steps).layout in
@@ -528,7 +528,7 @@ module _ {D L : Type 0} (shown : D → List ℕ) (written_in : L → List ℕ) (
 
       -- acts that others follow
       pub cut_acts : (acts : List Act) (tail : List SessionDeed) → TakesMemory adds tail → (why : ReadlineError) (v : Value) (old new : Stage (ScreenRenderer D)) → screen_of old.drawn.out ≡ s
-          → CutIn (canvas_of shown show_failed) (ruler_of s) why acts old v new
+          → CutIn (canvas_of shown waits show_failed) (ruler_of s) why acts old v new
           → CutAt (act_deeds s old.drawn.layout acts ++ tail) old.coming (on old.drawn.out) (on new.drawn.out) new.coming why
       unfolding CutIn
       cut_acts [] tail takes why v old new is h = absurd h

@@ -92,7 +92,7 @@ desk_of reader out helper history ring lines =
 module _ {S H D L K T : Type 0} (k : Known S D L) (helps : Option H → Helping) (custom : Custom) (config : Config) (prompt : List ℕ)
     (old : Desk S H D L) (ran : Ran (ScreenRenderer D) H K T) (ring : Ring) (reader : KeyReader S) where
   abbrev RunsAt : Type 0
-  RunsAt = Runs (canvas_of k.shown k.show_failed) helps custom prompt old.helper old.history.kept.entries config
+  RunsAt = Runs (canvas_of k.shown k.waits k.show_failed) helps custom prompt old.helper old.history.kept.entries config
       old.out old.ring (items_of k.feed old.reader) ran ring (items_of k.feed reader)
 
   abbrev setting : Setting
@@ -100,22 +100,22 @@ module _ {S H D L K T : Type 0} (k : Known S D L) (helps : Option H → Helping)
 
   -- the line that was read whole, or cut by a fault
   abbrev WentWhole : Told → Type 0
-  WentWhole t = WholeLine (canvas_of k.shown k.show_failed) t old.out ran.out ring (items_of k.feed reader).coming (outcome_of ran)
+  WentWhole t = WholeLine (canvas_of k.shown k.waits k.show_failed) t old.out ran.out ring (items_of k.feed reader).coming (outcome_of ran)
 
   abbrev come : Coming
   come = (items_of k.feed old.reader).coming
 
   abbrev WentCut : ℕ → Type 0
-  WentCut n = CutLine (canvas_of k.shown k.show_failed) (acts_meant n setting custom config old.ring come) old.out ran.out come (items_of k.feed reader).coming old.ring ring (outcome_of ran)
+  WentCut n = CutLine (canvas_of k.shown k.waits k.show_failed) (acts_meant n setting custom config old.ring come) old.out ran.out come (items_of k.feed reader).coming old.ring ring (outcome_of ran)
 
   abbrev Went : ℕ → Type 0
   Went n = WentWhole (line_meant n setting custom config old.ring come) ⊎ WentCut n
 
   screen_by : (n : ℕ) → Went n → screen_of ran.out ≡ screen_of old.out
   screen_by n (inl w) =
-      (sent_in_all k.shown k.show_failed (line_calls (ruler_of (screen_of old.out)) (line_meant n setting custom config old.ring come).turns) old.out ran.out w.calls).screen
+      (sent_in_all k.shown k.waits k.show_failed (line_calls (ruler_of (screen_of old.out)) (line_meant n setting custom config old.ring come).turns) old.out ran.out w.calls).screen
   screen_by n (inr w) =
-      cut_stays k.shown k.show_failed (ruler_of (screen_of old.out)) w.fault w.value (acts_meant n setting custom config old.ring come)
+      cut_stays k.shown k.waits k.show_failed (ruler_of (screen_of old.out)) w.fault w.value (acts_meant n setting custom config old.ring come)
       (stage (surface old.out (fresh (screen_of old.out).mode)) come old.ring) (stage (surface ran.out w.layout) (items_of k.feed reader).coming ring) w.done
 
   screen_stays : RunsAt → IsTrue (items_of k.feed reader).told → screen_of ran.out ≡ screen_of old.out
@@ -161,14 +161,14 @@ module _ {S H D L K T : Type 0} (k : Known S D L) (helps : Option H → Helping)
     -- the helper gave an answer wherever it was asked
     answered : (n : ℕ) → let t = line_in n given (session_state_of k old) in WentWhole t → HelperAnswers (call_deeds given.screen (calls_of given.screen t))
     answered n w =
-        let t = line_in n given (session_state_of k old) in made_answered given.screen (canvas_of k.shown k.show_failed) (calls_of given.screen t) old.out ran.out w.calls
+        let t = line_in n given (session_state_of k old) in made_answered given.screen (canvas_of k.shown k.waits k.show_failed) (calls_of given.screen t) old.out ran.out w.calls
 
     after_whole : (n : ℕ) → let x = session_state_of k old in WentWhole (line_in n given x) → EndedAs (line_in n given x).outcome
         → Lined k given (line_in n given x) (line_deeds n given x) old new result
     after_whole n w (inl c) =
         let x = session_state_of k old in
         let t = line_in n given x in
-        let sent = sent_in_all k.shown k.show_failed (line_calls (ruler_of (screen_of old.out)) t.turns) old.out ran.out w.calls in
+        let sent = sent_in_all k.shown k.waits k.show_failed (line_calls (ruler_of (screen_of old.out)) t.turns) old.out ran.out w.calls in
         inl (
           whole_then k.shown k.written_in config.auto_add_history _ (break_if (breaks t.outcome)) t.outcome
               (sink_of old.out) (sink_of ran.out) (sink_of out) old.lines lines old.history history result sent.takes c,
@@ -180,7 +180,7 @@ module _ {S H D L K T : Type 0} (k : Known S D L) (helps : Option H → Helping)
     after_whole n w (inr c) =
         let x = session_state_of k old in
         let t = line_in n given x in
-        let sent = sent_in_all k.shown k.show_failed (line_calls (ruler_of (screen_of old.out)) t.turns) old.out ran.out w.calls in
+        let sent = sent_in_all k.shown k.waits k.show_failed (line_calls (ruler_of (screen_of old.out)) t.turns) old.out ran.out w.calls in
         let end = c left in
         inr (record {
           fault = end.fault;
@@ -196,7 +196,7 @@ module _ {S H D L K T : Type 0} (k : Known S D L) (helps : Option H → Helping)
         let s = screen_of old.out in
         let same = stays (unbroken _ _ w.fault w.cause) in
         let W : Work D L → Type 0 = λ after. Cut k.shown k.written_in config.auto_add_history (line_deeds n given x) come (work_of k old) after left w.fault in
-        let so = cut_acts k.shown k.written_in config.auto_add_history old.lines old.history k.show_failed s
+        let so = cut_acts k.shown k.written_in config.auto_add_history old.lines old.history k.waits k.show_failed s
         (acts_in n given x) (close_deeds (line_in n given x).outcome) tt w.fault w.value (stage (surface old.out (fresh s.mode)) come old.ring) (stage (surface ran.out w.layout) left ring) refl w.done in
         record { fault = w.fault; result_is = same.1; goes = subst W (sym same.0) so }
 

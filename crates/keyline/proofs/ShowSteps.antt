@@ -1,6 +1,6 @@
 -- A step leads from what is shown before it to what is to be shown after it.
 use Rattle.std.proofs.Common.{◌≡◌, ◌≢◌, ℕ, ◌+◌, ◌==◌, ◌&&◌, not, ◌^◌, ◌<◌, ◌≤◌, inl, inr, nat_lt, nat_le, Bool, true, false, List, [], ◌∷◌, ◌++◌, take, length, length-append, Option, Some, None, is_some, encode_utf8, refl, sym, ap, ◌∙◌, subst, append_assoc, append-nil, arith, if◌then◌else◌}
-use Rattle.std.specs.List.{list_all, filter, flat_map, FoldsTo}
+use Rattle.std.specs.List.{list_all, filter, flat_map}
 use Rattle.std.proofs.lemmas.Bool.{and_parts, and_from, not-true, eqb-true, lt-ltb, ltb-true}
 use Rattle.std.proofs.lemmas.Bool.Decides.{nat_tests}
 use Rattle.std.proofs.lemmas.Str.{encode_ascii}
@@ -10,7 +10,7 @@ use Rattle.line_buffer.specs.Short.{is_printable}
 use Rattle.line_buffer.specs.declared.layout.Layout.{Layout}
 use Rattle.line_buffer.specs.declared.layout.Position.{Position}
 use Rattle.line_editor.specs.Calls.{Call, Marks}
-use Rattle.line_editor.specs.Calls.Call.{Draw, Move, Write, Beep, ClearScreen, ClearToEol, Help}
+use Rattle.line_editor.specs.Calls.Call.{Draw, Move, Write, Beep, ClearScreen, MoveAndClearToEol, Help}
 use Rattle.line_editor.specs.Redraws.{info_text, fresh, layout_of, full, nothing_asked, moved_by_call, column_on, column_back, typed_short, taken_short, may_type, may_take}
 use Rattle.line_editor.specs.Redraws.Redraw.{Drawn, Moved, Typed, Taken, Bared, ToEnd, Beeped, Cleared}
 use Rattle.line_editor.specs.Sights.{Sight, sight_with, sight_as, no_sight, sight, ended_sight, TypedFits, TakenFits, Fits}
@@ -234,22 +234,10 @@ module _ (s : Screen) (low : 2 ≤ s.columns) (high : s.columns ≤ 1000) where
 
   -- ---- a kill at the line's end
 
-  two_led : (bytes : List ℕ) (over : List Placed) (a b : View) (old new : Position) → Good s.columns (widths s) bytes over a → FoldsTo (LeadsView s.columns (widths s)) a (Move old new ∷ ClearToEol ∷ []) b
-      → Good s.columns (widths s) (bytes ++ flat_map (bytes_of s) (Move old new ∷ ClearToEol ∷ [])) over b
-  two_led bytes over a b old new g f =
-      let m = f.1 in
-      let k = f.2.1 in
-      let first = led bytes over a f.0 (Move old new) g f.1 (ap (λ (x : View). x.top) m.view) (λ e. cc) in
-      let second = led (bytes ++ bytes_of s (Move old new)) over f.0 f.2.0 ClearToEol first f.2.1 (ap (λ (x : View). x.top) k.view) (λ e. cc) in
-      let joined : (bytes ++ bytes_of s (Move old new)) ++ bytes_of s ClearToEol ≡ bytes ++ flat_map (bytes_of s) (Move old new ∷ ClearToEol ∷ []) =
-      append_assoc bytes (bytes_of s (Move old new)) (bytes_of s ClearToEol) ∙ ap (λ x. bytes ++ (bytes_of s (Move old new) ++ x)) (sym (append-nil (bytes_of s ClearToEol))) in
-      subst (λ x. Good s.columns (widths s) x over b) joined (subst (Good s.columns (widths s) ((bytes ++ bytes_of s (Move old new)) ++ bytes_of s ClearToEol) over) f.2.2 second)
-
-  killed_place : (a b : View) (old new : Position) → FoldsTo (LeadsView s.columns (widths s)) a (Move old new ∷ ClearToEol ∷ []) b → b.place ≡ cursor_of s.columns (widths s) b.shown
+  killed_place : (a b : View) (old new : Position) → LeadsView s.columns (widths s) a (MoveAndClearToEol old new) b → b.place ≡ cursor_of s.columns (widths s) b.shown
   killed_place a b old new f =
-      let k = f.2.1 in
-      ap (λ (x : View). x.place) (sym f.2.2) ∙ ap (λ (x : View). x.place) k.view ∙ k.place_is
-      ∙ ap (λ (x : View). cursor_of s.columns (widths s) x.shown) (sym k.view) ∙ ap (λ (x : View). cursor_of s.columns (widths s) x.shown) f.2.2
+      let k = f.2 in
+      ap (λ (x : View). x.place) k.view ∙ k.place_is ∙ ap (λ (x : View). cursor_of s.columns (widths s) x.shown) (sym k.view)
 
   taken_is : (x : Sight) (prompt : List ℕ) (count : ℕ) (text : List ℕ) (at : ℕ) → TakenFits x prompt count text at → sight_as prompt text at None ≡ sight_as x.prompt text (length text) None
   taken_is x prompt count text at t = ap (λ p. sight_as p text at None) t.prompt_is ∙ ap (λ n. sight_as x.prompt text n None) t.end
@@ -272,12 +260,12 @@ module _ (s : Screen) (low : 2 ≤ s.columns) (high : s.columns ≤ 1000) where
       let y = sight_as x.prompt text (length text) None in
       let there : View = record { shown = picture y; top = top; place = to } in
       let leads = killing_leads s low high w text t.killed to t.whole none t.simple h.good.inside row known in
-      let good = two_led bytes over w there w.place to h.good leads in
+      let good = one_led bytes over w there (MoveAndClearToEol w.place to) h.good leads refl (λ e. cc) in
       let place_is : to ≡ cursor_of s.columns (widths s) (picture y) = killed_place w there w.place to leads in
       let back : column_back count l.end ≡ to = ap (λ k. column_back k l.end) t.count_is ∙ ap (column_back n) h.finish in
-      let new = bytes ++ flat_map (bytes_of s) (Move l.cursor (column_back count l.end) ∷ ClearToEol ∷ []) in
-      let same : bytes ++ flat_map (bytes_of s) (Move w.place to ∷ ClearToEol ∷ []) ≡ new =
-      ap (λ p. bytes ++ flat_map (bytes_of s) (Move p to ∷ ClearToEol ∷ [])) (sym h.cursor) ∙ ap (λ p. bytes ++ flat_map (bytes_of s) (Move l.cursor p ∷ ClearToEol ∷ [])) (sym back) in
+      let new = bytes ++ flat_map (bytes_of s) (MoveAndClearToEol l.cursor (column_back count l.end) ∷ []) in
+      let same : bytes ++ flat_map (bytes_of s) (MoveAndClearToEol w.place to ∷ []) ≡ new =
+      ap (λ p. bytes ++ flat_map (bytes_of s) (MoveAndClearToEol p to ∷ [])) (sym h.cursor) ∙ ap (λ p. bytes ++ flat_map (bytes_of s) (MoveAndClearToEol l.cursor p ∷ [])) (sym back) in
       let cursor_is : column_back count l.end ≡ cursor_of s.columns (widths s) (picture y) = back ∙ place_is in
       let done : DisplayHolds s new over top (taken_short l count).layout y = record {
         good = subst (λ p. Good s.columns (widths s) new over (record { shown = picture y; top = top; place = p })) place_is (subst (λ b. Good s.columns (widths s) b over there) same good);

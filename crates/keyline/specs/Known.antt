@@ -6,15 +6,17 @@ use Rattle.line_config.specs.Feed.{Feed}
 pub record Known (S D L : Type 0) : Type 0 where
   pub feed : S → Feed
   pub shown : D → List ℕ
+  pub waits : D → List ℕ
   pub show_failed : D → Bool
   pub written_in : L → List ℕ
   pub write_failed : L → Bool
 
-abbrev pub known_by : {S D L : Type 0} → (S → Feed) → (D → List ℕ) → (D → Bool) → (L → List ℕ)
-    → (L → Bool) → Known S D L
-known_by feed shown show_failed written_in write_failed = record {
+abbrev pub known_by : {S D L : Type 0} → (S → Feed) → (D → List ℕ) → (D → List ℕ) → (D → Bool)
+    → (L → List ℕ) → (L → Bool) → Known S D L
+known_by feed shown waits show_failed written_in write_failed = record {
   feed = feed;
   shown = shown;
+  waits = waits;
   show_failed = show_failed;
   written_in = written_in;
   write_failed = write_failed;

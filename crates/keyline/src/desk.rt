@@ -147,7 +147,7 @@ impl<S: Source + Drop, H: Helper + Drop, D: Sink + Drop, L: Sink + Drop> Desk<S,
         ensures { let custom = custom_of bindings.now B.decides in
             let helps = helping_by H.hint_of H.verdict_of H.completion_of H.update_of H.marks in
             let given = given_by config.now custom prompt.now in
-            let known = known_by S.feed D.held D.has_failed L.held L.has_failed in
+            let known = known_by S.feed D.held D.waits D.has_failed L.held L.has_failed in
             TakesLine known (given (screen_of self.out) (helps self.helper))
             (given (screen_of result.desk.out) (helps result.desk.helper))
             self result.desk (made_of string_bytes result.outcome) }

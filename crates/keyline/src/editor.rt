@@ -71,7 +71,7 @@ where
     pub fn read_line(&mut self, prompt: &str) -> Result<String, ReadlineError>
         ensures { let helps =
             helping_by H.hint_of H.verdict_of H.completion_of H.update_of H.marks in
-            let known = known_by S.feed D.held D.has_failed L.held L.has_failed in
+            let known = known_by S.feed D.held D.waits D.has_failed L.held L.has_failed in
             ReadsLine known self.old self.new (λ s. given_by s.config
             (custom_of s.bindings B.decides) prompt.now (screen_of s.desk.out)
             (helps s.desk.helper)) (made_of string_bytes result) }

@@ -41,7 +41,7 @@ pub fn always_told<
         let helps = helping_by H.hint_of H.verdict_of H.completion_of H.update_of H.marks in
         let given = given_by session.config custom (string_bytes session.prompt)
         (screen_of session.desk.out) (helps session.desk.helper) in
-        let known = known_by S.feed D.held D.has_failed L.held L.has_failed in
+        let known = known_by S.feed D.held D.waits D.has_failed L.held L.has_failed in
         AlwaysPlays known T.held T.has_failed given session.desk session.text result }
 {
     session.run()
@@ -63,7 +63,7 @@ pub fn lines<
         let helps = helping_by H.hint_of H.verdict_of H.completion_of H.update_of H.marks in
         let given = given_by session.config custom (string_bytes session.prompt)
         (screen_of session.desk.out) (helps session.desk.helper) in
-        let known = known_by S.feed D.held D.has_failed L.held L.has_failed in
+        let known = known_by S.feed D.held D.waits D.has_failed L.held L.has_failed in
         TakesLines known given (P.lines prompter) session.desk result.0.desk result.1 }
 {
     let mut session = session;

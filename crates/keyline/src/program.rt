@@ -71,8 +71,8 @@ pub fn edit<F: Source + Drop, S: Source + Drop, D: Sink + Drop, L: Sink + Drop, 
     requires lines { L.has_failed lines ≡ false }
     requires text { T.has_failed text ≡ false }
     ensures edits { IfOk result (EditsByOptions F.feed
-        (known_by S.feed D.held D.has_failed L.held L.has_failed) T.held T.has_failed options.now
-        (texts_of words) history source display lines text) }
+        (known_by S.feed D.held D.waits D.has_failed L.held L.has_failed) T.held T.has_failed
+        options.now (texts_of words) history source display lines text) }
     ensures refused { IfErr result (Unopens F.feed (config_of options.now) history source display
         lines text) }
 {
@@ -110,7 +110,8 @@ pub fn play<K: Foretold, R: Read + Drop, E: Write + Drop, W: Write + Drop>(
 ) -> Result<Ended<ReadSource<R, K>, WriteSink<E>, WriteSink<W>, VecSink>, ReadlineError>
     requires { (2 ≤ options.now.columns) × (options.now.columns ≤ 1000) }
     ensures plays { let known = known_by ⟦<ReadSource<R, K> as Source>⟧.feed
-        ⟦<WriteSink<E> as Sink>⟧.held ⟦<WriteSink<E> as Sink>⟧.has_failed
+        ⟦<WriteSink<E> as Sink>⟧.held ⟦<WriteSink<E> as Sink>⟧.waits
+        ⟦<WriteSink<E> as Sink>⟧.has_failed
         ⟦<WriteSink<W> as Sink>⟧.held ⟦<WriteSink<W> as Sink>⟧.has_failed in
         IfOk result (PlaysOver known ⟦<VecSink as Sink>⟧.held ⟦<VecSink as Sink>⟧.has_failed
         options.now (texts_of words) old.now K.bytes K.last) }

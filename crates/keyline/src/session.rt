@@ -290,7 +290,7 @@ where
         ensures line { let custom = custom_of self.bindings B.decides in
             let helps = helping_by H.hint_of H.verdict_of H.completion_of H.update_of H.marks in
             let given = given_by self.config custom prompt.now in
-            let known = known_by S.feed D.held D.has_failed L.held L.has_failed in
+            let known = known_by S.feed D.held D.waits D.has_failed L.held L.has_failed in
             let next = result.session.desk in
             TakesLine known (given (screen_of self.desk.out) (helps self.desk.helper))
             (given (screen_of next.out) (helps next.helper)) self.desk next
@@ -395,13 +395,13 @@ where
             let helps = helping_by H.hint_of H.verdict_of H.completion_of H.update_of H.marks in
             let given = given_by self.config custom (string_bytes self.prompt)
             (screen_of self.desk.out) (helps self.desk.helper) in
-            let known = known_by S.feed D.held D.has_failed L.held L.has_failed in
+            let known = known_by S.feed D.held D.waits D.has_failed L.held L.has_failed in
             Plays known T.held T.has_failed given self.desk self.text result }
         ensures shows { let custom = custom_of self.bindings B.decides in
             let helps = helping_by H.hint_of H.verdict_of H.completion_of H.update_of H.marks in
             let given = given_by self.config custom (string_bytes self.prompt)
             (screen_of self.desk.out) (helps self.desk.helper) in
-            let known = known_by S.feed D.held D.has_failed L.held L.has_failed in
+            let known = known_by S.feed D.held D.waits D.has_failed L.held L.has_failed in
             Displays given (session_state_of known self.desk) }
     {
         let mut session = self;

@@ -38,7 +38,7 @@ wants : (o : Result (String Global) ReadlineError) (e : ReadlineError) → made_
 wants (Ok x) e is want = absurd (cc)
 wants (Err d) e is want = let same : d ≡ e = cc in subst IsWant (sym same) want
 
-module _ {H K T : Type 0} (held : VecSink → List ℕ) (failed : VecSink → Bool) (helps : Option H → Helping) (config : Config) (custom : Custom) (prompt : List ℕ) (helper : Option H)
+module _ {H K T : Type 0} (held waits : VecSink → List ℕ) (failed : VecSink → Bool) (helps : Option H → Helping) (config : Config) (custom : Custom) (prompt : List ℕ) (helper : Option H)
     (old : ScreenRenderer VecSink) (display : VecSink) (ring ring' : Ring) (history history' : Filed) (feed feed' : KeyFeed) (ran : Ran (ScreenRenderer VecSink) H K T) (left : Left) where
   abbrev given : Given
   given = given_by config custom prompt (screen_of old) (helps helper)
@@ -48,11 +48,11 @@ module _ {H K T : Type 0} (held : VecSink → List ℕ) (failed : VecSink → Bo
 
   module _ (ends : Ends held (outcome_of ran) (sink_of ran.out) display history history') (fresh : held (sink_of old) ≡ []) (adds : config.auto_add_history ≡ true)
       (outcome_is : left.outcome ≡ ran.outcome) (display_is : left.display ≡ display) (ring_is : left.ring ≡ ring') (history_is : left.history ≡ history') where
-    left_whole : (t : Told) → WholeLine (canvas_of held failed) t old ran.out ring' feed'.coming (outcome_of ran) → LeftBy held given t history left
+    left_whole : (t : Told) → WholeLine (canvas_of held waits failed) t old ran.out ring' feed'.coming (outcome_of ran) → LeftBy held given t history left
     left_whole t w =
         let calls = line_calls (ruler_of (screen_of old)) t.turns in
         let sent_bytes : List ℕ = flat_map (bytes_of (screen_of old)) calls in
-        let sent = sent_in_all held failed calls old ran.out w.calls in
+        let sent = sent_in_all held waits failed calls old ran.out w.calls in
         record {
           outcome_is = ap (made_of string_bytes) outcome_is ∙ w.outcome_is;
           drawn = ap held display_is ∙ (ends.drawn ∙ (ap (λ o. held (sink_of ran.out) ++ break_if (breaks o)) w.outcome_is
@@ -62,7 +62,7 @@ module _ {H K T : Type 0} (held : VecSink → List ℕ) (failed : VecSink → Bo
           history_is = history_is ∙ (ends.kept ∙ (ap (λ o. history_after true o history) w.outcome_is ∙ ap (λ b. history_after b t.outcome history) (sym adds)));
         }
 
-    pub reads_line : Runs (canvas_of held failed) helps custom prompt helper history.kept.entries config old ring feed ran ring' feed' → IsTrue feed'.told
+    pub reads_line : Runs (canvas_of held waits failed) helps custom prompt helper history.kept.entries config old ring feed ran ring' feed' → IsTrue feed'.told
         → ReadsLine held given state feed.bound left
     reads_line runs told = record {
       goes = λ n b. elim (runs.goes told n b) [
@@ -78,18 +78,18 @@ bound_at kept count keys none is =
     ap (λ k. count + kept_count k) none ∙ (ap (λ n. n + kept_count None) is ∙ zero_more)
 
 -- the same by the options of the line
-pub line_read : {K T : Type 0} (held : VecSink → List ℕ) (failed : VecSink → Bool) (options : Options) (words : Option (List (List ℕ))) (keys : List ℕ) (last : Last) (config : Config) (custom : Custom) (prompt : List ℕ)
+pub line_read : {K T : Type 0} (held waits : VecSink → List ℕ) (failed : VecSink → Bool) (options : Options) (words : Option (List (List ℕ))) (keys : List ℕ) (last : Last) (config : Config) (custom : Custom) (prompt : List ℕ)
     (helper : Option EditHelper) (old : ScreenRenderer VecSink) (display : VecSink) (ring ring' : Ring) (history history' : Filed) (feed feed' : KeyFeed) (ran : Ran (ScreenRenderer VecSink) EditHelper K T) (left : Left)
-    → Runs (canvas_of held failed) edit_helping custom prompt helper history.kept.entries config old ring feed ran ring' feed' → IsTrue feed'.told
+    → Runs (canvas_of held waits failed) edit_helping custom prompt helper history.kept.entries config old ring feed ran ring' feed' → IsTrue feed'.told
     → Ends held (outcome_of ran) (sink_of ran.out) display history history' → held (sink_of old) ≡ []
     → config ≡ config_of options → custom ≡ nothing_bound → prompt ≡ string_bytes options.prompt → helper ≡ helper_of options words
     → screen_of old ≡ record { columns = options.columns; mode = config.grapheme_cluster_mode; bell = config.bell_style }
     → feed.coming ≡ coming_from options.mode keys last → feed.bound ≡ length keys
     → left.outcome ≡ ran.outcome → left.display ≡ display → left.ring ≡ ring' → left.history ≡ history'
     → ReadsLine held (given_by_options options words) (state_over ring history options.mode keys last) (length keys) left
-line_read held failed options words keys last config custom prompt helper old display ring ring' history history' feed feed' ran left runs told ends fresh config_is custom_is prompt_is helper_is screen_is coming_is bound_is a b d e =
+line_read held waits failed options words keys last config custom prompt helper old display ring ring' history history' feed feed' ran left runs told ends fresh config_is custom_is prompt_is helper_is screen_is coming_is bound_is a b d e =
     let adds : config.auto_add_history ≡ true = ap (λ (x : Config). x.auto_add_history) config_is in
-    let read = reads_line held failed edit_helping config custom prompt helper old display ring ring' history history' feed feed' ran left ends fresh adds a b d e runs told in
+    let read = reads_line held waits failed edit_helping config custom prompt helper old display ring ring' history history' feed feed' ran left ends fresh adds a b d e runs told in
     let columns : Config → Screen = λ x. record { columns = options.columns; mode = x.grapheme_cluster_mode; bell = x.bell_style } in
     let given_is : given_by config custom prompt (screen_of old) (edit_helping helper) ≡ given_by_options options words =
     ap (λ (x : Screen). given_by config custom prompt x (edit_helping helper)) screen_is

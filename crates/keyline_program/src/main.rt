@@ -103,7 +103,8 @@ fn play<K: Foretold>(
 ) -> Result<Played<K>, ReadlineError>
     requires { (2 ≤ options.now.columns) × (options.now.columns ≤ 1000) }
     ensures { let known = known_by ⟦<ReadSource<StdinLock<'static>, K> as Source>⟧.feed
-        ⟦<WriteSink<Stderr> as Sink>⟧.held ⟦<WriteSink<Stderr> as Sink>⟧.has_failed
+        ⟦<WriteSink<Stderr> as Sink>⟧.held ⟦<WriteSink<Stderr> as Sink>⟧.waits
+        ⟦<WriteSink<Stderr> as Sink>⟧.has_failed
         ⟦<WriteSink<Stdout> as Sink>⟧.held ⟦<WriteSink<Stdout> as Sink>⟧.has_failed in
         IfOk result (PlaysOver known ⟦<VecSink as Sink>⟧.held ⟦<VecSink as Sink>⟧.has_failed
         options.now (texts_of words) old.now K.bytes K.last) }

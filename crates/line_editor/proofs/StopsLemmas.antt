@@ -23,10 +23,6 @@ abbrev pub draws : Call → Bool
 draws (Help fails) = false
 draws call = true
 
-pub made_by : {R : Type 0} (canvas : Canvas R) (call : Call) (old new : R) → draws call ≡ true → canvas.made old call new → MadeIn canvas old call new
-made_by canvas (Help fails) old new is h = absurd (true≢false (sym is))
-made_by canvas _ old new is h = h
-
 refused_by : {R : Type 0} (canvas : Canvas R) (call : Call) (old new : R) → draws call ≡ true → canvas.refused old call new → RefusedIn canvas old call new
 refused_by canvas (Help fails) old new is h = absurd (true≢false (sym is))
 refused_by canvas _ old new is h = h
@@ -35,13 +31,6 @@ refused_by canvas _ old new is h = h
 pub broken_refused : {R : Type 0} (canvas : Canvas R) (call : Call) (calls : List Call) (old new : R) → draws call ≡ true → canvas.refused old call new → BrokenOff canvas (call ∷ calls) old new
 unfolding BrokenOff
 broken_refused canvas call calls old new is h = inl (refused_by canvas call old new is h)
-
--- the first of two was refused, or it was made and the second one was refused
-pub broken_both : {R : Type 0} (canvas : Canvas R) (first second : Call) (old new : R) → draws first ≡ true → draws second ≡ true
-    → canvas.refused old first new ⊎ ((between : R) × canvas.made old first between × canvas.refused between second new) → BrokenOff canvas (first ∷ second ∷ []) old new
-unfolding BrokenOff
-broken_both canvas first second old new is also (inl h) = broken_refused canvas first (second ∷ []) old new is h
-broken_both canvas first second old new is also (inr (between, h, k)) = inr (between, made_by canvas first old between is h, broken_refused canvas second [] between new also k)
 
 pub folds_both : {R : Type 0} (made : R → Call → R → Type 0) (calls more : List Call) (old between new : R) → FoldsTo made old calls between → FoldsTo made between more new
     → FoldsTo made old (calls ++ more) new

@@ -23,6 +23,8 @@ pub data Call : Type 0 where
   ClearScreen : Call
   ClearRows : (layout : Layout) → Call
   ClearToEol : Call
+  -- a move, and the row erased from there to its end
+  MoveAndClearToEol : (old new : Position) → Call
   ToLeftmost : Call
   -- the helper is asked, and gives an answer or fails; nothing is drawn
   Help : (fails : Bool) → Call
@@ -49,19 +51,6 @@ pub record Makes {R A : Type 0} (canvas : Canvas R) (call : Call) (old new : R)
     (result : Result A ReadlineError) : Type 0 where
   pub made : OnOk result (canvas.made old call new)
   pub refused : OnErr result (canvas.refused old call new)
-  pub fault : IfErr result (λ e. e ≡ Display)
-  pub failed : OnErr result (IsTrue (canvas.failed new))
-  pub ruler : canvas.ruler new ≡ canvas.ruler old
-
--- two calls are made, one after the other; or the first is refused since the display has failed, or
--- it is made and the second is refused
-pub record MakesBoth {R A : Type 0} (canvas : Canvas R) (first second : Call) (old new : R)
-    (result : Result A ReadlineError) : Type 0 where
-  pub made : OnOk result
-      ((between : R) × canvas.made old first between × canvas.made between second new)
-  pub refused : OnErr result
-      (canvas.refused old first new
-      ⊎ ((between : R) × canvas.made old first between × canvas.refused between second new))
   pub fault : IfErr result (λ e. e ≡ Display)
   pub failed : OnErr result (IsTrue (canvas.failed new))
   pub ruler : canvas.ruler new ≡ canvas.ruler old

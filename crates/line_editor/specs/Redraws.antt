@@ -7,7 +7,7 @@ use Rattle.line_buffer.specs.declared.layout.GraphemeClusterMode.{GraphemeCluste
 use Rattle.line_buffer.specs.declared.layout.Layout.{Layout}
 use Rattle.line_buffer.specs.declared.layout.Position.{Position}
 use Rattle.line_editor.specs.Calls.{Call, Marks, Ruler}
-use Rattle.line_editor.specs.Calls.Call.{Draw, Move, Write, Beep, ClearScreen, ClearToEol}
+use Rattle.line_editor.specs.Calls.Call.{Draw, Move, Write, Beep, ClearScreen, MoveAndClearToEol}
 
 -- it knows of no columns
 pub data Redraw : Type 0 where
@@ -96,7 +96,7 @@ typed_short l c = record {
 -- the rest of the row erased
 abbrev pub taken_short : Layout → ℕ → Asked
 taken_short l count = record {
-  calls = Move l.cursor (column_back count l.end) ∷ (ClearToEol ∷ []);
+  calls = MoveAndClearToEol l.cursor (column_back count l.end) ∷ [];
   layout = record l { cursor = column_back count l.end; end = column_back count l.end };
 }
 

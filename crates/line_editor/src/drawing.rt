@@ -101,7 +101,7 @@ fn draw_over<Out: Renderer, H: Highlighter>(
     Ok(layout)
 }
 
-#[tactic(auto, using(crate::proofs::StopsLemmas::stops_drawing, crate::proofs::StopsLemmas::broken_refused, crate::proofs::StopsLemmas::broken_both))]
+#[tactic(auto, using(crate::proofs::StopsLemmas::stops_drawing, crate::proofs::StopsLemmas::broken_refused))]
 impl<'p, 'h, Out: Renderer, H: Helper + Drop, Hi: History> State<'p, 'h, Out, H, Hi> {
     ghost use Rattle.line_editor.specs.States.{value_of, setting_of, Stays, Does, Helps};
     ghost use Rattle.line_editor.specs.Values.{hint_reply, with_hint, with_mark};

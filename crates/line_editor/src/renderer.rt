@@ -3,8 +3,8 @@ ghost use Rattle.std.specs.Prelude.{◌≡◌, true, take, Some, OnErr, IfErr, I
 ghost use Rattle.line_edits.specs.Plain.{is_plain};
 ghost use Rattle.line_editor.specs.Known.{IsKnown};
 ghost use Rattle.line_config.specs.declared.errors.ReadlineError.TheVariants.{Display};
-ghost use Rattle.line_editor.specs.Calls.{Canvas, Makes, MakesBoth, Idles};
-ghost use Rattle.line_editor.specs.Calls.Call.{Draw, Move, Write, Beep, ClearScreen, ClearRows, ClearToEol, ToLeftmost};
+ghost use Rattle.line_editor.specs.Calls.{Canvas, Makes, Idles};
+ghost use Rattle.line_editor.specs.Calls.Call.{Draw, Move, Write, Beep, ClearScreen, ClearRows, ClearToEol, MoveAndClearToEol, ToLeftmost};
 ghost use Rattle.line_editor.specs.Redraws.{layout_of};
 
 use line_buffer::{GraphemeClusterMode, Layout, LineBuffer, Position, Unit};
@@ -68,13 +68,9 @@ pub trait Renderer: Drop {
     fn clear_to_eol(&mut self) -> Result<(), ReadlineError>
         ensures { Makes canvas ClearToEol self.old self.new result };
 
-    /// `move_cursor`, and then `clear_to_eol`.
+    /// Moves the cursor, and erases from there to its row's end.
     fn move_and_clear_to_eol(&mut self, old: Position, new: Position) -> Result<(), ReadlineError>
-        ensures { MakesBoth canvas (Move old new) ClearToEol self.old self.new result }
-    {
-        self.move_cursor(old, new)?;
-        self.clear_to_eol()
-    }
+        ensures { Makes canvas (MoveAndClearToEol old new) self.old self.new result };
 
     /// Moves the cursor to its row's first cell, if the display left it elsewhere.
     fn move_cursor_at_leftmost(&mut self) -> Result<(), ReadlineError>

@@ -7,7 +7,7 @@ use Rattle.std.proofs.lemmas.Bool.Decides.{nat_tests}
 use Rattle.line_buffer.specs.declared.layout.Position.{Position}
 use Rattle.line_buffer.specs.Cells.{origin}
 use Rattle.line_editor.specs.Calls.{Call}
-use Rattle.line_editor.specs.Calls.Call.{Draw, Move, Write, Beep, ClearScreen, ClearRows, ClearToEol, ToLeftmost, Help}
+use Rattle.line_editor.specs.Calls.Call.{Draw, Move, Write, Beep, ClearScreen, ClearRows, ClearToEol, MoveAndClearToEol, ToLeftmost, Help}
 use Rattle.line_screen.specs.Calls.{Screen, bytes_of}
 use Rattle.line_screen.specs.Cells.{Cell, cell_at}
 use Rattle.line_screen.specs.Cells.Cell.{Head, Tail}
@@ -56,6 +56,8 @@ top_grows s a b Beep h none = let same : b.top ≡ a.top = ap (λ (w : View). w.
 top_grows s a b ClearScreen h none = absurd (none refl)
 top_grows s a b (ClearRows layout) h none = let same : b.top ≡ a.top = ap (λ (w : View). w.top) h.1 in omega arith
 top_grows s a b ClearToEol h none = let same : b.top ≡ a.top = ap (λ (w : View). w.top) h.view in omega arith
+top_grows s a b (MoveAndClearToEol old new) h none =
+    let same : b.top ≡ a.top = ap (λ (w : View). w.top) h.2.view ∙ ap (λ (w : View). w.top) h.1.view in omega arith
 top_grows s a b ToLeftmost h none = let same : b.top ≡ a.top = ap (λ (w : View). w.top) h in omega arith
 top_grows s a b (Help fails) h none = let same : b.top ≡ a.top = ap (λ (w : View). w.top) h in omega arith
 

@@ -12,10 +12,10 @@ use Rattle.line_buffer.specs.declared.layout.Position.{Position}
 use Rattle.line_config.specs.declared.settings.BellStyle.{BellStyle}
 use Rattle.line_config.specs.declared.settings.BellStyle.TheVariants as Bells
 use Rattle.line_editor.specs.Calls.{Call}
-use Rattle.line_editor.specs.Calls.Call.{Draw, Move, Write, Beep, ClearScreen, ClearRows, ClearToEol, ToLeftmost, Help}
+use Rattle.line_editor.specs.Calls.Call.{Draw, Move, Write, Beep, ClearScreen, ClearRows, ClearToEol, MoveAndClearToEol, ToLeftmost, Help}
 use Rattle.line_editor.specs.Redraws.{info_text}
 use Rattle.line_screen.specs.Calls.{Screen, bytes_of, bell_bytes, old_row, drawing_bytes}
-use Rattle.line_screen.specs.Chain.{View, Good, Inside, empty_view, Replaces, Redraws, is_simple, with_letter, Types, ClosesLine, cut_line, LeadsView, with_place}
+use Rattle.line_screen.specs.Chain.{View, Good, Inside, empty_view, Replaces, Redraws, is_simple, with_letter, Types, ClosesLine, cut_line, LeadsView, with_place, Moves, ErasesKilled}
 use Rattle.line_screen.specs.Display.{Placed, Display, read, start, put_down, is_printable, right, ends_before, starts_before, is_cut, stays_in_row, at_cursor, erased_below, erased_right}
 use Rattle.line_screen.specs.Display.DisplayReading.{Text, Lost}
 use Rattle.line_screen.specs.Drawing.{text_items, next_row, leave, place_after, placed_at, lay, row_break, erase_to_end, erase_to_row_end, go_home, clearing_bytes, move_bytes, drawing, full_drawing}
@@ -424,15 +424,25 @@ write_led s some few bytes over a b text g (inr t) =
       stays = λ _. done.2;
     }
 
+module _ (s : Screen) (some : 1 ≤ s.columns) (few : s.columns < 2 ^ 64) (bytes : List ℕ) (over : List Placed) (a b : View)
+    (g : Good s.columns (cluster_width s.mode s.columns) bytes over a) where
+  moved_good : (old new : Position) → Moves s.columns a old new b → Good s.columns (cluster_width s.mode s.columns) (bytes ++ move_bytes old new) over b
+  moved_good old new h =
+      subst (λ p. Good s.columns (cluster_width s.mode s.columns) (bytes ++ move_bytes p new) over b) (sym h.old_is)
+      (subst (Good s.columns (cluster_width s.mode s.columns) (bytes ++ move_bytes a.place new) over) (sym h.view)
+      (retold s.columns (cluster_width s.mode s.columns) (bytes ++ move_bytes a.place new) over (record { shown = a.shown; top = a.top; place = new }) h.at (move_good s.mode s.columns some few bytes over a new g h.inside)))
+
+  erased_good : ErasesKilled s.columns (cluster_width s.mode s.columns) a b → Good s.columns (cluster_width s.mode s.columns) (bytes ++ erase_to_row_end) over b
+  erased_good h =
+      subst (Good s.columns (cluster_width s.mode s.columns) (bytes ++ erase_to_row_end) over) (sym h.view)
+      (kills_good s.mode s.columns some few bytes over a h.line h.killed g h.whole h.info h.simple h.printable h.room h.place_is)
+
 pub leads : (s : Screen) → 1 ≤ s.columns → s.columns < 2 ^ 64 → (bytes : List ℕ) (over : List Placed) (a b : View) (call : Call) → Good s.columns (cluster_width s.mode s.columns) bytes over a
     → LeadsView s.columns (cluster_width s.mode s.columns) a call b → Led s bytes over a call b
 leads s some few bytes over a b (Draw prompt text place info old new marks) g h =
     same_over s bytes over a (Draw prompt text place info old new marks) b g (draw_good s.mode s.columns some few bytes over a b (old_row old) prompt text (info_text info) new.end new.cursor g h.0 h.1)
 leads s some few bytes over a b (Move old new) g h =
-    same_over s bytes over a (Move old new) b g
-    (subst (λ p. Good s.columns (cluster_width s.mode s.columns) (bytes ++ move_bytes p new) over b) (sym h.old_is)
-    (subst (Good s.columns (cluster_width s.mode s.columns) (bytes ++ move_bytes a.place new) over) (sym h.view)
-    (retold s.columns (cluster_width s.mode s.columns) (bytes ++ move_bytes a.place new) over (record { shown = a.shown; top = a.top; place = new }) h.at (move_good s.mode s.columns some few bytes over a new g h.inside))))
+    same_over s bytes over a (Move old new) b g (moved_good s some few bytes over a b g old new h)
 leads s some few bytes over a b (Write text) g h = write_led s some few bytes over a b text g h
 leads s some few bytes over a b Beep g h =
     same_over s bytes over a Beep b g (subst (Good s.columns (cluster_width s.mode s.columns) (bytes ++ bell_bytes s.bell) over) (sym h) (beep_good s.mode s.columns some few bytes over a s.bell g))
@@ -447,9 +457,12 @@ leads s some few bytes over a b (ClearRows layout) g h =
     (subst (λ n. Good s.columns (cluster_width s.mode s.columns) (bytes ++ clearing_bytes n) over b) (sym h.0)
     (subst (Good s.columns (cluster_width s.mode s.columns) (bytes ++ clearing_bytes a.place.row) over) (sym h.1) (rows_good s.mode s.columns some few bytes over a g)))
 leads s some few bytes over a b ClearToEol g h =
-    same_over s bytes over a ClearToEol b g
-    (subst (Good s.columns (cluster_width s.mode s.columns) (bytes ++ erase_to_row_end) over) (sym h.view)
-    (kills_good s.mode s.columns some few bytes over a h.line h.killed g h.whole h.info h.simple h.printable h.room h.place_is))
+    same_over s bytes over a ClearToEol b g (erased_good s some few bytes over a b g h)
+leads s some few bytes over a b (MoveAndClearToEol old new) g h =
+    let moved = moved_good s some few bytes over a h.0 g old new h.1 in
+    let erased = erased_good s some few (bytes ++ move_bytes old new) over h.0 b moved h.2 in
+    same_over s bytes over a (MoveAndClearToEol old new) b g
+    (subst (λ x. Good s.columns (cluster_width s.mode s.columns) x over b) (append_assoc bytes (move_bytes old new) erase_to_row_end) erased)
 leads s some few bytes over a b ToLeftmost g h =
     same_over s bytes over a ToLeftmost b g
     (subst (λ x. Good s.columns (cluster_width s.mode s.columns) x over b) (sym (append-nil bytes)) (subst (Good s.columns (cluster_width s.mode s.columns) bytes over) (sym h) g))

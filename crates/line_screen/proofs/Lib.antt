@@ -36,4 +36,5 @@ pub mod ShortLemmas
 pub mod Standing
 pub mod Steps
 pub mod Stopping
+pub mod WaitingLemmas
 pub mod WideLemmas

@@ -76,13 +76,8 @@ killing_leads s low high a line killed place whole none simple inside row e =
     let new_cursor : place ≡ cursor_of columns wide (cut_line v line) = at_there ∙ sym (line_cursor s.mode columns (omega arith) (omega arith) (cut_line v line) refl) in
     let place_row : place.row < 2 ^ 64 = let known = ap (λ p. p.row) at_there in let few = inside.row in omega arith in
     let place_col : place.col < columns = subst (λ p. p.col < columns) (sym at_there) low_there in
-    let moved : View = record { shown = v; top = a.top; place = place } in
-    let cut : View = record { shown = cut_line v line; top = a.top; place = place } in (
+    let moved : View = record { shown = v; top = a.top; place = place } in (
       moved,
       record { old_is = refl; inside = record { row = place_row; col = place_col }; at = v.place; view = refl },
-      (
-        cut,
-        record { line = line; killed = killed; whole = whole; info = none; simple = simple; printable = parts.0; room = room; place_is = new_cursor; view = refl },
-        refl,
-      ),
+      record { line = line; killed = killed; whole = whole; info = none; simple = simple; printable = parts.0; room = room; place_is = new_cursor; view = refl },
     )

@@ -10,7 +10,7 @@ use Rattle.line_config.specs.Sending.{Takes, TakesSome}
 use Rattle.line_config.specs.declared.settings.BellStyle.{BellStyle}
 use Rattle.line_config.specs.declared.settings.BellStyle.TheVariants.{Audible}
 use Rattle.line_editor.specs.Calls.{Call, Canvas, Ruler}
-use Rattle.line_editor.specs.Calls.Call.{Draw, Move, Write, Beep, ClearScreen, ClearRows, ClearToEol, ToLeftmost, Help}
+use Rattle.line_editor.specs.Calls.Call.{Draw, Move, Write, Beep, ClearScreen, ClearRows, ClearToEol, MoveAndClearToEol, ToLeftmost, Help}
 use Rattle.line_editor.specs.Redraws.{info_text}
 use Rattle.line_screen.specs.Drawing.{drawing, full_drawing, clearing_bytes, move_bytes, erase_to_end, erase_to_row_end, go_home}
 use Rattle.line_screen.specs.Measure.{cluster_width, measure_of}
@@ -66,6 +66,7 @@ bytes_of s Beep = bell_bytes s.bell
 bytes_of s ClearScreen = go_home ++ erase_to_end
 bytes_of s (ClearRows layout) = clearing_bytes layout.cursor.row
 bytes_of s ClearToEol = erase_to_row_end
+bytes_of s (MoveAndClearToEol old new) = move_bytes old new ++ erase_to_row_end
 bytes_of s ToLeftmost = []
 bytes_of s (Help fails) = []
 
@@ -74,10 +75,12 @@ abbrev pub display_answer : {A : Type 0} → Result A DeviceFailed → Result A 
 display_answer (Ok x) = Ok x
 display_answer (Err e) = Err Refusal.Display
 
--- bytes were sent and the sink works as before; the screen stays as it is
-pub record Sent {D : Type 0} (held : D → List ℕ) (failed : D → Bool) (bytes : List ℕ)
+-- bytes were sent and passed on: where nothing waited before, nothing waits now. The sink works as
+-- before, and the screen stays as it is
+pub record Sent {D : Type 0} (held waits : D → List ℕ) (failed : D → Bool) (bytes : List ℕ)
     (old new : ScreenRenderer D) : Type 0 where
   pub takes : Takes held (sink_of old) (sink_of new) bytes
+  pub passes : waits (sink_of old) ≡ [] → waits (sink_of new) ≡ []
   pub works : failed (sink_of new) ≡ failed (sink_of old)
   pub screen : screen_of new ≡ screen_of old
 
@@ -88,10 +91,11 @@ pub record Unsent {D : Type 0} (held : D → List ℕ) (failed : D → Bool) (by
   pub fails : IsTrue (failed (sink_of new))
   pub screen : screen_of new ≡ screen_of old
 
--- a screen as a renderer: a call that it makes sends the call's bytes
-abbrev pub canvas_of : {D : Type 0} → (D → List ℕ) → (D → Bool) → Canvas (ScreenRenderer D)
-canvas_of held failed = record {
-  made = λ old call new. Sent held failed (bytes_of (screen_of old) call) old new;
+-- a screen as a renderer: a call that it makes sends the call's bytes, and passes them on
+abbrev pub canvas_of : {D : Type 0} → (D → List ℕ) → (D → List ℕ) → (D → Bool)
+    → Canvas (ScreenRenderer D)
+canvas_of held waits failed = record {
+  made = λ old call new. Sent held waits failed (bytes_of (screen_of old) call) old new;
   refused = λ old call new. Unsent held failed (bytes_of (screen_of old) call) old new;
   failed = λ r. failed (sink_of r);
   ruler = λ r. ruler_of (screen_of r);

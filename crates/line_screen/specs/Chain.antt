@@ -4,7 +4,7 @@ use Rattle.std.specs.List.{list_all, filter}
 use Rattle.line_buffer.specs.Cells.{origin}
 use Rattle.line_buffer.specs.declared.layout.Position.{Position}
 use Rattle.line_editor.specs.Calls.{Call}
-use Rattle.line_editor.specs.Calls.Call.{Draw, Move, Write, Beep, ClearScreen, ClearRows, ClearToEol, ToLeftmost, Help}
+use Rattle.line_editor.specs.Calls.Call.{Draw, Move, Write, Beep, ClearScreen, ClearRows, ClearToEol, MoveAndClearToEol, ToLeftmost, Help}
 use Rattle.line_editor.specs.Redraws.{info_text}
 use Rattle.line_screen.specs.Calls.{old_row}
 use Rattle.line_screen.specs.Display.{Display, Placed, is_printable, read, start}
@@ -135,5 +135,7 @@ LeadsView columns wide a ClearScreen b = b ≡ empty_view 0
 LeadsView columns wide a (ClearRows layout) b = (layout.cursor.row ≡ a.place.row)
     × (b ≡ empty_view a.top)
 LeadsView columns wide a ClearToEol b = ErasesKilled columns wide a b
+LeadsView columns wide a (MoveAndClearToEol old new) b =
+    (moved : View) × Moves columns a old new moved × ErasesKilled columns wide moved b
 LeadsView columns wide a ToLeftmost b = b ≡ a
 LeadsView columns wide a (Help fails) b = b ≡ a

@@ -21,4 +21,5 @@ pub mod Sequences
 pub mod Short
 pub mod Showing
 pub mod Unread
+pub mod Waiting
 pub mod WholeSequences

@@ -1,11 +1,11 @@
 -- The short ways at the end of a line: one more character written, or the last ones erased, without
 -- a new drawing.
 use Rattle.std.specs.Prelude.{◌≡◌, ℕ, ◌≤◌, true, List, [], ◌∷◌, ◌++◌, length, Option, Some}
-use Rattle.std.specs.List.{list_all, FoldsTo}
+use Rattle.std.specs.List.{list_all}
 use Rattle.line_buffer.specs.declared.layout.Position.{Position}
 use Rattle.line_buffer.specs.Short.{behind_typed, before_killed}
 use Rattle.line_screen.specs.Calls.{Screen}
-use Rattle.line_editor.specs.Calls.Call.{Move, Write, ClearToEol}
+use Rattle.line_editor.specs.Calls.Call.{Write, MoveAndClearToEol}
 use Rattle.line_screen.specs.Chain.{View, Inside, LeadsView, is_simple, with_letter, cut_line}
 use Rattle.line_screen.specs.Laws.{widths}
 use Rattle.line_screen.specs.Showing.{finish_of, cursor_of}
@@ -35,5 +35,5 @@ KillingLeads =
     → a.shown.line ≡ line ++ killed → a.shown.info ≡ [] → list_all is_simple line ≡ true
     → Inside s.columns a.place → a.place.row ≡ (finish_of s.columns (widths s) a.shown).row
     → before_killed killed (finish_of s.columns (widths s) a.shown) ≡ Some place
-    → FoldsTo (LeadsView s.columns (widths s)) a (Move a.place place ∷ ClearToEol
-    ∷ []) (record { shown = cut_line a.shown line; top = a.top; place = place })
+    → LeadsView s.columns (widths s) a (MoveAndClearToEol a.place place)
+    (record { shown = cut_line a.shown line; top = a.top; place = place })

@@ -5,7 +5,10 @@ ghost use Rattle.line_screen.specs.Following.{WholeKeysStay};
 ghost use Rattle.line_screen.specs.Short.{TypingLeads, KillingLeads};
 ghost use Rattle.line_screen.specs.Laws.{FullDrawingShows, StartIsEmpty, CallsLead, ChainsLead, PlaceIsFree, LineEndsAnywhere, EndedLineStays, MeasuresGoOn, ShownIsMeant, CellsAreShown};
 ghost use Rattle.line_screen.specs.Pasting.{PastedTextIsBeforeItsMark, PastedTextIsCutOff};
+ghost use Rattle.line_screen.specs.Waiting.{ReadsFindNothingWaiting};
 ghost use Rattle.line_screen.specs.WholeSequences.{ControlIsOneKey};
+
+use line_config::Sink;
 
 /// A full drawing shows the value that it was given, whatever stood from its top on, and keeps the
 /// rows above.
@@ -23,6 +26,12 @@ pub fn start()
 /// the next.
 pub fn calls()
     ensures { CallsLead }
+{}
+
+/// Whenever a key is read, the device below the screen's sink has taken every byte that was drawn:
+/// where nothing waits in the sink as a line begins, nothing waits between its calls.
+pub fn reads_find_nothing_waiting<D: Sink>()
+    ensures { ReadsFindNothingWaiting D.held D.waits D.has_failed }
 {}
 
 /// Where a short insertion is offered, its byte leads to the line with the character.

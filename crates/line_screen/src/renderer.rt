@@ -3,7 +3,7 @@
 ghost use Rattle.std.specs.Prelude.{◌≡◌, ◌≤◌, ◌++◌, ◌∷◌, [], IsTrue, OnOk, OnErr, IfErr, false};
 ghost use Rattle.line_screen.specs.Calls.{Screen, screen_of, sink_of, canvas_of, display_answer};
 
-use crate::drawing::sequences::{clear, go, send_flushed, send_move};
+use crate::drawing::sequences::{clear, go, move_and_erase, send_flushed};
 use crate::drawing::whole::{Shown, draw};
 use crate::grid::Grid;
 use crate::measuring::{measure, measure_on};
@@ -75,7 +75,7 @@ impl<D: Sink> ScreenRenderer<D> {
 }
 
 impl<D: Sink + Drop> Renderer for ScreenRenderer<D> {
-    ghost canvas = { canvas_of D.held D.has_failed };
+    ghost canvas = { canvas_of D.held D.waits D.has_failed };
 
     /// Writes nothing where the two cells are one.
     fn move_cursor(&mut self, old: Position, new: Position) -> Result<(), ReadlineError> {
@@ -131,8 +131,7 @@ impl<D: Sink + Drop> Renderer for ScreenRenderer<D> {
 
     /// The bytes of both go out together.
     fn move_and_clear_to_eol(&mut self, old: Position, new: Position) -> Result<(), ReadlineError> {
-        answer(send_move(&mut self.sink, old, new))?;
-        self.clear_to_eol()
+        answer(move_and_erase(&mut self.sink, old, new))
     }
 
     /// Writes nothing: no call leaves the cursor elsewhere.

@@ -1,7 +1,7 @@
 //! Control sequences of ECMA-48.
 
-ghost use Rattle.std.specs.Prelude.{◌≡◌, [], IsTrue, OnOk, OnErr};
-ghost use Rattle.line_screen.specs.Drawing.{control_sequence, row_move, col_move, move_bytes, clearing_bytes};
+ghost use Rattle.std.specs.Prelude.{◌≡◌, ◌++◌, [], IsTrue, OnOk, OnErr};
+ghost use Rattle.line_screen.specs.Drawing.{control_sequence, row_move, col_move, move_bytes, clearing_bytes, erase_to_row_end};
 ghost use Rattle.line_config.specs.Sending.{Sends};
 
 use itoa::Buffer;
@@ -71,13 +71,15 @@ pub(crate) fn send_cleared<D: Sink>(sink: &mut D, row: Unit) -> Result<(), Devic
 
 /// Passes on what was written.
 pub(crate) fn flush<D: Sink>(sink: &mut D) -> Result<(), DeviceFailed>
-    ensures { Sends D.held D.has_failed [] sink.old sink.new result }
+    ensures sends { Sends D.held D.has_failed [] sink.old sink.new result }
+    ensures passes { OnOk result (D.waits sink.new ≡ []) }
 {
     sink.flush()
 }
 
 pub(crate) fn send_flushed<D: Sink>(sink: &mut D, bytes: &[u8]) -> Result<(), DeviceFailed>
-    ensures { Sends D.held D.has_failed bytes.now sink.old sink.new result }
+    ensures sends { Sends D.held D.has_failed bytes.now sink.old sink.new result }
+    ensures passes { OnOk result (D.waits sink.new ≡ []) }
 {
     send(sink, bytes)?;
     flush(sink)
@@ -85,17 +87,33 @@ pub(crate) fn send_flushed<D: Sink>(sink: &mut D, bytes: &[u8]) -> Result<(), De
 
 /// The way from one cell to another, passed on; nothing is written where they are one.
 pub(crate) fn go<D: Sink>(sink: &mut D, old: Position, new: Position) -> Result<(), DeviceFailed>
-    ensures { Sends D.held D.has_failed (move_bytes old new) sink.old sink.new result }
+    ensures sends { Sends D.held D.has_failed (move_bytes old new) sink.old sink.new result }
+    ensures passes { OnOk result (D.waits sink.old ≡ [] → D.waits sink.new ≡ []) }
 {
-    send_move(sink, old, new)?;
     if old.row == new.row && old.col == new.col {
         return Ok(());
     }
+    send_move(sink, old, new)?;
     flush(sink)
 }
 
+/// The way from one cell to another, and the rest of that one's row erased, passed on together.
+pub(crate) fn move_and_erase<D: Sink>(
+    sink: &mut D,
+    old: Position,
+    new: Position,
+) -> Result<(), DeviceFailed>
+    ensures sends { Sends D.held D.has_failed (move_bytes old new ++ erase_to_row_end)
+        sink.old sink.new result }
+    ensures passes { OnOk result (D.waits sink.new ≡ []) }
+{
+    send_move(sink, old, new)?;
+    send_flushed(sink, b"\x1B[K")
+}
+
 pub(crate) fn clear<D: Sink>(sink: &mut D, row: Unit) -> Result<(), DeviceFailed>
-    ensures { Sends D.held D.has_failed (clearing_bytes row) sink.old sink.new result }
+    ensures sends { Sends D.held D.has_failed (clearing_bytes row) sink.old sink.new result }
+    ensures passes { OnOk result (D.waits sink.new ≡ []) }
 {
     send_cleared(sink, row)?;
     flush(sink)

@@ -69,11 +69,12 @@ fn send_drawing<D: Sink>(sink: &mut D, grid: Grid, shown: Shown) -> Result<(), D
 
 /// A drawing from the cursor on, passed on.
 fn draw_new<D: Sink>(sink: &mut D, grid: Grid, shown: Shown) -> Result<(), DeviceFailed>
-    ensures { Sends D.held D.has_failed
+    ensures sends { Sends D.held D.has_failed
         (drawing grid.columns (cluster_width grid.mode grid.columns)
         shown.entry.prompt.now shown.entry.line.now shown.entry.info.now
         shown.entry.end shown.entry.cursor)
         sink.old sink.new result }
+    ensures passes { OnOk result (D.waits sink.new ≡ []) }
 {
     send_drawing(sink, grid, shown)?;
     flush(sink)
@@ -81,11 +82,12 @@ fn draw_new<D: Sink>(sink: &mut D, grid: Grid, shown: Shown) -> Result<(), Devic
 
 /// The same in the place of a drawing whose cursor stands in its row `row`.
 fn draw_over<D: Sink>(sink: &mut D, grid: Grid, row: Unit, shown: Shown) -> Result<(), DeviceFailed>
-    ensures { Sends D.held D.has_failed
+    ensures sends { Sends D.held D.has_failed
         (full_drawing grid.columns (cluster_width grid.mode grid.columns) row
         shown.entry.prompt.now shown.entry.line.now shown.entry.info.now
         shown.entry.end shown.entry.cursor)
         sink.old sink.new result }
+    ensures passes { OnOk result (D.waits sink.new ≡ []) }
 {
     send_cleared(sink, row)?;
     draw_new(sink, grid, shown)
@@ -99,11 +101,12 @@ pub(crate) fn draw<D: Sink>(
     old_row: Option<Unit>,
     shown: Shown,
 ) -> Result<(), DeviceFailed>
-    ensures { Sends D.held D.has_failed
+    ensures sends { Sends D.held D.has_failed
         (drawing_bytes grid.columns (cluster_width grid.mode grid.columns) old_row
         shown.entry.prompt.now shown.entry.line.now shown.entry.info.now
         shown.entry.end shown.entry.cursor)
         sink.old sink.new result }
+    ensures passes { OnOk result (D.waits sink.new ≡ []) }
 {
     match old_row {
         Some(row) => draw_over(sink, grid, row, shown),

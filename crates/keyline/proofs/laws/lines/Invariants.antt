@@ -11,7 +11,7 @@ use Rattle.keyline.proofs.laws.lines.Given as goal
 
 abbrev pub invariant-loop-prompter : goal.invariant-loop-prompter
 invariant-loop-prompter g l =
-    let k = known_by g.S.Source.feed g.D.Sink.held g.D.Sink.has_failed g.L.Sink.held g.L.Sink.has_failed in
+    let k = known_by g.S.Source.feed g.D.Sink.held g.D.Sink.waits g.D.Sink.has_failed g.L.Sink.held g.L.Sink.has_failed in
     let helps = helping_by g.H.Hinter.hint_of g.H.Validator.verdict_of g.H.Completer.completion_of g.H.Completer.update_of g.H.Highlighter.marks in
     let decides = g.B.Decides.decides in
     let first = l.fn.session in
@@ -22,4 +22,4 @@ invariant-loop-prompter g l =
 
 abbrev pub decreases-loop-prompter : goal.decreases-loop-prompter
 decreases-loop-prompter g l =
-    (feed_of (known_by g.S.Source.feed g.D.Sink.held g.D.Sink.has_failed g.L.Sink.held g.L.Sink.has_failed) l.session.desk).bound
+    (feed_of (known_by g.S.Source.feed g.D.Sink.held g.D.Sink.waits g.D.Sink.has_failed g.L.Sink.held g.L.Sink.has_failed) l.session.desk).bound

@@ -11,7 +11,7 @@ use Rattle.keyline.proofs.desk.Desk.one_line.Goals as goal
 
 pub returns : goal.returns
 returns g c =
-    let k = known_by g.S.Source.feed g.D.Sink.held g.D.Sink.has_failed g.L.Sink.held g.L.Sink.has_failed in
+    let k = known_by g.S.Source.feed g.D.Sink.held g.D.Sink.waits g.D.Sink.has_failed g.L.Sink.held g.L.Sink.has_failed in
     let helps = helping_by g.H.Hinter.hint_of g.H.Validator.verdict_of g.H.Completer.completion_of g.H.Completer.update_of g.H.Highlighter.marks in
     let ran = c.run-out.result in
     let Ends : Bool → Type 0 = λ adds. Closes k.shown k.show_failed k.written_in k.write_failed adds (outcome_of ran)
