@@ -1,5 +1,5 @@
 -- The clusters of a text that is joined at a newline, and of a text of printable ASCII and newlines.
-use Rattle.std.proofs.Common.{◌≡◌, ◌≢◌, ℕ, zero, suc, ◌+◌, ◌<◌, ◌≤◌, ◌==◌, ◌⊎◌, inl, inr, Bool, true, false, not, cond, ◌&&◌, ◌||◌, List, [], ◌∷◌, ◌++◌, length, get_or, map, Option, None, Some, unwrap_or, refl, sym, ap, ap₂, ◌∙◌, arith, eqb-true, slice_index}
+use Rattle.std.proofs.Common.{◌≡◌, ◌≢◌, ℕ, zero, suc, ◌+◌, ◌<◌, ◌≤◌, ◌==◌, ◌⊎◌, inl, inr, Bool, true, false, not, cond, ◌&&◌, ◌||◌, List, [], ◌∷◌, ◌++◌, length, get_or, map, take, Option, None, Some, unwrap_or, refl, sym, ap, ap₂, ◌∙◌, arith, eqb-true, slice_index}
 use Rattle.std.specs.Prelude.{All, IsUtf8, chars, encode_utf8, encode_utf8_all, nat_lt}
 use Rattle.std.specs.List.{last_or, concat}
 use Rattle.std.proofs.lemmas.List.{append-nil, length-append, length-map, map-append}
@@ -251,3 +251,48 @@ graphemes-row xs u other =
     ap (λ cs. map encode_utf8_all (cut (is_grapheme_break true) [] cs [])) (chars-append xs (10 ∷ []) u ∙ ap (λ cs. chars xs ++ cs) (chars-newline [] IsUtf8-nil ∙ ap (λ cs. 10 ∷ cs) chars-nil))
     ∙ ap (map encode_utf8_all) (cut-row (chars xs) [] other) ∙ map-append encode_utf8_all (cut (is_grapheme_break true) [] (chars xs) []) ((10 ∷ []) ∷ [])
     ∙ ap (λ p. graphemes true xs ++ p ∷ []) (append-nil (encode_utf8 10) ∙ encode_ascii 10 (omega arith))
+
+-- ---- two printable characters at a text's end
+cut-letters : (cs before : List ℕ) (p c : ℕ) → IsPlain p → IsPlain c → cut (is_grapheme_break true) before (cs ++ p ∷ c ∷ []) [] ≡ cut (is_grapheme_break true) before (cs ++ p ∷ []) [] ++ (c ∷ []) ∷ []
+unfolding cut is_grapheme_break
+cut-letters [] before p c g h =
+    ap (λ b. cond b ((p ∷ []) ∷ ((c ∷ []) ∷ [])) (prepend (p ∷ []) ((c ∷ []) ∷ []))) (simple-breaks p before c [] (inl g) (inl h))
+cut-letters (d ∷ cs) before p c g h =
+    ap₂ (λ b rest. cond b ((d ∷ []) ∷ rest) (prepend (d ∷ []) rest)) (same_next cs) (cut-letters cs (d ∷ before) p c g h)
+    ∙ cut-join (is_grapheme_break true (d ∷ before) ((cs ++ p ∷ []) ++ [])) d (cut (is_grapheme_break true) (d ∷ before) (cs ++ p ∷ []) []) ((c ∷ []) ∷ []) (some cs)
+  where
+    same_next : (cs : List ℕ) → is_grapheme_break true (d ∷ before) ((cs ++ p ∷ c ∷ []) ++ []) ≡ is_grapheme_break true (d ∷ before) ((cs ++ p ∷ []) ++ [])
+    same_next [] = next_alone (d ∷ before) p ((c ∷ []) ++ []) ([] ++ [])
+    same_next (e ∷ cs) = next_alone (d ∷ before) e ((cs ++ p ∷ c ∷ []) ++ []) ((cs ++ p ∷ []) ++ [])
+
+    some : (cs : List ℕ) → 0 < length (cut (is_grapheme_break true) (d ∷ before) (cs ++ p ∷ []) [])
+    some [] = cut-some (d ∷ before) p []
+    some (e ∷ cs) = cut-some (d ∷ before) e (cs ++ p ∷ [])
+
+graphemes-letters : (text most front : List ℕ) (last previous : ℕ) → chars text ≡ chars front ++ previous ∷ last ∷ [] → chars most ≡ chars front ++ previous ∷ [] → IsPlain previous → IsPlain last
+    → graphemes true text ≡ graphemes true most ++ (last ∷ []) ∷ []
+unfolding segments
+graphemes-letters text most front last previous t m g h =
+    ap (λ cs. map encode_utf8_all (cut (is_grapheme_break true) [] cs [])) t
+    ∙ ap (map encode_utf8_all) (cut-letters (chars front) [] previous last g h)
+    ∙ map-append encode_utf8_all (cut (is_grapheme_break true) [] (chars front ++ previous ∷ []) []) ((last ∷ []) ∷ [])
+    ∙ ap₂ (λ cs p. map encode_utf8_all (cut (is_grapheme_break true) [] cs []) ++ p ∷ []) (sym m) (append-nil (encode_utf8 last) ∙ encode_ascii last (omega (arith, h.1)))
+
+-- the last of them is the last cluster
+pub clusters-letters : (text most front : List ℕ) (last previous : ℕ) → IsUtf8 most → chars text ≡ chars front ++ previous ∷ last ∷ [] → chars most ≡ chars front ++ previous ∷ [] → IsPlain previous → IsPlain last
+    → clusters text ≡ clusters most ++ (length most, last ∷ []) ∷ []
+unfolding with_offsets
+clusters-letters text most front last previous u t m g h =
+    ap (with_offsets 0) (graphemes-letters text most front last previous t m g h) ∙ with_offsets-append 0 (graphemes true most) ((last ∷ []) ∷ [])
+    ∙ ap (λ k. clusters most ++ (k, last ∷ []) ∷ []) (ap (λ bs. 0 + length bs) (concat-segments (is_grapheme_break true) most u) ∙ (let e : 0 + length most ≡ length most = omega arith in e))
+
+-- ---- two printable characters at a text's start: the first is the first cluster
+pub first-of-letters : (text cs : List ℕ) (first second : ℕ) → chars text ≡ first ∷ second ∷ cs → IsPlain first → IsPlain second → last_or None (take 1 (clusters text)) ≡ Some (0, first ∷ [])
+unfolding segments with_offsets cut
+first-of-letters text cs first second t g h =
+    ap (λ ds. last_or None (take 1 (with_offsets 0 (map encode_utf8_all (cut (is_grapheme_break true) [] ds []))))) t
+    ∙ ap (λ b. last_or None (take 1 (with_offsets 0 (map encode_utf8_all (cond b ((first ∷ []) ∷ behind) (prepend (first ∷ []) behind)))))) (simple-breaks first [] second (cs ++ []) (inl g) (inl h))
+    ∙ ap (λ bs. Some (0, bs)) (append-nil (encode_utf8 first) ∙ encode_ascii first (omega (arith, g.1)))
+  where
+    behind : List (List ℕ)
+    behind = cut (is_grapheme_break true) (first ∷ []) (second ∷ cs) []

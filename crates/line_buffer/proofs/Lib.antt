@@ -15,6 +15,7 @@ pub mod JoinLemmas
 pub mod KeptLemmas
 pub mod LeftLemmas
 pub mod LetterCaseLemmas
+pub mod LetterLemmas
 pub mod ListedRanges
 mod MotionRows
 pub mod NewlineLemmas

@@ -549,7 +549,7 @@ ends_after (x ∷ []) c d = refl
 ends_after (x ∷ y ∷ []) c d = refl
 ends_after (x ∷ y ∷ z ∷ xs) c d = ends_after (y ∷ z ∷ xs) c d
 
-chars_last : (text front : List ℕ) (last : ℕ) → IsUtf8 text → IsScalar last → text ≡ front ++ encode_utf8 last → IsUtf8 front × (chars text ≡ chars front ++ last ∷ [])
+pub chars_last : (text front : List ℕ) (last : ℕ) → IsUtf8 text → IsScalar last → text ≡ front ++ encode_utf8 last → IsUtf8 front × (chars text ≡ chars front ++ last ∷ [])
 chars_last text front last u s came =
     let before = IsUtf8-before text front (encode_utf8 last) u (IsUtf8-encode last s) came in
     (before, ap chars came ∙ chars-append front (encode_utf8 last) before ∙ ap (λ cs. chars front ++ cs) (chars-encode_utf8 last (IsUtf8-encode last s)))

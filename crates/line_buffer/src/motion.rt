@@ -3,7 +3,7 @@
 //! Clusters are the extended grapheme clusters of UAX #29, and places are in bytes. The text before
 //! the cursor and the text after it are cut into clusters each by itself. Rows end at newlines.
 
-ghost use Rattle.std.specs.Prelude.{◌≡◌, ◌+◌, ◌<◌, ◌≤◌, ◌==◌, length, reverse, take, not, is_some, chars, IfSome, None, option_map, IsCharBoundary};
+ghost use Rattle.std.specs.Prelude.{◌≡◌, ◌+◌, ◌<◌, ◌≤◌, ◌==◌, length, reverse, take, drop, not, is_some, chars, IfSome, None, Some, true, option_map, IsCharBoundary};
 ghost use Rattle.std.specs.List.{last_or, list_all, prefix_len, suffix_len};
 ghost use Rattle.std.specs.Char.{is_whitespace};
 ghost use Rattle.line_buffer.specs.Clusters.{clusters, place_forward, place_backward, IsPart};
@@ -11,8 +11,25 @@ ghost use Rattle.line_buffer.specs.Line.{moved_to, text_after};
 ghost use Rattle.line_buffer.specs.Rows.{row_start, row_end, is_in_row};
 
 use crate::line_buffer::LineBuffer;
+use crate::short::is_printable;
 use crate::types::RepeatCount;
 use unicode_segmentation::UnicodeSegmentation;
+
+/// Whether two printable characters of ASCII begin the text: the first is a cluster.
+fn begins_with_letters(text: &str) -> bool
+    ensures value { result ≡ true
+        → last_or None (take 1 (clusters text.now)) ≡ Some (0, take 1 text.now) }
+    ensures boundary { result ≡ true → IsCharBoundary text.now 1 }
+{
+    let mut characters = text.chars();
+    let Some(first) = characters.next() else {
+        return false;
+    };
+    let Some(second) = characters.next() else {
+        return false;
+    };
+    is_printable(first) && is_printable(second)
+}
 
 /// The n-th cluster, or the last where fewer stand, with its place.
 pub(crate) fn nth_cluster(text: &str, n: RepeatCount) -> Option<(usize, &str)>
@@ -20,7 +37,27 @@ pub(crate) fn nth_cluster(text: &str, n: RepeatCount) -> Option<(usize, &str)>
         (take n (clusters text.now)) }
     ensures part { IfSome result (λ p. IsPart text.now p.0 (length p.1.now)) }
 {
+    if n == 1 && begins_with_letters(text) {
+        return Some((0, &text[..1]));
+    }
     text.grapheme_indices(true).take(usize::from(n)).last()
+}
+
+/// The place of the last character, if it and the one before it are printable characters of ASCII:
+/// it is a cluster.
+fn last_letter(text: &str) -> Option<usize>
+    ensures value { IfSome result (λ start. last_or None (take 1 (reverse (clusters text.now)))
+        ≡ Some (start, drop start text.now)) }
+    ensures boundary { IfSome result (λ start. IsCharBoundary text.now start) }
+{
+    let mut characters = text.chars();
+    let last = characters.next_back()?;
+    let previous = characters.next_back()?;
+    if is_printable(previous) && is_printable(last) {
+        Some(text.len() - 1)
+    } else {
+        None
+    }
 }
 
 /// The n-th cluster from the end, or the first where fewer stand, with its place.
@@ -29,6 +66,11 @@ pub(crate) fn nth_cluster_back(text: &str, n: RepeatCount) -> Option<(usize, &st
         (take n (reverse (clusters text.now))) }
     ensures part { IfSome result (λ p. IsPart text.now p.0 (length p.1.now)) }
 {
+    if n == 1 {
+        if let Some(start) = last_letter(text) {
+            return Some((start, &text[start..]));
+        }
+    }
     text.grapheme_indices(true)
         .rev()
         .take(usize::from(n))

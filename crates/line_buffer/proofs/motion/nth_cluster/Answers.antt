@@ -1,4 +1,4 @@
-use Rattle.std.proofs.Common.{ap, ◌∙◌}
+use Rattle.std.proofs.Common.{Some, rules, ap, ◌∙◌}
 use Rattle.std.specs.Prelude.{take, None}
 use Rattle.std.specs.List.{last_or}
 use Rattle.std.proofs.lemmas.Iterator.{YieldsList-from_take}
@@ -18,3 +18,7 @@ returns-clause-value c =
 
 pub returns-clause-part : goal.returns-clause-part
 returns-clause-part c = part_of_nth c.args.text.now c.args.n c.last.result c.utf8.text (returns-clause-value c)
+
+pub returns-then-begins_with_letters-clause-part : goal.returns-then-begins_with_letters-clause-part
+returns-then-begins_with_letters-clause-part c =
+    part_of_nth c.args.text.now c.args.n (Some (0, c.range.result)) c.utf8.text (search rules)
