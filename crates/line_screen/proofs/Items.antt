@@ -85,6 +85,10 @@ all_simple (c ∷ cs) h =
     let parts = and_parts (is_printable c) (list_all is_printable cs) h in
     and_from (is_simple c) (list_all is_simple cs) (printable_simple c parts.0) (all_simple cs parts.1)
 
+-- printable ASCII alone
+pub letter_items : (wide : List ℕ → Option ℕ) (text : List ℕ) → list_all is_printable text ≡ true → text_items wide text ≡ map Letter text
+letter_items wide text h = items_simple wide text (all_simple text h) ∙ letters_simple text h
+
 -- letters after a simple line
 pub items_letters : (wide : List ℕ → Option ℕ) (line letters : List ℕ) → list_all is_simple line ≡ true → list_all is_printable letters ≡ true
     → text_items wide (line ++ letters) ≡ text_items wide line ++ map Letter letters

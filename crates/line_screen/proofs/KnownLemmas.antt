@@ -107,6 +107,15 @@ row_below : (columns : ℕ) (p q : Position) → p.col < columns → q.col < col
 row_below columns p q low high h =
     omega (arith, le-div p.row (cell columns q) columns (omega (arith, low)) (omega (arith, h)), div-mul-add q.row columns q.col high)
 
+pub letters_inside : (columns : ℕ) (letters : List ℕ) (at : Position) → at.col < columns → (place_after columns (map Letter letters) at).col < columns
+letters_inside columns [] at low = low
+letters_inside columns (c ∷ cs) at low = letters_inside columns cs (after_one columns (Letter c) at) (letter_inside columns c at low)
+
+-- where letters end
+pub letters_end : (columns : ℕ) (letters : List ℕ) (from : Position) → from.col < columns → cell_at columns (cell columns from + length letters) ≡ place_after columns (map Letter letters) from
+letters_end columns letters from low =
+    cell_back columns (cell columns from + length letters) (place_after columns (map Letter letters) from) (letters_inside columns letters from low) (sym (letters_cell columns letters from))
+
 module _ (mode : GraphemeClusterMode) (columns : ℕ) (some : 1 ≤ columns) where
   pub goes_back : (front letters : List ℕ) (from at : Position) → list_all is_simple (front ++ letters) ≡ true → list_all is_printable letters ≡ true
       → at ≡ measure_of mode columns (front ++ letters) from → at.row < 65535

@@ -1,6 +1,5 @@
 -- Rows that are counted to 65,535 at each step end as if they were counted so at the end.
-use Rattle.std.proofs.Common.{◌≡◌, ℕ, ◌+◌, ◌<◌, ◌≤◌, ◌==◌, nat_le, min, Bool, true, false, List, [], ◌∷◌, ◌++◌, map, length, refl, sym, ap, ◌∙◌, subst, arith, if◌then◌else◌}
-use Rattle.std.proofs.lemmas.Bool.{ne_eqb, eqb-true, eqb-false}
+use Rattle.std.proofs.Common.{◌≡◌, ℕ, ◌+◌, ◌<◌, ◌≤◌, ◌==◌, nat_le, min, Bool, true, false, List, [], ◌∷◌, ◌++◌, refl, sym, ap, ◌∙◌, subst, arith, if◌then◌else◌}
 use Rattle.line_buffer.specs.declared.layout.Position.{Position}
 use Rattle.line_screen.specs.Display.{right}
 use Rattle.line_screen.specs.Drawing.{DrawnItem, next_row, fit, leave, after_one, place_after}
@@ -60,29 +59,6 @@ saturated_twice p = same_place _ _ (alike_saturated p)
 
 pub saturated_small : (p : Position) → p.row ≤ 65535 → saturated p ≡ p
 saturated_small p h = let e : min p.row 65535 ≡ p.row = omega arith in ap (place p.col) e
-
--- ---- a run of letters
-
-last_if : (columns c : ℕ) (cs : List ℕ) (at : Position) → at.col < columns → at.col + length (c ∷ cs) ≤ columns
-    → (at.col + 1 < columns → place_after columns (map Letter cs) (right 1 at) ≡ leave columns (right (length cs) (right 1 at)))
-    → (b : Bool) → (at.col + 1 == columns) ≡ b → place_after columns (map Letter cs) (if b then next_row (right 1 at) else right 1 at) ≡ leave columns (right (length (c ∷ cs)) at)
-last_if columns c [] at low room more true e = sym (ap (λ b. if b then next_row (right 1 at) else right 1 at) e)
-last_if columns c (d ∷ cs) at low room more true e = let last = eqb-true (at.col + 1) columns e in absurd (omega arith)
-last_if columns c cs at low room more false e =
-    let differ = eqb-false (at.col + 1) columns e in
-    let count : at.col + 1 + length cs ≡ at.col + length (c ∷ cs) = omega arith in
-    more (grind arith) ∙ ap (λ n. leave columns (place n at.row)) count
-
-pub after_run : (columns : ℕ) (letters : List ℕ) (at : Position) → at.col < columns → at.col + length letters ≤ columns → place_after columns (map Letter letters) at ≡ leave columns (right (length letters) at)
-after_run columns [] at low room =
-    let e : (at.col + 0 == columns) ≡ false = ne_eqb (at.col + 0) columns (λ same. omega arith) in
-    let none : at.col ≡ at.col + 0 = omega arith in
-    ap (λ n. place n at.row) none ∙ sym (ap (λ b. if b then next_row (right 0 at) else right 0 at) e)
-after_run columns (c ∷ cs) at low room = last_if columns c cs at low room (λ more. after_run columns cs (right 1 at) more (omega arith)) (at.col + 1 == columns) refl
-
-pub none_left : (letters : List ℕ) → length letters ≡ 0 → map Letter letters ≡ []
-none_left [] h = refl
-none_left (c ∷ cs) h = absurd (omega arith)
 
 -- ---- a loop over items: where it is, and what is left
 

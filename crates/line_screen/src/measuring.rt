@@ -124,19 +124,18 @@ fn after_cluster(grid: Grid, at: Position, cluster: &str) -> Position
     after_width(grid, at, width)
 }
 
+// Each letter takes the next cell, the last of a row being followed by the first of the next one.
 fn after_letters(grid: Grid, from: Position, letters: &[u8]) -> Position
     requires inside { from.col < grid.columns }
     ensures { Comes grid.columns (place_after grid.columns (map Letter letters.now) from) result }
 {
-    let mut at = from;
-    let mut rest = letters;
-    while !rest.is_empty() {
-        let count = rest.len().min(usize::from(grid.columns - at.col));
-        let (front, back) = rest.split_at(count);
-        at = step_right(grid, at, front.len() as Unit);
-        rest = back;
+    let columns = u64::from(grid.columns);
+    let cell = u64::from(from.row) * columns + u64::from(from.col) + letters.len() as u64;
+    let row = cell / columns;
+    Position {
+        col: (cell % columns) as Unit,
+        row: row.min(u64::from(Unit::MAX)) as Unit,
     }
-    at
 }
 
 fn after_clusters(grid: Grid, from: Position, row: &str) -> Position
@@ -206,11 +205,16 @@ fn after_next_row(grid: Grid, from: Position, is_first: bool, row: &str) -> Posi
     }
 }
 
+// A text of printable ASCII is one row, and is looked at no further.
+#[tactic(auto, using(crate::proofs::Items::letter_items))]
 fn after_text(grid: Grid, from: Position, text: &str) -> Position
     requires inside { from.col < grid.columns }
     ensures { let all = text_items (cluster_width grid.mode grid.columns) text.now in
         Comes grid.columns (place_after grid.columns all from) result }
 {
+    if is_printable_text(text) {
+        return after_letters(grid, from, text.as_bytes());
+    }
     let mut at = from;
     let mut is_first = true;
     for row in text.split('\n') {

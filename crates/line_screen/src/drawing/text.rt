@@ -227,7 +227,8 @@ fn send_next_row<D: Sink>(
     send_row(sink, grid, 0, row)
 }
 
-/// A text from a column on.
+/// A text from a column on. One of printable ASCII is one row, and is looked at no further.
+#[tactic(auto, using(crate::proofs::Items::letter_items))]
 pub(crate) fn send_text<D: Sink>(
     sink: &mut D,
     grid: Grid,
@@ -238,6 +239,9 @@ pub(crate) fn send_text<D: Sink>(
     ensures { SendsItems (text_items (cluster_width grid.mode grid.columns) text.now) start
         grid.columns D.held D.has_failed sink.old sink.new result }
 {
+    if is_printable_text(text) {
+        return send_letters(sink, grid, start, text.as_bytes());
+    }
     let mut col = start;
     let mut is_first = true;
     for row in text.split('\n') {
