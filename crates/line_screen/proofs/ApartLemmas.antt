@@ -1,8 +1,10 @@
 -- Characters that no rule joins to one another.
-use Rattle.std.proofs.Common.{◌≡◌, ℕ, Bool, true, false, not, ◌&&◌, ◌||◌, List, [], ◌∷◌, ◌++◌, map, length, drop, unwrap_or, refl, sym, ap, ap₂, ◌∙◌, arith, append-nil, if◌then◌else◌}
+use Rattle.std.proofs.Common.{◌≡◌, ℕ, ◌<◌, ◌≤◌, Bool, true, false, not, ◌&&◌, ◌||◌, List, [], ◌∷◌, ◌++◌, map, length, drop, unwrap_or, refl, sym, ap, ap₂, ◌∙◌, arith, append-nil, if◌then◌else◌}
 use Rattle.std.specs.Prelude.{chars, encode_utf8, encode_utf8_all}
+use Rattle.std.specs.Int.{is_in_range}
 use Rattle.std.specs.List.{list_all}
 use Rattle.std.proofs.lemmas.Bool.{and_parts, and_right, not-true}
+use Rattle.std.proofs.lemmas.Bool.Decides.{nat_tests}
 use Rattle.std.proofs.lemmas.Str.{chars-nil}
 use Rattle.ucd_table.specs.Rows.{Range, in_ranges}
 use Rattle.ucd_table.proofs.StepsLemmas.{rises_from}
@@ -18,7 +20,7 @@ use Rattle.ucd_derived.proofs.IndicConjunctBreakLemmas.{indic_conjunct_break_ste
 use Rattle.unicode_segmentation.specs.Grapheme.{graphemes, is_grapheme_break, break_by_pair, is_consonant, is_zwj, is_regional, ends_in_linker, ends_in_half_flag, joins_conjunct, joins_emoji, joins_flag}
 use Rattle.unicode_segmentation.specs.Segments.{cut, segments, prepend}
 use Rattle.unicode_segmentation.proofs.GraphemeLemmas.{is_grapheme_break-inside, joins_emoji-not_zwj}
-use Rattle.line_screen.specs.Apart.{is_apart}
+use Rattle.line_screen.specs.Apart.{is_narrow, is_wide, is_apart}
 use Rattle.line_buffer.proofs.ListedRanges.{in_ranges-some}
 
 -- ---- facts of the tables
@@ -137,3 +139,34 @@ clusters_apart text h = cut_apart [] (chars text) h
 pub no_chars : (bytes : List ℕ) → length bytes ≡ 0 → map encode_utf8 (chars bytes) ≡ []
 no_chars [] h = ap (map encode_utf8) chars-nil
 no_chars (b ∷ bytes) h = absurd (omega (arith, h))
+
+-- ---- the narrow ones come before the wide ones
+out_below : (low high c : ℕ) → c < low → is_in_range low high c ≡ false
+out_below low high c h = grind (arith, nat_tests, h)
+
+out_above : (low high c : ℕ) → high < c → is_in_range low high c ≡ false
+out_above low high c h = grind (arith, nat_tests, h)
+
+pub narrow_side : (c : ℕ) → c < 0x3000 → is_narrow c ≡ is_apart c
+narrow_side c h = sym ((λ i. is_narrow c || (out_below 0x3001 0x3029 c (omega (arith, h)) i
+    || (out_below 0x3041 0x3096 c (omega (arith, h)) i
+    || (out_below 0x309B 0x30FF c (omega (arith, h)) i
+    || (out_below 0x3400 0xA48C c (omega (arith, h)) i
+    || (out_below 0xAC00 0xD7A3 c (omega (arith, h)) i
+    || (out_below 0xF900 0xFAFF c (omega (arith, h)) i
+    || (out_below 0xFF01 0xFF60 c (omega (arith, h)) i
+    || (out_below 0x20000 0x2FFFD c (omega (arith, h)) i
+    || out_below 0x30000 0x3FFFD c (omega (arith, h)) i))))))))) ∙ or_none (is_narrow c))
+  where
+    or_none : (b : Bool) → (b || false) ≡ b
+    or_none true = refl
+    or_none false = refl
+
+pub wide_side : (c : ℕ) → 0x3000 ≤ c → is_wide c ≡ is_apart c
+wide_side c h = sym (λ i. (out_above 0x20 0x7E c (omega (arith, h)) i
+    || (out_above 0xA1 0xAC c (omega (arith, h)) i
+    || (out_above 0xAE 0x2FF c (omega (arith, h)) i
+    || (out_above 0x370 0x482 c (omega (arith, h)) i
+    || out_above 0x48A 0x58F c (omega (arith, h)) i)))) || is_wide c)
+
+pub ruleset sides = (narrow_side, wide_side)

@@ -37,10 +37,15 @@ pub(crate) fn is_wide(c: char) -> bool
     )
 }
 
+#[tactic(auto, using(crate::proofs::ApartLemmas::sides))]
 fn is_apart(c: char) -> bool
     ensures { result ≡ is_apart c }
 {
-    is_narrow(c) || is_wide(c)
+    if c < '\u{3000}' {
+        is_narrow(c)
+    } else {
+        is_wide(c)
+    }
 }
 
 fn are_apart(text: &str) -> bool

@@ -52,10 +52,14 @@ fn make_room<D: Sink>(
     Ok(0)
 }
 
-/// The text of a cluster between two sequences that change nothing.
+/// The text of a cluster between two sequences that change nothing. Most wide characters have three
+/// bytes, and are sent at once.
 fn send_fenced<D: Sink>(sink: &mut D, cluster: &str) -> Result<(), DeviceFailed>
     ensures { Sends D.held D.has_failed (fenced cluster.now) sink.old sink.new result }
 {
+    if let [a, b, c] = *cluster.as_bytes() {
+        return send(sink, &[0x1B, b'[', b'm', a, b, c, 0x1B, b'[', b'm']);
+    }
     send(sink, b"\x1B[m")?;
     send(sink, cluster.as_bytes())?;
     send(sink, b"\x1B[m")

@@ -16,7 +16,7 @@ returns-in_err-send-2 g c =
     let failed = g.D.Sink.has_failed in
     sends_then held failed no_style (c.args.cluster.now ++ no_style) c.in_ok-send.ensures.sent c.in_ok-send.ensures.works
     (sends_cut held failed _ c.args.cluster.now no_style c.from_residual-in_err-send-2.ensures.1 c.in_err-send-2.ensures.err
-    (subst (TakesSome held c.send.new.sink c.send-2.new.sink) c.as_bytes.ensures.value c.in_err-send-2.ensures.begins))
+    (subst (TakesSome held c.send-2.new.sink c.send-3.new.sink) c.as_bytes-2.ensures.value c.in_err-send-2.ensures.begins))
 
 pub returns : goal.returns
 returns g c =
@@ -24,4 +24,4 @@ returns g c =
     let failed = g.D.Sink.has_failed in
     sends_then held failed no_style (c.args.cluster.now ++ no_style) c.in_ok-send.ensures.sent c.in_ok-send.ensures.works
     (sends_then held failed c.args.cluster.now no_style
-    (subst (Takes held c.send.new.sink c.send-2.new.sink) c.as_bytes.ensures.value c.in_ok-send-2.ensures.sent) c.in_ok-send-2.ensures.works c.send-3.ensures)
+    (subst (Takes held c.send-2.new.sink c.send-3.new.sink) c.as_bytes-2.ensures.value c.in_ok-send-2.ensures.sent) c.in_ok-send-2.ensures.works c.send-4.ensures)
