@@ -13,7 +13,7 @@ use Rattle.line_buffer.specs.declared.types.At.{At}
 use Rattle.line_buffer.specs.declared.types.At.TheVariants.{Start, BeforeEnd, AfterEnd}
 use Rattle.line_buffer.specs.declared.types.Word.{Word}
 use Rattle.line_buffer.specs.declared.types.Word.TheVariants.{Big, Emacs, Vi}
-use Rattle.line_buffer.specs.declared.words.Kind.{Kind}
+use Rattle.line_buffer.specs.declared.words.ClusterKind.{ClusterKind}
 use Rattle.line_buffer.proofs.ChainLemmas.{All-last_or, All-reverse}
 use Rattle.line_buffer.proofs.PartLemmas.{All-IsPartAt}
 use Rattle.line_buffer.proofs.WordLemmas.{edges_of-nil, edges_of-one, edges_of-cons}
@@ -135,7 +135,7 @@ All-option P (Some i) h = at_place
     at_place (suc k) d l = absurd (omega (arith, l))
 
 -- what holds of the places of clusters holds of the edges between them
-pub All-edges_of : (P : ℕ → Type 0) (at : At) (xs : List (ℕ × Kind)) → All (λ x. P x.0) xs → All P (edges_of at xs)
+pub All-edges_of : (P : ℕ → Type 0) (at : At) (xs : List (ℕ × ClusterKind)) → All (λ x. P x.0) xs → All P (edges_of at xs)
 All-edges_of P at [] h = subst (All P) (sym (edges_of-nil at)) (λ k d l. absurd (omega (arith, l)))
 All-edges_of P at (x ∷ []) h = subst (All P) (sym (edges_of-one at x)) (λ k d l. absurd (omega (arith, l)))
 All-edges_of P at (x ∷ (y ∷ xs)) h =

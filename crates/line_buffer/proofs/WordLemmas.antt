@@ -5,7 +5,7 @@ use Rattle.std.proofs.lemmas.List.{reverse-append, append-nil, append_assoc, map
 use Rattle.line_buffer.specs.declared.types.At.{At}
 use Rattle.line_buffer.specs.declared.types.At.TheVariants.{Start, BeforeEnd, AfterEnd}
 use Rattle.line_buffer.specs.declared.types.Word.{Word}
-use Rattle.line_buffer.specs.declared.words.Kind.{Kind}
+use Rattle.line_buffer.specs.declared.words.ClusterKind.{ClusterKind}
 use Rattle.line_buffer.specs.Words.{kind_of, kinds, starts_between, ends_between, starts_of, ends_of, lasts_of, edges_of, edge_between}
 
 one_more : {A : Type 0} (f : A → ℕ) (b : Bool) (p : A) (rest : List A) → map f (cond b (p ∷ rest) rest) ≡ option_to_list (if b then Some (f p) else None) ++ map f rest
@@ -18,20 +18,20 @@ edges_of-nil Start = refl
 edges_of-nil BeforeEnd = refl
 edges_of-nil AfterEnd = refl
 
-pub edges_of-one : (at : At) (x : ℕ × Kind) → edges_of at (x ∷ []) ≡ []
+pub edges_of-one : (at : At) (x : ℕ × ClusterKind) → edges_of at (x ∷ []) ≡ []
 unfolding starts_of ends_of lasts_of
 edges_of-one Start x = refl
 edges_of-one BeforeEnd x = refl
 edges_of-one AfterEnd x = refl
 
-pub edges_of-cons : (at : At) (x y : ℕ × Kind) (more : List (ℕ × Kind)) → edges_of at (x ∷ (y ∷ more)) ≡ option_to_list (edge_between at x y) ++ edges_of at (y ∷ more)
+pub edges_of-cons : (at : At) (x y : ℕ × ClusterKind) (more : List (ℕ × ClusterKind)) → edges_of at (x ∷ (y ∷ more)) ≡ option_to_list (edge_between at x y) ++ edges_of at (y ∷ more)
 unfolding starts_of ends_of lasts_of
 edges_of-cons Start x y more = one_more (λ p. p.1.0) (starts_between x.1 y.1) (x, y) _
 edges_of-cons BeforeEnd x y more = one_more (λ p. p.0.0) (ends_between x.1 y.1) (x, y) _
 edges_of-cons AfterEnd x y more = one_more (λ p. p.1.0) (ends_between x.1 y.1) (x, y) _
 
 -- one cluster more at the end
-pub edges_of-snoc : (at : At) (xs : List (ℕ × Kind)) (x y : ℕ × Kind) → edges_of at (xs ++ x ∷ (y ∷ [])) ≡ edges_of at (xs ++ x ∷ []) ++ option_to_list (edge_between at x y)
+pub edges_of-snoc : (at : At) (xs : List (ℕ × ClusterKind)) (x y : ℕ × ClusterKind) → edges_of at (xs ++ x ∷ (y ∷ [])) ≡ edges_of at (xs ++ x ∷ []) ++ option_to_list (edge_between at x y)
 edges_of-snoc at [] x y =
     edges_of-cons at x y [] ∙ ap (λ zs. option_to_list (edge_between at x y) ++ zs) (edges_of-one at y) ∙ append-nil (option_to_list (edge_between at x y))
     ∙ ap (λ zs. zs ++ option_to_list (edge_between at x y)) (sym (edges_of-one at x))
@@ -69,7 +69,7 @@ module _ (v : Option ℕ) (all rest : List ℕ) (o : Option ℕ) (split : all �
   turn_passed place e z = before_split ∙ get-passed place rest o (missing - 1) (missing - 1 - 1) e (omega (arith, z))
 
 -- the next cluster of a walk forward, and of one back
-module _ (at : At) (word : Word) (cur : ℕ × Kind) (old new : List (ℕ × List ℕ)) (x : ℕ × List ℕ) (k : Kind) (is : k ≡ kind_of word x.1) where
+module _ (at : At) (word : Word) (cur : ℕ × ClusterKind) (old new : List (ℕ × List ℕ)) (x : ℕ × List ℕ) (k : ClusterKind) (is : k ≡ kind_of word x.1) where
   pub forward_split : old ≡ x ∷ new → edges_of at (cur ∷ kinds word old) ≡ option_to_list (edge_between at cur (x.0, k)) ++ edges_of at ((x.0, k) ∷ kinds word new)
   forward_split came =
       ap (λ xs. edges_of at (cur ∷ kinds word xs)) came ∙ edges_of-cons at cur (x.0, kind_of word x.1) (kinds word new)
@@ -89,8 +89,8 @@ module _ (at : At) (word : Word) (cur : ℕ × Kind) (old new : List (ℕ × Lis
       reverse_option (Some i) = refl
 
 -- nothing is left
-pub none_in_one : (v : Option ℕ) (at : At) (cur : ℕ × Kind) (k : ℕ) → v ≡ slice_get (edges_of at (cur ∷ [])) k → None ≡ v
+pub none_in_one : (v : Option ℕ) (at : At) (cur : ℕ × ClusterKind) (k : ℕ) → v ≡ slice_get (edges_of at (cur ∷ [])) k → None ≡ v
 none_in_one v at cur k e = sym (e ∙ ap (λ xs. slice_get xs k) (edges_of-one at cur))
 
-pub none_in_one_back : (v : Option ℕ) (at : At) (cur : ℕ × Kind) (k : ℕ) → v ≡ slice_get (reverse (edges_of at (cur ∷ []))) k → None ≡ v
+pub none_in_one_back : (v : Option ℕ) (at : At) (cur : ℕ × ClusterKind) (k : ℕ) → v ≡ slice_get (reverse (edges_of at (cur ∷ []))) k → None ≡ v
 none_in_one_back v at cur k e = sym (e ∙ ap (λ xs. slice_get (reverse xs) k) (edges_of-one at cur))

@@ -1,5 +1,5 @@
 -- The part of a text that a movement names, and what it makes of a line to take that part out.
-use Rattle.std.specs.Prelude.{ℕ, ◌+◌, ◌-◌, ◌≤◌, ◌==◌, nat_lt, Bool, true, false, if◌then◌else◌, List, [], ◌∷◌, ◌++◌, length, slice_range, Option, None, Some, is_some, option_map, encode_utf8, IsCharBoundary}
+use Rattle.std.specs.Prelude.{◌≡◌, ℕ, ◌+◌, ◌-◌, ◌≤◌, ◌==◌, nat_lt, Bool, true, false, if◌then◌else◌, List, [], ◌∷◌, ◌++◌, length, slice_range, Option, None, Some, is_some, option_map, encode_utf8, IfSome, IsCharBoundary}
 use Rattle.line_buffer.specs.declared.range.Span.{Span}
 use Rattle.line_buffer.specs.declared.types.CharSearch.{CharSearch}
 use Rattle.line_buffer.specs.declared.types.CharSearch.TheVariants.{Forward as Onto, ForwardBefore, Backward as BackOnto, BackwardAfter}
@@ -22,6 +22,11 @@ pub record IsSpanOf (text : List ℕ) (span : Span) : Type 0 where
   pub order : span.from ≤ span.upto
   pub start : IsCharBoundary text span.from
   pub end : IsCharBoundary text span.upto
+
+-- the span that is asked for, which is a part of the text
+pub record FindsSpan (asked : Option Span) (text : List ℕ) (found : Option Span) : Type 0 where
+  pub value : found ≡ asked
+  pub span : IfSome found (IsSpanOf text)
 
 -- what lies before the cursor from a place on, and after it up to a place
 abbrev pub up_to_cursor : ℕ → Line → Span

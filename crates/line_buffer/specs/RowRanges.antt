@@ -1,6 +1,6 @@
 -- Where rows start, and the ranges of rows that a movement up or down names. A row ends at a
 -- newline, which a range takes along.
-use Rattle.std.specs.Prelude.{ℕ, ◌+◌, ◌==◌, min, List, ◌∷◌, length, map, reverse, filter, drop, Option, option_map}
+use Rattle.std.specs.Prelude.{◌≡◌, ℕ, ◌+◌, ◌≤◌, ◌==◌, min, List, ◌∷◌, length, map, reverse, filter, drop, Option, option_map, IfSome, IsCharBoundary}
 use Rattle.std.specs.List.{enumerate_from}
 use Rattle.line_buffer.specs.Line.{Line, text_before, text_after}
 use Rattle.line_buffer.specs.Clusters.{nth_or_last}
@@ -36,3 +36,11 @@ abbrev pub rows_down : ℕ → Line → Option (ℕ × ℕ)
 rows_down n l =
     option_map (λ start. (row_start l.text l.place, row_close l.text start))
     (nth_or_last n (starts_below l))
+
+-- the range of rows that is asked for, between characters of the text
+pub record FindsRows (asked : Option (ℕ × ℕ)) (text : List ℕ) (found : Option (ℕ × ℕ)) : Type 0
+  where
+    pub value : found ≡ asked
+    pub order : IfSome found (λ r. r.0 ≤ r.1)
+    pub start : IfSome found (λ r. IsCharBoundary text r.0)
+    pub end : IfSome found (λ r. IsCharBoundary text r.1)

@@ -7,8 +7,8 @@ use Rattle.line_buffer.specs.declared.types.At.{At}
 use Rattle.line_buffer.specs.declared.types.At.TheVariants.{Start, BeforeEnd, AfterEnd}
 use Rattle.line_buffer.specs.declared.types.Word.{Word}
 use Rattle.line_buffer.specs.declared.types.Word.TheVariants.{Big, Emacs, Vi}
-use Rattle.line_buffer.specs.declared.words.Kind.{Kind}
-use Rattle.line_buffer.specs.declared.words.Kind.TheVariants.{Blank, InWord, Other}
+use Rattle.line_buffer.specs.declared.words.ClusterKind.{ClusterKind}
+use Rattle.line_buffer.specs.declared.words.ClusterKind.TheVariants.{Blank, InWord, Other}
 use Rattle.line_buffer.specs.Line.{Line, text_before, text_after}
 use Rattle.line_buffer.specs.Clusters.{clusters, nth_or_last}
 
@@ -20,7 +20,7 @@ abbrev pub has_no_whitespace : List ℕ → Bool
 has_no_whitespace cluster = list_all (λ c. not (is_whitespace c)) (chars cluster)
 
 -- what one cluster is: part of a word, blank, or for Vi also part of a run of other clusters
-abbrev pub kind_of : Word → List ℕ → Kind
+abbrev pub kind_of : Word → List ℕ → ClusterKind
 kind_of Emacs cluster = if is_alphanumeric_cluster cluster then InWord else Blank
 kind_of Big cluster = if has_no_whitespace cluster then InWord else Blank
 kind_of Vi cluster =
@@ -28,43 +28,43 @@ kind_of Vi cluster =
     else (if has_no_whitespace cluster then Other else Blank)
 
 -- a word starts between clusters of these kinds
-abbrev pub starts_between : Kind → Kind → Bool
+abbrev pub starts_between : ClusterKind → ClusterKind → Bool
 starts_between x Blank = false
 starts_between InWord InWord = false
 starts_between Other Other = false
 starts_between x y = true
 
 -- and one ends where one would start the other way round
-abbrev pub ends_between : Kind → Kind → Bool
+abbrev pub ends_between : ClusterKind → ClusterKind → Bool
 ends_between x y = starts_between y x
 
 -- the clusters of a text by their places and kinds
-abbrev pub kinds : Word → List (ℕ × List ℕ) → List (ℕ × Kind)
+abbrev pub kinds : Word → List (ℕ × List ℕ) → List (ℕ × ClusterKind)
 kinds word pieces = map (λ x. (x.0, kind_of word x.1)) pieces
 
 abbrev pub neighbours : {A : Type 0} → List A → List (A × A)
 neighbours xs = zip xs (drop 1 xs)
 
 -- the places at which a word starts after something else
-unfoldable pub starts_of : List (ℕ × Kind) → List ℕ
+unfoldable pub starts_of : List (ℕ × ClusterKind) → List ℕ
 starts_of xs = map (λ p. p.1.0) (filter (λ p. starts_between p.0.1 p.1.1) (neighbours xs))
 
 -- the places at which something else follows on a word
-unfoldable pub ends_of : List (ℕ × Kind) → List ℕ
+unfoldable pub ends_of : List (ℕ × ClusterKind) → List ℕ
 ends_of xs = map (λ p. p.1.0) (filter (λ p. ends_between p.0.1 p.1.1) (neighbours xs))
 
 -- the places of the last clusters of these words
-unfoldable pub lasts_of : List (ℕ × Kind) → List ℕ
+unfoldable pub lasts_of : List (ℕ × ClusterKind) → List ℕ
 lasts_of xs = map (λ p. p.0.0) (filter (λ p. ends_between p.0.1 p.1.1) (neighbours xs))
 
 -- the places at which such a motion can stop inside a text
-abbrev pub edges_of : At → List (ℕ × Kind) → List ℕ
+abbrev pub edges_of : At → List (ℕ × ClusterKind) → List ℕ
 edges_of Start xs = starts_of xs
 edges_of BeforeEnd xs = lasts_of xs
 edges_of AfterEnd xs = ends_of xs
 
 -- the place between two neighbours, if it can stop there
-abbrev pub edge_between : At → ℕ × Kind → ℕ × Kind → Option ℕ
+abbrev pub edge_between : At → ℕ × ClusterKind → ℕ × ClusterKind → Option ℕ
 edge_between Start x y = if starts_between x.1 y.1 then Some y.0 else None
 edge_between BeforeEnd x y = if ends_between x.1 y.1 then Some x.0 else None
 edge_between AfterEnd x y = if ends_between x.1 y.1 then Some y.0 else None

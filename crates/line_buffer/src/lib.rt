@@ -27,6 +27,7 @@ pub use clusters::{clusters_up_to, has_one_cluster};
 pub use layout::{GraphemeClusterMode, Layout, Position, Unit};
 pub use line_buffer::{LineBuffer, MAX_LINE, OutOfMemory};
 pub use listener::{ChangeListener, DeleteListener, NoListener};
+pub use range::Span;
 pub use short::{is_printable, is_printable_text, short_insertion, short_kill};
 pub use types::{Anchor, At, CharSearch, Direction, Mode, Movement, RepeatCount, Word, WordAction};
-pub use words::{is_alphanumeric, is_alphanumeric_cluster};
+pub use words::{ClusterKind, is_alphanumeric, is_alphanumeric_cluster};

@@ -15,15 +15,14 @@ pub struct Span {
 impl LineBuffer {
     ghost use Rattle.std.specs.Prelude.{◌≡◌, ◌≤◌, length, drop, IfSome, IsCharBoundary, option_map};
     ghost use Rattle.std.specs.List.{list_all};
-    ghost use Rattle.line_buffer.specs.Range.{IsSpanOf, up_to_cursor, from_cursor, around_cursor, to_row_end, from_row_start, search_range, range_of, copied_range, kill_line};
+    ghost use Rattle.line_buffer.specs.Range.{FindsSpan, up_to_cursor, from_cursor, around_cursor, to_row_end, from_row_start, search_range, range_of, copied_range, kill_line};
     ghost use Rattle.line_buffer.specs.Short.{is_printable};
 
     /// What lies between an earlier place and the cursor.
     fn back_to(&self, found: Option<usize>) -> Option<Span>
         requires earlier { IfSome found (λ i. i ≤ self.now.place) }
         requires boundary { IfSome found (λ i. IsCharBoundary self.now.text i) }
-        ensures value { result ≡ option_map (λ i. up_to_cursor i self.now) found }
-        ensures span { IfSome result (λ s. IsSpanOf self.now.text s) }
+        ensures { FindsSpan (option_map (λ i. up_to_cursor i self.now) found) self.now.text result }
     {
         match found {
             Some(from) => Some(Span {
@@ -39,8 +38,7 @@ impl LineBuffer {
     fn on_to(&self, found: Option<usize>) -> Option<Span>
         requires later { IfSome found (λ i. self.now.place ≤ i) }
         requires boundary { IfSome found (λ i. IsCharBoundary self.now.text i) }
-        ensures value { result ≡ option_map (λ i. from_cursor i self.now) found }
-        ensures span { IfSome result (λ s. IsSpanOf self.now.text s) }
+        ensures { FindsSpan (option_map (λ i. from_cursor i self.now) found) self.now.text result }
     {
         match found {
             Some(upto) => Some(Span {
@@ -57,8 +55,7 @@ impl LineBuffer {
         requires order { IfSome found (λ r. r.0 ≤ r.1) }
         requires start { IfSome found (λ r. IsCharBoundary self.now.text r.0) }
         requires end { IfSome found (λ r. IsCharBoundary self.now.text r.1) }
-        ensures value { result ≡ option_map (λ r. around_cursor r.0 r.1 self.now) found }
-        ensures span { IfSome result (λ s. IsSpanOf self.now.text s) }
+        ensures { FindsSpan (option_map (λ r. around_cursor r.0 r.1 self.now) found) self.now.text result }
     {
         match found {
             Some((from, upto)) => Some(Span {
@@ -78,8 +75,7 @@ impl LineBuffer {
     fn to_row_end(&self, from: usize) -> Option<Span>
         requires earlier { from ≤ self.now.place }
         requires boundary { IsCharBoundary self.now.text from }
-        ensures value { result ≡ to_row_end from self.now }
-        ensures span { IfSome result (λ s. IsSpanOf self.now.text s) }
+        ensures { FindsSpan (to_row_end from self.now) self.now.text result }
     {
         // Its contract says that the text is UTF-8.
         let _text = self.as_str();
@@ -100,8 +96,7 @@ impl LineBuffer {
 
     /// From the row's start to the cursor; at that start the newline before, if one is there.
     fn from_row_start(&self) -> Option<Span>
-        ensures value { result ≡ from_row_start self.now }
-        ensures span { IfSome result (λ s. IsSpanOf self.now.text s) }
+        ensures { FindsSpan (from_row_start self.now) self.now.text result }
     {
         let start = self.row_start();
         if start < self.pos {
@@ -115,8 +110,7 @@ impl LineBuffer {
 
     /// As far as a character that is found: with it, or up to it.
     fn search_range(&self, search: CharSearch, n: RepeatCount) -> Option<Span>
-        ensures value { result ≡ search_range search n self.now }
-        ensures span { IfSome result (λ s. IsSpanOf self.now.text s) }
+        ensures { FindsSpan (search_range search n self.now) self.now.text result }
     {
         // Its contract says that the length fits.
         let _longest = self.len();
@@ -136,8 +130,7 @@ impl LineBuffer {
 
     /// The part of the text that a kill by the movement takes out.
     pub(crate) fn range_of(&self, movement: &Movement) -> Option<Span>
-        ensures value { result ≡ range_of movement.now self.now }
-        ensures span { IfSome result (λ s. IsSpanOf self.now.text s) }
+        ensures { FindsSpan (range_of movement.now self.now) self.now.text result }
     {
         // Its contract says that the text is UTF-8.
         let _text = self.as_str();
@@ -179,8 +172,7 @@ impl LineBuffer {
 
     /// The part of the text that a movement copies.
     pub(crate) fn copied_range(&self, movement: &Movement) -> Option<Span>
-        ensures value { result ≡ copied_range movement.now self.now }
-        ensures span { IfSome result (λ s. IsSpanOf self.now.text s) }
+        ensures { FindsSpan (copied_range movement.now self.now) self.now.text result }
     {
         let start = self.row_start();
         let end = self.row_end();

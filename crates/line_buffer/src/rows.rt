@@ -3,16 +3,15 @@
 
 ghost use Rattle.std.specs.Prelude.{◌≡◌, ◌+◌, ◌<◌, ◌≤◌, length, reverse, drop, IfSome, IsCharBoundary};
 ghost use Rattle.line_buffer.specs.Clusters.{nth_or_last};
-ghost use Rattle.line_buffer.specs.Rows.{row_start, row_end};
-ghost use Rattle.line_buffer.specs.RowRanges.{behind_newlines, row_starts, starts_above, starts_below, row_close, rows_up, rows_down};
+ghost use Rattle.line_buffer.specs.Rows.{FindsPlace, row_start, row_end};
+ghost use Rattle.line_buffer.specs.RowRanges.{behind_newlines, row_starts, starts_above, starts_below, row_close, FindsRows, rows_up, rows_down};
 
 use crate::line_buffer::LineBuffer;
 use crate::types::RepeatCount;
 
 /// Where the last row of a text starts.
 pub(crate) fn last_row_start(text: &str) -> usize
-    ensures value { result ≡ row_start text.now (length text.now) }
-    ensures boundary { IsCharBoundary text.now result }
+    ensures { FindsPlace (row_start text.now (length text.now)) text.now result }
 {
     match text.rfind('\n') {
         Some(newline) => newline + 1,
@@ -22,8 +21,7 @@ pub(crate) fn last_row_start(text: &str) -> usize
 
 /// Where the first row of a text ends, before its newline.
 pub(crate) fn first_row_end(text: &str) -> usize
-    ensures value { result ≡ row_end text.now 0 }
-    ensures boundary { IsCharBoundary text.now result }
+    ensures { FindsPlace (row_end text.now 0) text.now result }
 {
     match text.find('\n') {
         Some(newline) => newline,
@@ -33,8 +31,7 @@ pub(crate) fn first_row_end(text: &str) -> usize
 
 /// Where the first row of a text ends, after its newline where it has one.
 fn first_row_close(text: &str) -> usize
-    ensures value { result ≡ row_close text.now 0 }
-    ensures boundary { IsCharBoundary text.now result }
+    ensures { FindsPlace (row_close text.now 0) text.now result }
 {
     match text.find('\n') {
         Some(newline) => newline + 1,
@@ -102,10 +99,7 @@ impl LineBuffer {
 
     /// The rows from the n-th above the cursor's row to the cursor's row, with its newline.
     pub(crate) fn rows_above(&self, n: RepeatCount) -> Option<(usize, usize)>
-        ensures value { result ≡ rows_up n self.now }
-        ensures order { IfSome result (λ r. r.0 ≤ r.1) }
-        ensures start { IfSome result (λ r. IsCharBoundary self.now.text r.0) }
-        ensures end { IfSome result (λ r. IsCharBoundary self.now.text r.1) }
+        ensures { FindsRows (rows_up n self.now) self.now.text result }
     {
         let start = self.start_above(n)?;
         let close = first_row_close(&self.buf[self.pos..]);
@@ -114,10 +108,7 @@ impl LineBuffer {
 
     /// The rows from the cursor's row to the n-th below it, with its newline.
     pub(crate) fn rows_below(&self, n: RepeatCount) -> Option<(usize, usize)>
-        ensures value { result ≡ rows_down n self.now }
-        ensures order { IfSome result (λ r. r.0 ≤ r.1) }
-        ensures start { IfSome result (λ r. IsCharBoundary self.now.text r.0) }
-        ensures end { IfSome result (λ r. IsCharBoundary self.now.text r.1) }
+        ensures { FindsRows (rows_down n self.now) self.now.text result }
     {
         let below = self.start_below(n)?;
         let start = last_row_start(&self.buf[..self.pos]);

@@ -17,8 +17,8 @@ use unicode::properties::{GeneralCategory, is_alphabetic};
 use unicode_segmentation::{GraphemeIndices, UnicodeSegmentation};
 
 /// What a cluster is to the words around it.
-#[derive(Clone, Copy, PartialEq, Eq)]
-pub enum Kind {
+#[derive(Clone, Copy, Debug, PartialEq, Eq)]
+pub enum ClusterKind {
     Blank,
     InWord,
     Other,
@@ -53,29 +53,29 @@ fn has_no_whitespace(cluster: &str) -> bool
 }
 
 /// What the cluster is to a motion by such words.
-fn kind_of(word: Word, cluster: &str) -> Kind
+fn kind_of(word: Word, cluster: &str) -> ClusterKind
     ensures { result ≡ Words.kind_of word cluster.now }
 {
     match word {
-        Word::Emacs if is_alphanumeric_cluster(cluster) => Kind::InWord,
-        Word::Emacs => Kind::Blank,
-        Word::Big if has_no_whitespace(cluster) => Kind::InWord,
-        Word::Big => Kind::Blank,
-        Word::Vi if is_alphanumeric_cluster(cluster) || cluster == "_" => Kind::InWord,
-        Word::Vi if has_no_whitespace(cluster) => Kind::Other,
-        Word::Vi => Kind::Blank,
+        Word::Emacs if is_alphanumeric_cluster(cluster) => ClusterKind::InWord,
+        Word::Emacs => ClusterKind::Blank,
+        Word::Big if has_no_whitespace(cluster) => ClusterKind::InWord,
+        Word::Big => ClusterKind::Blank,
+        Word::Vi if is_alphanumeric_cluster(cluster) || cluster == "_" => ClusterKind::InWord,
+        Word::Vi if has_no_whitespace(cluster) => ClusterKind::Other,
+        Word::Vi => ClusterKind::Blank,
     }
 }
 
 /// A word starts between clusters of these kinds.
-fn starts_between(left: Kind, right: Kind) -> bool
+fn starts_between(left: ClusterKind, right: ClusterKind) -> bool
     ensures { result ≡ Words.starts_between left right }
 {
-    right != Kind::Blank && left != right
+    right != ClusterKind::Blank && left != right
 }
 
 /// Where between two neighbours a motion stops, if it does. Each is a cluster's place and kind.
-fn edge_between(at: At, left: (usize, Kind), right: (usize, Kind)) -> Option<usize>
+fn edge_between(at: At, left: (usize, ClusterKind), right: (usize, ClusterKind)) -> Option<usize>
     ensures { result ≡ Words.edge_between at left right }
 {
     match at {
