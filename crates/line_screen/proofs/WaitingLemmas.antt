@@ -106,12 +106,14 @@ module _ {D : Type 0} (held waits : D → List ℕ) (failed : D → Bool) where
       (inr (out, first.0, rest.0), rest.1)
 
   pub reads_find_nothing_waiting : ReadsFindNothingWaiting held waits failed
-  reads_find_nothing_waiting line acts old new c c' r r' outcome none = (
+  reads_find_nothing_waiting line acts x y outcome none = (
     λ w.
-        let done = passes_in_all _ old new none w.calls in
+        let done = passes_in_all _ x.drawn.out y.drawn.out none w.calls in
         (record { outcome_is = w.outcome_is; ring_is = w.ring_is; rest_is = w.rest_is; calls = done.0 }, done.1),
     λ cut.
-        let ruler = all.ruler old in
-        let done = passes_cut ruler cut.fault cut.value acts (stage (surface old (fresh ruler.mode)) c r) (stage (surface new cut.layout) c' r') none cut.done in
+        let ruler = all.ruler x.drawn.out in
+        let old = stage (surface x.drawn.out (fresh ruler.mode)) x.coming x.ring in
+        let new = stage (surface y.drawn.out cut.layout) y.coming y.ring in
+        let done = passes_cut ruler cut.fault cut.value acts old new none cut.done in
         (record { fault = cut.fault; value = cut.value; layout = cut.layout; outcome_is = cut.outcome_is; cause = cut.cause; done = done.0 }, done.1),
   )

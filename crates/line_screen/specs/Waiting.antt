@@ -1,9 +1,7 @@
 -- Where nothing waits in a screen's sink.
 use Rattle.std.specs.Prelude.{◌≡◌, ℕ, Bool, false, List, [], Result}
 use Rattle.line_config.specs.declared.errors.ReadlineError.{ReadlineError}
-use Rattle.line_keys.specs.Coming.{Coming}
-use Rattle.line_record.specs.Ring.{Ring}
-use Rattle.line_editor.specs.Acts.{Act}
+use Rattle.line_editor.specs.Acts.{Act, Stage}
 use Rattle.line_editor.specs.Calls.{Canvas}
 use Rattle.line_editor.specs.Lines.{Told}
 use Rattle.line_editor.specs.Running.{WholeLine, CutLine}
@@ -26,17 +24,18 @@ passing_canvas {D} held waits failed =
       ruler = all.ruler;
     }
 
--- where nothing waits as a line begins, nothing waits between its calls, where its keys are read, nor
--- at its end, whether it is read whole or cut by a fault
+-- where nothing waits as a line begins, nothing waits between its calls, where its keys are read,
+-- nor at its end, whether it is read whole or cut by a fault
 abbrev pub ReadsFindNothingWaiting : {D : Type 0} → (D → List ℕ) → (D → List ℕ) → (D → Bool)
     → Type 0
 ReadsFindNothingWaiting {D} held waits failed =
     let all = canvas_of held waits failed in
     let passing = passing_canvas held waits failed in
     let Rests : ScreenRenderer D → Type 0 = λ r. NothingWaits waits failed (sink_of r) in
-    (line : Told) (acts : List Act) (old new : ScreenRenderer D) (c c' : Coming) (r r' : Ring)
-    (outcome : Result (List ℕ) ReadlineError) → Rests old
-    → (WholeLine all line old new r' c' outcome
-    → WholeLine passing line old new r' c' outcome × Rests new)
-    × (CutLine all acts old new c c' r r' outcome
-    → CutLine passing acts old new c c' r r' outcome × Rests new)
+    (line : Told) (acts : List Act) (x y : Stage (ScreenRenderer D))
+    (outcome : Result (List ℕ) ReadlineError) → let old = x.drawn.out in let new = y.drawn.out in
+    Rests old
+    → (WholeLine all line old new y.ring y.coming outcome
+    → WholeLine passing line old new y.ring y.coming outcome × Rests new)
+    × (CutLine all acts old new x.coming y.coming x.ring y.ring outcome
+    → CutLine passing acts old new x.coming y.coming x.ring y.ring outcome × Rests new)
