@@ -26,10 +26,11 @@ use Rattle.line_screen.specs.Reader.{items_of}
 use Rattle.line_screen.specs.declared.reading.reader.KeyReader.{KeyReader}
 use Rattle.line_screen.specs.declared.renderer.ScreenRenderer.{ScreenRenderer}
 use Rattle.line_screen.proofs.CallLemmas.{sent_in_all, cut_stays}
+use Rattle.line_screen.proofs.WaitingLemmas.{reads_find_nothing_waiting}
 use Rattle.keyline.specs.Closing.{Closes, CloseReason, work}
 use Rattle.keyline.specs.Deeds.{SessionDeed, HelperAnswers, call_deeds, act_deeds, acts_in, close_deeds, line_deeds}
 use Rattle.keyline.specs.Desks.{Lined, TakesLine, DeskReason, feed_of, session_state_of, work_of}
-use Rattle.keyline.specs.Known.{Known}
+use Rattle.keyline.specs.Known.{Known, HasPassedOn}
 use Rattle.keyline.specs.Playing.{Work, Cut, LineWhole, LineCut, SessionReason}
 use Rattle.keyline.specs.Sessions.{Given, given_by, breaks, calls_of, line_in, history_after}
 use Rattle.keyline.specs.declared.desk.Desk.{Desk}
@@ -121,6 +122,22 @@ module _ {S H D L K T : Type 0} (k : Known S D L) (helps : Option H → Helping)
   screen_stays : RunsAt → IsTrue (items_of k.feed reader).told → screen_of ran.out ≡ screen_of old.out
   screen_stays runs t =
       let n = suc (feed_of k old).bound in screen_by n (runs.goes t n (le_refl _))
+
+  -- nothing waits after the line where nothing waited before it
+  passes_by : (n : ℕ) → Went n → HasPassedOn k (sink_of old.out) → HasPassedOn k (sink_of ran.out)
+  passes_by n went none =
+      let t = line_meant n setting custom config old.ring come in
+      let acts = acts_meant n setting custom config old.ring come in
+      let nothing_drawn = fresh (screen_of old.out).mode in
+      let reads = reads_find_nothing_waiting k.shown k.waits k.show_failed t acts (stage (surface old.out nothing_drawn) come old.ring)
+      (stage (surface ran.out nothing_drawn) (items_of k.feed reader).coming ring) (outcome_of ran) none in
+      elim went [
+        | inl w ↦ (reads.0 w).1
+        | inr w ↦ (reads.1 w).1
+      ]
+
+  line_passes : RunsAt → IsTrue (items_of k.feed reader).told → HasPassedOn k (sink_of old.out) → HasPassedOn k (sink_of ran.out)
+  line_passes runs t = let n = suc (feed_of k old).bound in passes_by n (runs.goes t n (le_refl _))
 
   module _ (out : ScreenRenderer D) (history : Filed) (lines : L) (result : Result (List ℕ) ReadlineError) where
     abbrev Ends : Result (List ℕ) ReadlineError → Type 0
@@ -228,13 +245,15 @@ module _ {S H D L K T : Type 0} (k : Known S D L) (helps : Option H → Helping)
     reason_of_close runs e (inr (inr (inr p))) =
         let P : ReadlineError → Type 0 = DeskReason k given new in subst P (sym p) tt
 
-    pub takes_line : RunsAt → Ends (outcome_of ran) → screen_of out ≡ screen_of ran.out → TakesLine k given given' old new result
-    takes_line runs closes screen = record {
+    pub takes_line : RunsAt → Ends (outcome_of ran) → screen_of out ≡ screen_of ran.out → (HasPassedOn k (sink_of ran.out) → HasPassedOn k (sink_of out))
+        → TakesLine k given given' old new result
+    takes_line runs closes screen passes = record {
       goes = λ t n b. lined n (runs.goes t n b) closes;
       given = lined_given runs screen;
       custom = refl;
       told = runs.told;
       falls = lined_falls runs closes.goes;
+      passes = λ t none. passes (line_passes runs t none);
       reason = if_err result closes.reason;
     }
       where

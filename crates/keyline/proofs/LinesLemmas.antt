@@ -5,7 +5,7 @@ use Rattle.line_keys.specs.Coming.{Coming}
 use Rattle.line_screen.specs.Calls.{sink_of}
 use Rattle.line_screen.specs.declared.renderer.ScreenRenderer.{ScreenRenderer}
 use Rattle.keyline.specs.Desks.{TakesLine, TakesLines, feed_of, session_state_of}
-use Rattle.keyline.specs.Known.{Known}
+use Rattle.keyline.specs.Known.{Known, HasPassedOn}
 use Rattle.keyline.specs.Playing.{Work, Reads}
 use Rattle.keyline.specs.Sessions.{Given, LineGiven, each, for_line}
 use Rattle.keyline.specs.declared.desk.Desk.{Desk}
@@ -56,7 +56,11 @@ module _ {S H D L : Type 0} (k : Known S D L) where
   onward_redrawn : (g : Given) (at at' : ℕ → LineGiven) (first now : Desk S H D L) (out : ScreenRenderer D) → sink_of out ≡ sink_of now.out
       → Onward k g at at' first now → Onward k g at at' first (redrawn now out)
   unfolding redrawn
-  onward_redrawn g at at' first now out same before = record { told = before.told; onward = λ t n b. let so = before.onward t n b in went so.0 so.1 so.2 }
+  onward_redrawn g at at' first now out same before = record {
+    told = before.told;
+    passes = λ t none. subst (HasPassedOn k) (sym same) (before.passes t none);
+    onward = λ t n b. let so = before.onward t n b in went so.0 so.1 so.2;
+  }
     where
       went : (m : ℕ) → (feed_of k now).bound < m → {Q : Work D L → Coming → ReadlineError → Type 0}
           → ((end : Work D L) (left : Coming) (why : ReadlineError) → Onwards k m g at' now end left why → Q end left why)

@@ -8,8 +8,9 @@ use Rattle.line_help.specs.History.{Filed}
 use Rattle.line_keys.specs.Answers.{HandlerFails}
 use Rattle.line_keys.specs.Coming.{Coming}
 use Rattle.keyline.specs.Deeds.{SessionDeed, HelperAnswers, deeds_after, line_deeds, session_deeds}
+use Rattle.line_screen.specs.Calls.{sink_of}
 use Rattle.keyline.specs.Desks.{Lined, TakesLine, TakesLines, DeskReason, feed_of, session_state_of, work_of}
-use Rattle.keyline.specs.Known.{Known}
+use Rattle.keyline.specs.Known.{Known, HasPassedOn}
 use Rattle.keyline.specs.Playing.{Work, LineWhole, LineCut, Cut, Reads, ReadsAs}
 use Rattle.keyline.specs.Sessions.{Given, LineGiven, SessionState, Report, for_line, line_in, after_line, line_reported, line_text, lines_text, line_bytes, display_bytes, screens_for, remembered, session_by}
 use Rattle.keyline.specs.declared.desk.Desk.{Desk}
@@ -108,12 +109,13 @@ module _ {S H D L : Type 0} (k : Known S D L) where
 -- lines were taken: what is read, drawn, kept and written from here on is, with them, what is so from the first desk on
 pub record Onward {S H D L : Type 0} (k : Known S D L) (g : Given) (at at' : ℕ → LineGiven) (first now : Desk S H D L) : Type 0 where
   pub told : IsTrue (feed_of k now).told → IsTrue (feed_of k first).told
+  pub passes : IsTrue (feed_of k now).told → HasPassedOn k (sink_of first.out) → HasPassedOn k (sink_of now.out)
   pub onward : IsTrue (feed_of k now).told → (n : ℕ) → (feed_of k first).bound < n → (m : ℕ) × ((feed_of k now).bound < m)
       × ((end : Work D L) (left : Coming) (why : ReadlineError) → Onwards k m g at' now end left why → Onwards k n g at first end left why)
 
 module _ {S H D L : Type 0} (k : Known S D L) where
   pub onward_nowhere : (g : Given) (at : ℕ → LineGiven) (d : Desk S H D L) → Onward k g at at d d
-  onward_nowhere g at d = record { told = λ t. t; onward = λ t n b. (n, b, λ end left why r. r) }
+  onward_nowhere g at d = record { told = λ t. t; passes = λ t none. none; onward = λ t n b. (n, b, λ end left why r. r) }
 
   -- what a line makes of what is to come
   abbrev LinedAt : Given → ℕ → Desk S H D L → Desk S H D L → Result (List ℕ) ReadlineError → Type 0
@@ -166,6 +168,7 @@ module _ {S H D L : Type 0} (k : Known S D L) where
     pub onward_ok : (text : List ℕ) → result ≡ Ok text → Onward k g at (λ line. at' (suc line)) first next
     onward_ok text is = record {
       told = λ t. before.told (line.told t);
+      passes = λ t none. line.passes t (before.passes (line.told t) none);
       onward = λ t n b. let so = before.onward (line.told t) n b in went t so.0 so.1 so.2;
     }
       where
@@ -186,6 +189,7 @@ module _ {S H D L : Type 0} (k : Known S D L) where
     pub onward_err : (e : ReadlineError) → result ≡ Err e → h.custom ≡ g.custom → TakesLines k g at first next e
     onward_err e is custom = record {
       goes = λ t n b. let so = before.onward (line.told t) n b in ends t so.0 so.1 (so.2 (work_of k next) (feed_of k next).coming e);
+      passes = λ t none. line.passes t (before.passes (line.told t) none);
       reason = let P : Result (List ℕ) ReadlineError → Type 0 = λ result. IfErr result (DeskReason k h next) in reason_kept e (subst P is line.reason);
     }
       where

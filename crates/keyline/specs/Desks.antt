@@ -6,7 +6,7 @@ use Rattle.line_editor.specs.Lines.{Told}
 use Rattle.line_screen.specs.Calls.{sink_of}
 use Rattle.line_screen.specs.Reader.{items_of, source_of}
 use Rattle.keyline.specs.Deeds.{SessionDeed, HelperAnswers, line_deeds}
-use Rattle.keyline.specs.Known.{Known}
+use Rattle.keyline.specs.Known.{Known, HasPassedOn}
 use Rattle.keyline.specs.Playing.{Work, SessionReason, LineWhole, LineCut, Reads}
 use Rattle.keyline.specs.Sessions.{Given, LineGiven, SessionState, line_in, after_line, line_bytes}
 use Rattle.keyline.specs.declared.desk.Desk.{Desk}
@@ -45,6 +45,8 @@ module _ {S H D L : Type 0} (k : Known S D L) where
     pub custom : g'.custom ≡ g.custom
     pub told : IsTrue (feed_of new).told → IsTrue (feed_of old).told
     pub falls : OnOk result ((feed_of new).bound < (feed_of old).bound)
+    pub passes : IsTrue (feed_of new).told → HasPassedOn k (sink_of old.out)
+        → HasPassedOn k (sink_of new.out)
     pub reason : IfErr result (DeskReason g new)
 
   -- THE relation of lines until one is refused, with what is handed in for each
@@ -53,4 +55,6 @@ module _ {S H D L : Type 0} (k : Known S D L) where
     pub goes : IsTrue (feed_of new).told → (n : ℕ) → (feed_of old).bound < n
         → Reads k.shown k.written_in n g at (session_state_of old) (work_of old) (work_of new)
         (feed_of new).coming why
+    pub passes : IsTrue (feed_of new).told → HasPassedOn k (sink_of old.out)
+        → HasPassedOn k (sink_of new.out)
     pub reason : DeskReason g new why

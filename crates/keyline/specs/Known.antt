@@ -1,6 +1,7 @@
 -- What is known of the devices of a session.
 use Rattle.std.specs.Prelude.{ℕ, Bool, List}
 use Rattle.line_config.specs.Feed.{Feed}
+use Rattle.line_screen.specs.Waiting.{NothingWaits}
 
 -- what is known of a source, a display and a sink of lines
 pub record Known (S D L : Type 0) : Type 0 where
@@ -21,3 +22,7 @@ known_by feed shown waits show_failed written_in write_failed = record {
   written_in = written_in;
   write_failed = write_failed;
 }
+
+-- a display that works has passed on all that was drawn
+abbrev pub HasPassedOn : {S D L : Type 0} → Known S D L → D → Type 0
+HasPassedOn k display = NothingWaits k.waits k.show_failed display

@@ -11,7 +11,7 @@ use Rattle.line_screen.specs.Calls.{screen_of, sink_of}
 use Rattle.line_screen.specs.Reader.{coming_in, kept_of, source_of}
 use Rattle.line_screen.specs.declared.reading.reader.KeyReader.{KeyReader}
 use Rattle.keyline.specs.Desks.{feed_of, session_state_of, work_of}
-use Rattle.keyline.specs.Known.{Known}
+use Rattle.keyline.specs.Known.{Known, HasPassedOn}
 use Rattle.keyline.specs.Endings.{ending_of}
 use Rattle.keyline.specs.Playing.{SessionReason, Reads, Saves, ending_after}
 use Rattle.keyline.specs.Sessions.{Given, coming_from, each}
@@ -107,6 +107,9 @@ pub record Plays {S H D L T : Type 0} (k : Known S D L) (held : T → List ℕ) 
       → Reads k.shown k.written_in n g (each g) (session_state_of k desk) (work_of k desk)
       (record { display = ended.display; lines = ended.lines; history = kept })
       (coming_in k.feed reader) why
+  -- where nothing waited in the display before, nothing waits in it at the end, if it works
+  pub passes : IsTrue (k.feed ended.source).told → HasPassedOn k (sink_of desk.out)
+      → HasPassedOn k ended.display
   pub source_is : ended.source ≡ source_of reader
   pub ahead_is : ended.ahead ≡ kept_of reader
   pub saves : Saves held failed kept ended.history text ended.text saved

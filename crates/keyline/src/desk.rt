@@ -6,6 +6,7 @@ ghost use Rattle.line_config.specs.Sending.{Sends};
 ghost use Rattle.line_editor.specs.Courses.{breaks_after};
 ghost use Rattle.line_keys.specs.Coming.{made_of};
 ghost use Rattle.line_screen.specs.Calls.{screen_of, sink_of};
+ghost use Rattle.line_screen.specs.Waiting.{NothingWaits};
 ghost use Rattle.keyline.specs.Closing.{Closes, work};
 ghost use Rattle.keyline.specs.Sessions.{given_by, line_text, remembered};
 
@@ -78,6 +79,8 @@ fn keep<D: Sink + Drop, L: Sink>(
         (work (sink_of out.old) lines.old history.old)
         (work (sink_of out.new) lines.new history.new) (made_of string_bytes result) }
     ensures screen { screen_of out.new ≡ screen_of out.old }
+    ensures passes { NothingWaits D.waits D.has_failed (sink_of out.old)
+        → NothingWaits D.waits D.has_failed (sink_of out.new) }
 {
     out.write_and_flush("\r\n")?;
     remember(alloc, history, text.as_str(), adds)?;
@@ -101,6 +104,8 @@ fn close<D: Sink + Drop, L: Sink>(
         (work (sink_of out.old) lines.old history.old)
         (work (sink_of out.new) lines.new history.new) (made_of string_bytes result) }
     ensures screen { screen_of out.new ≡ screen_of out.old }
+    ensures passes { NothingWaits D.waits D.has_failed (sink_of out.old)
+        → NothingWaits D.waits D.has_failed (sink_of out.new) }
 {
     match outcome {
         Ok(text) => keep(alloc, text, adds, out, history, lines),

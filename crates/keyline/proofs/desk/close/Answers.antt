@@ -3,6 +3,7 @@ use Rattle.std.proofs.Common.{◌∙◌, ap}
 use Rattle.std.specs.Prelude.{string_bytes}
 use Rattle.line_keys.specs.Coming.{made_of}
 use Rattle.std.proofs.lemmas.Result.{err_from_is_err_and}
+use Rattle.line_screen.proofs.WaitingLemmas.{unsent_rests}
 use Rattle.keyline.proofs.CloseLemmas.{breaks_by, closes_undrawn}
 use Rattle.keyline.proofs.desk.close.Goals as goal
 
@@ -12,3 +13,6 @@ returns-in_err-write_and_flush-in-Err-clause-closes g c =
     closes_undrawn g.D.Sink.held g.D.Sink.has_failed g.L.Sink.held g.L.Sink.has_failed
     c.args.adds _ _ _ _ _ _ p.0 (breaks_by _ c.args.outcome c.in-Err.why c.breaks_after.result c.in-Err.is c.breaks_after.ensures c.if-breaks_after.true)
     (ap (made_of string_bytes) p.1) (p.2 ∙ c.in_err-write_and_flush-in-Err.ensures.fault) c.in_err-write_and_flush-in-Err.ensures.failed c.in_err-write_and_flush-in-Err.ensures.refused.begins
+
+pub returns-in_err-write_and_flush-in-Err-clause-passes : goal.returns-in_err-write_and_flush-in-Err-clause-passes
+returns-in_err-write_and_flush-in-Err-clause-passes g c = λ none. unsent_rests g.D.Sink.held g.D.Sink.waits g.D.Sink.has_failed _ _ _ c.in_err-write_and_flush-in-Err.ensures.refused

@@ -3,6 +3,7 @@ use Rattle.std.proofs.Common.{◌∙◌, ap, Ok, Err}
 use Rattle.std.specs.Prelude.{string_bytes}
 use Rattle.line_keys.specs.Coming.{made_of}
 use Rattle.std.proofs.lemmas.Result.{err_from_is_err_and}
+use Rattle.line_screen.proofs.WaitingLemmas.{sent_rests, unsent_rests}
 use Rattle.keyline.proofs.CloseLemmas.{closes_undrawn, closes_unkept, closes_handed}
 use Rattle.keyline.proofs.desk.keep.Goals as goal
 
@@ -33,3 +34,17 @@ returns-in-Err-clause-closes g c =
     c.args.adds text c.as_str.result.now c.as_str-2.result.now _ _ _ _ _ _ c.write_line.result (Err c.in-Err.why)
     c.as_str.ensures.value c.as_str-2.ensures.value (ap (made_of (λ u. text)) c.in-Err.is)
     c.in_ok-write_and_flush.ensures.made.takes c.in_ok-remember.ensures.added c.write_line.ensures.sends c.write_line.ensures.fault
+
+-- ---- nothing waits after the new row
+
+pub returns-in_err-write_and_flush-clause-passes : goal.returns-in_err-write_and_flush-clause-passes
+returns-in_err-write_and_flush-clause-passes g c = λ none. unsent_rests g.D.Sink.held g.D.Sink.waits g.D.Sink.has_failed _ _ _ c.in_err-write_and_flush.ensures.refused
+
+pub returns-in_err-remember-clause-passes : goal.returns-in_err-remember-clause-passes
+returns-in_err-remember-clause-passes g c = λ none. sent_rests g.D.Sink.held g.D.Sink.waits g.D.Sink.has_failed _ _ _ none c.in_ok-write_and_flush.ensures.made
+
+pub returns-in-Ok-clause-passes : goal.returns-in-Ok-clause-passes
+returns-in-Ok-clause-passes g c = λ none. sent_rests g.D.Sink.held g.D.Sink.waits g.D.Sink.has_failed _ _ _ none c.in_ok-write_and_flush.ensures.made
+
+pub returns-in-Err-clause-passes : goal.returns-in-Err-clause-passes
+returns-in-Err-clause-passes g c = λ none. sent_rests g.D.Sink.held g.D.Sink.waits g.D.Sink.has_failed _ _ _ none c.in_ok-write_and_flush.ensures.made
