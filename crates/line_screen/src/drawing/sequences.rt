@@ -14,7 +14,8 @@ pub(crate) fn send<D: Sink>(sink: &mut D, bytes: &[u8]) -> Result<(), DeviceFail
     sink.write(bytes)
 }
 
-/// A sequence with a number and a final byte; nothing for 0.
+/// A sequence with a number and a final byte; nothing for 0. One with a single digit, as most have,
+/// is sent at once.
 pub(crate) fn send_control<D: Sink>(sink: &mut D, count: Unit, last: u8) -> Result<(), DeviceFailed>
     ensures { Sends D.held D.has_failed (control_sequence count last)
         sink.old sink.new result }
@@ -22,9 +23,13 @@ pub(crate) fn send_control<D: Sink>(sink: &mut D, count: Unit, last: u8) -> Resu
     if count == 0 {
         return Ok(());
     }
-    let mut digits = Buffer::new();
+    let mut buffer = Buffer::new();
+    let digits = buffer.format(count).as_bytes();
+    if let [digit] = *digits {
+        return send(sink, &[0x1B, b'[', digit, last]);
+    }
     send(sink, b"\x1B[")?;
-    send(sink, digits.format(count).as_bytes())?;
+    send(sink, digits)?;
     send(sink, &[last])
 }
 
