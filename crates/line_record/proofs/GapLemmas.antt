@@ -1,6 +1,6 @@
 -- Two lists of bytes, the second from the text's end: bytes passed from one to the other, and a text exchanged at their seam.
-use Rattle.std.proofs.Common.{◌≡◌, ℕ, zero, suc, ◌+◌, ◌-◌, ◌≤◌, List, [], ◌∷◌, ◌++◌, length, take, drop, reverse, refl, sym, ap, subst, ◌∙◌, arith, append_assoc, length-append}
-use Rattle.std.specs.Prelude.{IsUtf8, IsCharBoundary}
+use Rattle.std.proofs.Common.{◌≡◌, ℕ, ◌+◌, ◌-◌, ◌≤◌, List, [], ◌∷◌, ◌++◌, length, take, drop, reverse, refl, sym, ap, subst, ◌∙◌, arith, append_assoc, length-append}
+use Rattle.std.specs.Prelude.{Bool, Option, Result, Ok, Err, IsErrAnd, IsUtf8, IsCharBoundary}
 use Rattle.std.proofs.Math.Seq.{take-append_seam, drop-append_seam}
 use Rattle.std.proofs.lemmas.List.{append-nil, drop_all, take_all, take_at, take-append-drop, take-take, length-drop, length-reverse, reverse-append}
 use Rattle.std.proofs.lemmas.Str.{IsUtf8-drop, IsCharBoundary-at_seam}
@@ -8,7 +8,8 @@ use borrow.Rule.Slice.PartMut.{post_of}
 use Rattle.line_buffer.specs.Line.{Line}
 use Rattle.line_record.specs.Edit.{Edit, StandsAt, exchanged_at}
 use Rattle.line_record.specs.Gap.{seamed, detached, taking_over}
-use Rattle.line_record.specs.Items.{Item, changes_of, taken_back_in, made_anew_in, lines_back, lines_ahead, lines_ahead_one, many_back, part_back, part_ahead}
+use Rattle.line_record.specs.Items.{Items, taken_back_in, made_anew_in, lines_back, lines_ahead}
+use Rattle.line_record.specs.UndoRedo.{UndoesItems, RedoesItem, last_changes}
 use Rattle.line_record.proofs.Exchange.{exchanged}
 
 -- a list whose second part was turned round, as a vector sees it
@@ -76,29 +77,23 @@ ahead_over : (cs : List Edit) (l m : Line) → lines_ahead cs (taking_over l m) 
 ahead_over [] l m = refl
 ahead_over (c ∷ cs) l m = ahead_over cs l (made_anew_in c m)
 
-many_over : (n : ℕ) (items : List Item) (l m : Line) → many_back n items (taking_over l m) ≡ taking_over l (many_back n items m)
-many_over zero items l m = refl
-many_over (suc n) [] l m = refl
-many_over (suc n) (x ∷ items) l m = ap (many_back n items) (back_over (changes_of x) l m) ∙ many_over n items l (lines_back (changes_of x) m)
+pub back_apart : (cs : List Edit) (l : Line) → taking_over l (lines_back cs (detached l)) ≡ lines_back cs l
+back_apart cs l = sym (back_over cs l (detached l))
 
-pub many_back_apart : (n : ℕ) (items : List Item) (l : Line) → taking_over l (many_back n items (detached l)) ≡ many_back n items l
-many_back_apart n items l = sym (many_over n items l (detached l))
+pub ahead_apart : (cs : List Edit) (l : Line) → taking_over l (lines_ahead cs (detached l)) ≡ lines_ahead cs l
+ahead_apart cs l = sym (ahead_over cs l (detached l))
 
-ahead_one_over : (items : List Item) (l m : Line) → lines_ahead_one items (taking_over l m) ≡ taking_over l (lines_ahead_one items m)
-ahead_one_over [] l m = refl
-ahead_one_over (x ∷ items) l m = ahead_over (changes_of x) l m
+-- a refusal that leaves the line as it was: none of the changes is taken back
+pub nothing_undone : {E : Type 0} (n : ℕ) (old new : Items) (before after : Line) (e : E) (result : Result Bool E) → IsErrAnd result (λ x. x ≡ e) → after ≡ before → UndoesItems n old new before after result
+nothing_undone n old new before after e (Ok b) is kept = absurd is
+nothing_undone n old new before after e (Err x) is kept =
+    let cs = last_changes n old.done in
+    record {
+      answer = tt;
+      items = tt;
+      back = record { line = tt; part = (length cs, kept ∙ sym (ap (λ ds. lines_back ds before) (drop_all (length cs) cs (omega arith)))) };
+    }
 
-pub ahead_one_apart : (items : List Item) (l : Line) → taking_over l (lines_ahead_one items (detached l)) ≡ lines_ahead_one items l
-ahead_one_apart items l = sym (ahead_one_over items l (detached l))
-
--- a line as it was is a part of an undo, of which nothing is done
-back_none : (cs : List Edit) (l : Line) → lines_back (drop (length cs) cs) l ≡ l
-back_none cs l = ap (λ ds. lines_back ds l) (drop_all (length cs) cs (omega arith))
-
-pub no_part_back : (items : List Item) (l : Line) → (j : ℕ) × (l ≡ part_back 0 j items l)
-no_part_back [] l = (0, refl)
-no_part_back (x ∷ items) l = (length (changes_of x), sym (back_none (changes_of x) l))
-
-pub no_part_ahead : (items : List Item) (l : Line) → (j : ℕ) × (l ≡ part_ahead j items l)
-no_part_ahead [] l = (0, refl)
-no_part_ahead (x ∷ items) l = (0, refl)
+pub nothing_redone : {E : Type 0} (old new : Items) (before after : Line) (e : E) (result : Result (Option Bool) E) → IsErrAnd result (λ x. x ≡ e) → after ≡ before → RedoesItem old new before after result
+nothing_redone old new before after e (Ok b) is kept = absurd is
+nothing_redone old new before after e (Err x) is kept = record { answer = tt; items = tt; anew = record { line = tt; part = (0, kept) } }

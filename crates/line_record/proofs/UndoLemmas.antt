@@ -1,16 +1,96 @@
 -- What undoing and making anew do to the record of texts.
-use Rattle.std.proofs.Common.{◌≡◌, ℕ, zero, suc, ◌+◌, ◌-◌, ◌<◌, ◌≤◌, ◌||◌, Bool, true, false, List, [], ◌∷◌, drop, refl, sym, ap, subst, ◌∙◌, arith, Some, None, add-zero, zero-add}
+use Rattle.std.proofs.Common.{◌≡◌, ℕ, zero, suc, ◌+◌, ◌-◌, ◌<◌, ◌≤◌, ◌||◌, Bool, true, false, List, [], ◌∷◌, ◌++◌, length, take, drop, reverse, refl, sym, ap, subst, ◌∙◌, arith, append_assoc, Some, None, Ok, Err, Result, add-zero, zero-add}
+use Rattle.std.proofs.Math.Seq.{drop-append_seam}
+use Rattle.std.proofs.lemmas.List.{append-nil, take-append-drop, reverse-append}
+use Rattle.std.specs.List.{list_any}
 use Rattle.std.proofs.Math.Nat.{sub-zero}
 use Rattle.std.proofs.Math.Bool.{or_assoc}
-use Rattle.std.specs.Prelude.{IsUtf8}
+use Rattle.std.specs.Prelude.{IsErrAnd, IsUtf8}
 use Rattle.line_buffer.specs.Line.{Line}
 use Rattle.line_record.specs.Edit.{Edit, place_of, removed_of, added_of, taken_back, made_anew, redo_place, StandsIn, all_taken_back, all_made_anew, AllStandIn, AllFitIn, newest_of}
 use Rattle.line_record.specs.Held.{Held, is_step, undone_line, line_back, has_step, ahead_back, remade_line, line_ahead, has_step_ahead, held_ahead}
-use Rattle.line_record.specs.Items.{Item, Items, changes_of, before_item, after_item, holding, done_held, undone_ahead, DoneStand, UndoneFit, ItemsStand, held_on, ahead_on, taken_back_in, made_anew_in, lines_back, lines_ahead, lines_back_one, lines_ahead_one, part_back, undo_one, redo_one, undo_many, many_back, many_change, is_step_item, nearest_is_change}
+use Rattle.line_record.specs.Items.{Item, Items, changes_of, before_item, after_item, holding, done_held, undone_ahead, DoneStand, UndoneFit, ItemsStand, held_on, ahead_on, taken_back_in, made_anew_in, lines_back, lines_ahead, nearest_changes, undo_one, redo_one, is_step_item, nearest_is_change}
+use Rattle.line_record.specs.UndoRedo.{UndoesItems, last_changes}
 use Rattle.line_record.specs.Items.Item.{Open, Lone, Group}
 use Rattle.line_record.proofs.Exchange.{exchanged}
 use Rattle.line_record.proofs.StepLemmas.{lines_back_text, lines_ahead_text, lines_back_but_place}
 use Rattle.line_record.proofs.StoredLemmas.{text_of-holding}
+
+-- several items in turn
+abbrev undo_many : ℕ → List Item → List Item → Items
+undo_many zero done undone = record { done = done; undone = undone }
+undo_many (suc n) [] undone = record { done = []; undone = undone }
+undo_many (suc n) (x ∷ items) undone = undo_many n items (x ∷ undone)
+
+abbrev many_back : ℕ → List Item → Line → Line
+many_back zero items l = l
+many_back (suc n) [] l = l
+many_back (suc n) (x ∷ items) l = many_back n items (lines_back (changes_of x) l)
+
+abbrev many_change : ℕ → List Item → Bool
+many_change zero items = false
+many_change (suc n) [] = false
+many_change (suc n) (x ∷ items) = is_step_item x || many_change n items
+
+-- some items, and of the next item's changes those from the j-th on
+abbrev part_back : ℕ → ℕ → List Item → Line → Line
+part_back k j [] l = l
+part_back zero j (x ∷ items) l = lines_back (drop j (changes_of x)) l
+part_back (suc k) j (x ∷ items) l = part_back k j items (lines_back (changes_of x) l)
+
+undo_many_is : (n : ℕ) (done undone : List Item) → undo_many n done undone ≡ record { done = drop n done; undone = reverse (take n done) ++ undone }
+undo_many_is zero done undone = refl
+undo_many_is (suc n) [] undone = refl
+undo_many_is (suc n) (x ∷ items) undone =
+    undo_many_is n items (x ∷ undone) ∙ ap (λ (xs : List Item). let s : Items = record { done = drop n items; undone = xs } in s)
+    (sym (ap (λ xs. xs ++ undone) (reverse-append (x ∷ []) (take n items)) ∙ append_assoc (reverse (take n items)) (x ∷ []) undone))
+
+lines_back-append : (cs ds : List Edit) (l : Line) → lines_back (cs ++ ds) l ≡ lines_back cs (lines_back ds l)
+lines_back-append [] ds l = refl
+lines_back-append (c ∷ cs) ds l = ap (taken_back_in c) (lines_back-append cs ds l)
+
+many_back_is : (n : ℕ) (items : List Item) (l : Line) → many_back n items l ≡ lines_back (last_changes n items) l
+many_back_is zero items l = refl
+many_back_is (suc n) [] l = refl
+many_back_is (suc n) (x ∷ items) l = many_back_is n items (lines_back (changes_of x) l) ∙ sym (lines_back-append (last_changes n items) (changes_of x) l)
+
+many_change_is : (n : ℕ) (items : List Item) → many_change n items ≡ list_any is_step_item (take n items)
+many_change_is zero items = refl
+many_change_is (suc n) [] = refl
+many_change_is (suc n) (x ∷ items) = ap (λ b. is_step_item x || b) (many_change_is n items)
+
+-- the changes that a part leaves, and those that it takes back
+record PartOf (n k j : ℕ) (items : List Item) (l : Line) : Type 0 where
+  left : List Edit
+  back : List Edit
+  split : last_changes n items ≡ left ++ back
+  line : part_back k j items l ≡ lines_back back l
+
+part_of : (n k j : ℕ) (items : List Item) (l : Line) → k < n → PartOf n k j items l
+part_of n k j [] l less = record { left = last_changes n []; back = []; split = sym (append-nil (last_changes n [])); line = refl }
+part_of zero k j (x ∷ items) l less = absurd (omega (arith, less))
+part_of (suc n) zero j (x ∷ items) l less =
+    let cs = changes_of x in
+    record {
+      left = last_changes n items ++ take j cs;
+      back = drop j cs;
+      split = ap (λ ds. last_changes n items ++ ds) (sym (take-append-drop j cs)) ∙ sym (append_assoc (last_changes n items) (take j cs) (drop j cs));
+      line = refl;
+    }
+part_of (suc n) (suc k) j (x ∷ items) l less =
+    let cs = changes_of x in
+    let rest = part_of n k j items (lines_back cs l) (omega (arith, less)) in
+    record {
+      left = rest.left;
+      back = rest.back ++ cs;
+      split = ap (λ ds. ds ++ cs) rest.split ∙ append_assoc rest.left rest.back cs;
+      line = rest.line ∙ sym (lines_back-append rest.back cs l);
+    }
+
+part_is : (n k j : ℕ) (items : List Item) (l : Line) → k < n → (i : ℕ) × (part_back k j items l ≡ lines_back (drop i (last_changes n items)) l)
+part_is n k j items l less =
+    let p = part_of n k j items l less in
+    (length p.left, p.line ∙ sym (ap (λ cs. lines_back cs l) (ap (drop (length p.left)) p.split ∙ drop-append_seam p.left p.back)))
 
 -- changes that were taken back can be made anew
 pub record TakenBack (cs : List Edit) (text : List ℕ) : Type 0 where
@@ -116,7 +196,7 @@ begun n s l h = record {
 -- one item more
 undo_turn_on : (end counter : ℕ) (first : Items) (done undone_items : List Item) (before after : Line) (undone b : Bool)
     → Undoing end counter first (record { done = done; undone = undone_items }) before after undone → counter < end → Some b ≡ nearest_is_change done
-    → Undoing end (counter + 1) first (undo_one done undone_items) before (lines_back_one done after) (undone || b)
+    → Undoing end (counter + 1) first (undo_one done undone_items) before (lines_back (nearest_changes done) after) (undone || b)
 undo_turn_on end counter first [] undone_items before after undone b u less is = cc
 undo_turn_on end counter first (x ∷ items) undone_items before after undone b u less is =
     let n : end - counter ≡ suc (end - (counter + 1)) = omega arith in
@@ -132,31 +212,38 @@ undo_turn_on end counter first (x ∷ items) undone_items before after undone b 
     }
 
 pub undo_turn : (end counter : ℕ) (first now next : Items) (before after later : Line) (undone b : Bool) → Undoing end counter first now before after undone → counter < end
-    → Some b ≡ nearest_is_change now.done → next ≡ undo_one now.done now.undone → later ≡ lines_back_one now.done after
+    → Some b ≡ nearest_is_change now.done → next ≡ undo_one now.done now.undone → later ≡ lines_back (nearest_changes now.done) after
     → Undoing end (counter + 1) first next before later (undone || b)
 undo_turn end counter first now next before after later undone b u less is items line =
     subst (λ s. Undoing end (counter + 1) first s before later (undone || b)) (sym items)
     (subst (λ l. Undoing end (counter + 1) first (undo_one now.done now.undone) before l (undone || b)) (sym line)
     (undo_turn_on end counter first now.done now.undone before after undone b u less is))
 
-pub record Finished (n : ℕ) (first last : Items) (before after : Line) (undone : Bool) : Type 0 where
-  pub items : last ≡ undo_many n first.done first.undone
-  pub line : after ≡ many_back n first.done before
-  pub answer : undone ≡ many_change n first.done
+record Finished (n : ℕ) (first last : Items) (before after : Line) (undone : Bool) : Type 0 where
+  items : last ≡ undo_many n first.done first.undone
+  line : after ≡ many_back n first.done before
+  answer : undone ≡ many_change n first.done
+
+finished : {E : Type 0} (n : ℕ) (first last : Items) (before after : Line) (undone : Bool) → Finished n first last before after undone → UndoesItems {E = E} n first last before after (Ok undone)
+finished n first last before after undone f = record {
+  answer = f.answer ∙ many_change_is n first.done;
+  items = f.items ∙ undo_many_is n first.done first.undone;
+  back = record { line = f.line ∙ many_back_is n first.done before; part = tt };
+}
 
 or-false : (b : Bool) → (b || false) ≡ b
 or-false true = refl
 or-false false = refl
 
-pub ran_out : (end counter : ℕ) (first now : Items) (before after : Line) (undone : Bool) → Undoing end counter first now before after undone → end ≤ counter
-    → Finished end first now before after undone
+pub ran_out : {E : Type 0} (end counter : ℕ) (first now : Items) (before after : Line) (undone : Bool) → Undoing end counter first now before after undone → end ≤ counter
+    → UndoesItems {E = E} end first now before after (Ok undone)
 ran_out end counter first now before after undone u over =
     let n : end - counter ≡ 0 = omega arith in
-    record {
+    finished end first now before after undone (record {
       items = sym (ap (λ k. undo_many k now.done now.undone) n) ∙ u.items;
       line = sym (ap (λ k. many_back k now.done after) n) ∙ u.line;
       answer = sym (or-false undone) ∙ sym (ap (λ k. undone || many_change k now.done) n) ∙ u.answer;
-    }
+    })
 
 undo_many-nil : (n : ℕ) (undone : List Item) → undo_many n [] undone ≡ record { done = []; undone = undone }
 undo_many-nil zero undone = refl
@@ -172,7 +259,7 @@ many_change-nil (suc n) = refl
 
 nothing_left_on : (end counter : ℕ) (first : Items) (done undone_items : List Item) (before after : Line) (undone : Bool)
     → Undoing end counter first (record { done = done; undone = undone_items }) before after undone → None ≡ nearest_is_change done
-    → Finished end first (undo_one done undone_items) before (lines_back_one done after) undone
+    → Finished end first (undo_one done undone_items) before (lines_back (nearest_changes done) after) undone
 nothing_left_on end counter first [] undone_items before after undone u is = record {
   items = sym (undo_many-nil (end - counter) undone_items) ∙ u.items;
   line = sym (many_back-nil (end - counter) after) ∙ u.line;
@@ -180,11 +267,11 @@ nothing_left_on end counter first [] undone_items before after undone u is = rec
 }
 nothing_left_on end counter first (x ∷ items) undone_items before after undone u is = cc
 
-pub nothing_left : (end counter : ℕ) (first now next : Items) (before after later : Line) (undone : Bool) → Undoing end counter first now before after undone
-    → None ≡ nearest_is_change now.done → next ≡ undo_one now.done now.undone → later ≡ lines_back_one now.done after → Finished end first next before later undone
+pub nothing_left : {E : Type 0} (end counter : ℕ) (first now next : Items) (before after later : Line) (undone : Bool) → Undoing end counter first now before after undone
+    → None ≡ nearest_is_change now.done → next ≡ undo_one now.done now.undone → later ≡ lines_back (nearest_changes now.done) after → UndoesItems {E = E} end first next before later (Ok undone)
 nothing_left end counter first now next before after later undone u is items line =
-    subst (λ s. Finished end first s before later undone) (sym items)
-    (subst (λ l. Finished end first (undo_one now.done now.undone) before l undone) (sym line) (nothing_left_on end counter first now.done now.undone before after undone u is))
+    finished end first next before later undone (subst (λ s. Finished end first s before later undone) (sym items)
+    (subst (λ l. Finished end first (undo_one now.done now.undone) before l undone) (sym line) (nothing_left_on end counter first now.done now.undone before after undone u is)))
 
 -- an undo by its definition
 pub record UndoneAs (n : ℕ) (first last : Items) (before after : Line) (undone : Bool) : Type 0 where
@@ -194,25 +281,39 @@ pub record UndoneAs (n : ℕ) (first last : Items) (before after : Line) (undone
   pub ahead : ahead_on last after.text ≡ ahead_back n (held_on first before.text) before.text (ahead_on first before.text)
   pub stand : ItemsStand last after.text
 
-pub undone_as : (n : ℕ) (first last : Items) (before after : Line) (undone : Bool) → Finished n first last before after undone → ItemsStand first before.text → IsUtf8 before.text
+pub undone_as : {E : Type 0} (n : ℕ) (first last : Items) (before after : Line) (undone : Bool) → UndoesItems {E = E} n first last before after (Ok undone) → ItemsStand first before.text → IsUtf8 before.text
     → UndoneAs n first last before after undone
 undone_as n first last before after undone f h u =
     let x = undone_by n first.done first.undone before h.0 u in
     let many = undo_many n first.done first.undone in
     let back = many_back n first.done before in
+    let items : last ≡ many = f.items ∙ sym (undo_many_is n first.done first.undone) in
+    let line : after ≡ back = f.back.line ∙ sym (many_back_is n first.done before) in
     record {
-      answer = f.answer ∙ x.answer;
-      line = f.line ∙ x.line;
-      held = ap (λ s. held_on s after.text) f.items ∙ ap (λ (l : Line). held_on many l.text) f.line ∙ x.held;
-      ahead = ap (λ s. ahead_on s after.text) f.items ∙ ap (λ (l : Line). ahead_on many l.text) f.line ∙ x.ahead;
-      stand = subst (λ s. ItemsStand s after.text) (sym f.items) (subst (λ (l : Line). ItemsStand many l.text) (sym f.line) (x.stand, x.fit h.1));
+      answer = f.answer ∙ sym (many_change_is n first.done) ∙ x.answer;
+      line = line ∙ x.line;
+      held = ap (λ s. held_on s after.text) items ∙ ap (λ (l : Line). held_on many l.text) line ∙ x.held;
+      ahead = ap (λ s. ahead_on s after.text) items ∙ ap (λ (l : Line). ahead_on many l.text) line ∙ x.ahead;
+      stand = subst (λ s. ItemsStand s after.text) (sym items) (subst (λ (l : Line). ItemsStand many l.text) (sym line) (x.stand, x.fit h.1));
     }
 
 -- what a refusal leaves of an undo
-pub part_left : (end counter : ℕ) (first now : Items) (before after left : Line) (undone : Bool) → Undoing end counter first now before after undone → counter < end
-    → (j : ℕ) × (left ≡ part_back 0 j now.done after) → (k : ℕ) × (j : ℕ) × (k < end) × (left ≡ part_back k j first.done before)
+nearest_part : (j : ℕ) (items : List Item) (l : Line) → lines_back (drop j (nearest_changes items)) l ≡ part_back 0 j items l
+nearest_part zero [] l = refl
+nearest_part (suc j) [] l = refl
+nearest_part j (x ∷ items) l = refl
+
+part_left : (end counter : ℕ) (first now : Items) (before after left : Line) (undone : Bool) → Undoing end counter first now before after undone → counter < end
+    → (j : ℕ) × (left ≡ lines_back (drop j (nearest_changes now.done)) after) → (i : ℕ) × (left ≡ lines_back (drop i (last_changes end first.done)) before)
 part_left end counter first now before after left undone u less (j, e) =
-    (counter, j, less, e ∙ u.part 0 j ∙ ap (λ k. part_back k j first.done before) (add-zero counter))
+    let p = part_is end counter j first.done before less in
+    (p.0, e ∙ nearest_part j now.done after ∙ u.part 0 j ∙ ap (λ k. part_back k j first.done before) (add-zero counter) ∙ p.1)
+
+pub undoes_in_part : {E : Type 0} (end counter : ℕ) (first now next : Items) (before after left : Line) (undone : Bool) (e : E) (result : Result Bool E) → IsErrAnd result (λ x. x ≡ e)
+    → Undoing end counter first now before after undone → counter < end → (j : ℕ) × (left ≡ lines_back (drop j (nearest_changes now.done)) after) → UndoesItems end first next before left result
+undoes_in_part end counter first now next before after left undone e (Ok b) is u less part = absurd is
+undoes_in_part end counter first now next before after left undone e (Err x) is u less part =
+    record { answer = tt; items = tt; back = record { line = tt; part = part_left end counter first now before after left undone u less part } }
 
 -- a redo by its definition
 pub record RedoneAs (first last : Items) (before after : Line) : Type 0 where
@@ -223,7 +324,7 @@ pub record RedoneAs (first last : Items) (before after : Line) : Type 0 where
   pub answer : (b : Bool) → Some b ≡ nearest_is_change first.undone → b ≡ has_step_ahead (ahead_on first before.text)
 
 redone_on : (done undone : List Item) (l : Line) → DoneStand done l.text → UndoneFit undone l.text → IsUtf8 l.text
-    → RedoneAs (record { done = done; undone = undone }) (redo_one done undone) l (lines_ahead_one undone l)
+    → RedoneAs (record { done = done; undone = undone }) (redo_one done undone) l (lines_ahead (nearest_changes undone) l)
 redone_on done [] l h f u = record { line = refl; held = refl; ahead = refl; stand = (h, tt); answer = λ b e. cc }
 redone_on done (x ∷ items) l h f u =
     let e : (lines_ahead (changes_of x) l).text ≡ after_item x l.text = lines_ahead_text (changes_of x) l in
@@ -237,7 +338,7 @@ redone_on done (x ∷ items) l h f u =
       answer = λ b i. (let same : b ≡ is_step_item x = cc in same) ∙ is_step-holding x l.text;
     }
 
-pub redone_as : (first last : Items) (before after : Line) → last ≡ redo_one first.done first.undone → after ≡ lines_ahead_one first.undone before → ItemsStand first before.text
+pub redone_as : (first last : Items) (before after : Line) → last ≡ redo_one first.done first.undone → after ≡ lines_ahead (nearest_changes first.undone) before → ItemsStand first before.text
     → IsUtf8 before.text → RedoneAs first last before after
 redone_as first last before after items line h u =
     subst (λ s. RedoneAs first s before after) (sym items)

@@ -1,6 +1,6 @@
 -- The record's value: the changes done and undone, each side nearest first, and the texts that they
 -- hold on a line's text.
-use Rattle.std.specs.Prelude.{◌≡◌, ℕ, ◌||◌, Bool, true, false, List, [], ◌∷◌, ◌++◌, zero, suc, take, drop, length, ◌-◌, Option, Some, None, is_some, IsUtf8}
+use Rattle.std.specs.Prelude.{◌≡◌, ℕ, Bool, true, false, List, [], ◌∷◌, ◌++◌, drop, length, ◌-◌, Option, Some, None, is_some, IsUtf8}
 use Rattle.line_buffer.specs.Event.{Event}
 use Rattle.line_buffer.specs.Event.Event.{StartKilling, StopKilling, Delete, InsertChar, InsertStr, Replace}
 use Rattle.line_buffer.specs.Line.{Line}
@@ -50,17 +50,6 @@ lines_back (c ∷ cs) l = taken_back_in c (lines_back cs l)
 abbrev pub lines_ahead : List Edit → Line → Line
 lines_ahead [] l = l
 lines_ahead (c ∷ cs) l = lines_ahead cs (made_anew_in c l)
-
--- a part of what an undo does: some items, and of the next item's changes those from the j-th on
-abbrev pub part_back : ℕ → ℕ → List Item → Line → Line
-part_back k j [] l = l
-part_back zero j (x ∷ items) l = lines_back (drop j (changes_of x)) l
-part_back (suc k) j (x ∷ items) l = part_back k j items (lines_back (changes_of x) l)
-
--- a part of what a redo does
-abbrev pub part_ahead : ℕ → List Item → Line → Line
-part_ahead j [] l = l
-part_ahead j (x ∷ items) l = lines_ahead (take j (changes_of x)) l
 
 -- an item, with the text before it
 abbrev pub holding : Item → List ℕ → Held
@@ -137,35 +126,15 @@ is_step_item Open = false
 is_step_item (Lone c) = true
 is_step_item (Group c cs) = true
 
--- the line with the nearest item taken back, or made anew
-abbrev pub lines_back_one : List Item → Line → Line
-lines_back_one [] l = l
-lines_back_one (x ∷ items) l = lines_back (changes_of x) l
-
-abbrev pub lines_ahead_one : List Item → Line → Line
-lines_ahead_one [] l = l
-lines_ahead_one (x ∷ items) l = lines_ahead (changes_of x) l
+-- the changes of the nearest item, if there is one
+abbrev pub nearest_changes : List Item → List Edit
+nearest_changes [] = []
+nearest_changes (x ∷ items) = changes_of x
 
 -- whether the nearest item is a step, if there is one
 abbrev pub nearest_is_change : List Item → Option Bool
 nearest_is_change [] = None
 nearest_is_change (x ∷ items) = Some (is_step_item x)
-
--- several items in turn
-abbrev pub undo_many : ℕ → List Item → List Item → Items
-undo_many zero done undone = record { done = done; undone = undone }
-undo_many (suc n) [] undone = record { done = []; undone = undone }
-undo_many (suc n) (x ∷ items) undone = undo_many n items (x ∷ undone)
-
-abbrev pub many_back : ℕ → List Item → Line → Line
-many_back zero items l = l
-many_back (suc n) [] l = l
-many_back (suc n) (x ∷ items) l = many_back n items (lines_back (changes_of x) l)
-
-abbrev pub many_change : ℕ → List Item → Bool
-many_change zero items = false
-many_change (suc n) [] = false
-many_change (suc n) (x ∷ items) = is_step_item x || many_change n items
 
 -- a change noted after the items done
 abbrev pub noted_on : Option Edit → Edit → Edit → List Item → List Item

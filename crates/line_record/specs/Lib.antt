@@ -15,3 +15,4 @@ pub mod Spans
 pub mod Steps
 pub mod Stored
 pub mod Together
+pub mod UndoRedo

@@ -137,10 +137,10 @@ impl Entry {
     }
 }
 
-ghost use Rattle.std.specs.Prelude.{◌≡◌, ◌+◌, ◌==◌, ℕ, All, take, drop, OnOk, OnErr};
+ghost use Rattle.std.specs.Prelude.{◌≡◌, ◌+◌, ◌==◌, All};
 ghost use Rattle.line_record.specs.Edit.{AllStandIn, AllFitIn};
-ghost use Rattle.line_record.specs.Items.{lines_back, lines_ahead};
 ghost use Rattle.line_record.specs.Logged.{edits_in, Spelt};
+ghost use Rattle.line_record.specs.UndoRedo.{TakesBack, MakesAnew};
 
 /// A place stands so many bytes after another.
 fn follows(place: usize, before: usize, length: usize) -> bool
@@ -159,10 +159,7 @@ pub(crate) fn take_back<L: EditedLine>(
 ) -> Result<(), OutOfMemory>
     requires spelt { All (Spelt log.now) entries.now }
     requires stand { AllStandIn (edits_in log.now entries.now) (L.value line.old).text }
-    ensures line { OnOk result (L.value line.new
-        ≡ lines_back (edits_in log.now entries.now) (L.value line.old)) }
-    ensures part { OnErr result ((j : ℕ) × (L.value line.new
-        ≡ lines_back (drop j (edits_in log.now entries.now)) (L.value line.old))) }
+    ensures { TakesBack (edits_in log.now entries.now) (L.value line.old) (L.value line.new) result }
 {
     let mut left = entries;
     while let Some((newest, earlier)) = left.split_last() {
@@ -181,10 +178,7 @@ pub(crate) fn make_anew<L: EditedLine>(
 ) -> Result<(), OutOfMemory>
     requires spelt { All (Spelt log.now) entries.now }
     requires fit { AllFitIn (edits_in log.now entries.now) (L.value line.old).text }
-    ensures line { OnOk result (L.value line.new
-        ≡ lines_ahead (edits_in log.now entries.now) (L.value line.old)) }
-    ensures part { OnErr result ((j : ℕ) × (L.value line.new
-        ≡ lines_ahead (take j (edits_in log.now entries.now)) (L.value line.old))) }
+    ensures { MakesAnew (edits_in log.now entries.now) (L.value line.old) (L.value line.new) result }
 {
     for change in entries {
         change.make_anew(alloc, log, line)?;

@@ -28,12 +28,12 @@ impl Model for Log {
 }
 
 impl Log {
-    ghost use Rattle.std.specs.Prelude.{◌≡◌, ◌<◌, ◌≤◌, ◌++◌, ℕ, [], ◌∷◌, length, take, drop, slice_range, slice_index_or, IfOk, OnOk, OnErr, is_some, unwrap_or, option_copied};
+    ghost use Rattle.std.specs.Prelude.{◌≡◌, ◌<◌, ◌≤◌, ◌++◌, [], ◌∷◌, length, take, slice_range, slice_index_or, IfOk, OnOk, OnErr, is_some, unwrap_or, option_copied};
     ghost use Rattle.line_record.specs.Edit.{Edit, AllStandIn, AllFitIn};
     ghost use Rattle.line_record.specs.Held.{inserted_by};
-    ghost use Rattle.line_record.specs.Items.{lines_back, lines_ahead};
     ghost use Rattle.line_record.specs.Logged.{edit_from, grown, joined_at};
     ghost use Rattle.line_record.specs.Stored.{event_of};
+    ghost use Rattle.line_record.specs.UndoRedo.{TakesBack, MakesAnew};
 
     pub fn new(alloc: Global) -> Self
         ensures { result ≡ [] }
@@ -177,10 +177,8 @@ impl Log {
         requires order { first ≤ last }
         requires inside { last ≤ length self.now }
         requires stand { AllStandIn (slice_range self.now first last) (L.value line.old).text }
-        ensures line { OnOk result (L.value line.new
-            ≡ lines_back (slice_range self.now first last) (L.value line.old)) }
-        ensures part { OnErr result ((j : ℕ) × (L.value line.new
-            ≡ lines_back (drop j (slice_range self.now first last)) (L.value line.old))) }
+        ensures { TakesBack (slice_range self.now first last) (L.value line.old) (L.value line.new)
+            result }
     {
         take_back(alloc, &self.text, &self.entries[first..last], line)
     }
@@ -197,10 +195,8 @@ impl Log {
         requires order { first ≤ last }
         requires inside { last ≤ length self.now }
         requires fit { AllFitIn (slice_range self.now first last) (L.value line.old).text }
-        ensures line { OnOk result (L.value line.new
-            ≡ lines_ahead (slice_range self.now first last) (L.value line.old)) }
-        ensures part { OnErr result ((j : ℕ) × (L.value line.new
-            ≡ lines_ahead (take j (slice_range self.now first last)) (L.value line.old))) }
+        ensures { MakesAnew (slice_range self.now first last) (L.value line.old) (L.value line.new)
+            result }
     {
         make_anew(alloc, &self.text, &self.entries[first..last], line)
     }

@@ -49,13 +49,14 @@ impl Model for Steps {
 }
 
 impl Steps {
-    ghost use Rattle.std.specs.Prelude.{◌≡◌, ◌+◌, ◌<◌, ◌≤◌, ◌++◌, ℕ, true, [], ◌∷◌, length, take, drop, reverse, slice_get, slice_index_or, IfOk, OnOk, OnErr, Some, is_some, option_map, option_copied};
+    ghost use Rattle.std.specs.Prelude.{◌≡◌, ◌+◌, ◌<◌, ◌≤◌, ◌++◌, true, [], ◌∷◌, length, take, drop, reverse, slice_get, slice_index_or, IfOk, OnOk, OnErr, Some, is_some, option_map, option_copied};
     ghost use Rattle.line_record.specs.Edit.{AllStandIn, AllFitIn};
     ghost use Rattle.line_record.specs.Held.{change_of};
-    ghost use Rattle.line_record.specs.Items.{changes_of, lines_back, lines_ahead, is_step_item, gathered, group_of, noted_if};
+    ghost use Rattle.line_record.specs.Items.{changes_of, is_step_item, gathered, group_of, noted_if};
     ghost use Rattle.line_record.specs.Items.Item.{Open, Lone};
     ghost use Rattle.line_record.specs.Steps.{JoinedIn};
     ghost use Rattle.line_record.specs.Stored.{event_of, is_open, joined_items, item_inserted};
+    ghost use Rattle.line_record.specs.UndoRedo.{TakesBack, MakesAnew};
 
     pub fn new(alloc: Global) -> Self
         ensures { result ≡ [] }
@@ -238,11 +239,8 @@ impl Steps {
         requires inside { index < length self.now }
         requires stand { AllStandIn (changes_of (slice_index_or self.now index Open))
             (L.value line.old).text }
-        ensures line { OnOk result (L.value line.new
-            ≡ lines_back (changes_of (slice_index_or self.now index Open)) (L.value line.old)) }
-        ensures part { OnErr result ((j : ℕ) × (L.value line.new
-            ≡ lines_back (drop j (changes_of (slice_index_or self.now index Open)))
-            (L.value line.old))) }
+        ensures { TakesBack (changes_of (slice_index_or self.now index Open)) (L.value line.old)
+            (L.value line.new) result }
     {
         let step = self.steps[index];
         self.log.take_back(alloc, step.first, step.last, line)
@@ -259,11 +257,8 @@ impl Steps {
         requires inside { index < length self.now }
         requires fit { AllFitIn (changes_of (slice_index_or self.now index Open))
             (L.value line.old).text }
-        ensures line { OnOk result (L.value line.new
-            ≡ lines_ahead (changes_of (slice_index_or self.now index Open)) (L.value line.old)) }
-        ensures part { OnErr result ((j : ℕ) × (L.value line.new
-            ≡ lines_ahead (take j (changes_of (slice_index_or self.now index Open)))
-            (L.value line.old))) }
+        ensures { MakesAnew (changes_of (slice_index_or self.now index Open)) (L.value line.old)
+            (L.value line.new) result }
     {
         let step = self.steps[index];
         self.log.make_anew(alloc, step.first, step.last, line)

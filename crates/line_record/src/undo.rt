@@ -10,9 +10,10 @@ use std::alloc::Global;
 const FEW: usize = 8;
 
 impl Changeset {
-    ghost use Rattle.std.specs.Prelude.{◌≡◌, ◌+◌, ◌<◌, ◌++◌, ℕ, true, max, drop, IfOk, OnOk, OnErr, IsUtf8};
+    ghost use Rattle.std.specs.Prelude.{◌≡◌, ◌+◌, ◌++◌, ℕ, true, max, take, drop, IfOk, OnOk, OnErr, IsUtf8};
     ghost use Rattle.line_record.specs.Held.{line_back, has_step, ahead_back, line_ahead, has_step_ahead, held_ahead};
-    ghost use Rattle.line_record.specs.Items.{no_items, undo_one, redo_one, undo_many, many_back, many_change, lines_back_one, lines_ahead_one, part_back, part_ahead, nearest_is_change, ItemsStand, DoneStand, UndoneFit, held_on, ahead_on};
+    ghost use Rattle.line_record.specs.Items.{no_items, undo_one, lines_back, lines_ahead, nearest_changes, nearest_is_change, ItemsStand, DoneStand, UndoneFit, held_on, ahead_on};
+    ghost use Rattle.line_record.specs.UndoRedo.{TakesBack, UndoesItems, RedoesItem, last_changes};
 
     /// Takes the last `n` items back: steps, and open marks. 0 acts as 1. Answers whether a step
     /// was among them. The cursor goes to the place of the oldest of their changes, after what was
@@ -35,8 +36,8 @@ impl Changeset {
             (held_on self.old line.old.text) line.old.text (ahead_on self.old line.old.text)) }
         ensures stand { ItemsStand self.new line.new.text }
         ensures refused { OnErr result (self.new ≡ no_items) }
-        ensures part { OnErr result ((k : ℕ) × (j : ℕ) × (k < max n 1)
-            × (line.new ≡ part_back k j self.old.done line.old)) }
+        ensures part { OnErr result ((j : ℕ) × (line.new
+            ≡ lines_back (drop j (last_changes (max n 1) self.old.done)) line.old)) }
     {
         // Its contract says that the text is UTF-8.
         let _text = line.as_str();
@@ -56,13 +57,8 @@ impl Changeset {
         line: &mut LineBuffer,
         n: RepeatCount,
     ) -> Result<bool, OutOfMemory>
-        requires some { 0 < n }
-        requires stand { DoneStand self.old.done line.old.text }
-        ensures answer { IfOk result (λ b. b ≡ many_change n self.old.done) }
-        ensures items { OnOk result (self.new ≡ undo_many n self.old.done self.old.undone) }
-        ensures line { OnOk result (line.new ≡ many_back n self.old.done line.old) }
-        ensures part { OnErr result ((k : ℕ) × (j : ℕ) × (k < n)
-            × (line.new ≡ part_back k j self.old.done line.old)) }
+        requires { DoneStand self.old.done line.old.text }
+        ensures { UndoesItems n self.old self.new line.old line.new result }
     {
         let last = self.done.saturating_sub(1);
         let is_long = n > 1 || self.steps.change_count(last) > FEW;
@@ -82,10 +78,7 @@ impl Changeset {
         n: RepeatCount,
     ) -> Result<bool, OutOfMemory>
         requires { DoneStand self.old.done line.old.text }
-        ensures answer { IfOk result (λ b. b ≡ many_change n self.old.done) }
-        ensures items { OnOk result (self.new ≡ undo_many n self.old.done self.old.undone) }
-        ensures line { OnOk result (line.new ≡ many_back n self.old.done line.old) }
-        ensures kept { OnErr result (line.new ≡ line.old) }
+        ensures { UndoesItems n self.old self.new line.old line.new result }
     {
         let mut apart = GapLine::new(alloc, line)?;
         let undone = self.undo_items(alloc, &mut apart, n)?;
@@ -101,12 +94,7 @@ impl Changeset {
         n: RepeatCount,
     ) -> Result<bool, OutOfMemory>
         requires { DoneStand self.old.done (L.value line.old).text }
-        ensures answer { IfOk result (λ b. b ≡ many_change n self.old.done) }
-        ensures items { OnOk result (self.new ≡ undo_many n self.old.done self.old.undone) }
-        ensures line { OnOk result (L.value line.new ≡ many_back n self.old.done
-            (L.value line.old)) }
-        ensures part { OnErr result ((k : ℕ) × (j : ℕ) × (k < n)
-            × (L.value line.new ≡ part_back k j self.old.done (L.value line.old))) }
+        ensures { UndoesItems n self.old self.new (L.value line.old) (L.value line.new) result }
     {
         let mut undone = false;
         for _ in 0..n {
@@ -127,10 +115,8 @@ impl Changeset {
         requires { DoneStand self.old.done (L.value line.old).text }
         ensures answer { IfOk result (λ o. o ≡ nearest_is_change self.old.done) }
         ensures items { OnOk result (self.new ≡ undo_one self.old.done self.old.undone) }
-        ensures line { OnOk result (L.value line.new ≡ lines_back_one self.old.done
-            (L.value line.old)) }
-        ensures part { OnErr result ((j : ℕ) × (L.value line.new ≡ part_back 0 j self.old.done
-            (L.value line.old))) }
+        ensures back { TakesBack (nearest_changes self.old.done) (L.value line.old)
+            (L.value line.new) result }
     {
         let Some(last) = self.done.checked_sub(1) else {
             return Ok(None);
@@ -156,7 +142,8 @@ impl Changeset {
             (ahead_on self.old line.old.text)) }
         ensures stand { ItemsStand self.new line.new.text }
         ensures refused { OnErr result (self.new ≡ no_items) }
-        ensures part { OnErr result ((j : ℕ) × (line.new ≡ part_ahead j self.old.undone line.old)) }
+        ensures part { OnErr result ((j : ℕ) × (line.new
+            ≡ lines_ahead (take j (nearest_changes self.old.undone)) line.old)) }
     {
         // Its contract says that the text is UTF-8.
         let _text = line.as_str();
@@ -176,10 +163,7 @@ impl Changeset {
         line: &mut LineBuffer,
     ) -> Result<Option<bool>, OutOfMemory>
         requires { UndoneFit self.old.undone line.old.text }
-        ensures answer { IfOk result (λ o. o ≡ nearest_is_change self.old.undone) }
-        ensures items { OnOk result (self.new ≡ redo_one self.old.done self.old.undone) }
-        ensures line { OnOk result (line.new ≡ lines_ahead_one self.old.undone line.old) }
-        ensures part { OnErr result ((j : ℕ) × (line.new ≡ part_ahead j self.old.undone line.old)) }
+        ensures { RedoesItem self.old self.new line.old line.new result }
     {
         let is_long = self.steps.change_count(self.done) > FEW;
         if is_long {
@@ -196,10 +180,7 @@ impl Changeset {
         line: &mut LineBuffer,
     ) -> Result<Option<bool>, OutOfMemory>
         requires { UndoneFit self.old.undone line.old.text }
-        ensures answer { IfOk result (λ o. o ≡ nearest_is_change self.old.undone) }
-        ensures items { OnOk result (self.new ≡ redo_one self.old.done self.old.undone) }
-        ensures line { OnOk result (line.new ≡ lines_ahead_one self.old.undone line.old) }
-        ensures kept { OnErr result (line.new ≡ line.old) }
+        ensures { RedoesItem self.old self.new line.old line.new result }
     {
         let mut apart = GapLine::new(alloc, line)?;
         let redone = self.redo_item(alloc, &mut apart)?;
@@ -214,12 +195,7 @@ impl Changeset {
         line: &mut L,
     ) -> Result<Option<bool>, OutOfMemory>
         requires { UndoneFit self.old.undone (L.value line.old).text }
-        ensures answer { IfOk result (λ o. o ≡ nearest_is_change self.old.undone) }
-        ensures items { OnOk result (self.new ≡ redo_one self.old.done self.old.undone) }
-        ensures line { OnOk result (L.value line.new ≡ lines_ahead_one self.old.undone
-            (L.value line.old)) }
-        ensures part { OnErr result ((j : ℕ) × (L.value line.new ≡ part_ahead j self.old.undone
-            (L.value line.old))) }
+        ensures { RedoesItem self.old self.new (L.value line.old) (L.value line.new) result }
     {
         let next = self.done;
         if next == self.steps.len() {

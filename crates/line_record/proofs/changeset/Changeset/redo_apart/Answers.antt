@@ -1,10 +1,17 @@
 use Rattle.std.proofs.Common.{ap, ◌∙◌}
 use Rattle.line_record.specs.Gap.{taking_over}
-use Rattle.line_record.specs.Items.{lines_ahead_one}
-use Rattle.line_record.proofs.GapLemmas.{ahead_one_apart}
+use Rattle.line_record.specs.Items.{lines_ahead, nearest_changes}
+use Rattle.line_record.proofs.GapLemmas.{ahead_apart}
 use Rattle.line_record.proofs.changeset.Changeset.redo_apart.Goals as goal
 
-pub returns-clause-line : goal.returns-clause-line
-returns-clause-line c =
-    c.in_ok-write.ensures.line ∙ ap (taking_over c.args.line.now) (c.in_ok-redone.ensures.line ∙ ap (lines_ahead_one c.args.self.now.undone) c.in_ok-apart.ensures)
-    ∙ ahead_one_apart c.args.self.now.undone c.args.line.now
+pub returns : goal.returns
+returns c =
+    let cs = nearest_changes c.args.self.now.undone in
+    record {
+      answer = c.in_ok-redone.ensures.answer;
+      items = c.in_ok-redone.ensures.items;
+      anew = record {
+        line = c.in_ok-write.ensures.line ∙ ap (taking_over c.args.line.now) (c.in_ok-redone.ensures.anew.line ∙ ap (lines_ahead cs) c.in_ok-apart.ensures) ∙ ahead_apart cs c.args.line.now;
+        part = tt;
+      };
+    }

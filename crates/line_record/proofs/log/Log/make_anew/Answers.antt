@@ -1,9 +1,8 @@
-use Rattle.std.proofs.Common.{ℕ, List, take, string_bytes, sym, ap, subst, ◌∙◌}
+use Rattle.std.proofs.Common.{ℕ, List, string_bytes, sym, subst}
 use Rattle.std.specs.Prelude.{All, slice_range}
-use Rattle.std.proofs.lemmas.Result.{on_ok_weaker, on_err_weaker}
 use Rattle.line_record.specs.declared.entry.Entry.{Entry}
 use Rattle.line_record.specs.Edit.{Edit, AllFitIn}
-use Rattle.line_record.specs.Items.{lines_ahead}
+use Rattle.line_record.specs.UndoRedo.{MakesAnew}
 use Rattle.line_record.specs.Logged.{Spelt}
 use Rattle.line_record.proofs.LogLemmas.{range_spelt, range_seen}
 use Rattle.line_record.proofs.log.Log.make_anew.Goals as goal
@@ -17,8 +16,6 @@ make_anew-requires-clause-spelt g c =
 pub make_anew-requires-clause-fit : goal.make_anew-requires-clause-fit
 make_anew-requires-clause-fit g c = subst (λ (es : List Edit). AllFitIn es (g.L.EditedLine.value c.args.line.now).text) (sym (range_seen _ _ _ _ _ c.args.first c.args.last c.deref.ensures c.deref-2.ensures.value c.self.view_is)) c.requires.fit
 
-pub returns-clause-line : goal.returns-clause-line
-returns-clause-line g c = on_ok_weaker c.make_anew.result (λ is. is ∙ ap (λ (es : List Edit). lines_ahead es (g.L.EditedLine.value c.args.line.now)) (range_seen _ _ _ _ _ c.args.first c.args.last c.deref.ensures c.deref-2.ensures.value c.self.view_is)) c.make_anew.ensures.line
-
-pub returns-clause-part : goal.returns-clause-part
-returns-clause-part g c = on_err_weaker c.make_anew.result (λ is. (is.0, is.1 ∙ ap (λ (es : List Edit). lines_ahead (take is.0 es) (g.L.EditedLine.value c.args.line.now)) (range_seen _ _ _ _ _ c.args.first c.args.last c.deref.ensures c.deref-2.ensures.value c.self.view_is))) c.make_anew.ensures.part
+pub returns : goal.returns
+returns g c = subst (λ (es : List Edit). MakesAnew es (g.L.EditedLine.value c.args.line.now) (g.L.EditedLine.value c.make_anew.new.line) c.make_anew.result)
+    (range_seen _ _ _ _ _ c.args.first c.args.last c.deref.ensures c.deref-2.ensures.value c.self.view_is) c.make_anew.ensures
