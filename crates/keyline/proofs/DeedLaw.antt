@@ -2,13 +2,12 @@
 use Rattle.std.proofs.Common.{◌≡◌, ℕ, zero, suc, ◌≤◌, List, [], ◌∷◌, ◌++◌, length, refl, sym, ap, ◌∙◌, subst, append-nil, append_assoc, Result, Ok, Err, arith}
 use Rattle.line_config.specs.declared.errors.ReadlineError.{ReadlineError}
 use Rattle.line_editor.specs.Lines.{Told}
-use Rattle.line_editor.specs.Redraws.{fresh}
 use Rattle.line_screen.specs.Calls.{Screen}
 use Rattle.line_keys.specs.Coming.{Coming}
-use Rattle.keyline.specs.Deeds.{SessionDeed, Draws, Helped, Hears, Keeps, Writes, bytes_drawn, left_of_deeds, lines_kept, lines_written, act_deeds, acts_in, close_deeds, line_deeds, deeds_after, session_deeds, AreFirst, DeedsTell}
+use Rattle.keyline.specs.Deeds.{SessionDeed, Draws, Helped, Hears, Keeps, Writes, bytes_drawn, left_of_deeds, lines_kept, lines_written, asked_in, close_deeds, line_deeds, deeds_after, session_deeds, AreFirst, DeedsTell}
 use Rattle.keyline.specs.Playing.{accepted_of}
 use Rattle.keyline.specs.Sessions.{Given, LineGiven, SessionState, Report, for_line, line_in, after_line, line_reported, line_bytes, display_bytes, screens_for, session_by}
-use Rattle.keyline.proofs.DeedLemmas.{Ordered, as_acts, drawn_both, left_both, kept_both, written_both, deeds_drawn, deeds_left, deeds_kept, deeds_written}
+use Rattle.keyline.proofs.DeedLemmas.{Ordered, in_asks, drawn_both, left_both, kept_both, written_both, deeds_drawn, deeds_left, deeds_kept, deeds_written}
 
 -- ---- what all of them come to
 
@@ -74,14 +73,11 @@ unfolding session_deeds
 ordered zero g at x = tt
 ordered (suc n) g at x =
     let first = for_line g (at 0) in
-    let s = first.screen in
     let later : ℕ → LineGiven = λ line. at (suc line) in
     let t = line_in (suc n) first x in
-    let acts = acts_in (suc n) first x in
-    let l = fresh s.mode in
     let others = session_deeds n g later (after_line g t x) in
-    subst (λ deeds. Ordered [] deeds) (sym (append_assoc (act_deeds s l acts) (close_deeds t.outcome) (deeds_after t.outcome others)))
-    ((as_acts s x.coming l acts).ordered (close_deeds t.outcome ++ deeds_after t.outcome others) (ordered_close t.outcome others (ordered n g later (after_line g t x))))
+    subst (λ deeds. Ordered [] deeds) (sym (append_assoc (asked_in (suc n) first x) (close_deeds t.outcome) (deeds_after t.outcome others)))
+    ((in_asks (suc n) first x).ordered (close_deeds t.outcome ++ deeds_after t.outcome others) (ordered_close t.outcome others (ordered n g later (after_line g t x))))
 
 are_first : (lines : List (List ℕ)) (deeds done next : List SessionDeed) → Ordered [] deeds → lines_kept deeds ≡ lines → deeds ≡ done ++ next → AreFirst done lines
 are_first lines deeds done next is kept split =

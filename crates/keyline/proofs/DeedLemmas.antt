@@ -1,5 +1,5 @@
 -- Deeds one after the other, done and cut.
-use Rattle.std.proofs.Common.{◌≡◌, ℕ, zero, suc, Bool, true, false, List, [], ◌∷◌, ◌++◌, ◌⊎◌, inl, inr, refl, sym, ap, ◌∙◌, subst, append-nil, append_assoc, Option, Result, Ok, Err}
+use Rattle.std.proofs.Common.{◌≡◌, ℕ, Bool, true, false, List, [], ◌∷◌, ◌++◌, inl, inr, refl, sym, ap, ◌∙◌, subst, append-nil, append_assoc, Result, Ok, Err}
 use Rattle.std.specs.List.{FoldsTo, flat_map}
 use Rattle.std.specs.Prelude.{⊤}
 use Rattle.std.proofs.lemmas.Grind.{flat_map-append}
@@ -10,29 +10,26 @@ use Rattle.line_config.specs.Sending.{Takes, TakesSome}
 use Rattle.line_config.proofs.ScriptLaws.{fault_or}
 use Rattle.line_config.proofs.Taking.{takes_none, takes_then, taken_of}
 use Rattle.line_help.specs.History.{Filed, filed_with, filed_with_all}
-use Rattle.line_keys.specs.Answers.{Custom}
 use Rattle.line_keys.specs.Coming.{Coming, left_by}
-use Rattle.line_keys.specs.Phrases.{Input}
-use Rattle.line_keys.specs.InputStates.{new_input}
-use Rattle.line_record.specs.Ring.{Ring}
-use Rattle.line_editor.specs.Acts.{Act, Sees, Gets, Obeys, Stage, stage, CutIn, acts_after, acts_from, acts_of, turn_acts}
+use Rattle.line_keys.specs.Feeds.{InputItem, IsReadFault, Paste}
+use Rattle.line_keys.specs.Phrases.{Reads}
 use Rattle.line_editor.specs.Calls.{Call, Canvas, MadeIn, RefusedIn, BrokenOff}
 use Rattle.line_editor.specs.Calls.Call.{Help}
-use Rattle.line_editor.specs.Lines.{Told, Turned, turn_of, after_turn, line_from, line_of}
+use Rattle.line_editor.specs.LineScripts.{FaultLeaves, Kept, Keys, LineAsk, Obeys, Stage, Stopped, effect_at, left_at, stage, steps_along}
+use Rattle.line_editor.specs.Lines.{Told}
 use Rattle.line_editor.specs.Redraws.{Asked, asked_by, fresh}
-use Rattle.line_editor.specs.Sights.{info_after}
-use Rattle.line_editor.specs.Steps.{one, asked, Surface, surface, Refusal, Unhelped, StepCut, Stops as StepsStop}
+use Rattle.line_editor.specs.Running.{kept_first, line_played}
+use Rattle.line_editor.specs.Steps.{one, Surface, Refusal, Unhelped, StepCut, Stops as StepsStop}
 use Rattle.line_editor.specs.Values.{Value, Setting, EditStep}
 use Rattle.line_editor.specs.Values.EditStep.{Draws as DrawStep, Helped as HelpStep, Updates as UpdateStep, Edits as EditingStep, TakesBack as BackStep, Takes as TakingStep}
-use Rattle.line_editor.specs.declared.commands.Status.{Status}
-use Rattle.line_editor.specs.declared.commands.Status.TheVariants.{Proceed, Submit}
-use Rattle.line_editor.proofs.ActsLemmas.{asked_of, asked_same, rest_of, turn_rest, whole_redraws}
+use Rattle.line_editor.proofs.StopsLemmas.{asked_both}
+use Rattle.line_editor.proofs.ToldLemmas.{PlayedOf, StoppedIn, left_along, line_comes}
 use Rattle.line_screen.specs.Calls.{Screen, bytes_of, canvas_of, ruler_of, screen_of, sink_of}
 use Rattle.line_screen.specs.Drawing.{break_if}
 use Rattle.line_screen.specs.declared.renderer.ScreenRenderer.{ScreenRenderer}
 use Rattle.line_screen.proofs.CallLemmas.{sent_in_all}
 use Rattle.keyline.specs.Closing.{work}
-use Rattle.keyline.specs.Deeds.{SessionDeed, Draws, Helped, Hears, Keeps, Writes, HelperAnswers, bytes_drawn, left_of_deeds, lines_kept, lines_written, call_deed, call_deeds, act_deeds, close_deeds, acts_in, line_deeds}
+use Rattle.keyline.specs.Deeds.{SessionDeed, Draws, Helped, Hears, Keeps, Writes, HelperAnswers, bytes_drawn, left_of_deeds, lines_kept, lines_written, call_deed, call_deeds, read_deeds, ask_deeds, asked_in, close_deeds, line_deeds}
 use Rattle.keyline.specs.Playing.{Work, LineWhole, Cut, Stops, TakesMemory, DrawsSome, WritesSome, FailsToHelp, IsRead, accepted_of}
 use Rattle.keyline.specs.Sessions.{Given, SessionState, breaks, calls_of, history_after, line_bytes, line_in, line_text, lines_text, remembered, setting_in}
 use Rattle.keyline.specs.Shows.{drawn_by}
@@ -64,7 +61,7 @@ answers_both [] ys h k = k
 answers_both (Helped fails ∷ xs) ys h k = (h.0, answers_both xs ys h.1 k)
 answers_both (_ ∷ xs) ys h k = answers_both xs ys h k
 
--- ---- deeds of calls and of acts
+-- ---- deeds of calls and of asks
 
 -- each line is written right after it was kept; these are kept and not yet written
 abbrev pub Ordered : List (List ℕ) → List SessionDeed → Type 0
@@ -106,11 +103,42 @@ module _ (s : Screen) where
   as_heard c rest c' deeds calls r =
       record { drawn = r.drawn; left = r.left; kept = r.kept; written = r.written; answered = r.answered; takes = λ adds tail h. tt; ordered = r.ordered }
 
-  pub as_acts : (c : Coming) (l : Layout) (acts : List Act) → AsCalls s c (rest_of c acts) (act_deeds s l acts) (asked_of (ruler_of s) l acts).calls
-  as_acts c l [] = as_none c
-  as_acts c l (Sees steps ∷ more) = let x = drawn_by s l steps in as_calls c (rest_of c more) x.calls (act_deeds s x.layout more) _ (as_acts c x.layout more)
-  as_acts c l (Gets value rest ∷ more) = as_heard c rest (rest_of rest more) (act_deeds s l more) _ (as_acts rest l more)
-  as_acts c l (Obeys textless ring steps ∷ more) = let x = drawn_by s l steps in as_calls c (rest_of c more) x.calls (act_deeds s x.layout more) _ (as_acts c x.layout more)
+  as_read : (a : Setting) (indent : ℕ) (k : Kept) (ask : LineAsk) (c' : Coming) (deeds : List SessionDeed) (calls : List Call) → let rest = (left_at a indent k ask).coming in
+      AsCalls s rest c' deeds calls → AsCalls s k.coming c' (read_deeds ask rest ++ deeds) calls
+  as_read a indent k (Keys (Reads item)) c' deeds calls r = as_heard k.coming (left_at a indent k (Keys (Reads item))).coming c' deeds calls r
+  as_read a indent k _ c' deeds calls r = r
+
+  pub as_asks : (a : Setting) (indent : ℕ) (l : Layout) (k : Kept) (asks : List LineAsk)
+      → AsCalls s k.coming (left_along a indent k asks).coming (ask_deeds s a indent l k asks) (drawn_by s l (steps_along a indent k asks)).calls
+  as_asks a indent l k [] = as_none k.coming
+  as_asks a indent l k (ask ∷ asks) =
+      let steps = (effect_at a indent k ask).steps in
+      let x = drawn_by s l steps in
+      let left = left_at a indent k ask in
+      let rest = as_asks a indent x.layout left asks in
+      let calls = (drawn_by s x.layout (steps_along a indent left asks)).calls in
+      let c' = (left_along a indent left asks).coming in
+      let Q : Asked → Type 0 = λ q. AsCalls s k.coming c' (ask_deeds s a indent l k (ask ∷ asks)) q.calls in
+      subst Q (sym (asked_both (ruler_of s) l steps (steps_along a indent left asks)))
+      (as_calls k.coming c' x.calls (read_deeds ask left.coming ++ ask_deeds s a indent x.layout left asks) calls
+      (as_read a indent k ask c' (ask_deeds s a indent x.layout left asks) calls rest))
+
+  -- those of some asks after others
+  asks_both : (a : Setting) (indent : ℕ) (l : Layout) (k : Kept) (xs ys : List LineAsk)
+      → ask_deeds s a indent l k (xs ++ ys) ≡ ask_deeds s a indent l k xs ++ ask_deeds s a indent (drawn_by s l (steps_along a indent k xs)).layout (left_along a indent k xs) ys
+  asks_both a indent l k [] ys = refl
+  asks_both a indent l k (ask ∷ xs) ys =
+      let steps = (effect_at a indent k ask).steps in
+      let x = drawn_by s l steps in
+      let left = left_at a indent k ask in
+      let first = call_deeds s x.calls in
+      let read = read_deeds ask left.coming in
+      let here = ask_deeds s a indent x.layout left xs in
+      let more : Layout → List SessionDeed = λ m. ask_deeds s a indent m (left_along a indent left xs) ys in
+      let m = (drawn_by s x.layout (steps_along a indent left xs)).layout in
+      ap (λ zs. first ++ (read ++ zs)) (asks_both a indent x.layout left xs ys)
+      ∙ (ap (λ zs. first ++ zs) (sym (append_assoc read here (more m))) ∙ (sym (append_assoc first (read ++ here) (more m))
+      ∙ ap (λ (q : Asked). (first ++ (read ++ here)) ++ more q.layout) (sym (asked_both (ruler_of s) l steps (steps_along a indent left xs)))))
 
   -- calls that were made had the helper's answers
   pub made_answered : {R : Type 0} (canvas : Canvas R) (calls : List Call) (a b : R) → FoldsTo (MadeIn canvas) a calls b → HelperAnswers (call_deeds s calls)
@@ -118,61 +146,23 @@ module _ (s : Screen) where
   made_answered canvas (Help fails ∷ calls) a b h = (h.1.0, made_answered canvas calls h.0 b h.2)
   made_answered canvas (_ ∷ calls) a b h = made_answered canvas calls h.0 b h.2
 
--- ---- what a line's acts leave to come
-
-rest_both : (c : Coming) (acts more : List Act) → rest_of c (acts ++ more) ≡ rest_of (rest_of c acts) more
-rest_both c [] more = refl
-rest_both c (Sees steps ∷ acts) more = rest_both c acts more
-rest_both c (Gets value rest ∷ acts) more = rest_both rest acts more
-rest_both c (Obeys textless ring steps ∷ acts) more = rest_both c acts more
-
-after_rest : (s : Setting) (info : Option (List ℕ)) (t : Turned) (o : Result Status ReadlineError)
-    (next : Input → Ring → Option (List ℕ) → Value → Coming → Told) (acts : Input → Ring → Value → Coming → List Act)
-    → ((info : Option (List ℕ)) → rest_of t.rest (acts t.input t.ring t.made.value t.rest) ≡ (next t.input t.ring info t.made.value t.rest).rest)
-    → rest_of t.rest (acts_after acts s t o) ≡ (after_turn next s info t o).rest
-after_rest s info t (Ok Proceed) next acts same = same (info_after t.made.steps info)
-after_rest s info t (Ok Submit) next acts same = refl
-after_rest s info t (Err e) next acts same = refl
-
-line_rest : (n : ℕ) (s : Setting) (custom : Custom) (indent : ℕ) (i : Input) (r : Ring) (info : Option (List ℕ)) (v : Value) (c : Coming)
-    → rest_of c (acts_from n s custom indent i r v c) ≡ (line_from n s custom indent i r info v c).rest
-unfolding line_from acts_from
-line_rest zero s custom indent i r info v c = refl
-line_rest (suc n) s custom indent i r info v c =
-    let t = turn_of (suc n) s custom indent i r v c in
-    let after = acts_after (acts_from n s custom indent) s t t.outcome in
-    rest_both c (turn_acts (suc n) s custom indent i r v c) after ∙ (ap (λ d. rest_of d after) (turn_rest (suc n) s custom indent i r v c)
-    ∙ after_rest s info t t.outcome (line_from n s custom indent) (acts_from n s custom indent) (λ stands. line_rest n s custom indent t.input t.ring stands t.made.value t.rest))
-
-whole_rest : (n : ℕ) (s : Setting) (custom : Custom) (indent : ℕ) (i : Input) (r : Ring) (c : Coming)
-    → rest_of c (acts_of n s custom indent i r c) ≡ (line_of n s custom indent i r c).rest
-unfolding line_of acts_of
-whole_rest n s custom indent i r c = line_rest n s custom indent i r _ _ c
-
 -- ---- a line
 
 module _ (n : ℕ) (g : Given) (x : SessionState) where
   abbrev read : Told
   read = line_in n g x
 
-  abbrev in_line : List SessionDeed
-  in_line = act_deeds g.screen (fresh g.screen.mode) (acts_in n g x)
-
-  same_calls : (asked_of (ruler_of g.screen) (fresh g.screen.mode) (acts_in n g x)).calls ≡ calls_of g.screen read
-  same_calls =
+  pub in_asks : AsCalls g.screen x.coming read.rest (asked_in n g x) (calls_of g.screen read)
+  in_asks =
       let s = g.screen in
+      let a = setting_in g x.history.kept.entries in
       let l = fresh s.mode in
-      let calls : Asked → List Call = λ a. a.calls in
-      let of_steps : List EditStep → List Call = λ steps. (asked (ruler_of s) l steps).calls in
-      ap calls (asked_same (ruler_of s) l (acts_in n g x))
-      ∙ ap of_steps (whole_redraws n (setting_in g x.history.kept.entries) g.custom g.config.indent_size (new_input g.config.edit_mode) x.ring x.coming)
-
-  pub in_acts : AsCalls g.screen x.coming read.rest in_line (calls_of g.screen read)
-  in_acts =
-      let l = fresh g.screen.mode in
-      let rest = whole_rest n (setting_in g x.history.kept.entries) g.custom g.config.indent_size (new_input g.config.edit_mode) x.ring x.coming in
-      subst (λ c. AsCalls g.screen x.coming c in_line (calls_of g.screen read)) rest
-      (subst (λ calls. AsCalls g.screen x.coming (rest_of x.coming (acts_in n g x)) in_line calls) same_calls (as_acts g.screen x.coming l (acts_in n g x)))
+      let k = kept_first a g.config x.ring x.coming in
+      let p = line_played n a g.custom g.config x.ring x.coming in
+      let comes = (line_comes n a g.custom g.config x.ring x.coming).comes in
+      subst (λ (z : Kept). AsCalls s x.coming z.coming (asked_in n g x) (calls_of s read)) comes.left_is
+      (subst (λ (steps : List EditStep). AsCalls s x.coming (left_along a g.config.indent_size k p.asks).coming (asked_in n g x) (drawn_by s l steps).calls) comes.steps_are
+      (as_asks s a g.config.indent_size l k p.asks))
 
 close_drawn : (o : Result (List ℕ) ReadlineError) → bytes_drawn (close_deeds o) ≡ break_if (breaks o)
 close_drawn (Ok text) = append-nil _
@@ -199,10 +189,10 @@ module _ (n : ℕ) (g : Given) (x : SessionState) where
   outcome = (line_in n g x).outcome
 
   abbrev lined : List SessionDeed
-  lined = act_deeds g.screen (fresh g.screen.mode) (acts_in n g x)
+  lined = asked_in n g x
 
   abbrev as_lined : AsCalls g.screen x.coming (line_in n g x).rest lined (calls_of g.screen (line_in n g x))
-  as_lined = in_acts n g x
+  as_lined = in_asks n g x
 
   pub deeds_drawn : bytes_drawn (line_deeds n g x) ≡ line_bytes g.screen (line_in n g x)
   deeds_drawn = drawn_both lined (close_deeds outcome) ∙ (ap (λ zs. zs ++ bytes_drawn (close_deeds outcome)) as_lined.drawn
@@ -383,7 +373,7 @@ module _ {D L : Type 0} (shown : D → List ℕ) (written_in : L → List ℕ) (
       added (Ok text) h = refl
       added (Err e) h = sym (remembered_none adds h)
 
-  -- ---- a line's acts on a screen; lines and history stay
+  -- ---- a line's asks on a screen; lines and history stay
 
   module _ (lines : L) (history : Filed) where
     abbrev on : ScreenRenderer D → Work D L
@@ -402,11 +392,11 @@ module _ {D L : Type 0} (shown : D → List ℕ) (written_in : L → List ℕ) (
           left_is = is ∙ sym r.left;
         }
 
-    -- all acts of a line were done
-    pub done_acts : (n : ℕ) (g : Given) (x : SessionState) (a b : ScreenRenderer D) (left : Coming) → Takes shown (sink_of a) (sink_of b) (flat_map (bytes_of g.screen) (calls_of g.screen (line_in n g x)))
+    -- all asks of a line were answered
+    pub done_asks : (n : ℕ) (g : Given) (x : SessionState) (a b : ScreenRenderer D) (left : Coming) → Takes shown (sink_of a) (sink_of b) (flat_map (bytes_of g.screen) (calls_of g.screen (line_in n g x)))
         → HelperAnswers (call_deeds g.screen (calls_of g.screen (line_in n g x))) → left ≡ (line_in n g x).rest
-        → AllDone (act_deeds g.screen (fresh g.screen.mode) (acts_in n g x)) x.coming (on a) (on b) left
-    done_acts n g x a b left took answered is = untouched g.screen _ _ x.coming _ left a b (in_acts n g x) is took answered
+        → AllDone (asked_in n g x) x.coming (on a) (on b) left
+    done_asks n g x a b left took answered is = untouched g.screen _ _ x.coming _ left a b (in_asks n g x) is took answered
 
     module _ (waits : D → List ℕ) (show_failed : D → Bool) (s : Screen) where
       abbrev Made : List Call → ScreenRenderer D → ScreenRenderer D → Type 0
@@ -486,65 +476,67 @@ module _ {D L : Type 0} (shown : D → List ℕ) (written_in : L → List ℕ) (
           (subst (λ why. CutAt (call_deeds s x.calls ++ (call_deeds s more ++ tail)) c (on a.out) (on b.out) c why) why_is
           (cut_step step (call_deeds s more ++ tail) ((as_alone s c more).takes adds tail takes) c e a b is h))
 
-      -- ---- acts: their steps, and then others
+      -- ---- asks
 
-      joined : (steps : List EditStep) (l : Layout) (more : List Act) (tail : List SessionDeed)
-          → call_deeds s (drawn_by s l steps).calls ++ (act_deeds s (drawn_by s l steps).layout more ++ tail) ≡ act_deeds s l (Sees steps ∷ more) ++ tail
-      joined steps l more tail = sym (append_assoc (call_deeds s (drawn_by s l steps).calls) (act_deeds s (drawn_by s l steps).layout more) tail)
+      -- some that were answered
+      done_some : (a : Setting) (indent : ℕ) (k : Kept) (asks : List LineAsk) (x y : Surface (ScreenRenderer D)) → screen_of x.out ≡ s
+          → Made (drawn_by s x.layout (steps_along a indent k asks)).calls x.out y.out → AllDone (ask_deeds s a indent x.layout k asks) k.coming (on x.out) (on y.out) (left_along a indent k asks).coming
+      done_some a indent k asks x y is made =
+          let calls = (drawn_by s x.layout (steps_along a indent k asks)).calls in
+          let P : Screen → Type 0 = λ s. Takes shown (sink_of x.out) (sink_of y.out) (flat_map (bytes_of s) calls) in
+          untouched s (ask_deeds s a indent x.layout k asks) calls k.coming _ _ x.out y.out (as_asks s a indent x.layout k asks) refl (subst P is (sent_in_all shown waits show_failed calls x.out y.out made).takes)
+          (made_answered s (canvas_of shown waits show_failed) calls x.out y.out made)
 
-      cut_seen : (steps : List EditStep) (more : List Act) (tail : List SessionDeed) → TakesMemory adds tail → (c left : Coming) (why : ReadlineError) (v : Value) (a b : Surface (ScreenRenderer D))
-          → screen_of a.out ≡ s → left ≡ c → StepsStop (canvas_of shown waits show_failed) (ruler_of s) steps a why v b
-          → CutAt (act_deeds s a.layout (Sees steps ∷ more) ++ tail) c (on a.out) (on b.out) left why
-      cut_seen steps more tail takes c left why v a b is same h =
-          let l = (drawn_by s a.layout steps).layout in
-          subst (λ left. CutAt (act_deeds s a.layout (Sees steps ∷ more) ++ tail) c (on a.out) (on b.out) left why) (sym same)
-          (subst (λ deeds. CutAt deeds c (on a.out) (on b.out) c why) (joined steps a.layout more tail)
-          (cut_steps steps (act_deeds s l more ++ tail) ((as_acts s c l more).takes adds tail takes) c why v a b is h))
+      leaves_coming : (ask : LineAsk) (k l : Kept) (why : ReadlineError) → FaultLeaves ask k why l → l.coming ≡ k.coming
+      leaves_coming (Obeys cmd) k l why h = ap (λ (z : Kept). z.coming) h.0
+      leaves_coming _ k l why h = ap (λ (z : Kept). z.coming) h
 
-      cut_behind : (steps : List EditStep) (more : List Act) (tail : List SessionDeed) (c left : Coming) (why : ReadlineError) (a : Surface (ScreenRenderer D)) (m b : ScreenRenderer D)
-          → screen_of a.out ≡ s → Made (drawn_by s a.layout steps).calls a.out m → CutAt (act_deeds s (drawn_by s a.layout steps).layout more ++ tail) c (on m) (on b) left why
-          → CutAt (act_deeds s a.layout (Sees steps ∷ more) ++ tail) c (on a.out) (on b) left why
-      cut_behind steps more tail c left why a m b is made r =
-          let x = drawn_by s a.layout steps in
-          subst (λ deeds. CutAt deeds c (on a.out) (on b) left why) (joined steps a.layout more tail)
-          (cut_after (call_deeds s x.calls) (act_deeds s x.layout more ++ tail) c c (on a.out) (on m) (on b) left why (done_calls x.calls c a.out m is made) r)
+      -- one that a fault stopped
+      cut_ask : (a : Setting) (indent : ℕ) (ask : LineAsk) (tail : List SessionDeed) → TakesMemory adds tail → (why : ReadlineError) (x y : Stage (ScreenRenderer D)) → screen_of x.drawn.out ≡ s
+          → Stopped (canvas_of shown waits show_failed) (ruler_of s) a indent x ask why y
+          → CutAt (call_deeds s (drawn_by s x.drawn.layout (effect_at a indent x.kept ask).steps).calls ++ (read_deeds ask (left_at a indent x.kept ask).coming ++ tail))
+          x.kept.coming (on x.drawn.out) (on y.drawn.out) y.kept.coming why
+      cut_ask a indent ask tail takes why x y is (inl (stops, leaves)) =
+          let calls = (drawn_by s x.drawn.layout (effect_at a indent x.kept ask).steps).calls in
+          let deeds = read_deeds ask (left_at a indent x.kept ask).coming ++ tail in
+          subst (λ left. CutAt (call_deeds s calls ++ deeds) x.kept.coming (on x.drawn.out) (on y.drawn.out) left why) (sym (leaves_coming ask x.kept y.kept why leaves))
+          (cut_steps (effect_at a indent x.kept ask).steps deeds (takes_on ask) x.kept.coming why y.kept.value x.drawn y.drawn is stops)
+        where
+          takes_on : (ask : LineAsk) → TakesMemory adds (read_deeds ask (left_at a indent x.kept ask).coming ++ tail)
+          takes_on (Keys (Reads item)) = tt
+          takes_on _ = takes
+      cut_ask a indent (Keys (Reads item)) tail takes why x y is (inr (unread, same)) = unread_by item why unread same
+        where
+          deeds : List SessionDeed
+          deeds = Hears (left_at a indent x.kept (Keys (Reads item))).coming ∷ tail
 
-      cut_heard : (rest : Coming) (deeds : List SessionDeed) (c left : Coming) (why : ReadlineError) (a b : ScreenRenderer D) → CutAt deeds rest (on a) (on b) left why
-          → CutAt (Hears rest ∷ deeds) c (on a) (on b) left why
-      cut_heard rest deeds c left why a b r =
-          let heard = as_heard s c rest rest [] [] (as_none s rest) in
-          let first = untouched s (Hears rest ∷ []) [] c rest rest a a heard refl (takes_none shown (sink_of a) (sink_of a) refl) tt in
-          cut_after (Hears rest ∷ []) deeds c rest (on a) (on a) (on b) left why first r
+          unread_by : (item : InputItem) (why : ReadlineError) → IsReadFault item why → y ≡ stage x.drawn (record x.kept { coming = left_by why }) → CutAt deeds x.kept.coming (on x.drawn.out) (on y.drawn.out) y.kept.coming why
+          unread_by Paste Memory unread same =
+              stands Memory deeds x.kept.coming y.kept.coming x.drawn.out y.drawn.out (inr (ap (λ (z : Stage (ScreenRenderer D)). z.kept.coming) same, tt), refl, refl) (ap (λ (z : Stage (ScreenRenderer D)). z.drawn.out) same)
+          unread_by _ _ unread same = absurd unread
+      cut_ask a indent _ tail takes why x y is (inr (unread, same)) = absurd unread
 
-      -- a read that found no memory, perhaps for a paste
-      unheard : (why : ReadlineError) (rest : Coming) (deeds : List SessionDeed) (old new : Stage (ScreenRenderer D)) → why ≡ Memory
-          → (new ≡ old) ⊎ (new ≡ stage old.drawn (left_by Memory) old.ring) → CutAt (Hears rest ∷ deeds) old.coming (on old.drawn.out) (on new.drawn.out) new.coming why
-      unheard why rest deeds old new is (inl same) =
-          let S : Coming → Type 0 = λ left. Stops adds why old.coming (Hears rest ∷ deeds) left [] [] in
-          stands why (Hears rest ∷ deeds) old.coming new.coming old.drawn.out new.drawn.out (subst S (ap (λ x. x.coming) (sym same)) (wants why (Hears rest ∷ deeds) old.coming is tt)) (ap (λ x. x.drawn.out) same)
-      unheard why rest deeds old new is (inr lost) =
-          let P : ReadlineError → Type 0 = λ why. Stops adds why old.coming (Hears rest ∷ deeds) new.coming [] [] in
-          stands why (Hears rest ∷ deeds) old.coming new.coming old.drawn.out new.drawn.out (subst P (sym is) (inr (ap (λ x. x.coming) lost, tt), refl, refl)) (ap (λ x. x.drawn.out) lost)
-
-      -- acts that others follow
-      pub cut_acts : (acts : List Act) (tail : List SessionDeed) → TakesMemory adds tail → (why : ReadlineError) (v : Value) (old new : Stage (ScreenRenderer D)) → screen_of old.drawn.out ≡ s
-          → CutIn (canvas_of shown waits show_failed) (ruler_of s) why acts old v new
-          → CutAt (act_deeds s old.drawn.layout acts ++ tail) old.coming (on old.drawn.out) (on new.drawn.out) new.coming why
-      unfolding CutIn
-      cut_acts [] tail takes why v old new is h = absurd h
-      cut_acts (Sees steps ∷ more) tail takes why v old new is (inl h) =
-          cut_seen steps more tail takes old.coming new.coming why v old.drawn new.drawn is (ap (λ x. x.coming) h.1) h.0
-      cut_acts (Sees steps ∷ more) tail takes why v old new is (inr (out, made, h)) =
-          let a = drawn_by s old.drawn.layout steps in
-          cut_behind steps more tail old.coming new.coming why old.drawn out new.drawn.out is made
-          (cut_acts more tail takes why v (stage (surface out a.layout) old.coming old.ring) new (screen_kept a.calls old.drawn.out out is made) h)
-      cut_acts (Gets value rest ∷ more) tail takes why v old new is (inl (memory, value_is, left)) = unheard why rest (act_deeds s old.drawn.layout more ++ tail) old new memory left
-      cut_acts (Gets value rest ∷ more) tail takes why v old new is (inr h) =
-          cut_heard rest (act_deeds s old.drawn.layout more ++ tail) old.coming new.coming why old.drawn.out new.drawn.out
-          (cut_acts more tail takes why v (stage old.drawn rest old.ring) new is h)
-      cut_acts (Obeys textless ring steps ∷ more) tail takes why v old new is (inl h) =
-          cut_seen steps more tail takes old.coming new.coming why v old.drawn new.drawn is h.1 h.0
-      cut_acts (Obeys textless ring steps ∷ more) tail takes why v old new is (inr (out, made, h)) =
-          let a = drawn_by s old.drawn.layout steps in
-          cut_behind steps more tail old.coming new.coming why old.drawn out new.drawn.out is made
-          (cut_acts more tail takes why v (stage (surface out a.layout) old.coming ring) new (screen_kept a.calls old.drawn.out out is made) h)
+      -- asks of which the first were answered
+      pub cut_asks : (a : Setting) (indent : ℕ) {X : Type 0} (p : PlayedOf a indent X) (tail : List SessionDeed) → TakesMemory adds tail → (x y : Stage (ScreenRenderer D)) (result : Result X ReadlineError) → screen_of x.drawn.out ≡ s
+          → (cut : StoppedIn (canvas_of shown waits show_failed) (ruler_of s) a indent p x y result)
+          → CutAt (ask_deeds s a indent x.drawn.layout x.kept p.asks ++ tail) x.kept.coming (on x.drawn.out) (on y.drawn.out) y.kept.coming cut.fault
+      cut_asks a indent p tail takes x y result is cut =
+          let l = x.drawn.layout in
+          let steps = steps_along a indent x.kept cut.done in
+          let first = ask_deeds s a indent l x.kept cut.done in
+          let here = drawn_by s cut.at.drawn.layout (effect_at a indent cut.at.kept cut.ask).steps in
+          let left = left_at a indent cut.at.kept cut.ask in
+          let others = ask_deeds s a indent here.layout left cut.others in
+          let next = ask_deeds s a indent cut.at.drawn.layout cut.at.kept (cut.ask ∷ cut.others) in
+          let deeds : first ++ (call_deeds s here.calls ++ (read_deeds cut.ask left.coming ++ (others ++ tail))) ≡ ask_deeds s a indent l x.kept p.asks ++ tail =
+          ap (λ zs. first ++ (call_deeds s here.calls ++ zs)) (sym (append_assoc (read_deeds cut.ask left.coming) others tail))
+          ∙ (ap (λ zs. first ++ zs) (sym (append_assoc (call_deeds s here.calls) (read_deeds cut.ask left.coming ++ others) tail))
+          ∙ (sym (append_assoc first next tail)
+          ∙ (ap (λ (m : Layout). (first ++ ask_deeds s a indent m cut.at.kept (cut.ask ∷ cut.others)) ++ tail) cut.drawn.1
+          ∙ (ap (λ (k : Kept). (first ++ ask_deeds s a indent (drawn_by s l steps).layout k (cut.ask ∷ cut.others)) ++ tail) cut.kept_is
+          ∙ (ap (λ zs. zs ++ tail) (sym (asks_both s a indent l x.kept cut.done (cut.ask ∷ cut.others)))
+          ∙ ap (λ asks. ask_deeds s a indent l x.kept asks ++ tail) (sym cut.first)))))) in
+          let after = subst (λ c. AllDone first x.kept.coming (on x.drawn.out) (on cut.at.drawn.out) c) (ap (λ (k : Kept). k.coming) (sym cut.kept_is)) (done_some a indent x.kept cut.done x.drawn cut.at.drawn is cut.drawn.0) in
+          subst (λ deeds. CutAt deeds x.kept.coming (on x.drawn.out) (on y.drawn.out) y.kept.coming cut.fault) deeds
+          (cut_after first (call_deeds s here.calls ++ (read_deeds cut.ask left.coming ++ (others ++ tail))) x.kept.coming cut.at.kept.coming (on x.drawn.out) (on cut.at.drawn.out) (on y.drawn.out) y.kept.coming cut.fault after
+          (cut_ask a indent cut.ask (others ++ tail) ((as_asks s a indent here.layout left cut.others).takes adds tail takes) cut.fault cut.at y (screen_kept _ x.drawn.out cut.at.drawn.out is cut.drawn.0) cut.stopped))

@@ -1,6 +1,6 @@
 -- A line at a desk: what `run` gives, and then the line's end.
-use Rattle.std.proofs.Common.{◌≡◌, ℕ, suc, ◌<◌, Bool, false, List, ◌++◌, inl, inr, ◌⊎◌, refl, sym, ap, ◌∙◌, subst, IsTrue, Option, Result, Ok, Err, IfErr, OnOk, le_refl}
-use Rattle.std.specs.Prelude.{string_bytes}
+use Rattle.std.proofs.Common.{◌≡◌, ℕ, suc, ◌<◌, Bool, true, false, List, ◌++◌, inl, inr, ◌⊎◌, refl, sym, ap, ◌∙◌, subst, IsTrue, Option, Result, Ok, Err, IfErr, OnOk, le_refl}
+use Rattle.std.specs.Prelude.{⊤, string_bytes}
 use Rattle.line_config.specs.declared.config.Config.{Config}
 use Rattle.line_config.specs.declared.errors.ReadlineError.{ReadlineError}
 use Rattle.line_config.specs.declared.errors.ReadlineError.TheVariants.{Reader, Display, Lines, HistoryText, Helper, Handler, Memory}
@@ -10,11 +10,9 @@ use Rattle.line_keys.specs.Answers.{Custom}
 use Rattle.line_keys.specs.Coming.{Coming, made_of}
 use Rattle.line_keys.specs.Feeds.{KeyFeed}
 use Rattle.line_record.specs.Ring.{Ring}
-use Rattle.line_editor.specs.Acts.{stage}
 use Rattle.line_editor.specs.Courses.{breaks_after}
-use Rattle.line_editor.specs.Lines.{Told}
-use Rattle.line_editor.specs.Redraws.{fresh}
-use Rattle.line_editor.specs.Running.{Helping, Runs, WholeLine, CutLine, acts_meant, line_meant, outcome_of, line_calls, setting_by}
+use Rattle.line_editor.specs.LineScripts.{kept, line_script, stage}
+use Rattle.line_editor.specs.Running.{Helping, Runs, line_calls, line_played, outcome_of, setting_by, stage_first}
 use Rattle.line_editor.specs.States.{reason_of}
 use Rattle.line_editor.specs.Steps.{surface}
 use Rattle.line_editor.specs.Turning.{cause_of}
@@ -25,16 +23,17 @@ use Rattle.line_screen.specs.Drawing.{break_if}
 use Rattle.line_screen.specs.Reader.{items_of}
 use Rattle.line_screen.specs.declared.reading.reader.KeyReader.{KeyReader}
 use Rattle.line_screen.specs.declared.renderer.ScreenRenderer.{ScreenRenderer}
-use Rattle.line_screen.proofs.CallLemmas.{sent_in_all, cut_stays}
+use Rattle.line_editor.proofs.ToldLemmas.{CutLine, WholeLine, line_went}
+use Rattle.line_screen.proofs.CallLemmas.{goes_stay, sent_in_all}
 use Rattle.line_screen.proofs.WaitingLemmas.{reads_find_nothing_waiting}
 use Rattle.keyline.specs.Closing.{Closes, CloseReason, work}
-use Rattle.keyline.specs.Deeds.{SessionDeed, HelperAnswers, call_deeds, act_deeds, acts_in, close_deeds, line_deeds}
+use Rattle.keyline.specs.Deeds.{SessionDeed, HelperAnswers, asked_in, call_deeds, close_deeds, line_deeds}
 use Rattle.keyline.specs.Desks.{Lined, TakesLine, DeskReason, feed_of, session_state_of, work_of}
 use Rattle.keyline.specs.Known.{Known, HasPassedOn}
 use Rattle.keyline.specs.Playing.{Work, Cut, LineWhole, LineCut, SessionReason}
 use Rattle.keyline.specs.Sessions.{Given, given_by, breaks, calls_of, line_in, history_after}
 use Rattle.keyline.specs.declared.desk.Desk.{Desk}
-use Rattle.keyline.proofs.DeedLemmas.{cut_acts, cut_after, deeds_answered, done_acts, made_answered}
+use Rattle.keyline.proofs.DeedLemmas.{cut_asks, cut_after, deeds_answered, done_asks, made_answered}
 use Rattle.line_config.proofs.Taking.{takes_then}
 
 -- ---- faults
@@ -99,45 +98,35 @@ module _ {S H D L K T : Type 0} (k : Known S D L) (helps : Option H → Helping)
   abbrev setting : Setting
   setting = setting_by (ruler_of (screen_of old.out)) prompt (helps old.helper) old.history.kept.entries
 
-  -- the line that was read whole, or cut by a fault
-  abbrev WentWhole : Told → Type 0
-  WentWhole t = WholeLine (canvas_of k.shown k.waits k.show_failed) t old.out ran.out ring (items_of k.feed reader).coming (outcome_of ran)
-
   abbrev come : Coming
   come = (items_of k.feed old.reader).coming
 
+  -- the line that was read whole, or that a fault stopped
+  abbrev WentWhole : ℕ → Type 0
+  WentWhole n = WholeLine (canvas_of k.shown k.waits k.show_failed) (ruler_of (screen_of old.out)) setting n custom config old.out ran.out old.ring ring come (items_of k.feed reader).coming (outcome_of ran)
+
   abbrev WentCut : ℕ → Type 0
-  WentCut n = CutLine (canvas_of k.shown k.waits k.show_failed) (acts_meant n setting custom config old.ring come) old.out ran.out come (items_of k.feed reader).coming old.ring ring (outcome_of ran)
+  WentCut n = CutLine (canvas_of k.shown k.waits k.show_failed) (ruler_of (screen_of old.out)) setting n custom config old.out ran.out old.ring ring come (items_of k.feed reader).coming (outcome_of ran)
 
-  abbrev Went : ℕ → Type 0
-  Went n = WentWhole (line_meant n setting custom config old.ring come) ⊎ WentCut n
-
-  screen_by : (n : ℕ) → Went n → screen_of ran.out ≡ screen_of old.out
-  screen_by n (inl w) =
-      (sent_in_all k.shown k.waits k.show_failed (line_calls (ruler_of (screen_of old.out)) (line_meant n setting custom config old.ring come).turns) old.out ran.out w.calls).screen
-  screen_by n (inr w) =
-      cut_stays k.shown k.waits k.show_failed (ruler_of (screen_of old.out)) w.fault w.value (acts_meant n setting custom config old.ring come)
-      (stage (surface old.out (fresh (screen_of old.out).mode)) come old.ring) (stage (surface ran.out w.layout) (items_of k.feed reader).coming ring) w.done
+  runs_went : RunsAt → IsTrue (items_of k.feed reader).told → (n : ℕ) → (feed_of k old).bound < n → WentWhole n ⊎ WentCut n
+  runs_went runs t n b =
+      line_went (canvas_of k.shown k.waits k.show_failed) (ruler_of (screen_of old.out)) setting n custom config old.out ran.out old.ring ring come (items_of k.feed reader).coming (outcome_of ran)
+      runs.value runs.input runs.layout (runs.goes t n b)
 
   screen_stays : RunsAt → IsTrue (items_of k.feed reader).told → screen_of ran.out ≡ screen_of old.out
   screen_stays runs t =
-      let n = suc (feed_of k old).bound in screen_by n (runs.goes t n (le_refl _))
+      let n = suc (feed_of k old).bound in
+      let a = setting in
+      goes_stay k.shown k.waits k.show_failed (ruler_of (screen_of old.out)) a config.indent_size (line_script n custom) (stage_first old.out (ruler_of (screen_of old.out)) a config old.ring come)
+      (stage (surface ran.out runs.layout) (kept runs.value runs.input ring (items_of k.feed reader).coming)) (outcome_of ran) (runs.goes t n (le_refl _))
 
   -- nothing waits after the line where nothing waited before it
-  passes_by : (n : ℕ) → Went n → HasPassedOn k (sink_of old.out) → HasPassedOn k (sink_of ran.out)
-  passes_by n went none =
-      let t = line_meant n setting custom config old.ring come in
-      let acts = acts_meant n setting custom config old.ring come in
-      let nothing_drawn = fresh (screen_of old.out).mode in
-      let reads = reads_find_nothing_waiting k.shown k.waits k.show_failed t acts (stage (surface old.out nothing_drawn) come old.ring)
-      (stage (surface ran.out nothing_drawn) (items_of k.feed reader).coming ring) (outcome_of ran) none in
-      elim went [
-        | inl w ↦ (reads.0 w).1
-        | inr w ↦ (reads.1 w).1
-      ]
-
   line_passes : RunsAt → IsTrue (items_of k.feed reader).told → HasPassedOn k (sink_of old.out) → HasPassedOn k (sink_of ran.out)
-  line_passes runs t = let n = suc (feed_of k old).bound in passes_by n (runs.goes t n (le_refl _))
+  line_passes runs t none =
+      let n = suc (feed_of k old).bound in
+      let r = ruler_of (screen_of old.out) in
+      (reads_find_nothing_waiting k.shown k.waits k.show_failed n custom r setting config.indent_size (stage_first old.out r setting config old.ring come)
+      (stage (surface ran.out runs.layout) (kept runs.value runs.input ring (items_of k.feed reader).coming)) (outcome_of ran) none (runs.goes t n (le_refl _))).1
 
   module _ (out : ScreenRenderer D) (history : Filed) (lines : L) (result : Result (List ℕ) ReadlineError) where
     abbrev Ends : Result (List ℕ) ReadlineError → Type 0
@@ -176,11 +165,11 @@ module _ {S H D L K T : Type 0} (k : Known S D L) (helps : Option H → Helping)
     CutAs deeds = LineCut k.shown k.written_in config.auto_add_history deeds come (work_of k old) (work_of k new) left result
 
     -- the helper gave an answer wherever it was asked
-    answered : (n : ℕ) → let t = line_in n given (session_state_of k old) in WentWhole t → HelperAnswers (call_deeds given.screen (calls_of given.screen t))
+    answered : (n : ℕ) → let t = line_in n given (session_state_of k old) in WentWhole n → HelperAnswers (call_deeds given.screen (calls_of given.screen t))
     answered n w =
         let t = line_in n given (session_state_of k old) in made_answered given.screen (canvas_of k.shown k.waits k.show_failed) (calls_of given.screen t) old.out ran.out w.calls
 
-    after_whole : (n : ℕ) → let x = session_state_of k old in WentWhole (line_in n given x) → EndedAs (line_in n given x).outcome
+    after_whole : (n : ℕ) → let x = session_state_of k old in WentWhole n → EndedAs (line_in n given x).outcome
         → Lined k given (line_in n given x) (line_deeds n given x) old new result
     after_whole n w (inl c) =
         let x = session_state_of k old in
@@ -203,24 +192,24 @@ module _ {S H D L K T : Type 0} (k : Known S D L) (helps : Option H → Helping)
           fault = end.fault;
           result_is = end.result_is;
           goes = cut_after k.shown k.written_in config.auto_add_history
-              (act_deeds given.screen (fresh given.screen.mode) (acts_in n given x)) (close_deeds t.outcome) come left (work_of k old) at_end (work_of k new) left end.fault
-              (done_acts k.shown k.written_in config.auto_add_history old.lines old.history n given x old.out ran.out left sent.takes (answered n w) w.rest_is) end.goes;
+              (asked_in n given x) (close_deeds t.outcome) come left (work_of k old) at_end (work_of k new) left end.fault
+              (done_asks k.shown k.written_in config.auto_add_history old.lines old.history n given x old.out ran.out left sent.takes (answered n w) w.rest_is) end.goes;
         })
 
-    after_cut : (n : ℕ) (w : WentCut n) → StaysAs (Err w.fault) → CutAs (line_deeds n given (session_state_of k old))
+    after_cut : (n : ℕ) (w : WentCut n) → StaysAs (Err w.stopped.fault) → CutAs (line_deeds n given (session_state_of k old))
     after_cut n w stays =
         let x = session_state_of k old in
-        let s = screen_of old.out in
-        let same = stays (unbroken _ _ w.fault w.cause) in
-        let W : Work D L → Type 0 = λ after. Cut k.shown k.written_in config.auto_add_history (line_deeds n given x) come (work_of k old) after left w.fault in
-        let so = cut_acts k.shown k.written_in config.auto_add_history old.lines old.history k.waits k.show_failed s
-        (acts_in n given x) (close_deeds (line_in n given x).outcome) tt w.fault w.value (stage (surface old.out (fresh s.mode)) come old.ring) (stage (surface ran.out w.layout) left ring) refl w.done in
-        record { fault = w.fault; result_is = same.1; goes = subst W (sym same.0) so }
+        let cut = w.stopped in
+        let same = stays (unbroken true ⊤ cut.fault w.cause) in
+        let W : Work D L → Type 0 = λ after. Cut k.shown k.written_in config.auto_add_history (line_deeds n given x) come (work_of k old) after left cut.fault in
+        let so = cut_asks k.shown k.written_in config.auto_add_history old.lines old.history k.waits k.show_failed (screen_of old.out) setting config.indent_size
+        (line_played n setting custom config old.ring come) (close_deeds (line_in n given x).outcome) tt _ _ (outcome_of ran) refl cut in
+        record { fault = cut.fault; result_is = same.1; goes = subst W (sym same.0) so }
 
-    lined : (n : ℕ) → Went n → Ends (outcome_of ran) → let x = session_state_of k old in
+    lined : (n : ℕ) → WentWhole n ⊎ WentCut n → Ends (outcome_of ran) → let x = session_state_of k old in
         Lined k given (line_in n given x) (line_deeds n given x) old new result
     lined n (inl w) closes = after_whole n w (subst EndedAs w.outcome_is closes.goes)
-    lined n (inr w) closes = inr (after_cut n w (subst StaysAs w.outcome_is closes.stays))
+    lined n (inr w) closes = inr (after_cut n w (subst StaysAs w.stopped.result_is closes.stays))
 
     lined_falls : RunsAt → EndedAs (outcome_of ran) → OnOk result ((feed_of k new).bound < (feed_of k old).bound)
     lined_falls runs (inl c) = ok_given ran.outcome string_bytes result _ runs.falls c.result_is
@@ -248,7 +237,7 @@ module _ {S H D L K T : Type 0} (k : Known S D L) (helps : Option H → Helping)
     pub takes_line : RunsAt → Ends (outcome_of ran) → screen_of out ≡ screen_of ran.out → (HasPassedOn k (sink_of ran.out) → HasPassedOn k (sink_of out))
         → TakesLine k given given' old new result
     takes_line runs closes screen passes = record {
-      goes = λ t n b. lined n (runs.goes t n b) closes;
+      goes = λ t n b. lined n (runs_went runs t n b) closes;
       given = lined_given runs screen;
       custom = refl;
       told = runs.told;

@@ -2,12 +2,14 @@
 use Rattle.std.specs.Prelude.{◌≡◌, ⊤, ℕ, zero, suc, ◌≤◌, Bool, IsFalse, List, [], ◌∷◌, ◌++◌, length, Result, Ok, Err}
 use Rattle.line_buffer.specs.declared.layout.Layout.{Layout}
 use Rattle.line_config.specs.declared.errors.ReadlineError.{ReadlineError}
-use Rattle.line_editor.specs.Acts.{Act, Sees, Gets, Obeys}
 use Rattle.line_editor.specs.Calls.{Call}
 use Rattle.line_editor.specs.Calls.Call.{Help}
+use Rattle.line_editor.specs.LineScripts.{Kept, Keys, LineAsk, effect_at, left_at}
 use Rattle.line_editor.specs.Redraws.{fresh}
-use Rattle.line_editor.specs.Running.{acts_meant}
+use Rattle.line_editor.specs.Running.{kept_first, line_played}
+use Rattle.line_editor.specs.Values.{Setting}
 use Rattle.line_keys.specs.Coming.{Coming}
+use Rattle.line_keys.specs.Phrases.{Reads}
 use Rattle.line_screen.specs.Calls.{Screen, bytes_of}
 use Rattle.line_screen.specs.Drawing.{break_if}
 use Rattle.keyline.specs.Sessions.{Given, LineGiven, SessionState, for_line, line_in, setting_in, after_line, breaks, display_bytes, screens_for, session_by}
@@ -64,14 +66,19 @@ abbrev pub call_deeds : Screen → List Call → List SessionDeed
 call_deeds s [] = []
 call_deeds s (call ∷ calls) = call_deed s call ∷ call_deeds s calls
 
--- its acts, by the calls that they ask where this layout is kept
-abbrev pub act_deeds : Screen → Layout → List Act → List SessionDeed
-act_deeds s l [] = []
-act_deeds s l (Sees steps ∷ more) =
-    call_deeds s (drawn_by s l steps).calls ++ act_deeds s (drawn_by s l steps).layout more
-act_deeds s l (Gets value rest ∷ more) = Hears rest ∷ act_deeds s l more
-act_deeds s l (Obeys textless ring steps ∷ more) =
-    call_deeds s (drawn_by s l steps).calls ++ act_deeds s (drawn_by s l steps).layout more
+-- a read is one of its own
+abbrev pub read_deeds : LineAsk → Coming → List SessionDeed
+read_deeds (Keys (Reads item)) rest = Hears rest ∷ []
+read_deeds ask rest = []
+
+-- its asks, by the calls of their edits where this layout is kept
+abbrev pub ask_deeds : Screen → Setting → ℕ → Layout → Kept → List LineAsk → List SessionDeed
+ask_deeds s a indent l k [] = []
+ask_deeds s a indent l k (ask ∷ asks) =
+    let x = drawn_by s l (effect_at a indent k ask).steps in
+    let left = left_at a indent k ask in
+    call_deeds s x.calls
+    ++ (read_deeds ask left.coming ++ ask_deeds s a indent x.layout left asks)
 
 -- its end: an accepted line is kept, and then written
 abbrev pub accept_deeds : Result (List ℕ) ReadlineError → List SessionDeed
@@ -81,14 +88,15 @@ accept_deeds (Err e) = []
 abbrev pub close_deeds : Result (List ℕ) ReadlineError → List SessionDeed
 close_deeds outcome = Draws (break_if (breaks outcome)) ∷ accept_deeds outcome
 
-abbrev pub acts_in : ℕ → Given → SessionState → List Act
-acts_in n g x =
-    acts_meant n (setting_in g x.history.kept.entries) g.custom g.config x.ring x.coming
+abbrev pub asked_in : ℕ → Given → SessionState → List SessionDeed
+asked_in n g x =
+    let a = setting_in g x.history.kept.entries in
+    ask_deeds g.screen a g.config.indent_size (fresh g.screen.mode)
+    (kept_first a g.config x.ring x.coming)
+    (line_played n a g.custom g.config x.ring x.coming).asks
 
 abbrev pub line_deeds : ℕ → Given → SessionState → List SessionDeed
-line_deeds n g x =
-    act_deeds g.screen (fresh g.screen.mode) (acts_in n g x)
-    ++ close_deeds (line_in n g x).outcome
+line_deeds n g x = asked_in n g x ++ close_deeds (line_in n g x).outcome
 
 -- ---- a session's, line after line
 

@@ -7,9 +7,9 @@ use Rattle.line_config.specs.declared.device.Last.{Last}
 use Rattle.line_config.specs.declared.errors.ReadlineError.{ReadlineError}
 use Rattle.line_config.specs.declared.errors.ReadlineError.TheVariants.{Display, Helper, Memory}
 use Rattle.line_config.specs.declared.memory.VecSink.{VecSink}
-use Rattle.line_editor.specs.Lines.{Told}
-use Rattle.line_editor.specs.Running.{Helping, Runs, WholeLine, outcome_of, line_calls}
+use Rattle.line_editor.specs.Running.{Helping, Runs, outcome_of, line_calls}
 use Rattle.line_editor.specs.States.{reason_of}
+use Rattle.line_editor.proofs.ToldLemmas.{WholeLine, line_went}
 use Rattle.line_editor.specs.declared.ran.Ran.{Ran}
 use Rattle.line_help.specs.History.{Filed}
 use Rattle.line_keys.specs.Answers.{Custom}
@@ -24,7 +24,7 @@ use Rattle.line_screen.proofs.CallLemmas.{sent_in_all}
 use Rattle.keyline.specs.Edits.{EditHelper, config_of, edit_helping, helper_of, nothing_bound}
 use Rattle.keyline.specs.declared.options.Options.{Options}
 use Rattle.keyline.specs.FewerKeys.{state_over}
-use Rattle.keyline.specs.Sessions.{coming_from, Given, SessionState, breaks, given_by, history_after, line_in}
+use Rattle.keyline.specs.Sessions.{coming_from, Given, SessionState, breaks, given_by, history_after, line_in, setting_in}
 use Rattle.keyline_c.specs.Lines.{Ends, IsWant, LeftBy, ReadsLine, given_by_options}
 use Rattle.keyline_c.specs.declared.line.Left.{Left}
 
@@ -48,8 +48,12 @@ module _ {H K T : Type 0} (held waits : VecSink → List ℕ) (failed : VecSink 
 
   module _ (ends : Ends held (outcome_of ran) (sink_of ran.out) display history history') (fresh : held (sink_of old) ≡ []) (adds : config.auto_add_history ≡ true)
       (outcome_is : left.outcome ≡ ran.outcome) (display_is : left.display ≡ display) (ring_is : left.ring ≡ ring') (history_is : left.history ≡ history') where
-    left_whole : (t : Told) → WholeLine (canvas_of held waits failed) t old ran.out ring' feed'.coming (outcome_of ran) → LeftBy held given t history left
-    left_whole t w =
+    abbrev LineWhole : ℕ → Type 0
+    LineWhole n = WholeLine (canvas_of held waits failed) (ruler_of (screen_of old)) (setting_in given history.kept.entries) n custom config old ran.out ring ring' feed.coming feed'.coming (outcome_of ran)
+
+    left_whole : (n : ℕ) → LineWhole n → LeftBy held given (line_in n given state) history left
+    left_whole n w =
+        let t = line_in n given state in
         let calls = line_calls (ruler_of (screen_of old)) t.turns in
         let sent_bytes : List ℕ = flat_map (bytes_of (screen_of old)) calls in
         let sent = sent_in_all held waits failed calls old ran.out w.calls in
@@ -65,10 +69,11 @@ module _ {H K T : Type 0} (held waits : VecSink → List ℕ) (failed : VecSink 
     pub reads_line : Runs (canvas_of held waits failed) helps custom prompt helper history.kept.entries config old ring feed ran ring' feed' → IsTrue feed'.told
         → ReadsLine held given state feed.bound left
     reads_line runs told = record {
-      goes = λ n b. elim (runs.goes told n b) [
-        | inl w ↦ inl (left_whole (line_in n given state) w)
-        | inr cut ↦ inr (wants left.outcome cut.fault (ap (made_of string_bytes) outcome_is ∙ cut.outcome_is) (wanting _ _ cut.fault cut.cause))
-      ];
+      goes = λ n b. elim (line_went (canvas_of held waits failed) (ruler_of (screen_of old)) (setting_in given history.kept.entries) n custom config old ran.out ring ring' feed.coming feed'.coming (outcome_of ran)
+          runs.value runs.input runs.layout (runs.goes told n b)) [
+            | inl w ↦ inl (left_whole n w)
+            | inr cut ↦ inr (wants left.outcome cut.stopped.fault (ap (made_of string_bytes) outcome_is ∙ cut.stopped.result_is) (wanting _ _ cut.stopped.fault cut.cause))
+          ];
     }
 
 -- a reader that keeps no byte reads no more than its source has

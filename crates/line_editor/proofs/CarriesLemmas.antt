@@ -1,7 +1,9 @@
 -- The loop of a line: what was done so far by turns, and what is left.
-use Rattle.std.proofs.Common.{◌≡◌, ◌⊎◌, inl, inr, ℕ, zero, suc, ◌<◌, ◌≤◌, List, [], ◌∷◌, append-nil, refl, sym, ap, subst, IsTrue, arith, le_refl}
-use Rattle.std.specs.Prelude.{⊤, Option, None, Result, Ok, Err, IfErr, OnOk, IsErrAnd}
+use Rattle.std.proofs.Common.{◌≡◌, inl, inr, ℕ, zero, suc, ◌<◌, ◌≤◌, List, refl, sym, ap, subst, ◌∙◌, IsTrue, arith, le_refl}
+use Rattle.std.specs.Prelude.{Result, Ok, Err, IfErr, OnOk, IsErrAnd}
 use Rattle.line_config.specs.declared.errors.ReadlineError.{ReadlineError}
+use Rattle.line_config.specs.Scripts.{Ends, Asks, World, Goes}
+use Rattle.line_config.proofs.ScriptLaws.{then_goes, then_cut}
 use Rattle.line_help.specs.declared.completion as completions
 use Rattle.line_help.specs.declared.hint as hints
 use Rattle.line_help.specs.declared.highlight as highlights
@@ -16,23 +18,20 @@ use Rattle.line_keys.specs.Feeds.{KeyFeed}
 use Rattle.line_keys.specs.Phrases.{Input}
 use Rattle.line_record.specs.Ring.{Ring}
 use Rattle.line_editor.specs.Accepting.{submitted}
-use Rattle.line_editor.specs.Acts.{Act, Sees}
 use Rattle.line_editor.specs.Drawing.{refreshed}
 use Rattle.line_editor.specs.Lines.{line_begun}
-use Rattle.line_editor.specs.Reading.{Telling, turns_left, turns_doing, drawn_and_turned, line_doing, Reading, ReadsLine}
-use Rattle.line_editor.specs.Sights.{Sight, sight_of, info_after}
-use Rattle.line_editor.specs.States.{value_of, setting_of, Reason, Does}
-use Rattle.line_editor.specs.Turning.{Doing, Cut, Cause, Whole, turning, turn_doing, Takes}
-use Rattle.line_editor.specs.Values.{taking}
+use Rattle.line_editor.specs.LineScripts.{LineAsk, LineAnswer, LineScript, Makes, Stage, kept, turned_on, turn_script, turns_script, line_script}
+use Rattle.line_editor.specs.Running.{text_or}
+use Rattle.line_editor.specs.States.{value_of, Reason, Stays, Does}
+use Rattle.line_editor.specs.Turning.{Cause, Takes, stage_of, world_of}
+use Rattle.line_editor.specs.Values.{Value, Transition, taking}
 use Rattle.line_editor.specs.declared.commands.Status.{Status}
 use Rattle.line_editor.specs.declared.commands.Status.TheVariants.{Proceed, Submit}
 use Rattle.line_editor.specs.declared.renderer as renderers
 use Rattle.line_editor.specs.declared.state.State.{State}
-use Rattle.line_editor.proofs.ActsLemmas.{answered_not}
 use Rattle.line_editor.proofs.CommandedLemmas.{edit_cause}
-use Rattle.line_editor.proofs.DoesLemmas.{does_both, is_err}
-use Rattle.line_editor.proofs.EnactedLemmas.{taken, seeing_cut}
-use Rattle.line_editor.proofs.LoopLemmas.{reads_on, cut_on, turn_on, turn_ends, turn_cut, turn_accepts, close_cut}
+use Rattle.line_editor.proofs.DoesLemmas.{does_both, is_err, stays_same, stays_both}
+use Rattle.line_editor.proofs.PhraseGoes.{world_stays, edit_drawn, edit_value, edit_stops}
 
 -- bindings that stayed
 pub same_custom : {D : Type 0} (s s' : InputState D) (means : D → Meaning) → s.custom_bindings ≡ s'.custom_bindings → custom_in s means ≡ custom_in s' means
@@ -56,136 +55,160 @@ some_fuel : (m bound : ℕ) → bound < m → Some m
 some_fuel zero bound h = absurd (omega arith)
 some_fuel (suc k) bound h = record { less = k; is = refl }
 
-abbrev refused : (A : Type 0) → ReadlineError → Result A ReadlineError
-refused A e = Err e
+on_ok : {A P : Type 0} (result : Result A ReadlineError) (text : List ℕ) → P → OnOk (text_or result text) P
+on_ok (Ok x) text h = h
+on_ok (Err e) text h = tt
 
-abbrev refusal_or : {A : Type 0} → ReadlineError → Result A ReadlineError → ReadlineError
-refusal_or f (Ok x) = f
-refusal_or f (Err e) = e
+-- ---- turns one after the other
 
-same_fault : (A B : Type 0) (e f : ReadlineError) → ◌≡◌ {A = Result A ReadlineError} (Err e) (Err f) → ◌≡◌ {A = Result B ReadlineError} (Err e) (Err f)
-same_fault A B e f is = ap (λ (x : Result A ReadlineError). refused B (refusal_or e x)) is
+module _ {R : Type 0} (w : World LineAsk LineAnswer (Stage R) ReadlineError) (n : ℕ) (custom : Custom) where
+  pub turns_on : (status : Status) (result : Result (List ℕ) ReadlineError) (x y z : Stage R) → Goes w (turn_script (suc n) custom) x (Ok status) y
+      → Goes w (turned_on (turns_script n custom) status) y result z → Goes w (turns_script (suc n) custom) x result z
+  unfolding turns_script
+  turns_on status result x y z first rest = then_goes w (turn_script (suc n) custom) (turned_on (turns_script n custom)) status result x y z first rest
 
-on_ok : {A P : Type 0} (result : Result A ReadlineError) → P → OnOk result P
-on_ok (Ok x) h = h
-on_ok (Err e) h = tt
+  pub turns_ended : (e : ReadlineError) (x y : Stage R) → Goes w (turn_script (suc n) custom) x (Err e) y → Goes w (turns_script (suc n) custom) x (Err e) y
+  unfolding turns_script
+  turns_ended e x y first = then_cut w (turn_script (suc n) custom) (turned_on (turns_script n custom)) e x y first
 
 module _ {Out H Hi K T : Type 0} {renderer : renderers.Renderer.Ghosts Out} {completer : completions.Completer.Ghosts H K} {candidate : completions.Candidate.Ghosts K}
     {hinter : hints.Hinter.Ghosts H T} {hint : hints.Hint.Ghosts T} {highlighter : highlights.Highlighter.Ghosts H} {validator : verdicts.Validator.Ghosts H} {history : histories.History.Ghosts Hi} where
-  caused : {A : Type 0} (custom : Custom) (t : State Out H Hi K T renderer completer candidate hinter hint highlighter validator history) (feed : KeyFeed) (result : Result A ReadlineError)
-      → IfErr result (Reason t) → IfErr result (λ e. Cause custom t feed e)
-  caused custom t feed (Ok x) why = tt
-  caused custom t feed (Err e) why = edit_cause custom t feed e why
+  caused : {A : Type 0} (custom : Custom) (t : State Out H Hi K T renderer completer candidate hinter hint highlighter validator history) (feed : KeyFeed) (result : Result A ReadlineError) (text : List ℕ)
+      → IfErr result (Reason t) → IfErr (text_or result text) (λ e. Cause custom t feed e)
+  caused custom t feed (Ok x) text why = tt
+  caused custom t feed (Err e) text why = edit_cause custom t feed e why
 
-  -- whatever is read of what is left is read of the whole
-  pub record Carried (A : Type 0) (line : Telling) (acts : Doing) (custom : Custom) (indent : ℕ) (s : State Out H Hi K T renderer completer candidate hinter hint highlighter validator history) (c0 : Coming) (r0 : Ring)
-      (m : State Out H Hi K T renderer completer candidate hinter hint highlighter validator history) (i : Input) (r : Ring) (feed : KeyFeed) : Type 0 where
-    pub fuel : ℕ
-    pub enough : feed.bound < fuel
-    pub stands : Option (List ℕ)
-    pub onward : (t : State Out H Hi K T renderer completer candidate hinter hint highlighter validator history) (ring : Ring) (rest : Coming) (result : Result A ReadlineError)
-        → Reading (turns_left custom indent i r feed.coming fuel stands) (turns_doing custom indent i r feed.coming fuel) m t feed.coming rest r ring result
-        → Reading line acts s t c0 rest r0 ring result
+  -- memory was taken
+  taken : (s : State Out H Hi K T renderer completer candidate hinter hint highlighter validator history) → Does {A = Unit {0}} taking s s (Ok (tt {0}))
+  taken s = record { value = refl; calls = refl; layout = refl; stays = stays_same s; reason = tt; stops = tt }
 
-  -- at the head of the loop
-  pub record Carries (A : Type 0) (custom : Custom) (indent : ℕ) (s : State Out H Hi K T renderer completer candidate hinter hint highlighter validator history) (i : Input) (r : Ring) (feed : KeyFeed)
-      (m : State Out H Hi K T renderer completer candidate hinter hint highlighter validator history) (i' : Input) (r' : Ring) (feed' : KeyFeed) : Type 0 where
-    pub goes : IsTrue feed'.told → (n : ℕ) → feed.bound < n → (info : Option (List ℕ))
-        → Carried A (turns_left custom indent i r feed.coming n info) (turns_doing custom indent i r feed.coming n) custom indent s feed.coming r m i' r' feed'
-    pub told : IsTrue feed'.told → IsTrue feed.told
-    pub keeps : feed'.bound ≤ feed.bound
+  -- an edit alone, whatever follows it
+  module _ (indent : ℕ) (s m t : State Out H Hi K T renderer completer candidate hinter hint highlighter validator history) (stays : Stays s m) (edit : Transition) (i : Input) (r : Ring) (c : Coming) {X : Type 0} (later : Value → LineScript X) where
+    pub makes : {A : Type 0} (x : A) (result : Result X ReadlineError) (z : Stage Out) → Does edit m t (Ok x)
+        → Goes (world_of indent s) (later (value_of t)) (stage_of t i r c) result z → Goes (world_of indent s) (Asks (Makes edit) later) (stage_of m i r c) result z
+    makes x result z h goes =
+        let value = edit_value s m t stays edit x h in
+        inl (value_of t, stage_of t i r c, (ap Ok (sym value), ap (λ v. kept v i r c) value, edit_drawn s m t stays edit x h), goes)
 
-  pub carries_first : (A : Type 0) (custom : Custom) (indent : ℕ) (s : State Out H Hi K T renderer completer candidate hinter hint highlighter validator history) (i : Input) (r : Ring) (feed : KeyFeed)
-      → Carries A custom indent s i r feed s i r feed
-  carries_first A custom indent s i r feed = record {
-    goes = λ told n h info. record { fuel = n; enough = h; stands = info; onward = λ t ring rest result read. read };
-    told = λ h. h;
-    keeps = le_refl feed.bound;
-  }
+    pub unmade : {A : Type 0} (e : ReadlineError) → Does {A = A} edit m t (Err e) → Goes (world_of indent s) (Asks (Makes edit) later) (stage_of m i r c) (Err e) (stage_of t i r c)
+    unmade e h = inr (e, inr (inl (edit_stops s m t stays edit e h, refl)), refl)
 
-  module _ (A : Type 0) (custom : Custom) (indent : ℕ) (s : State Out H Hi K T renderer completer candidate hinter hint highlighter validator history) (i : Input) (r : Ring) (feed : KeyFeed)
-      (m : State Out H Hi K T renderer completer candidate hinter hint highlighter validator history) (i1 : Input) (r1 : Ring) (feed1 : KeyFeed) (so_far : Carries A custom indent s i r feed m i1 r1 feed1) where
-    -- a turn that goes on
-    next_by : (line : Telling) (acts : Doing) (m2 : State Out H Hi K T renderer completer candidate hinter hint highlighter validator history) (i2 : Input) (r2 : Ring) (feed2 : KeyFeed)
-        → Carried A line acts custom indent s feed.coming r m i1 r1 feed1 → feed2.bound < feed1.bound
-        → ((n : ℕ) → feed1.bound < n → Whole (turning n custom indent i1 r1 feed1.coming) m m2 r2 i2 feed2.coming (Ok Proceed) ⊎ Cut (turn_doing n custom indent i1 r1 feed1.coming) m m2 feed1.coming feed2.coming r1 r2 (Ok Proceed))
-        → Carried A line acts custom indent s feed.coming r m2 i2 r2 feed2
-    next_by line acts m2 i2 r2 feed2 at falls took =
-        let f = fuel_for at.fuel feed1.bound feed2.bound at.enough falls in
-        let enough : feed1.bound < suc f.less = subst (λ n. feed1.bound < n) f.is at.enough in
-        elim (took (suc f.less) enough) [
-          | inr cut ↦ answered_not Proceed cut.fault cut.result_is
-          | inl whole ↦ record {
-            fuel = f.less;
-            enough = f.enough;
-            stands = info_after (turning (suc f.less) custom indent i1 r1 feed1.coming (setting_of m) (value_of m)).made.steps at.stands;
-            onward = λ t ring rest result read. at.onward t ring rest result
-                (subst (λ n. Reading (turns_left custom indent i1 r1 feed1.coming n at.stands) (turns_doing custom indent i1 r1 feed1.coming n) m t feed1.coming rest r1 ring result) (sym f.is)
-                (turn_on custom indent i1 r1 feed1.coming f.less at.stands m m2 t i2 r2 ring feed2.coming rest result whole read));
-          }
-        ]
+  -- the line's close, with its text
+  closes : {A : Type 0} (indent : ℕ) (s m t : State Out H Hi K T renderer completer candidate hinter hint highlighter validator history) (i : Input) (r : Ring) (c : Coming) (result : Result A ReadlineError) → Stays s m → Does submitted m t result
+      → Goes (world_of indent s) (Asks (Makes submitted) (λ v. Ends v.line.text)) (stage_of m i r c) (text_or result t.line.text) (stage_of t i r c)
+  closes indent s m t i r c (Ok x) stays h = makes indent s m t stays submitted i r c (λ v. Ends v.line.text) x (Ok t.line.text) (stage_of t i r c) h (refl, refl)
+  closes {A} indent s m t i r c (Err e) stays h = unmade indent s m t stays submitted i r c (λ v. Ends v.line.text) {A = A} e h
 
-    pub carries_next : (kept : Custom) → kept ≡ custom → (m2 : State Out H Hi K T renderer completer candidate hinter hint highlighter validator history) (i2 : Input) (r2 : Ring) (feed2 : KeyFeed)
-        → Takes kept indent m i1 r1 feed1 m2 i2 r2 feed2 (Ok Proceed) → Carries A custom indent s i r feed m2 i2 r2 feed2
-    carries_next kept same m2 i2 r2 feed2 taken = let turn = subst (λ x. Takes x indent m i1 r1 feed1 m2 i2 r2 feed2 (Ok Proceed)) same taken in record {
-      goes = λ told n h info. next_by (turns_left custom indent i r feed.coming n info) (turns_doing custom indent i r feed.coming n) m2 i2 r2 feed2 (so_far.goes (turn.told told) n h info) turn.falls (turn.goes told);
-      told = λ h. so_far.told (turn.told h);
-      keeps = let a : feed2.bound ≤ feed1.bound = turn.keeps in let b : feed1.bound ≤ feed.bound = so_far.keeps in omega arith;
+  -- ---- the loop
+
+  module _ (custom : Custom) (indent : ℕ) (s : State Out H Hi K T renderer completer candidate hinter hint highlighter validator history) (i : Input) (r : Ring) (feed : KeyFeed) where
+    -- whatever is left goes on from here
+    pub record Carried (n : ℕ) (m : State Out H Hi K T renderer completer candidate hinter hint highlighter validator history) (i' : Input) (r' : Ring) (feed' : KeyFeed) : Type 0 where
+      pub fuel : ℕ
+      pub enough : feed'.bound < fuel
+      pub onward : (result : Result (List ℕ) ReadlineError) (y : Stage Out) → Goes (world_of indent s) (turns_script fuel custom) (stage_of m i' r' feed'.coming) result y
+          → Goes (world_of indent s) (turns_script n custom) (stage_of s i r feed.coming) result y
+
+    -- at the head of the loop
+    pub record Carries (m : State Out H Hi K T renderer completer candidate hinter hint highlighter validator history) (i' : Input) (r' : Ring) (feed' : KeyFeed) : Type 0 where
+      pub goes : IsTrue feed'.told → (n : ℕ) → feed.bound < n → Carried n m i' r' feed'
+      pub stays : IsTrue feed'.told → Stays s m
+      pub told : IsTrue feed'.told → IsTrue feed.told
+      pub keeps : feed'.bound ≤ feed.bound
+      pub mode : i'.mode ≡ i.mode
+
+    pub carries_first : Carries s i r feed
+    carries_first = record {
+      goes = λ told n h. record { fuel = n; enough = h; onward = λ result y goes. goes };
+      stays = λ told. stays_same s;
+      told = λ h. h;
+      keeps = le_refl feed.bound;
+      mode = refl;
     }
 
-    -- a turn that ends the line
-    ended_by : (line : Telling) (acts : Doing) (t : State Out H Hi K T renderer completer candidate hinter hint highlighter validator history) (i2 : Input) (r2 : Ring) (feed2 : KeyFeed) (e : ReadlineError)
-        → Carried A line acts custom indent s feed.coming r m i1 r1 feed1
-        → ((n : ℕ) → feed1.bound < n → Whole (turning n custom indent i1 r1 feed1.coming) m t r2 i2 feed2.coming (Err e) ⊎ Cut {A = Status} (turn_doing n custom indent i1 r1 feed1.coming) m t feed1.coming feed2.coming r1 r2 (Err e))
-        → Reading {A = A} line acts s t feed.coming feed2.coming r r2 (Err e)
-    ended_by line acts t i2 r2 feed2 e at took =
-        let f = some_fuel at.fuel feed1.bound at.enough in
-        at.onward t r2 feed2.coming (Err e)
-        (subst (λ n. Reading {A = A} (turns_left custom indent i1 r1 feed1.coming n at.stands) (turns_doing custom indent i1 r1 feed1.coming n) m t feed1.coming feed2.coming r1 r2 (Err e)) (sym f.is)
-        (elim (took (suc f.less) (subst (λ n. feed1.bound < n) f.is at.enough)) [
-          | inl whole ↦ inl (turn_ends custom indent i1 r1 feed1.coming f.less at.stands m t i2 r2 feed2.coming e (Err e) refl whole)
-          | inr cut ↦ inr (turn_cut custom indent i1 r1 feed1.coming f.less at.stands m {A = A} {B = Status} t feed2.coming r2 (Err e) (Err e) cut (same_fault Status A e cut.fault cut.result_is))
-        ]))
+    module _ (m : State Out H Hi K T renderer completer candidate hinter hint highlighter validator history) (i1 : Input) (r1 : Ring) (feed1 : KeyFeed) (so_far : Carries m i1 r1 feed1) (kept : Custom) (same : kept ≡ custom) where
+      abbrev TakesTurn : State Out H Hi K T renderer completer candidate hinter hint highlighter validator history → Input → Ring → KeyFeed → Result Status ReadlineError → Type 0
+      TakesTurn t i2 r2 feed2 result = Takes turn_script kept indent m i1 r1 feed1 t i2 r2 feed2 result
 
-    pub carries_ended : (kept : Custom) → kept ≡ custom → (t : State Out H Hi K T renderer completer candidate hinter hint highlighter validator history) (i2 : Input) (r2 : Ring) (feed2 : KeyFeed) (e : ReadlineError) (result : Result A ReadlineError)
-        → IsErrAnd result (λ x. x ≡ e) → Takes kept indent m i1 r1 feed1 t i2 r2 feed2 (Err e) → ReadsLine custom (turns_left custom indent i r) (turns_doing custom indent i r) s r feed t r2 feed2 result
-    carries_ended kept same t i2 r2 feed2 e result is taken = let turn = subst (λ x. Takes x indent m i1 r1 feed1 t i2 r2 feed2 (Err e)) same taken in subst (λ x. ReadsLine custom (turns_left custom indent i r) (turns_doing custom indent i r) s r feed t r2 feed2 x) (sym (is_err e result is)) (record {
-      goes = λ told n h info. ended_by (turns_left custom indent i r feed.coming n info) (turns_doing custom indent i r feed.coming n) t i2 r2 feed2 e (so_far.goes (turn.told told) n h info) (turn.goes told);
-      told = λ h. so_far.told (turn.told h);
-      keeps = let a : feed2.bound ≤ feed1.bound = turn.keeps in let b : feed1.bound ≤ feed.bound = so_far.keeps in omega arith;
-      falls = tt;
-      reason = turn.reason;
-    })
+      module _ (t : State Out H Hi K T renderer completer candidate hinter hint highlighter validator history) (i2 : Input) (r2 : Ring) (feed2 : KeyFeed) (told : IsTrue feed1.told) where
+        -- the turn, in the line's world
+        turn_here : (n : ℕ) (result : Result Status ReadlineError) → Goes (world_of indent m) (turn_script n kept) (stage_of m i1 r1 feed1.coming) result (stage_of t i2 r2 feed2.coming)
+            → Goes (world_of indent s) (turn_script n custom) (stage_of m i1 r1 feed1.coming) result (stage_of t i2 r2 feed2.coming)
+        turn_here n result goes =
+            subst (λ w. Goes w (turn_script n custom) (stage_of m i1 r1 feed1.coming) result (stage_of t i2 r2 feed2.coming)) (world_stays indent s m (so_far.stays told))
+            (subst (λ x. Goes (world_of indent m) (turn_script n x) (stage_of m i1 r1 feed1.coming) result (stage_of t i2 r2 feed2.coming)) same goes)
 
-    -- a turn that accepts the line, and the line's close
-    closing : (n : ℕ) (stands : Option (List ℕ)) (m2 t : State Out H Hi K T renderer completer candidate hinter hint highlighter validator history) (i2 : Input) (r2 : Ring) (feed2 : KeyFeed) (result : Result A ReadlineError)
-        → Whole (turning (suc n) custom indent i1 r1 feed1.coming) m m2 r2 i2 feed2.coming (Ok Submit) → Does submitted m2 t result
-        → Reading (turns_left custom indent i1 r1 feed1.coming (suc n) stands) (turns_doing custom indent i1 r1 feed1.coming (suc n)) m t feed1.coming feed2.coming r1 r2 result
-    closing n stands m2 t i2 r2 feed2 (Ok x) whole close = inl (turn_accepts custom indent i1 r1 feed1.coming n stands m m2 i2 r2 feed2.coming whole x t close)
-    closing n stands m2 t i2 r2 feed2 (Err e) whole close = inr (close_cut custom indent i1 r1 feed1.coming n stands m m2 i2 r2 feed2.coming whole {A = A} {B = A} t e (Err e) refl close)
+        -- after an answer, and what follows it
+        turned : (n : ℕ) → Carried n m i1 r1 feed1 → (status : Status) (result : Result (List ℕ) ReadlineError) (y : Stage Out)
+            → ((k : ℕ) → feed1.bound < k → Goes (world_of indent m) (turn_script k kept) (stage_of m i1 r1 feed1.coming) (Ok status) (stage_of t i2 r2 feed2.coming))
+            → ((k : ℕ) → feed1.bound < suc k → Goes (world_of indent s) (turned_on (turns_script k custom) status) (stage_of t i2 r2 feed2.coming) result y)
+            → Goes (world_of indent s) (turns_script n custom) (stage_of s i r feed.coming) result y
+        turned n at status result y took rest =
+            let f = some_fuel at.fuel feed1.bound at.enough in
+            let enough : feed1.bound < suc f.less = subst (λ k. feed1.bound < k) f.is at.enough in
+            at.onward result y (subst (λ k. Goes (world_of indent s) (turns_script k custom) (stage_of m i1 r1 feed1.coming) result y) (sym f.is)
+            (turns_on (world_of indent s) f.less custom status result (stage_of m i1 r1 feed1.coming) (stage_of t i2 r2 feed2.coming) y (turn_here (suc f.less) (Ok status) (took (suc f.less) enough)) (rest f.less enough)))
 
-    closed_by : (line : Telling) (acts : Doing) (m2 t : State Out H Hi K T renderer completer candidate hinter hint highlighter validator history) (i2 : Input) (r2 : Ring) (feed2 : KeyFeed) (result : Result A ReadlineError)
-        → Carried A line acts custom indent s feed.coming r m i1 r1 feed1
-        → ((n : ℕ) → feed1.bound < n → Whole (turning n custom indent i1 r1 feed1.coming) m m2 r2 i2 feed2.coming (Ok Submit) ⊎ Cut (turn_doing n custom indent i1 r1 feed1.coming) m m2 feed1.coming feed2.coming r1 r2 (Ok Submit))
-        → Does submitted m2 t result → Reading line acts s t feed.coming feed2.coming r r2 result
-    closed_by line acts m2 t i2 r2 feed2 result at took close =
-        let f = some_fuel at.fuel feed1.bound at.enough in
-        at.onward t r2 feed2.coming result
-        (subst (λ n. Reading (turns_left custom indent i1 r1 feed1.coming n at.stands) (turns_doing custom indent i1 r1 feed1.coming n) m t feed1.coming feed2.coming r1 r2 result) (sym f.is)
-        (elim (took (suc f.less) (subst (λ n. feed1.bound < n) f.is at.enough)) [
-          | inr cut ↦ answered_not Submit cut.fault cut.result_is
-          | inl whole ↦ closing f.less at.stands m2 t i2 r2 feed2 result whole close
-        ]))
+        -- after a refusal
+        refused : (n : ℕ) → Carried n m i1 r1 feed1 → (e : ReadlineError)
+            → ((k : ℕ) → feed1.bound < k → Goes (world_of indent m) (turn_script k kept) (stage_of m i1 r1 feed1.coming) (Err e) (stage_of t i2 r2 feed2.coming))
+            → Goes (world_of indent s) (turns_script n custom) (stage_of s i r feed.coming) (Err e) (stage_of t i2 r2 feed2.coming)
+        refused n at e took =
+            let f = some_fuel at.fuel feed1.bound at.enough in
+            let enough : feed1.bound < suc f.less = subst (λ k. feed1.bound < k) f.is at.enough in
+            at.onward (Err e) (stage_of t i2 r2 feed2.coming)
+            (subst (λ k. Goes (world_of indent s) (turns_script k custom) (stage_of m i1 r1 feed1.coming) (Err e) (stage_of t i2 r2 feed2.coming)) (sym f.is)
+            (turns_ended (world_of indent s) f.less custom e (stage_of m i1 r1 feed1.coming) (stage_of t i2 r2 feed2.coming) (turn_here (suc f.less) (Err e) (took (suc f.less) enough))))
 
-    pub carries_closed : (kept : Custom) → kept ≡ custom → (m2 t : State Out H Hi K T renderer completer candidate hinter hint highlighter validator history) (i2 : Input) (r2 : Ring) (feed2 : KeyFeed) (result : Result A ReadlineError)
-        → Takes kept indent m i1 r1 feed1 m2 i2 r2 feed2 (Ok Submit) → Does submitted m2 t result → ReadsLine custom (turns_left custom indent i r) (turns_doing custom indent i r) s r feed t r2 feed2 result
-    carries_closed kept same m2 t i2 r2 feed2 result taken close = let turn = subst (λ x. Takes x indent m i1 r1 feed1 m2 i2 r2 feed2 (Ok Submit)) same taken in record {
-      goes = λ told n h info. closed_by (turns_left custom indent i r feed.coming n info) (turns_doing custom indent i r feed.coming n) m2 t i2 r2 feed2 result (so_far.goes (turn.told told) n h info) (turn.goes told) close;
-      told = λ h. so_far.told (turn.told h);
-      keeps = let a : feed2.bound ≤ feed1.bound = turn.keeps in let b : feed1.bound ≤ feed.bound = so_far.keeps in omega arith;
-      falls = on_ok result (let a : feed2.bound < feed1.bound = turn.falls in let b : feed1.bound ≤ feed.bound = so_far.keeps in omega arith);
-      reason = caused custom t feed2 result close.reason;
-    }
+        -- a turn more
+        carried_next : (n : ℕ) → Carried n m i1 r1 feed1 → feed2.bound < feed1.bound
+            → ((k : ℕ) → feed1.bound < k → Goes (world_of indent m) (turn_script k kept) (stage_of m i1 r1 feed1.coming) (Ok Proceed) (stage_of t i2 r2 feed2.coming)) → Carried n t i2 r2 feed2
+        carried_next n at falls took =
+            let f = fuel_for at.fuel feed1.bound feed2.bound at.enough falls in
+            let enough : feed1.bound < suc f.less = subst (λ k. feed1.bound < k) f.is at.enough in
+            record {
+              fuel = f.less;
+              enough = f.enough;
+              onward = λ result y goes. at.onward result y (subst (λ k. Goes (world_of indent s) (turns_script k custom) (stage_of m i1 r1 feed1.coming) result y) (sym f.is)
+                  (turns_on (world_of indent s) f.less custom Proceed result (stage_of m i1 r1 feed1.coming) (stage_of t i2 r2 feed2.coming) y (turn_here (suc f.less) (Ok Proceed) (took (suc f.less) enough)) goes));
+            }
+
+      pub carries_next : (t : State Out H Hi K T renderer completer candidate hinter hint highlighter validator history) (i2 : Input) (r2 : Ring) (feed2 : KeyFeed) → TakesTurn t i2 r2 feed2 (Ok Proceed) → Carries t i2 r2 feed2
+      carries_next t i2 r2 feed2 turn = record {
+        goes = λ told n h. carried_next t i2 r2 feed2 (turn.told told) n (so_far.goes (turn.told told) n h) turn.falls (turn.goes told);
+        stays = λ told. stays_both s m t (so_far.stays (turn.told told)) (turn.stays told);
+        told = λ h. so_far.told (turn.told h);
+        keeps = let a : feed2.bound ≤ feed1.bound = turn.keeps in let b : feed1.bound ≤ feed.bound = so_far.keeps in omega arith;
+        mode = turn.mode ∙ so_far.mode;
+      }
+
+      -- a turn that ends the line
+      pub carries_ended : {A : Type 0} (t : State Out H Hi K T renderer completer candidate hinter hint highlighter validator history) (i2 : Input) (r2 : Ring) (feed2 : KeyFeed) (e : ReadlineError) (result : Result A ReadlineError)
+          → IsErrAnd result (λ x. x ≡ e) → TakesTurn t i2 r2 feed2 (Err e) → Takes turns_script custom indent s i r feed t i2 r2 feed2 (text_or result t.line.text)
+      carries_ended t i2 r2 feed2 e result is turn =
+          subst (λ x. Takes turns_script custom indent s i r feed t i2 r2 feed2 (text_or x t.line.text)) (sym (is_err e result is)) (record {
+            goes = λ told n h. refused t i2 r2 feed2 (turn.told told) n (so_far.goes (turn.told told) n h) e (turn.goes told);
+            stays = λ told. stays_both s m t (so_far.stays (turn.told told)) (turn.stays told);
+            told = λ h. so_far.told (turn.told h);
+            keeps = let a : feed2.bound ≤ feed1.bound = turn.keeps in let b : feed1.bound ≤ feed.bound = so_far.keeps in omega arith;
+            falls = tt;
+            mode = turn.mode ∙ so_far.mode;
+            reason = subst (λ x. Cause x t feed2 e) same turn.reason;
+          })
+
+      -- a turn that accepts the line, and the line's close
+      pub carries_closed : {A : Type 0} (m2 t : State Out H Hi K T renderer completer candidate hinter hint highlighter validator history) (i2 : Input) (r2 : Ring) (feed2 : KeyFeed) (result : Result A ReadlineError)
+          → TakesTurn m2 i2 r2 feed2 (Ok Submit) → Does submitted m2 t result → Takes turns_script custom indent s i r feed t i2 r2 feed2 (text_or result t.line.text)
+      carries_closed m2 t i2 r2 feed2 result turn close = record {
+        goes = λ told n h. turned m2 i2 r2 feed2 (turn.told told) n (so_far.goes (turn.told told) n h) Submit (text_or result t.line.text) (stage_of t i2 r2 feed2.coming) (turn.goes told)
+            (λ k enough. closes indent s m2 t i2 r2 feed2.coming result (stays_both s m m2 (so_far.stays (turn.told told)) (turn.stays told)) close);
+        stays = λ told. stays_both s m t (so_far.stays (turn.told told)) (stays_both m m2 t (turn.stays told) close.stays);
+        told = λ h. so_far.told (turn.told h);
+        keeps = let a : feed2.bound ≤ feed1.bound = turn.keeps in let b : feed1.bound ≤ feed.bound = so_far.keeps in omega arith;
+        falls = on_ok result t.line.text (let a : feed2.bound < feed1.bound = turn.falls in let b : feed1.bound ≤ feed.bound = so_far.keeps in omega arith);
+        mode = turn.mode ∙ so_far.mode;
+        reason = caused custom t feed2 result t.line.text close.reason;
+      }
 
   -- ---- the first drawing
 
@@ -193,46 +216,39 @@ module _ {Out H Hi K T : Type 0} {renderer : renderers.Renderer.Ghosts Out} {com
   begun : {A : Type 0} (s t : State Out H Hi K T renderer completer candidate hinter hint highlighter validator history) (result : Result A ReadlineError) → Does refreshed s t result → Does line_begun s t result
   begun s t result h = does_both taking refreshed s s t (tt {0}) result (taken s) h
 
-  done : {A B : Type 0} (s t : State Out H Hi K T renderer completer candidate hinter hint highlighter validator history) (x : A) (y : B) → Does line_begun s t (Ok x) → Does line_begun s t (Ok y)
-  done s t x y h = record { value = h.value; calls = h.calls; layout = h.layout; stays = h.stays; reason = tt; stops = tt }
-
   module _ (custom : Custom) (indent : ℕ) (i : Input) (r : Ring) (s : State Out H Hi K T renderer completer candidate hinter hint highlighter validator history) (feed : KeyFeed) where
-    -- the turns that are left after the drawing
-    abbrev after_drawing : ℕ → Telling
-    after_drawing n = turns_left custom indent i r feed.coming n (info_after (line_begun (setting_of s) (value_of s)).steps None)
+    drawn_on : {B : Type 0} (n : ℕ) (x : B) (m : State Out H Hi K T renderer completer candidate hinter hint highlighter validator history) (result : Result (List ℕ) ReadlineError) (y : Stage Out) → Does line_begun s m (Ok x)
+        → Goes (world_of indent m) (turns_script n custom) (stage_of m i r feed.coming) result y → Goes (world_of indent s) (line_script n custom) (stage_of s i r feed.coming) result y
+    unfolding line_script
+    drawn_on n x m result y drawn goes = makes indent s s m (stays_same s) line_begun i r feed.coming (λ v. turns_script n custom) x result y drawn
+        (subst (λ w. Goes w (turns_script n custom) (stage_of m i r feed.coming) result y) (world_stays indent s m drawn.stays) goes)
 
-    abbrev first_drawn : List Act
-    first_drawn = Sees (line_begun (setting_of s) (value_of s)).steps ∷ []
+    not_drawn : {B : Type 0} (n : ℕ) (t : State Out H Hi K T renderer completer candidate hinter hint highlighter validator history) (e : ReadlineError) → Does {A = B} line_begun s t (Err e)
+        → Goes (world_of indent s) (line_script n custom) (stage_of s i r feed.coming) (Err e) (stage_of t i r feed.coming)
+    unfolding line_script
+    not_drawn {B} n t e refused = unmade indent s s t (stays_same s) line_begun i r feed.coming (λ v. turns_script n custom) {A = B} e refused
 
-    abbrev sight_drawn : Sight
-    sight_drawn = let e = line_begun (setting_of s) (value_of s) in sight_of (setting_of s) e.value (info_after e.steps None)
-
-    drawn_by : {A B : Type 0} (n : ℕ) (none : ⊤) (x : B) (m t : State Out H Hi K T renderer completer candidate hinter hint highlighter validator history) (r2 : Ring) (c2 : Coming) (result : Result A ReadlineError) → Does line_begun s m (Ok x)
-        → Reading (after_drawing n) (turns_doing custom indent i r feed.coming n) m t feed.coming c2 r r2 result
-        → Reading (drawn_and_turned custom indent i r feed.coming n none) (line_doing custom indent i r feed.coming n) s t feed.coming c2 r r2 result
-    drawn_by n none x m t r2 c2 result drawn (inl read) =
-        inl (reads_on line_begun (after_drawing n) (drawn_and_turned custom indent i r feed.coming n none) sight_drawn s m t c2 r2 result refl (done s m x (tt {0}) drawn) read)
-    drawn_by n none x m t r2 c2 result drawn (inr cut) =
-        inr (cut_on line_begun first_drawn (turns_doing custom indent i r feed.coming n) (line_doing custom indent i r feed.coming n) s m t feed.coming feed.coming c2 r r r2 result
-        (append-nil (line_begun (setting_of s) (value_of s)).steps) refl refl refl (done s m x (tt {0}) drawn) cut)
-
-    pub draws : {A B : Type 0} (x : B) (m t : State Out H Hi K T renderer completer candidate hinter hint highlighter validator history) (r2 : Ring) (feed2 : KeyFeed) (result : Result A ReadlineError)
-        → Does refreshed s m (Ok x) → ReadsLine custom (turns_left custom indent i r) (turns_doing custom indent i r) m r feed t r2 feed2 result
-        → ReadsLine custom (drawn_and_turned custom indent i r) (line_doing custom indent i r) s r feed t r2 feed2 result
-    draws x m t r2 feed2 result drawn read = record {
-      goes = λ told n h none. drawn_by n none x m t r2 feed2.coming result (begun s m (Ok x) drawn) (read.goes told n h (info_after (line_begun (setting_of s) (value_of s)).steps None));
+    pub draws : {A B : Type 0} (x : B) (m t : State Out H Hi K T renderer completer candidate hinter hint highlighter validator history) (i2 : Input) (r2 : Ring) (feed2 : KeyFeed) (result : Result A ReadlineError)
+        → Does refreshed s m (Ok x) → Takes turns_script custom indent m i r feed t i2 r2 feed2 (text_or result t.line.text)
+        → Takes line_script custom indent s i r feed t i2 r2 feed2 (text_or result t.line.text)
+    draws x m t i2 r2 feed2 result drawn read = record {
+      goes = λ told n h. drawn_on n x m (text_or result t.line.text) (stage_of t i2 r2 feed2.coming) (begun s m (Ok x) drawn) (read.goes told n h);
+      stays = λ told. stays_both s m t drawn.stays (read.stays told);
       told = read.told;
       keeps = read.keeps;
       falls = read.falls;
+      mode = read.mode;
       reason = read.reason;
     }
 
     pub undrawn : {A B : Type 0} (t : State Out H Hi K T renderer completer candidate hinter hint highlighter validator history) (e : ReadlineError) (result : Result A ReadlineError)
-        → IsErrAnd result (λ x. x ≡ e) → Does {A = B} refreshed s t (Err e) → ReadsLine custom (drawn_and_turned custom indent i r) (line_doing custom indent i r) s r feed t r feed result
-    undrawn {A} {B} t e result is refused = subst (λ x. ReadsLine custom (drawn_and_turned custom indent i r) (line_doing custom indent i r) s r feed t r feed x) (sym (is_err e result is)) (record {
-      goes = λ told n h none. inr (seeing_cut {A = B} {B = A} line_begun (λ a v. turns_doing custom indent i r feed.coming n a (line_begun a v).value) s t feed.coming feed.coming r e (Err e) refl refl (begun {A = B} s t (Err e) refused));
+        → IsErrAnd result (λ x. x ≡ e) → Does {A = B} refreshed s t (Err e) → Takes line_script custom indent s i r feed t i r feed (text_or result t.line.text)
+    undrawn {A} {B} t e result is refused = subst (λ x. Takes line_script custom indent s i r feed t i r feed (text_or x t.line.text)) (sym (is_err e result is)) (record {
+      goes = λ told n h. not_drawn {B = B} n t e (begun {A = B} s t (Err e) refused);
+      stays = λ told. refused.stays;
       told = λ h. h;
       keeps = le_refl feed.bound;
       falls = tt;
+      mode = refl;
       reason = edit_cause custom t feed e refused.reason;
     })

@@ -1,5 +1,4 @@
 pub mod AcceptLemmas
-pub mod ActsLemmas
 pub mod CommandsLead
 pub mod CompleteLemmas
 pub mod DoesLemmas
@@ -10,9 +9,9 @@ pub mod KillLemmas
 pub mod KnownLemmas
 pub mod LeadLemmas
 pub mod LineLeads
-pub mod LoopLemmas
 pub mod CarriesLemmas
 pub mod ObeyLemmas
+pub mod PhraseGoes
 pub mod ReachLemmas
 pub mod RecallLemmas
 pub mod RefusedLemmas
@@ -22,8 +21,8 @@ pub mod RowLemmas
 mod Rows
 pub mod RunLemmas
 pub mod StopsLemmas
+pub mod ToldLemmas
 pub mod TurnLemmas
 pub mod UndoAllLemmas
 pub mod UndoLemmas
-pub mod EnactedLemmas
 pub mod CommandedLemmas

@@ -25,8 +25,8 @@ use Rattle.line_editor.specs.Sights.{Sight, no_sight, sight_with, sight_of, ende
 use Rattle.line_editor.specs.Values.{Value, Setting, Effect, first_value, hint_reply, helped, shown_hint}
 use Rattle.line_editor.specs.declared.commands.Status.{Status}
 use Rattle.line_editor.specs.declared.commands.Status.TheVariants.{Proceed, Submit}
-use Rattle.line_editor.proofs.ActsLemmas.{each_way}
 use Rattle.line_editor.proofs.CommandsLead.{asks_lead, commands_lead, submitting_leads}
+use Rattle.line_editor.proofs.ToldLemmas.{each_way}
 use Rattle.line_editor.proofs.LeadLemmas.{fits_both, sight_both, info_both, turns_both, help_info}
 
 -- ---- a phrase

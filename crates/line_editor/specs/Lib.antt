@@ -1,5 +1,4 @@
 pub mod Accepting
-pub mod Acts
 pub mod Asks
 pub mod Calls
 pub mod Commands
@@ -12,8 +11,8 @@ pub mod Killing
 pub mod Known
 pub mod Leads
 pub mod Lines
+pub mod LineScripts
 pub mod Moving
-pub mod Reading
 pub mod Redraws
 pub mod Steps
 pub mod Remembering

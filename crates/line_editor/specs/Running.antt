@@ -1,9 +1,10 @@
 -- A whole line: what is handed in for it, what is given back, and what was read and drawn.
-use Rattle.std.specs.Prelude.{◌≡◌, ◌⊎◌, ⊤, ℕ, ◌<◌, ◌≤◌, Bool, List, Option, None, option_map, Result, Err, string_bytes, flat_map, if◌then◌else◌, IsTrue, IfErr, OnOk}
-use Rattle.std.specs.List.{FoldsTo}
+use Rattle.std.specs.Prelude.{◌≡◌, ⊤, ℕ, ◌<◌, ◌≤◌, Bool, List, Option, None, option_map, Result, Ok, Err, string_bytes, flat_map, if◌then◌else◌, IsTrue, IfErr, OnOk}
 use Rattle.line_buffer.specs.Cells.{origin}
 use Rattle.line_buffer.specs.Line.{Line}
 use Rattle.line_buffer.specs.declared.layout.Layout.{Layout}
+use Rattle.line_config.specs.Played.{Played, played}
+use Rattle.line_config.specs.Scripts.{Goes}
 use Rattle.line_config.specs.declared.config.Config.{Config}
 use Rattle.line_config.specs.declared.errors.ReadlineError.{ReadlineError}
 use Rattle.line_help.specs.Completion.{Completion}
@@ -14,17 +15,17 @@ use Rattle.line_keys.specs.Answers.{Custom}
 use Rattle.line_keys.specs.Coming.{Coming, made_of}
 use Rattle.line_keys.specs.Feeds.{KeyFeed}
 use Rattle.line_keys.specs.InputStates.{new_input}
+use Rattle.line_keys.specs.Phrases.{Input}
 use Rattle.line_keys.specs.declared.command.CmdKind.{CmdKind}
 use Rattle.line_record.specs.Ring.{Ring}
-use Rattle.line_editor.specs.Acts.{Act, acts_of, stage, CutIn}
-use Rattle.line_editor.specs.Calls.{Call, Canvas, Ruler, MadeIn}
+use Rattle.line_editor.specs.Calls.{Call, Canvas, Ruler}
 use Rattle.line_editor.specs.Courses.{Turn, steps_in}
+use Rattle.line_editor.specs.LineScripts.{Kept, LineAsk, Stage, kept, line_plan, line_script, line_world, stage, steps_along}
 use Rattle.line_editor.specs.Lines.{Told, line_of}
 use Rattle.line_editor.specs.Redraws.{fresh}
 use Rattle.line_editor.specs.Steps.{asked, surface}
-use Rattle.line_editor.specs.States.{reason_of}
 use Rattle.line_editor.specs.Turning.{cause_of}
-use Rattle.line_editor.specs.Values.{Value, Setting, Hooks, hooks_by, IsFailing}
+use Rattle.line_editor.specs.Values.{Value, Setting, Hooks, first_value, hooks_by, IsFailing}
 use Rattle.line_editor.specs.declared.ran.Ran.{Ran}
 
 -- what a helper's hooks give, if there is one
@@ -48,33 +49,34 @@ abbrev pub line_meant : ℕ → Setting → Custom → Config → Ring → Comin
 line_meant n s custom config ring c =
     line_of n s custom config.indent_size (new_input config.edit_mode) ring c
 
--- and what is done for it
-abbrev pub acts_meant : ℕ → Setting → Custom → Config → Ring → Coming → List Act
-acts_meant n s custom config ring c =
-    acts_of n s custom config.indent_size (new_input config.edit_mode) ring c
-
 -- the calls of its turns, on a display where nothing is drawn
 abbrev pub line_calls : Ruler → List Turn → List Call
 line_calls r turns = (asked r (fresh r.mode) (flat_map steps_in turns)).calls
 
--- the line was read and drawn whole
-pub record WholeLine {R : Type 0} (canvas : Canvas R) (line : Told) (old new : R) (ring : Ring)
-    (rest : Coming) (outcome : Result (List ℕ) ReadlineError) : Type 0 where
-  pub outcome_is : outcome ≡ line.outcome
-  pub ring_is : ring ≡ line.ring
-  pub rest_is : rest ≡ line.rest
-  pub calls : FoldsTo (MadeIn canvas) old (line_calls (canvas.ruler old) line.turns) new
+-- what goes on as a line begins: nothing is drawn, and nothing typed
+abbrev pub kept_first : Setting → Config → Ring → Coming → Kept
+kept_first s config ring coming =
+    kept (first_value s) (new_input config.edit_mode) ring coming
 
--- a fault came that no input gives: the first of these acts were done, and it cut them
-pub record CutLine {R : Type 0} (canvas : Canvas R) (acts : List Act) (old new : R)
-    (c c' : Coming) (r r' : Ring) (outcome : Result (List ℕ) ReadlineError) : Type 0 where
-  pub fault : ReadlineError
-  pub value : Value
-  pub layout : Layout
-  pub outcome_is : outcome ≡ Err fault
-  pub cause : reason_of (canvas.failed new) ⊤ fault
-  pub done : let ruler = canvas.ruler old in CutIn canvas ruler fault acts
-      (stage (surface old (fresh ruler.mode)) c r) value (stage (surface new layout) c' r')
+abbrev pub stage_first : {R : Type 0} → R → Ruler → Setting → Config → Ring → Coming → Stage R
+stage_first out r s config ring coming =
+    stage (surface out (fresh r.mode)) (kept_first s config ring coming)
+
+-- its script, where no fault comes
+abbrev pub line_played : ℕ → Setting → Custom → Config → Ring → Coming
+    → Played LineAsk Kept ReadlineError (List ℕ)
+line_played n s custom config ring c =
+    played (line_plan s config.indent_size) (line_script n custom) (kept_first s config ring c)
+
+-- it comes to the line that is meant
+abbrev pub ScriptsTell : Type 0
+ScriptsTell =
+    (n : ℕ) (s : Setting) (custom : Custom) (config : Config) (ring : Ring) (coming : Coming)
+    → let p = line_played n s custom config ring coming in
+    let line = line_meant n s custom config ring coming in
+    let steps = steps_along s config.indent_size (kept_first s config ring coming) p.asks in
+    (p.answer ≡ line.outcome) × (steps ≡ flat_map steps_in line.turns)
+    × (p.rest.value ≡ line.value) × (p.rest.ring ≡ line.ring) × (p.rest.coming ≡ line.rest)
 
 -- a helper, if there is one, by what it gives
 abbrev pub helping_by : {H : Type 0} → (H → Answers (Reply (Option Hinted)))
@@ -85,21 +87,31 @@ helping_by hint_of verdict_of completion_of update_of marks helper = record {
   marks = option_map marks helper;
 }
 
+-- the text that an accepted line has, or why there is none
+abbrev pub text_or : {A : Type 0} → Result A ReadlineError → List ℕ → Result (List ℕ) ReadlineError
+text_or (Ok x) text = Ok text
+text_or (Err e) text = Err e
+
 abbrev pub outcome_of : {R H K T : Type 0} → Ran R H K T → Result (List ℕ) ReadlineError
 outcome_of ran = made_of string_bytes ran.outcome
 
--- THE relation of `run`. More fuel than the reader has keys and pastes is enough
+-- THE relation of `run`: a line goes as its script says. More fuel than the reader has keys and
+-- pastes is enough
 pub record Runs {R H K T : Type 0} (canvas : Canvas R) (helps : Option H → Helping)
     (custom : Custom)
     (prompt : List ℕ) (helper : Option H) (entries : List (List ℕ)) (config : Config) (out : R)
     (ring : Ring) (feed : KeyFeed) (ran : Ran R H K T) (ring' : Ring)
     (feed' : KeyFeed) : Type 0 where
+  -- how it stood at its end
+  pub value : Value
+  pub input : Input
+  pub layout : Layout
   pub goes : IsTrue feed'.told → (n : ℕ) → feed.bound < n →
-      let setting = setting_by (canvas.ruler out) prompt (helps helper) entries in
-      WholeLine canvas (line_meant n setting custom config ring feed.coming) out ran.out ring'
-      feed'.coming (outcome_of ran)
-      ⊎ CutLine canvas (acts_meant n setting custom config ring feed.coming) out ran.out
-      feed.coming feed'.coming ring ring' (outcome_of ran)
+      let ruler = canvas.ruler out in
+      let setting = setting_by ruler prompt (helps helper) entries in
+      Goes (line_world canvas ruler setting config.indent_size) (line_script n custom)
+      (stage_first out ruler setting config ring feed.coming) (outcome_of ran)
+      (stage (surface ran.out layout) (kept value input ring' feed'.coming))
   pub told : IsTrue feed'.told → IsTrue feed.told
   pub keeps : feed'.bound ≤ feed.bound
   pub falls : OnOk ran.outcome (feed'.bound < feed.bound)

@@ -1,6 +1,6 @@
--- What a command makes of a state and of the ring, and a turn also of what comes: all that the
--- definition says, or a beginning of it.
-use Rattle.std.specs.Prelude.{◌≡◌, ◌⊎◌, ⊤, ℕ, ◌<◌, ◌≤◌, Bool, true, false, List, Result, Ok, Err, IsTrue, IfErr, OnOk}
+-- What a command makes of a state and of the ring, and a line, or a part of it, also of what comes.
+use Rattle.std.specs.Prelude.{◌≡◌, ◌⊎◌, ⊤, ℕ, ◌<◌, ◌≤◌, Bool, true, false, Result, Ok, Err, IsTrue, IfErr, OnOk}
+use Rattle.line_config.specs.Scripts.{World, Goes}
 use Rattle.line_config.specs.declared.errors.ReadlineError.{ReadlineError}
 use Rattle.line_config.specs.declared.errors.ReadlineError.TheVariants.{Eof, Interrupted, NotUtf8, PasteOutOfPlace, Reader, Display, Lines, HistoryText, Helper, Handler, Memory}
 use Rattle.line_help.specs.declared.completion.Completer as completers
@@ -17,11 +17,10 @@ use Rattle.line_keys.specs.Phrases.{Input}
 use Rattle.line_keys.specs.declared.command.Cmd.{Cmd}
 use Rattle.line_keys.specs.declared.command.Cmd.TheVariants.{AcceptLine, AcceptOrInsertLine, EndOfFile, Interrupt, Kill, Replace, ViYankTo}
 use Rattle.line_record.specs.Ring.{Ring}
-use Rattle.line_editor.specs.Acts.{Act, turn_acts, stage, CutIn}
 use Rattle.line_editor.specs.Commands.{Means, effect, ring_after_command, LeavesRing, outcome}
-use Rattle.line_editor.specs.Lines.{Turned, turn_of}
-use Rattle.line_editor.specs.States.{value_of, setting_of, surface_of, Stays, Reason, Does}
-use Rattle.line_editor.specs.Values.{Value, Setting, IsFailing}
+use Rattle.line_editor.specs.LineScripts.{LineAsk, LineAnswer, LineScript, Stage, kept, line_world, stage}
+use Rattle.line_editor.specs.States.{value_of, setting_of, surface_of, Stays, Does}
+use Rattle.line_editor.specs.Values.{IsFailing}
 use Rattle.line_editor.specs.declared.commands.Status.{Status}
 use Rattle.line_editor.specs.declared.renderer.Renderer as renderers
 use Rattle.line_editor.specs.declared.state.State.{State}
@@ -36,17 +35,6 @@ is_obeyed (Kill movement) = false
 is_obeyed (Replace movement text) = false
 is_obeyed (ViYankTo movement) = false
 is_obeyed cmd = true
-
--- a turn by what it begins with
-abbrev pub turning : ℕ → Custom → ℕ → Input → Ring → Coming → Setting → Value → Turned
-turning n custom indent input r c s v = turn_of n s custom indent input r v c
-
--- what is done, by what it begins with
-abbrev pub Doing : Type 0
-Doing = Setting → Value → List Act
-
-abbrev pub turn_doing : ℕ → Custom → ℕ → Input → Ring → Coming → Doing
-turn_doing n custom indent input r c s v = turn_acts n s custom indent input r v c
 
 -- why a call that reads and edits is refused, whatever is told; commands end a line too
 abbrev pub cause_of : Custom → Bool → Type 0 → KeyFeed → ReadlineError → Type 0
@@ -84,19 +72,6 @@ module _ {Out H Hi K T : Type 0} {renderer : renderers.Ghosts Out}
       Done m cmd s t ring result ⊎ ((e : ReadlineError) × (result ≡ Err e)
       × Does {A = Unit {0}} (effect m cmd) s t (Err e) × LeavesRing cmd (value_of s) m.ring ring e)
 
-  -- a fault came, which no input gives: the first of these acts were done, and it cut them
-  pub record Cut {A : Type 0} (acts : Doing)
-      (s t : State Out H Hi K T renderer completer candidate hinter hint highlighter validator
-      history)
-      (c c' : Coming) (r r' : Ring) (result : Result A ReadlineError) : Type 0 where
-    pub fault : ReadlineError
-    pub result_is : result ≡ Err fault
-    pub cause : Reason t fault
-    pub stays : Stays s t
-    pub done : CutIn renderer.canvas (renderer.canvas.ruler s.out) fault
-        (acts (setting_of s) (value_of s)) (stage (surface_of s) c r) (value_of t)
-        (stage (surface_of t) c' r')
-
   abbrev pub Cause : Custom
       → State Out H Hi K T renderer completer candidate hinter hint highlighter validator history
       → KeyFeed → ReadlineError → Type 0
@@ -104,31 +79,34 @@ module _ {Out H Hi K T : Type 0} {renderer : renderers.Ghosts Out}
       cause_of custom (renderer.canvas.failed t.out)
       (IsFailing (setting_of t).hooks) feed e
 
-  -- the turn was made whole, and ends as it says
-  pub record Whole (turn : Setting → Value → Turned)
-      (s t : State Out H Hi K T renderer completer candidate hinter hint highlighter validator
-      history)
-      (ring : Ring) (input : Input) (rest : Coming)
-      (result : Result Status ReadlineError) : Type 0 where
-    pub does : Does {A = Unit {0}} (λ a v. (turn a v).made) s t (Ok (tt {0}))
-    pub outcome_is : result ≡ (turn (setting_of s) (value_of s)).outcome
-    pub ring_is : ring ≡ (turn (setting_of s) (value_of s)).ring
-    pub input_is : input ≡ (turn (setting_of s) (value_of s)).input
-    pub rest_is : rest ≡ (turn (setting_of s) (value_of s)).rest
+  -- what goes on in a line, where a state is in it
+  abbrev pub stage_of :
+      State Out H Hi K T renderer completer candidate hinter hint highlighter validator history
+      → Input → Ring → Coming → Stage Out
+  stage_of s input ring coming = stage (surface_of s) (kept (value_of s) input ring coming)
 
-  -- THE relation of a turn. More fuel than the reader has keys and pastes is enough
-  pub record Takes (custom : Custom) (indent : ℕ)
+  abbrev pub world_of : ℕ
+      → State Out H Hi K T renderer completer candidate hinter hint highlighter validator history
+      → World LineAsk LineAnswer (Stage Out) ReadlineError
+  world_of indent s =
+      line_world renderer.canvas (renderer.canvas.ruler s.out) (setting_of s) indent
+
+  -- THE relation of a line, or of a part of it, from a state on: it goes as its script says. More
+  -- fuel than the reader has keys and pastes is enough
+  pub record Takes {X : Type 0} (script : ℕ → Custom → LineScript X) (custom : Custom)
+      (indent : ℕ)
       (s : State Out H Hi K T renderer completer candidate hinter hint highlighter validator
       history) (input : Input) (ring : Ring) (feed : KeyFeed)
       (t : State Out H Hi K T renderer completer candidate hinter hint highlighter validator
       history) (input' : Input) (ring' : Ring) (feed' : KeyFeed)
-      (result : Result Status ReadlineError) : Type 0 where
-    pub goes : IsTrue feed'.told → (n : ℕ) → feed.bound < n →
-        Whole (turning n custom indent input ring feed.coming) s t ring' input' feed'.coming result
-        ⊎ Cut (turn_doing n custom indent input ring feed.coming)
-        s t feed.coming feed'.coming ring ring' result
+      (result : Result X ReadlineError) : Type 0 where
+    pub goes : IsTrue feed'.told → (n : ℕ) → feed.bound < n
+        → Goes (world_of indent s) (script n custom) (stage_of s input ring feed.coming)
+        result (stage_of t input' ring' feed'.coming)
+    pub stays : IsTrue feed'.told → Stays s t
     pub told : IsTrue feed'.told → IsTrue feed.told
     pub keeps : feed'.bound ≤ feed.bound
     pub falls : OnOk result (feed'.bound < feed.bound)
+    -- Emacs or Vi for good
     pub mode : input'.mode ≡ input.mode
     pub reason : IfErr result (λ e. Cause custom t feed' e)

@@ -2,8 +2,7 @@
 ghost use Rattle.std.specs.Prelude.{◌≡◌, Err};
 ghost use Rattle.line_config.specs.declared.errors.ReadlineError.TheVariants.{Memory};
 ghost use Rattle.line_keys.specs.Answers.{custom_of};
-ghost use Rattle.line_editor.specs.Reading.{text_or};
-ghost use Rattle.line_editor.specs.Running.{Runs, helping_by, outcome_of};
+ghost use Rattle.line_editor.specs.Running.{Runs, helping_by, outcome_of, text_or};
 
 use crate::renderer::Renderer;
 use crate::starting::empty_line;

@@ -1,7 +1,9 @@
 //! A line: its first drawing, then turns until one ends it.
 ghost use Rattle.std.specs.Prelude.{◌≡◌};
 ghost use Rattle.line_keys.specs.InputStates.{input_of, custom_in};
-ghost use Rattle.line_editor.specs.Reading.{ReadsLine, turns_left, turns_doing, drawn_and_turned, line_doing};
+ghost use Rattle.line_editor.specs.LineScripts.{turns_script, line_script};
+ghost use Rattle.line_editor.specs.Running.{text_or};
+ghost use Rattle.line_editor.specs.Turning.{Takes};
 
 use crate::commands::Status;
 use crate::renderer::Renderer;
@@ -21,13 +23,10 @@ impl<'p, 'h, Out: Renderer, H: Helper + Drop, Hi: History> State<'p, 'h, Out, H,
         config: &Config,
     ) -> Result<(), ReadlineError>
         ensures { let custom = custom_in input_state.old D.decides in
-            let input = input_of input_state.old in
-            let indent = config.now.indent_size in
-            let feed = R.feed rdr.old in
-            let ring = kill_ring.old in
-            ReadsLine custom (turns_left custom indent input ring)
-            (turns_doing custom indent input ring)
-            self.old ring feed self.new kill_ring.new (R.feed rdr.new) result }
+            Takes turns_script custom config.now.indent_size
+            self.old (input_of input_state.old) kill_ring.old (R.feed rdr.old)
+            self.new (input_of input_state.new) kill_ring.new (R.feed rdr.new)
+            (text_or result self.new.line.text) }
     {
         'turns: loop {
             match self.turn(input_state, rdr, kill_ring, config)? {
@@ -46,13 +45,10 @@ impl<'p, 'h, Out: Renderer, H: Helper + Drop, Hi: History> State<'p, 'h, Out, H,
         config: &Config,
     ) -> Result<(), ReadlineError>
         ensures { let custom = custom_in input_state.old D.decides in
-            let input = input_of input_state.old in
-            let indent = config.now.indent_size in
-            let feed = R.feed rdr.old in
-            let ring = kill_ring.old in
-            ReadsLine custom (drawn_and_turned custom indent input ring)
-            (line_doing custom indent input ring)
-            self.old ring feed self.new kill_ring.new (R.feed rdr.new) result }
+            Takes line_script custom config.now.indent_size
+            self.old (input_of input_state.old) kill_ring.old (R.feed rdr.old)
+            self.new (input_of input_state.new) kill_ring.new (R.feed rdr.new)
+            (text_or result self.new.line.text) }
     {
         self.refresh()?;
         self.turns(input_state, rdr, kill_ring, config)

@@ -12,6 +12,7 @@ use line_keys::{Decides, InputState, RawReader};
 use line_record::KillRing;
 
 impl<'p, 'h, Out: Renderer, H: Helper + Drop, Hi: History> State<'p, 'h, Out, H, Hi> {
+    ghost use Rattle.line_editor.specs.LineScripts.{turn_script};
     ghost use Rattle.line_editor.specs.Turning.{Takes};
 
     /// One turn: the next command, and what it does.
@@ -22,7 +23,8 @@ impl<'p, 'h, Out: Renderer, H: Helper + Drop, Hi: History> State<'p, 'h, Out, H,
         kill_ring: &mut KillRing,
         config: &Config,
     ) -> Result<Status, ReadlineError>
-        ensures turn { Takes (custom_in input_state.old D.decides) config.now.indent_size
+        ensures turn { let custom = custom_in input_state.old D.decides in
+            Takes turn_script custom config.now.indent_size
             self.old (input_of input_state.old) kill_ring.old (R.feed rdr.old)
             self.new (input_of input_state.new) kill_ring.new (R.feed rdr.new) result }
         ensures bindings { input_state.new.custom_bindings ≡ input_state.old.custom_bindings }

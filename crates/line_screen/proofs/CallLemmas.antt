@@ -3,13 +3,14 @@ use Rattle.std.proofs.Common.{◌≡◌, ◌≤◌, ℕ, Bool, List, [], ◌∷�
 use Rattle.std.specs.List.{FoldsTo, flat_map}
 use Rattle.line_config.specs.declared.device.DeviceFailed.{DeviceFailed}
 use Rattle.line_config.specs.declared.errors.ReadlineError.{ReadlineError}
+use Rattle.line_config.specs.Scripts.{Ends, Asks, Goes}
 use Rattle.line_config.specs.Sending.{Takes, TakesSome, Sends}
-use Rattle.line_editor.specs.Acts.{Act, Sees, Gets, Obeys, Stage, stage, CutIn}
 use Rattle.line_editor.specs.Calls.{Call, Ruler, MadeIn, RefusedIn, BrokenOff, Makes}
 use Rattle.line_editor.specs.Calls.Call.{Help}
+use Rattle.line_editor.specs.LineScripts.{LineScript, Stage, effect_at, line_world}
 use Rattle.line_editor.specs.Redraws.{asked_by}
-use Rattle.line_editor.specs.Steps.{one, asked, Surface, surface, Refusal, StepCut, Stops}
-use Rattle.line_editor.specs.Values.{Value, EditStep}
+use Rattle.line_editor.specs.Steps.{one, asked, Surface, Refusal, StepCut, Stops}
+use Rattle.line_editor.specs.Values.{Value, Setting, EditStep}
 use Rattle.line_editor.specs.Values.EditStep.{Draws, Helped, Updates, Edits, TakesBack, Takes as TakingStep}
 use Rattle.line_screen.specs.Calls.{Sent, canvas_of, bytes_of, screen_of, sink_of, display_answer}
 use Rattle.line_screen.specs.declared.renderer.ScreenRenderer.{ScreenRenderer}
@@ -53,7 +54,7 @@ module _ {D : Type 0} (held waits : D → List ℕ) (failed : D → Bool) where
   broken_stays (call ∷ calls) a b (inl h) = screen_in call a b h
   broken_stays (call ∷ calls) a b (inr h) = broken_stays calls h.0 b h.2 ∙ (sent_in call a h.0 h.1).screen
 
-  -- and so do a step that is refused, steps that stop, and acts that a fault cut
+  -- and so do a step that is refused, steps that stop, and whatever goes
   step_stays : (r : Ruler) (step : EditStep) (e : Refusal) (a b : Surface (ScreenRenderer D)) → StepCut (canvas_of held waits failed) r a step e b → screen_of b.out ≡ screen_of a.out
   step_stays r (Draws v marks x) e a b h = broken_stays (asked_by r marks a.layout x).calls a.out b.out h.1
   step_stays r (Helped v fails) e a b h = ap (λ s. screen_of s.out) h.1
@@ -70,19 +71,16 @@ module _ {D : Type 0} (held waits : D → List ℕ) (failed : D → Bool) where
       stops_stay r fault v steps between b h ∙ (sent_in_all (one r a.layout step).calls a.out between.out made.0).screen
   stops_stay r fault v (step ∷ steps) a b (inr (e, h, is)) = step_stays r step e a b h
 
-  pub cut_stays : (r : Ruler) (fault : ReadlineError) (v : Value) (acts : List Act) (old new : Stage (ScreenRenderer D)) → CutIn (canvas_of held waits failed) r fault acts old v new
-      → screen_of new.drawn.out ≡ screen_of old.drawn.out
-  unfolding CutIn
-  cut_stays r fault v [] old new h = absurd h
-  cut_stays r fault v (Sees steps ∷ more) old new (inl h) = stops_stay r fault v steps old.drawn new.drawn h.0
-  cut_stays r fault v (Sees steps ∷ more) old new (inr (out, made, h)) =
-      cut_stays r fault v more (stage (surface out (asked r old.drawn.layout steps).layout) old.coming old.ring) new h ∙ (sent_in_all (asked r old.drawn.layout steps).calls old.drawn.out out made).screen
-  cut_stays r fault v (Gets value rest ∷ more) old new (inl (memory, value_is, inl same)) = ap (λ x. screen_of x.drawn.out) same
-  cut_stays r fault v (Gets value rest ∷ more) old new (inl (memory, value_is, inr lost)) = ap (λ x. screen_of x.drawn.out) lost
-  cut_stays r fault v (Gets value rest ∷ more) old new (inr h) = cut_stays r fault v more (stage old.drawn rest old.ring) new h
-  cut_stays r fault v (Obeys textless ring steps ∷ more) old new (inl h) = stops_stay r fault v steps old.drawn new.drawn h.0
-  cut_stays r fault v (Obeys textless ring steps ∷ more) old new (inr (out, made, h)) =
-      cut_stays r fault v more (stage (surface out (asked r old.drawn.layout steps).layout) old.coming ring) new h ∙ (sent_in_all (asked r old.drawn.layout steps).calls old.drawn.out out made).screen
+  pub goes_stay : {X : Type 0} (r : Ruler) (s : Setting) (indent : ℕ) (p : LineScript X) (x y : Stage (ScreenRenderer D)) (result : Result X ReadlineError)
+      → Goes (line_world (canvas_of held waits failed) r s indent) p x result y → screen_of y.drawn.out ≡ screen_of x.drawn.out
+  goes_stay r s indent (Ends z) x y result is = ap (λ (v : Stage (ScreenRenderer D)). screen_of v.drawn.out) is.1
+  goes_stay r s indent (Asks ask later) x y result (inl (z, v, (is, kept, drawn), goes)) =
+      goes_stay r s indent (later z) v y result goes ∙ (sent_in_all (asked r x.drawn.layout (effect_at s indent x.kept ask).steps).calls x.drawn.out v.drawn.out drawn.0).screen
+  goes_stay r s indent (Asks ask later) x y result (inr (e, inl (is, kept, drawn), refused)) =
+      (sent_in_all (asked r x.drawn.layout (effect_at s indent x.kept ask).steps).calls x.drawn.out y.drawn.out drawn.0).screen
+  goes_stay r s indent (Asks ask later) x y result (inr (e, inr (inl (stops, left)), refused)) =
+      stops_stay r e y.kept.value (effect_at s indent x.kept ask).steps x.drawn y.drawn stops
+  goes_stay r s indent (Asks ask later) x y result (inr (e, inr (inr (unread, same)), refused)) = ap (λ (v : Stage (ScreenRenderer D)). screen_of v.drawn.out) same
 
   -- where nothing waits after a call, it may have been so before
   pub passes_on : {A : Type 0} (d e : D) (sent : Result A DeviceFailed) → OnOk sent (waits e ≡ []) → OnOk sent (waits d ≡ [] → waits e ≡ [])

@@ -1,10 +1,11 @@
 -- Where nothing waits in a screen's sink.
 use Rattle.std.specs.Prelude.{◌≡◌, ℕ, Bool, false, List, [], Result}
+use Rattle.line_config.specs.Scripts.{World, Goes}
 use Rattle.line_config.specs.declared.errors.ReadlineError.{ReadlineError}
-use Rattle.line_editor.specs.Acts.{Act, Stage}
-use Rattle.line_editor.specs.Calls.{Canvas}
-use Rattle.line_editor.specs.Lines.{Told}
-use Rattle.line_editor.specs.Running.{WholeLine, CutLine}
+use Rattle.line_keys.specs.Answers.{Custom}
+use Rattle.line_editor.specs.Calls.{Ruler}
+use Rattle.line_editor.specs.LineScripts.{Stage, line_script, line_world}
+use Rattle.line_editor.specs.Values.{Setting}
 use Rattle.line_screen.specs.Calls.{canvas_of, sink_of}
 use Rattle.line_screen.specs.declared.renderer.ScreenRenderer.{ScreenRenderer}
 
@@ -12,30 +13,23 @@ use Rattle.line_screen.specs.declared.renderer.ScreenRenderer.{ScreenRenderer}
 abbrev pub NothingWaits : {D : Type 0} → (D → List ℕ) → (D → Bool) → D → Type 0
 NothingWaits waits failed d = failed d ≡ false → waits d ≡ []
 
--- a screen on which nothing waits when a call is asked, nor after it
-abbrev pub passing_canvas : {D : Type 0} → (D → List ℕ) → (D → List ℕ) → (D → Bool)
-    → Canvas (ScreenRenderer D)
-passing_canvas {D} held waits failed =
-    let all = canvas_of held waits failed in
-    let Rests : ScreenRenderer D → Type 0 = λ r. NothingWaits waits failed (sink_of r) in record {
-      made = λ old call new. Rests old × all.made old call new × Rests new;
-      refused = λ old call new. Rests old × all.refused old call new × Rests new;
-      failed = all.failed;
-      ruler = all.ruler;
-    }
+-- a world in which this holds at each ask, and after it
+abbrev pub holding : {A : Type 0} {R : A → Type 0} {S E : Type 0} → (S → Type 0) → World A R S E
+    → World A R S E
+holding Holds w = record {
+  made = λ x ask a y. Holds x × w.made x ask a y × Holds y;
+  cut = λ x ask e y. Holds x × w.cut x ask e y × Holds y;
+}
 
--- where nothing waits as a line begins, nothing waits between its calls, where its keys are read,
--- nor at its end, whether it is read whole or cut by a fault
+-- where nothing waits as a line begins, nothing waits at each ask of its script, the reads of its
+-- keys among them, nor at its end, whether it goes to its answer or a fault cuts it
 abbrev pub ReadsFindNothingWaiting : {D : Type 0} → (D → List ℕ) → (D → List ℕ) → (D → Bool)
     → Type 0
 ReadsFindNothingWaiting {D} held waits failed =
-    let all = canvas_of held waits failed in
-    let passing = passing_canvas held waits failed in
-    let Rests : ScreenRenderer D → Type 0 = λ r. NothingWaits waits failed (sink_of r) in
-    (line : Told) (acts : List Act) (x y : Stage (ScreenRenderer D))
-    (outcome : Result (List ℕ) ReadlineError) → let old = x.drawn.out in let new = y.drawn.out in
-    Rests old
-    → (WholeLine all line old new y.ring y.coming outcome
-    → WholeLine passing line old new y.ring y.coming outcome × Rests new)
-    × (CutLine all acts old new x.coming y.coming x.ring y.ring outcome
-    → CutLine passing acts old new x.coming y.coming x.ring y.ring outcome × Rests new)
+    let Rests : Stage (ScreenRenderer D) → Type 0 =
+    λ x. NothingWaits waits failed (sink_of x.drawn.out) in
+    (n : ℕ) (custom : Custom) (r : Ruler) (s : Setting) (indent : ℕ)
+    (x y : Stage (ScreenRenderer D)) (result : Result (List ℕ) ReadlineError)
+    → let w = line_world (canvas_of held waits failed) r s indent in Rests x
+    → Goes w (line_script n custom) x result y
+    → Goes (holding Rests w) (line_script n custom) x result y × Rests y

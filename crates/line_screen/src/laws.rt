@@ -29,7 +29,7 @@ pub fn calls()
 {}
 
 /// Whenever a key is read, the device below the screen's sink has taken every byte that was drawn:
-/// where nothing waits in the sink as a line begins, nothing waits between its calls.
+/// where nothing waits in the sink as a line begins, nothing waits at any ask of its script.
 pub fn reads_find_nothing_waiting<D: Sink>()
     ensures { ReadsFindNothingWaiting D.held D.waits D.has_failed }
 {}

@@ -9,5 +9,5 @@ returns-in_err-refresh g c =
 
 pub returns : goal.returns
 returns g c =
-    draws (custom_in c.args.input_state.now g.D.Decides.decides) c.args.config.now.indent_size (input_of c.args.input_state.now) _ _ _ _ _ _ _ _ _
+    draws (custom_in c.args.input_state.now g.D.Decides.decides) c.args.config.now.indent_size (input_of c.args.input_state.now) _ _ _ _ _ _ _ _ _ _
     c.in_ok-refresh.ensures.does c.turns.ensures

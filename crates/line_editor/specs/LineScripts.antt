@@ -1,0 +1,178 @@
+-- A line as a script: what is asked in order, by whatever comes, and where a fault stops it.
+use Rattle.std.specs.Prelude.{◌≡◌, ◌⊎◌, ℕ, zero, suc, List, [], ◌∷◌, ◌++◌, Result, Ok, Err}
+use Rattle.std.specs.List.{FoldsTo}
+use Rattle.line_config.specs.Played.{Plan}
+use Rattle.line_config.specs.Scripts.{Script, Ends, Asks, World, then}
+use Rattle.line_config.specs.declared.errors.ReadlineError.{ReadlineError}
+use Rattle.line_config.specs.declared.errors.ReadlineError.TheVariants.{Memory}
+use Rattle.line_keys.specs.Answers.{Custom}
+use Rattle.line_keys.specs.Coming.{Coming, behind, left, left_by}
+use Rattle.line_keys.specs.Feeds.{IsReadFault, item_at}
+use Rattle.line_keys.specs.Phrases.{Input, KeyAsk, Answer, Steps, steps, Needs, Shows, Reads, Becomes, Refuses}
+use Rattle.line_keys.specs.Refreshing.{Shown}
+use Rattle.line_keys.specs.declared.command.Cmd.{Cmd}
+use Rattle.line_record.specs.Ring.{Ring}
+use Rattle.line_editor.specs.Accepting.{submitted}
+use Rattle.line_editor.specs.Asks.{shown_in, ask_effect}
+use Rattle.line_editor.specs.Calls.{Canvas, Ruler, MadeIn}
+use Rattle.line_editor.specs.Commands.{Means, means_of, effect, ring_after_command, LeavesRing, outcome}
+use Rattle.line_editor.specs.Lines.{line_phrase, line_begun, reset_by}
+use Rattle.line_editor.specs.Steps.{asked, Surface, Stops}
+use Rattle.line_editor.specs.Values.{Value, Setting, EditStep, Effect, Transition, unchanged, taking}
+use Rattle.line_editor.specs.declared.commands.Status.{Status}
+use Rattle.line_editor.specs.declared.commands.Status.TheVariants.{Proceed, Submit}
+
+-- what a turn begins with
+pub record Beginning : Type 0 where
+  pub input : Input
+  pub shown : Shown
+
+pub data LineAsk : Type 0 where
+  -- a turn begins; nothing is made
+  Begins : LineAsk
+  -- what a phrase asks
+  Keys : (ask : KeyAsk) → LineAsk
+  -- a command is done
+  Obeys : (cmd : Cmd) → LineAsk
+  -- an edit of no command is made: a line's first drawing, and its close
+  Makes : (edit : Transition) → LineAsk
+
+abbrev pub LineAnswer : LineAsk → Type 0
+LineAnswer Begins = Beginning
+LineAnswer (Keys ask) = Answer ask
+LineAnswer (Obeys cmd) = Status
+LineAnswer (Makes edit) = Value
+
+abbrev pub LineScript : Type 0 → Type 0
+LineScript X = Script LineAsk LineAnswer X
+
+-- ---- the scripts; more fuel than a reader has keys and pastes is enough
+
+abbrev pub keyed : {X : Type 0} → Steps X → LineScript X
+keyed (Ends x) = Ends x
+keyed (Asks ask later) = Asks (Keys ask) (λ x. keyed (later x))
+
+-- a phrase, and the command that it gives
+unfoldable pub turn_script : ℕ → Custom → LineScript Status
+turn_script n custom =
+    Asks Begins (λ at. then (keyed (steps (line_phrase custom at.input at.shown) n))
+    (λ cmd. Asks (Obeys cmd) (λ status. Ends status)))
+
+-- an accepted line is closed, and its text is the answer
+abbrev pub turned_on : LineScript (List ℕ) → Status → LineScript (List ℕ)
+turned_on next Proceed = next
+turned_on next Submit = Asks (Makes submitted) (λ v. Ends v.line.text)
+
+-- turn after turn, until one ends the line
+unfoldable pub turns_script : ℕ → Custom → LineScript (List ℕ)
+turns_script zero custom = Asks (Keys (Refuses Memory)) (λ none. absurd none)
+turns_script (suc n) custom = then (turn_script (suc n) custom) (turned_on (turns_script n custom))
+
+unfoldable pub line_script : ℕ → Custom → LineScript (List ℕ)
+line_script n custom = Asks (Makes line_begun) (λ v. turns_script n custom)
+
+-- ---- what each ask means
+
+-- what goes on from ask to ask
+pub record Kept : Type 0 where
+  pub value : Value
+  pub input : Input
+  pub ring : Ring
+  pub coming : Coming
+
+abbrev pub kept : Value → Input → Ring → Coming → Kept
+kept value input ring coming =
+    record { value = value; input = input; ring = ring; coming = coming }
+
+module _ (s : Setting) (indent : ℕ) where
+  -- most commands end a run of kills
+  abbrev pub means_at : Kept → Cmd → Means
+  means_at k cmd = means_of k.input indent (reset_by cmd k.ring)
+
+  -- the edit that it makes
+  abbrev pub effect_at : Kept → LineAsk → Effect
+  effect_at k (Keys Needs) = taking s k.value
+  effect_at k (Keys (Shows ask)) = ask_effect ask s k.value
+  effect_at k (Obeys cmd) = effect (means_at k cmd) cmd s k.value
+  effect_at k (Makes edit) = edit s k.value
+  effect_at k ask = unchanged s k.value
+
+  -- its answer, or why it is refused: by the input, or by a command that ends the line
+  abbrev pub answer_at : Kept → (ask : LineAsk) → Result (LineAnswer ask) ReadlineError
+  answer_at k Begins = Ok (record { input = k.input; shown = shown_in k.value })
+  answer_at k (Keys Needs) = Ok tt
+  answer_at k (Keys (Shows ask)) = Ok (shown_in (ask_effect ask s k.value).value)
+  answer_at k (Keys (Reads item)) = item_at item k.coming
+  answer_at k (Keys (Becomes input)) = Ok tt
+  answer_at k (Keys (Refuses why)) = Err why
+  answer_at k (Obeys cmd) = outcome (means_at k cmd) cmd s k.value
+  answer_at k (Makes edit) = Ok (edit s k.value).value
+
+  -- what it leaves
+  abbrev pub left_at : Kept → LineAsk → Kept
+  left_at k (Keys (Reads item)) =
+      record k { coming = left (item_at item k.coming) (behind k.coming) }
+  left_at k (Keys (Becomes input)) = record k { input = input }
+  left_at k (Obeys cmd) = record k {
+    value = (effect_at k (Obeys cmd)).value;
+    ring = ring_after_command cmd k.value (reset_by cmd k.ring);
+  }
+  left_at k ask = record k { value = (effect_at k ask).value }
+
+  -- the steps of some, in order
+  abbrev pub steps_along : Kept → List LineAsk → List EditStep
+  steps_along k [] = []
+  steps_along k (ask ∷ asks) = (effect_at k ask).steps ++ steps_along (left_at k ask) asks
+
+  abbrev pub line_plan : Plan LineAsk LineAnswer Kept ReadlineError
+  line_plan = record { answer = answer_at; left = left_at }
+
+-- ---- and where a fault stops it
+
+-- what a fault leaves of what is kept: the value, and of a command's ring, are as far as it came
+abbrev pub FaultLeaves : LineAsk → Kept → ReadlineError → Kept → Type 0
+FaultLeaves (Obeys cmd) k e l =
+    (l ≡ record k { value = l.value; ring = l.ring })
+    × LeavesRing cmd k.value (reset_by cmd k.ring) l.ring e
+FaultLeaves ask k e l = l ≡ record k { value = l.value }
+
+-- a pasted text finds no memory
+abbrev pub IsUnread : LineAsk → ReadlineError → Type 0
+IsUnread (Keys (Reads item)) e = IsReadFault item e
+IsUnread ask e = ⊥
+
+-- a renderer with what is kept of its drawing, and what goes on
+pub record Stage (R : Type 0) : Type 0 where
+  pub drawn : Surface R
+  pub kept : Kept
+
+abbrev pub stage : {R : Type 0} → Surface R → Kept → Stage R
+stage drawn kept = record { drawn = drawn; kept = kept }
+
+-- an edit's steps were made by their calls
+abbrev pub DrawnBy : {R : Type 0} → Canvas R → Ruler → List EditStep → Surface R → Surface R
+    → Type 0
+DrawnBy canvas r steps old new =
+    FoldsTo (MadeIn canvas) old.out (asked r old.layout steps).calls new.out
+    × (new.layout ≡ (asked r old.layout steps).layout)
+
+module _ {R : Type 0} (canvas : Canvas R) (r : Ruler) (s : Setting) (indent : ℕ) where
+  -- the edit was made whole, and the answer is its own
+  abbrev pub Answered : Stage R → (ask : LineAsk) → Result (LineAnswer ask) ReadlineError
+      → Stage R → Type 0
+  Answered x ask result y =
+      (answer_at s indent x.kept ask ≡ result) × (y.kept ≡ left_at s indent x.kept ask)
+      × DrawnBy canvas r (effect_at s indent x.kept ask).steps x.drawn y.drawn
+
+  -- a fault stopped the edit, or a read, after which every read is refused
+  abbrev pub Stopped : Stage R → LineAsk → ReadlineError → Stage R → Type 0
+  Stopped x ask e y =
+      (Stops canvas r (effect_at s indent x.kept ask).steps x.drawn e y.kept.value y.drawn
+      × FaultLeaves ask x.kept e y.kept)
+      ⊎ (IsUnread ask e × (y ≡ stage x.drawn (record x.kept { coming = left_by e })))
+
+  abbrev pub line_world : World LineAsk LineAnswer (Stage R) ReadlineError
+  line_world = record {
+    made = λ x ask a y. Answered x ask (Ok a) y;
+    cut = λ x ask e y. Answered x ask (Err e) y ⊎ Stopped x ask e y;
+  }
