@@ -125,8 +125,8 @@ pub record ErasesKilled (columns : ℕ) (wide : List ℕ → Option ℕ) (a b : 
   pub view : b ≡ record { shown = cut_line a.shown line; top = a.top; place = a.place }
 
 abbrev pub LeadsView : ℕ → (List ℕ → Option ℕ) → View → Call → View → Type 0
-LeadsView columns wide a (Draw prompt text place info old new marks) b =
-    Replaces (old_row old) a × Redraws columns wide a prompt text (info_text info) new.end new.cursor b
+LeadsView columns wide a (Draw prompt text place info old new marks) b = Replaces (old_row old) a
+    × Redraws columns wide a prompt text (info_text info) new.end new.cursor b
 LeadsView columns wide a (Move old new) b = Moves columns a old new b
 LeadsView columns wide a (Write text) b =
     Types columns wide a text b ⊎ ClosesLine columns wide a text b
