@@ -25,7 +25,7 @@ use Rattle.line_buffer.proofs.ListedRanges.{in_ranges-some}
 
 -- ---- facts of the tables
 
-abbrev narrow : List Range
+abbrev pub narrow : List Range
 narrow = (0x20, 0x7E) ∷ (0xA1, 0xAC) ∷ (0xAE, 0x2FF) ∷ (0x370, 0x482) ∷ (0x48A, 0x58F) ∷ []
 
 abbrev pub wide : List Range

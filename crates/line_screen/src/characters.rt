@@ -6,7 +6,7 @@ ghost use Rattle.unicode_segmentation.specs.Grapheme.{graphemes};
 ghost use Rattle.line_screen.specs.Apart.{is_narrow, is_wide, is_apart};
 
 /// Of one column: printable ASCII, Latin, Greek, Cyrillic and Armenian.
-fn is_narrow(c: char) -> bool
+pub(crate) fn is_narrow(c: char) -> bool
     ensures { result ≡ is_narrow c }
 {
     matches!(

@@ -9,7 +9,7 @@ ghost use Rattle.line_screen.specs.Drawing.{drawn_item, row_items, next_items, t
 ghost use Rattle.line_screen.specs.Drawing.DrawnItem.{Letter, NewRow};
 ghost use Rattle.line_screen.specs.Measure.{cluster_width, saturated, measure_of, Comes};
 
-use crate::characters::{chars_are_clusters, is_wide};
+use crate::characters::{chars_are_clusters, is_narrow, is_wide};
 use crate::grid::{Grid, is_letter};
 use line_buffer::{GraphemeClusterMode, Position, Unit, is_printable_text};
 use unicode_segmentation::UnicodeSegmentation;
@@ -151,13 +151,16 @@ fn after_clusters(grid: Grid, from: Position, row: &str) -> Position
     at
 }
 
-#[tactic(auto, using(crate::proofs::WideLemmas::wide_item))]
+#[tactic(auto, using(crate::proofs::WideLemmas::known_items))]
 fn after_char(grid: Grid, at: Position, c: char) -> Position
     requires inside { at.col < grid.columns }
     ensures { let wide = cluster_width grid.mode grid.columns in
         Comes grid.columns
         (place_after grid.columns (drawn_item wide (encode_utf8 c) ∷ []) at) result }
 {
+    if c > '~' && is_narrow(c) {
+        return after_width(grid, at, 1);
+    }
     if is_wide(c) {
         return after_width(grid, at, 2);
     }

@@ -10,7 +10,7 @@ ghost use Rattle.line_screen.specs.Measure.{cluster_width};
 ghost use Rattle.line_config.specs.Sending.{Sends};
 ghost use Rattle.line_screen.specs.Sending.{SendsTo, SendsItems};
 
-use crate::characters::{chars_are_clusters, is_wide};
+use crate::characters::{chars_are_clusters, is_narrow, is_wide};
 use crate::drawing::sequences::send;
 use crate::grid::{Grid, is_letter};
 use line_buffer::{Unit, is_printable_text};
@@ -52,16 +52,20 @@ fn make_room<D: Sink>(
     Ok(0)
 }
 
-/// The text of a cluster between two sequences that change nothing. Most wide characters have three
-/// bytes, and are sent at once.
+/// The text of a cluster between two sequences that change nothing. One of two or three bytes, as
+/// most letters have, is sent at once.
 fn send_fenced<D: Sink>(sink: &mut D, cluster: &str) -> Result<(), DeviceFailed>
     ensures { Sends D.held D.has_failed (fenced cluster.now) sink.old sink.new result }
 {
-    if let [a, b, c] = *cluster.as_bytes() {
+    let bytes = cluster.as_bytes();
+    if let [a, b] = *bytes {
+        return send(sink, &[0x1B, b'[', b'm', a, b, 0x1B, b'[', b'm']);
+    }
+    if let [a, b, c] = *bytes {
         return send(sink, &[0x1B, b'[', b'm', a, b, c, 0x1B, b'[', b'm']);
     }
     send(sink, b"\x1B[m")?;
-    send(sink, cluster.as_bytes())?;
+    send(sink, bytes)?;
     send(sink, b"\x1B[m")
 }
 
@@ -162,7 +166,7 @@ fn send_clusters<D: Sink>(
 }
 
 /// A character that is a cluster of its own.
-#[tactic(auto, using(crate::proofs::WideLemmas::wide_item))]
+#[tactic(auto, using(crate::proofs::WideLemmas::known_items))]
 fn send_char<D: Sink>(sink: &mut D, grid: Grid, col: Unit, c: char) -> Result<Unit, DeviceFailed>
     requires inside { col < grid.columns }
     ensures { SendsTo (sent_one grid.columns
@@ -173,6 +177,9 @@ fn send_char<D: Sink>(sink: &mut D, grid: Grid, col: Unit, c: char) -> Result<Un
 {
     let mut bytes = [0; 4];
     let text = c.encode_utf8(&mut bytes);
+    if c > '~' && is_narrow(c) {
+        return send_wide(sink, grid, col, text, 1);
+    }
     if is_wide(c) {
         return send_wide(sink, grid, col, text, 2);
     }
