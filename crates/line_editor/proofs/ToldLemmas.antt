@@ -370,7 +370,7 @@ module _ {R : Type 0} (canvas : Canvas R) (r : Ruler) where
   caused_by e f is why = subst (reason_of true ⊤) (sym is) why
 
   step_cause : (step : EditStep) (e : Refusal) (x y : Surface R) → StepCut canvas r x step e y → reason_of true ⊤ e.fault
-  step_cause (Draws v redraw) e x y h = caused_by e.fault Display h.0 refl
+  step_cause (Draws v marks redraw) e x y h = caused_by e.fault Display h.0 refl
   step_cause (Helped v fails) e x y h = unhelped_cause fails e.fault h.0
   step_cause (Updates v fails) e x y h = unhelped_cause fails e.fault h.0
   step_cause (Edits v edit) e x y h = caused_by e.fault Memory h.0 tt
