@@ -9,7 +9,7 @@ use Rattle.line_keys.specs.Coming.{Coming, Pressed, Pasted, Refused, key_at, pas
 use Rattle.line_keys.specs.Faults.{IsReaderRefusal}
 use Rattle.line_screen.specs.Input.{Next, behind_char}
 use Rattle.line_screen.specs.KeyGrammar.{left_after, readings, coming_of}
-use Rattle.line_screen.specs.KeyReading.{KeepsFor}
+use Rattle.line_screen.specs.KeyReading.{KeepsFor, IsEsc}
 use Rattle.line_screen.specs.Reader.{kept_of, feed_in, left_in, chars_in, reads, coming_in, left_by_call, char_answer}
 use Rattle.line_screen.specs.declared.reading.reader.KeyReader.{KeyReader}
 
@@ -71,3 +71,21 @@ abbrev pub KeepsAfter : {S X : Type 0} → (X → Type 0) → KeyReader S → Ke
     → Result X ReadlineError → Type 0
 KeepsAfter May old new result =
     KeepsFor May new result ⊎ (IsErr result × (kept_of new ≡ kept_of old))
+
+-- a key, a character or a pasted text is asked for: what is answered, and the byte that is kept
+pub record AsksKey {S : Type 0} (feed : S → Feed) (old new : KeyReader S)
+    (result : Result KeyEvent ReadlineError) : Type 0 where
+  pub call : AnswersKey feed old new result
+  pub kept : KeepsAfter IsEsc old new result
+  pub memory : IsMemoryKept feed old result
+
+pub record AsksChar {S : Type 0} (feed : S → Feed) (old new : KeyReader S)
+    (result : Result ℕ ReadlineError) : Type 0 where
+  pub call : AnswersChar feed old new result
+  pub kept : KeepsAfter (λ _. ⊥) old new result
+  pub memory : IsMemoryKept feed old result
+
+pub record AsksText {S : Type 0} (feed : S → Feed) (old new : KeyReader S)
+    (result : Result (List ℕ) ReadlineError) : Type 0 where
+  pub call : AnswersText feed old new result
+  pub kept : KeepsAfter (λ _. ⊥) old new result

@@ -109,3 +109,9 @@ pub record ReadsChar {S : Type 0} (feed : S → Feed) (definition : List ℕ →
   pub last : (unread feed new).last ≡ (unread feed old).last
   pub keeps : (unread feed new).bound ≤ (unread feed old).bound
   pub kept : new.kept ≡ None
+
+-- the rest of a character is read: where the bytes end in it, that is no end of the input
+pub record ReadsRest {S : Type 0} (feed : S → Feed) (awaited : Awaited) (old new : Lookahead S)
+    (result : Result ℕ ReadlineError) : Type 0 where
+  pub reads : ReadsChar feed (in_char (Some (continuation awaited))) old new result
+  pub whole : result ≡ Err Eof → ⊥

@@ -12,8 +12,7 @@ use line_keys::{Cmd, KeyCode, KeyEvent, Modifiers, RawReader, Text};
 use std::alloc::Global;
 
 impl<S: Source> KeyReader<S> {
-    ghost use Rattle.line_screen.specs.KeyCalls.{AnswersKey, AnswersText, KeepsAfter, IsMemoryKept};
-    ghost use Rattle.line_screen.specs.KeyReading.{IsEsc};
+    ghost use Rattle.line_screen.specs.KeyCalls.{AsksKey, AsksText};
 
     /// Keeps a refusal that is for good.
     fn refuse(&mut self, why: ReadlineError) -> ReadlineError
@@ -37,9 +36,7 @@ impl<S: Source> KeyReader<S> {
     /// owed.
     #[tactic(auto, using(crate::proofs::ReaderRules::key_call))]
     fn take_key(&mut self) -> Result<KeyEvent, ReadlineError>
-        ensures call { AnswersKey S.feed self.old self.new result }
-        ensures kept { KeepsAfter IsEsc self.old self.new result }
-        ensures memory { IsMemoryKept S.feed self.old result }
+        ensures { AsksKey S.feed self.old self.new result }
     {
         if self.bytes.source.failed() {
             return Err(ReadlineError::Reader);
@@ -59,8 +56,7 @@ impl<S: Source> KeyReader<S> {
     /// The pasted text that is owed, unless the source failed or a call was refused for good.
     #[tactic(auto, using(crate::proofs::ReaderRules::text_call))]
     fn take_text(&mut self, alloc: Global) -> Result<Text, ReadlineError>
-        ensures call { AnswersText S.feed self.old self.new result }
-        ensures kept { KeepsAfter (λ _. ⊥) self.old self.new result }
+        ensures { AsksText S.feed self.old self.new result }
     {
         if self.bytes.source.failed() {
             return Err(ReadlineError::Reader);
@@ -80,8 +76,7 @@ impl<S: Source> KeyReader<S> {
 }
 
 impl<S: Source + Drop> RawReader for KeyReader<S> {
-    ghost use Rattle.line_screen.specs.KeyCalls.{AnswersKey, AnswersText, AnswersChar, KeepsAfter, IsMemoryKept};
-    ghost use Rattle.line_screen.specs.KeyReading.{IsEsc};
+    ghost use Rattle.line_screen.specs.KeyCalls.{AsksKey, AsksChar, AsksText};
     ghost use Rattle.line_screen.specs.Reader.{items_of, kept_of};
 
     type Buffer = u8;
@@ -93,18 +88,14 @@ impl<S: Source + Drop> RawReader for KeyReader<S> {
     fn next_key(&mut self, _: bool) -> Result<KeyEvent, ReadlineError>
         ensures reads { ReadsBy Key key_at
             (items_of S.feed self.old) (items_of S.feed self.new) result }
-        ensures call { AnswersKey S.feed self.old self.new result }
-        ensures kept { KeepsAfter IsEsc self.old self.new result }
-        ensures memory { IsMemoryKept S.feed self.old result }
+        ensures asks { AsksKey S.feed self.old self.new result }
     {
         self.take_key()
     }
 
     #[tactic(auto, using(crate::proofs::ReaderRules::char_call))]
     fn next_char(&mut self) -> Result<char, ReadlineError>
-        ensures call { AnswersChar S.feed self.old self.new result }
-        ensures kept { KeepsAfter (λ _. ⊥) self.old self.new result }
-        ensures memory { IsMemoryKept S.feed self.old result }
+        ensures asks { AsksChar S.feed self.old self.new result }
     {
         if self.bytes.source.failed() {
             return Err(ReadlineError::Reader);
@@ -124,8 +115,7 @@ impl<S: Source + Drop> RawReader for KeyReader<S> {
     fn read_pasted_text(&mut self, alloc: Global) -> Result<Text, ReadlineError>
         ensures reads { ReadsBy Paste paste_at
             (items_of S.feed self.old) (items_of S.feed self.new) result }
-        ensures call { AnswersText S.feed self.old self.new result }
-        ensures kept { KeepsAfter (λ _. ⊥) self.old self.new result }
+        ensures asks { AsksText S.feed self.old self.new result }
     {
         self.take_text(alloc)
     }
