@@ -1,18 +1,16 @@
 -- The end of a line: an exit for each fault, and the one where all went well.
-use Rattle.std.proofs.Common.{◌≡◌, ℕ, Bool, true, false, List, [], ◌∷◌, ◌++◌, inl, inr, refl, sym, ap, ◌∙◌, subst, append-nil, IsTrue, Result, Ok, Err, IfErr}
+use Rattle.std.proofs.Common.{◌≡◌, ℕ, Bool, true, false, List, [], ◌∷◌, inl, inr, refl, sym, ap, ◌∙◌, subst, IsTrue, Result, Ok, Err, IfErr}
 use Rattle.line_config.specs.declared.errors.ReadlineError.{ReadlineError}
 use Rattle.line_config.specs.declared.errors.ReadlineError.TheVariants.{Display, Lines, Memory}
 use Rattle.line_config.specs.Sending.{Takes, TakesSome, Sends}
-use Rattle.line_config.proofs.Taking.{takes_none, taken_of}
 use Rattle.line_editor.specs.Courses.{breaks_after}
 use Rattle.line_help.specs.History.{Filed}
-use Rattle.line_keys.specs.Coming.{made_of}
+use Rattle.line_keys.specs.Coming.{Coming, made_of}
 use Rattle.line_screen.specs.Drawing.{row_break, break_if}
-use Rattle.keyline.specs.Closing.{Closes, CloseReason, work}
-use Rattle.keyline.specs.Deeds.{Draws, Keeps, Writes, accept_deeds}
-use Rattle.keyline.specs.Playing.{Work, Stops}
+use Rattle.keyline.specs.Closing.{Closes, CloseReason}
+use Rattle.keyline.specs.Deeds.{Writes}
+use Rattle.keyline.specs.Playing.{Work, IsStopped, work}
 use Rattle.keyline.specs.Sessions.{breaks, remembered, line_text}
-use Rattle.keyline.proofs.DeedLemmas.{cut_drawing, remembered_none}
 
 true_not_false : (b : Bool) → b ≡ true → b ≡ false → ⊥
 true_not_false b one other = absurd (cc)
@@ -24,14 +22,14 @@ breaks_by {A} f o e b is same broken =
     let P : Result A ReadlineError → Type 0 = λ o. IfErr (made_of f o) (λ e. breaks_after e ≡ true) in subst P (sym is) (sym same ∙ broken)
 
 module _ {D L : Type 0} (shown : D → List ℕ) (show_failed : D → Bool) (written_in : L → List ℕ) (write_failed : L → Bool) where
-  abbrev Ends : Bool → Result (List ℕ) ReadlineError → Work D L → Work D L → Result (List ℕ) ReadlineError → Type 0
+  abbrev Ends : Bool → Result (List ℕ) ReadlineError → (Coming → Work D L) → (Coming → Work D L) → Result (List ℕ) ReadlineError → Type 0
   Ends adds outcome old new result = Closes shown show_failed written_in write_failed adds outcome old new result
 
   abbrev Breaks : Result (List ℕ) ReadlineError → Type 0
   Breaks outcome = IfErr outcome (λ e. breaks_after e ≡ true)
 
   -- a line that gets a new row isn't one that stays
-  stays_not : (outcome : Result (List ℕ) ReadlineError) (old new : Work D L) (result : Result (List ℕ) ReadlineError)
+  stays_not : (outcome : Result (List ℕ) ReadlineError) (old new : Coming → Work D L) (result : Result (List ℕ) ReadlineError)
       → Breaks outcome → IfErr outcome (λ e. breaks_after e ≡ false → (new ≡ old) × (result ≡ Err e))
   stays_not (Ok text) old new result p = tt
   stays_not (Err e) old new result p = λ other. absurd (true_not_false (breaks_after e) p other)
@@ -46,14 +44,9 @@ module _ {D L : Type 0} (shown : D → List ℕ) (show_failed : D → Bool) (wri
   closes_undrawn adds outcome d d' l h result e breaks is display failed some =
       let now : result ≡ Err Display = is ∙ ap (λ e. Err e) display in
       record {
-        goes = inr (λ coming. record {
-          fault = Display;
-          result_is = now;
-          goes = cut_drawing shown written_in adds _ (accept_deeds outcome) coming (work d l h) (work d' l h)
-              (subst (TakesSome shown d d') (new_row outcome breaks) some) refl refl;
-        });
+        goes = λ coming. inr (Display, inr (Display, (subst (TakesSome shown d d') (new_row outcome breaks) some, refl), refl), now);
         stays = stays_not outcome (work d l h) (work d' l h) result breaks;
-        reason = let P : Result (List ℕ) ReadlineError → Type 0 = λ r. IfErr r (CloseReason outcome (show_failed d) (show_failed d') (write_failed l)) in
+        reason = λ coming. let P : Result (List ℕ) ReadlineError → Type 0 = λ r. IfErr r (CloseReason outcome (show_failed d) (show_failed d') (write_failed l)) in
             subst P (sym now) (inr (inl (refl, failed)));
       }
 
@@ -63,24 +56,9 @@ module _ {D L : Type 0} (shown : D → List ℕ) (show_failed : D → Bool) (wri
   closes_unkept adds text d d' l h h' result e drawn is memory adding kept =
       let now : result ≡ Err Memory = is ∙ ap (λ e. Err e) memory in
       record {
-        goes = inr (λ coming. record {
-          fault = Memory;
-          result_is = now;
-          goes = record {
-            done = Draws row_break ∷ [];
-            next = Keeps text ∷ Writes text ∷ [];
-            first = refl;
-            begun = [];
-            torn = [];
-            stops = (inl (refl, adding), refl, refl);
-            drawn = subst (Takes shown d d') (sym (append-nil (row_break ++ []) ∙ append-nil row_break)) drawn;
-            helped = tt;
-            wrote = takes_none written_in l l refl;
-            history_is = kept ∙ sym (remembered_none adds h);
-          };
-        });
+        goes = λ coming. inr (Memory, inl (tt, work d' l h coming, (drawn, refl), inr (Memory, (adding, ap (λ h. work d' l h coming) kept), refl)), now);
         stays = tt;
-        reason = let P : Result (List ℕ) ReadlineError → Type 0 = λ r. IfErr r (CloseReason (Ok text) (show_failed d) (show_failed d') (write_failed l)) in
+        reason = λ coming. let P : Result (List ℕ) ReadlineError → Type 0 = λ r. IfErr r (CloseReason (Ok text) (show_failed d) (show_failed d') (write_failed l)) in
             subst P (sym now) (inr (inr (inr refl)));
       }
 
@@ -90,36 +68,26 @@ module _ {D L : Type 0} (shown : D → List ℕ) (show_failed : D → Bool) (wri
       → Sends written_in write_failed (line_text text) l l' written → IfErr written (λ e. e ≡ Lines)
       → Ends adds (Ok text) (work d l h) (work d' l' h') (made_of (λ u. text) written)
   closes_written adds text d d' l l' h h' (Ok u) drawn kept wrote named = record {
-    goes = inl (record {
-      result_is = refl;
-      history_is = kept;
-      drawn = drawn;
-      wrote = subst (Takes written_in l l') (sym (append-nil (line_text text))) wrote.sent;
-    });
+    goes = λ coming. inl (inl (
+      tt,
+      work d' l h coming,
+      (drawn, refl),
+      inl (
+        tt,
+        work d' l h' coming,
+        ap (λ h. work d' l h coming) kept,
+        inl (tt, work d' l' h' coming, (wrote.sent, refl), (refl, refl)),
+      ),
+    ));
     stays = tt;
-    reason = tt;
+    reason = λ coming. tt;
   }
   closes_written adds text d d' l l' h h' (Err e) drawn kept wrote named =
-      let torn = taken_of written_in l l' (line_text text) wrote.begins in
+      let P : Coming → ReadlineError → Type 0 = λ coming e. IsStopped shown written_in adds (work d' l h' coming) (Writes text) e (work d' l' h' coming) in
       record {
-        goes = inr (λ coming. record {
-          fault = e;
-          result_is = refl;
-          goes = record {
-            done = Draws row_break ∷ Keeps text ∷ [];
-            next = Writes text ∷ [];
-            first = refl;
-            begun = [];
-            torn = torn.0;
-            stops = let P : ReadlineError → Type 0 = λ e. Stops adds e coming (Writes text ∷ []) coming [] torn.0 in subst P (sym named) (refl, refl, (torn.1, torn.2));
-            drawn = subst (Takes shown d d') (sym (append-nil (row_break ++ []) ∙ append-nil row_break)) drawn;
-            helped = tt;
-            wrote = torn.3;
-            history_is = kept;
-          };
-        });
+        goes = λ coming. inr (e, inl (tt, work d' l h coming, (drawn, refl), inl (tt, work d' l h' coming, ap (λ h. work d' l h coming) kept, inr (e, subst (P coming) (sym named) (wrote.begins, refl), refl))), refl);
         stays = tt;
-        reason = inr (inr (inl (named, wrote.err)));
+        reason = λ coming. inr (inr (inl (named, wrote.err)));
       }
 
   -- the same, where the line is handed back
@@ -139,12 +107,7 @@ module _ {D L : Type 0} (shown : D → List ℕ) (show_failed : D → Bool) (wri
       → Takes shown d d' (break_if (breaks_after e)) → show_failed d' ≡ show_failed d → (breaks_after e ≡ false → d' ≡ d)
       → Ends adds (Err e) (work d l h) (work d' l h) (Err e)
   closes_other adds e d d' l h drawn works still = record {
-    goes = inl (record {
-      result_is = refl;
-      history_is = refl;
-      drawn = drawn;
-      wrote = takes_none written_in l l refl;
-    });
+    goes = λ coming. inl (inl (tt, work d' l h coming, (drawn, refl), (refl, refl)));
     stays = λ other. (ap (λ d. work d l h) (still other), refl);
-    reason = inl (refl, works);
+    reason = λ coming. inl (refl, works);
   }

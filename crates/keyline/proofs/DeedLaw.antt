@@ -1,13 +1,14 @@
 -- A session's deeds come to its report, and any first ones of them to the first of its lines.
-use Rattle.std.proofs.Common.{◌≡◌, ℕ, zero, suc, ◌≤◌, List, [], ◌∷◌, ◌++◌, length, refl, sym, ap, ◌∙◌, subst, append-nil, append_assoc, Result, Ok, Err, arith}
+use Rattle.std.proofs.Common.{◌≡◌, ℕ, zero, suc, ◌≤◌, List, [], ◌∷◌, ◌++◌, length, inl, inr, refl, sym, ap, ◌∙◌, subst, append-nil, append_assoc, Result, Ok, Err, arith}
 use Rattle.line_config.specs.declared.errors.ReadlineError.{ReadlineError}
+use Rattle.line_config.specs.Sending.{Takes}
 use Rattle.line_editor.specs.Lines.{Told}
 use Rattle.line_screen.specs.Calls.{Screen}
 use Rattle.line_keys.specs.Coming.{Coming}
 use Rattle.keyline.specs.Deeds.{SessionDeed, Draws, Helped, Hears, Keeps, Writes, bytes_drawn, left_of_deeds, lines_kept, lines_written, asked_in, close_deeds, line_deeds, deeds_after, session_deeds, AreFirst, DeedsTell}
-use Rattle.keyline.specs.Playing.{accepted_of}
-use Rattle.keyline.specs.Sessions.{Given, LineGiven, SessionState, Report, for_line, line_in, after_line, line_reported, line_bytes, display_bytes, screens_for, session_by}
-use Rattle.keyline.proofs.DeedLemmas.{Ordered, in_asks, drawn_both, left_both, kept_both, written_both, deeds_drawn, deeds_left, deeds_kept, deeds_written}
+use Rattle.keyline.specs.Playing.{SessionsCome}
+use Rattle.keyline.specs.Sessions.{Given, LineGiven, SessionState, Report, for_line, line_in, after_line, line_reported, line_bytes, display_bytes, lines_text, remembered, screens_for, session_by}
+use Rattle.keyline.proofs.DeedLemmas.{Ordered, accepted_of, answer_is, are_done, are_stopped, in_asks, drawn_both, left_both, kept_both, written_both, deeds_drawn, deeds_left, deeds_kept, deeds_written}
 
 -- ---- what all of them come to
 
@@ -99,3 +100,19 @@ deeds_tell n g at x =
       all.written,
       λ done next split. are_first (session_by n g at x).accepted (session_deeds n g at x) done next (ordered n g at x) all.kept split,
     )
+
+pub sessions_come : {D L : Type 0} (shown : D → List ℕ) (written_in : L → List ℕ) → SessionsCome shown written_in
+sessions_come shown written_in n g at x old new why same (inl goes) =
+    let adds = g.config.auto_add_history in
+    let deeds = session_deeds n g at x in
+    let all = told n g at x in
+    let sums = are_done shown written_in adds deeds (session_by n g at x).ending why old new goes in
+    inl (record {
+      why_is = answer_is shown written_in adds deeds (session_by n g at x).ending why old new goes;
+      rest_is = sums.left_is ∙ (ap (λ c. left_of_deeds c deeds) same ∙ all.left);
+      history_is = sums.history_is ∙ ap (λ lines. remembered adds lines old.history) all.kept;
+      drawn = subst (Takes shown old.display new.display) all.drawn sums.drawn;
+      wrote = subst (λ lines. Takes written_in old.lines new.lines (lines_text lines)) all.written sums.wrote;
+    })
+sessions_come shown written_in n g at x old new why same (inr goes) =
+    inr (are_stopped shown written_in g.config.auto_add_history (session_deeds n g at x) (session_by n g at x).ending why old new goes)

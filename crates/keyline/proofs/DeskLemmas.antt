@@ -1,40 +1,40 @@
 -- A line at a desk: what `run` gives, and then the line's end.
-use Rattle.std.proofs.Common.{◌≡◌, ℕ, suc, ◌<◌, Bool, true, false, List, ◌++◌, inl, inr, ◌⊎◌, refl, sym, ap, ◌∙◌, subst, IsTrue, Option, Result, Ok, Err, IfErr, OnOk, le_refl}
+use Rattle.std.proofs.Common.{◌≡◌, ℕ, suc, ◌<◌, Bool, true, false, List, inl, inr, ◌⊎◌, refl, sym, ap, ◌∙◌, subst, IsTrue, Option, Result, Ok, Err, IfErr, OnOk, le_refl}
+use Rattle.std.specs.List.{FoldsTo}
 use Rattle.std.specs.Prelude.{⊤, string_bytes}
 use Rattle.line_config.specs.declared.config.Config.{Config}
 use Rattle.line_config.specs.declared.errors.ReadlineError.{ReadlineError}
 use Rattle.line_config.specs.declared.errors.ReadlineError.TheVariants.{Reader, Display, Lines, HistoryText, Helper, Handler, Memory}
-use Rattle.line_config.specs.Sending.{Takes}
 use Rattle.line_help.specs.History.{Filed}
 use Rattle.line_keys.specs.Answers.{Custom}
 use Rattle.line_keys.specs.Coming.{Coming, made_of}
 use Rattle.line_keys.specs.Feeds.{KeyFeed}
 use Rattle.line_record.specs.Ring.{Ring}
 use Rattle.line_editor.specs.Courses.{breaks_after}
-use Rattle.line_editor.specs.LineScripts.{kept, line_script, stage}
-use Rattle.line_editor.specs.Running.{Helping, Runs, line_calls, line_played, outcome_of, setting_by, stage_first}
+use Rattle.line_editor.specs.Calls.{MadeIn}
+use Rattle.line_editor.specs.LineScripts.{Kept, kept, line_script, stage}
+use Rattle.line_editor.specs.Redraws.{fresh}
+use Rattle.line_editor.specs.Running.{Helping, Runs, kept_first, line_played, outcome_of, setting_by, stage_first}
 use Rattle.line_editor.specs.States.{reason_of}
-use Rattle.line_editor.specs.Steps.{surface}
+use Rattle.line_editor.specs.Steps.{asked, surface}
 use Rattle.line_editor.specs.Turning.{cause_of}
-use Rattle.line_editor.specs.Values.{Setting}
+use Rattle.line_editor.specs.Values.{EditStep, Setting}
 use Rattle.line_editor.specs.declared.ran.Ran.{Ran}
 use Rattle.line_screen.specs.Calls.{canvas_of, screen_of, sink_of, ruler_of}
-use Rattle.line_screen.specs.Drawing.{break_if}
 use Rattle.line_screen.specs.Reader.{items_of}
 use Rattle.line_screen.specs.declared.reading.reader.KeyReader.{KeyReader}
 use Rattle.line_screen.specs.declared.renderer.ScreenRenderer.{ScreenRenderer}
-use Rattle.line_editor.proofs.ToldLemmas.{CutLine, WholeLine, line_went}
-use Rattle.line_screen.proofs.CallLemmas.{goes_stay, sent_in_all}
+use Rattle.line_editor.proofs.ToldLemmas.{CutLine, WholeLine, line_comes, line_went}
+use Rattle.line_screen.proofs.CallLemmas.{goes_stay}
 use Rattle.line_screen.proofs.WaitingLemmas.{reads_find_nothing_waiting}
-use Rattle.keyline.specs.Closing.{Closes, CloseReason, work}
-use Rattle.keyline.specs.Deeds.{SessionDeed, HelperAnswers, asked_in, call_deeds, close_deeds, line_deeds}
-use Rattle.keyline.specs.Desks.{Lined, TakesLine, DeskReason, feed_of, session_state_of, work_of}
+use Rattle.keyline.specs.Closing.{Closes, CloseReason}
+use Rattle.keyline.specs.Deeds.{asked_in, close_deeds, in_order, line_deeds}
+use Rattle.keyline.specs.Desks.{LineGoes, TakesLine, DeskReason, feed_of, session_state_of, work_of}
 use Rattle.keyline.specs.Known.{Known, HasPassedOn}
-use Rattle.keyline.specs.Playing.{Work, Cut, LineWhole, LineCut, SessionReason}
-use Rattle.keyline.specs.Sessions.{Given, given_by, breaks, calls_of, line_in, history_after}
+use Rattle.keyline.specs.Playing.{Work, Comes, SessionReason, session_world, work}
+use Rattle.keyline.specs.Sessions.{Given, given_by, line_in, history_after}
 use Rattle.keyline.specs.declared.desk.Desk.{Desk}
-use Rattle.keyline.proofs.DeedLemmas.{cut_asks, cut_after, deeds_answered, done_asks, made_answered}
-use Rattle.line_config.proofs.Taking.{takes_then}
+use Rattle.keyline.proofs.DeedLemmas.{GoesIn, answer_is, close_leaves, done_asks, goes_both, stopped_asks, stopped_so}
 
 -- ---- faults
 
@@ -70,18 +70,6 @@ ok_given (Err d) f (Err e) P p is = tt
 ok_of_cut : (result : Result (List ℕ) ReadlineError) (e : ReadlineError) (P : Type 0) → result ≡ Err e → OnOk result P
 ok_of_cut (Ok u) e P is = absurd (cc)
 ok_of_cut (Err d) e P is = tt
-
-module _ {D L : Type 0} (shown : D → List ℕ) (written_in : L → List ℕ) where
-  -- the line's drawings, and then its end
-  whole_then : (adds : Bool) (first second : List ℕ) (outcome : Result (List ℕ) ReadlineError) (d d1 d2 : D) (l l2 : L) (h h2 : Filed) (result : Result (List ℕ) ReadlineError)
-      → Takes shown d d1 first → LineWhole shown written_in adds second outcome (work d1 l h) (work d2 l2 h2) result
-      → LineWhole shown written_in adds (first ++ second) outcome (work d l h) (work d2 l2 h2) result
-  whole_then adds first second outcome d d1 d2 l l2 h h2 result drawn c = record {
-    result_is = c.result_is;
-    history_is = c.history_is;
-    drawn = takes_then shown d d1 d2 first second drawn c.drawn;
-    wrote = c.wrote;
-  }
 
 -- ---- a line at a desk
 
@@ -142,78 +130,67 @@ module _ {S H D L K T : Type 0} (k : Known S D L) (helps : Option H → Helping)
     abbrev given' : Given
     given' = given_by config custom prompt (screen_of out) (helps ran.helper)
 
-    abbrev at_end : Work D L
-    at_end = work (sink_of ran.out) old.lines old.history
-
     abbrev left : Coming
     left = (items_of k.feed reader).coming
 
-    abbrev EndedWhole : Result (List ℕ) ReadlineError → Type 0
-    EndedWhole outcome = LineWhole k.shown k.written_in config.auto_add_history (break_if (breaks outcome)) outcome at_end (work_of k new) result
+    abbrev at_end : Work D L
+    at_end = work (sink_of ran.out) old.lines old.history left
 
-    abbrev EndedCut : Result (List ℕ) ReadlineError → Type 0
-    EndedCut outcome = LineCut k.shown k.written_in config.auto_add_history (close_deeds outcome) left at_end (work_of k new) left result
+    abbrev LineGoesBy : ℕ → Type 0
+    LineGoesBy n = let x = session_state_of k old in LineGoes k given (line_in n given x) (line_deeds n given x) old new result
 
-    abbrev EndedAs : Result (List ℕ) ReadlineError → Type 0
-    EndedAs outcome = EndedWhole outcome ⊎ ((coming : Coming) → LineCut k.shown k.written_in config.auto_add_history (close_deeds outcome)
-        coming at_end (work_of k new) coming result)
+    -- what was asked of a line that was read whole, and then its end
+    after_whole : (n : ℕ) → WentWhole n → Ends (line_in n given (session_state_of k old)).outcome → LineGoesBy n
+    after_whole n w closes = by (closes.goes left)
+      where
+        lined : (answer : Result (Result (List ℕ) ReadlineError) ReadlineError) → let t = line_in n given (session_state_of k old) in
+            GoesIn k.shown k.written_in config.auto_add_history (close_deeds t.outcome) t.outcome at_end answer (work_of k new)
+            → GoesIn k.shown k.written_in config.auto_add_history (line_deeds n given (session_state_of k old)) t.outcome (work_of k old) answer (work_of k new)
+        lined answer h =
+            let t = line_in n given (session_state_of k old) in
+            let r = ruler_of (screen_of old.out) in
+            let first = kept_first setting config old.ring come in
+            let p = line_played n setting custom config old.ring come in
+            let comes = (line_comes n setting custom config old.ring come).comes in
+            let asked = done_asks k.shown k.written_in config.auto_add_history old.lines old.history k.waits k.show_failed (screen_of old.out) setting config.indent_size (fresh r.mode) first p.asks old.out ran.out refl
+            (subst (λ (steps : List EditStep). FoldsTo (MadeIn (canvas_of k.shown k.waits k.show_failed)) old.out (asked r (fresh r.mode) steps).calls ran.out) (sym comes.steps_are) w.calls) in
+            let End : Coming → Type 0 = λ c. GoesIn k.shown k.written_in config.auto_add_history (asked_in n given (session_state_of k old)) tt (work_of k old) (Ok tt) (work (sink_of ran.out) old.lines old.history c) in
+            goes_both k.shown k.written_in config.auto_add_history (asked_in n given (session_state_of k old)) (close_deeds t.outcome) tt tt t.outcome answer (work_of k old) at_end (work_of k new)
+            (subst End (ap (λ (z : Kept). z.coming) comes.left_is ∙ sym w.rest_is) asked) h
 
-    abbrev StaysAs : Result (List ℕ) ReadlineError → Type 0
-    StaysAs outcome = IfErr outcome (λ e. breaks_after e ≡ false → (work_of k new ≡ at_end) × (result ≡ Err e))
+        by : let t = line_in n given (session_state_of k old) in Comes (session_world k.shown k.written_in config.auto_add_history) (in_order (close_deeds t.outcome) t.outcome) at_end result (work_of k new) → LineGoesBy n
+        by (inl h) =
+            let t = line_in n given (session_state_of k old) in
+            let leaves = close_leaves k.shown k.written_in config.auto_add_history t.outcome result at_end (work_of k new) h in
+            inl (
+              lined (Ok result) h,
+              ap (λ r. record { ring = r; history = history; coming = left }) w.ring_is
+                  ∙ (ap (λ h. record { ring = t.ring; history = h; coming = left }) leaves.0
+                  ∙ ap (λ c'. record { ring = t.ring; history = history_after config.auto_add_history t.outcome old.history; coming = c' }) w.rest_is),
+            )
+        by (inr (why, h, is)) = inr (why, lined (Err why) h, is)
 
-    abbrev CutAs : List SessionDeed → Type 0
-    CutAs deeds = LineCut k.shown k.written_in config.auto_add_history deeds come (work_of k old) (work_of k new) left result
-
-    -- the helper gave an answer wherever it was asked
-    answered : (n : ℕ) → let t = line_in n given (session_state_of k old) in WentWhole n → HelperAnswers (call_deeds given.screen (calls_of given.screen t))
-    answered n w =
-        let t = line_in n given (session_state_of k old) in made_answered given.screen (canvas_of k.shown k.waits k.show_failed) (calls_of given.screen t) old.out ran.out w.calls
-
-    after_whole : (n : ℕ) → let x = session_state_of k old in WentWhole n → EndedAs (line_in n given x).outcome
-        → Lined k given (line_in n given x) (line_deeds n given x) old new result
-    after_whole n w (inl c) =
+    -- a fault stopped what was asked of it, and nothing is done at its end
+    after_cut : (n : ℕ) (w : WentCut n) → Ends (Err w.stopped.fault) → LineGoesBy n
+    after_cut n w closes =
         let x = session_state_of k old in
         let t = line_in n given x in
-        let sent = sent_in_all k.shown k.waits k.show_failed (line_calls (ruler_of (screen_of old.out)) t.turns) old.out ran.out w.calls in
-        inl (
-          whole_then k.shown k.written_in config.auto_add_history _ (break_if (breaks t.outcome)) t.outcome
-              (sink_of old.out) (sink_of ran.out) (sink_of out) old.lines lines old.history history result sent.takes c,
-          deeds_answered n given x (answered n w),
-          ap (λ r. record { ring = r; history = history; coming = left }) w.ring_is
-              ∙ (ap (λ h. record { ring = t.ring; history = h; coming = left }) c.history_is
-              ∙ ap (λ c'. record { ring = t.ring; history = history_after config.auto_add_history t.outcome old.history; coming = c' }) w.rest_is),
-        )
-    after_whole n w (inr c) =
-        let x = session_state_of k old in
-        let t = line_in n given x in
-        let sent = sent_in_all k.shown k.waits k.show_failed (line_calls (ruler_of (screen_of old.out)) t.turns) old.out ran.out w.calls in
-        let end = c left in
-        inr (record {
-          fault = end.fault;
-          result_is = end.result_is;
-          goes = cut_after k.shown k.written_in config.auto_add_history
-              (asked_in n given x) (close_deeds t.outcome) come left (work_of k old) at_end (work_of k new) left end.fault
-              (done_asks k.shown k.written_in config.auto_add_history old.lines old.history n given x old.out ran.out left sent.takes (answered n w) w.rest_is) end.goes;
-        })
-
-    after_cut : (n : ℕ) (w : WentCut n) → StaysAs (Err w.stopped.fault) → CutAs (line_deeds n given (session_state_of k old))
-    after_cut n w stays =
-        let x = session_state_of k old in
         let cut = w.stopped in
-        let same = stays (unbroken true ⊤ cut.fault w.cause) in
-        let W : Work D L → Type 0 = λ after. Cut k.shown k.written_in config.auto_add_history (line_deeds n given x) come (work_of k old) after left cut.fault in
-        let so = cut_asks k.shown k.written_in config.auto_add_history old.lines old.history k.waits k.show_failed (screen_of old.out) setting config.indent_size
-        (line_played n setting custom config old.ring come) (close_deeds (line_in n given x).outcome) tt _ _ (outcome_of ran) refl cut in
-        record { fault = cut.fault; result_is = same.1; goes = subst W (sym same.0) so }
+        let same = closes.stays (unbroken true ⊤ cut.fault w.cause) in
+        let stopped = stopped_asks k.shown k.written_in config.auto_add_history old.lines old.history k.waits k.show_failed (screen_of old.out) setting config.indent_size
+        (line_played n setting custom config old.ring come) (close_deeds t.outcome) tt _ _ (outcome_of ran) refl cut in
+        let StopsAt : Work D L → Type 0 = λ after. GoesIn k.shown k.written_in config.auto_add_history (line_deeds n given x) t.outcome (work_of k old) (Err cut.fault) after in
+        inr (cut.fault, subst StopsAt (ap (λ (f : Coming → Work D L). f left) (sym same.0)) (stopped_so k.shown k.written_in config.auto_add_history (line_deeds n given x) tt t.outcome cut.fault (work_of k old) at_end stopped), same.1)
 
-    lined : (n : ℕ) → WentWhole n ⊎ WentCut n → Ends (outcome_of ran) → let x = session_state_of k old in
-        Lined k given (line_in n given x) (line_deeds n given x) old new result
-    lined n (inl w) closes = after_whole n w (subst EndedAs w.outcome_is closes.goes)
-    lined n (inr w) closes = inr (after_cut n w (subst StaysAs w.stopped.result_is closes.stays))
+    lined : (n : ℕ) → WentWhole n ⊎ WentCut n → Ends (outcome_of ran) → LineGoesBy n
+    lined n (inl w) closes = after_whole n w (subst Ends w.outcome_is closes)
+    lined n (inr w) closes = after_cut n w (subst Ends w.stopped.result_is closes)
 
-    lined_falls : RunsAt → EndedAs (outcome_of ran) → OnOk result ((feed_of k new).bound < (feed_of k old).bound)
-    lined_falls runs (inl c) = ok_given ran.outcome string_bytes result _ runs.falls c.result_is
-    lined_falls runs (inr c) = ok_of_cut result (c left).fault _ (c left).result_is
+    lined_falls : RunsAt → Comes (session_world k.shown k.written_in config.auto_add_history) (in_order (close_deeds (outcome_of ran)) (outcome_of ran)) at_end result (work_of k new)
+        → OnOk result ((feed_of k new).bound < (feed_of k old).bound)
+    lined_falls runs (inl h) =
+        ok_given ran.outcome string_bytes result _ runs.falls (answer_is k.shown k.written_in config.auto_add_history (close_deeds (outcome_of ran)) (outcome_of ran) result at_end (work_of k new) h)
+    lined_falls runs (inr (why, h, is)) = ok_of_cut result why _ is
 
     lined_given : RunsAt → screen_of out ≡ screen_of ran.out → IsTrue (feed_of k new).told → given' ≡ given
     lined_given runs screen t =
@@ -241,9 +218,9 @@ module _ {S H D L K T : Type 0} (k : Known S D L) (helps : Option H → Helping)
       given = lined_given runs screen;
       custom = refl;
       told = runs.told;
-      falls = lined_falls runs closes.goes;
+      falls = lined_falls runs (closes.goes left);
       passes = λ t none. passes (line_passes runs t none);
-      reason = if_err result closes.reason;
+      reason = if_err result (closes.reason left);
     }
       where
         if_err : (r : Result (List ℕ) ReadlineError) → IfErr r (CloseReason (outcome_of ran) (k.show_failed (sink_of ran.out)) (k.show_failed (sink_of out)) (k.write_failed lines))

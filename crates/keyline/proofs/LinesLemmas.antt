@@ -1,12 +1,11 @@
 -- Lines in a loop, with one prompt, and with a prompt and columns for each.
 use Rattle.std.proofs.Common.{◌≡◌, ℕ, suc, ◌<◌, List, Result, Ok, Err, IsTrue, refl, sym, ap, ◌∙◌, subst}
 use Rattle.line_config.specs.declared.errors.ReadlineError.{ReadlineError}
-use Rattle.line_keys.specs.Coming.{Coming}
 use Rattle.line_screen.specs.Calls.{sink_of}
 use Rattle.line_screen.specs.declared.renderer.ScreenRenderer.{ScreenRenderer}
 use Rattle.keyline.specs.Desks.{TakesLine, TakesLines, feed_of, session_state_of}
 use Rattle.keyline.specs.Known.{Known, HasPassedOn}
-use Rattle.keyline.specs.Playing.{Work, Reads}
+use Rattle.keyline.specs.Playing.{Work, Reads, work}
 use Rattle.keyline.specs.Sessions.{Given, LineGiven, each, for_line}
 use Rattle.keyline.specs.declared.desk.Desk.{Desk}
 use Rattle.keyline.proofs.SessionSteps.{Onward, Onwards, onward_nowhere, onward_ok, onward_err}
@@ -62,17 +61,17 @@ module _ {S H D L : Type 0} (k : Known S D L) where
     onward = λ t n b. let so = before.onward t n b in went so.0 so.1 so.2;
   }
     where
-      went : (m : ℕ) → (feed_of k now).bound < m → {Q : Work D L → Coming → ReadlineError → Type 0}
-          → ((end : Work D L) (left : Coming) (why : ReadlineError) → Onwards k m g at' now end left why → Q end left why)
+      went : (m : ℕ) → (feed_of k now).bound < m → {Q : Work D L → ReadlineError → Type 0}
+          → ((end : Work D L) (why : ReadlineError) → Onwards k m g at' now end why → Q end why)
           → (m' : ℕ) × ((feed_of k now).bound < m')
-          × ((end : Work D L) (left : Coming) (why : ReadlineError) → Onwards k m' g at' (redrawn now out) end left why → Q end left why)
+          × ((end : Work D L) (why : ReadlineError) → Onwards k m' g at' (redrawn now out) end why → Q end why)
       went m b so = (
         m,
         b,
-        λ end left why r.
+        λ end why r.
             let P : D → Type 0 = λ display.
-            Reads k.shown k.written_in m g at' (session_state_of k now) (record { display = display; lines = now.lines; history = now.history }) end left why in
-            so end left why (subst P same r),
+            Reads k.shown k.written_in m g at' (session_state_of k now) (work display now.lines now.history (feed_of k now).coming) end why in
+            so end why (subst P same r),
       )
 
   module _ (g h h1 h2 : Given) (at at' : ℕ → LineGiven) (first now now1 next : Desk S H D L) (result : Result (List ℕ) ReadlineError) (before : Asking k g h at at' first now)

@@ -1,31 +1,32 @@
 -- A session by options, over all that is said of its keys.
-use Rattle.std.proofs.Common.{◌≡◌, ℕ, ◌+◌, ◌<◌, ◌^◌, Bool, false, IsTrue, List, [], ◌++◌, Option, Some, None, inl, inr, refl, sym, ap, subst, ◌∙◌, arith}
+use Rattle.std.proofs.Common.{◌≡◌, ℕ, ◌+◌, ◌<◌, ◌^◌, Bool, false, IsTrue, List, [], ◌∷◌, ◌++◌, Option, inl, inr, refl, sym, ap, subst, ◌∙◌, arith}
 use Rattle.std.specs.Prelude.{IsErr, IsOk, OnOk, Result, Ok, Err, is_err, string_bytes, unwrap_or}
 use Rattle.line_config.specs.Feed.{AlwaysTold, Feed, fresh_feed}
 use Rattle.line_config.specs.Foretold.{left_of}
-use Rattle.line_config.specs.Sending.{AppendsSome, Takes}
+use Rattle.line_config.specs.Sending.{AppendsSome}
 use Rattle.line_config.specs.declared.device.Last.{Last}
 use Rattle.line_config.specs.declared.device.Last.TheVariants.{End}
 use Rattle.line_config.specs.declared.errors.ReadlineError.{ReadlineError}
-use Rattle.line_config.specs.declared.errors.ReadlineError.TheVariants.{Display, HistoryText, Lines, Reader}
+use Rattle.line_config.specs.declared.errors.ReadlineError.TheVariants.{Display, Helper, HistoryText, Lines, Memory, Reader}
 use Rattle.line_help.specs.History.{Filed}
 use Rattle.line_help.specs.HistoryText.{text_to_save}
 use Rattle.line_keys.specs.Coming.{Coming}
 use Rattle.line_record.specs.Ring.{Ring, new_ring}
-use Rattle.line_screen.specs.Calls.{Screen, screen_of}
-use Rattle.line_screen.specs.Reader.{coming_in, kept_of, source_of}
+use Rattle.line_screen.specs.Calls.{Screen}
+use Rattle.line_screen.specs.Reader.{coming_in, kept_of}
 use Rattle.line_screen.specs.Unread.{kept_count}
 use Rattle.keyline.specs.Desks.{feed_of, session_state_of, work_of}
 use Rattle.keyline.specs.Known.{Known}
-use Rattle.keyline.specs.Edits.{EditHelper, EditsByOptions, config_of, edit_helping, given_to, helper_of, nothing_bound}
-use Rattle.keyline.specs.Played.{PlaysBytes, bytes_work, program_given, program_start}
-use Rattle.keyline.specs.Playing.{Reads, SessionReason, Work}
+use Rattle.keyline.specs.Edits.{EditHelper, EditsByOptions, config_of, edit_helping, given_to, nothing_bound}
+use Rattle.keyline.specs.Played.{PlaysBytes, program_given, program_start}
+use Rattle.keyline.specs.Deeds.{SessionDeed, Draws, Helped, Hears, Keeps, Writes, session_deeds}
+use Rattle.keyline.specs.Playing.{IsDone, IsStopped, Reads, SessionReason, Work, work}
 use Rattle.keyline.specs.Plays.{loaded_from, loads}
 use Rattle.keyline.specs.SessionShows.{Displays}
-use Rattle.keyline.specs.Sessions.{Given, SessionState, given_by, coming_from, each}
-use Rattle.keyline.specs.declared.desk.Desk.{Desk}
+use Rattle.keyline.specs.Sessions.{Given, SessionState, given_by, coming_from, each, session_by}
 use Rattle.keyline.specs.declared.options.Options.{Options}
 use Rattle.keyline.specs.declared.session.Ended.{Ended}
+use Rattle.keyline.proofs.DeedLemmas.{GoesIn}
 
 below : (most kept bound n : ℕ) → kept ≡ 0 → bound ≡ most + kept → most < n → bound < n
 below most kept bound n none is low = omega arith
@@ -60,38 +61,60 @@ reason_still g source display display' lines lines' Lines shows writes r = write
 reason_still g source display display' lines lines' HistoryText shows writes r = r
 reason_still g source display display' lines lines' _ shows writes r = r
 
--- what a sink took that held nothing
-took_all : {D : Type 0} (held : D → List ℕ) (old new : D) (bytes now : List ℕ) → held old ≡ [] → now ≡ held new → Takes held old new bytes
-    → Takes (λ (d : List ℕ). d) [] now bytes
-took_all held old new bytes now none same takes = same ∙ takes ∙ ap (λ front. front ++ bytes) none
+-- ---- what goes on devices goes on their bytes
 
 module _ {D L : Type 0} (shown : D → List ℕ) (written_in : L → List ℕ) where
-  as_bytes : (n : ℕ) (g : Given) (x : SessionState) (old new : Work D L) (left : Coming) (why : ReadlineError) (drawn wrote : List ℕ)
+  abbrev in_bytes : Work D L → Work (List ℕ) (List ℕ)
+  in_bytes x = work (shown x.display) (written_in x.lines) x.history x.coming
+
+  abbrev DoneInBytes : Bool → Work D L → SessionDeed → Work D L → Type 0
+  DoneInBytes adds x deed y = IsDone (λ (d : List ℕ). d) (λ (l : List ℕ). l) adds (in_bytes x) deed (in_bytes y)
+
+  done_in_bytes : (adds : Bool) (x : Work D L) (deed : SessionDeed) (y : Work D L) → IsDone shown written_in adds x deed y → DoneInBytes adds x deed y
+  done_in_bytes adds x (Draws bytes) y (took, same) = (took, ap in_bytes same)
+  done_in_bytes adds x (Helped fails) y (answers, same) = (answers, ap in_bytes same)
+  done_in_bytes adds x (Hears rest) y same = ap in_bytes same
+  done_in_bytes adds x (Keeps line) y same = ap in_bytes same
+  done_in_bytes adds x (Writes line) y (took, same) = (took, ap in_bytes same)
+
+  abbrev StoppedInBytes : Bool → Work D L → SessionDeed → ReadlineError → Work D L → Type 0
+  StoppedInBytes adds x deed why y = IsStopped (λ (d : List ℕ). d) (λ (l : List ℕ). l) adds (in_bytes x) deed why (in_bytes y)
+
+  stopped_in_bytes : (adds : Bool) (x : Work D L) (deed : SessionDeed) (why : ReadlineError) (y : Work D L) → IsStopped shown written_in adds x deed why y → StoppedInBytes adds x deed why y
+  stopped_in_bytes adds x (Draws bytes) Display y (took, same) = (took, ap in_bytes same)
+  stopped_in_bytes adds x (Draws bytes) Memory y same = ap in_bytes same
+  stopped_in_bytes adds x (Helped fails) Helper y (h, same) = (h, ap in_bytes same)
+  stopped_in_bytes adds x (Helped fails) Memory y same = ap in_bytes same
+  stopped_in_bytes adds x (Hears rest) Memory y (inl same) = inl (ap in_bytes same)
+  stopped_in_bytes adds x (Hears rest) Memory y (inr same) = inr (ap in_bytes same)
+  stopped_in_bytes adds x (Keeps line) Memory y (h, same) = (h, ap in_bytes same)
+  stopped_in_bytes adds x (Writes line) Lines y (took, same) = (took, ap in_bytes same)
+  stopped_in_bytes adds x _ _ y h = absurd h
+
+  goes_in_bytes : {X : Type 0} (adds : Bool) (deeds : List SessionDeed) (answer : X) (s t : Work D L) (r : Result X ReadlineError) → GoesIn shown written_in adds deeds answer s r t
+      → GoesIn (λ (d : List ℕ). d) (λ (l : List ℕ). l) adds deeds answer (in_bytes s) r (in_bytes t)
+  goes_in_bytes adds [] answer s t r (is, same) = (is, ap in_bytes same)
+  goes_in_bytes adds (deed ∷ deeds) answer s t r (inl (none, u, made, goes)) = inl (none, in_bytes u, done_in_bytes adds s deed u made, goes_in_bytes adds deeds answer u t r goes)
+  goes_in_bytes adds (deed ∷ deeds) answer s t r (inr (why, cut, is)) = inr (why, stopped_in_bytes adds s deed why t cut, is)
+
+  as_bytes : (n : ℕ) (g : Given) (x : SessionState) (old new : Work D L) (why : ReadlineError) (drawn wrote : List ℕ)
       → shown old.display ≡ [] → drawn ≡ shown new.display → written_in old.lines ≡ [] → wrote ≡ written_in new.lines
-      → Reads shown written_in n g (each g) x old new left why
-      → Reads (λ d. d) (λ l. l) n g (each g) x (bytes_work [] [] old.history) (bytes_work drawn wrote new.history) left why
-  as_bytes n g x old new left why drawn wrote none drawn_is bare wrote_is (inl (w, helped)) = inl (
-    record {
-      why_is = w.why_is;
-      rest_is = w.rest_is;
-      history_is = w.history_is;
-      drawn = took_all shown old.display new.display _ drawn none drawn_is w.drawn;
-      wrote = took_all written_in old.lines new.lines _ wrote bare wrote_is w.wrote;
-    },
-    helped,
-  )
-  as_bytes n g x old new left why drawn wrote none drawn_is bare wrote_is (inr c) = inr (record {
-    done = c.done;
-    next = c.next;
-    first = c.first;
-    begun = c.begun;
-    torn = c.torn;
-    stops = c.stops;
-    helped = c.helped;
-    drawn = took_all shown old.display new.display _ drawn none drawn_is c.drawn;
-    wrote = took_all written_in old.lines new.lines _ wrote bare wrote_is c.wrote;
-    history_is = c.history_is;
-  })
+      → Reads shown written_in n g (each g) x old new why
+      → Reads (λ d. d) (λ l. l) n g (each g) x (work [] [] old.history old.coming) (work drawn wrote new.history new.coming) why
+  as_bytes n g x old new why drawn wrote none drawn_is bare wrote_is reads =
+      let R : List ℕ → List ℕ → List ℕ → List ℕ → Type 0 = λ a b c d.
+      Reads (λ (d : List ℕ). d) (λ (l : List ℕ). l) n g (each g) x (work a b old.history old.coming) (work c d new.history new.coming) why in
+      subst (λ a. R a [] drawn wrote) none (subst (λ b. R (shown old.display) b drawn wrote) bare
+      (subst (λ c. R (shown old.display) (written_in old.lines) c wrote) (sym drawn_is)
+      (subst (λ d. R (shown old.display) (written_in old.lines) (shown new.display) d) (sym wrote_is) (both reads))))
+    where
+      goes : (result : Result ReadlineError ReadlineError) → GoesIn shown written_in g.config.auto_add_history (session_deeds n g (each g) x) (session_by n g (each g) x).ending old result new
+          → GoesIn (λ (d : List ℕ). d) (λ (l : List ℕ). l) g.config.auto_add_history (session_deeds n g (each g) x) (session_by n g (each g) x).ending (in_bytes old) result (in_bytes new)
+      goes result h = goes_in_bytes g.config.auto_add_history (session_deeds n g (each g) x) (session_by n g (each g) x).ending old new result h
+
+      both : Reads shown written_in n g (each g) x old new why → Reads (λ (d : List ℕ). d) (λ (l : List ℕ). l) n g (each g) x (in_bytes old) (in_bytes new) why
+      both (inl h) = inl (goes (Ok why) h)
+      both (inr h) = inr (goes (Err why) h)
 
 module _ {F S D L T : Type 0} (text_of : F → Feed) (k : Known S D L) (held : T → List ℕ) (failed : T → Bool) where
   pub played : (options : Options) (words : Option (List (List ℕ))) (old bytes : List ℕ) (last : Last) (history : F) (source : S) (display : D) (lines : L) (text : T)
@@ -118,7 +141,7 @@ module _ {F S D L T : Type 0} (text_of : F → Feed) (k : Known S D L) (held : T
       let bound : (feed_of k desk).bound ≡ 2 ^ 63 + kept_count (kept_of desk.reader) =
       ap (λ (s : S). (k.feed s).bound + kept_count (kept_of desk.reader)) opens.source_is ∙ ap (λ b. b + kept_count (kept_of desk.reader)) bound_is in
       let left = coming_in k.feed plays.reader in
-      let end : Work D L = record { display = ended.display; lines = ended.lines; history = plays.kept } in
+      let end : Work D L = work ended.display ended.lines plays.kept left in
       let start_is : session_state_of k desk ≡ start =
       ap (λ (r : Ring). state_by r desk.history (feed_of k desk).coming) opens.ring
       ∙ (ap (λ (h : Filed). state_by (new_ring 60) h (feed_of k desk).coming) history_is
@@ -132,15 +155,15 @@ module _ {F S D L T : Type 0} (text_of : F → Feed) (k : Known S D L) (held : T
         goes = λ n low.
             let went = plays.goes agrees n (below (2 ^ 63) (kept_count (kept_of desk.reader)) (feed_of k desk).bound n (ap kept_count opens.kept) bound low) in
             let G : Given → SessionState → Type 0 = λ g x.
-            Reads k.shown k.written_in n g (each g) x (work_of k desk) end left plays.why in
+            Reads k.shown k.written_in n g (each g) x (work_of k desk) end plays.why in
             let r = subst (λ (x : SessionState). G g x) start_is (subst (λ (g : Given). G g (session_state_of k desk)) given_is went) in
-            let H : Filed → Type 0 = λ h.
-            Reads (λ (d : List ℕ). d) (λ (l : List ℕ). l) n g (each g) start (bytes_work [] [] h)
-            (bytes_work (k.shown display') (k.written_in lines') plays.kept) left plays.why in
-            subst H history_is
-            (as_bytes k.shown k.written_in n g start (work_of k desk) end left plays.why
+            let H : Filed → Coming → Type 0 = λ h c.
+            Reads (λ (d : List ℕ). d) (λ (l : List ℕ). l) n g (each g) start (work [] [] h c)
+            (work (k.shown display') (k.written_in lines') plays.kept left) plays.why in
+            subst (λ (c : Coming). H loaded_is c) coming (subst (λ (h : Filed). H h (feed_of k desk).coming) history_is
+            (as_bytes k.shown k.written_in n g start (work_of k desk) end plays.why
             (k.shown display') (k.written_in lines')
-            (ap k.shown opens.display_is ∙ none) drawn_is (ap k.written_in opens.lines_are ∙ bare) wrote_is r);
+            (ap k.shown opens.display_is ∙ none) drawn_is (ap k.written_in opens.lines_are ∙ bare) wrote_is r));
         shows =
             let P : Given → SessionState → Type 0 = λ g x. Displays g x in
             subst (λ (x : SessionState). P g x) start_is (subst (λ (g : Given). P g (session_state_of k desk)) given_is edits.shows);

@@ -3,10 +3,10 @@ use Rattle.std.proofs.Common.{◌≡◌, ℕ, Bool, IsTrue, List, sym, subst}
 use Rattle.line_config.specs.declared.errors.ReadlineError.{ReadlineError}
 use Rattle.line_screen.specs.Calls.{sink_of}
 use Rattle.line_screen.specs.Reader.{coming_in, kept_of, source_of}
-use Rattle.keyline.specs.Desks.{TakesLines, feed_of, session_state_of, work_of}
+use Rattle.keyline.specs.Desks.{TakesLines, session_state_of, work_of}
 use Rattle.keyline.specs.Known.{Known, HasPassedOn}
 use Rattle.keyline.specs.Endings.{ending_of}
-use Rattle.keyline.specs.Playing.{SessionReason, Reads, Saves, ending_after}
+use Rattle.keyline.specs.Playing.{SessionReason, Reads, Saves, ending_after, work}
 use Rattle.keyline.specs.Plays.{Plays}
 use Rattle.keyline.specs.Sessions.{Given, each}
 use Rattle.keyline.specs.declared.desk.Desk.{Desk}
@@ -26,7 +26,7 @@ plays {S} {H} {D} {L} {T} k held failed g desk end why text now ended same lines
   saved = saves.0;
   goes = λ t n b.
       let P : D → L → Type 0 = λ display lines. Reads k.shown k.written_in n g (each g) (session_state_of k desk) (work_of k desk)
-      (record { display = display; lines = lines; history = end.history }) (coming_in k.feed end.reader) why in
+      (work display lines end.history (coming_in k.feed end.reader)) why in
       let given = lines.goes (subst (λ (s : S). IsTrue (k.feed s).told) source_is t) n b in
       subst (λ (d : D). P d ended.lines) (sym display_is) (subst (λ (l : L). P (sink_of end.out) l) (sym lines_are) given);
   passes = λ t none. subst (HasPassedOn k) (sym display_is) (lines.passes (subst (λ (s : S). IsTrue (k.feed s).told) source_is t) none);

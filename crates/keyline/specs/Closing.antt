@@ -3,15 +3,9 @@ use Rattle.std.specs.Prelude.{◌≡◌, ◌⊎◌, ℕ, Bool, false, List, Resu
 use Rattle.line_config.specs.declared.errors.ReadlineError.{ReadlineError}
 use Rattle.line_config.specs.declared.errors.ReadlineError.TheVariants.{Display, Lines, Memory}
 use Rattle.line_editor.specs.Courses.{breaks_after}
-use Rattle.line_help.specs.History.{Filed}
 use Rattle.line_keys.specs.Coming.{Coming}
-use Rattle.line_screen.specs.Drawing.{break_if}
-use Rattle.keyline.specs.Deeds.{close_deeds}
-use Rattle.keyline.specs.Playing.{Work, LineWhole, LineCut}
-use Rattle.keyline.specs.Sessions.{breaks}
-
-abbrev pub work : {D L : Type 0} → D → L → Filed → Work D L
-work display lines history = record { display = display; lines = lines; history = history }
+use Rattle.keyline.specs.Deeds.{close_deeds, in_order}
+use Rattle.keyline.specs.Playing.{Work, Comes, session_world}
 
 -- why the end of a line is refused: as the line was, or by a device that has failed
 abbrev pub CloseReason : {A : Type 0} → Result A ReadlineError → Bool → Bool → Bool
@@ -24,13 +18,11 @@ CloseReason outcome was_failed display lines e =
 -- is drawn, and after the others nothing is done; whatever comes isn't read
 pub record Closes {D L : Type 0} (shown : D → List ℕ) (show_failed : D → Bool)
     (written_in : L → List ℕ) (write_failed : L → Bool) (adds : Bool)
-    (outcome : Result (List ℕ) ReadlineError) (old new : Work D L)
+    (outcome : Result (List ℕ) ReadlineError) (old new : Coming → Work D L)
     (result : Result (List ℕ) ReadlineError) : Type 0 where
-  pub goes : LineWhole shown written_in adds
-      (break_if (breaks outcome)) outcome old new
-      result
-      ⊎ ((coming : Coming) → LineCut shown written_in adds
-      (close_deeds outcome) coming old new coming result)
+  pub goes : (coming : Coming) → Comes (session_world shown written_in adds)
+      (in_order (close_deeds outcome) outcome) (old coming) result (new coming)
   pub stays : IfErr outcome (λ e. breaks_after e ≡ false → (new ≡ old) × (result ≡ Err e))
-  pub reason : IfErr result (CloseReason outcome (show_failed old.display)
-      (show_failed new.display) (write_failed new.lines))
+  pub reason : (coming : Coming) → IfErr result (CloseReason outcome
+      (show_failed (old coming).display) (show_failed (new coming).display)
+      (write_failed (new coming).lines))

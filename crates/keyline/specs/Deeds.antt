@@ -1,6 +1,7 @@
 -- What a session does, in order: what it sends, asks, reads, keeps and writes.
-use Rattle.std.specs.Prelude.{◌≡◌, ⊤, ℕ, zero, suc, ◌≤◌, Bool, IsFalse, List, [], ◌∷◌, ◌++◌, length, Result, Ok, Err}
+use Rattle.std.specs.Prelude.{◌≡◌, ⊤, ℕ, zero, suc, ◌≤◌, Bool, List, [], ◌∷◌, ◌++◌, length, Result, Ok, Err}
 use Rattle.line_buffer.specs.declared.layout.Layout.{Layout}
+use Rattle.line_config.specs.Scripts.{Script, Ends, Asks}
 use Rattle.line_config.specs.declared.errors.ReadlineError.{ReadlineError}
 use Rattle.line_editor.specs.Calls.{Call}
 use Rattle.line_editor.specs.Calls.Call.{Help}
@@ -49,12 +50,6 @@ abbrev pub lines_written : List SessionDeed → List (List ℕ)
 lines_written [] = []
 lines_written (Writes line ∷ more) = line ∷ lines_written more
 lines_written (deed ∷ more) = lines_written more
-
--- each time that the helper is asked it gives an answer
-abbrev pub HelperAnswers : List SessionDeed → Type 0
-HelperAnswers [] = ⊤
-HelperAnswers (Helped fails ∷ more) = IsFalse fails × HelperAnswers more
-HelperAnswers (deed ∷ more) = HelperAnswers more
 
 -- ---- a line's
 
@@ -110,6 +105,18 @@ session_deeds (suc n) g at x =
     let first = for_line g (at 0) in let t = line_in (suc n) first x in
     line_deeds (suc n) first x
     ++ deeds_after t.outcome (session_deeds n g (λ line. at (suc line)) (after_line g t x))
+
+-- ---- deeds as scripts
+
+-- deeds one after the other, and then the answer
+abbrev pub in_order : {X : Type 0} → List SessionDeed → X → Script SessionDeed (λ deed. ⊤) X
+in_order [] answer = Ends answer
+in_order (deed ∷ deeds) answer = Asks deed (λ none. in_order deeds answer)
+
+-- a session's script comes to what ends it
+abbrev pub session_script : ℕ → Given → (ℕ → LineGiven) → SessionState
+    → Script SessionDeed (λ deed. ⊤) ReadlineError
+session_script n g at x = in_order (session_deeds n g at x) (session_by n g at x).ending
 
 -- ---- what they have to do with the session's report
 

@@ -16,7 +16,7 @@ use Rattle.line_keys.specs.Coming.{Coming}
 use Rattle.keyline.specs.Known.{Known}
 use Rattle.keyline.specs.Edits.{config_of, edit_helping, helper_of, nothing_bound}
 use Rattle.keyline.specs.Endings.{ending_of}
-use Rattle.keyline.specs.Playing.{Reads, SessionReason, Work, ending_after}
+use Rattle.keyline.specs.Playing.{Reads, SessionReason, ending_after, work}
 use Rattle.keyline.specs.Plays.{loaded_from, loads}
 use Rattle.keyline.specs.SessionShows.{Displays}
 use Rattle.keyline.specs.Sessions.{Given, SessionState, given_by, at_first, coming_from, each}
@@ -41,10 +41,6 @@ program_start options old bytes last =
     at_first (loaded_from (config_of options) (fresh_feed old End))
     (coming_from options.mode bytes last)
 
--- bytes drawn and written, and a history
-abbrev pub bytes_work : List ℕ → List ℕ → Filed → Work (List ℕ) (List ℕ)
-bytes_work drawn wrote history = record { display = drawn; lines = wrote; history = history }
-
 -- THE session of these options and words, of a history's text, and of all these bytes with this
 -- after them: what is drawn, written and saved are its bytes, its lines and its history, or a
 -- beginning of them where a fault cut it
@@ -60,8 +56,9 @@ pub record PlaysBytes {S D L T : Type 0} (known : Known S D L) (held : T → Lis
   pub loaded : IsOk (loads (config_of options) (fresh_feed old End))
   pub goes : (n : ℕ) → 2 ^ 63 < n → let g = program_given options words in
       let start = program_start options old bytes last in
-      Reads (λ drawn. drawn) (λ wrote. wrote) n g (each g) start (bytes_work [] [] start.history)
-      (bytes_work (known.shown ended.display) (known.written_in ended.lines) kept) left why
+      Reads (λ drawn. drawn) (λ wrote. wrote) n g (each g) start
+      (work [] [] start.history start.coming)
+      (work (known.shown ended.display) (known.written_in ended.lines) kept left) why
   pub shows : Displays (program_given options words) (program_start options old bytes last)
   pub done : saved ≡ true → held ended.text ≡ text_to_save kept
   pub refused : saved ≡ false → IsTrue (failed ended.text)

@@ -13,7 +13,7 @@ use Rattle.line_screen.specs.declared.reading.reader.KeyReader.{KeyReader}
 use Rattle.keyline.specs.Desks.{feed_of, session_state_of, work_of}
 use Rattle.keyline.specs.Known.{Known, HasPassedOn}
 use Rattle.keyline.specs.Endings.{ending_of}
-use Rattle.keyline.specs.Playing.{SessionReason, Reads, Saves, ending_after}
+use Rattle.keyline.specs.Playing.{SessionReason, Reads, Saves, ending_after, work}
 use Rattle.keyline.specs.Sessions.{Given, coming_from, each}
 use Rattle.keyline.specs.declared.desk.Desk.{Desk}
 use Rattle.keyline.specs.declared.session.Beginning.{Beginning}
@@ -105,8 +105,7 @@ pub record Plays {S H D L T : Type 0} (k : Known S D L) (held : T → List ℕ) 
   -- where the source gave what was said, with more fuel than it has keys and pastes
   pub goes : IsTrue (k.feed ended.source).told → (n : ℕ) → (feed_of k desk).bound < n
       → Reads k.shown k.written_in n g (each g) (session_state_of k desk) (work_of k desk)
-      (record { display = ended.display; lines = ended.lines; history = kept })
-      (coming_in k.feed reader) why
+      (work ended.display ended.lines kept (coming_in k.feed reader)) why
   -- where nothing waited in the display before, nothing waits in it at the end, if it works
   pub passes : IsTrue (k.feed ended.source).told → HasPassedOn k (sink_of desk.out)
       → HasPassedOn k ended.display
@@ -124,5 +123,4 @@ pub record AlwaysPlays {S H D L T : Type 0} (k : Known S D L) (held : T → List
   pub plays : Plays k held failed g desk text ended
   pub goes : (n : ℕ) → (feed_of k desk).bound < n
       → Reads k.shown k.written_in n g (each g) (session_state_of k desk) (work_of k desk)
-      (record { display = ended.display; lines = ended.lines; history = plays.kept })
-      (coming_in k.feed plays.reader) plays.why
+      (work ended.display ended.lines plays.kept (coming_in k.feed plays.reader)) plays.why

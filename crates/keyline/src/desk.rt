@@ -7,7 +7,8 @@ ghost use Rattle.line_editor.specs.Courses.{breaks_after};
 ghost use Rattle.line_keys.specs.Coming.{made_of};
 ghost use Rattle.line_screen.specs.Calls.{screen_of, sink_of};
 ghost use Rattle.line_screen.specs.Waiting.{NothingWaits};
-ghost use Rattle.keyline.specs.Closing.{Closes, work};
+ghost use Rattle.keyline.specs.Closing.{Closes};
+ghost use Rattle.keyline.specs.Playing.{work};
 ghost use Rattle.keyline.specs.Sessions.{given_by, line_text, remembered};
 
 use crate::boxed::Boxed;

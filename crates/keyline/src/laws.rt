@@ -13,6 +13,7 @@ ghost use Rattle.keyline.specs.FewerKeys.{LinesBegin, SessionsBegin};
 ghost use Rattle.keyline.specs.Known.{known_by};
 ghost use Rattle.keyline.specs.OneByte.{LayoutsTell, OneByte};
 ghost use Rattle.keyline.specs.Pasting.{PastesAreAccepted, PastedLinesAreAccepted};
+ghost use Rattle.keyline.specs.Playing.{SessionsCome};
 ghost use Rattle.keyline.specs.Plays.{AlwaysPlays};
 ghost use Rattle.keyline.specs.SessionLaws.{ColumnsAreFree, LastAreKept};
 ghost use Rattle.keyline.specs.SessionShows.{SessionsShow};
@@ -125,6 +126,12 @@ pub fn columns()
 /// and kept those and at most the next one.
 pub fn deeds()
     ensures { DeedsTell }
+{}
+
+/// A session that goes as its script says has come to all that its report says, or a fault stopped
+/// one of its deeds, with those before it done: what display, sources and sinks have then is known.
+pub fn sessions_come<D: Sink, L: Sink>()
+    ensures { SessionsCome D.held L.held }
 {}
 
 /// A history that began empty holds, under fixed settings, the last of the accepted lines that

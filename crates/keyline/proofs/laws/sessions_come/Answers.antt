@@ -1,0 +1,5 @@
+use Rattle.keyline.proofs.DeedLaw.{sessions_come}
+use Rattle.keyline.proofs.laws.sessions_come.Goals as goal
+
+pub returns : goal.returns
+returns g c = sessions_come g.D.Sink.held g.L.Sink.held
