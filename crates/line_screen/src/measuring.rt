@@ -158,7 +158,7 @@ fn after_char(grid: Grid, at: Position, c: char) -> Position
         Comes grid.columns
         (place_after grid.columns (drawn_item wide (encode_utf8 c) ∷ []) at) result }
 {
-    if c > '~' && is_narrow(c) {
+    if c > '~' && c < '\u{3000}' && is_narrow(c) {
         return after_width(grid, at, 1);
     }
     if is_wide(c) {

@@ -177,7 +177,7 @@ fn send_char<D: Sink>(sink: &mut D, grid: Grid, col: Unit, c: char) -> Result<Un
 {
     let mut bytes = [0; 4];
     let text = c.encode_utf8(&mut bytes);
-    if c > '~' && is_narrow(c) {
+    if c > '~' && c < '\u{3000}' && is_narrow(c) {
         return send_wide(sink, grid, col, text, 1);
     }
     if is_wide(c) {
