@@ -12,6 +12,7 @@ import tempfile
 
 HOME, RIGHT, TRANSPOSE, ESCAPE, ENTER = b"\x01", b"\x1b[C", b"\x14", b"\x1b", b"\r"
 HAN = "漢".encode()
+CYRILLIC = "я".encode()
 KEYS = 100
 
 
@@ -27,6 +28,7 @@ CASES = [
     ("Vi's x there", "vi", b"a", ESCAPE + b"0", b"x", (1_000, 10_000)),
     ("a letter typed after Han", "emacs", HAN, b"", b"b", (300, 3_000)),
     ("Han typed after Han", "emacs", HAN, b"", HAN, (300, 3_000)),
+    ("a letter typed after Cyrillic", "emacs", CYRILLIC, b"", b"b", (300, 3_000)),
 ]
 
 
