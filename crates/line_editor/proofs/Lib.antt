@@ -10,7 +10,6 @@ pub mod KnownLemmas
 pub mod LeadLemmas
 pub mod LineLeads
 pub mod CarriesLemmas
-pub mod ObeyLemmas
 pub mod PhraseGoes
 pub mod ReachLemmas
 pub mod RecallLemmas

@@ -1,5 +1,5 @@
 //! What a command makes of a line.
-ghost use Rattle.std.specs.Prelude.{◌≡◌, true, Ok, IfOk, IfErr, OnOk};
+ghost use Rattle.std.specs.Prelude.{◌≡◌, true, Ok};
 ghost use Rattle.line_keys.specs.InputStates.{input_of};
 ghost use Rattle.line_editor.specs.Commands.{means_of};
 ghost use Rattle.line_editor.specs.Turning.{Executes, is_obeyed};
@@ -24,7 +24,7 @@ pub enum Status {
 impl<'p, 'h, Out: Renderer, H: Helper + Drop, Hi: History> State<'p, 'h, Out, H, Hi> {
     ghost use Rattle.line_buffer.specs.Columns.{line_up, line_down};
     ghost use Rattle.line_editor.specs.States.{value_of, setting_of, Does};
-    ghost use Rattle.line_editor.specs.Commands.{line_up_or_previous, line_down_or_next, effect, ring_after_command, LeavesRing, outcome, end_of_file};
+    ghost use Rattle.line_editor.specs.Commands.{line_up_or_previous, line_down_or_next, effect, ring_after_command, outcome, end_of_file};
 
     /// Moves up by rows; in the first row, one history entry back.
     fn line_up_or_previous(&mut self, n: RepeatCount) -> Result<(), ReadlineError>
@@ -124,61 +124,54 @@ impl<'p, 'h, Out: Renderer, H: Helper + Drop, Hi: History> State<'p, 'h, Out, H,
         }
     }
 
-    /// Does what a command says, and answers how it ends.
-    pub(crate) fn perform<D: Decides>(
+    /// Does what a command says.
+    fn perform<D: Decides>(
         &mut self,
         cmd: &Cmd,
         input_state: &InputState<'_, D>,
         ring: &mut KillRing,
         indent: u8,
-    ) -> Result<Result<Status, ReadlineError>, ReadlineError>
-        ensures does { Does (effect (means_of (input_of input_state.now) indent ring.old) cmd.now)
-            self.old self.new result }
-        ensures outcome { IfOk result
-            (λ o. o ≡ outcome (means_of (input_of input_state.now) indent ring.old) cmd.now
-            (setting_of self.old) (value_of self.old)) }
-        ensures ring { OnOk result
-            (ring.new ≡ ring_after_command cmd.now (value_of self.old) ring.old) }
-        ensures refused_ring { IfErr result
-            (λ e. LeavesRing cmd.now (value_of self.old) ring.old ring.new e) }
+    ) -> Result<Status, ReadlineError>
+        ensures { Executes (means_of (input_of input_state.now) indent ring.old) cmd.now
+            self.old self.new ring.new result }
     {
         match cmd {
             Cmd::EndOfFile => {
                 self.bare_line()?;
-                Ok(self.end_of_file(input_state.is_emacs_mode()))
+                self.end_of_file(input_state.is_emacs_mode())
             }
             Cmd::AcceptLine => {
                 self.accept()?;
-                Ok(Ok(Status::Submit))
+                Ok(Status::Submit)
             }
             Cmd::AcceptOrInsertLine {
                 accept_in_the_middle,
             } => {
                 if self.accept_or_insert(*accept_in_the_middle)? {
-                    Ok(Ok(Status::Submit))
+                    Ok(Status::Submit)
                 } else {
-                    Ok(Ok(Status::Proceed))
+                    Ok(Status::Proceed)
                 }
             }
             Cmd::Interrupt => {
                 self.move_cursor_to_end()?;
-                Ok(Err(ReadlineError::Interrupted))
+                Err(ReadlineError::Interrupted)
             }
             Cmd::Kill(movement) => {
                 self.edit_kill(movement, ring)?;
-                Ok(Ok(Status::Proceed))
+                Ok(Status::Proceed)
             }
             Cmd::Replace(movement, text) => {
                 self.edit_replace(movement, text, ring)?;
-                Ok(Ok(Status::Proceed))
+                Ok(Status::Proceed)
             }
             Cmd::ViYankTo(movement) => {
                 self.copy_to_ring(movement, ring)?;
-                Ok(Ok(Status::Proceed))
+                Ok(Status::Proceed)
             }
             _ => {
                 self.obey(cmd, input_state, ring, indent)?;
-                Ok(Ok(Status::Proceed))
+                Ok(Status::Proceed)
             }
         }
     }
@@ -196,5 +189,5 @@ pub fn execute<'p, 'h, Out: Renderer, H: Helper + Drop, Hi: History, D: Decides>
     ensures { Executes (means_of (input_of input_state.now) config.now.indent_size kill_ring.old)
         cmd s.old s.new kill_ring.new result }
 {
-    s.perform(&cmd, input_state, kill_ring, config.indent_size())?
+    s.perform(&cmd, input_state, kill_ring, config.indent_size())
 }
