@@ -15,9 +15,7 @@ use Rattle.unicode_segmentation.proofs.SegmentsLemmas.{concat-segments, IsPieceO
 use Rattle.line_buffer.specs.declared.layout.GraphemeClusterMode.{GraphemeClusterMode}
 use Rattle.line_buffer.specs.Clusters.{clusters}
 use Rattle.line_buffer.specs.Columns.{place_at_column}
-use Rattle.line_buffer.specs.Standing.{is_parting_letter, begins_with_parting_letter}
-use Rattle.line_buffer.specs.Width.{columns_of, width_of}
-use Rattle.line_buffer.proofs.PartingLemmas.{columns_parted}
+use Rattle.line_buffer.specs.Width.{columns_of, width_of, AddUp, PartsText}
 
 -- no number of columns that is shown is beyond what is counted
 pub enough : 65535 ≤ 18446744073709551615
@@ -30,7 +28,7 @@ abbrev pub counted : ℕ → GraphemeClusterMode → List ℕ → ℕ
 counted most mode text = min (columns_of mode (chars text)) most
 
 pub without_end : (mode : GraphemeClusterMode) (most : ℕ) (text : List ℕ) (end whole part : ℕ) → IsUtf8 text → IsCharBoundary text end
-    → columns_of mode (chars (take end text) ++ chars (drop end text)) ≡ columns_of mode (chars (take end text)) + columns_of mode (chars (drop end text))
+    → AddUp mode (chars (take end text)) (chars (drop end text))
     → whole ≡ counted most mode text → part ≡ counted most mode (drop end text) → whole < most → (part ≤ whole) × (whole - part ≡ counted most mode (take end text))
 without_end mode most text end whole part u at adds is part_is low =
     let split : chars text ≡ chars (take end text) ++ chars (drop end text) =
@@ -214,23 +212,20 @@ module _ (mode : GraphemeClusterMode) (most : ℕ) (text : List ℕ) (start end 
   is_cluster : IsUtf8 cluster
   is_cluster = IsUtf8-between text start end u le at_start at_end
 
-  balanced : (c : ℕ) (es : List ℕ) → chars cluster ≡ c ∷ es → is_parting_letter c ≡ true
+  balanced : PartsText (chars cluster)
       → columns_of mode (chars text) + columns_of mode (chars cluster) ≡ columns_of mode (chars (take end text)) + columns_of mode (chars (drop start text))
-  balanced c es is h =
-      let rest : chars (drop start text) ≡ c ∷ (es ++ chars (drop end text)) =
-      ap chars (drop_split text start end le) ∙ chars-append cluster (drop end text) is_cluster ∙ ap (λ cs. cs ++ chars (drop end text)) is in
-      let whole : chars text ≡ chars front ++ c ∷ (es ++ chars (drop end text)) =
+  unfolding PartsText
+  balanced h =
+      let rest : chars (drop start text) ≡ chars cluster ++ chars (drop end text) =
+      ap chars (drop_split text start end le) ∙ chars-append cluster (drop end text) is_cluster in
+      let whole : chars text ≡ chars front ++ (chars cluster ++ chars (drop end text)) =
       ap chars (sym (take-append-drop start text)) ∙ chars-append front (drop start text) (IsUtf8-take text start u at_start) ∙ ap (λ cs. chars front ++ cs) rest in
-      let upto : chars (take end text) ≡ chars front ++ c ∷ es =
-      ap chars (take_split text start end le) ∙ chars-append front cluster (IsUtf8-take text start u at_start) ∙ ap (λ cs. chars front ++ cs) is in
-      omega (arith, columns_parted mode c (chars front) (es ++ chars (drop end text)) es h, ap (columns_of mode) rest, ap (columns_of mode) whole, ap (columns_of mode) upto, ap (columns_of mode) is)
+      let upto : chars (take end text) ≡ chars front ++ chars cluster =
+      ap chars (take_split text start end le) ∙ chars-append front cluster (IsUtf8-take text start u at_start) in
+      omega (arith, h mode (chars front) (chars (drop end text)), ap (columns_of mode) rest, ap (columns_of mode) whole, ap (columns_of mode) upto)
 
-  pub by_letter : (whole measured own : ℕ) → begins_with_parting_letter (chars cluster) ≡ true → whole ≡ counted most mode text → measured ≡ counted most mode (drop start text) → own ≡ counted most mode cluster
+  pub by_letter : (whole measured own : ℕ) → PartsText (chars cluster) → whole ≡ counted most mode text → measured ≡ counted most mode (drop start text) → own ≡ counted most mode cluster
       → whole < most → measured < most → own ≤ measured → (measured - own ≤ whole) × (whole - (measured - own) ≡ counted most mode (take end text))
-  by_letter whole measured own h is measured_is own_is low measured_low more = by (chars cluster) refl h
-    where
-      by : (cs : List ℕ) → chars cluster ≡ cs → begins_with_parting_letter cs ≡ true → (measured - own ≤ whole) × (whole - (measured - own) ≡ counted most mode (take end text))
-      by [] e k = cc
-      by (c ∷ es) e k =
-          let sum = balanced c es e k in
-          (omega (arith, sum, is, measured_is, own_is, low, measured_low, more), omega (arith, sum, is, measured_is, own_is, low, measured_low, more))
+  by_letter whole measured own h is measured_is own_is low measured_low more =
+      let sum = balanced h in
+      (omega (arith, sum, is, measured_is, own_is, low, measured_low, more), omega (arith, sum, is, measured_is, own_is, low, measured_low, more))

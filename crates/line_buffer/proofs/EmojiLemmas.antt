@@ -1,7 +1,7 @@
 -- An emoji begins a part of a text whose columns add to those of the text before it, unless a joiner stands there.
 use Rattle.std.proofs.Common.{◌≡◌, ◌≢◌, ℕ, ◌+◌, ◌==◌, nat_le, ◌⊎◌, inl, inr, ⊎_elim, Bool, true, false, not, cond, ◌&&◌, ◌||◌, List, [], ◌∷◌, ◌++◌, length, Option, None, Some, refl, sym, ap, ◌∙◌, subst, arith}
 use Rattle.std.specs.Int.{is_in_range}
-use Rattle.std.specs.Prelude.{unwrap_or, IsUtf8, chars, encode_utf8}
+use Rattle.std.specs.Prelude.{unwrap_or, is_some, IsUtf8, chars, encode_utf8}
 use Rattle.std.specs.Char.{IsScalar}
 use Rattle.std.proofs.lemmas.Str.{IsUtf8-past_char, IsUtf8-encode, chars-append, chars-nil, chars_past_char}
 use Rattle.unicode_segmentation.proofs.TextLemmas.{IsUtf8-before, chars-encode_utf8}
@@ -27,10 +27,23 @@ use Rattle.unicode_width.specs.Width.{before, plain, of_kind, alone, joins, befo
 use Rattle.unicode_width.proofs.Computing.{unicode_width}
 use Rattle.unicode_width.proofs.KindLemmas.{kind_stepped, is_ligature_transparent_stepped}
 use Rattle.line_buffer.specs.declared.layout.GraphemeClusterMode.{GraphemeClusterMode}
-use Rattle.line_buffer.specs.Standing.{is_own_emoji, begins_with_emoji, ends_in_joiner}
-use Rattle.line_buffer.specs.Width.{unjoined, columns_of}
+use Rattle.line_buffer.specs.Width.{unjoined, AddUp}
 use Rattle.line_buffer.proofs.ListedRanges.{in_ranges-some, beside, apart}
 use Rattle.line_buffer.proofs.SeamLemmas.{IsOpen, PartsAdd, emoji_selector, quote_selector, text_selector, str_width-open, columns-open}
+
+-- an emoji by itself: no letter of a flag, and no tone of skin
+abbrev pub is_own_emoji : ℕ → Bool
+is_own_emoji c =
+    is_emoji_presentation c
+    && not (is_in_range 0x1F1E6 0x1F1FF c || is_in_range 0x1F3FB 0x1F3FF c)
+
+-- such an emoji, or a character that a selector makes one: whatever follows on it, only a joiner
+-- before it takes it in
+abbrev pub begins_with_emoji : List ℕ → Bool
+begins_with_emoji [] = false
+begins_with_emoji (c ∷ []) = is_own_emoji c
+begins_with_emoji (c ∷ d ∷ cs) =
+    is_own_emoji c || (is_emoji_variation_base c && (d == 0xFE0F))
 
 -- ---- facts of the tables
 
@@ -384,11 +397,9 @@ part_begins c (d ∷ ds) part parts h is =
 begun_parts : (c : ℕ) (ds : List ℕ) → begins_with_emoji (c ∷ ds) ≡ true → PartsAdd 0x200D c ds
 begun_parts c ds h cs part parts is other = begun_adds c part cs (part_begins c ds part parts h is) other
 
-pub columns_of_emoji : (mode : GraphemeClusterMode) (cs ds : List ℕ) → begins_with_emoji ds ≡ true → ends_in_joiner cs ≡ false → columns_of mode (cs ++ ds) ≡ columns_of mode cs + columns_of mode ds
-columns_of_emoji mode cs [] h other = cc
-columns_of_emoji mode cs (c ∷ ds) h other =
-    columns-open 0x200D c ds (no_joiner_first c ds h) (begun_parts c ds h) mode cs (λ bs last. begun_adds c ds bs h last)
-    (λ e. let wrong : true ≡ false = sym (ap (λ o. unwrap_or o 0 == 0x200D) e) ∙ other in cc)
+pub columns_of_emoji : (ds : List ℕ) → begins_with_emoji ds ≡ true → (mode : GraphemeClusterMode) (cs : List ℕ) → last_or None cs ≢ Some 0x200D → AddUp mode cs ds
+columns_of_emoji [] h mode cs other = cc
+columns_of_emoji (c ∷ ds) h mode cs other = columns-open 0x200D c ds (no_joiner_first c ds h) (begun_parts c ds h) mode cs (λ bs last. begun_adds c ds bs h last) other
 
 -- ---- texts by their ends
 
@@ -402,22 +413,22 @@ last_of_chars text front last u s came = ap (last_or None) (ap chars came ∙ ch
     last-append o [] = refl
     last-append o (x ∷ xs) = last-append (Some x) xs
 
-pub joiner_last : (text front : List ℕ) (last : ℕ) → IsUtf8 text → IsScalar last → text ≡ front ++ encode_utf8 last → (last == 0x200D) ≡ ends_in_joiner (chars text)
-joiner_last text front last u s came = ap (λ o. unwrap_or o 0 == 0x200D) (sym (last_of_chars text front last u s came))
+pub other_last : (text front : List ℕ) (last : ℕ) → IsUtf8 text → IsScalar last → text ≡ front ++ encode_utf8 last → (last == 0x200D) ≡ false → last_or None (chars text) ≢ Some 0x200D
+other_last text front last u s came other e =
+    let at : last ≡ 0x200D = ap (λ o. unwrap_or o 0) (sym (last_of_chars text front last u s came) ∙ e) in
+    let wrong : true ≡ false = sym (eq-eqb last 0x200D at) ∙ other in
+    cc
 
-pub no_joiner_last : (text : List ℕ) → length text ≡ 0 → false ≡ ends_in_joiner (chars text)
-no_joiner_last [] e = ap ends_in_joiner (sym chars-nil)
-no_joiner_last (b ∷ bs) e = absurd (omega (arith, e))
+pub none_last : (text : List ℕ) → length text ≡ 0 → last_or None (chars text) ≢ Some 0x200D
+none_last [] e k = let wrong : false ≡ true = ap is_some (ap (last_or None) (sym chars-nil) ∙ k) in cc
+none_last (b ∷ bs) e k = absurd (omega (arith, e))
+
+-- where its first character is an emoji by itself
+pub begins_at_once : (text rest : List ℕ) (c : ℕ) → IsUtf8 text → text ≡ encode_utf8 c ++ rest → is_own_emoji c ≡ true → begins_with_emoji (chars text) ≡ true
+begins_at_once text rest c u came own = ap begins_with_emoji (chars_past_char text rest c u came) ∙ own_begins c (chars rest) own
 
 -- where its first character is no emoji by itself
 module _ (text rest : List ℕ) (c : ℕ) (u : IsUtf8 text) (came : text ≡ encode_utf8 c ++ rest) (other : is_own_emoji c ≡ false) where
-  pub begins_alone : length rest ≡ 0 → false ≡ begins_with_emoji (chars text)
-  begins_alone none = sym (ap begins_with_emoji (chars_past_char text rest c u came ∙ ap (λ cs. c ∷ cs) (empty rest none)) ∙ other)
-    where
-      empty : (bs : List ℕ) → length bs ≡ 0 → chars bs ≡ []
-      empty [] e = chars-nil
-      empty (b ∷ bs) e = absurd (omega (arith, e))
-
   begins_with_two : (more : List ℕ) (d : ℕ) → rest ≡ encode_utf8 d ++ more → begins_with_emoji (chars text) ≡ (is_emoji_variation_base c && (d == 0xFE0F))
   begins_with_two more d next =
       ap begins_with_emoji (chars_past_char text rest c u came ∙ ap (λ cs. c ∷ cs) (chars_past_char rest more d (IsUtf8-past_char text rest c u came) next))
@@ -425,7 +436,3 @@ module _ (text rest : List ℕ) (c : ℕ) (u : IsUtf8 text) (came : text ≡ enc
 
   pub begins_selected : (more : List ℕ) (d : ℕ) → rest ≡ encode_utf8 d ++ more → d ≡ 0xFE0F → is_emoji_variation_base c ≡ begins_with_emoji (chars text)
   begins_selected more d next at = and_true (is_emoji_variation_base c) (d == 0xFE0F) (eq-eqb d 0xFE0F at) ∙ sym (begins_with_two more d next)
-
-  pub begins_unselected : (more : List ℕ) (d : ℕ) → rest ≡ encode_utf8 d ++ more → d ≢ 0xFE0F → (d == 0xFE0F) ≡ begins_with_emoji (chars text)
-  begins_unselected more d next apart =
-      ne_eqb d 0xFE0F apart ∙ sym (and_false (is_emoji_variation_base c) (d == 0xFE0F) (ne_eqb d 0xFE0F apart)) ∙ sym (begins_with_two more d next)

@@ -37,10 +37,28 @@ use Rattle.unicode_width.proofs.KindLemmas.{kind_stepped, is_ligature_transparen
 use Rattle.unicode_width.proofs.Rules.{str_width-append_simple}
 use Rattle.line_buffer.specs.declared.layout.GraphemeClusterMode.{GraphemeClusterMode}
 use Rattle.line_buffer.specs.declared.layout.GraphemeClusterMode.TheVariants.{Unicode, WcWidth, NoZwj}
-use Rattle.line_buffer.specs.Standing.{is_parting_letter, is_flag_letter, ends_in_flag}
-use Rattle.line_buffer.specs.Width.{char_columns_of, unjoined, columns_of}
+use Rattle.line_buffer.specs.Width.{char_columns_of, unjoined, columns_of, AddUp, PartsText}
 use Rattle.line_buffer.proofs.ListedRanges.{in_ranges-some, is_beside, beside, apart}
 use Rattle.line_buffer.proofs.SeamLemmas.{read-append, read_letters, letters_simple}
+
+-- Latin, Greek, Cyrillic, Hebrew, Arabic, Devanagari, Thai, Khmer, kana, Chinese and Korean
+abbrev pub is_parting_letter : ℕ → Bool
+is_parting_letter c =
+    is_in_range 0x41 0x5A c
+    || (is_in_range 0x61 0x7A c
+    || (is_in_range 0xC0 0x24F c
+    || (is_in_range 0x391 0x3C9 c
+    || (is_in_range 0x410 0x44F c
+    || (is_in_range 0x5D0 0x5EA c
+    || (is_in_range 0x620 0x64A c
+    || (is_in_range 0x671 0x6D3 c
+    || (is_in_range 0x904 0x939 c
+    || (is_in_range 0xE01 0xE30 c
+    || (is_in_range 0x1780 0x17B3 c
+    || (is_in_range 0x3041 0x3096 c
+    || (is_in_range 0x30A1 0x30FA c
+    || (is_in_range 0x4E00 0x9FFF c
+    || is_in_range 0xAC00 0xD7A3 c)))))))))))))
 
 -- ---- facts of the tables
 
@@ -404,7 +422,21 @@ module _ (c : ℕ) (ds es : List ℕ) (no_joiner : (c == 0x200D) ≡ false) (par
 pub columns_parted : (mode : GraphemeClusterMode) (c : ℕ) (cs ds es : List ℕ) → is_parting_letter c ≡ true → Balanced (columns_of mode) cs (c ∷ ds) (c ∷ es)
 columns_parted mode c cs ds es h = columns_balanced c ds es (apart is_parting_letter c 0x200D h refl) (λ bs p q ps qs d e. parted_width c bs p q h) mode cs (parted_width c cs ds es h)
 
+-- a text that begins with one
+pub parts_text : (c : ℕ) → true ≡ is_parting_letter c → (rest : List ℕ) → PartsText (c ∷ rest)
+unfolding PartsText
+parts_text c h rest mode before more = columns_parted mode c before (rest ++ more) rest (sym h)
+
 -- ---- letters of flags
+
+abbrev pub is_flag_letter : ℕ → Bool
+is_flag_letter = is_in_range 0x1F1E6 0x1F1FF
+
+abbrev pub ends_in_flag : List ℕ → Bool
+ends_in_flag [] = false
+ends_in_flag (c ∷ []) = false
+ends_in_flag (c ∷ d ∷ []) = is_flag_letter c && is_flag_letter d
+ends_in_flag (c ∷ d ∷ f ∷ cs) = ends_in_flag (d ∷ f ∷ cs)
 
 flag_letters : List Range
 flag_letters = (0x1F1E6, 0x1F1FF) ∷ []
@@ -520,16 +552,16 @@ flag_end (c ∷ d ∷ f ∷ cs) h =
 unjoined_flags : (cs : List ℕ) → list_all is_flag_letter cs ≡ true → sum_by (str_width false) (unjoined cs) ≡ length cs
 unjoined_flags cs h = ap (sum_by (str_width false)) (flags_unjoined cs h) ∙ omega (arith, sum_by-cons (str_width false) cs [], flags_width cs h)
 
-pub columns_of_flags : (mode : GraphemeClusterMode) (cs ds : List ℕ) → ends_in_flag cs ≡ true → list_all is_flag_letter ds ≡ true → columns_of mode (cs ++ ds) ≡ columns_of mode cs + columns_of mode ds
-columns_of_flags WcWidth cs ds h k = sum_by-append char_columns_of cs ds
-columns_of_flags Unicode cs ds h k =
+pub columns_of_flags : (cs : List ℕ) → ends_in_flag cs ≡ true → (mode : GraphemeClusterMode) (ds : List ℕ) → list_all is_flag_letter ds ≡ true → AddUp mode cs ds
+columns_of_flags cs h WcWidth ds k = sum_by-append char_columns_of cs ds
+columns_of_flags cs h Unicode ds k =
     let e = flag_end cs h in
     let parts = and_parts (is_flag_letter e.one) (is_flag_letter e.other && true) e.flags in
     let more = and_from (is_flag_letter e.one) (is_flag_letter e.other && list_all is_flag_letter ds) parts.0 (and_from (is_flag_letter e.other) (list_all is_flag_letter ds) (and_parts (is_flag_letter e.other) true parts.1).0 k) in
     let sum = flags_balanced e.one e.other ds more e.flags e.front in
     let whole : str_width false (cs ++ ds) ≡ str_width false (e.front ++ e.one ∷ e.other ∷ ds) = ap (str_width false) (ap (λ l. l ++ ds) e.is ∙ append_assoc e.front (e.one ∷ e.other ∷ []) ds) in
     omega (arith, sum, whole, ap (str_width false) e.is, flags_width (e.one ∷ e.other ∷ ds) more, flags_width (e.one ∷ e.other ∷ []) e.flags, flags_width ds k)
-columns_of_flags NoZwj cs ds h k =
+columns_of_flags cs h NoZwj ds k =
     let e = flag_end cs h in
     let parts = and_parts (is_flag_letter e.one) (is_flag_letter e.other && true) e.flags in
     let more = and_from (is_flag_letter e.one) (is_flag_letter e.other && list_all is_flag_letter ds) parts.0 (and_from (is_flag_letter e.other) (list_all is_flag_letter ds) (and_parts (is_flag_letter e.other) true parts.1).0 k) in

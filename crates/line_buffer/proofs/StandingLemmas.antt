@@ -13,8 +13,21 @@ use Rattle.unicode_width.specs.Kind.{kind}
 use Rattle.unicode_width.proofs.Computing.{unicode_width}
 use Rattle.unicode_width.proofs.KindLemmas.{kind_stepped}
 use Rattle.unicode_width.proofs.Rules.{is_simple, is_simple_kind}
-use Rattle.line_buffer.specs.Standing.{stands_alone}
 use Rattle.line_buffer.proofs.ListedRanges.{in_ranges-some, beside}
+
+abbrev pub stands_alone : ℕ → Bool
+stands_alone c =
+    is_in_range 0x20 0x7E c
+    || (is_in_range 0xA1 0x337 c
+    || (is_in_range 0x339 0x5DB c
+    || (is_in_range 0x900 0x177F c
+    || (is_in_range 0x1E00 0x200C c
+    || (is_in_range 0x2010 0x2319 c
+    || (is_in_range 0x2500 0x25FC c
+    || (is_in_range 0x2E80 0xA4FB c
+    || (is_in_range 0xA500 0xFB1D c
+    || (is_in_range 0xFF01 0xFFE6 c
+    || is_in_range 0x20000 0x3FFFD c)))))))))
 
 abbrev above_ascii : List Range
 above_ascii = (0xA1, 0x337) ∷ (0x339, 0x5DB) ∷ (0x900, 0x177F) ∷ (0x1E00, 0x200C) ∷ (0x2010, 0x2319) ∷ (0x2500, 0x25FC) ∷ (0x2E80, 0xA4FB) ∷ (0xA500, 0xFB1D) ∷ (0xFF01, 0xFFE6) ∷ (0x20000, 0x3FFFD) ∷ []

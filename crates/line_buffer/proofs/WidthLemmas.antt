@@ -20,9 +20,8 @@ use Rattle.unicode_width.specs.Width.{str_width, char_width}
 use Rattle.unicode_width.proofs.Rules.{str_width-printable, str_width-append_simple}
 use Rattle.line_buffer.specs.declared.layout.GraphemeClusterMode.{GraphemeClusterMode}
 use Rattle.line_buffer.specs.declared.layout.GraphemeClusterMode.TheVariants.{Unicode, WcWidth, NoZwj}
-use Rattle.line_buffer.specs.Standing.{stands_alone, adds_up}
-use Rattle.line_buffer.specs.Width.{char_columns_of, unjoined, columns_of, width_of}
-use Rattle.line_buffer.proofs.StandingLemmas.{all_simple}
+use Rattle.line_buffer.specs.Width.{char_columns_of, unjoined, columns_of, width_of, AddUp}
+use Rattle.line_buffer.proofs.StandingLemmas.{stands_alone, all_simple}
 
 -- ---- sums that stop
 
@@ -158,11 +157,15 @@ unjoined_width : (ds : List ℕ) → list_all stands_alone ds ≡ true → sum_b
 unjoined_width ds h =
     ap (sum_by (str_width false)) (slice_split_none (λ d. d == 0x200D) ds (no_joiners ds h)) ∙ omega (arith, sum_by-cons (str_width false) ds [])
 
+-- by `wcwidth` all characters do
+pub columns-added : (cs ds : List ℕ) → AddUp WcWidth cs ds
+columns-added cs ds = sum_by-append char_columns_of cs ds
+
 -- in each mode the columns of a text and of such characters after it add up
-pub columns-adds_up : (mode : GraphemeClusterMode) (cs ds : List ℕ) → adds_up mode ds ≡ true → columns_of mode (cs ++ ds) ≡ columns_of mode cs + columns_of mode ds
-columns-adds_up Unicode cs ds h = text_longer cs ds h
-columns-adds_up WcWidth cs ds h = sum_by-append char_columns_of cs ds
-columns-adds_up NoZwj cs ds h = longer_sum ds (unjoined cs) (unjoined (cs ++ ds)) h (longer_parts ds cs h) ∙ ap (λ n. columns_of NoZwj cs + n) (sym (unjoined_width ds h))
+pub columns-alone : (ds : List ℕ) → list_all stands_alone ds ≡ true → (mode : GraphemeClusterMode) (cs : List ℕ) → AddUp mode cs ds
+columns-alone ds h Unicode cs = text_longer cs ds h
+columns-alone ds h WcWidth cs = columns-added cs ds
+columns-alone ds h NoZwj cs = longer_sum ds (unjoined cs) (unjoined (cs ++ ds)) h (longer_parts ds cs h) ∙ ap (λ n. columns_of NoZwj cs + n) (sym (unjoined_width ds h))
 
 printable_alone : (c : ℕ) → is_in_range 0x20 0x7E c ≡ true → char_columns_of c ≡ 1
 unfolding char_width

@@ -17,7 +17,6 @@ pub mod RowRanges
 pub mod Rows
 pub mod Settings
 pub mod Short
-pub mod Standing
 pub mod Transpositions
 pub mod Width
 pub mod Words

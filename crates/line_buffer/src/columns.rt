@@ -2,10 +2,11 @@
 //! row allow.
 
 ghost use Rattle.std.specs.Char.{IsScalar};
-ghost use Rattle.std.specs.Prelude.{◌≡◌, ◌==◌, ◌+◌, ◌++◌, true, min, take, chars, is_some, IfSome, IsCharBoundary};
-ghost use Rattle.std.specs.List.{list_all};
-ghost use Rattle.line_buffer.specs.Width.{columns_of};
-ghost use Rattle.line_buffer.specs.Standing.{stands_alone, adds_up, is_own_emoji, begins_with_emoji, ends_in_joiner, is_parting_letter, begins_with_parting_letter, is_flag_letter, are_flag_letters, ends_in_flag};
+ghost use Rattle.std.specs.Int.{is_in_range};
+ghost use Rattle.std.specs.Prelude.{◌≡◌, ◌≢◌, ◌==◌, ◌&&◌, ◌||◌, not, true, false, min, ◌∷◌, take, chars, Some, None, is_some, IfSome, IsCharBoundary};
+ghost use Rattle.std.specs.List.{last_or, list_all};
+ghost use Rattle.ucd_emoji.specs.Binary.{is_emoji_presentation};
+ghost use Rattle.line_buffer.specs.Width.{columns_of, AddUp, PartsText};
 ghost use Rattle.line_buffer.specs.Line.{moved_to};
 ghost use Rattle.line_buffer.specs.Columns.{place_at_column, first_column, cursor_column, place_in_row, line_up, line_down};
 
@@ -27,29 +28,9 @@ fn row_first_column(layout: &Layout, start: usize) -> Unit
     }
 }
 
-/// A character whose columns are its own, whatever stands before it.
-fn stands_alone(c: char) -> bool
-    ensures { result ≡ stands_alone c }
-{
-    matches!(
-        c,
-        ' '..='~'
-            | '\u{A1}'..='\u{337}'
-            | '\u{339}'..='\u{5DB}'
-            | '\u{900}'..='\u{177F}'
-            | '\u{1E00}'..='\u{200C}'
-            | '\u{2010}'..='\u{2319}'
-            | '\u{2500}'..='\u{25FC}'
-            | '\u{2E80}'..='\u{A4FB}'
-            | '\u{A500}'..='\u{FB1D}'
-            | '\u{FF01}'..='\u{FFE6}'
-            | '\u{20000}'..='\u{3FFFD}'
-    )
-}
-
 /// The columns of these characters add to those of any text before them.
 fn adds_up(mode: GraphemeClusterMode, text: &str) -> bool
-    ensures { result ≡ adds_up mode (chars text.now) }
+    ensures { result ≡ true → (before : _) → AddUp mode before (chars text.now) }
 {
     match mode {
         GraphemeClusterMode::WcWidth => true,
@@ -57,22 +38,40 @@ fn adds_up(mode: GraphemeClusterMode, text: &str) -> bool
     }
 }
 
+/// The columns of each character are its own, whatever stands before it.
 fn all_stand_alone(text: &str) -> bool
-    ensures { result ≡ list_all stands_alone (chars text.now) }
+    ensures { result ≡ true → (mode : _) (before : _) → AddUp mode before (chars text.now) }
 {
-    text.chars().all(|c| stands_alone(c))
+    text.chars().all(|c| {
+        matches!(
+            c,
+            ' '..='~'
+                | '\u{A1}'..='\u{337}'
+                | '\u{339}'..='\u{5DB}'
+                | '\u{900}'..='\u{177F}'
+                | '\u{1E00}'..='\u{200C}'
+                | '\u{2010}'..='\u{2319}'
+                | '\u{2500}'..='\u{25FC}'
+                | '\u{2E80}'..='\u{A4FB}'
+                | '\u{A500}'..='\u{FB1D}'
+                | '\u{FF01}'..='\u{FFE6}'
+                | '\u{20000}'..='\u{3FFFD}'
+        )
+    })
 }
 
 /// An emoji by itself, no letter of a flag and no tone of skin.
 fn is_own_emoji(c: char) -> bool
-    ensures { result ≡ is_own_emoji c }
+    ensures { result ≡ (is_emoji_presentation c
+        && not (is_in_range 0x1F1E6 0x1F1FF c || is_in_range 0x1F3FB 0x1F3FF c)) }
 {
     is_emoji_presentation(c) && !matches!(c, '\u{1F1E6}'..='\u{1F1FF}' | '\u{1F3FB}'..='\u{1F3FF}')
 }
 
 /// The text begins with such an emoji, or with a character that a selector makes one.
 fn begins_with_emoji(text: &str) -> bool
-    ensures { result ≡ begins_with_emoji (chars text.now) }
+    ensures { result ≡ true → (mode : _) (before : _) → last_or None before ≢ Some 0x200D
+        → AddUp mode before (chars text.now) }
 {
     let mut characters = text.chars();
     let Some(first) = characters.next() else {
@@ -95,7 +94,7 @@ fn is_joiner(c: char) -> bool
 }
 
 fn ends_in_joiner(text: &str) -> bool
-    ensures { result ≡ ends_in_joiner (chars text.now) }
+    ensures { result ≡ false → last_or None (chars text.now) ≢ Some 0x200D }
 {
     match text.chars().next_back() {
         Some(last) => is_joiner(last),
@@ -104,21 +103,22 @@ fn ends_in_joiner(text: &str) -> bool
 }
 
 fn is_flag_letter(c: char) -> bool
-    ensures value { result ≡ is_flag_letter c }
+    ensures value { result ≡ is_in_range 0x1F1E6 0x1F1FF c }
     ensures scalar { IsScalar c }
 {
     matches!(c, '\u{1F1E6}'..='\u{1F1FF}')
 }
 
 fn are_flag_letters(text: &str) -> bool
-    ensures { result ≡ are_flag_letters (chars text.now) }
+    ensures { result ≡ list_all (is_in_range 0x1F1E6 0x1F1FF) (chars text.now) }
 {
     text.chars().all(|c| is_flag_letter(c))
 }
 
 /// The text ends in two letters of a flag, so that such letters after them add their own columns.
 fn ends_in_flag(text: &str) -> bool
-    ensures { result ≡ true → ends_in_flag (chars text.now) ≡ true }
+    ensures { result ≡ true → (mode : _) (rest : _)
+        → list_all (is_in_range 0x1F1E6 0x1F1FF) rest ≡ true → AddUp mode (chars text.now) rest }
 {
     let mut characters = text.chars();
     let Some(last) = characters.next_back() else {
@@ -132,8 +132,7 @@ fn ends_in_flag(text: &str) -> bool
 
 /// The characters where two texts meet tell that their columns add up.
 fn columns_add(mode: GraphemeClusterMode, before: &str, rest: &str) -> bool
-    ensures { result ≡ true → columns_of mode (chars before.now ++ chars rest.now)
-        ≡ columns_of mode (chars before.now) + columns_of mode (chars rest.now) }
+    ensures { result ≡ true → AddUp mode (chars before.now) (chars rest.now) }
 {
     if adds_up(mode, rest) {
         return true;
@@ -146,7 +145,7 @@ fn columns_add(mode: GraphemeClusterMode, before: &str, rest: &str) -> bool
 
 /// A letter that parts a text: what follows on it says nothing of what stands before it.
 fn is_parting_letter(c: char) -> bool
-    ensures { result ≡ is_parting_letter c }
+    ensures { result ≡ true → (rest : _) → PartsText (c ∷ rest) }
 {
     matches!(
         c,
@@ -169,7 +168,7 @@ fn is_parting_letter(c: char) -> bool
 }
 
 fn begins_with_parting_letter(text: &str) -> bool
-    ensures { result ≡ begins_with_parting_letter (chars text.now) }
+    ensures { result ≡ true → PartsText (chars text.now) }
 {
     match text.chars().next() {
         Some(first) => is_parting_letter(first),

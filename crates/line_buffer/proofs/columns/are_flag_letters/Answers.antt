@@ -2,7 +2,7 @@ use Rattle.std.proofs.Common.{rules}
 use Rattle.std.proofs.lemmas.Iterator.{YieldsList-from_chars}
 use Rattle.std.proofs.lemmas.Iterator.Search.{all_from_yields_List}
 use borrow.Author.Tests.{tests}
-use Rattle.line_buffer.specs.Standing.{is_flag_letter}
+use Rattle.line_buffer.proofs.PartingLemmas.{is_flag_letter}
 use Rattle.line_buffer.proofs.columns.are_flag_letters.Goals as goal
 
 pub returns : goal.returns
