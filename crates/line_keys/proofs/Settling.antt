@@ -19,7 +19,7 @@ use Rattle.line_keys.specs.declared.keymap.vi.table.Deed.{Deed as CommandDeed}
 use Rattle.line_keys.specs.declared.keymap.vi.table.Deed.TheVariants as commands
 use Rattle.line_keys.specs.declared.keymap.vi.table.InsertDeed.{InsertDeed}
 use Rattle.line_keys.specs.declared.keymap.vi.table.InsertDeed.TheVariants as inserts
-use Rattle.line_keys.specs.Common.{common, common_deed, common_done, command_or, bound_or, decided, plain_char, sequence, terminal_command}
+use Rattle.line_keys.specs.Common.{common, common_deed, common_done, command_or, bound_or, decided, sequence, terminal_command}
 use Rattle.line_keys.specs.Counts.{Counted, counted_key, counting, counting_or, counting_read, counting_by}
 use Rattle.line_keys.specs.declared.keymap.custom.Followed.{Followed}
 use Rattle.line_keys.specs.declared.keymap.custom.Followed.TheVariants.{Bound, Unbound}
@@ -40,7 +40,7 @@ use Rattle.line_buffer.specs.declared.types.Movement.TheVariants.{WholeLine}
 use Rattle.line_keys.specs.declared.command.Cmd.TheVariants.{Noop, Unknown}
 use Rattle.line_keys.specs.declared.command.InputMode.TheVariants.{Command}
 use Rattle.line_keys.specs.declared.key.KeyCode.TheVariants.{Char}
-use Rattle.line_keys.specs.Keys.{key_with, none}
+use Rattle.line_keys.specs.Keys.{key_with, none, char_with}
 use Rattle.line_keys.specs.Modes.{takes_commands}
 use Rattle.line_keys.specs.SameKeys.{same_key}
 use Rattle.line_keys.specs.Vi.{changes, command_of, in_mode, key_replacement, operated, move_or, is_new, remembering, with_last, command_done, command_table, insert_done, insert_table, vi_counted, vi_command, vi_insert, changed, typed, entered}
@@ -189,7 +189,7 @@ after_first_settles n positive (Unbound None) = key_settles (second_command n po
 
 emacs_done_settles : (s : Situation) (k : KeyEvent) (o : Option EmacsDeed) → Settled (emacs_done s k o)
 emacs_done_settles s k (Some (emacs_deeds.Give cmd)) = answered_settles cmd
-emacs_done_settles s k (Some (emacs_deeds.Seek search)) = key_settles (λ next. move_to_char s.n (search_of search) (plain_char next))
+emacs_done_settles s k (Some (emacs_deeds.Seek search)) = key_settles (λ next. move_to_char s.n (search_of search) (char_with none next))
 emacs_done_settles s k (Some emacs_deeds.LeadOn) =
     then_settles (λ f input shown. after_first_key s.n s.positive f) (λ f i w. after_first_settles s.n s.positive f) (followed s k) s.input s.shown (followed_settles s k)
 emacs_done_settles s k None = common_settles s k
@@ -211,7 +211,7 @@ found_settles search n i (Some char) = becoming_settles _ _ (answered_settles _)
 found_settles search n i None = answered_settles None
 
 sought_settles : (search : Search) (n : ℕ) (i : Input) → Settled (sought search n i)
-sought_settles search n i = read_settles Key (λ k. found search n i (plain_char k)) (λ k. found_settles search n i (plain_char k))
+sought_settles search n i = read_settles Key (λ k. found search n i (char_with none k)) (λ k. found_settles search n i (char_with none k))
 
 motion_settles : (n : ℕ) (i : Input) (o : Option Motion) → Settled (motion_done n i o)
 motion_settles n i (Some (motions.Go m)) = answered_settles _

@@ -8,8 +8,7 @@ use Rattle.line_buffer.specs.declared.types.Anchor.TheVariants.{Before}
 use Rattle.line_config.specs.declared.settings.EditMode.{EditMode}
 use Rattle.line_keys.specs.declared.command.Cmd.{Cmd}
 use Rattle.line_keys.specs.declared.command.Cmd.TheVariants.{AcceptOrInsertLine, EndOfFile, ForwardSearchHistory, Insert, LineDownOrNextHistory, LineUpOrPreviousHistory, Move, Noop, QuotedInsert, ReverseSearchHistory, TransposeChars, Undo, Unknown, Yank}
-use Rattle.line_keys.specs.declared.key.KeyCode.{KeyCode}
-use Rattle.line_keys.specs.declared.key.KeyCode.TheVariants.{BracketedPasteStart, Char, Delete, Down, End, Enter, Home, Left, Right, UnknownEscSeq, Up}
+use Rattle.line_keys.specs.declared.key.KeyCode.TheVariants.{BracketedPasteStart, Delete, Down, End, Enter, Home, Left, Right, UnknownEscSeq, Up}
 use Rattle.line_keys.specs.declared.key.KeyEvent.{KeyEvent}
 use Rattle.line_keys.specs.Custom.{Situation, custom_answer, followed}
 use Rattle.line_keys.specs.declared.keymap.common.Deed.{Deed}
@@ -31,14 +30,6 @@ has_text shown = not (length shown.line == 0)
 -- a hint stands after the line, and the cursor right before it
 abbrev pub at_hint : Shown → Bool
 at_hint shown = shown.hinted && (shown.place == length shown.line)
-
--- the character of a key without modifiers
-abbrev pub char_code : KeyCode → ℕ → Option ℕ
-char_code (Char c) bits = if bits == none.0 then Some c else None
-char_code code bits = None
-
-abbrev pub plain_char : KeyEvent → Option ℕ
-plain_char k = char_code k.0 k.1.0
 
 -- ---- the table
 

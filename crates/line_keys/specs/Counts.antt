@@ -1,17 +1,16 @@
 -- Counts: signed numbers that are typed before a key, with a prompt for each digit.
 use Rattle.std.specs.Fmt.{signed_decimal}
 use Rattle.std.specs.Prelude.{ℕ, ◌-◌, ◌==◌, nat_le, nat_lt, ℤ, pos, neg_ℤ, ◌+ℤ◌, ◌*ℤ◌, nat_abs, int_lt}
-use Rattle.std.specs.Prelude.{Bool, true, not, ◌&&◌, ◌||◌, List, ◌++◌, codes, if◌then◌else◌}
-use Rattle.std.specs.Prelude.{Option, Some, None, zero, suc}
+use Rattle.std.specs.Prelude.{Bool, true, not, ◌&&◌, List, ◌++◌, codes, if◌then◌else◌}
+use Rattle.std.specs.Prelude.{Option, Some, None, option_map, zero, suc}
+use Rattle.std.specs.Option.{option_or, option_and_then}
 use Rattle.line_config.specs.Scripts.{Ends, Asks}
 use Rattle.line_config.specs.declared.errors.ReadlineError.TheVariants.{Memory}
 use Rattle.line_config.specs.declared.settings.EditMode.{EditMode}
 use Rattle.line_config.specs.declared.settings.EditMode.TheVariants.{Emacs, Vi}
-use Rattle.line_keys.specs.declared.key.KeyCode.{KeyCode}
-use Rattle.line_keys.specs.declared.key.KeyCode.TheVariants.{Char}
 use Rattle.line_keys.specs.declared.key.KeyEvent.{KeyEvent}
 use Rattle.line_keys.specs.Feeds.{Key}
-use Rattle.line_keys.specs.Keys.{none, alt}
+use Rattle.line_keys.specs.Keys.{none, alt, char_with}
 use Rattle.line_keys.specs.Phrases.{Needs, Shows, Reads, Steps, Part, Upto, answered, refused}
 use Rattle.line_keys.specs.Refreshing.{Line, Prompted}
 
@@ -43,74 +42,36 @@ and_digit c d =
 abbrev pub prompt_for : ℤ → List ℕ
 prompt_for c = codes "(arg: " ++ (signed_decimal c ++ codes ") ")
 
--- what a character does to a count: a digit (30 is 0, 39 is 9), a minus (2D), which is dropped, or
--- its end
-abbrev pub counted_char : ℤ → ℕ → Option ℤ
-counted_char c char =
-    if char == 0x2D then Some c
-    else if nat_le 0x30 char && nat_le char 0x39 then Some (and_digit c (char - 0x30))
-    else None
-
--- the same of a key, which may have Alt
-abbrev pub counted_code : ℤ → KeyCode → ℕ → Option ℤ
-counted_code c (Char char) bits =
-    if (bits == none.0) || (bits == alt.0) then counted_char c char else None
-counted_code c code bits = None
-
-abbrev pub emacs_counted_on : ℤ → KeyEvent → Option ℤ
-emacs_counted_on c k = counted_code c k.0 k.1.0
-
--- the digit that a key without modifiers is
+-- the digit that a character is, 30 being 0 and 39 being 9
 abbrev pub digit_char : ℕ → Option ℕ
 digit_char char = if nat_le 0x30 char && nat_le char 0x39 then Some (char - 0x30) else None
 
-abbrev pub digit_code : KeyCode → ℕ → Option ℕ
-digit_code (Char char) bits = if bits == none.0 then digit_char char else None
-digit_code code bits = None
-
+-- the digit that a key without modifiers is
 abbrev pub digit_of : KeyEvent → Option ℕ
-digit_of k = digit_code k.0 k.1.0
+digit_of k = option_and_then digit_char (char_with none k)
 
--- one more digit of a count; any other key ends it
-abbrev pub one_more : ℤ → Option ℕ → Option ℤ
-one_more c (Some d) = Some (and_digit c d)
-one_more c None = None
+-- a count with one more character: a digit, or a minus (2D), which is dropped
+abbrev pub counted_char : ℤ → ℕ → Option ℤ
+counted_char c char = if char == 0x2D then Some c else option_map (and_digit c) (digit_char char)
 
-abbrev pub vi_counted_on : ℤ → KeyEvent → Option ℤ
-vi_counted_on c k = one_more c (digit_of k)
-
--- one more key of a count
+-- a count with one more key of it, in Emacs mode also with Alt; any other key ends it
 abbrev pub counted_on : EditMode → ℤ → KeyEvent → Option ℤ
-counted_on Emacs = emacs_counted_on
-counted_on Vi = vi_counted_on
+counted_on Emacs c k =
+    option_and_then (counted_char c) (option_or (char_with none k) (char_with alt k))
+counted_on Vi c k = option_map (and_digit c) (digit_of k)
 
--- ---- the count that a key begins
-
--- in Emacs mode Alt with a digit, or with a minus, which alone stands for -1
+-- the count that a character begins: a digit, or a minus, which alone stands for -1
 abbrev pub begun_char : ℕ → Option ℤ
 begun_char char =
-    if char == 0x2D then Some (neg_ℤ (pos 1))
-    else if nat_le 0x30 char && nat_le char 0x39 then Some (pos (char - 0x30))
-    else None
+    if char == 0x2D then Some (neg_ℤ (pos 1)) else option_map pos (digit_char char)
 
-abbrev pub begun_code : KeyCode → ℕ → Option ℤ
-begun_code (Char char) bits = if bits == alt.0 then begun_char char else None
-begun_code code bits = None
+abbrev pub begun_digit : ℕ → Option ℤ
+begun_digit d = if d == 0 then None else Some (pos d)
 
-abbrev pub emacs_begun_by : KeyEvent → Option ℤ
-emacs_begun_by k = begun_code k.0 k.1.0
-
--- in Vi's command mode a digit other than 0
-abbrev pub count_begun_with : Option ℕ → Option ℤ
-count_begun_with (Some d) = if d == 0 then None else Some (pos d)
-count_begun_with None = None
-
-abbrev pub vi_begun_by : KeyEvent → Option ℤ
-vi_begun_by k = count_begun_with (digit_of k)
-
+-- the count that a key begins: in Emacs mode with Alt, in Vi's command mode by a digit other than 0
 abbrev pub begun_by : EditMode → KeyEvent → Option ℤ
-begun_by Emacs = emacs_begun_by
-begun_by Vi = vi_begun_by
+begun_by Emacs k = option_and_then begun_char (char_with alt k)
+begun_by Vi k = option_and_then begun_digit (digit_of k)
 
 -- ---- a count and the key after it
 

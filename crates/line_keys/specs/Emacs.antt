@@ -10,7 +10,7 @@ use Rattle.line_keys.specs.declared.command.Cmd.TheVariants.{Abort, BeginningOfH
 use Rattle.line_keys.specs.declared.key.KeyCode.TheVariants.{BackTab, Backspace, Esc, Left, Right, Tab}
 use Rattle.line_keys.specs.declared.key.KeyEvent.{KeyEvent}
 use Rattle.line_keys.specs.Answers.{Custom}
-use Rattle.line_keys.specs.Common.{at_hint, common, decided, plain_char}
+use Rattle.line_keys.specs.Common.{at_hint, common, decided}
 use Rattle.line_keys.specs.Counts.{Counted, counted_key, how_often, is_plus}
 use Rattle.line_keys.specs.Custom.{Situation, situation, followed}
 use Rattle.line_keys.specs.declared.keymap.custom.Followed.{Followed}
@@ -18,7 +18,7 @@ use Rattle.line_keys.specs.declared.keymap.custom.Followed.TheVariants.{Bound, U
 use Rattle.line_keys.specs.declared.keymap.emacs.Deed.{Deed}
 use Rattle.line_keys.specs.declared.keymap.emacs.Deed.TheVariants.{Give, Seek, LeadOn}
 use Rattle.line_keys.specs.declared.keymap.vi.motion.Search.TheVariants.{ForwardBefore, Backward}
-use Rattle.line_keys.specs.Keys.{none, ctrl, alt, ctrl_alt}
+use Rattle.line_keys.specs.Keys.{none, ctrl, alt, ctrl_alt, char_with}
 use Rattle.line_keys.specs.Phrases.{Input, Part, Phrase, answered, from_key, and_then}
 use Rattle.line_keys.specs.Refreshing.{Shown}
 use Rattle.line_keys.specs.Tables.{Row, always, by_count, by_sign, moves, kills}
@@ -125,7 +125,7 @@ after_first_key n positive (Unbound None) = from_key (second_command n positive)
 abbrev pub emacs_done : Situation → KeyEvent → Option Deed → Part Cmd
 emacs_done s k (Some (Give cmd)) = answered cmd
 emacs_done s k (Some (Seek search)) =
-    from_key (λ next. move_to_char s.n (search_of search) (plain_char next))
+    from_key (λ next. move_to_char s.n (search_of search) (char_with none next))
 emacs_done s k (Some LeadOn) =
     and_then s.input s.shown (followed s k) (λ f input shown. after_first_key s.n s.positive f)
 emacs_done s k None = common s k

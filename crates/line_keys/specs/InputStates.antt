@@ -1,5 +1,5 @@
 -- The value of an input state, what it makes of a key's surroundings, and what its calls do.
-use Rattle.std.specs.Prelude.{ℕ, Bool, None, Option, Result}
+use Rattle.std.specs.Prelude.{ℕ, Bool, None, Result}
 use Rattle.line_config.specs.declared.errors.ReadlineError.{ReadlineError}
 use Rattle.line_config.specs.declared.settings.EditMode.{EditMode}
 use Rattle.line_keys.specs.declared.command.Cmd.TheVariants.{Noop}

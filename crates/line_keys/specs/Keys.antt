@@ -1,5 +1,5 @@
 -- Keys: what a character stands for, and the form in which a binding is kept.
-use Rattle.std.specs.Prelude.{ℕ, ◌+◌, Bool, ◌||◌, ◌&&◌, nat_lt, ◌==◌, if◌then◌else◌}
+use Rattle.std.specs.Prelude.{ℕ, ◌+◌, Bool, ◌||◌, ◌&&◌, nat_lt, ◌==◌, Option, Some, None, if◌then◌else◌}
 use Rattle.std.specs.Int.RustNames.{bit_and, bit_or}
 use Rattle.std.specs.Char.{is_control, is_ascii_control, is_ascii_lowercase, is_ascii_uppercase, to_ascii_uppercase}
 use Rattle.bitflags.specs.Sets.{without}
@@ -41,6 +41,14 @@ less_shift m = modifiers_of (without 8 m.0 2)
 
 abbrev pub key_with : KeyCode → Modifiers → KeyEvent
 key_with code mods = record { 0 = code; 1 = mods }
+
+abbrev pub char_in : KeyCode → Option ℕ
+char_in (Char c) = Some c
+char_in code = None
+
+-- the character of a key that has these modifiers and no others
+abbrev pub char_with : Modifiers → KeyEvent → Option ℕ
+char_with m k = if k.1.0 == m.0 then char_in k.0 else None
 
 -- a Tab, which with Shift is a key of its own
 abbrev pub tab_key : Modifiers → KeyEvent

@@ -6,7 +6,7 @@ use Rattle.line_buffer.specs.declared.types.Movement.{Movement}
 use Rattle.line_buffer.specs.declared.types.Movement.TheVariants.{ViCharSearch}
 use Rattle.line_keys.specs.declared.keymap.vi.motion.Search.{Search}
 use Rattle.line_keys.specs.declared.keymap.vi.motion.Search.TheVariants as search
-use Rattle.line_keys.specs.Common.{plain_char}
+use Rattle.line_keys.specs.Keys.{none, char_with}
 use Rattle.line_keys.specs.Phrases.{Input, Part, answered, becoming, with_key}
 
 abbrev pub search_of : Search → ℕ → CharSearch
@@ -38,4 +38,4 @@ found way n input None = answered None
 
 -- the movement to a character, which is that of the next key
 abbrev pub sought : Search → ℕ → Input → Part (Option Movement)
-sought way n input = with_key (λ k. found way n input (plain_char k))
+sought way n input = with_key (λ k. found way n input (char_with none k))

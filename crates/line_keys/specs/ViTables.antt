@@ -1,5 +1,5 @@
 -- Vi's tables.
-use Rattle.std.specs.Prelude.{ℕ, Bool, true, false, List, [], ◌∷◌, ◌++◌, Option, None, codes}
+use Rattle.std.specs.Prelude.{ℕ, true, List, [], ◌∷◌, ◌++◌, Option, None, codes}
 use Rattle.line_buffer.specs.declared.types.Movement.TheVariants.{WholeLine, BeginningOfLine, EndOfLine, BackwardWord, ForwardWord, ViFirstPrint, BackwardChar, ForwardChar}
 use Rattle.line_buffer.specs.declared.types.Word.TheVariants.{Big, Vi}
 use Rattle.line_buffer.specs.declared.types.At.TheVariants.{Start, BeforeEnd}

@@ -2,9 +2,9 @@
 
 ghost use Rattle.std.specs.Prelude.{◌≡◌, ◌≤◌, ◌-◌, IfSome, string_bytes};
 ghost use Rattle.line_config.specs.Refusals.{OrMemory};
+ghost use Rattle.line_config.specs.declared.settings.EditMode.TheVariants.{Emacs, Vi};
 ghost use Rattle.line_keys.specs.Counts.{and_digit, begun_by, counted_on, digit_of};
-ghost use Rattle.line_keys.specs.Counts.{emacs_begun_by, emacs_counted_on, how_often, is_plus};
-ghost use Rattle.line_keys.specs.Counts.{prompt_for, vi_begun_by, vi_counted_on};
+ghost use Rattle.line_keys.specs.Counts.{how_often, is_plus, prompt_for};
 
 use crate::flags::Modifiers;
 use crate::handler::Decides;
@@ -70,7 +70,7 @@ fn digit(c: char) -> RepeatCount
 
 // The count that a key begins in Emacs mode: Alt with a digit or with a minus.
 fn emacs_begun_by(key: KeyEvent) -> Option<i16>
-    ensures { result ≡ emacs_begun_by key }
+    ensures { result ≡ begun_by Emacs key }
 {
     match key {
         KeyEvent(KeyCode::Char('-'), Modifiers::ALT) => Some(-1),
@@ -81,7 +81,7 @@ fn emacs_begun_by(key: KeyEvent) -> Option<i16>
 
 // The count that a key begins in Vi's command mode: a digit other than 0.
 fn vi_begun_by(key: KeyEvent) -> Option<i16>
-    ensures { result ≡ vi_begun_by key }
+    ensures { result ≡ begun_by Vi key }
 {
     match digit_of(key) {
         None | Some(0) => None,
@@ -102,7 +102,7 @@ fn begun_by(mode: EditMode, key: KeyEvent) -> Option<i16>
 // The count with one more key of it in Emacs mode, if it is one: a digit, or a minus, which is
 // dropped.
 fn emacs_counted_on(count: i16, key: KeyEvent) -> Option<i16>
-    ensures { result ≡ emacs_counted_on count key }
+    ensures { result ≡ counted_on Emacs count key }
 {
     match key {
         KeyEvent(KeyCode::Char('-'), Modifiers::NONE | Modifiers::ALT) => Some(count),
@@ -126,7 +126,7 @@ fn digit_of(key: KeyEvent) -> Option<RepeatCount>
 
 // The count with one more key of it in Vi mode, if it is a digit.
 fn vi_counted_on(count: i16, key: KeyEvent) -> Option<i16>
-    ensures { result ≡ vi_counted_on count key }
+    ensures { result ≡ counted_on Vi count key }
 {
     match digit_of(key) {
         Some(digit) => Some(with_digit(count, digit)),

@@ -2,7 +2,7 @@
 
 ghost use Rattle.std.specs.Prelude.{◌≡◌, ℕ, option_map, if◌then◌else◌};
 ghost use Rattle.line_keys.specs.Coming.{from_key_at};
-ghost use Rattle.line_keys.specs.Common.{plain_char};
+ghost use Rattle.line_keys.specs.Keys.{none, char_with};
 ghost use Rattle.line_keys.specs.Emacs.{back, ahead, move_to_char, second_command};
 ghost use Rattle.line_keys.specs.Emacs.{emacs_command_rows, emacs_deed, emacs_reading_rows, typed_rows};
 ghost use Rattle.line_keys.specs.Feeds.{Key, ReadsBy};
@@ -153,7 +153,7 @@ fn read_second<R: RawReader>(
 
 // The character of a key without modifiers.
 pub(crate) fn plain_char(key: KeyEvent) -> Option<char>
-    ensures { result ≡ plain_char key }
+    ensures { result ≡ char_with none key }
 {
     match key {
         KeyEvent(KeyCode::Char(c), Modifiers::NONE) => Some(c),
@@ -182,7 +182,7 @@ fn char_search<R: RawReader>(
     n: RepeatCount,
     search: Search,
 ) -> Result<Cmd, ReadlineError>
-    ensures { let given = from_key_at (λ next. move_to_char n (search_of search) (plain_char next))
+    ensures { let given = from_key_at (λ next. move_to_char n (search_of search) (char_with none next))
         in
         ReadsBy Key given (R.feed rdr.old) (R.feed rdr.new) result }
 {
