@@ -6,7 +6,7 @@ use Rattle.unicode_width.proofs.Computing.{unicode_width}
 use Rattle.line_buffer.specs.declared.layout.GraphemeClusterMode.TheVariants.{Unicode, WcWidth, NoZwj}
 use Rattle.line_buffer.specs.Columns.{cursor_column, place_in_row, place_at_column, line_up, line_down}
 use Rattle.line_buffer.specs.Line.{Line}
-use Rattle.line_buffer.specs.RowRanges.{behind_newlines, rows_up, rows_down}
+use Rattle.line_buffer.specs.Rows.{behind_newlines, rows_up, rows_down}
 use Rattle.line_buffer.specs.Width.{width_of}
 
 abbrev at : List ℕ → ℕ → Line

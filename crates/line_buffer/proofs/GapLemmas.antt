@@ -8,8 +8,7 @@ use Rattle.std.proofs.lemmas.List.Edits.{length-between}
 use Rattle.std.proofs.Math.Seq.{take-append_seam, drop-append_seam, drop-append-add}
 use Rattle.line_buffer.specs.declared.types.Direction.TheVariants.{Forward}
 use Rattle.line_buffer.specs.Line.{Line}
-use Rattle.line_buffer.specs.Replay.{Swaps, deletion, insertion}
-use Rattle.line_buffer.specs.Replayed.{carried, carried_line}
+use Rattle.line_buffer.specs.Replay.{Swaps, deletion, insertion, carried, carried_line}
 
 pub insert_at_seam : (xs ys zs : List ℕ) → (xs ++ zs) ++ ys ≡ insert_slice (xs ++ ys) (length xs) zs
 insert_at_seam xs ys zs =

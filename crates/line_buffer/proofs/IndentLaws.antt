@@ -8,7 +8,7 @@ use Rattle.std.proofs.lemmas.List.{length-drop, drop-append-le}
 use Rattle.std.proofs.lemmas.Str.{encodes-chars}
 use Rattle.line_buffer.specs.Indent.{leading, row_event, row_len, row_events}
 use Rattle.line_buffer.specs.Laws.{row_text, moved_row, RowsGetTheirMargin}
-use Rattle.line_buffer.specs.Replayed.{replayed, replayed_all}
+use Rattle.line_buffer.specs.Replay.{replayed, replayed_all}
 
 encoded-append : (xs ys : List ℕ) → encode_utf8_all (xs ++ ys) ≡ encode_utf8_all xs ++ encode_utf8_all ys
 encoded-append [] ys = refl

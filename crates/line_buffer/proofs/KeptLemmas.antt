@@ -12,8 +12,7 @@ use Rattle.line_buffer.specs.Insertions.{Insertion, has_room, put_at_cursor, no_
 use Rattle.line_buffer.specs.LetterCase.{recase_events}
 use Rattle.line_buffer.specs.Line.{Line}
 use Rattle.line_buffer.specs.Range.{range_of, goes_by_clusters, deletion_events, kill_events, kill_closing}
-use Rattle.line_buffer.specs.Replay.{TellsOfChange, deletion, insertion, replacement}
-use Rattle.line_buffer.specs.Replayed.{carried_all}
+use Rattle.line_buffer.specs.Replay.{TellsOfChange, deletion, insertion, replacement, carried_all}
 use Rattle.line_buffer.specs.Transpositions.{between_clusters, clusters_at, later_first, transposes_chars, transpose_chars_events}
 use Rattle.line_buffer.proofs.LeftLemmas.{carried_all-none, carried_all-one}
 

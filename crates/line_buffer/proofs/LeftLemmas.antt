@@ -7,13 +7,11 @@ use Rattle.std.proofs.lemmas.List.{drop_all}
 use Rattle.std.proofs.lemmas.List.Edits.{length-between}
 use Rattle.std.proofs.lemmas.Result.{on_err_weaker}
 use Rattle.line_buffer.specs.declared.types.Direction.TheVariants.{Forward}
-use Rattle.line_buffer.specs.Edit.{Edit, StopsAt, EditsLine, CutsLine}
+use Rattle.line_buffer.specs.Edit.{Edit, StopsAt, EditsLine, CutsLine, SameSettings}
 use Rattle.line_buffer.specs.Event.{Event}
 use Rattle.line_buffer.specs.Event.Event.{StartKilling, StopKilling}
 use Rattle.line_buffer.specs.Line.{Line, replaced, cut_out}
-use Rattle.line_buffer.specs.Replay.{Replays, TellsOfChange, Reports, StopsAmong, wants_or, deletion, replacement}
-use Rattle.line_buffer.specs.Replayed.{carried_line, carried_all}
-use Rattle.line_buffer.specs.Settings.{SameSettings}
+use Rattle.line_buffer.specs.Replay.{Replays, TellsOfChange, Reports, StopsAmong, wants_or, deletion, replacement, carried_line, carried_all}
 use Rattle.line_buffer.proofs.ReplayedLemmas.{replayed_deletion, replayed_replacement}
 use Rattle.line_buffer.proofs.ReplayLemmas.{reports_nothing, reports_one, reports_then, stops_wanting}
 

@@ -14,8 +14,7 @@ use Rattle.line_buffer.specs.Indent.{indent_events, indent_line}
 use Rattle.line_buffer.specs.Insertions.{Insertion, has_room, kept_text, update_events, put_at_cursor, no_insertion, insertion_by, insertion_of, insert, yank, without_before, yank_pop}
 use Rattle.line_buffer.specs.Line.{Line}
 use Rattle.line_buffer.specs.Range.{IsSpanOf, range_of, deletion_events, deletion_line, kill_events, kill_line, goes_by_clusters}
-use Rattle.line_buffer.specs.Replay.{Replays, ReplaysAll, deletion, insertion, replacement}
-use Rattle.line_buffer.specs.Replayed.{replayed, replayed_all, carried_line, carried_all}
+use Rattle.line_buffer.specs.Replay.{Replays, ReplaysAll, deletion, insertion, replacement, replayed, replayed_all, carried_line, carried_all}
 
 pub replayed_is : (e : Event) (a b : List ℕ) → Replays e a b → b ≡ replayed e a
 replayed_is StartKilling a b h = h

@@ -4,8 +4,7 @@ use Rattle.std.specs.List.{prefix_len, suffix_len, enumerate_from}
 use Rattle.std.proofs.lemmas.List.{reverse-append, length-reverse, get_or-reverse, drop_more}
 use Rattle.std.proofs.lemmas.List.Sums.{prefix_len_is, prefix_len_passes, prefix_len_stops, prefix_len-le-length, suffix_len_is}
 use borrow.Author.Tests.{ne_eqb, eq-eqb}
-use Rattle.line_buffer.specs.Rows.{is_in_row, row_start}
-use Rattle.line_buffer.specs.RowRanges.{behind_newlines, row_starts, row_close}
+use Rattle.line_buffer.specs.Rows.{is_in_row, row_start, behind_newlines, row_starts, row_close}
 
 -- ---- the first newline, and the last
 

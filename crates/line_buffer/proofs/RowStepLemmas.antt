@@ -6,14 +6,12 @@ use Rattle.std.proofs.lemmas.List.{length-drop, drop-drop, drop-take, take-take,
 use Rattle.std.proofs.lemmas.List.Edits.{length-between}
 use Rattle.std.proofs.lemmas.Str.{IsCharBoundary-from_drop, IsCharBoundary-after_ascii, IsUtf8-drop}
 use Rattle.line_buffer.specs.declared.types.Movement.{Movement}
-use Rattle.line_buffer.specs.Edit.{StopsAt}
+use Rattle.line_buffer.specs.Edit.{StopsAt, SameSettings}
 use Rattle.line_buffer.specs.Event.{Event}
 use Rattle.line_buffer.specs.Indent.{rows_covered, spaces, indent_events, rows_of, row_event, row_len, row_events}
 use Rattle.line_buffer.specs.Line.{Line}
-use Rattle.line_buffer.specs.Replay.{Replays, Reports, TellsOfChange, wants_or}
-use Rattle.line_buffer.specs.Replayed.{carried_line, carried_all}
+use Rattle.line_buffer.specs.Replay.{Replays, Reports, TellsOfChange, wants_or, carried_line, carried_all}
 use Rattle.line_buffer.specs.Rows.{is_in_row, row_start, row_end}
-use Rattle.line_buffer.specs.Settings.{SameSettings}
 use Rattle.line_buffer.proofs.IndentLemmas.{rows_last, rows_more}
 use Rattle.line_buffer.proofs.LeftLemmas.{carried_all-one, carried_all-append, stopped_as, stopped_first, stopped_later}
 use Rattle.line_buffer.proofs.ReplayLemmas.{reports_one, reports_then, reports_nothing}

@@ -6,8 +6,7 @@ use Rattle.std.proofs.lemmas.List.{drop-drop}
 use Rattle.std.proofs.lemmas.Str.{IsCharBoundary-start, IsCharBoundary-after_ascii}
 use Rattle.line_buffer.specs.Line.{Line, text_after}
 use Rattle.line_buffer.specs.Clusters.{nth_or_last}
-use Rattle.line_buffer.specs.Rows.{row_start}
-use Rattle.line_buffer.specs.RowRanges.{behind_newlines, starts_below}
+use Rattle.line_buffer.specs.Rows.{row_start, behind_newlines, starts_below}
 use Rattle.line_buffer.proofs.ChainLemmas.{nth_or_last-map}
 use Rattle.line_buffer.proofs.RowStartLemmas.{behind-shift, opens_last_row, rows_back, rows_over, rows_over-take, rows_back_is, behind_first, behind_none}
 

@@ -17,12 +17,10 @@ use Rattle.line_buffer.specs.declared.types.Movement.TheVariants.{WholeLine, Beg
 use Rattle.line_buffer.specs.Clusters.{clusters, cluster_ends, cluster_starts_back, nth_or_last, place_forward, place_backward, IsPart}
 use Rattle.line_buffer.specs.Hits.{hit_forward, hit_backward, past_cluster, hits}
 use Rattle.line_buffer.specs.Line.{Line, text_before, text_after, moved_to, replaced}
-use Rattle.line_buffer.specs.Replay.{replacement}
-use Rattle.line_buffer.specs.Replayed.{replayed_all}
+use Rattle.line_buffer.specs.Replay.{replacement, replayed_all}
 use Rattle.line_buffer.specs.Transpositions.{between_clusters, clusters_at, transposes_chars, later_first, transpose_chars_events, transpose_chars_line}
 use Rattle.line_buffer.specs.Range.{deletion_events, deletion_line, kill_events, kill_line, IsSpanOf, up_to_cursor, from_cursor, around_cursor, to_row_end, from_row_start, search_range, range_of}
-use Rattle.line_buffer.specs.Rows.{is_in_row, row_start, row_end}
-use Rattle.line_buffer.specs.RowRanges.{behind_newlines, row_starts, starts_above, starts_below, row_close}
+use Rattle.line_buffer.specs.Rows.{is_in_row, row_start, row_end, behind_newlines, row_starts, starts_above, starts_below, row_close}
 use Rattle.line_buffer.specs.Words.{prev_word, next_word, stops_back, stops_forward}
 use Rattle.line_buffer.proofs.ChainLemmas.{All-last_or, All-reverse}
 use Rattle.line_buffer.proofs.HitLemmas.{part-of_hit, part-of_hit_back}

@@ -5,8 +5,7 @@ use Rattle.std.specs.List.{last_or}
 use Rattle.line_buffer.specs.declared.layout.GraphemeClusterMode.{GraphemeClusterMode}
 use Rattle.line_buffer.specs.Line.{Line}
 use Rattle.line_buffer.specs.Clusters.{cluster_ends, nth_or_last}
-use Rattle.line_buffer.specs.Rows.{row_start, row_end}
-use Rattle.line_buffer.specs.RowRanges.{starts_above, starts_below}
+use Rattle.line_buffer.specs.Rows.{row_start, row_end, starts_above, starts_below}
 use Rattle.line_buffer.specs.Width.{width_of}
 
 -- the boundaries of the clusters of a row that begins at a column, each with its own column

@@ -2,9 +2,11 @@
 use Rattle.std.specs.Prelude.{◌≡◌, List, length, Result, IfOk, OnOk, OnErr, ◌≤◌}
 use Rattle.line_buffer.specs.Event.{Event}
 use Rattle.line_buffer.specs.Line.{Line}
-use Rattle.line_buffer.specs.Replay.{Replays, Reports, StopsAmong}
-use Rattle.line_buffer.specs.Replayed.{carried_all}
-use Rattle.line_buffer.specs.Settings.{SameSettings}
+use Rattle.line_buffer.specs.Replay.{Replays, Reports, StopsAmong, carried_all}
+
+pub record SameSettings (l m : Line) : Type 0 where
+  pub growth : m.growth ≡ l.growth
+  pub limit : m.limit ≡ l.limit
 
 pub record Edit (A : Type 0) : Type 0 where
   pub answer : A

@@ -10,10 +10,8 @@ use Rattle.line_buffer.specs.Edit.{Edit, carrying}
 use Rattle.line_buffer.specs.Event.{Event}
 use Rattle.line_buffer.specs.Event.Event.{Delete}
 use Rattle.line_buffer.specs.Line.{Line}
-use Rattle.line_buffer.specs.Replay.{insertion}
-use Rattle.line_buffer.specs.Replayed.{carried_all}
-use Rattle.line_buffer.specs.Rows.{row_start, row_end}
-use Rattle.line_buffer.specs.RowRanges.{starts_above, starts_below}
+use Rattle.line_buffer.specs.Replay.{insertion, carried_all}
+use Rattle.line_buffer.specs.Rows.{row_start, row_end, starts_above, starts_below}
 use Rattle.line_buffer.specs.Words.{prev_word, next_word}
 
 -- a place in the first row and one in the last row that a movement covers

@@ -8,7 +8,7 @@ use Rattle.line_buffer.specs.Indent.{leading, row_events}
 use Rattle.line_buffer.specs.Insertions.{kept_text}
 use Rattle.line_buffer.specs.Line.{Line}
 use Rattle.line_buffer.specs.Range.{range_of, copied_range, span_text, kill_events}
-use Rattle.line_buffer.specs.Replayed.{replayed_all}
+use Rattle.line_buffer.specs.Replay.{replayed_all}
 
 -- not by a row and not to the end of one, where a kill takes the newline and a copy doesn't
 abbrev pub leaves_rows_whole : Movement → Bool

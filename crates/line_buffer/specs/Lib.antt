@@ -1,4 +1,3 @@
-pub mod CellOrder
 pub mod Cells
 pub mod Clusters
 pub mod Columns
@@ -12,10 +11,7 @@ pub mod LetterCase
 pub mod Line
 pub mod Range
 pub mod Replay
-pub mod Replayed
-pub mod RowRanges
 pub mod Rows
-pub mod Settings
 pub mod Short
 pub mod Transpositions
 pub mod Width

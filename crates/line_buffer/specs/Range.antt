@@ -13,8 +13,7 @@ use Rattle.line_buffer.specs.Event.Event.{StartKilling, StopKilling}
 use Rattle.line_buffer.specs.Hits.{hit}
 use Rattle.line_buffer.specs.Line.{Line, cut_out}
 use Rattle.line_buffer.specs.Replay.{deletion}
-use Rattle.line_buffer.specs.Rows.{row_start, row_end}
-use Rattle.line_buffer.specs.RowRanges.{rows_up, rows_down}
+use Rattle.line_buffer.specs.Rows.{row_start, row_end, rows_up, rows_down}
 use Rattle.line_buffer.specs.Words.{prev_word, next_word}
 
 -- a part of a text between characters

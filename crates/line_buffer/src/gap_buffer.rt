@@ -41,8 +41,7 @@ impl<'a> Model for GapBuffer<'a> {
 impl<'a> GapBuffer<'a> {
     ghost use Rattle.std.specs.Prelude.{◌≡◌, ◌+◌, ◌≤◌, length, drop, IfOk, OnOk, OnErr, IsUtf8, IsCharBoundary};
     ghost use Rattle.line_buffer.specs.declared.types.Direction.TheVariants.{Forward};
-    ghost use Rattle.line_buffer.specs.Replay.{Replays, deletion, insertion, wants_or};
-    ghost use Rattle.line_buffer.specs.Replayed.{carried_line};
+    ghost use Rattle.line_buffer.specs.Replay.{Replays, deletion, insertion, wants_or, carried_line};
 
     /// The gap before a whole line.
     pub(crate) fn new(alloc: Global, line: &'a LineBuffer) -> Result<Self, OutOfMemory>

@@ -31,8 +31,7 @@ impl<'a> GapBuffer<'a> {
     ghost use Rattle.std.specs.List.{prefix_len};
     ghost use Rattle.line_buffer.specs.Edit.{EditsLine, ChangesLine};
     ghost use Rattle.line_buffer.specs.Indent.{leading, row_event, row_len, change_rows};
-    ghost use Rattle.line_buffer.specs.Replay.{wants_or};
-    ghost use Rattle.line_buffer.specs.Replayed.{carried_line};
+    ghost use Rattle.line_buffer.specs.Replay.{wants_or, carried_line};
     ghost use Rattle.line_buffer.specs.Rows.{is_in_row};
 
     /// Gives the row between the gap and a place its margin, or takes one away, and answers where

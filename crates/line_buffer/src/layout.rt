@@ -2,10 +2,9 @@
 
 ghost use Rattle.std.specs.Prelude.{◌≡◌, ◌≤◌, min, false, chars, unwrap_or};
 ghost use Rattle.std.specs.Ordering.{as_partial_cmp};
-ghost use Rattle.line_buffer.specs.Cells.{origin};
+ghost use Rattle.line_buffer.specs.Cells.{origin, reading_order, reading_order_total, reading_order_agrees, reading_order_ties, reading_order_partial};
 ghost use Rattle.line_buffer.specs.declared.layout.GraphemeClusterMode.TheVariants.{WcWidth, NoZwj};
 ghost use Rattle.line_buffer.specs.Width.{char_columns_of, columns_of, width_of};
-ghost use Rattle.line_buffer.specs.CellOrder.{reading_order, reading_order_total, reading_order_agrees, reading_order_ties, reading_order_partial};
 
 use std::cmp::Ordering;
 use unicode_width::{UnicodeWidthChar, UnicodeWidthStr};

@@ -3,8 +3,7 @@
 
 ghost use Rattle.std.specs.Prelude.{◌≡◌, ◌+◌, ◌<◌, ◌≤◌, length, reverse, drop, IfSome, IsCharBoundary};
 ghost use Rattle.line_buffer.specs.Clusters.{nth_or_last};
-ghost use Rattle.line_buffer.specs.Rows.{FindsPlace, row_start, row_end};
-ghost use Rattle.line_buffer.specs.RowRanges.{behind_newlines, row_starts, starts_above, starts_below, row_close, FindsRows, rows_up, rows_down};
+ghost use Rattle.line_buffer.specs.Rows.{FindsPlace, row_start, row_end, behind_newlines, row_starts, starts_above, starts_below, row_close, FindsRows, rows_up, rows_down};
 
 use crate::line_buffer::LineBuffer;
 use crate::types::RepeatCount;

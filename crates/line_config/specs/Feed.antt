@@ -1,9 +1,18 @@
 -- What is known of a source, and what its calls make of that.
-use Rattle.std.specs.Prelude.{◌≡◌, ℕ, ◌+◌, ◌<◌, ◌≤◌, Bool, true, false, is_err, IsErr, IsTrue, List, [], ◌++◌, length, option_to_list, Option, Some, None, Result, Ok, IfOk, IfSome, OnErr}
+use Rattle.std.specs.Prelude.{◌≡◌, ℕ, ◌+◌, ◌<◌, ◌≤◌, Bool, true, false, is_err, IsErr, IsTrue, List, [], ◌++◌, length, option_to_list, Option, Some, None, Result, Ok, IfOk, IfSome, OnErr, ◌∷◌, Err}
 use Rattle.line_config.specs.declared.device.DeviceFailed.{DeviceFailed}
 use Rattle.line_config.specs.declared.device.Last.{Last}
-use Rattle.line_config.specs.declared.device.Last.TheVariants.{End}
-use Rattle.line_config.specs.Device.{front_of}
+use Rattle.line_config.specs.declared.device.Last.TheVariants.{End, Failed}
+
+-- the one value of the error
+abbrev pub device_failed : DeviceFailed
+device_failed = record {}
+
+-- what a source answers where these bytes are still to come, and this stands after them
+abbrev pub front_of : List ℕ → Last → Result (Option ℕ) DeviceFailed
+front_of (byte ∷ bytes) last = Ok (Some byte)
+front_of [] End = Ok None
+front_of [] Failed = Err device_failed
 
 -- the bytes that a source is said to give from here on, and what it is said to do after them; and
 -- whether what it gave so far is what was said. No more bytes than the bound are still given: the

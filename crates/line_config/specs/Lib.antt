@@ -1,7 +1,6 @@
 pub mod Adapters
 pub mod Buffer
 pub mod Config
-pub mod Device
 pub mod Feed
 pub mod Foretold
 pub mod Played

@@ -1,7 +1,7 @@
 -- Equality of keys and of events, by `==` and by their hash.
 use Rattle.std.proofs.Common.{◌≡◌, ◌↔◌, IsTrue, ap}
 use Rattle.line_keys.specs.SameKeys.{same_key, same_key-decides}
-use Rattle.line_keys.specs.SameEvents.{same_event}
+use Rattle.line_keys.specs.Bound.{same_event}
 use Rattle.line_keys.specs.declared.key.KeyEvent.{KeyEvent}
 use Rattle.line_keys.specs.declared.events.Event.{Event}
 use Rattle.line_keys.specs.contracts.key.KeyEventHash.TheImpl as key_hash

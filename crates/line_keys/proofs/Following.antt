@@ -12,8 +12,7 @@ use Rattle.line_keys.specs.Coming.{Coming, behind, left, key_at, paste_at, from_
 use Rattle.line_keys.specs.Commands.{holds_text, Copied}
 use Rattle.line_keys.specs.Custom.{Situation, custom_answer, or_any, shown_for}
 use Rattle.line_keys.specs.Events.{single}
-use Rattle.line_keys.specs.Faults.{IsReaderRefusal}
-use Rattle.line_keys.specs.Feeds.{KeyFeed, InputItem, Item, Key, Paste, item_at, ReadAs, ReadsBy}
+use Rattle.line_keys.specs.Feeds.{IsReaderRefusal, KeyFeed, InputItem, Item, Key, Paste, item_at, ReadAs, ReadsBy}
 use Rattle.line_keys.specs.Refreshing.{Shown, Ask, KnownDisplay, Draws, IsDrawFault}
 use Rattle.line_keys.specs.Handling.{Meaning}
 use Rattle.line_keys.specs.Phrases.{Input, KeyAsk, Answer, Steps, Part, Needs, Shows, Reads, Becomes, Refuses, Upto, steps, answered, needs_if, needing, granted, with_read, with_key, with_paste, from_key, asking, becoming, decided_by, deciding, kept_by, shown_by, after, and_then}

@@ -26,7 +26,7 @@ use Rattle.line_keys.specs.Phrase.{phrase}
 use Rattle.line_keys.specs.Phrases.{Input, steps, answered, needing, with_read, from_key, asking, becoming, deciding, and_then}
 use Rattle.line_keys.specs.Refreshing.{Shown, Line, Prompted}
 use Rattle.line_keys.specs.Replies.{gives_at_once}
-use Rattle.line_keys.specs.SameEvents.{same_event}
+use Rattle.line_keys.specs.Bound.{same_event}
 use Rattle.line_keys.proofs.Played.{Played, played}
 
 abbrev emacs : Input

@@ -10,8 +10,7 @@ use Rattle.std.proofs.lemmas.List.Sums.{position_or_len_is}
 use Rattle.std.proofs.lemmas.Option.{slice_get-get_or, slice_get_past}
 use Rattle.std.proofs.lemmas.Bool.Decides.{nat_tests}
 use Rattle.line_keys.specs.declared.events.Event.{Event}
-use Rattle.line_keys.specs.SameEvents.{same_event}
-use Rattle.line_keys.specs.Bound.{find, has_event, put_at, less_at, AreDistinct, IsNormal, AreNormal, IsMap}
+use Rattle.line_keys.specs.Bound.{same_event, find, has_event, put_at, less_at, AreDistinct, IsNormal, AreNormal, IsMap}
 use Rattle.line_keys.proofs.SameEventsLemmas.{same_event-decides}
 
 -- ---- lists and tests of any kind

@@ -13,7 +13,7 @@ use Rattle.line_keys.specs.Events.{normal_event, single}
 use Rattle.line_keys.specs.Bound.{find, begins}
 use Rattle.line_keys.specs.Coming.{Coming, Pasted, CutOff, End, key_at, paste_at, left_by}
 use Rattle.line_keys.specs.Redone.{redone}
-use Rattle.line_keys.specs.Signals.{signal_of}
+use Rattle.line_keys.specs.Common.{signal_of}
 
 -- ---- keys: 27 is Esc, 9 is Tab, 97 is `a`, 65 is `A`
 

@@ -3,7 +3,7 @@ use Rattle.std.proofs.Common.{◌≡◌, refl, sym, ap, subst, true, true≢fals
 use Rattle.std.specs.Prelude.{Decides}
 use Rattle.line_keys.specs.declared.events.Event.{Event}
 use Rattle.line_keys.specs.declared.events.Event.TheVariants.{Any, KeySeq, Mouse}
-use Rattle.line_keys.specs.SameEvents.{same_event}
+use Rattle.line_keys.specs.Bound.{same_event}
 use Rattle.line_keys.specs.SameKeys.{same_keys-decides}
 
 same_event-itself : (a : Event) → same_event a a ≡ true

@@ -20,11 +20,10 @@ use Rattle.line_keys.specs.declared.keymap.vi.table.Deed.TheVariants as commands
 use Rattle.line_keys.specs.declared.keymap.vi.table.InsertDeed.{InsertDeed}
 use Rattle.line_keys.specs.declared.keymap.vi.table.InsertDeed.TheVariants as inserts
 use Rattle.line_keys.specs.Common.{common, common_deed, common_done, command_or, bound_or, decided, sequence, terminal_command}
-use Rattle.line_keys.specs.Counts.{Counted, counted_key, counting, counting_or, counting_read, counting_by}
+use Rattle.line_keys.specs.Counts.{Counted, counted_key, counting, counting_or, counting_read, counting_by, begun_by, counted_on, how_often, is_plus, multiplied, typed_count}
 use Rattle.line_keys.specs.declared.keymap.custom.Followed.{Followed}
 use Rattle.line_keys.specs.declared.keymap.custom.Followed.TheVariants.{Bound, Unbound}
 use Rattle.line_keys.specs.Custom.{Situation, following, following_upto, followed, bound_by, sequence_answer}
-use Rattle.line_keys.specs.Counts.{begun_by, counted_on, how_often, is_plus}
 use Rattle.line_keys.specs.Custom.{situation, custom_answer}
 use Rattle.line_keys.specs.Emacs.{after_first_key, emacs_command, emacs_counted, emacs_decided, emacs_deed, emacs_done, emacs_phrase, move_to_char, second_command}
 use Rattle.line_keys.specs.Feeds.{InputItem, Item, Key, Paste}
@@ -44,7 +43,6 @@ use Rattle.line_keys.specs.Keys.{key_with, none, char_with}
 use Rattle.line_keys.specs.Modes.{takes_commands}
 use Rattle.line_keys.specs.SameKeys.{same_key}
 use Rattle.line_keys.specs.Vi.{changes, command_of, in_mode, key_replacement, operated, move_or, is_new, remembering, with_last, command_done, command_table, insert_done, insert_table, vi_counted, vi_command, vi_insert, changed, typed, entered}
-use Rattle.line_keys.specs.ViCounts.{multiplied, typed_count}
 use Rattle.line_keys.specs.ViMotions.{motion_done, motion_of, motion_after, change, counted_motion, vi_motion}
 use Rattle.line_keys.specs.ViSearches.{found, search_of, sought}
 use Rattle.line_keys.specs.ViTables.{deed_of, insert_deed}

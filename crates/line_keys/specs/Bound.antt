@@ -4,7 +4,10 @@ use Rattle.std.specs.List.{list_any}
 use Rattle.line_keys.specs.declared.key.KeyEvent.{KeyEvent}
 use Rattle.line_keys.specs.declared.events.Event.{Event}
 use Rattle.line_keys.specs.Events.{begins_with, normal_event}
-use Rattle.line_keys.specs.SameEvents.{same_event}
+use Rattle.line_keys.specs.contracts.events.EventPartialEq.TheImpl as event_eq
+
+abbrev pub same_event : Event → Event → Bool
+same_event = (event_eq.ghosts).eq
 
 abbrev pub has_event : {H : Type 0} → Event → (Event × H) → Bool
 has_event e b = same_event b.0 e

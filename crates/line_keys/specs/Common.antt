@@ -1,14 +1,14 @@
--- The keys that both modes know, and what comes before the tables.
-use Rattle.std.specs.Prelude.{ℕ, ◌==◌, Bool, true, not, ◌&&◌, List, [], ◌∷◌, ◌++◌, length, codes}
-use Rattle.std.specs.Prelude.{Option, Some, None, if◌then◌else◌}
+-- The keys that both modes know, and what comes before the tables: bindings, and the keys that a
+-- terminal would send as a signal or as the end of input.
+use Rattle.std.specs.Prelude.{ℕ, ◌==◌, Bool, true, not, ◌&&◌, List, [], ◌∷◌, ◌++◌, length, codes, Option, Some, None, if◌then◌else◌}
 use Rattle.line_buffer.specs.declared.types.Movement.TheVariants.{BeginningOfLine, EndOfLine, BackwardChar, ForwardChar, BackwardWord, ForwardWord}
 use Rattle.line_buffer.specs.declared.types.Word.TheVariants.{Big}
 use Rattle.line_buffer.specs.declared.types.At.TheVariants.{AfterEnd}
 use Rattle.line_buffer.specs.declared.types.Anchor.TheVariants.{Before}
 use Rattle.line_config.specs.declared.settings.EditMode.{EditMode}
 use Rattle.line_keys.specs.declared.command.Cmd.{Cmd}
-use Rattle.line_keys.specs.declared.command.Cmd.TheVariants.{AcceptOrInsertLine, EndOfFile, ForwardSearchHistory, Insert, LineDownOrNextHistory, LineUpOrPreviousHistory, Move, Noop, QuotedInsert, ReverseSearchHistory, TransposeChars, Undo, Unknown, Yank}
-use Rattle.line_keys.specs.declared.key.KeyCode.TheVariants.{BracketedPasteStart, Delete, Down, End, Enter, Home, Left, Right, UnknownEscSeq, Up}
+use Rattle.line_keys.specs.declared.command.Cmd.TheVariants.{AcceptOrInsertLine, EndOfFile, ForwardSearchHistory, Insert, LineDownOrNextHistory, LineUpOrPreviousHistory, Move, Noop, QuotedInsert, ReverseSearchHistory, TransposeChars, Undo, Unknown, Yank, Interrupt, Suspend}
+use Rattle.line_keys.specs.declared.key.KeyCode.TheVariants.{BracketedPasteStart, Delete, Down, End, Enter, Home, Left, Right, UnknownEscSeq, Up, Char}
 use Rattle.line_keys.specs.declared.key.KeyEvent.{KeyEvent}
 use Rattle.line_keys.specs.Custom.{Situation, custom_answer, followed}
 use Rattle.line_keys.specs.declared.keymap.common.Deed.{Deed}
@@ -20,9 +20,19 @@ use Rattle.line_keys.specs.Modes.{is_emacs}
 use Rattle.line_keys.specs.Phrases.{Part, answered, and_then, deciding, with_paste}
 use Rattle.line_keys.specs.Redone.{anew_or}
 use Rattle.line_keys.specs.Refreshing.{Shown}
-use Rattle.line_keys.specs.Signals.{signal_of}
-use Rattle.line_keys.specs.Tables.{Row, always, by_count, by_sign, moves, kills}
-use Rattle.line_keys.specs.Tables.{named, char, only, look}
+use Rattle.line_keys.specs.Tables.{Row, always, by_count, by_sign, moves, kills, named, char, only, look}
+
+-- 5C is the backslash
+abbrev pub signal_rows : List (Row Cmd)
+signal_rows =
+    char (codes "C") ctrl (always Interrupt)
+    ∷ named (Char 0x5C) ctrl (always Interrupt)
+    ∷ char (codes "Z") ctrl (always Suspend)
+    ∷ char (codes "D") ctrl (always EndOfFile)
+    ∷ []
+
+abbrev pub signal_of : KeyEvent → Option Cmd
+signal_of k = look 1 true k signal_rows
 
 abbrev pub has_text : Shown → Bool
 has_text shown = not (length shown.line == 0)

@@ -1,8 +1,6 @@
 -- Counts: signed numbers that are typed before a key, with a prompt for each digit.
 use Rattle.std.specs.Fmt.{signed_decimal}
-use Rattle.std.specs.Prelude.{ℕ, ◌-◌, ◌==◌, nat_le, nat_lt, ℤ, pos, neg_ℤ, ◌+ℤ◌, ◌*ℤ◌, nat_abs, int_lt}
-use Rattle.std.specs.Prelude.{Bool, true, not, ◌&&◌, List, ◌++◌, codes, if◌then◌else◌}
-use Rattle.std.specs.Prelude.{Option, Some, None, option_map, zero, suc}
+use Rattle.std.specs.Prelude.{ℕ, ◌-◌, ◌==◌, nat_le, nat_lt, ℤ, pos, neg_ℤ, ◌+ℤ◌, ◌*ℤ◌, nat_abs, int_lt, Bool, true, not, ◌&&◌, List, ◌++◌, codes, if◌then◌else◌, Option, Some, None, option_map, zero, suc, ◌*◌, min}
 use Rattle.std.specs.Option.{option_or, option_and_then}
 use Rattle.line_config.specs.Scripts.{Ends, Asks}
 use Rattle.line_config.specs.declared.errors.ReadlineError.TheVariants.{Memory}
@@ -102,3 +100,11 @@ counting_or mode k None = answered (None, k)
 -- the key, or, where it begins a count, that count and the key after it
 abbrev pub counted_key : EditMode → KeyEvent → Part Counted
 counted_key mode k = counting_or mode k (begun_by mode k)
+
+-- the count, where one was typed
+abbrev pub typed_count : Option ℤ → Option ℕ
+typed_count = option_map nat_abs
+
+-- the count of a motion: an operator's times the one before the motion, up to the greatest
+abbrev pub multiplied : ℕ → Option ℤ → ℕ
+multiplied n second = min (how_often second * n) 65535

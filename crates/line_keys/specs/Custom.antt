@@ -12,11 +12,10 @@ use Rattle.line_keys.specs.declared.keymap.custom.Followed.TheVariants.{Bound, U
 use Rattle.line_keys.specs.Answers.{Custom, answer_by}
 use Rattle.line_keys.specs.Events.{single}
 use Rattle.line_keys.specs.Feeds.{Key}
-use Rattle.line_keys.specs.Handling.{Meaning, Showing}
+use Rattle.line_keys.specs.Handling.{Meaning, Showing, seen_of}
 use Rattle.line_keys.specs.Phrases.{Input, Reads, Steps, Part, Upto, needing, refused, replied}
 use Rattle.line_keys.specs.Refreshing.{Shown}
 use Rattle.line_keys.specs.Replies.{Reply, taking}
-use Rattle.line_keys.specs.Showing.{seen_of}
 
 -- all by which a key after its count is decided
 pub record Situation : Type 0 where

@@ -1,10 +1,18 @@
 -- What is known of a reader of keys, and what each read makes of it.
 use Rattle.std.specs.Prelude.{◌≡◌, ℕ, List, ◌<◌, ◌≤◌, ◌⊎◌, ⊤, Bool, Result, Err, IsTrue, IfErr, OnOk}
 use Rattle.line_config.specs.declared.errors.ReadlineError.{ReadlineError}
-use Rattle.line_config.specs.declared.errors.ReadlineError.TheVariants.{Memory}
+use Rattle.line_config.specs.declared.errors.ReadlineError.TheVariants.{Memory, Eof, NotUtf8, PasteOutOfPlace, Reader}
 use Rattle.line_keys.specs.declared.key.KeyEvent.{KeyEvent}
 use Rattle.line_keys.specs.Coming.{Coming, key_at, paste_at, behind, left, left_by}
-use Rattle.line_keys.specs.Faults.{IsReaderRefusal}
+
+-- a reader's refusals; want of memory is one of a pasted text, and of every call after that
+abbrev pub IsReaderRefusal : ReadlineError → Type 0
+IsReaderRefusal Eof = ⊤
+IsReaderRefusal NotUtf8 = ⊤
+IsReaderRefusal PasteOutOfPlace = ⊤
+IsReaderRefusal Reader = ⊤
+IsReaderRefusal Memory = ⊤
+IsReaderRefusal why = ⊥
 
 pub record KeyFeed : Type 1 where
   -- what its reads gave so far is what was said of it, and this is still to come

@@ -19,7 +19,7 @@ use Rattle.line_keys.specs.declared.keymap.vi.table.Operator.TheVariants as oper
 use Rattle.line_keys.specs.Answers.{Custom}
 use Rattle.line_keys.specs.Commands.{holds_text, standing}
 use Rattle.line_keys.specs.Common.{common, decided}
-use Rattle.line_keys.specs.Counts.{Counted, counted_key, how_often}
+use Rattle.line_keys.specs.Counts.{Counted, counted_key, how_often, typed_count}
 use Rattle.line_keys.specs.Custom.{Situation, situation}
 use Rattle.line_keys.specs.Keys.{key_with, none}
 use Rattle.line_keys.specs.Modes.{takes_commands}
@@ -27,7 +27,6 @@ use Rattle.line_keys.specs.Phrases.{Input, Part, answered, asking, becoming, fro
 use Rattle.line_keys.specs.Redone.{anew_or}
 use Rattle.line_keys.specs.Refreshing.{Shown, DoingInsert, DoneInserting}
 use Rattle.line_keys.specs.Tables.{look}
-use Rattle.line_keys.specs.ViCounts.{typed_count}
 use Rattle.line_keys.specs.ViMotions.{vi_motion}
 use Rattle.line_keys.specs.ViSearches.{opposite_of, searching, sought}
 use Rattle.line_keys.specs.ViTables.{deed_of, insert_deed, replacing_rows}

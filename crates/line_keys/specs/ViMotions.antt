@@ -15,8 +15,7 @@ use Rattle.line_keys.specs.Phrases.{Input, Part, answered, with_key, and_then}
 use Rattle.line_keys.specs.Tables.{Row, always, by_count, named, char, look}
 use Rattle.line_keys.specs.Refreshing.{Shown}
 use Rattle.line_keys.specs.SameKeys.{same_key}
-use Rattle.line_keys.specs.Counts.{Counted, counted_key}
-use Rattle.line_keys.specs.ViCounts.{multiplied}
+use Rattle.line_keys.specs.Counts.{Counted, counted_key, multiplied}
 use Rattle.line_keys.specs.ViSearches.{opposite_of, searching, sought}
 
 abbrev pub motion_rows : List (Row Motion)

@@ -2,7 +2,7 @@
 
 ghost use Rattle.std.specs.Prelude.{◌≡◌, IfOk, IfErr, IsSome};
 ghost use Rattle.line_config.specs.declared.errors.ReadlineError.{ReadlineError};
-ghost use Rattle.line_keys.specs.Movements.{recounted};
+ghost use Rattle.line_keys.specs.Redone.{recounted};
 
 use crate::texts::Text;
 use line_buffer::{Anchor, Movement, RepeatCount};

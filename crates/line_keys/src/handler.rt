@@ -23,7 +23,7 @@ pub struct EventContext<'r> {
 }
 
 impl<'r> EventContext<'r> {
-    ghost use Rattle.line_keys.specs.Showing.{seen_in, seen_of};
+    ghost use Rattle.line_keys.specs.Handling.{seen_in, seen_of};
 
     /// What a line shows, in these modes.
     pub fn new<W: Refresher>(mode: EditMode, input_mode: InputMode, wrt: &'r W) -> Self
@@ -82,7 +82,7 @@ impl<'r> EventContext<'r> {
 
 /// A binding whose command depends on what is shown.
 pub trait ConditionalEventHandler: Drop {
-    ghost use Rattle.line_keys.specs.Showing.{showing};
+    ghost use Rattle.line_keys.specs.Handling.{showing};
 
     ghost meaning: { Self → Meaning };
 
@@ -115,7 +115,7 @@ pub enum EventHandler {
 /// What decides on a command: an `EventHandler`, or a type that stands for one.
 pub trait Decides: Drop {
     ghost use Rattle.line_keys.specs.Answers.{Decides as Decision};
-    ghost use Rattle.line_keys.specs.Showing.{showing};
+    ghost use Rattle.line_keys.specs.Handling.{showing};
 
     ghost decides: { Self → Meaning };
 

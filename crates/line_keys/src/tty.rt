@@ -3,7 +3,7 @@
 ghost use Rattle.std.specs.Prelude.{◌≡◌, Option};
 ghost use Rattle.line_keys.specs.Coming.{key_at, press_at, paste_at};
 ghost use Rattle.line_keys.specs.Feeds.{KeyFeed, Key, Paste, ReadsBy, SomeRead};
-ghost use Rattle.line_keys.specs.Signals.{signal_of};
+ghost use Rattle.line_keys.specs.Common.{signal_of};
 
 use crate::command::Cmd;
 use crate::key::KeyEvent;

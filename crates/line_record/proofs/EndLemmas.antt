@@ -7,8 +7,7 @@ use Rattle.line_record.specs.Held.{Held, has_mark, closes, grouped, ended}
 use Rattle.line_record.specs.Held.Held.{Stepped}
 use Rattle.line_record.specs.Items.{Item, changes_of, before_item, done_held, DoneStand, gathered, group_of, EndedBy}
 use Rattle.line_record.specs.Items.Item.{Open, Lone, Group}
-use Rattle.line_record.specs.Steps.{oldest_mark}
-use Rattle.line_record.specs.Stored.{is_open, item_from}
+use Rattle.line_record.specs.Steps.{oldest_mark, is_open, item_from}
 
 pub has_open : List Item → Bool
 has_open [] = false

@@ -6,7 +6,7 @@ use Rattle.std.proofs.lemmas.List.{append-nil, take-append-drop}
 use Rattle.std.proofs.lemmas.Bool.{eqb-true}
 use Rattle.line_buffer.specs.Event.{Event}
 use Rattle.line_buffer.specs.Event.Event.{StartKilling, StopKilling, Delete, InsertChar, InsertStr, Replace}
-use Rattle.line_buffer.specs.Replayed.{replayed}
+use Rattle.line_buffer.specs.Replay.{replayed}
 use Rattle.line_record.specs.Edit.{Edit}
 use Rattle.line_record.specs.Held.{Held, change_of, joined_to, step_of, stepped, stepped_on, stepped_if, recorded_in, has_mark, closes, ended, text_back}
 use Rattle.line_record.specs.Held.Held.{Opened, Stepped}

@@ -6,9 +6,8 @@ use Rattle.line_buffer.specs.Replay.{Reports, StopsAmong}
 use Rattle.line_buffer.proofs.ReplayLemmas.{stops_wanting}
 use Rattle.line_record.specs.declared.joined.Joined.{Joined}
 use Rattle.line_record.specs.Items.{Items, ItemsStand, RecordedIn, record_refuses, held_on, ahead_on}
-use Rattle.line_record.specs.Names.{SameNames}
-use Rattle.line_record.specs.Runs.{recorded_all, ahead_all}
-use Rattle.line_record.specs.Together.{joined_takes, joined_refuses, RefusalsLeaveNoUnmadeChange}
+use Rattle.line_record.specs.Together.{SameNames, joined_takes, joined_refuses, RefusalsLeaveNoUnmadeChange}
+use Rattle.line_record.specs.Course.{recorded_all, ahead_all}
 use Rattle.line_record.proofs.RunLemmas.{part_told, part_stopped, kept_by_all}
 
 pub refusals_leave_no_unmade_change : {A : Type 0} (first first_refuses : A → Event → A → Type 0) → RefusalsLeaveNoUnmadeChange first first_refuses

@@ -15,8 +15,7 @@ use Rattle.line_record.specs.Held.{joined_to}
 use Rattle.line_buffer.specs.Line.{Line}
 use Rattle.line_record.specs.Items.{lines_ahead}
 use Rattle.line_record.proofs.StepLemmas.{ahead_turn, AheadTurn}
-use Rattle.line_record.specs.Spans.{Adjoin, place_of_span}
-use Rattle.line_record.specs.Logged.{edit_from, edit_in, edits_in, Spelt, IsLog, grown_old, grown, joined_at, removed_told, added_told}
+use Rattle.line_record.specs.Logged.{Adjoin, place_of_span, edit_from, edit_in, edits_in, Spelt, IsLog, grown_old, grown, joined_at, removed_told, added_told}
 use Rattle.line_record.proofs.SpanLemmas.{take_lower, slice_same, adjoin_cut, adjoin_at, place_le, place_fits, adjoin_push, adjoin_kept, views_kept}
 
 abbrev from_of : Entry → ℕ

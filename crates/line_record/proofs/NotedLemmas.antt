@@ -12,7 +12,7 @@ use Rattle.line_record.specs.Edit.Edit.{Inserted, Deleted, Replaced}
 use Rattle.line_record.specs.Held.{Held, step_of, stepped, stepped_on, stepped_if, recorded_in, change_of, joined_to, is_one_alphanumeric}
 use Rattle.line_record.specs.Items.{Item, Items, done_held, DoneStand, ItemsStand, held_on, ahead_on, noted, noted_on, noted_if, told_of, ahead_after, Recorded, RecordedIn}
 use Rattle.line_record.specs.Items.Item.{Open, Lone, Group}
-use Rattle.line_record.specs.Stored.{event_of}
+use Rattle.line_record.specs.Steps.{event_of}
 use Rattle.line_record.specs.declared.report.Report.{Report}
 use Rattle.line_record.specs.declared.report.Report.TheVariants as told
 use Rattle.line_record.proofs.Exchange.{exchanged, Joined, joined_right, joined_left}

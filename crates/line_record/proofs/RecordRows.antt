@@ -9,7 +9,7 @@ use Rattle.line_buffer.specs.declared.types.Direction.TheVariants.{Forward, Back
 use Rattle.line_record.specs.Edit.Edit.{Inserted, Deleted, Replaced}
 use Rattle.line_record.specs.Held.{Held, line_back, ahead_back, line_ahead, ended, closes, last_inserted}
 use Rattle.line_record.specs.Held.Held.{Opened, Stepped}
-use Rattle.line_record.specs.Runs.{recorded_all}
+use Rattle.line_record.specs.Course.{recorded_all}
 
 abbrev at : List ℕ → ℕ → Line
 at text place = record { text = text; place = place; growth = true; limit = 0 }

@@ -3,7 +3,7 @@ use Rattle.std.proofs.Common.{◌≡◌, ℕ, zero, suc, Bool, true, false, List
 use Rattle.std.specs.Prelude.{if◌then◌else◌}
 use Rattle.line_buffer.specs.Event.{Event}
 use Rattle.line_buffer.specs.Event.Event.{StartKilling, StopKilling, Delete, InsertChar, InsertStr, Replace}
-use Rattle.line_buffer.specs.Replayed.{replayed}
+use Rattle.line_buffer.specs.Replay.{replayed}
 use Rattle.line_record.specs.Edit.{Edit}
 use Rattle.line_record.specs.Held.{Held, Undone, text_of, change_of, joined_to, stepped, stepped_on, stepped_if, has_mark, closes, grouped, ended, text_back, ahead_back, held_ahead}
 use Rattle.line_record.specs.Held.Held.{Opened, Stepped}

@@ -3,11 +3,10 @@ use Rattle.std.proofs.Common.{◌≡◌, ℕ, List, [], ◌∷◌, refl, sym, ap
 use Rattle.std.specs.Prelude.{IsUtf8}
 use Rattle.line_buffer.specs.Event.{Event}
 use Rattle.line_buffer.specs.Event.Event.{StartKilling, StopKilling, Delete, InsertChar, InsertStr, Replace}
-use Rattle.line_buffer.specs.Replayed.{replayed, replayed_all}
-use Rattle.line_buffer.specs.Replay.{Swaps, Replays, ReplaysAll, TakesAll, Reports, StopsAmong, wants_or}
+use Rattle.line_buffer.specs.Replay.{replayed, replayed_all, Swaps, Replays, ReplaysAll, TakesAll, Reports, StopsAmong, wants_or}
 use Rattle.line_record.specs.Held.{Held, Undone, recorded_in}
 use Rattle.line_record.specs.Items.{Items, ItemsStand, held_on, ahead_on, ahead_after, RecordedIn, record_refuses}
-use Rattle.line_record.specs.Runs.{recorded_all, ahead_all}
+use Rattle.line_record.specs.Course.{recorded_all, ahead_all}
 use Rattle.line_record.proofs.Exchange.{exchanged}
 
 pub replayed_all-nil : (text : List ℕ) → replayed_all [] text ≡ text

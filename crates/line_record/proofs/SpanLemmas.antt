@@ -2,7 +2,7 @@
 use Rattle.std.proofs.Common.{◌≡◌, ℕ, zero, suc, ◌+◌, ◌-◌, ◌<◌, ◌≤◌, List, [], ◌∷◌, ◌++◌, length, take, drop, map, refl, sym, ap, ◌∙◌, arith, get_or}
 use Rattle.std.specs.Prelude.{slice_range}
 use Rattle.std.proofs.lemmas.List.{take-take, drop-take}
-use Rattle.line_record.specs.Spans.{Adjoin, place_of_span}
+use Rattle.line_record.specs.Logged.{Adjoin, place_of_span}
 
 pub take_lower : {A : Type 0} (i j : ℕ) (xs ys : List A) → i ≤ j → take j xs ≡ take j ys → take i xs ≡ take i ys
 take_lower i j xs ys le e = sym (take-take i j xs le) ∙ ap (take i) e ∙ take-take i j ys le

@@ -9,12 +9,10 @@ use Rattle.line_record.specs.Edit.{Edit}
 use Rattle.line_buffer.specs.Event.{Event}
 use Rattle.line_record.specs.Edit.Edit.{Inserted}
 use Rattle.line_record.specs.Held.{joined_to, inserted_by}
-use Rattle.line_record.specs.Logged.{joined_at}
+use Rattle.line_record.specs.Logged.{joined_at, Adjoin, place_of_span}
 use Rattle.line_record.specs.Items.{Item, changes_of, gathered, group_of}
 use Rattle.line_record.specs.Items.Item.{Open, Lone}
-use Rattle.line_record.specs.Spans.{Adjoin, place_of_span}
-use Rattle.line_record.specs.Steps.{item_in, items_in, AreSteps}
-use Rattle.line_record.specs.Stored.{item_from, item_inserted, is_open, joined_item, joined_items}
+use Rattle.line_record.specs.Steps.{item_in, items_in, AreSteps, item_from, item_inserted, is_open, joined_item, joined_items}
 use Rattle.line_record.proofs.EndLemmas.{changes_of-item_from, group_pushed}
 use Rattle.line_record.proofs.LogLemmas.{mapped_twice, joined_at_is}
 use Rattle.line_record.proofs.StoredLemmas.{before_last, inserted_last}

@@ -6,7 +6,7 @@ use Rattle.line_record.specs.Edit.{Edit, newest_of}
 use Rattle.line_record.specs.Held.{text_of, text_back, text_kept, first_held, inserted_by}
 use Rattle.line_record.specs.Items.{Item, before_item, holding, done_held, DoneStand, Items, ItemsStand, held_on, truncated}
 use Rattle.line_record.specs.Items.Item.{Open, Lone, Group}
-use Rattle.line_record.specs.Stored.{item_from, item_inserted}
+use Rattle.line_record.specs.Steps.{item_from, item_inserted}
 
 pub before_last : {A : Type 0} (xs : List A) (d : A) → 0 < length xs → xs ≡ take (length xs - 1) xs ++ (get_or xs (length xs - 1) d ∷ [])
 before_last xs d h =

@@ -1,7 +1,7 @@
 -- The course of a line: what is done to it and its record, call by call, and the texts that it had.
 use Rattle.std.specs.Prelude.{◌≡◌, ℕ, ◌⊎◌, List, [], ◌∷◌, drop}
 use Rattle.line_buffer.specs.Event.{Event}
-use Rattle.line_buffer.specs.Replayed.{replayed}
+use Rattle.line_buffer.specs.Replay.{replayed}
 use Rattle.line_record.specs.Held.{Held, Undone, recorded_in, ended, text_back, ahead_back, held_ahead}
 use Rattle.line_record.specs.Held.Held.{Opened}
 use Rattle.line_record.specs.Items.{ahead_after}
@@ -60,3 +60,13 @@ after_calls (call ∷ calls) c = after_calls calls (after_call call c)
 abbrev pub IsAmong : List ℕ → List (List ℕ) → Type 0
 IsAmong text [] = ⊥
 IsAmong text (x ∷ texts) = (text ≡ x) ⊎ IsAmong text texts
+
+-- the record of texts after events on the text
+unfoldable pub recorded_all : List Event → List ℕ → List Held → List Held
+recorded_all [] text held = held
+recorded_all (e ∷ es) text held = recorded_all es (replayed e text) (recorded_in e text held)
+
+-- what can be redone after events
+unfoldable pub ahead_all : List Event → List Undone → List Undone
+ahead_all [] ahead = ahead
+ahead_all (e ∷ es) ahead = ahead_all es (ahead_after e ahead)

@@ -5,9 +5,11 @@ use Rattle.line_buffer.specs.Event.{Event}
 use Rattle.line_buffer.specs.Event.Event.{StartKilling, StopKilling, Delete, InsertChar, InsertStr, Replace}
 use Rattle.line_buffer.specs.Line.{Line}
 use Rattle.line_buffer.specs.Replay.{Replays}
-use Rattle.line_record.specs.Edit.{Edit, undo_place, redo_place, taken_back, made_anew, all_taken_back, AllStandIn, all_made_anew, AllFitIn, newest_of}
+use Rattle.line_record.specs.Edit.{Edit, undo_place, redo_place, taken_back, made_anew, all_taken_back, AllStandIn, all_made_anew, AllFitIn, newest_of, StandsAt}
 use Rattle.line_record.specs.Held.{Held, Undone, step_of, change_of, joined_to, recorded_in, ended, closes}
 use Rattle.line_record.specs.Held.Held.{Opened, Stepped}
+use Rattle.std.specs.Coded.{Unit-prop, ×_prop}
+use Rattle.std.proofs.Props.{props}
 
 -- an open mark, a change that others may join, or a closed group with its oldest change and the
 -- newer ones in order
@@ -177,3 +179,29 @@ pub record Recorded (e : Event) (before after : List ℕ) (s t : Items) : Type 0
 pub record RecordedIn (s : Items) (e : Event) (t : Items) : Type 0 where
   pub on : (before after : List ℕ) → ItemsStand s before → IsUtf8 before → Replays e before after
       → Recorded e before after s t
+
+StandsAt-prop : (at : ℕ) (from to text : List ℕ) → IsProp (StandsAt at from to text)
+StandsAt-prop at from to text = Prim.hlevel props
+
+AllStandIn-prop : (cs : List Edit) (text : List ℕ) → IsProp (AllStandIn cs text)
+AllStandIn-prop [] text = Unit-prop
+AllStandIn-prop (c ∷ cs) text =
+    ×_prop (StandsAt-prop _ _ _ (all_taken_back cs text)) (AllStandIn-prop cs text)
+
+AllFitIn-prop : (cs : List Edit) (text : List ℕ) → IsProp (AllFitIn cs text)
+AllFitIn-prop [] text = Unit-prop
+AllFitIn-prop (c ∷ cs) text =
+    ×_prop (StandsAt-prop _ _ _ text) (AllFitIn-prop cs (made_anew c text))
+
+DoneStand-prop : (items : List Item) (text : List ℕ) → IsProp (DoneStand items text)
+DoneStand-prop [] text = Unit-prop
+DoneStand-prop (x ∷ items) text =
+    ×_prop (AllStandIn-prop (changes_of x) text) (DoneStand-prop items (before_item x text))
+
+UndoneFit-prop : (items : List Item) (text : List ℕ) → IsProp (UndoneFit items text)
+UndoneFit-prop [] text = Unit-prop
+UndoneFit-prop (x ∷ items) text =
+    ×_prop (AllFitIn-prop (changes_of x) text) (UndoneFit-prop items (after_item x text))
+
+pub ItemsStand-prop : (s : Items) (text : List ℕ) → IsProp (ItemsStand s text)
+ItemsStand-prop s text = ×_prop (DoneStand-prop s.done text) (UndoneFit-prop s.undone text)

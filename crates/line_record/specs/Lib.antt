@@ -6,13 +6,8 @@ pub mod Items
 pub mod Kills
 pub mod Laws
 pub mod Logged
-pub mod Names
-pub mod Props
 pub mod Ring
 pub mod RingLends
-pub mod Runs
-pub mod Spans
 pub mod Steps
-pub mod Stored
 pub mod Together
 pub mod UndoRedo

@@ -1,14 +1,24 @@
 -- What the entries of a log stand for.
-use Rattle.std.specs.Prelude.{◌≤◌, ℕ, zero, suc, Bool, if◌then◌else◌, List, [], ◌∷◌, ◌++◌, map, take, length, slice_range, encode_utf8, Option, None, option_map, IsUtf8}
+use Rattle.std.specs.Prelude.{◌≤◌, ℕ, zero, suc, Bool, if◌then◌else◌, List, [], ◌∷◌, ◌++◌, map, take, length, slice_range, encode_utf8, Option, None, option_map, IsUtf8, ◌≡◌, slice_get, unwrap_or}
 use Rattle.line_buffer.specs.Event.{Event}
 use Rattle.line_buffer.specs.Event.Event.{StartKilling, StopKilling, Delete, InsertChar, InsertStr, Replace}
 use Rattle.line_record.specs.Edit.{Edit}
 use Rattle.line_record.specs.Edit.Edit.{Inserted, Deleted, Replaced}
 use Rattle.line_record.specs.Held.{joined_to}
-use Rattle.line_record.specs.Spans.{Adjoin}
 use Rattle.line_record.specs.declared.entry.Entry.{Entry}
 use Rattle.line_record.specs.declared.entry.Kind.{Kind}
 use Rattle.line_record.specs.declared.entry.Kind.TheVariants.{Insertion, Deletion, Replacement}
+
+module _ {A S : Type 0} (first last : S → ℕ) (Fits : List A → S → Type 0) where
+  -- they adjoin, in their order, from a place of the list to another
+  abbrev pub Adjoin : List A → ℕ → List S → ℕ → Type 0
+  Adjoin all from [] to = from ≡ to
+  Adjoin all from (s ∷ spans) to =
+      (first s ≡ from) × (from ≤ last s) × Fits all s × Adjoin all (last s) spans to
+
+-- where the span of an index begins, or the end of all where there is none
+abbrev pub place_of_span : {S : Type 0} → (S → ℕ) → List S → ℕ → ℕ → ℕ
+place_of_span first spans n to = unwrap_or (option_map first (slice_get spans n)) to
 
 -- a change by its kind, the text that stood at its place, and the one that has stood there since
 abbrev pub edit_from : Kind → ℕ → List ℕ → List ℕ → Edit

@@ -5,8 +5,13 @@ use Rattle.line_buffer.specs.Event.{Event}
 use Rattle.line_buffer.specs.Replay.{StopsAmong, wants_or}
 use Rattle.line_record.specs.declared.joined.Joined.{Joined}
 use Rattle.line_record.specs.Items.{Items, ItemsStand, RecordedIn, record_refuses, held_on, ahead_on}
-use Rattle.line_record.specs.Names.{SameNames}
-use Rattle.line_record.specs.Runs.{recorded_all, ahead_all}
+use Rattle.line_record.specs.Course.{recorded_all, ahead_all}
+use Rattle.std.specs.Borrow.{MutBor}
+
+pub record SameNames {A B : Type 0} (first : MutBor A) (second : MutBor B) (first_after : MutBor A)
+    (second_after : MutBor B) : Type 0 where
+  pub first_same : first_after.ghost_name ≡ first.ghost_name
+  pub second_same : second_after.ghost_name ≡ second.ghost_name
 
 module _ {A B : Type 0} where
   abbrev pub joined_takes : (A → Event → A → Type 0) → (B → Event → B → Type 0) → Joined A B → Event

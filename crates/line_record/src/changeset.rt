@@ -34,7 +34,7 @@ impl Changeset {
     ghost use Rattle.line_buffer.specs.declared.types.Direction.TheVariants.{Forward};
     ghost use Rattle.line_record.specs.Held.{ended, closes, last_inserted, first_held, text_kept};
     ghost use Rattle.line_record.specs.Items.{no_items, opened, truncated, told_of, ItemsStand, RecordedIn, record_refuses, held_on};
-    ghost use Rattle.line_record.specs.Stored.{event_of};
+    ghost use Rattle.line_record.specs.Steps.{event_of};
 
     /// A record in which nothing stands. It takes no memory yet, and never refuses: the answer has
     /// the form of rustyline's calls that make a part of the editor, all of which may want memory.

@@ -31,7 +31,7 @@ impl Entry {
     ghost use Rattle.line_record.specs.Held.{joined_to, inserted_by};
     ghost use Rattle.line_record.specs.Items.{taken_back_in, made_anew_in};
     ghost use Rattle.line_record.specs.Logged.{edit_from, edit_in, Spelt, removed_told, added_told, grown};
-    ghost use Rattle.line_record.specs.Stored.{event_of};
+    ghost use Rattle.line_record.specs.Steps.{event_of};
 
     /// Where more of the old text is put in: before its own, or after it.
     pub fn seam(&self, before: bool) -> usize

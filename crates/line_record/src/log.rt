@@ -32,7 +32,7 @@ impl Log {
     ghost use Rattle.line_record.specs.Edit.{Edit, AllStandIn, AllFitIn};
     ghost use Rattle.line_record.specs.Held.{inserted_by};
     ghost use Rattle.line_record.specs.Logged.{edit_from, grown, joined_at};
-    ghost use Rattle.line_record.specs.Stored.{event_of};
+    ghost use Rattle.line_record.specs.Steps.{event_of};
     ghost use Rattle.line_record.specs.UndoRedo.{TakesBack, MakesAnew};
 
     pub fn new(alloc: Global) -> Self
@@ -205,7 +205,7 @@ impl Log {
 ghost use Rattle.std.specs.Prelude.{◌≡◌, ◌+◌, ◌<◌, ◌≤◌, length, string_bytes, OnOk, OnErr, IsCharBoundary};
 ghost use Rattle.std.specs.String.{string_len, string_capacity};
 ghost use Rattle.std.specs.List.{insert_slice};
-ghost use Rattle.line_record.specs.Spans.{place_of_span};
+ghost use Rattle.line_record.specs.Logged.{place_of_span};
 
 /// Puts a text in at a place. Where it is empty nothing is moved.
 fn put_in(text: &mut String, at: usize, added: &str) -> Result<(), OutOfMemory>

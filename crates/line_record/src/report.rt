@@ -30,7 +30,7 @@ impl<'a> Report<'a> {
     ghost use Rattle.std.specs.Prelude.{◌≡◌, Some, true, not, is_some};
     ghost use Rattle.line_record.specs.Held.{change_of};
     ghost use Rattle.line_record.specs.Logged.{edit_from, place_told, removed_told, added_told};
-    ghost use Rattle.line_record.specs.Stored.{event_of};
+    ghost use Rattle.line_record.specs.Steps.{event_of};
 
     /// Nothing is put in, and nothing taken out.
     pub fn is_empty(self) -> bool

@@ -54,8 +54,7 @@ impl Steps {
     ghost use Rattle.line_record.specs.Held.{change_of};
     ghost use Rattle.line_record.specs.Items.{changes_of, is_step_item, gathered, group_of, noted_if};
     ghost use Rattle.line_record.specs.Items.Item.{Open, Lone};
-    ghost use Rattle.line_record.specs.Steps.{JoinedIn};
-    ghost use Rattle.line_record.specs.Stored.{event_of, is_open, joined_items, item_inserted};
+    ghost use Rattle.line_record.specs.Steps.{JoinedIn, event_of, is_open, joined_items, item_inserted};
     ghost use Rattle.line_record.specs.UndoRedo.{TakesBack, MakesAnew};
 
     pub fn new(alloc: Global) -> Self
@@ -266,7 +265,7 @@ impl Steps {
 }
 
 ghost use Rattle.std.specs.Prelude.{◌≡◌};
-ghost use Rattle.line_record.specs.Spans.{place_of_span};
+ghost use Rattle.line_record.specs.Logged.{place_of_span};
 
 /// Where the step of an index begins, or the end of all.
 fn place(steps: &[Step], n: usize, end: usize) -> usize

@@ -27,14 +27,13 @@ use std::alloc::Global;
 
 impl<D: Decides> InputState<'_, D> {
     ghost use Rattle.line_keys.specs.Commands.{standing};
-    ghost use Rattle.line_keys.specs.Counts.{how_often};
+    ghost use Rattle.line_keys.specs.Counts.{how_often, typed_count};
     ghost use Rattle.line_keys.specs.Follows.{Follows};
     ghost use Rattle.line_keys.specs.InputStates.{input_of, custom_in, situation_in};
     ghost use Rattle.line_keys.specs.Phrases.{and_then, becoming};
     ghost use Rattle.line_keys.specs.Vi.{Remembers, changed, changes, command_of, command_table, entered, insert_table};
     ghost use Rattle.line_keys.specs.Vi.{is_new, operation, typed, vi_command, vi_counted};
     ghost use Rattle.line_keys.specs.Vi.{vi_insert, vi_phrase};
-    ghost use Rattle.line_keys.specs.ViCounts.{typed_count};
 
     /// The command that begins with this key.
     #[tactic(auto, using(crate::proofs::Following::as_follows))]

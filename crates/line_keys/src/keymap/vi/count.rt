@@ -1,7 +1,7 @@
 //! Counts of Vi's commands and motions.
 
 ghost use Rattle.std.specs.Prelude.{◌≡◌};
-ghost use Rattle.line_keys.specs.ViCounts.{multiplied, typed_count};
+ghost use Rattle.line_keys.specs.Counts.{multiplied, typed_count};
 
 use crate::keymap::count::times;
 use line_buffer::RepeatCount;

@@ -2,7 +2,7 @@ use Rattle.std.proofs.Common.{take, ap, ◌∙◌, sym, ◌≡◌, ◌++◌, ◌
 use Rattle.std.specs.Prelude.{option_map}
 use Rattle.line_record.specs.Items.Item.{Lone}
 use Rattle.line_record.specs.Logged.{edit_from, place_told, removed_told, added_told}
-use Rattle.line_record.specs.Stored.{event_of}
+use Rattle.line_record.specs.Steps.{event_of}
 use Rattle.line_record.specs.declared.steps.Step.{Step}
 use Rattle.line_record.proofs.StepsLemmas.{lone_pushed, step_place_is, PushedStep}
 use Rattle.line_record.proofs.steps.Steps.add.Goals as goal
