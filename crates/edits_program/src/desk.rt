@@ -1,7 +1,6 @@
 //! A line with its undo record, and a kill ring that is told of its kills first.
 
-ghost use Rattle.line_record.specs.Items.{ItemsStand};
-ghost use Rattle.line_record.specs.Props.{ItemsStand-prop};
+ghost use Rattle.line_record.specs.Items.{ItemsStand, ItemsStand-prop};
 
 use line_buffer::{LineBuffer, Movement, NoListener, OutOfMemory, Word, WordAction};
 use line_record::{Changeset, Joined, KillRing};
@@ -297,7 +296,7 @@ fn kill(
     kill_both(alloc, line, &mut both)
 }
 
-ghost use Rattle.line_record.specs.Names.{SameNames};
+ghost use Rattle.line_record.specs.Together.{SameNames};
 
 fn kill_both(
     alloc: Global,

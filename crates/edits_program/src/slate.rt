@@ -3,8 +3,7 @@
 
 ghost use Rattle.std.specs.Prelude.{◌≡◌};
 ghost use Rattle.line_edits.specs.Plain.{is_plain};
-ghost use Rattle.line_record.specs.Items.{ItemsStand};
-ghost use Rattle.line_record.specs.Props.{ItemsStand-prop};
+ghost use Rattle.line_record.specs.Items.{ItemsStand, ItemsStand-prop};
 
 use crate::words::{first_char, parts, tell_ring, word_of};
 use line_buffer::{LineBuffer, Movement, OutOfMemory, RepeatCount, WordAction};

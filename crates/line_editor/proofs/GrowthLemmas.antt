@@ -8,7 +8,7 @@ use Rattle.line_buffer.specs.Insertions.{Insertion, insertion_by, insertion_of, 
 use Rattle.line_buffer.specs.LetterCase.{word_to_edit, recase_line, edit_word_line}
 use Rattle.line_buffer.specs.Line.{Line}
 use Rattle.line_buffer.specs.Range.{range_of, deletion_line, kill_line}
-use Rattle.line_buffer.specs.Replayed.{carried_line, carried_all}
+use Rattle.line_buffer.specs.Replay.{carried_line, carried_all}
 use Rattle.line_buffer.specs.Transpositions.{transposes_chars, transpose_chars_line, transposes_words, transpose_words_line, after_words, before_words, first_word}
 use Rattle.line_buffer.specs.declared.range.Span.{Span}
 use Rattle.line_buffer.specs.declared.types.Movement.{Movement}

@@ -11,8 +11,7 @@ use Rattle.line_buffer.specs.Clusters.{cluster_ends, nth_or_last}
 use Rattle.line_buffer.specs.Hits.{past_cluster}
 use Rattle.line_buffer.specs.Line.{Line, text_after}
 use Rattle.line_buffer.specs.Range.{IsSpanOf, up_to_cursor, from_cursor, around_cursor, to_row_end, from_row_start, search_range, range_of}
-use Rattle.line_buffer.specs.RowRanges.{behind_newlines, row_close}
-use Rattle.line_buffer.specs.Rows.{row_start, row_end}
+use Rattle.line_buffer.specs.Rows.{behind_newlines, row_close, row_start, row_end}
 use Rattle.line_buffer.specs.declared.range.Span.{Span}
 use Rattle.line_buffer.specs.declared.types.CharSearch.{CharSearch}
 use Rattle.line_buffer.specs.declared.types.CharSearch.TheVariants.{Forward as Onto, ForwardBefore, Backward as BackOnto, BackwardAfter}

@@ -5,7 +5,7 @@ use Rattle.line_buffer.specs.Indent.{indent_events, indent_line}
 use Rattle.line_buffer.specs.Insertions.{update_events, update_line, insert as insertion, yank as yanked_in}
 use Rattle.line_buffer.specs.Line.{Line}
 use Rattle.line_buffer.specs.Range.{kill_events, kill_line}
-use Rattle.line_buffer.specs.Replayed.{replayed, replayed_all}
+use Rattle.line_buffer.specs.Replay.{replayed, replayed_all}
 use Rattle.line_buffer.specs.Transpositions.{transpose_chars_events, transpose_chars_line}
 use Rattle.line_buffer.specs.declared.types.Movement.{Movement}
 use Rattle.line_buffer.proofs.ReplayedLemmas.{update_replayed, insert_replayed, yank_replayed, indent_replayed}
@@ -15,7 +15,7 @@ use Rattle.line_edits.specs.Written.{Written, edited, group_opened, in_group}
 use Rattle.line_record.specs.Edit.{Edit}
 use Rattle.line_record.specs.Held.{Held, change_of, joined_to, stepped, stepped_on, stepped_if, has_mark, closes, grouped, ended, line_back}
 use Rattle.line_record.specs.Held.Held.{Opened, Stepped}
-use Rattle.line_record.specs.Runs.{recorded_all}
+use Rattle.line_record.specs.Course.{recorded_all}
 use Rattle.line_record.proofs.GroupLaws.{unchanged}
 use Rattle.line_editor.specs.Leads.{Reaches}
 

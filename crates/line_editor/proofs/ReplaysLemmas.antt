@@ -9,8 +9,7 @@ use Rattle.std.proofs.lemmas.Str.{IsUtf8-drop, IsCharBoundary-from_rest}
 use Rattle.line_buffer.specs.Clusters.{clusters}
 use Rattle.line_buffer.specs.LetterCase.{end_of_word, word_to_edit, recased, recase_events, recase_line, edit_word_events, edit_word_line}
 use Rattle.line_buffer.specs.Line.{Line, text_after, moved_to}
-use Rattle.line_buffer.specs.Replay.{replacement}
-use Rattle.line_buffer.specs.Replayed.{replayed, replayed_all}
+use Rattle.line_buffer.specs.Replay.{replacement, replayed, replayed_all}
 use Rattle.line_buffer.specs.Transpositions.{Pair, after_words, before_words, second_word, first_word, words_around, swap_events, swap_line, transposes_words, transpose_words_events, transpose_words_line}
 use Rattle.line_buffer.specs.Words.{is_alphanumeric_cluster, prev_word, next_word}
 use Rattle.line_buffer.specs.declared.types.At.TheVariants.{AfterEnd}

@@ -4,7 +4,7 @@ use Rattle.std.specs.Fmt.{digits}
 use Rattle.std.specs.Prelude.{codes, Ok, Err, if◌then◌else◌}
 use Rattle.unicode_segmentation.proofs.Computing.{unicode_segmentation}
 use Rattle.line_buffer.specs.Columns.{line_up, line_down}
-use Rattle.line_buffer.specs.RowRanges.{behind_newlines}
+use Rattle.line_buffer.specs.Rows.{behind_newlines}
 use Rattle.line_buffer.specs.Transpositions.{after_words, before_words}
 use Rattle.line_buffer.specs.Words.{starts_of, ends_of}
 use Rattle.line_buffer.specs.declared.layout.GraphemeClusterMode.TheVariants.{Unicode}
@@ -22,7 +22,7 @@ use Rattle.line_keys.specs.Emacs.{emacs_deed}
 use Rattle.line_keys.specs.Events.{begins_with, single}
 use Rattle.line_keys.specs.Keys.{key_with, none, ctrl, alt}
 use Rattle.line_keys.specs.Phrases.{Input, answered, needing, with_read, from_key, asking, becoming, deciding, and_then}
-use Rattle.line_keys.specs.SameEvents.{same_event}
+use Rattle.line_keys.specs.Bound.{same_event}
 use Rattle.line_keys.specs.declared.command.Cmd.TheVariants.{HistorySearchBackward, Noop}
 use Rattle.line_keys.specs.declared.command.InputMode.TheVariants.{Insert as Inserting}
 use Rattle.line_keys.specs.declared.key.KeyCode.TheVariants.{Char, Down, Enter, Left, Up}

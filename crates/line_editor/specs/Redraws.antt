@@ -1,8 +1,7 @@
 -- What an effect wants to be seen, and the calls that this gives on a display, with the layout that
 -- is kept.
 use Rattle.std.specs.Prelude.{ℕ, ◌+◌, ◌-◌, ◌==◌, ◌&&◌, not, nat_lt, nat_le, Bool, true, false, if◌then◌else◌, List, [], ◌∷◌, ◌++◌, take, Option, Some, None, is_some, encode_utf8}
-use Rattle.line_buffer.specs.CellOrder.{same_cell}
-use Rattle.line_buffer.specs.Cells.{origin}
+use Rattle.line_buffer.specs.Cells.{same_cell, origin}
 use Rattle.line_buffer.specs.declared.layout.GraphemeClusterMode.{GraphemeClusterMode}
 use Rattle.line_buffer.specs.declared.layout.Layout.{Layout}
 use Rattle.line_buffer.specs.declared.layout.Position.{Position}

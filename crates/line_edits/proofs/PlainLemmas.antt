@@ -9,10 +9,9 @@ use Rattle.std.proofs.lemmas.Str.{encode_ascii}
 use Rattle.line_buffer.specs.Event.{Event}
 use Rattle.line_buffer.specs.Event.Event.{InsertChar}
 use Rattle.line_buffer.specs.Insertions.{no_insertion, has_room, put_at_cursor, insertion_of, insert as insertion, yank as yanked_in}
-use Rattle.line_buffer.specs.Replay.{insertion as told_insertion}
+use Rattle.line_buffer.specs.Replay.{insertion as told_insertion, carried_line, carried_all}
 use Rattle.line_buffer.specs.Line.{Line, put_in, replaced}
 use Rattle.line_buffer.specs.Indent.{rows_covered, rows_of, leading, row_event, row_len, row_events, spaces, indent_line}
-use Rattle.line_buffer.specs.Replayed.{carried_line, carried_all}
 use Rattle.line_buffer.specs.Rows.{row_start, row_end}
 use Rattle.line_buffer.specs.Range.{range_of, deletion_line, kill_line}
 use Rattle.line_buffer.specs.Short.{is_printable}

@@ -16,7 +16,7 @@ use Rattle.line_record.proofs.JoinedLaws.{refusals_leave_no_unmade_change}
 use Rattle.line_record.specs.Held.{Held}
 use Rattle.line_record.specs.Items.{Items, ItemsStand, RecordedIn, record_refuses, held_on}
 use Rattle.line_record.specs.Ring.{Ring, ring_step, ring_all, ring_refuses}
-use Rattle.line_record.specs.Runs.{recorded_all}
+use Rattle.line_record.specs.Course.{recorded_all}
 use Rattle.line_record.specs.Together.{joined_takes, joined_refuses}
 use Rattle.line_edits.specs.Edits.{TookOrNot}
 use Rattle.line_edits.specs.Steps.{StopsWithin}

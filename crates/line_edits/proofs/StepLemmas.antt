@@ -5,13 +5,12 @@ use Rattle.std.proofs.lemmas.Result.{on_err_weaker}
 use Rattle.line_buffer.specs.Edit.{StopsAt}
 use Rattle.line_buffer.specs.Event.{Event}
 use Rattle.line_buffer.specs.Line.{Line}
-use Rattle.line_buffer.specs.Replay.{TellsOfChange, Reports, wants_or}
-use Rattle.line_buffer.specs.Replayed.{carried_all}
+use Rattle.line_buffer.specs.Replay.{TellsOfChange, Reports, wants_or, carried_all}
 use Rattle.line_buffer.proofs.LeftLemmas.{stopped_first}
 use Rattle.line_config.specs.Scripts.{Ends, Asks, Goes, then}
 use Rattle.line_config.proofs.ScriptLaws.{then_goes, then_cut, ok_not_err}
 use Rattle.line_record.specs.Items.{Items, ItemsStand, RecordedIn, record_refuses, held_on, opened}
-use Rattle.line_record.specs.Runs.{recorded_all}
+use Rattle.line_record.specs.Course.{recorded_all}
 use Rattle.line_record.proofs.RunLemmas.{told_stand, told_held, stopped_stand, part_stopped, recorded_all-nil}
 use Rattle.line_edits.specs.Plain.{is_plain}
 use Rattle.line_edits.specs.Steps.{Steps, Tells, Leaves, StopsWithin, StopsIn, Rewrites, Edits, stepped, written_world, made, answer_of, doing, answering, grouping}

@@ -5,13 +5,12 @@ use Rattle.line_buffer.specs.Event.{Event}
 use Rattle.line_buffer.specs.Event.Event.{StartKilling, StopKilling}
 use Rattle.line_buffer.specs.Line.{Line}
 use Rattle.line_buffer.specs.Range.{range_of, goes_by_clusters, deletion_events}
-use Rattle.line_buffer.specs.Replay.{deletion}
-use Rattle.line_buffer.specs.Replayed.{carried_all}
+use Rattle.line_buffer.specs.Replay.{deletion, carried_all}
 use Rattle.line_buffer.specs.declared.range.Span.{Span}
 use Rattle.line_buffer.proofs.KeptLemmas.{no_change, deletion_few, insert_few, split_between, yank_few}
 use Rattle.line_config.specs.Scripts.{Goes}
 use Rattle.line_config.proofs.ScriptLaws.{err_in, ok_not_err, parted}
-use Rattle.line_record.specs.Runs.{recorded_all}
+use Rattle.line_record.specs.Course.{recorded_all}
 use Rattle.line_edits.specs.Laws.{RefusedChangesLeaveAll, RefusedGroupsStayOpen}
 use Rattle.line_edits.specs.Steps.{Tells, Closes, StopsWithin, StopsIn, written_world, followed, doing, grouping}
 use Rattle.line_edits.specs.Written.{Written, group_opened}

@@ -8,7 +8,7 @@ use Rattle.line_buffer.specs.Insertions.{no_insertion, has_room, put_at_cursor, 
 use Rattle.line_buffer.specs.Line.{Line}
 use Rattle.line_buffer.specs.Replay.{insertion as told_insertion}
 use Rattle.line_record.specs.Held.{Held, recorded_in}
-use Rattle.line_record.specs.Runs.{recorded_all}
+use Rattle.line_record.specs.Course.{recorded_all}
 
 pub recorded_one : (e : Event) (text : List ℕ) (held : List Held) → recorded_in e text held ≡ recorded_all (e ∷ []) text held
 unfolding recorded_all

@@ -4,8 +4,7 @@ use Rattle.std.specs.Prelude.{◌≡◌, ⊤, Bool, List, ◌∷◌, ◌++◌, R
 use Rattle.line_buffer.specs.Edit.{Edit}
 use Rattle.line_buffer.specs.Event.{Event}
 use Rattle.line_buffer.specs.Line.{Line}
-use Rattle.line_buffer.specs.Replay.{TellsOfChange}
-use Rattle.line_buffer.specs.Replayed.{carried_all}
+use Rattle.line_buffer.specs.Replay.{TellsOfChange, carried_all}
 use Rattle.line_config.specs.Scripts.{Script, Ends, Asks, World, Goes, then}
 use Rattle.line_record.specs.Items.{Items}
 use Rattle.line_edits.specs.Plain.{is_plain}

@@ -5,7 +5,7 @@ use Rattle.line_buffer.specs.Line.{Line}
 use Rattle.line_record.specs.Held.{Held, ended}
 use Rattle.line_record.specs.Held.Held.{Opened}
 use Rattle.line_record.specs.Items.{Items, ItemsStand, held_on}
-use Rattle.line_record.specs.Runs.{recorded_all}
+use Rattle.line_record.specs.Course.{recorded_all}
 
 pub record Written : Type 0 where
   pub line : Line

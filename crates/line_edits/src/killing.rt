@@ -2,7 +2,7 @@
 ghost use Rattle.std.specs.Prelude.{◌≡◌, ◌≤◌, true, length, is_some, OnOk, OnErr};
 ghost use Rattle.line_buffer.specs.Range.{range_of, kill_events};
 ghost use Rattle.line_record.specs.Items.{ItemsStand};
-ghost use Rattle.line_record.specs.Names.{SameNames};
+ghost use Rattle.line_record.specs.Together.{SameNames};
 ghost use Rattle.line_record.specs.Ring.{ring_all};
 ghost use Rattle.line_edits.specs.Edits.{killing, TookOrNot};
 ghost use Rattle.line_edits.specs.Plain.{is_plain};

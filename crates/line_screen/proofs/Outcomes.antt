@@ -5,7 +5,7 @@ use Rattle.line_config.specs.declared.errors.ReadlineError.TheVariants.{Eof, Not
 use Rattle.line_config.specs.declared.device.Last.{Last}
 use Rattle.line_config.specs.declared.device.Last.TheVariants.{End}
 use Rattle.line_config.specs.declared.settings.EditMode.{EditMode}
-use Rattle.line_keys.specs.Faults.{IsReaderRefusal}
+use Rattle.line_keys.specs.Feeds.{IsReaderRefusal}
 use Rattle.line_keys.specs.Coming.{Ends, Refused, key_at, paste_at, left_by, refusal_of, End as EndItem}
 use Rattle.line_screen.specs.Input.{Stop, AtEnd, AtBad, AtFailure, Torn, Inside, stop_refusal, chars_of, is_failure}
 use Rattle.line_screen.specs.KeyGrammar.{Readings, Key, Paste, Cut, Stops, readings, coming_of, key_answer, text_answer, item_of}

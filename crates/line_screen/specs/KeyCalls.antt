@@ -6,7 +6,7 @@ use Rattle.line_config.specs.Feed.{Feed}
 use Rattle.line_config.specs.Refusals.{Met}
 use Rattle.line_keys.specs.declared.key.KeyEvent.{KeyEvent}
 use Rattle.line_keys.specs.Coming.{Coming, Pressed, Pasted, Refused, key_at, paste_at, left_by}
-use Rattle.line_keys.specs.Faults.{IsReaderRefusal}
+use Rattle.line_keys.specs.Feeds.{IsReaderRefusal}
 use Rattle.line_screen.specs.Input.{Next, behind_char}
 use Rattle.line_screen.specs.KeyGrammar.{left_after, readings, coming_of}
 use Rattle.line_screen.specs.KeyReading.{KeepsFor, IsEsc}

@@ -11,7 +11,7 @@ use Rattle.line_config.specs.declared.settings.EditMode.{EditMode}
 use Rattle.line_config.specs.Feed.{Feed, GivesBytes}
 use Rattle.line_config.specs.Refusals.{Met}
 use Rattle.line_keys.specs.declared.key.KeyEvent.{KeyEvent}
-use Rattle.line_keys.specs.Faults.{IsReaderRefusal}
+use Rattle.line_keys.specs.Feeds.{IsReaderRefusal}
 use Rattle.line_screen.specs.Input.{chars_of, is_failure}
 use Rattle.line_screen.specs.KeyGrammar.{Readings, Key, Paste, esc, readings, in_escape, in_sequence, in_paste, key_answer, text_answer, left_after}
 use Rattle.line_screen.specs.Reader.{kept_of, feed_in, left_in, reads}

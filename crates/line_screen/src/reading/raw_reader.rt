@@ -1,9 +1,8 @@
 //! The reader of keys as the key tables see it.
 
 ghost use Rattle.std.specs.Prelude.{◌≡◌, Option};
-ghost use Rattle.line_keys.specs.Faults.{IsReaderRefusal};
+ghost use Rattle.line_keys.specs.Feeds.{IsReaderRefusal, Key, Paste, ReadsBy};
 ghost use Rattle.line_keys.specs.Coming.{key_at, paste_at};
-ghost use Rattle.line_keys.specs.Feeds.{Key, Paste, ReadsBy};
 ghost use Rattle.line_screen.specs.Lasting.{kept_refusal};
 
 use crate::reading::reader::KeyReader;

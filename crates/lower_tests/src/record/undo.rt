@@ -1,8 +1,7 @@
 //! A line with its undo record, and with a kill ring. A row is a call, and after `=` what it answers and the line then,
 //! with `|` at the cursor. `line` begins with another line and a record in which nothing stands.
 
-ghost use Rattle.line_record.specs.Items.{ItemsStand};
-ghost use Rattle.line_record.specs.Props.{ItemsStand-prop};
+ghost use Rattle.line_record.specs.Items.{ItemsStand, ItemsStand-prop};
 
 use line_buffer::{DeleteListener, LineBuffer, Movement, OutOfMemory, Word, WordAction};
 use line_record::{Changeset, Joined, KillRing};

@@ -2,7 +2,7 @@ use Rattle.std.proofs.Common.{◌≡◌, ◌+◌, ◌++◌, ◌==◌, ◌&&◌, 
 use Rattle.std.proofs.lemmas.Grind.{common_steps}
 use Rattle.std.proofs.lemmas.Result.{err_from_is_err_and}
 use Rattle.std.specs.Prelude.{string_bytes}
-use Rattle.line_keys.specs.Faults.{IsReaderRefusal}
+use Rattle.line_keys.specs.Feeds.{IsReaderRefusal}
 use Rattle.line_screen.specs.KeyGrammar.{Paste, text_answer, in_paste, marker, put}
 use Rattle.line_screen.specs.Input.{chars_of}
 use Rattle.line_screen.specs.KeyReading.{text_from}
