@@ -18,12 +18,11 @@ pub record Swaps (at : ℕ) (removed added before after : List ℕ) : Type 0 whe
 
 -- what one event makes of a text
 abbrev pub Replays : Event → List ℕ → List ℕ → Type 0
-Replays StartKilling before after = after ≡ before
-Replays StopKilling before after = after ≡ before
 Replays (Delete at text direction) before after = Swaps at text [] before after
 Replays (InsertChar at c) before after = Swaps at [] (encode_utf8 c) before after
 Replays (InsertStr at text) before after = Swaps at [] text before after
 Replays (Replace at removed added) before after = Swaps at removed added before after
+Replays mark before after = after ≡ before
 
 -- what events in order make of a text
 abbrev pub ReplaysAll : List Event → List ℕ → List ℕ → Type 0
@@ -81,12 +80,11 @@ replacement from upto added text = Replace from (slice_range text from upto) add
 
 -- what one event makes of a text in which its old text stands
 abbrev pub replayed : Event → List ℕ → List ℕ
-replayed StartKilling text = text
-replayed StopKilling text = text
 replayed (Delete at removed direction) text = replace_range text at (at + length removed) []
 replayed (InsertChar at c) text = replace_range text at (at + 0) (encode_utf8 c)
 replayed (InsertStr at added) text = replace_range text at (at + 0) added
 replayed (Replace at removed added) text = replace_range text at (at + length removed) added
+replayed mark text = text
 
 unfoldable pub replayed_all : List Event → List ℕ → List ℕ
 replayed_all [] text = text

@@ -3,7 +3,7 @@ use Rattle.std.specs.Prelude.{ℕ, Bool, false, List, [], ◌∷◌, map, Option
 use Rattle.std.specs.List.{starts_with}
 use Rattle.line_keys.specs.declared.key.KeyEvent.{KeyEvent}
 use Rattle.line_keys.specs.declared.events.Event.{Event}
-use Rattle.line_keys.specs.declared.events.Event.TheVariants.{Any, KeySeq, Mouse}
+use Rattle.line_keys.specs.declared.events.Event.TheVariants.{KeySeq}
 use Rattle.line_keys.specs.Keys.{normal}
 use Rattle.line_keys.specs.SameKeys.{same_key}
 
@@ -13,16 +13,13 @@ single k = KeySeq (k ∷ [])
 
 abbrev pub key_number : Event → ℕ → Option KeyEvent
 key_number (KeySeq keys) i = slice_get keys i
-key_number Any i = None
-key_number Mouse i = None
+key_number e i = None
 
 abbrev pub normal_event : Event → Event
 normal_event (KeySeq keys) = KeySeq (map normal keys)
-normal_event Any = Any
-normal_event Mouse = Mouse
+normal_event e = e
 
 -- the event is a sequence that begins with these keys, or is these
 abbrev pub begins_with : List KeyEvent → Event → Bool
 begins_with keys (KeySeq sequence) = starts_with same_key sequence keys
-begins_with keys Any = false
-begins_with keys Mouse = false
+begins_with keys e = false

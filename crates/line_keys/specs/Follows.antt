@@ -2,7 +2,7 @@
 -- cuts it.
 use Rattle.std.specs.Prelude.{◌≡◌, ℕ, ◌<◌, ◌≤◌, ◌⊎◌, ⊤, false, [], None, Result, Ok, Err, IsTrue, IfErr}
 use Rattle.line_config.specs.declared.errors.ReadlineError.{ReadlineError}
-use Rattle.line_config.specs.declared.errors.ReadlineError.TheVariants.{Eof, Interrupted, NotUtf8, PasteOutOfPlace, Reader, Display as DisplayFault, Lines, HistoryText, Helper, Handler, Memory}
+use Rattle.line_config.specs.declared.errors.ReadlineError.TheVariants.{Interrupted, Display as DisplayFault, Lines, HistoryText, Helper, Handler, Memory}
 use Rattle.line_keys.specs.Answers.{Custom, HandlerFails}
 use Rattle.line_config.specs.Scripts.{World, Goes}
 use Rattle.line_keys.specs.Coming.{Coming, behind, left_by}
@@ -58,17 +58,14 @@ Undrawn {S} d wrt e = (before : S) × (ask : Ask) × d.refused before ask e wrt
 -- why a call is refused, whatever is told: what has happened to the reader, an ask that the display
 -- refused, a bound handler that fails; want of memory is anyone's
 abbrev pub Because : {S : Type 0} → KnownDisplay S → Custom → S → KeyFeed → ReadlineError → Type 0
-Because d custom wrt feed Eof = feed.reason Eof
 Because d custom wrt feed Interrupted = ⊥
-Because d custom wrt feed NotUtf8 = feed.reason NotUtf8
-Because d custom wrt feed PasteOutOfPlace = feed.reason PasteOutOfPlace
-Because d custom wrt feed Reader = feed.reason Reader
 Because d custom wrt feed DisplayFault = Undrawn d wrt DisplayFault
 Because d custom wrt feed Lines = ⊥
 Because d custom wrt feed HistoryText = ⊥
 Because d custom wrt feed Helper = Undrawn d wrt Helper
 Because d custom wrt feed Handler = HandlerFails custom
 Because d custom wrt feed Memory = ⊤
+Because d custom wrt feed why = feed.reason why
 
 -- THE relation of a call that reads, asks and keeps
 pub record Follows {S X : Type 0} (d : KnownDisplay S) (custom : Custom) (part : Part X)

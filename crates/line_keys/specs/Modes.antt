@@ -3,7 +3,7 @@ use Rattle.std.specs.Prelude.{Bool, true, false}
 use Rattle.line_config.specs.declared.settings.EditMode.{EditMode}
 use Rattle.line_config.specs.declared.settings.EditMode.TheVariants.{Emacs, Vi}
 use Rattle.line_keys.specs.declared.command.InputMode.{InputMode}
-use Rattle.line_keys.specs.declared.command.InputMode.TheVariants.{Command, Insert, Replace}
+use Rattle.line_keys.specs.declared.command.InputMode.TheVariants.{Command}
 
 abbrev pub is_emacs : EditMode → Bool
 is_emacs Emacs = true
@@ -11,8 +11,7 @@ is_emacs Vi = false
 
 abbrev pub takes_commands : InputMode → Bool
 takes_commands Command = true
-takes_commands Insert = false
-takes_commands Replace = false
+takes_commands mode = false
 
 -- Vi's keys are commands
 abbrev pub is_vi_command : EditMode → InputMode → Bool

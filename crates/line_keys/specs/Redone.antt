@@ -2,7 +2,7 @@
 -- last; and their movements.
 use Rattle.std.specs.Prelude.{ℕ, ◌==◌, List, [], length, min, Option, Some, None, unwrap_or, if◌then◌else◌}
 use Rattle.line_buffer.specs.declared.types.Movement.{Movement}
-use Rattle.line_buffer.specs.declared.types.Movement.TheVariants.{ForwardChar, WholeLine, BeginningOfLine, EndOfLine, BackwardWord, ForwardWord, ViCharSearch, ViFirstPrint, BackwardChar, LineUp, LineDown, WholeBuffer, BeginningOfBuffer, EndOfBuffer}
+use Rattle.line_buffer.specs.declared.types.Movement.TheVariants.{ForwardChar, BackwardWord, ForwardWord, ViCharSearch, BackwardChar, LineUp, LineDown}
 use Rattle.line_keys.specs.declared.command.Cmd.{Cmd}
 use Rattle.line_keys.specs.declared.command.Cmd.TheVariants.{Dedent, Indent, Insert, Kill, Move, ReplaceChar, Replace, SelfInsert, ViYankTo, Yank}
 use Rattle.line_keys.specs.Commands.{standing}
@@ -10,20 +10,14 @@ use Rattle.line_keys.specs.Phrases.{Part, granted}
 use Rattle.line_keys.specs.Refreshing.{Shown}
 
 abbrev pub recounted : Option ℕ → Movement → Movement
-recounted new WholeLine = WholeLine
-recounted new BeginningOfLine = BeginningOfLine
-recounted new EndOfLine = EndOfLine
 recounted new (BackwardWord n word) = BackwardWord (unwrap_or new n) word
 recounted new (ForwardWord n at word) = ForwardWord (unwrap_or new n) at word
 recounted new (ViCharSearch n sought) = ViCharSearch (unwrap_or new n) sought
-recounted new ViFirstPrint = ViFirstPrint
 recounted new (BackwardChar n) = BackwardChar (unwrap_or new n)
 recounted new (ForwardChar n) = ForwardChar (unwrap_or new n)
 recounted new (LineUp n) = LineUp (unwrap_or new n)
 recounted new (LineDown n) = LineDown (unwrap_or new n)
-recounted new WholeBuffer = WholeBuffer
-recounted new BeginningOfBuffer = BeginningOfBuffer
-recounted new EndOfBuffer = EndOfBuffer
+recounted new m = m
 
 -- a typed character stands for all that was inserted with it
 abbrev pub typed_anew : ℕ → ℕ → Option (List ℕ) → Cmd

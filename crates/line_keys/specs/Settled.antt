@@ -2,15 +2,14 @@
 use Rattle.std.specs.Prelude.{Bool, true, false, IsTrue}
 use Rattle.line_config.specs.Scripts.{Ends, Asks}
 use Rattle.line_keys.specs.Phrases.{KeyAsk, Answer, Steps, Shows}
-use Rattle.line_keys.specs.Refreshing.{Ask, Line, Message, Prompted, DoingInsert, DoneInserting}
+use Rattle.line_keys.specs.Refreshing.{Ask, Line, Message, Prompted}
 
 -- the session's own prompt stands after the ask, where it did or didn't before
 abbrev pub own_by : Bool → Ask → Bool
 own_by own Line = true
 own_by own (Message text kind) = true
 own_by own (Prompted prompt) = false
-own_by own DoingInsert = own
-own_by own DoneInserting = own
+own_by own ask = own
 
 abbrev pub own_by_key : Bool → KeyAsk → Bool
 own_by_key own (Shows ask) = own_by own ask

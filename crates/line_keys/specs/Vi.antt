@@ -148,8 +148,7 @@ vi_command custom k input shown =
 
 abbrev pub typed_in : InputMode → ℕ → Cmd
 typed_in Overwriting c = Overwrite c
-typed_in Insert c = SelfInsert 1 c
-typed_in Command c = SelfInsert 1 c
+typed_in mode c = SelfInsert 1 c
 
 -- inserting is done: what follows is shown to command mode
 abbrev pub leaving : Input → (Input → Shown → Part Cmd) → Part Cmd

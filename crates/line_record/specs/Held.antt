@@ -3,7 +3,7 @@ use Rattle.std.specs.Prelude.{ℕ, zero, suc, ◌+◌, ◌==◌, ◌&&◌, ◌||
 use Rattle.unicode_segmentation.specs.Grapheme.{graphemes}
 use Rattle.unicode_segmentation.specs.Segments.{is_alphanumeric}
 use Rattle.line_buffer.specs.Event.{Event}
-use Rattle.line_buffer.specs.Event.Event.{StartKilling, StopKilling, Delete, InsertChar, InsertStr, Replace}
+use Rattle.line_buffer.specs.Event.Event.{Delete, InsertChar, InsertStr, Replace}
 use Rattle.line_buffer.specs.Line.{Line}
 use Rattle.line_buffer.specs.Words.{is_alphanumeric_cluster}
 use Rattle.line_record.specs.Edit.{Edit, undo_place, redo_place}
@@ -25,21 +25,19 @@ is_one_alphanumeric text = (length (graphemes true text) == 1) && is_alphanumeri
 
 -- the change that an event tells of; an empty one is none
 abbrev pub change_of : Event → Option Edit
-change_of StartKilling = None
-change_of StopKilling = None
 change_of (Delete at text direction) = if length text == 0 then None else Some (Deleted at text)
 change_of (InsertChar at c) = Some (Inserted at (encode_utf8 c))
 change_of (InsertStr at text) = if length text == 0 then None else Some (Inserted at text)
 change_of (Replace at before after) =
     if (length before == 0) && (length after == 0) then None else Some (Replaced at before after)
+change_of mark = None
 
 -- an alphanumeric character typed right after an insertion
 abbrev pub joined_char : ℕ → ℕ → Edit → Option Edit
 joined_char at c (Inserted place text) =
     if is_alphanumeric c && (at == place + length text)
     then Some (Inserted place (text ++ encode_utf8 c)) else None
-joined_char at c (Deleted place text) = None
-joined_char at c (Replaced place before after) = None
+joined_char at c other = None
 
 -- an alphanumeric cluster deleted right after a deletion, or right before it
 abbrev pub joined_deletion : ℕ → List ℕ → Edit → Option Edit
@@ -48,24 +46,20 @@ joined_deletion at text (Deleted place deleted) =
     else if at == place then Some (Deleted place (deleted ++ text))
     else if at + length text == place then Some (Deleted at (text ++ deleted))
     else None
-joined_deletion at text (Inserted place inserted) = None
-joined_deletion at text (Replaced place before after) = None
+joined_deletion at text other = None
 
 -- a replacement right after another
 abbrev pub joined_replacement : ℕ → List ℕ → List ℕ → Edit → Option Edit
 joined_replacement at before after (Replaced place was is) =
     if at == place + length is then Some (Replaced place (was ++ before) (is ++ after)) else None
-joined_replacement at before after (Inserted place text) = None
-joined_replacement at before after (Deleted place text) = None
+joined_replacement at before after other = None
 
 -- the change that an event makes with the one right before it, if it joins that one
 abbrev pub joined_to : Event → Edit → Option Edit
-joined_to StartKilling d = None
-joined_to StopKilling d = None
 joined_to (Delete at text direction) d = joined_deletion at text d
 joined_to (InsertChar at c) d = joined_char at c d
-joined_to (InsertStr at text) d = None
 joined_to (Replace at before after) d = joined_replacement at before after d
+joined_to e d = None
 
 -- a step of one change
 abbrev pub step_of : Edit → List ℕ → Held

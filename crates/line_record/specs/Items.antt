@@ -2,7 +2,7 @@
 -- hold on a line's text.
 use Rattle.std.specs.Prelude.{◌≡◌, ℕ, Bool, true, false, List, [], ◌∷◌, ◌++◌, drop, length, ◌-◌, Option, Some, None, is_some, IsUtf8}
 use Rattle.line_buffer.specs.Event.{Event}
-use Rattle.line_buffer.specs.Event.Event.{StartKilling, StopKilling, Delete, InsertChar, InsertStr, Replace}
+use Rattle.line_buffer.specs.Event.Event.{StartKilling, StopKilling}
 use Rattle.line_buffer.specs.Line.{Line}
 use Rattle.line_buffer.specs.Replay.{Replays}
 use Rattle.line_record.specs.Edit.{Edit, undo_place, redo_place, taken_back, made_anew, all_taken_back, AllStandIn, all_made_anew, AllFitIn, newest_of, StandsAt}
@@ -125,8 +125,7 @@ redo_one done (x ∷ items) = record { done = x ∷ done; undone = items }
 
 abbrev pub is_step_item : Item → Bool
 is_step_item Open = false
-is_step_item (Lone c) = true
-is_step_item (Group c cs) = true
+is_step_item x = true
 
 -- the changes of the nearest item, if there is one
 abbrev pub nearest_changes : List Item → List Edit
@@ -145,9 +144,7 @@ noted_on None c d items = Lone c ∷ (Lone d ∷ items)
 
 abbrev pub noted : Event → Edit → List Item → List Item
 noted e c (Lone d ∷ items) = noted_on (joined_to e d) c d items
-noted e c (Group d ds ∷ items) = Lone c ∷ (Group d ds ∷ items)
-noted e c (Open ∷ items) = Lone c ∷ (Open ∷ items)
-noted e c [] = Lone c ∷ []
+noted e c items = Lone c ∷ items
 
 abbrev pub noted_if : Event → Option Edit → List Item → List Item
 noted_if e None items = items
@@ -164,10 +161,7 @@ record_refuses s e t = (t ≡ s) × (is_some (change_of e) ≡ true)
 abbrev pub ahead_after : Event → List Undone → List Undone
 ahead_after StartKilling ahead = ahead
 ahead_after StopKilling ahead = ahead
-ahead_after (Delete at text direction) ahead = []
-ahead_after (InsertChar at c) ahead = []
-ahead_after (InsertStr at text) ahead = []
-ahead_after (Replace at before after) ahead = []
+ahead_after e ahead = []
 
 -- what an event makes of the record: wherever its changes stand, they stand after it, and the
 -- record of texts follows

@@ -2,7 +2,7 @@
 -- slots.
 use Rattle.std.specs.Prelude.{ℕ, suc, Bool, true, false, List, [], ◌∷◌, ◌++◌, take, drop, reverse, if◌then◌else◌}
 use Rattle.line_buffer.specs.Event.{Event}
-use Rattle.line_buffer.specs.Event.Event.{StartKilling, StopKilling, Delete, InsertChar, InsertStr, Replace}
+use Rattle.line_buffer.specs.Event.Event.{StartKilling, StopKilling, Delete}
 use Rattle.line_buffer.specs.declared.types.Mode.{Mode}
 use Rattle.line_record.specs.declared.kill_ring.Action.TheVariants.{Other}
 use Rattle.line_record.specs.Ring.{Ring, joined_text, mode_of, killed, yanked, ring_step}
@@ -38,15 +38,12 @@ kills_heard StartKilling k = record k { killing = true }
 kills_heard StopKilling k = record k { killing = false }
 kills_heard (Delete at text direction) k =
     if k.killing then kill_taken text (mode_of direction) k else k
-kills_heard (InsertChar at c) k = k
-kills_heard (InsertStr at text) k = k
-kills_heard (Replace at removed added) k = k
+kills_heard e k = k
 
 abbrev pub kills_after : RingCall → Kills → Kills
 kills_after (Taken text mode) k = kill_taken text mode k
 kills_after (Heard e) k = kills_heard e k
-kills_after Ended k = record k { running = false }
-kills_after Lent k = record k { running = false }
+kills_after call k = record k { running = false }
 
 unfoldable pub all_kills_after : List RingCall → Kills → Kills
 all_kills_after [] k = k

@@ -10,7 +10,7 @@ use Rattle.line_record.specs.Held.{Held, Undone, text_back, ended, closes, has_m
 use Rattle.line_record.specs.Held.Held.{Opened}
 use Rattle.line_record.specs.Items.{Item, Items, ItemsStand, held_on, after_item}
 use Rattle.line_record.specs.Course.{RecordCall, Course, begun_with, after_call, after_calls, IsAmong}
-use Rattle.line_record.specs.Course.RecordCall.{Told, Begun, Ended, TakenBack, MadeAnew}
+use Rattle.line_record.specs.Course.RecordCall.{Told, Begun, Ended, TakenBack}
 use Rattle.line_record.specs.Kills.{RingCall, no_kills, all_kills_after, ring_after_all, newest_first}
 use Rattle.line_record.specs.Ring.{Ring, IsRing, new_ring, ring_all}
 
@@ -50,9 +50,7 @@ EmptyGroupLeavesNothing =
 abbrev pub stays_open : RecordCall → Bool
 stays_open (Told e) = true
 stays_open Begun = true
-stays_open Ended = false
-stays_open (TakenBack n) = false
-stays_open MadeAnew = false
+stays_open call = false
 
 abbrev pub AllStayOpen : List RecordCall → Type 0
 AllStayOpen [] = Unit {0}

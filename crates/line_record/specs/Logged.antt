@@ -1,7 +1,7 @@
 -- What the entries of a log stand for.
 use Rattle.std.specs.Prelude.{◌≤◌, ℕ, zero, suc, Bool, if◌then◌else◌, List, [], ◌∷◌, ◌++◌, map, take, length, slice_range, encode_utf8, Option, None, option_map, IsUtf8, ◌≡◌, slice_get, unwrap_or}
 use Rattle.line_buffer.specs.Event.{Event}
-use Rattle.line_buffer.specs.Event.Event.{StartKilling, StopKilling, Delete, InsertChar, InsertStr, Replace}
+use Rattle.line_buffer.specs.Event.Event.{Delete, InsertChar, InsertStr, Replace}
 use Rattle.line_record.specs.Edit.{Edit}
 use Rattle.line_record.specs.Edit.Edit.{Inserted, Deleted, Replaced}
 use Rattle.line_record.specs.Held.{joined_to}
@@ -50,26 +50,20 @@ IsLog text entries = Adjoin (λ x. x.start) (λ x. x.end) Spelt text 0 entries (
 abbrev pub removed_told : Event → List ℕ
 removed_told (Delete at text direction) = text
 removed_told (Replace at before after) = before
-removed_told (InsertChar at c) = []
-removed_told (InsertStr at text) = []
-removed_told StartKilling = []
-removed_told StopKilling = []
+removed_told e = []
 
 abbrev pub added_told : Event → List ℕ
 added_told (InsertChar at c) = encode_utf8 c
 added_told (InsertStr at text) = text
 added_told (Replace at before after) = after
-added_told (Delete at text direction) = []
-added_told StartKilling = []
-added_told StopKilling = []
+added_told e = []
 
 abbrev pub place_told : Event → ℕ
 place_told (InsertChar at c) = at
 place_told (InsertStr at text) = at
 place_told (Replace at before after) = at
 place_told (Delete at text direction) = at
-place_told StartKilling = 0
-place_told StopKilling = 0
+place_told mark = 0
 
 -- a change with more text: the old before or after its own, the new after its own
 abbrev pub grown_old : Bool → List ℕ → List ℕ → List ℕ

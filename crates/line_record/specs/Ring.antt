@@ -3,7 +3,7 @@
 use Rattle.std.specs.Prelude.{◌≡◌, ℕ, ◌+◌, ◌-◌, ◌==◌, ◌<◌, ◌≤◌, Bool, true, false, List, [], ◌∷◌, ◌++◌, length, if◌then◌else◌, nat_lt, Option, Some, None, slice_set, slice_index_or}
 use Rattle.std.specs.List.{fold}
 use Rattle.line_buffer.specs.Event.{Event}
-use Rattle.line_buffer.specs.Event.Event.{StartKilling, StopKilling, Delete, InsertChar, InsertStr, Replace}
+use Rattle.line_buffer.specs.Event.Event.{StartKilling, StopKilling, Delete}
 use Rattle.line_buffer.specs.declared.types.Direction.{Direction}
 use Rattle.line_buffer.specs.declared.types.Direction.TheVariants.{Forward, Backward}
 use Rattle.line_buffer.specs.declared.types.Mode.{Mode}
@@ -53,8 +53,7 @@ killed_after Kill text mode r =
       slots = slice_set r.slots r.place
           (joined_text mode text (slice_index_or r.slots r.place []));
     }
-killed_after Other text mode r = killed_anew text r
-killed_after (Yank count) text mode r = killed_anew text r
+killed_after last text mode r = killed_anew text r
 
 -- a kill after a kill joins the text of its slot, any other takes the next slot; a ring of no slots
 -- keeps nothing
@@ -78,8 +77,7 @@ turned_back r = yanked (record r { place = slot_before (length r.slots) r.place 
 -- a ring turns only after a yank
 abbrev pub turned_after : Action → Ring → Ring
 turned_after (Yank count) r = if length r.slots == 0 then r else turned_back r
-turned_after Kill r = r
-turned_after Other r = r
+turned_after last r = r
 
 abbrev pub turned : Ring → Ring
 turned r = turned_after r.last r
@@ -89,8 +87,7 @@ abbrev pub exchanged_after : Action → Ring → Option (ℕ × List ℕ)
 exchanged_after (Yank count) r =
     if length r.slots == 0 then None
     else Some (count, slice_index_or r.slots (slot_before (length r.slots) r.place) [])
-exchanged_after Kill r = None
-exchanged_after Other r = None
+exchanged_after last r = None
 
 abbrev pub exchanged : Ring → Option (ℕ × List ℕ)
 exchanged r = exchanged_after r.last r
@@ -104,9 +101,7 @@ abbrev pub ring_step : Event → Ring → Ring
 ring_step StartKilling r = record r { killing = true }
 ring_step StopKilling r = record r { killing = false }
 ring_step (Delete at text direction) r = if r.killing then killed text (mode_of direction) r else r
-ring_step (InsertChar at c) r = r
-ring_step (InsertStr at text) r = r
-ring_step (Replace at removed added) r = r
+ring_step e r = r
 
 -- a ring that has slots keeps what is deleted between the two marks
 abbrev pub Keeps : Event → Ring → Type 0

@@ -27,9 +27,8 @@ event_of (told.Replacement at removed added) = Replace at removed.now added.now
 
 -- the nearest item with an event's change joined to it, if it joins
 abbrev pub joined_item : Event → Item → Option Item
-joined_item e Open = None
 joined_item e (Lone d) = option_map Lone (joined_to e d)
-joined_item e (Group d ds) = None
+joined_item e x = None
 
 abbrev pub joined_items : Event → List Item → Option (List Item)
 joined_items e [] = None
@@ -43,8 +42,7 @@ item_inserted (Group c cs) = inserted_by (newest_of c cs)
 
 abbrev pub is_open : Item → Bool
 is_open Open = true
-is_open (Lone c) = false
-is_open (Group c cs) = false
+is_open x = false
 
 abbrev pub item_in : List Edit → Step → Item
 item_in edits s = item_from s.closed (slice_range edits s.first s.last)
@@ -71,8 +69,7 @@ record_of items n = record { done = reverse (take n items); undone = drop n item
 abbrev pub oldest_mark : List Item → Option ℕ
 oldest_mark [] = None
 oldest_mark (Open ∷ items) = Some (unwrap_or (oldest_mark items) (length items))
-oldest_mark (Lone c ∷ items) = oldest_mark items
-oldest_mark (Group c cs ∷ items) = oldest_mark items
+oldest_mark (x ∷ items) = oldest_mark items
 
 -- no more items are done than there are, and the mark is the oldest of theirs
 pub record IsRecord (items : List Item) (n : ℕ) (mark : Option ℕ) : Type 0 where
