@@ -6,6 +6,7 @@ use Rattle.line_buffer.specs.Cells.{origin}
 use Rattle.line_keys.specs.declared.command.CmdKind.{CmdKind}
 use Rattle.std.specs.List.{FoldsTo}
 use Rattle.line_config.specs.declared.errors.ReadlineError.{ReadlineError}
+use Rattle.line_config.specs.declared.errors.ReadlineError.TheVariants.{Display}
 use Rattle.line_help.specs.declared.completion as completions
 use Rattle.line_help.specs.declared.hint as hints
 use Rattle.line_help.specs.declared.highlight as highlights
@@ -14,7 +15,7 @@ use Rattle.line_help.specs.declared.history as histories
 use Rattle.line_editor.specs.Calls.{Ruler, MadeIn}
 use Rattle.line_editor.specs.Redraws.{Asked, then_asked}
 use Rattle.line_editor.specs.Steps.{asked, Surface, surface, Stops}
-use Rattle.line_editor.specs.States.{hooks_of, value_of, setting_of, reason_of, surface_of, Stays, Does}
+use Rattle.line_editor.specs.States.{hooks_of, value_of, setting_of, reason_of, surface_of, Stays, Does, Renders}
 use Rattle.line_editor.specs.Values.{Setting, Hooks, Effect, Transition, IsFailing, then_do}
 use Rattle.line_editor.specs.declared.renderer as renderers
 use Rattle.line_editor.specs.declared.state.State.{State}
@@ -142,6 +143,14 @@ module _ {Out H Hi K T : Type 0} {renderer : renderers.Renderer.Ghosts Out} {com
       → IsErrAnd result (λ x. x ≡ e) → Does {A = A} first s t (Err e) → Does (then_do first second) s t result
   does_cut_by {A} {B} first second s t e result is h =
       subst (λ r. Does {A = B} (then_do first second) s t r) (sym (is_err e result is)) (does_cut first second s t e h)
+
+  -- and so does one of drawings
+  pub renders_cut_by : {A B : Type 0} (first second : Transition) (s t : State Out H Hi K T renderer completer candidate hinter hint highlighter validator history) (e : ReadlineError) (result : Result B ReadlineError)
+      → IsErrAnd result (λ x. x ≡ e) → Renders {A = A} first s t (Err e) → Renders (then_do first second) s t result
+  renders_cut_by {A} {B} first second s t e result is h = record {
+    does = does_cut_by {A = A} first second s t e result is h.does;
+    fault = subst (λ (r : Result B ReadlineError). IfErr r (λ x. x ≡ Display)) (sym (is_err e result is)) h.fault;
+  }
 
   pub does_both_by : {A B C : Type 0} (first second : Transition) (s m t : State Out H Hi K T renderer completer candidate hinter hint highlighter validator history) (x : A) (e : ReadlineError) (result : Result C ReadlineError)
       → IsErrAnd result (λ y. y ≡ e) → Does first s m (Ok x) → Does {A = B} second m t (Err e) → Does (then_do first second) s t result

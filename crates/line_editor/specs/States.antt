@@ -125,6 +125,13 @@ module _ {Out H Hi K T : Type 0} {renderer : renderers.Ghosts Out}
     pub stops : IfErr result (λ fault. Stops renderer.canvas (renderer.canvas.ruler s.out)
         (edit (setting_of s) (value_of s)).steps (surface_of s) fault (value_of t) (surface_of t))
 
+  -- an edit that only draws: nothing but the display refuses it
+  pub record Renders {A : Type 0} (edit : Transition)
+      (s t : State Out H Hi K T renderer completer candidate hinter hint highlighter validator
+      history) (result : Result A ReadlineError) : Type 0 where
+    pub does : Does edit s t result
+    pub fault : IfErr result (λ e. e ≡ Display)
+
   -- as a display of the key tables: an ask is an edit; one that is refused is one that was begun
   abbrev pub display_of : KnownDisplay
       (State Out H Hi K T renderer completer candidate hinter hint highlighter validator history)

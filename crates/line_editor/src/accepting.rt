@@ -1,6 +1,5 @@
 //! Lines that are to be accepted.
-ghost use Rattle.std.specs.Prelude.{◌≡◌, IfErr, IfOk, OnOk, option_copied};
-ghost use Rattle.line_config.specs.declared.errors.ReadlineError.TheVariants.{Display};
+ghost use Rattle.std.specs.Prelude.{◌≡◌, IfOk, OnOk, option_copied};
 
 use crate::renderer::Renderer;
 use crate::state::State;
@@ -10,7 +9,7 @@ use line_keys::{CmdKind, Text};
 
 #[tactic(auto, using(crate::proofs::StopsLemmas::stops_taking))]
 impl<'p, 'h, Out: Renderer, H: Helper + Drop, Hi: History> State<'p, 'h, Out, H, Hi> {
-    ghost use Rattle.line_editor.specs.States.{value_of, setting_of, Does, Helps, Stays};
+    ghost use Rattle.line_editor.specs.States.{value_of, setting_of, Does, Renders, Helps, Stays};
     ghost use Rattle.line_editor.specs.Values.{verdict_reply};
     ghost use Rattle.line_editor.specs.Accepting.{bare, verdict, told_if, verdict_told, closed_and_told, opened_and_asked, validate, accepts_found, newline, accept, accepts, newline_if, accept_or_insert, submitted};
 
@@ -48,8 +47,7 @@ impl<'p, 'h, Out: Renderer, H: Helper + Drop, Hi: History> State<'p, 'h, Out, H,
     /// Tells what was found: of a line that isn't incomplete, where something is to be drawn anew
     /// or there is a message.
     fn tell_verdict(&mut self, found: &ValidationResult, draws: bool) -> Result<(), ReadlineError>
-        ensures does { Does (verdict_told found.now draws) self.old self.new result }
-        ensures fault { IfErr result (λ e. e ≡ Display) }
+        ensures { Renders (verdict_told found.now draws) self.old self.new result }
     {
         match found {
             ValidationResult::Incomplete => Ok(()),
@@ -65,8 +63,7 @@ impl<'p, 'h, Out: Renderer, H: Helper + Drop, Hi: History> State<'p, 'h, Out, H,
         text: &Option<Text>,
         kind: CmdKind,
     ) -> Result<(), ReadlineError>
-        ensures does { Does (told_if draws text.now kind) self.old self.new result }
-        ensures fault { IfErr result (λ e. e ≡ Display) }
+        ensures { Renders (told_if draws text.now kind) self.old self.new result }
     {
         if draws || text.is_some() {
             self.tell(text_of(text), kind)
@@ -77,8 +74,7 @@ impl<'p, 'h, Out: Renderer, H: Helper + Drop, Hi: History> State<'p, 'h, Out, H,
 
     /// Closes the groups, and tells what was found.
     fn close_and_tell(&mut self, found: &ValidationResult) -> Result<(), ReadlineError>
-        ensures does { Does (closed_and_told found.now) self.old self.new result }
-        ensures fault { IfErr result (λ e. e ≡ Display) }
+        ensures { Renders (closed_and_told found.now) self.old self.new result }
     {
         let ended = self.changes.end(self.alloc)?;
         let draws = ended || self.hint.is_some();
@@ -169,8 +165,7 @@ impl<'p, 'h, Out: Renderer, H: Helper + Drop, Hi: History> State<'p, 'h, Out, H,
     /// The end of an accepted line: the cursor after the text, then the display's after the
     /// drawing.
     pub(crate) fn submit(&mut self) -> Result<(), ReadlineError>
-        ensures does { Does submitted self.old self.new result }
-        ensures fault { IfErr result (λ e. e ≡ Display) }
+        ensures { Renders submitted self.old self.new result }
     {
         self.edit_move_buffer_end(CmdKind::ForcedRefresh)?;
         self.move_cursor_to_end()

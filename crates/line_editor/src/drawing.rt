@@ -1,7 +1,6 @@
 //! What a state draws.
-ghost use Rattle.std.specs.Prelude.{◌≡◌, ◌+◌, ◌<◌, ◌≤◌, Some, None, if◌then◌else◌, IfErr, IfOk, IsTrue, option_map, option_copied};
+ghost use Rattle.std.specs.Prelude.{◌≡◌, ◌+◌, ◌<◌, ◌≤◌, Some, None, if◌then◌else◌, IfOk, IsTrue, option_map, option_copied};
 ghost use Rattle.line_buffer.specs.Cells.{origin};
-ghost use Rattle.line_config.specs.declared.errors.ReadlineError.TheVariants.{Display};
 ghost use Rattle.line_editor.specs.Calls.{Makes};
 ghost use Rattle.line_editor.specs.Calls.Call.{Draw};
 ghost use Rattle.line_editor.specs.Values.{hooks_by, marked_by};
@@ -101,9 +100,9 @@ fn draw_over<Out: Renderer, H: Highlighter>(
     Ok(layout)
 }
 
-#[tactic(auto, using(crate::proofs::StopsLemmas::stops_drawing, crate::proofs::StopsLemmas::broken_refused))]
+#[tactic(auto, using(crate::proofs::StopsLemmas::drawings_stop))]
 impl<'p, 'h, Out: Renderer, H: Helper + Drop, Hi: History> State<'p, 'h, Out, H, Hi> {
-    ghost use Rattle.line_editor.specs.States.{value_of, setting_of, Stays, Does, Helps};
+    ghost use Rattle.line_editor.specs.States.{value_of, setting_of, Stays, Does, Renders, Helps};
     ghost use Rattle.line_editor.specs.Values.{hint_reply, with_hint, with_mark};
     ghost use Rattle.line_editor.specs.Drawing.{drawn_behind, drawn_with, repainted, refreshed, refreshed_behind, told, cursor_shown, cursor_moved, moved_to_end, beeped, cleared, cleared_and_drawn};
     ghost use Rattle.line_editor.specs.Drawing.{hint_asked, asked_anew};
@@ -159,8 +158,7 @@ impl<'p, 'h, Out: Renderer, H: Helper + Drop, Hi: History> State<'p, 'h, Out, H,
 
     /// Draws the line after a prompt, with the hint that is kept.
     pub(crate) fn draw(&mut self, prompt: &str, given: bool) -> Result<(), ReadlineError>
-        ensures does { Does (drawn_behind prompt.now given) self.old self.new result }
-        ensures fault { IfErr result (λ e. e ≡ Display) }
+        ensures { Renders (drawn_behind prompt.now given) self.old self.new result }
     {
         let pos = self.line.pos();
         let info = display_of(&self.hint);
@@ -180,8 +178,7 @@ impl<'p, 'h, Out: Renderer, H: Helper + Drop, Hi: History> State<'p, 'h, Out, H,
 
     /// Draws the line with other information in place of the hint.
     pub(crate) fn draw_with(&mut self, info: Option<&str>) -> Result<(), ReadlineError>
-        ensures does { Does (drawn_with (option_copied info.entry)) self.old self.new result }
-        ensures fault { IfErr result (λ e. e ≡ Display) }
+        ensures { Renders (drawn_with (option_copied info.entry)) self.old self.new result }
     {
         let pos = self.line.pos();
         self.known = None;
@@ -200,8 +197,7 @@ impl<'p, 'h, Out: Renderer, H: Helper + Drop, Hi: History> State<'p, 'h, Out, H,
 
     /// Draws the line with the hint that is kept. All is drawn anew, whatever the kind.
     pub fn repaint(&mut self, _kind: RefreshKind) -> Result<(), ReadlineError>
-        ensures does { Does repainted self.old self.new result }
-        ensures fault { IfErr result (λ e. e ≡ Display) }
+        ensures { Renders repainted self.old self.new result }
     {
         let prompt = self.prompt;
         self.draw(prompt, true)
@@ -235,8 +231,7 @@ impl<'p, 'h, Out: Renderer, H: Helper + Drop, Hi: History> State<'p, 'h, Out, H,
 
     /// Draws the line with a message, if there is one, in place of the hint.
     pub(crate) fn tell(&mut self, message: Option<&str>, kind: CmdKind) -> Result<(), ReadlineError>
-        ensures does { Does (told (option_copied message.entry) kind) self.old self.new result }
-        ensures fault { IfErr result (λ e. e ≡ Display) }
+        ensures { Renders (told (option_copied message.entry) kind) self.old self.new result }
     {
         self.hint = None;
         self.mark(kind);
@@ -245,8 +240,7 @@ impl<'p, 'h, Out: Renderer, H: Helper + Drop, Hi: History> State<'p, 'h, Out, H,
 
     /// Moves the display's cursor to the text's.
     pub(crate) fn show_cursor(&mut self) -> Result<(), ReadlineError>
-        ensures does { Does cursor_shown self.old self.new result }
-        ensures fault { IfErr result (λ e. e ≡ Display) }
+        ensures { Renders cursor_shown self.old self.new result }
     {
         let pos = self.line.pos();
         let cursor = self.position_at(pos);
@@ -262,8 +256,7 @@ impl<'p, 'h, Out: Renderer, H: Helper + Drop, Hi: History> State<'p, 'h, Out, H,
     /// Moves the display's cursor to the text's. Where a character is highlighted, or was until
     /// now, the line is drawn in its place, without hint and message.
     pub fn move_cursor(&mut self, kind: CmdKind) -> Result<(), ReadlineError>
-        ensures does { Does (cursor_moved kind) self.old self.new result }
-        ensures fault { IfErr result (λ e. e ≡ Display) }
+        ensures { Renders (cursor_moved kind) self.old self.new result }
     {
         let was_marked = self.highlight_char;
         self.mark(kind);
@@ -276,8 +269,7 @@ impl<'p, 'h, Out: Renderer, H: Helper + Drop, Hi: History> State<'p, 'h, Out, H,
 
     /// Moves the display's cursor to the drawing's end.
     pub fn move_cursor_to_end(&mut self) -> Result<(), ReadlineError>
-        ensures does { Does moved_to_end self.old self.new result }
-        ensures fault { IfErr result (λ e. e ≡ Display) }
+        ensures { Renders moved_to_end self.old self.new result }
     {
         if self.layout.cursor == self.layout.end {
             return Ok(());
@@ -298,8 +290,7 @@ impl<'p, 'h, Out: Renderer, H: Helper + Drop, Hi: History> State<'p, 'h, Out, H,
     }
 
     pub(crate) fn beep(&mut self) -> Result<(), ReadlineError>
-        ensures does { Does beeped self.old self.new result }
-        ensures fault { IfErr result (λ e. e ≡ Display) }
+        ensures { Renders beeped self.old self.new result }
     {
         self.out.beep()?;
         Ok(())
@@ -307,8 +298,7 @@ impl<'p, 'h, Out: Renderer, H: Helper + Drop, Hi: History> State<'p, 'h, Out, H,
 
     /// Erases the display. What is kept of the drawing is as before the first one.
     pub fn clear_screen(&mut self) -> Result<(), ReadlineError>
-        ensures does { Does cleared self.old self.new result }
-        ensures fault { IfErr result (λ e. e ≡ Display) }
+        ensures { Renders cleared self.old self.new result }
     {
         self.known = None;
         self.out.clear_screen()?;
@@ -327,9 +317,8 @@ impl<'p, 'h, Out: Renderer, H: Helper + Drop, Hi: History> State<'p, 'h, Out, H,
     /// Shows a character that was typed at the end: its byte alone, where nothing stands after it
     /// and it doesn't fill its row.
     pub(crate) fn show_short_typed(&mut self, ch: char) -> Result<(), ReadlineError>
-        ensures does { Does (λ s v. redrawn (Typed s.prompt ch v.line.text v.line.place) s v)
+        ensures { Renders (λ s v. redrawn (Typed s.prompt ch v.line.text v.line.place) s v)
             self.old self.new result }
-        ensures fault { IfErr result (λ e. e ≡ Display) }
     {
         if may_type(&self.out, &self.layout) {
             let mut bytes = [0u8; 4];
@@ -344,9 +333,8 @@ impl<'p, 'h, Out: Renderer, H: Helper + Drop, Hi: History> State<'p, 'h, Out, H,
     /// Shows that so many characters were taken from the end: the rest of the row is erased, where
     /// they stood in it and nothing stands after them.
     pub(crate) fn show_short_taken(&mut self, count: usize) -> Result<(), ReadlineError>
-        ensures does { Does (λ s v. redrawn (Taken s.prompt count v.line.text v.line.place) s v)
+        ensures { Renders (λ s v. redrawn (Taken s.prompt count v.line.text v.line.place) s v)
             self.old self.new result }
-        ensures fault { IfErr result (λ e. e ≡ Display) }
     {
         if may_take(&self.layout, count) {
             let end = Position {
@@ -363,9 +351,8 @@ impl<'p, 'h, Out: Renderer, H: Helper + Drop, Hi: History> State<'p, 'h, Out, H,
 
     /// Draws the line without hint where another prompt than its own stands.
     pub(crate) fn show_bare(&mut self) -> Result<(), ReadlineError>
-        ensures does { Does (λ s v. redrawn (Bared s.prompt v.line.text v.line.place) s v)
+        ensures { Renders (λ s v. redrawn (Bared s.prompt v.line.text v.line.place) s v)
             self.old self.new result }
-        ensures fault { IfErr result (λ e. e ≡ Display) }
     {
         if self.layout.default_prompt {
             return Ok(());

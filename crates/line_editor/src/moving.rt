@@ -1,6 +1,5 @@
 //! Motions of the cursor.
-ghost use Rattle.std.specs.Prelude.{◌≡◌, is_some, IfErr, IfOk};
-ghost use Rattle.line_config.specs.declared.errors.ReadlineError.TheVariants.{Display};
+ghost use Rattle.std.specs.Prelude.{◌≡◌, is_some, IfOk};
 ghost use Rattle.line_help.specs.History.{begins_with_space};
 
 use crate::renderer::Renderer;
@@ -13,7 +12,7 @@ use line_keys::CmdKind;
 #[tactic(auto, using(crate::proofs::StopsLemmas::stops_drawing))]
 impl<'p, 'h, Out: Renderer, H: Helper + Drop, Hi: History> State<'p, 'h, Out, H, Hi> {
     ghost use Rattle.line_buffer.specs.Columns.{line_up, line_down};
-    ghost use Rattle.line_editor.specs.States.{value_of, setting_of, Does};
+    ghost use Rattle.line_editor.specs.States.{value_of, setting_of, Does, Renders};
     ghost use Rattle.line_buffer.specs.declared.types.At.TheVariants.{Start};
     ghost use Rattle.line_buffer.specs.declared.types.Word.TheVariants.{Big};
     ghost use Rattle.line_editor.specs.Values.{then_do};
@@ -76,8 +75,7 @@ impl<'p, 'h, Out: Renderer, H: Helper + Drop, Hi: History> State<'p, 'h, Out, H,
 
     /// Moves to the text's end.
     pub fn edit_move_buffer_end(&mut self, kind: CmdKind) -> Result<(), ReadlineError>
-        ensures does { Does (move_buffer_end kind) self.old self.new result }
-        ensures fault { IfErr result (λ e. e ≡ Display) }
+        ensures { Renders (move_buffer_end kind) self.old self.new result }
     {
         if self.line.move_buffer_end() {
             self.move_cursor(kind)
@@ -108,8 +106,7 @@ impl<'p, 'h, Out: Renderer, H: Helper + Drop, Hi: History> State<'p, 'h, Out, H,
         word: Word,
         n: RepeatCount,
     ) -> Result<(), ReadlineError>
-        ensures does { Does (move_to_next_word at word n) self.old self.new result }
-        ensures fault { IfErr result (λ e. e ≡ Display) }
+        ensures { Renders (move_to_next_word at word n) self.old self.new result }
     {
         if self.line.move_to_next_word(at, word, n) {
             self.move_cursor(CmdKind::MoveCursor)
