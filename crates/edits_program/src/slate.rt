@@ -2,8 +2,8 @@
 //! stands after it: `insert_char 2 x`, `update 1 abc`, `edit_word 0 Uppercase`, `kill 0 WholeLine`.
 
 ghost use Rattle.std.specs.Prelude.{◌≡◌};
-ghost use Rattle.line_edits.specs.Plain.{is_plain};
 ghost use Rattle.line_record.specs.Items.{ItemsStand, ItemsStand-prop};
+ghost use Rattle.line_buffer.specs.Printable.{is_plain};
 
 use crate::words::{first_char, parts, tell_ring, word_of};
 use line_buffer::{LineBuffer, Movement, OutOfMemory, RepeatCount, WordAction};

@@ -1,11 +1,11 @@
 -- The count of one byte.
-use Rattle.std.proofs.Common.{◌≡◌, ℕ, ◌+◌, ◌<◌, ◌==◌, ◌&&◌, not, nat_lt, nat_le, Bool, true, false, List, [], ◌∷◌, ◌++◌, take, length, Option, Some, None, is_some, encode_utf8, Result, Ok, refl, ap, ◌∙◌, append-nil, arith, if◌then◌else◌}
-use Rattle.std.specs.List.{list_all, flat_map}
-use Rattle.std.proofs.lemmas.Bool.{and_parts, and_from, not-true, eq-eqb, lt-ltb, ltb-true}
+use Rattle.std.proofs.Common.{◌≡◌, ℕ, ◌+◌, ◌<◌, not, nat_lt, nat_le, Bool, true, false, List, [], ◌∷◌, ◌++◌, take, Option, Some, None, is_some, encode_utf8, Result, Ok, refl, ap, ◌∙◌, append-nil, arith, if◌then◌else◌}
+use Rattle.std.specs.List.{flat_map}
+use Rattle.std.proofs.lemmas.Bool.{and_parts, and_from, not-true, lt-ltb, ltb-true}
 use Rattle.std.proofs.lemmas.Str.{encode_ascii}
 use Rattle.line_buffer.specs.Cells.{same_cell}
 use Rattle.line_buffer.specs.Insertions.{insert as insertion}
-use Rattle.line_buffer.specs.Short.{is_printable}
+use Rattle.line_buffer.specs.Printable.{is_printable, typed_at_plain_end}
 use Rattle.line_buffer.specs.declared.layout.Layout.{Layout}
 use Rattle.line_buffer.specs.declared.layout.Position.{Position}
 use Rattle.line_config.specs.declared.errors.ReadlineError.{ReadlineError}
@@ -15,7 +15,7 @@ use Rattle.line_record.specs.Ring.{Ring}
 use Rattle.line_editor.specs.Calls.{Marks}
 use Rattle.line_editor.specs.Drawing.{drawn, asked_anew}
 use Rattle.line_keys.specs.Replies.{Reply, fails}
-use Rattle.line_editor.specs.Inserting.{is_bare, may_be_typed, show_typed, insert_char}
+use Rattle.line_editor.specs.Inserting.{is_bare, may_be_typed, inserted_shown, insert_char}
 use Rattle.line_editor.specs.Lines.{Enacted, turned_by, phrase_enacted, turn_of}
 use Rattle.line_editor.specs.Redraws.{Asked, full, nothing_asked, moved_by_call, typed_short, taken_short, may_type, may_take}
 use Rattle.line_editor.specs.Redraws.Redraw.{Drawn, Moved, Typed, Taken, Bared, ToEnd, Beeped, Cleared}
@@ -25,7 +25,6 @@ use Rattle.line_editor.specs.Values.{Value, Setting, Effect, EditStep, helped, h
 use Rattle.line_editor.specs.Values.EditStep.{Draws, Helped, Updates, Edits, TakesBack, Takes}
 use Rattle.line_editor.proofs.StopsLemmas.{asked_both}
 use Rattle.line_screen.specs.Calls.{Screen, bytes_of, ruler_of}
-use Rattle.line_screen.specs.Chain.{is_simple}
 use Rattle.keyline.specs.OneByte.{TellsSight, LayoutsTell, TypedAtEnd, OneByte}
 use Rattle.keyline.specs.Shows.{drawn_by, bytes_for}
 
@@ -76,19 +75,17 @@ layouts_tell s own (r ∷ rs) l x h fits = layouts_tell s own rs (one (ruler_of 
 
 -- ---- the byte
 
-may_type_it : (v w : Value) (c : ℕ) → is_printable c ≡ true → list_all is_simple v.line.text ≡ true → v.line.place ≡ length v.line.text → is_bare v ≡ true → is_bare w ≡ true → may_be_typed c 1 (v.line.place == length v.line.text) (list_all is_simple v.line.text) (is_bare v) (is_bare w) ≡ true
-may_type_it v w c printable plain end before after =
-    and_from (v.line.place == length v.line.text) (list_all is_simple v.line.text && (is_printable c && (is_bare v && is_bare w))) (eq-eqb v.line.place (length v.line.text) end)
-    (and_from (list_all is_simple v.line.text) (is_printable c && (is_bare v && is_bare w)) plain (and_from (is_printable c) (is_bare v && is_bare w) printable (and_from (is_bare v) (is_bare w) before after)))
+printed : (v : Value) (c : ℕ) → may_be_typed c 1 v ≡ true → is_printable c ≡ true
+printed v c alone = (and_parts (is_printable c) _ (and_parts (is_bare v) (typed_at_plain_end c v.line.text v.line.place) alone).1).0
 
 -- its drawing is the short one, behind a step that sends nothing and what the helper is asked
-shown_short : (a : Setting) (v u : Value) (step : EditStep) (c : ℕ) (b : Bool) → b ≡ true → is_printable c ≡ true → list_all is_simple v.line.text ≡ true → v.line.place ≡ length v.line.text
-    → is_bare v ≡ true → (let shown = show_typed c 1 v a u in let e : Effect = if b then record { value = shown.value; steps = step ∷ shown.steps } else unchanged a u in
+shown_short : (a : Setting) (u : Value) (step : EditStep) (c : ℕ) (b alone : Bool) → b ≡ true → alone ≡ true
+    → (let shown = inserted_shown c alone a u in let e : Effect = if b then record { value = shown.value; steps = step ∷ shown.steps } else unchanged a u in
     is_bare e.value ≡ true → e.steps ≡ step ∷ (helped u (hint_reply a u) ++ (Draws e.value a.marks (Typed a.prompt c e.value.line.text e.value.line.place) ∷ [])))
-shown_short a v u step c true room printable plain end before after =
+shown_short a u step c true alone room before after =
     let w = (asked_anew a u).value in
-    ap (λ b. step ∷ (helped u (hint_reply a u) ++ (Draws w a.marks (if b then Typed a.prompt c w.line.text w.line.place else drawn a w) ∷ []))) (may_type_it v w c printable plain end before after)
-shown_short a v u step c false room printable plain end before after = cc
+    ap (λ b. step ∷ (helped u (hint_reply a u) ++ (Draws w a.marks (if b then Typed a.prompt c w.line.text w.line.place else drawn a w) ∷ []))) (and_from alone (is_bare w) before after)
+shown_short a u step c false alone room before after = cc
 
 -- neither sends anything
 help_bytes : {A : Type 0} (s : Screen) (l : Layout) (u : Value) (step : EditStep) (reply : Option (Reply A)) (steps : List EditStep) → one (ruler_of s) l step ≡ nothing_asked l
@@ -96,18 +93,18 @@ help_bytes : {A : Type 0} (s : Screen) (l : Layout) (u : Value) (step : EditStep
 help_bytes s l u step None steps nothing = ap (λ a. flat_map (bytes_of s) (a.calls ++ (drawn_by s a.layout steps).calls)) nothing
 help_bytes s l u step (Some reply) steps nothing = ap (λ a. flat_map (bytes_of s) (a.calls ++ (drawn_by s a.layout (Helped u (fails reply) ∷ steps)).calls)) nothing
 
-sent_short : (s : Screen) (l : Layout) (a : Setting) (v u : Value) (step : EditStep) (c : ℕ) (b : Bool) → b ≡ true → is_printable c ≡ true → list_all is_simple v.line.text ≡ true → v.line.place ≡ length v.line.text
-    → is_bare v ≡ true → (let shown = show_typed c 1 v a u in let e : Effect = if b then record { value = shown.value; steps = step ∷ shown.steps } else unchanged a u in
+sent_short : (s : Screen) (l : Layout) (a : Setting) (u : Value) (step : EditStep) (c : ℕ) (b alone : Bool) → b ≡ true → alone ≡ true
+    → (let shown = inserted_shown c alone a u in let e : Effect = if b then record { value = shown.value; steps = step ∷ shown.steps } else unchanged a u in
     is_bare e.value ≡ true → one (ruler_of s) l step ≡ nothing_asked l → bytes_for s l e.steps ≡ bytes_for s l (Draws e.value a.marks (Typed a.prompt c e.value.line.text e.value.line.place) ∷ []))
-sent_short s l a v u step c b room printable plain end before after nothing =
-    let shown = show_typed c 1 v a u in
+sent_short s l a u step c b alone room before after nothing =
+    let shown = inserted_shown c alone a u in
     let e : Effect = if b then record { value = shown.value; steps = step ∷ shown.steps } else unchanged a u in
-    ap (bytes_for s l) (shown_short a v u step c b room printable plain end before after)
+    ap (bytes_for s l) (shown_short a u step c b alone room before after)
     ∙ help_bytes s l u step (hint_reply a u) (Draws e.value a.marks (Typed a.prompt c e.value.line.text e.value.line.place) ∷ []) nothing
 
 typed_bytes : (s : Screen) (l : Layout) (a : Setting) (v : Value) (c : ℕ) → TypedAtEnd a v c
     → (let e = insert_char c 1 a v in bytes_for s l e.steps ≡ bytes_for s l (Draws e.value a.marks (Typed a.prompt c e.value.line.text e.value.line.place) ∷ []))
-typed_bytes s l a v c t = sent_short s l a v _ _ c (is_some (insertion c 1 v.line).answer) t.room t.printable t.plain t.end t.before t.after refl
+typed_bytes s l a v c t = sent_short s l a _ _ c (is_some (insertion c 1 v.line).answer) (may_be_typed c 1 v) t.room t.alone t.after refl
 
 short_bytes : (s : Screen) (l : Layout) (v : Value) (m : Option Marks) (prompt : List ℕ) (c : ℕ) (text : List ℕ) (at : ℕ) → is_printable c ≡ true → l.has_info ≡ false → l.cursor.col + 1 < s.columns → bytes_for s l (Draws v m (Typed prompt c text at) ∷ []) ≡ c ∷ []
 short_bytes s l v m prompt c text at printable none room =
@@ -132,4 +129,4 @@ one_byte n s l a custom indent input r v coming c alone t none room =
     let e = insert_char c 1 a v in
     ap (bytes_for s l) (turned_steps a indent r v c p p.answer alone.answer alone.value_is)
     ∙ unasked_bytes s l p.made.steps e.steps (alone.unasked s l)
-    ∙ typed_bytes s l a v c t ∙ short_bytes s l e.value a.marks a.prompt c e.value.line.text e.value.line.place t.printable none room
+    ∙ typed_bytes s l a v c t ∙ short_bytes s l e.value a.marks a.prompt c e.value.line.text e.value.line.place (printed v c t.alone) none room

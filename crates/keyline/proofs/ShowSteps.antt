@@ -1,16 +1,16 @@
 -- A step leads from what is shown before it to what is to be shown after it.
-use Rattle.std.proofs.Common.{◌≡◌, ◌≢◌, ℕ, ◌+◌, ◌==◌, ◌&&◌, not, ◌^◌, ◌<◌, ◌≤◌, inl, inr, nat_lt, nat_le, Bool, true, false, List, [], ◌∷◌, ◌++◌, take, length, length-append, Option, Some, None, is_some, encode_utf8, refl, sym, ap, ◌∙◌, subst, append-nil, arith, if◌then◌else◌}
-use Rattle.std.specs.List.{list_all, filter, flat_map}
-use Rattle.std.proofs.lemmas.Bool.{and_parts, and_from, not-true, eqb-true, lt-ltb, ltb-true}
+use Rattle.std.proofs.Common.{◌≡◌, ◌≢◌, ℕ, ◌+◌, ◌==◌, not, ◌^◌, ◌<◌, ◌≤◌, inl, inr, nat_lt, nat_le, Bool, true, false, List, [], ◌∷◌, ◌++◌, take, length, length-append, Option, Some, None, is_some, encode_utf8, refl, sym, ap, ◌∙◌, subst, append-nil, arith, if◌then◌else◌}
+use Rattle.std.specs.List.{filter, flat_map}
+use Rattle.std.proofs.lemmas.Bool.{and_parts, not-true, eqb-true, lt-ltb, ltb-true}
 use Rattle.std.proofs.lemmas.Bool.Decides.{nat_tests}
 use Rattle.std.proofs.lemmas.Str.{encode_ascii}
 use Rattle.line_buffer.specs.Cells.{same_cell, origin}
-use Rattle.line_buffer.specs.Short.{is_printable}
+use Rattle.line_buffer.specs.Printable.{is_printable, is_plain, at_plain_end}
 use Rattle.line_buffer.specs.declared.layout.Layout.{Layout}
 use Rattle.line_buffer.specs.declared.layout.Position.{Position}
 use Rattle.line_editor.specs.Calls.{Call, Marks}
 use Rattle.line_editor.specs.Calls.Call.{Draw, Move, Write, Beep, ClearScreen, MoveAndClearToEol, Help}
-use Rattle.line_editor.specs.Redraws.{info_text, fresh, layout_of, full, nothing_asked, moved_by_call, column_on, column_back, typed_short, taken_short, may_type, may_take}
+use Rattle.line_editor.specs.Redraws.{info_text, fresh, layout_of, full, nothing_asked, moved_by_call, column_on, column_back, typed_short, taken_short, has_room, may_type, may_take}
 use Rattle.line_editor.specs.Redraws.Redraw.{Drawn, Moved, Typed, Taken, Bared, ToEnd, Beeped, Cleared}
 use Rattle.line_editor.specs.Sights.{Sight, sight_with, sight_as, no_sight, sight, ended_sight, TypedFits, TakenFits, Fits}
 use Rattle.line_editor.specs.Steps.{one}
@@ -18,10 +18,11 @@ use Rattle.line_editor.specs.Values.{EditStep}
 use Rattle.line_editor.specs.Values.EditStep.{Draws, Helped, Updates, Edits, TakesBack, Takes}
 use Rattle.line_screen.specs.Calls.{Screen, bytes_of, ruler_of}
 use Rattle.line_screen.specs.Chain.{View, Good, Inside, LeadsView, empty_view, Types}
-use Rattle.line_screen.specs.Display.{Placed, right}
+use Rattle.line_screen.specs.Display.{Placed}
 use Rattle.line_screen.specs.Drawing.{row_break, text_items, place_after}
 use Rattle.line_screen.specs.Laws.{widths}
 use Rattle.line_screen.specs.Measure.{measure_of, saturated}
+use Rattle.line_screen.specs.Short.{TellsView}
 use Rattle.line_screen.specs.Showing.{Picture, finish_of, cursor_of, above}
 use Rattle.line_screen.proofs.Fitting.{drawable}
 use Rattle.line_screen.proofs.LawLemmas.{calls_lead, place_is_free, measures_go_on}
@@ -197,6 +198,9 @@ module _ (s : Screen) (low : 2 ≤ s.columns) (high : s.columns ≤ 1000) where
   end_is_cursor : (v : Picture) → v.info ≡ [] → v.place ≡ length v.line → finish_of s.columns (widths s) v ≡ cursor_of s.columns (widths s) v
   end_is_cursor v none end = ap (λ is. place_after s.columns is origin) (line_items s.mode s.columns some few v none) ∙ sym (line_cursor s.mode s.columns some few v end)
 
+  tells : (bytes : List ℕ) (over : List Placed) (top : ℕ) (l : Layout) (x : Sight) → DisplayHolds s bytes over top l x → TellsView s l (view_in s top x)
+  tells bytes over top l x h = record { cursor = h.cursor; finish = h.finish; info = λ none. no_text x.info (sym h.info_is ∙ none) }
+
   typed_is : (x : Sight) (prompt : List ℕ) (c : ℕ) (text : List ℕ) (at : ℕ) → TypedFits x prompt c text at → sight_as prompt text at None ≡ sight_as x.prompt (x.line ++ c ∷ []) (x.place + 1) None
   typed_is x prompt c text at t =
       ap (λ p. sight_as p text at None) t.prompt_is ∙ ap (λ p. sight_as x.prompt p at None) t.text_is ∙ ap (λ n. sight_as x.prompt (x.line ++ c ∷ []) n None) t.behind
@@ -207,26 +211,23 @@ module _ (s : Screen) (low : 2 ≤ s.columns) (high : s.columns ≤ 1000) where
   typed_if bytes over top m l x prompt c text at false h given unended t rows e = drawn_holds bytes over top m l x prompt true text at None h.good h.cursor rows
   typed_if bytes over top m l x prompt c text at true h given unended t rows e =
       let w = view_in s top x in
-      let parts = and_parts (not l.has_info) (nat_lt (l.cursor.col + 1) s.columns) e in
-      let none : info_text x.info ≡ [] = no_text x.info (sym h.info_is ∙ not-true l.has_info parts.0) in
-      let room : nat_lt (w.place.col + 1) s.columns ≡ true = subst (λ p. nat_lt (p.col + 1) s.columns ≡ true) h.cursor parts.1 in
-      let behind = ap (λ b. if b then Some (right 1 w.place) else None) (and_from (is_printable c) (nat_lt (w.place.col + 1) s.columns) t.printable room) in
+      let letter = and_parts (is_printable c) (at_plain_end x.line x.place) t.typed in
+      let last : x.place ≡ length x.line = eqb-true x.place (length x.line) (and_parts (x.place == length x.line) _ letter.1).0 in
       let y = sight_as x.prompt (x.line ++ c ∷ []) (x.place + 1) None in
-      let there : View = record { shown = picture y; top = top; place = right 1 w.place } in
-      let leads = typing_leads s low high w c (right 1 w.place) (record { info = none; end = t.end; simple = t.simple; place_is = place_if x unended }) behind in
+      let there : View = record { shown = picture y; top = top; place = column_on l.cursor } in
+      let leads = typing_leads s low high l w c (tells bytes over top l x h) (place_if x unended) t.typed e in
       let plain = one_led bytes over w there (Write (c ∷ [])) h.good leads refl (λ e. cc) in
       let new = bytes ++ flat_map (bytes_of s) (Write (encode_utf8 c) ∷ []) in
       let good : Good s.columns (widths s) new over there =
-      subst (λ text. Good s.columns (widths s) (bytes ++ flat_map (bytes_of s) (Write text ∷ [])) over there) (sym (encode_ascii c (small c t.printable))) plain in
-      let place_is : right 1 w.place ≡ cursor_of s.columns (widths s) (picture y) = typed_place w there c leads in
-      let end : y.place ≡ length y.line = let count = length-append x.line (c ∷ []) in let last = t.end in omega arith in
-      let cursor_is : column_on l.cursor ≡ cursor_of s.columns (widths s) (picture y) = ap column_on h.cursor ∙ place_is in
+      subst (λ text. Good s.columns (widths s) (bytes ++ flat_map (bytes_of s) (Write text ∷ [])) over there) (sym (encode_ascii c (small c letter.0))) plain in
+      let cursor_is : column_on l.cursor ≡ cursor_of s.columns (widths s) (picture y) = typed_place w there c leads in
+      let end : y.place ≡ length y.line = let count = length-append x.line (c ∷ []) in omega arith in
       let done : DisplayHolds s new over top (typed_short l c).layout y = record {
-        good = subst (λ p. Good s.columns (widths s) new over (record { shown = picture y; top = top; place = p })) place_is good;
+        good = subst (λ p. Good s.columns (widths s) new over (record { shown = picture y; top = top; place = p })) cursor_is good;
         cursor = cursor_is;
         finish = cursor_is ∙ sym (end_is_cursor (picture y) refl end);
         prompt_size = h.prompt_size;
-        info_is = not-true l.has_info parts.0;
+        info_is = not-true l.has_info (and_parts (not l.has_info) (has_room s.columns l.cursor) e).0;
         given_is = h.given_is ∙ given;
       } in
       subst (DisplayHolds s new over top (typed_short l c).layout) (sym (typed_is x prompt c text at t)) done
@@ -239,7 +240,7 @@ module _ (s : Screen) (low : 2 ≤ s.columns) (high : s.columns ≤ 1000) where
       ap (λ (x : View). x.place) k.view ∙ k.place_is ∙ ap (λ (x : View). cursor_of s.columns (widths s) x.shown) (sym k.view)
 
   taken_is : (x : Sight) (prompt : List ℕ) (count : ℕ) (text : List ℕ) (at : ℕ) → TakenFits x prompt count text at → sight_as prompt text at None ≡ sight_as x.prompt text (length text) None
-  taken_is x prompt count text at t = ap (λ p. sight_as p text at None) t.prompt_is ∙ ap (λ n. sight_as x.prompt text n None) t.end
+  taken_is x prompt count text at t = ap (λ p. sight_as p text at None) t.prompt_is ∙ ap (λ n. sight_as x.prompt text n None) (eqb-true at (length text) (and_parts (at == length text) _ t.end).0)
 
   taken_if : (bytes : List ℕ) (over : List Placed) (top : ℕ) (m : Option Marks) (l : Layout) (x : Sight) (prompt : List ℕ) (count : ℕ) (text : List ℕ) (at : ℕ) (b : Bool) → DisplayHolds s bytes over top l x
       → x.given ≡ true → TakenFits x prompt count text at → Low s (sight_as prompt text at None) → may_take l count ≡ b
@@ -247,21 +248,14 @@ module _ (s : Screen) (low : 2 ≤ s.columns) (high : s.columns ≤ 1000) where
   taken_if bytes over top m l x prompt count text at false h given t rows e = drawn_holds bytes over top m l x prompt true text at None h.good h.cursor rows
   taken_if bytes over top m l x prompt count text at true h given t rows e =
       let w = view_in s top x in
-      let parts = and_parts (not l.has_info) ((l.cursor.row == l.end.row) && nat_le count l.end.col) e in
-      let both = and_parts (l.cursor.row == l.end.row) (nat_le count l.end.col) parts.1 in
-      let none : info_text x.info ≡ [] = no_text x.info (sym h.info_is ∙ not-true l.has_info parts.0) in
-      let finish = finish_of s.columns (widths s) (picture x) in
-      let n = length t.killed in
-      let row : w.place.row ≡ finish.row = ap (λ p. p.row) (sym h.cursor) ∙ eqb-true l.cursor.row l.end.row both.0 ∙ ap (λ p. p.row) h.finish in
-      let fits : nat_le n finish.col ≡ true = subst (λ k. nat_le k finish.col ≡ true) t.count_is (subst (λ p. nat_le count p.col ≡ true) h.finish both.1) in
-      let to = column_back n finish in
-      let known : (if list_all is_printable t.killed && nat_le n finish.col then Some to else None) ≡ Some to = ap (λ b. if b then Some to else None) (and_from (list_all is_printable t.killed) (nat_le n finish.col) t.printable fits) in
+      let to = column_back (length t.killed) l.end in
       let y = sight_as x.prompt text (length text) None in
       let there : View = record { shown = picture y; top = top; place = to } in
-      let leads = killing_leads s low high w text t.killed to t.whole none t.simple h.good.inside row known in
+      let plain = (and_parts (at == length text) (is_plain text) t.end).1 in
+      let leads = killing_leads s low high l w text t.killed (tells bytes over top l x h) h.good.inside t.whole plain t.printable (subst (λ n. may_take l n ≡ true) t.count_is e) in
       let good = one_led bytes over w there (MoveAndClearToEol w.place to) h.good leads refl (λ e. cc) in
       let place_is : to ≡ cursor_of s.columns (widths s) (picture y) = killed_place w there w.place to leads in
-      let back : column_back count l.end ≡ to = ap (λ k. column_back k l.end) t.count_is ∙ ap (column_back n) h.finish in
+      let back : column_back count l.end ≡ to = ap (λ n. column_back n l.end) t.count_is in
       let new = bytes ++ flat_map (bytes_of s) (MoveAndClearToEol l.cursor (column_back count l.end) ∷ []) in
       let same : bytes ++ flat_map (bytes_of s) (MoveAndClearToEol w.place to ∷ []) ≡ new =
       ap (λ p. bytes ++ flat_map (bytes_of s) (MoveAndClearToEol p to ∷ [])) (sym h.cursor) ∙ ap (λ p. bytes ++ flat_map (bytes_of s) (MoveAndClearToEol l.cursor p ∷ [])) (sym back) in
@@ -271,7 +265,7 @@ module _ (s : Screen) (low : 2 ≤ s.columns) (high : s.columns ≤ 1000) where
         cursor = cursor_is;
         finish = cursor_is ∙ sym (end_is_cursor (picture y) refl refl);
         prompt_size = h.prompt_size;
-        info_is = not-true l.has_info parts.0;
+        info_is = not-true l.has_info (and_parts (not l.has_info) _ e).0;
         given_is = h.given_is ∙ given;
       } in
       subst (DisplayHolds s new over top (taken_short l count).layout) (sym (taken_is x prompt count text at t)) done

@@ -1,21 +1,18 @@
 -- Where a typed character costs its one byte.
-use Rattle.std.specs.Prelude.{◌≡◌, ℕ, ◌+◌, ◌<◌, true, false, List, [], ◌∷◌, length, is_some, Ok}
-use Rattle.std.specs.List.{list_all}
+use Rattle.std.specs.Prelude.{◌≡◌, ℕ, ◌+◌, ◌<◌, true, false, List, [], ◌∷◌, is_some, Ok}
 use Rattle.line_buffer.specs.Insertions.{insert as insertion}
-use Rattle.line_buffer.specs.Short.{is_printable}
 use Rattle.line_buffer.specs.declared.layout.Layout.{Layout}
 use Rattle.line_keys.specs.Answers.{Custom}
 use Rattle.line_keys.specs.Coming.{Coming}
 use Rattle.line_keys.specs.Phrases.{Input}
 use Rattle.line_keys.specs.declared.command.Cmd.TheVariants.{SelfInsert}
 use Rattle.line_record.specs.Ring.{Ring}
-use Rattle.line_editor.specs.Inserting.{is_bare, insert_char}
+use Rattle.line_editor.specs.Inserting.{is_bare, may_be_typed, insert_char}
 use Rattle.line_editor.specs.Lines.{phrase_enacted, turn_of}
 use Rattle.line_editor.specs.Redraws.{nothing_asked}
 use Rattle.line_editor.specs.Sights.{Sight, sight_all, FitsAll}
 use Rattle.line_editor.specs.Values.{Value, Setting, EditStep}
 use Rattle.line_screen.specs.Calls.{Screen}
-use Rattle.line_screen.specs.Chain.{is_simple}
 use Rattle.keyline.specs.Shows.{drawn_by, bytes_for}
 
 -- the layout that is kept tells whether information stands, and whether the session's own prompt
@@ -30,14 +27,10 @@ LayoutsTell =
     → TellsSight l x → FitsAll own x steps
     → TellsSight (drawn_by s l steps).layout (sight_all x steps)
 
--- printable ASCII at the end of a line of printable ASCII and newlines, with room, and with neither
--- hint nor highlighted character before or after
+-- one that its byte alone may show, with room in the text, and in a line that is bare after it too
 pub record TypedAtEnd (a : Setting) (v : Value) (c : ℕ) : Type 0 where
-  pub printable : is_printable c ≡ true
-  pub plain : list_all is_simple v.line.text ≡ true
-  pub end : v.line.place ≡ length v.line.text
+  pub alone : may_be_typed c 1 v ≡ true
   pub room : is_some (insertion c 1 v.line).answer ≡ true
-  pub before : is_bare v ≡ true
   pub after : is_bare (insert_char c 1 a v).value ≡ true
 
 -- the tables read it alone, with no count and nothing asked

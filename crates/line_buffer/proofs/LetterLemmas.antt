@@ -9,7 +9,7 @@ use Rattle.std.proofs.lemmas.List.{length-append, reverse-append}
 use Rattle.std.proofs.Math.Seq.{drop-append_seam}
 use Rattle.std.proofs.lemmas.Str.{IsUtf8-past_char, chars_past_char, encode_ascii}
 use Rattle.line_buffer.specs.Clusters.{IsPlain, clusters}
-use Rattle.line_buffer.specs.Short.{is_printable}
+use Rattle.line_buffer.specs.Printable.{is_printable}
 use Rattle.line_buffer.proofs.JoinLemmas.{clusters-letters, first-of-letters}
 use Rattle.line_buffer.proofs.PartingLemmas.{chars_last}
 

@@ -9,10 +9,10 @@ pub mod Insertions
 pub mod Laws
 pub mod LetterCase
 pub mod Line
+pub mod Printable
 pub mod Range
 pub mod Replay
 pub mod Rows
-pub mod Short
 pub mod Transpositions
 pub mod Width
 pub mod Words

@@ -11,7 +11,7 @@ ghost use Rattle.line_buffer.specs.Line.{moved_to, text_after};
 ghost use Rattle.line_buffer.specs.Rows.{row_start, row_end, is_in_row};
 
 use crate::line_buffer::LineBuffer;
-use crate::short::is_printable;
+use crate::printable::is_printable;
 use crate::types::RepeatCount;
 use unicode_segmentation::UnicodeSegmentation;
 

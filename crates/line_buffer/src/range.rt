@@ -1,7 +1,7 @@
 //! The part of the text that a movement names.
 
 use crate::line_buffer::LineBuffer;
-use crate::short::are_printable;
+use crate::printable::are_printable;
 use crate::types::{CharSearch, Direction, Movement, RepeatCount};
 
 /// A part of the text that is taken out, in byte places, and the way in which it goes.
@@ -16,7 +16,7 @@ impl LineBuffer {
     ghost use Rattle.std.specs.Prelude.{◌≡◌, ◌≤◌, length, drop, IfSome, IsCharBoundary, option_map};
     ghost use Rattle.std.specs.List.{list_all};
     ghost use Rattle.line_buffer.specs.Range.{FindsSpan, up_to_cursor, from_cursor, around_cursor, to_row_end, from_row_start, search_range, range_of, copied_range, kill_line};
-    ghost use Rattle.line_buffer.specs.Short.{is_printable};
+    ghost use Rattle.line_buffer.specs.Printable.{is_printable};
 
     /// What lies between an earlier place and the cursor.
     fn back_to(&self, found: Option<usize>) -> Option<Span>

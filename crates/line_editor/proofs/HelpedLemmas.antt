@@ -1,8 +1,10 @@
 -- What a state makes of asking its helper.
-use Rattle.std.proofs.Common.{◌≡◌, inl, inr, ℕ, Bool, true, false, true≢false, List, [], refl, sym, ap, subst, ◌∙◌, if◌then◌else◌}
+use Rattle.std.proofs.Common.{◌≡◌, ◌⊎◌, ◌&&◌, inl, inr, ℕ, Bool, true, false, true≢false, List, [], refl, sym, ap, subst, ◌∙◌, if◌then◌else◌}
 use Rattle.std.specs.Prelude.{Option, Some, None, is_some, option_map, Result, Ok, Err, IsErrAnd, IsTrue, IsFalse}
 use Rattle.std.specs.List.{FoldsTo}
+use Rattle.std.proofs.Math.Bool.{and-false}
 use Rattle.line_buffer.specs.Line.{Line}
+use Rattle.line_buffer.specs.Printable.{at_plain_end}
 use Rattle.line_config.specs.declared.errors.ReadlineError.{ReadlineError}
 use Rattle.line_config.specs.declared.errors.ReadlineError.TheVariants.{Helper, Memory}
 use Rattle.line_edits.specs.Written.{group_opened}
@@ -17,8 +19,8 @@ use Rattle.line_keys.specs.declared.command.CmdKind.TheVariants.{Other}
 use Rattle.line_editor.specs.Accepting.{verdict, verdict_by, opened_and_asked, closed_and_told, validate_by, validate}
 use Rattle.line_editor.specs.Calls.{MadeIn}
 use Rattle.line_editor.specs.Drawing.{drawn, drawn_behind, repainted, hint_asked, asked_anew, refreshed}
-use Rattle.line_editor.specs.Inserting.{is_bare, may_be_typed, put_shown, inserted_shown}
-use Rattle.line_editor.specs.Killing.{may_be_taken, taken_shown, killed_shown}
+use Rattle.line_editor.specs.Inserting.{is_bare, put_shown, inserted_shown}
+use Rattle.line_editor.specs.Killing.{taken_shown, killed_shown}
 use Rattle.line_editor.specs.Steps.{asked}
 use Rattle.line_editor.specs.Redraws.Redraw.{Typed, Taken}
 use Rattle.line_editor.specs.States.{hooks_of, value_of, setting_of, fails_by, IsHelpFault, reason_of, surface_of, Stays, Does}
@@ -65,6 +67,11 @@ put c b s v = redrawn (if b then Typed s.prompt c v.line.text v.line.place else 
 
 abbrev taken : ℕ → Bool → Setting → Value → Effect
 taken count b s v = redrawn (if b then Taken s.prompt count v.line.text v.line.place else drawn s v) s v
+
+-- one of the two isn't so
+pub neither : (a b : Bool) → (a ≡ false) ⊎ (b ≡ false) → (a && b) ≡ false
+neither a b (inl h) = ap (λ x. x && b) h
+neither a b (inr h) = ap (λ x. a && x) h ∙ and-false a
 
 -- ---- with a helper
 
@@ -123,36 +130,36 @@ module _ {Out H Hi K T : Type 0} {renderer : renderers.Renderer.Ghosts Out} {com
   refresh_made prompt s m t x result is h k =
       does_both asked_anew repainted s m t x result h (does_as (drawn_behind prompt true) repainted m t result (ap (λ p. drawn_behind p true (setting_of m) (value_of m)) is) k)
 
-  module _ (c n : ℕ) (at_end plain was_bare : Bool) where
+  module _ (c : ℕ) (alone : Bool) where
     pub typed_made : {A B : Type 0} (s m t : State Out H Hi K T renderer completer candidate hinter hint highlighter validator history) (x : A) (result : Result B ReadlineError)
-        → may_be_typed c n at_end plain was_bare (is_bare (value_of m)) ≡ true → Does asked_anew s m (Ok x)
-        → Does (λ a v. redrawn (Typed a.prompt c v.line.text v.line.place) a v) m t result → Does (inserted_shown c n at_end plain was_bare) s t result
+        → (alone && is_bare (value_of m)) ≡ true → Does asked_anew s m (Ok x)
+        → Does (λ a v. redrawn (Typed a.prompt c v.line.text v.line.place) a v) m t result → Does (inserted_shown c alone) s t result
     typed_made s m t x result is h k =
-        does_both asked_anew (put_shown c n at_end plain was_bare) s m t x result h
-        (does_as (λ a v. redrawn (Typed a.prompt c v.line.text v.line.place) a v) (put_shown c n at_end plain was_bare) m t result (ap (λ b. put c b (setting_of m) (value_of m)) (sym is)) k)
+        does_both asked_anew (put_shown c alone) s m t x result h
+        (does_as (λ a v. redrawn (Typed a.prompt c v.line.text v.line.place) a v) (put_shown c alone) m t result (ap (λ b. put c b (setting_of m) (value_of m)) (sym is)) k)
 
     pub put_drawn : {A B : Type 0} (prompt : List ℕ) (s m t : State Out H Hi K T renderer completer candidate hinter hint highlighter validator history) (x : A) (result : Result B ReadlineError)
-        → prompt ≡ m.prompt.now → may_be_typed c n at_end plain was_bare (is_bare (value_of m)) ≡ false → Does asked_anew s m (Ok x)
-        → Does (drawn_behind prompt true) m t result → Does (inserted_shown c n at_end plain was_bare) s t result
+        → prompt ≡ m.prompt.now → (alone && is_bare (value_of m)) ≡ false → Does asked_anew s m (Ok x)
+        → Does (drawn_behind prompt true) m t result → Does (inserted_shown c alone) s t result
     put_drawn prompt s m t x result own is h k =
-        does_both asked_anew (put_shown c n at_end plain was_bare) s m t x result h
-        (does_as (drawn_behind prompt true) (put_shown c n at_end plain was_bare) m t result
+        does_both asked_anew (put_shown c alone) s m t x result h
+        (does_as (drawn_behind prompt true) (put_shown c alone) m t result
         (ap (λ p. drawn_behind p true (setting_of m) (value_of m)) own ∙ ap (λ b. put c b (setting_of m) (value_of m)) (sym is)) k)
 
-  module _ (count : ℕ) (printable was_bare : Bool) where
+  module _ (count : ℕ) (alone : Bool) where
     pub taken_made : {A B : Type 0} (s m t : State Out H Hi K T renderer completer candidate hinter hint highlighter validator history) (x : A) (result : Result B ReadlineError)
-        → may_be_taken printable was_bare (value_of m) ≡ true → Does asked_anew s m (Ok x)
-        → Does (λ a v. redrawn (Taken a.prompt count v.line.text v.line.place) a v) m t result → Does (killed_shown count printable was_bare) s t result
+        → (alone && (is_bare (value_of m) && at_plain_end m.line.text m.line.place)) ≡ true → Does asked_anew s m (Ok x)
+        → Does (λ a v. redrawn (Taken a.prompt count v.line.text v.line.place) a v) m t result → Does (killed_shown count alone) s t result
     taken_made s m t x result is h k =
-        does_both asked_anew (taken_shown count printable was_bare) s m t x result h
-        (does_as (λ a v. redrawn (Taken a.prompt count v.line.text v.line.place) a v) (taken_shown count printable was_bare) m t result (ap (λ b. taken count b (setting_of m) (value_of m)) (sym is)) k)
+        does_both asked_anew (taken_shown count alone) s m t x result h
+        (does_as (λ a v. redrawn (Taken a.prompt count v.line.text v.line.place) a v) (taken_shown count alone) m t result (ap (λ b. taken count b (setting_of m) (value_of m)) (sym is)) k)
 
     pub killed_drawn : {A B : Type 0} (prompt : List ℕ) (s m t : State Out H Hi K T renderer completer candidate hinter hint highlighter validator history) (x : A) (result : Result B ReadlineError)
-        → prompt ≡ m.prompt.now → may_be_taken printable was_bare (value_of m) ≡ false → Does asked_anew s m (Ok x)
-        → Does (drawn_behind prompt true) m t result → Does (killed_shown count printable was_bare) s t result
+        → prompt ≡ m.prompt.now → (alone && (is_bare (value_of m) && at_plain_end m.line.text m.line.place)) ≡ false → Does asked_anew s m (Ok x)
+        → Does (drawn_behind prompt true) m t result → Does (killed_shown count alone) s t result
     killed_drawn prompt s m t x result own is h k =
-        does_both asked_anew (taken_shown count printable was_bare) s m t x result h
-        (does_as (drawn_behind prompt true) (taken_shown count printable was_bare) m t result
+        does_both asked_anew (taken_shown count alone) s m t x result h
+        (does_as (drawn_behind prompt true) (taken_shown count alone) m t result
         (ap (λ p. drawn_behind p true (setting_of m) (value_of m)) own ∙ ap (λ b. taken count b (setting_of m) (value_of m)) (sym is)) k)
 
   -- ---- a verdict

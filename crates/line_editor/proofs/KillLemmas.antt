@@ -20,7 +20,7 @@ use Rattle.line_buffer.specs.declared.types.Movement.{Movement}
 use Rattle.line_buffer.specs.declared.types.Movement.TheVariants.{WholeLine, BeginningOfLine, EndOfLine, BackwardWord, ForwardWord, ViCharSearch, ViFirstPrint, BackwardChar, ForwardChar, LineUp, LineDown, WholeBuffer, BeginningOfBuffer, EndOfBuffer}
 use Rattle.line_buffer.proofs.RowStartLemmas.{behind-nil}
 use Rattle.line_buffer.proofs.SpanLemmas as spans
-use Rattle.line_edits.specs.Plain.{is_plain, is_plain_byte}
+use Rattle.line_buffer.specs.Printable.{is_plain, is_plain_byte}
 
 -- it begins inside the text, or goes up to its end
 abbrev pub Low : List ℕ → ℕ → ℕ → Type 0

@@ -1,5 +1,5 @@
 -- What commands want to be seen leads from what is to be seen of the value before to the same of the value after.
-use Rattle.std.proofs.Common.{◌≡◌, ℕ, ◌+◌, ◌-◌, ◌==◌, ◌||◌, not, ◌<◌, nat_le, nat_lt, Bool, true, false, List, [], ◌∷◌, ◌++◌, take, drop, length, take_all, Option, Some, None, IfSome, is_some, encode_utf8, refl, sym, ap, ◌∙◌, subst, append_assoc, append-nil, arith, if◌then◌else◌}
+use Rattle.std.proofs.Common.{◌≡◌, ℕ, ◌+◌, ◌-◌, ◌==◌, ◌||◌, ◌&&◌, not, ◌<◌, nat_le, nat_lt, Bool, true, false, List, [], ◌∷◌, ◌++◌, take, drop, length, take_all, Option, Some, None, IfSome, is_some, encode_utf8, refl, sym, ap, ◌∙◌, subst, append_assoc, append-nil, arith, if◌then◌else◌}
 use Rattle.std.specs.Prelude.{⊤}
 use Rattle.std.specs.List.{list_all, insert_slice, replace_range}
 use Rattle.std.proofs.lemmas.Bool.{and_parts, eqb-true, ltb-true}
@@ -14,7 +14,7 @@ use Rattle.line_buffer.specs.Insertions.{Insertion, insertion_by, insertion_of, 
 use Rattle.line_buffer.specs.Line.{Line, moved_to, cut_out}
 use Rattle.line_buffer.specs.Range.{range_of, deletion_line}
 use Rattle.line_buffer.specs.Rows.{row_start, row_end}
-use Rattle.line_buffer.specs.Short.{is_printable}
+use Rattle.line_buffer.specs.Printable.{is_printable, is_plain, at_plain_end}
 use Rattle.line_buffer.specs.Words.{prev_word, next_word}
 use Rattle.line_buffer.specs.declared.range.Span.{Span}
 use Rattle.line_buffer.specs.declared.types.At.TheVariants.{Start}
@@ -23,14 +23,13 @@ use Rattle.line_buffer.specs.declared.types.Movement.TheVariants.{WholeLine, Beg
 use Rattle.line_buffer.specs.declared.types.Word.TheVariants.{Big}
 use Rattle.line_edits.specs.Edits.{by, typing, char_typed, putting_behind, killing, range_killed}
 use Rattle.line_edits.specs.Steps.{Steps, answering}
-use Rattle.line_edits.specs.Plain.{is_plain}
 use Rattle.line_help.specs.History.{begins_with_space}
 use Rattle.line_keys.specs.Replies.{Reply}
 use Rattle.line_keys.specs.declared.command.CmdKind.{CmdKind}
 use Rattle.line_keys.specs.declared.command.CmdKind.TheVariants.{MoveCursor}
 use Rattle.line_record.specs.Held.{Held}
 use Rattle.line_editor.specs.Drawing.{drawn, repainted, asked_anew, refreshed, refreshed_if, told, cursor_moved, beeped, cleared_and_drawn}
-use Rattle.line_editor.specs.Inserting.{is_bare, may_be_typed, put_shown, show_typed, insert_char, insert_text}
+use Rattle.line_editor.specs.Inserting.{is_bare, may_be_typed, put_shown, inserted_shown, insert_char, insert_text}
 use Rattle.line_editor.specs.Killing.{may_be_taken, taken_shown, show_taken, kill, insert_text_if, replace}
 use Rattle.line_editor.specs.Leads.{Leads}
 use Rattle.line_editor.specs.Moving.{cursor_moved_if, to_found, to_place, move_home, move_to_next_word, move_to_first_print, move_by}
@@ -197,18 +196,18 @@ put_at_end text place added e =
     ∙ ap (λ xs. text ++ xs) (append-nil added)
 
 abbrev typed_alone : ℕ → ℕ → Value → Value → Bool
-typed_alone c n v w = may_be_typed c n (v.line.place == length v.line.text) (is_plain v.line.text) (is_bare v) (is_bare w)
+typed_alone c n v w = may_be_typed c n v && is_bare w
 
 typed_by : (s : Setting) (c n : ℕ) (v w : Value) (b : Bool) → typed_alone c n v w ≡ b → (typed_alone c n v w ≡ true → w.line ≡ put_at_cursor (encode_utf8 c) v.line)
     → Leads s v (record { value = w; steps = Draws w s.marks (if b then Typed s.prompt c w.line.text w.line.place else drawn s w) ∷ [] })
 typed_by s c n v w false e put info = record { fits = ((λ x. refl), tt); leads = refl }
 typed_by s c n v w true e put info =
-    let a = and_parts (n == 1) _ e in
-    let b = and_parts (v.line.place == length v.line.text) _ a.1 in
-    let d = and_parts (is_plain v.line.text) _ b.1 in
-    let f = and_parts (is_printable c) _ d.1 in
-    let one : encode_utf8 c ≡ c ∷ [] = encode_ascii c (small c f.0) in
-    let end = eqb-true v.line.place (length v.line.text) b.0 in
+    let a = and_parts (may_be_typed c n v) (is_bare w) e in
+    let b = and_parts (n == 1) _ a.0 in
+    let typed = (and_parts (is_bare v) _ b.1).1 in
+    let d = and_parts (is_printable c) _ typed in
+    let one : encode_utf8 c ≡ c ∷ [] = encode_ascii c (small c d.0) in
+    let end = eqb-true v.line.place (length v.line.text) (and_parts (v.line.place == length v.line.text) _ d.1).0 in
     let text : w.line.text ≡ insert_slice v.line.text v.line.place (encode_utf8 c) = ap (λ (l : Line). l.text) (put e) in
     let place : w.line.place ≡ v.line.place + length (encode_utf8 c) = ap (λ (l : Line). l.place) (put e) in
     record {
@@ -218,9 +217,7 @@ typed_by s c n v w true e put info =
           refl,
           refl,
           record {
-            printable = f.0;
-            simple = d.0;
-            end = end;
+            typed = typed;
             prompt_is = refl;
             text_is = text ∙ put_at_end v.line.text v.line.place (encode_utf8 c) end ∙ ap (λ x. v.line.text ++ x) one;
             behind = place ∙ ap (λ x. v.line.place + length x) one;
@@ -254,10 +251,10 @@ one_typed c n l false one h = cc
 pub insertion_leads : (c n : ℕ) (s : Setting) (v : Value) → Leads s v (insert_char c n s v)
 insertion_leads c n s v =
     let w = rewritten (char_typed c n) v in
-    either s v (is_some (insertion c n v.line).answer) (then_do (rewriting (typing c n)) (show_typed c n v) s v) (unchanged s w)
+    either s v (is_some (insertion c n v.line).answer) (then_do (rewriting (typing c n)) (inserted_shown c (may_be_typed c n v)) s v) (unchanged s w)
     (λ some. let asked = (asked_anew s w).value in
-    edit_leads (answering tt (typing c n v.line)) s v v (show_typed c n v s w)
-    (help_leads w (hint_reply s w) s v (put_shown c n (v.line.place == length v.line.text) (is_plain v.line.text) (is_bare v) s asked) (typed_by s c n v asked (typed_alone c n v asked) refl (λ h. one_typed c n v.line (n == 1) (and_parts (n == 1) _ h).0 some))))
+    edit_leads (answering tt (typing c n v.line)) s v v (inserted_shown c (may_be_typed c n v) s w)
+    (help_leads w (hint_reply s w) s v (put_shown c (may_be_typed c n v) s asked) (typed_by s c n v asked (typed_alone c n v asked) refl (λ h. one_typed c n v.line (n == 1) (and_parts (n == 1) _ (and_parts (may_be_typed c n v) (is_bare asked) h).0).0 some))))
     (λ none. rest_leads s v w (no_typing c n v.line (n == 1) none))
 
 pub text_leads : (text : List ℕ) (s : Setting) (v : Value) → Leads s v (insert_text text s v)
@@ -266,7 +263,7 @@ text_leads text s v = either s v (length text == 0) _ _ (λ e. rest_leads s v v 
 -- ---- a kill
 
 abbrev taken_alone : Value → Value → Bool
-taken_alone v w = may_be_taken (list_all is_printable (drop (length w.line.text) v.line.text)) (is_bare v) w
+taken_alone v w = may_be_taken (drop (length w.line.text) v.line.text) v && (is_bare w && at_plain_end w.line.text w.line.place)
 
 taken_by : (s : Setting) (v w : Value) (from upto : ℕ) (b : Bool) → taken_alone v w ≡ b → (is_plain v.line.text ≡ true → Low v.line.text from upto)
     → w.line.text ≡ replace_range v.line.text from upto [] → w.line.place ≡ from
@@ -275,12 +272,13 @@ taken_by s v w from upto false e low text place info = record { fits = ((λ x. r
 taken_by s v w from upto true e low text place info =
     let before = v.line.text in
     let now = w.line.text in
-    let a = and_parts (is_plain now) _ e in
-    let b = and_parts (list_all is_printable (drop (length now) before)) _ a.1 in
-    let d = and_parts (w.line.place == length now) _ b.1 in
+    let a = and_parts (may_be_taken (drop (length now) before) v) _ e in
+    let b = and_parts (is_bare v) (list_all is_printable (drop (length now) before)) a.0 in
+    let stands = (and_parts (is_bare w) _ a.1).1 in
+    let d = and_parts (w.line.place == length now) (is_plain now) stands in
     let end = eqb-true w.line.place (length now) d.0 in
     let at : from ≡ length now = sym place ∙ end in
-    let front : now ≡ take from before = text ∙ cut_text before from upto (at ∙ ap length text) (ap is_plain (sym text) ∙ a.0) low in
+    let front : now ≡ take from before = text ∙ cut_text before from upto (at ∙ ap length text) (ap is_plain (sym text) ∙ d.1) low in
     let whole : before ≡ now ++ drop (length now) before =
     sym (take-append-drop (length now) before) ∙ ap (λ n. take n before ++ drop (length now) before) (sym at) ∙ ap (λ xs. xs ++ drop (length now) before) (sym front) in
     record {
@@ -292,10 +290,9 @@ taken_by s v w from upto true e low text place info =
             killed = drop (length now) before;
             whole = whole;
             count_is = sym (length-drop (length now) before);
-            simple = a.0;
-            printable = b.0;
+            end = stands;
+            printable = b.1;
             prompt_is = refl;
-            end = end;
           },
         ),
         tt,
@@ -311,7 +308,7 @@ killed_by edit s v held (Some span) h =
     let w : Value = record v { line = cut_out span.from span.upto v.line; held = held } in
     let asked = (asked_anew s w).value in
     edit_leads edit s v v (show_taken v s w) (help_leads w (hint_reply s w) s v
-    (taken_shown (length v.line.text - length w.line.text) (list_all is_printable (drop (length w.line.text) v.line.text)) (is_bare v) s asked)
+    (taken_shown (length v.line.text - length w.line.text) (may_be_taken (drop (length w.line.text) v.line.text) v) s asked)
     (taken_by s v asked span.from span.upto (taken_alone v asked) refl h refl refl))
 
 pub kill_leads : (m : Movement) (s : Setting) (v : Value) → Leads s v (kill m s v)

@@ -3,8 +3,7 @@ use Rattle.std.specs.Prelude.{ℕ, ◌==◌, ◌&&◌, not, Bool, if◌then◌el
 use Rattle.line_buffer.specs.Clusters.{place_forward}
 use Rattle.line_buffer.specs.Insertions.{insert as insertion}
 use Rattle.line_edits.specs.Edits.{typing, char_typed, putting_behind, replacing_if_any, overwriting}
-use Rattle.line_buffer.specs.Short.{is_printable}
-use Rattle.line_edits.specs.Plain.{is_plain}
+use Rattle.line_buffer.specs.Printable.{typed_at_plain_end}
 use Rattle.line_editor.specs.Drawing.{drawn, asked_anew, refreshed, refreshed_if}
 use Rattle.line_editor.specs.Redraws.Redraw.{Typed}
 use Rattle.line_editor.specs.Values.{Value, Transition, unchanged, then_do, redrawn, rewritten, rewriting}
@@ -13,34 +12,27 @@ use Rattle.line_editor.specs.Values.{Value, Transition, unchanged, then_do, redr
 abbrev pub is_bare : Value → Bool
 is_bare v = not (is_some v.hint) && not v.marked
 
--- whether a character's byte alone shows it: one printable character at the end of a plain line,
--- with nothing to show but itself, before and after it
-abbrev pub may_be_typed : ℕ → ℕ → Bool → Bool → Bool → Bool → Bool
-may_be_typed c n at_end plain was_bare bare =
-    (n == 1) && (at_end && (plain && (is_printable c && (was_bare && bare))))
+-- whether a character's byte alone may show it: one printable character, typed at the end of a
+-- plain line that is bare
+abbrev pub may_be_typed : ℕ → ℕ → Value → Bool
+may_be_typed c n v =
+    (n == 1) && (is_bare v && typed_at_plain_end c v.line.text v.line.place)
 
--- a drawing of a character that was put in so many times, at the end or not, into a plain line or
--- not, with nothing to show before it or something
-abbrev pub put_shown : ℕ → ℕ → Bool → Bool → Bool → Transition
-put_shown c n at_end plain was_bare s v =
-    redrawn (if may_be_typed c n at_end plain was_bare (is_bare v)
+-- a drawing of a character that was put in: where its byte alone may show it, and the line is bare
+-- then too, that byte
+abbrev pub put_shown : ℕ → Bool → Transition
+put_shown c alone s v =
+    redrawn (if alone && is_bare v
     then Typed s.prompt c v.line.text v.line.place else drawn s v) s v
 
 -- with a new hint
-abbrev pub inserted_shown : ℕ → ℕ → Bool → Bool → Bool → Transition
-inserted_shown c n at_end plain was_bare =
-    then_do asked_anew (put_shown c n at_end plain was_bare)
-
--- the same, of a character that was put into a value
-abbrev pub show_typed : ℕ → ℕ → Value → Transition
-show_typed c n before =
-    inserted_shown c n (before.line.place == length before.line.text)
-    (is_plain before.line.text) (is_bare before)
+abbrev pub inserted_shown : ℕ → Bool → Transition
+inserted_shown c alone = then_do asked_anew (put_shown c alone)
 
 abbrev pub insert_char : ℕ → ℕ → Transition
 insert_char c n s v =
     if is_some (insertion c n v.line).answer
-    then then_do (rewriting (typing c n)) (show_typed c n v) s v
+    then then_do (rewriting (typing c n)) (inserted_shown c (may_be_typed c n v)) s v
     else unchanged s (rewritten (char_typed c n) v)
 
 -- a text at the cursor, which stays before it

@@ -1,42 +1,37 @@
 -- What is killed, and what is copied into the ring.
-use Rattle.std.specs.Prelude.{ℕ, ◌-◌, ◌==◌, ◌&&◌, if◌then◌else◌, Bool, List, length, drop, Option, Some, None, is_some, option_map}
+use Rattle.std.specs.Prelude.{ℕ, ◌-◌, ◌&&◌, if◌then◌else◌, Bool, List, length, drop, Option, Some, None, is_some, option_map}
 use Rattle.std.specs.List.{list_all}
 use Rattle.line_buffer.specs.Range.{range_of, copied_range, span_text, kill_events}
 use Rattle.line_buffer.specs.declared.types.Mode.TheVariants.{Append}
 use Rattle.line_buffer.specs.declared.types.Movement.{Movement}
 use Rattle.line_record.specs.Ring.{Ring, ring_all, killed}
 use Rattle.line_edits.specs.Edits.{killing, range_killed}
-use Rattle.line_buffer.specs.Short.{is_printable}
-use Rattle.line_edits.specs.Plain.{is_plain}
+use Rattle.line_buffer.specs.Printable.{is_printable, at_plain_end}
 use Rattle.line_editor.specs.Drawing.{drawn, asked_anew}
 use Rattle.line_editor.specs.Inserting.{is_bare, insert_text}
 use Rattle.line_editor.specs.Redraws.Redraw.{Taken}
 use Rattle.line_editor.specs.Values.{Value, Transition, unchanged, then_do, redrawn, rewritten, rewriting}
 
--- whether an erased rest of the row shows what was killed: printable characters from the end of a
--- line that is plain now, with nothing to show, before and after it
-abbrev pub may_be_taken : Bool → Bool → Value → Bool
-may_be_taken printable was_bare v =
-    is_plain v.line.text
-    && (printable && ((v.line.place == length v.line.text) && (was_bare && is_bare v)))
+-- whether an erased rest of the row may show a kill: printable characters, taken from a bare line
+abbrev pub may_be_taken : List ℕ → Value → Bool
+may_be_taken killed v = is_bare v && list_all is_printable killed
 
--- a drawing of what so many bytes were taken from, printable ones or not, with nothing to show
--- before it or something
-abbrev pub taken_shown : ℕ → Bool → Bool → Transition
-taken_shown count printable was_bare s v =
-    redrawn (if may_be_taken printable was_bare v
+-- a drawing of what so many bytes were taken from: where an erased rest of the row may show that,
+-- and the line is bare then too, at the end of a plain text, that erasure
+abbrev pub taken_shown : ℕ → Bool → Transition
+taken_shown count alone s v =
+    redrawn (if alone && (is_bare v && at_plain_end v.line.text v.line.place)
     then Taken s.prompt count v.line.text v.line.place else drawn s v) s v
 
 -- with a new hint
-abbrev pub killed_shown : ℕ → Bool → Bool → Transition
-killed_shown count printable was_bare =
-    then_do asked_anew (taken_shown count printable was_bare)
+abbrev pub killed_shown : ℕ → Bool → Transition
+killed_shown count alone = then_do asked_anew (taken_shown count alone)
 
 -- the same, of what was taken from a value
 abbrev pub show_taken : Value → Transition
 show_taken before s v =
     killed_shown (length before.line.text - length v.line.text)
-    (list_all is_printable (drop (length v.line.text) before.line.text)) (is_bare before) s v
+    (may_be_taken (drop (length v.line.text) before.line.text) before) s v
 
 abbrev pub kill : Movement → Transition
 kill movement s v =

@@ -99,9 +99,15 @@ taken_short l count = record {
   layout = record l { cursor = column_back count l.end; end = column_back count l.end };
 }
 
-abbrev pub may_type : Ruler → Layout → Bool
-may_type r l = not l.has_info && nat_lt (l.cursor.col + 1) r.columns
+-- a byte that is written at a cell doesn't fill the row
+abbrev pub has_room : ℕ → Position → Bool
+has_room columns at = nat_lt (at.col + 1) columns
 
+-- whether a typed character's byte alone can be written, by the layout that is kept
+abbrev pub may_type : Ruler → Layout → Bool
+may_type r l = not l.has_info && has_room r.columns l.cursor
+
+-- and the rest of the row erased alone
 abbrev pub may_take : Layout → ℕ → Bool
 may_take l count = not l.has_info && ((l.cursor.row == l.end.row) && nat_le count l.end.col)
 

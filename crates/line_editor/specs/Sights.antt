@@ -1,8 +1,7 @@
 -- What steps lead to, without a screen.
 use Rattle.std.specs.Prelude.{◌≡◌, ⊤, ℕ, ◌+◌, Bool, true, false, List, [], ◌∷◌, ◌++◌, length, Option, None}
 use Rattle.std.specs.List.{list_all}
-use Rattle.line_buffer.specs.Short.{is_printable}
-use Rattle.line_edits.specs.Plain.{is_plain}
+use Rattle.line_buffer.specs.Printable.{is_printable, at_plain_end, typed_at_plain_end}
 use Rattle.line_editor.specs.Redraws.{Redraw}
 use Rattle.line_editor.specs.Redraws.Redraw.{Drawn, Moved, Typed, Taken, Bared, ToEnd, Beeped, Cleared}
 use Rattle.line_editor.specs.Values.{Value, Setting, EditStep}
@@ -59,9 +58,7 @@ sight x step = x
 
 pub record TypedFits (x : Sight) (prompt : List ℕ) (c : ℕ) (text : List ℕ)
     (place : ℕ) : Type 0 where
-  pub printable : is_printable c ≡ true
-  pub simple : is_plain x.line ≡ true
-  pub end : x.place ≡ length x.line
+  pub typed : typed_at_plain_end c x.line x.place ≡ true
   pub prompt_is : prompt ≡ x.prompt
   pub text_is : text ≡ x.line ++ c ∷ []
   pub behind : place ≡ x.place + 1
@@ -71,10 +68,9 @@ pub record TakenFits (x : Sight) (prompt : List ℕ) (count : ℕ) (text : List 
   pub killed : List ℕ
   pub whole : x.line ≡ text ++ killed
   pub count_is : count ≡ length killed
-  pub simple : is_plain text ≡ true
+  pub end : at_plain_end text place ≡ true
   pub printable : list_all is_printable killed ≡ true
   pub prompt_is : prompt ≡ x.prompt
-  pub end : place ≡ length text
 
 -- where each redraw may be asked for; `own` is the session's prompt
 abbrev pub FitsDrawn : List ℕ → Sight → Redraw → Type 0

@@ -1,6 +1,6 @@
 //! Characters and texts put in.
 ghost use Rattle.std.specs.Prelude.{◌≡◌};
-ghost use Rattle.line_editor.specs.Inserting.{may_be_typed};
+ghost use Rattle.line_buffer.specs.Printable.{at_plain_end};
 
 use crate::measured::known_within;
 use crate::renderer::Renderer;
@@ -10,25 +10,10 @@ use line_config::ReadlineError;
 use line_edits::{insert_char, insert_text, overwrite, replace_chars};
 use line_help::{Helper, History};
 
-/// Whether what was typed is all that is to be drawn: a printable character at the end of a
-/// plain line, with neither hint nor highlighted character, before and after it.
-fn may_be_typed(
-    ch: char,
-    n: RepeatCount,
-    at_end: bool,
-    plain: bool,
-    was_bare: bool,
-    bare: bool,
-) -> bool
-    ensures { result ≡ may_be_typed ch n at_end plain was_bare bare }
-{
-    n == 1 && (at_end && (plain && (is_printable(ch) && (was_bare && bare))))
-}
-
-#[tactic(auto, using(crate::proofs::StopsLemmas::stops_editing, crate::proofs::StopsLemmas::stops_edited))]
+#[tactic(auto, using(crate::proofs::StopsLemmas::edits_stop))]
 impl<'p, 'h, Out: Renderer, H: Helper + Drop, Hi: History> State<'p, 'h, Out, H, Hi> {
     ghost use Rattle.line_editor.specs.States.{value_of, setting_of, Does};
-    ghost use Rattle.line_editor.specs.Inserting.{is_bare, inserted_shown, insert_char, insert_text, replace_char, overwrite_char};
+    ghost use Rattle.line_editor.specs.Inserting.{is_bare, may_be_typed, inserted_shown, insert_char, insert_text, replace_char, overwrite_char};
 
     /// Whether neither a hint nor a highlighted character stands.
     pub(crate) fn is_bare(&self) -> bool
@@ -37,20 +22,28 @@ impl<'p, 'h, Out: Renderer, H: Helper + Drop, Hi: History> State<'p, 'h, Out, H,
         self.hint.is_none() && !self.highlight_char
     }
 
-    /// Shows a character that was inserted, with a new hint: by its byte alone where that is
-    /// enough.
-    fn show_inserted(
-        &mut self,
-        ch: char,
-        n: RepeatCount,
-        at_end: bool,
-        plain: bool,
-        was_bare: bool,
-    ) -> Result<(), ReadlineError>
-        ensures does { Does (inserted_shown ch n at_end plain was_bare) self.old self.new result }
+    /// Whether the cursor is at the end of a plain text.
+    pub(crate) fn is_at_plain_end(&self) -> bool
+        ensures { result ≡ at_plain_end self.now.line.text self.now.line.place }
+    {
+        self.line.is_cursor_at_end() && self.plain
+    }
+
+    /// Whether a character's byte alone may show it: one printable character, typed at the end of a
+    /// plain line that is bare.
+    fn may_be_typed(&self, ch: char, n: RepeatCount) -> bool
+        ensures { result ≡ may_be_typed ch n (value_of self.now) }
+    {
+        n == 1 && (self.is_bare() && (is_printable(ch) && self.is_at_plain_end()))
+    }
+
+    /// Shows a character that was inserted, with a new hint: by its byte alone where that may show
+    /// it, and the line is bare then too.
+    fn show_inserted(&mut self, ch: char, alone: bool) -> Result<(), ReadlineError>
+        ensures does { Does (inserted_shown ch alone) self.old self.new result }
     {
         self.ask_anew()?;
-        if may_be_typed(ch, n, at_end, plain, was_bare, self.is_bare()) {
+        if alone && self.is_bare() {
             self.show_short_typed(ch)
         } else {
             let prompt = self.prompt;
@@ -63,9 +56,7 @@ impl<'p, 'h, Out: Renderer, H: Helper + Drop, Hi: History> State<'p, 'h, Out, H,
     pub fn edit_insert(&mut self, ch: char, n: RepeatCount) -> Result<(), ReadlineError>
         ensures does { Does (insert_char ch n) self.old self.new result }
     {
-        let at_end = self.line.is_cursor_at_end();
-        let plain = self.plain;
-        let was_bare = self.is_bare();
+        let alone = self.may_be_typed(ch, n);
         let known = known_within(self.line.pos(), self.known);
         self.known = None;
         let inserted = insert_char(
@@ -80,7 +71,7 @@ impl<'p, 'h, Out: Renderer, H: Helper + Drop, Hi: History> State<'p, 'h, Out, H,
         if inserted.is_none() {
             return Ok(());
         }
-        self.show_inserted(ch, n, at_end, plain, was_bare)
+        self.show_inserted(ch, alone)
     }
 
     /// Puts a text at the cursor, which stays before it.

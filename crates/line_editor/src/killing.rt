@@ -1,5 +1,6 @@
 //! What is killed, and what is copied into the ring.
-ghost use Rattle.std.specs.Prelude.{◌≡◌, ◌⊎◌, OnOk, IfErr};
+ghost use Rattle.std.specs.Prelude.{◌≡◌, ◌⊎◌, OnOk, IfErr, length, drop};
+ghost use Rattle.line_buffer.specs.Range.{kill_line};
 ghost use Rattle.line_config.specs.declared.errors.ReadlineError.{ReadlineError};
 ghost use Rattle.line_edits.specs.Edits.{unkilled};
 
@@ -13,31 +14,27 @@ use line_help::{Helper, History};
 use line_keys::Text;
 use line_record::KillRing;
 
-#[tactic(auto, using(crate::proofs::StopsLemmas::stops_editing, crate::proofs::StopsLemmas::stops_edited))]
+#[tactic(auto, using(crate::proofs::StopsLemmas::edits_stop))]
 impl<'p, 'h, Out: Renderer, H: Helper + Drop, Hi: History> State<'p, 'h, Out, H, Hi> {
     ghost use Rattle.line_editor.specs.States.{value_of, setting_of, Does, Stays};
     ghost use Rattle.line_editor.specs.Killing.{may_be_taken, killed_shown, kill, insert_text_if, replace, killed_into, copied_into};
 
-    /// Whether what was taken is all that is to be erased: printable characters from the end of a
-    /// plain line, with neither hint nor highlighted character, before and after it.
-    fn may_be_taken(&self, printable: bool, was_bare: bool) -> bool
-        ensures { result ≡ may_be_taken printable was_bare (value_of self.now) }
+    /// Whether an erased rest of the row may show what a movement kills: printable characters,
+    /// taken from a bare line.
+    fn may_be_taken(&self, movement: &Movement) -> bool
+        ensures { let left = (kill_line movement.now self.now.line).text in
+            result ≡ may_be_taken (drop (length left) self.now.line.text) (value_of self.now) }
     {
-        self.plain && (printable && (self.line.is_cursor_at_end() && (was_bare && self.is_bare())))
+        self.is_bare() && self.line.has_printable_end(movement)
     }
 
-    /// Shows that so many bytes were killed, printable ones or not, with a new hint: what they
-    /// showed is erased where that is enough.
-    fn show_killed(
-        &mut self,
-        count: usize,
-        printable: bool,
-        was_bare: bool,
-    ) -> Result<(), ReadlineError>
-        ensures does { Does (killed_shown count printable was_bare) self.old self.new result }
+    /// Shows that so many bytes were killed, with a new hint: what they showed is erased where that
+    /// may show it, and the line is bare then too, with the cursor at the end of a plain text.
+    fn show_killed(&mut self, count: usize, alone: bool) -> Result<(), ReadlineError>
+        ensures does { Does (killed_shown count alone) self.old self.new result }
     {
         self.ask_anew()?;
-        if self.may_be_taken(printable, was_bare) {
+        if alone && self.is_bare() && self.is_at_plain_end() {
             self.show_short_taken(count)
         } else {
             let prompt = self.prompt;
@@ -48,9 +45,9 @@ impl<'p, 'h, Out: Renderer, H: Helper + Drop, Hi: History> State<'p, 'h, Out, H,
     /// Kills what a movement names; the ring is told first, the record last. At the end of the line
     /// what was killed is erased where that is enough.
     ///
-    /// Where memory for the kill is refused, the line and its record stay; so does the ring, but for
-    /// the killed text where the record alone refused it. Where the hint or the drawing is refused,
-    /// the kill is made.
+    /// Where memory for the kill is refused, the line and its record stay; so does the ring, but
+    /// for the killed text where the record alone refused it. Where the hint or the drawing is
+    /// refused, the kill is made.
     pub fn edit_kill(
         &mut self,
         movement: &Movement,
@@ -63,9 +60,8 @@ impl<'p, 'h, Out: Renderer, H: Helper + Drop, Hi: History> State<'p, 'h, Out, H,
             (λ e. (ring.new ≡ killed_into movement.now (value_of self.old) ring.old)
             ⊎ ((e ≡ ReadlineError.Memory) × (ring.new ≡ unkilled movement.now ring.old))) }
     {
-        let was_bare = self.is_bare();
+        let alone = self.may_be_taken(movement);
         let before = self.line.len();
-        let printable = self.line.has_printable_end(movement);
         let known = self.known_before(movement);
         self.known = None;
         let killed = kill(
@@ -81,7 +77,7 @@ impl<'p, 'h, Out: Renderer, H: Helper + Drop, Hi: History> State<'p, 'h, Out, H,
             return Ok(());
         }
         let count = before - self.line.len();
-        self.show_killed(count, printable, was_bare)
+        self.show_killed(count, alone)
     }
 
     /// Puts a text at the cursor, if there is one.

@@ -14,10 +14,9 @@ use Rattle.line_buffer.specs.Line.{Line, put_in, replaced}
 use Rattle.line_buffer.specs.Indent.{rows_covered, rows_of, leading, row_event, row_len, row_events, spaces, indent_line}
 use Rattle.line_buffer.specs.Rows.{row_start, row_end}
 use Rattle.line_buffer.specs.Range.{range_of, deletion_line, kill_line}
-use Rattle.line_buffer.specs.Short.{is_printable}
+use Rattle.line_buffer.specs.Printable.{is_printable, is_plain, is_plain_byte}
 use Rattle.line_buffer.specs.declared.range.Span.{Span}
 use Rattle.line_buffer.specs.declared.types.Movement.{Movement}
-use Rattle.line_edits.specs.Plain.{is_plain, is_plain_byte}
 
 or_true : (a b : Bool) → b ≡ true → (a || b) ≡ true
 or_true true b h = refl

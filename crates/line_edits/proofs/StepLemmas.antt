@@ -12,7 +12,7 @@ use Rattle.line_config.proofs.ScriptLaws.{then_goes, then_cut, ok_not_err}
 use Rattle.line_record.specs.Items.{Items, ItemsStand, RecordedIn, record_refuses, held_on, opened}
 use Rattle.line_record.specs.Course.{recorded_all}
 use Rattle.line_record.proofs.RunLemmas.{told_stand, told_held, stopped_stand, part_stopped, recorded_all-nil}
-use Rattle.line_edits.specs.Plain.{is_plain}
+use Rattle.line_buffer.specs.Printable.{is_plain}
 use Rattle.line_edits.specs.Steps.{Steps, Tells, Leaves, StopsWithin, StopsIn, Rewrites, Edits, stepped, written_world, made, answer_of, doing, answering, grouping}
 use Rattle.line_edits.specs.Written.{Written, Writes, written}
 

@@ -3,4 +3,3 @@ pub mod Steps
 pub mod Edits
 pub mod Laws
 pub mod Undoing
-pub mod Plain

@@ -7,7 +7,7 @@ use Rattle.line_buffer.specs.Line.{Line}
 use Rattle.line_buffer.specs.Replay.{TellsOfChange, carried_all}
 use Rattle.line_config.specs.Scripts.{Script, Ends, Asks, World, Goes, then}
 use Rattle.line_record.specs.Items.{Items}
-use Rattle.line_edits.specs.Plain.{is_plain}
+use Rattle.line_buffer.specs.Printable.{is_plain}
 use Rattle.line_edits.specs.Written.{Written, Writes, written, edited, group_opened, group_closed}
 
 pub data Step : Type 0 where

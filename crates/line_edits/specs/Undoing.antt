@@ -5,7 +5,7 @@ use Rattle.line_record.specs.Held.{has_step}
 use Rattle.line_record.specs.Items.{Items, no_items, lines_back, held_on}
 use Rattle.line_record.specs.UndoRedo.{last_changes}
 use Rattle.line_edits.specs.Edits.{undone}
-use Rattle.line_edits.specs.Plain.{is_plain}
+use Rattle.line_buffer.specs.Printable.{is_plain}
 use Rattle.line_edits.specs.Written.{Writes}
 
 -- the newest of the changes were taken back, the first ones that are left were not, and nothing is

@@ -3,7 +3,7 @@ ghost use Rattle.std.specs.Prelude.{◌≡◌, ◌≤◌, ◌-◌, true, is_some
 ghost use Rattle.line_buffer.specs.Insertions.{insert as insertion, yank as yanked_in};
 ghost use Rattle.line_record.specs.Items.{ItemsStand};
 ghost use Rattle.line_edits.specs.Edits.{typing, yanking, putting_behind, popping, popping_in_group};
-ghost use Rattle.line_edits.specs.Plain.{is_plain};
+ghost use Rattle.line_buffer.specs.Printable.{is_plain};
 ghost use Rattle.line_edits.specs.Steps.{Edits, Rewrites};
 
 use crate::plain::is_plain;

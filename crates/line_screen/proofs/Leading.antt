@@ -1,22 +1,23 @@
 -- Each call leads from what a display shows to what it is to show.
-use Rattle.std.proofs.Common.{◌≡◌, ◌≢◌, ℕ, ◌+◌, ◌^◌, ◌<◌, ◌≤◌, nat_le, true, false, not, ◌⊎◌, inl, inr, List, [], ◌∷◌, ◌++◌, map, take, length, take_all, length-append, Option, Some, None, refl, sym, ap, ◌∙◌, subst, append_assoc, append-nil, arith, if◌then◌else◌}
+use Rattle.std.proofs.Common.{◌≡◌, ◌≢◌, ℕ, ◌+◌, ◌^◌, ◌<◌, ◌≤◌, ◌==◌, nat_le, true, false, not, ◌⊎◌, inl, inr, List, [], ◌∷◌, ◌++◌, map, take, length, take_all, length-append, Option, Some, None, refl, sym, ap, ◌∙◌, subst, append_assoc, append-nil, arith, if◌then◌else◌}
 use Rattle.std.specs.List.{list_all, filter}
-use Rattle.std.proofs.lemmas.Bool.{and_from, lt-ltb, ne_eqb}
+use Rattle.std.proofs.lemmas.Bool.{and_from, and_parts, eqb-true, ltb-true, lt-ltb, ne_eqb}
 use Rattle.std.proofs.lemmas.Bool.Decides.{nat_tests}
 use Rattle.std.proofs.lemmas.List.{map-append}
 use Rattle.std.proofs.lemmas.List.Elements.{filter-append}
 use Rattle.std.proofs.lemmas.List.Folds.{list_all-append, list_all-map}
 use Rattle.line_buffer.specs.Cells.{origin}
+use Rattle.line_buffer.specs.Printable.{is_printable, is_plain, at_plain_end, typed_at_plain_end}
 use Rattle.line_buffer.specs.declared.layout.GraphemeClusterMode.{GraphemeClusterMode}
 use Rattle.line_buffer.specs.declared.layout.Position.{Position}
 use Rattle.line_config.specs.declared.settings.BellStyle.{BellStyle}
 use Rattle.line_config.specs.declared.settings.BellStyle.TheVariants as Bells
 use Rattle.line_editor.specs.Calls.{Call}
 use Rattle.line_editor.specs.Calls.Call.{Draw, Move, Write, Beep, ClearScreen, ClearRows, ClearToEol, MoveAndClearToEol, ToLeftmost, Help}
-use Rattle.line_editor.specs.Redraws.{info_text}
+use Rattle.line_editor.specs.Redraws.{info_text, has_room}
 use Rattle.line_screen.specs.Calls.{Screen, bytes_of, bell_bytes, old_row, drawing_bytes}
-use Rattle.line_screen.specs.Chain.{View, Good, Inside, empty_view, Replaces, Redraws, is_simple, with_letter, Types, ClosesLine, cut_line, LeadsView, with_place, Moves, ErasesKilled}
-use Rattle.line_screen.specs.Display.{Placed, Display, read, start, put_down, is_printable, right, ends_before, starts_before, is_cut, stays_in_row, at_cursor, erased_below, erased_right}
+use Rattle.line_screen.specs.Chain.{View, Good, Inside, empty_view, Replaces, Redraws, with_letter, Types, ClosesLine, cut_line, LeadsView, with_place, Moves, ErasesKilled}
+use Rattle.line_screen.specs.Display.{Placed, Display, read, start, put_down, right, ends_before, starts_before, is_cut, stays_in_row, at_cursor, erased_below, erased_right}
 use Rattle.line_screen.specs.Display.DisplayReading.{Text, Lost}
 use Rattle.line_screen.specs.Drawing.{text_items, next_row, leave, place_after, placed_at, lay, row_break, erase_to_end, erase_to_row_end, go_home, clearing_bytes, move_bytes, drawing, full_drawing}
 use Rattle.line_screen.specs.Drawing.DrawnItem.{Letter}
@@ -247,12 +248,17 @@ module _ (mode : GraphemeClusterMode) (columns : ℕ) (some : 1 ≤ columns) (fe
   pub not_left : (at : Position) → at.col + 1 < columns → leave columns (right 1 at) ≡ right 1 at
   not_left at room = ap (λ b. if b then next_row (right 1 at) else right 1 at) (ne_eqb (at.col + 1) columns (λ e. omega arith))
 
-  types_good : (bytes : List ℕ) (over : List Placed) (a : View) (c : ℕ) → Good columns (cluster_width mode columns) bytes over a → is_printable c ≡ true → a.shown.info ≡ [] → a.shown.place ≡ length a.shown.line
-      → list_all is_simple a.shown.line ≡ true → a.place ≡ cursor_of columns (cluster_width mode columns) a.shown → a.place.col + 1 < columns
+  types_good : (bytes : List ℕ) (over : List Placed) (a : View) (c : ℕ) → Good columns (cluster_width mode columns) bytes over a → typed_at_plain_end c a.shown.line a.shown.place ≡ true → a.shown.info ≡ []
+      → a.place ≡ cursor_of columns (cluster_width mode columns) a.shown → has_room columns a.place ≡ true
       → Good columns (cluster_width mode columns) (bytes ++ c ∷ []) over (record { shown = with_letter a.shown c; top = a.top; place = cursor_of columns (cluster_width mode columns) (with_letter a.shown c) })
-  types_good bytes over a c g letter none end simple place_is room =
+  types_good bytes over a c g typed none place_is has =
       let wide = cluster_width mode columns in
       let v = a.shown in
+      let parts = and_parts (is_printable c) (at_plain_end v.line v.place) typed in
+      let letter = parts.0 in
+      let ends = and_parts (v.place == length v.line) (is_plain v.line) parts.1 in
+      let end : v.place ≡ length v.line = eqb-true v.place (length v.line) ends.0 in
+      let room : a.place.col + 1 < columns = ltb-true (a.place.col + 1) columns has in
       let d = g.display in
       let base = text_items wide v.prompt ++ text_items wide v.line in
       let there = place_after columns base origin in
@@ -264,7 +270,7 @@ module _ (mode : GraphemeClusterMode) (columns : ℕ) (some : 1 ≤ columns) (fe
       let e = put_down 1 (c ∷ []) d in
       let stands = step_letter columns wide (read columns wide start bytes) d e c g.stands letter (put_clear columns 1 (c ∷ []) d clear (omega arith)) in
       -- the new items
-      let more : text_items wide (v.line ++ c ∷ []) ≡ text_items wide v.line ++ Letter c ∷ [] = items_letters wide v.line (c ∷ []) simple (and_from (is_printable c) true letter refl) in
+      let more : text_items wide (v.line ++ c ∷ []) ≡ text_items wide v.line ++ Letter c ∷ [] = items_letters wide v.line (c ∷ []) ends.1 (and_from (is_printable c) true letter refl) in
       let joined : text_items wide v.prompt ++ text_items wide (v.line ++ c ∷ []) ≡ base ++ Letter c ∷ [] = ap (λ is. text_items wide v.prompt ++ is) more ∙ sym (append_assoc (text_items wide v.prompt) (text_items wide v.line) (Letter c ∷ [])) in
       let new_items : shown_items wide (with_letter v c) ≡ base ++ Letter c ∷ [] = line_items (with_letter v c) refl ∙ joined in
       let new_length : v.place + 1 ≡ length (v.line ++ c ∷ []) = let count = length-append v.line (c ∷ []) in omega arith in
@@ -299,7 +305,7 @@ module _ (mode : GraphemeClusterMode) (columns : ℕ) (some : 1 ≤ columns) (fe
       }
 
   kills_good : (bytes : List ℕ) (over : List Placed) (a : View) (line killed : List ℕ) → Good columns (cluster_width mode columns) bytes over a → a.shown.line ≡ line ++ killed → a.shown.info ≡ []
-      → list_all is_simple line ≡ true → list_all is_printable killed ≡ true → length killed ≤ (finish_of columns (cluster_width mode columns) a.shown).col
+      → is_plain line ≡ true → list_all is_printable killed ≡ true → length killed ≤ (finish_of columns (cluster_width mode columns) a.shown).col
       → a.place ≡ cursor_of columns (cluster_width mode columns) (cut_line a.shown line)
       → Good columns (cluster_width mode columns) (bytes ++ erase_to_row_end) over (record { shown = cut_line a.shown line; top = a.top; place = a.place })
   kills_good bytes over a line killed g whole none simple letters room place_is =
@@ -414,7 +420,7 @@ write_led : (s : Screen) → 1 ≤ s.columns → s.columns < 2 ^ 64 → (bytes :
 write_led s some few bytes over a b text g (inl t) =
     same_over s bytes over a (Write text) b g
     (subst (λ x. Good s.columns (cluster_width s.mode s.columns) (bytes ++ x) over b) (sym t.text_is)
-    (subst (Good s.columns (cluster_width s.mode s.columns) (bytes ++ t.c ∷ []) over) (sym t.view) (types_good s.mode s.columns some few bytes over a t.c g t.printable t.info t.end t.simple t.place_is t.room)))
+    (subst (Good s.columns (cluster_width s.mode s.columns) (bytes ++ t.c ∷ []) over) (sym t.view) (types_good s.mode s.columns some few bytes over a t.c g t.typed t.info t.place_is t.room)))
 write_led s some few bytes over a b text g (inr t) =
     let done = line_good s.mode s.columns some few bytes over a g t.place_is in
     record {
@@ -435,7 +441,7 @@ module _ (s : Screen) (some : 1 ≤ s.columns) (few : s.columns < 2 ^ 64) (bytes
   erased_good : ErasesKilled s.columns (cluster_width s.mode s.columns) a b → Good s.columns (cluster_width s.mode s.columns) (bytes ++ erase_to_row_end) over b
   erased_good h =
       subst (Good s.columns (cluster_width s.mode s.columns) (bytes ++ erase_to_row_end) over) (sym h.view)
-      (kills_good s.mode s.columns some few bytes over a h.line h.killed g h.whole h.info h.simple h.printable h.room h.place_is)
+      (kills_good s.mode s.columns some few bytes over a h.line h.killed g h.whole h.info h.plain h.printable h.room h.place_is)
 
 pub leads : (s : Screen) → 1 ≤ s.columns → s.columns < 2 ^ 64 → (bytes : List ℕ) (over : List Placed) (a b : View) (call : Call) → Good s.columns (cluster_width s.mode s.columns) bytes over a
     → LeadsView s.columns (cluster_width s.mode s.columns) a call b → Led s bytes over a call b

@@ -1,13 +1,14 @@
 -- What a display shows before and after each call of a screen.
-use Rattle.std.specs.Prelude.{◌≡◌, ℕ, ◌+◌, ◌^◌, ◌<◌, ◌≤◌, ◌==◌, Bool, true, ◌||◌, ◌⊎◌, List, [], ◌∷◌, ◌++◌, length, Option, Some, None}
+use Rattle.std.specs.Prelude.{◌≡◌, ℕ, ◌+◌, ◌^◌, ◌<◌, ◌≤◌, true, ◌⊎◌, List, [], ◌∷◌, ◌++◌, length, Option, Some, None}
 use Rattle.std.specs.List.{list_all, filter}
 use Rattle.line_buffer.specs.Cells.{origin}
+use Rattle.line_buffer.specs.Printable.{is_printable, is_plain, typed_at_plain_end}
 use Rattle.line_buffer.specs.declared.layout.Position.{Position}
 use Rattle.line_editor.specs.Calls.{Call}
 use Rattle.line_editor.specs.Calls.Call.{Draw, Move, Write, Beep, ClearScreen, ClearRows, ClearToEol, MoveAndClearToEol, ToLeftmost, Help}
-use Rattle.line_editor.specs.Redraws.{info_text}
+use Rattle.line_editor.specs.Redraws.{info_text, has_room}
 use Rattle.line_screen.specs.Calls.{old_row}
-use Rattle.line_screen.specs.Display.{Display, Placed, is_printable, read, start}
+use Rattle.line_screen.specs.Display.{Display, Placed, read, start}
 use Rattle.line_screen.specs.Drawing.{row_break}
 use Rattle.line_screen.specs.Showing.{Picture, nothing, Stands, cells_of, finish_of, cursor_of, down, down_placed, above, from_top}
 use Rattle.std.specs.Prelude.{map}
@@ -71,10 +72,6 @@ pub record Moves (columns : ℕ) (a : View) (old new : Position) (b : View) : Ty
   pub at : ℕ
   pub view : b ≡ record { shown = with_place a.shown at; top = a.top; place = new }
 
--- printable ASCII and newlines
-abbrev pub is_simple : ℕ → Bool
-is_simple c = (c == 0x0A) || is_printable c
-
 abbrev pub with_letter : Picture → ℕ → Picture
 with_letter v c = record {
   prompt = v.prompt;
@@ -83,18 +80,16 @@ with_letter v c = record {
   info = [];
 }
 
--- a printable character of ASCII at the end of a simple line, not into the last column, with
--- nothing after the line
+-- a printable character at the end of a plain line, not into the last column, with nothing after
+-- the line
 pub record Types (columns : ℕ) (wide : List ℕ → Option ℕ) (a : View) (text : List ℕ)
     (b : View) : Type 0 where
   pub c : ℕ
   pub text_is : text ≡ c ∷ []
-  pub printable : is_printable c ≡ true
+  pub typed : typed_at_plain_end c a.shown.line a.shown.place ≡ true
   pub info : a.shown.info ≡ []
-  pub end : a.shown.place ≡ length a.shown.line
-  pub simple : list_all is_simple a.shown.line ≡ true
   pub place_is : a.place ≡ cursor_of columns wide a.shown
-  pub room : a.place.col + 1 < columns
+  pub room : has_room columns a.place ≡ true
   pub view : b ≡ record {
     shown = with_letter a.shown c;
     top = a.top;
@@ -111,14 +106,14 @@ pub record ClosesLine (columns : ℕ) (wide : List ℕ → Option ℕ) (a : View
 abbrev pub cut_line : Picture → List ℕ → Picture
 cut_line v line = record { prompt = v.prompt; line = line; place = length line; info = [] }
 
--- printable ASCII at the end of a simple line, no more of it than the columns of the line's end,
+-- printable characters at the end of a plain line, no more of it than the columns of the line's end,
 -- with nothing after the line: the cursor was moved to where it begins
 pub record ErasesKilled (columns : ℕ) (wide : List ℕ → Option ℕ) (a b : View) : Type 0 where
   pub line : List ℕ
   pub killed : List ℕ
   pub whole : a.shown.line ≡ line ++ killed
   pub info : a.shown.info ≡ []
-  pub simple : list_all is_simple line ≡ true
+  pub plain : is_plain line ≡ true
   pub printable : list_all is_printable killed ≡ true
   pub room : length killed ≤ (finish_of columns wide a.shown).col
   pub place_is : a.place ≡ cursor_of columns wide (cut_line a.shown line)

@@ -5,7 +5,7 @@ use Rattle.std.specs.Prelude.{ℕ, ◌+◌, ◌-◌, ◌*◌, ◌==◌, nat_lt, 
 use Rattle.std.specs.List.{list_all, filter}
 use Rattle.line_buffer.specs.Cells.{origin}
 use Rattle.line_buffer.specs.declared.layout.Position.{Position}
-pub use Rattle.line_buffer.specs.Short.{is_printable}
+pub use Rattle.line_buffer.specs.Printable.{is_printable}
 
 -- ---- cells
 

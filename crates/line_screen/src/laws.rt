@@ -34,13 +34,13 @@ pub fn reads_find_nothing_waiting<D: Sink>()
     ensures { ReadsFindNothingWaiting D.held D.waits D.has_failed }
 {}
 
-/// Where a short insertion is offered, its byte leads to the line with the character.
+/// Where the editor writes a typed character's byte alone, that leads to the line with it.
 pub fn short_insertions()
     ensures { TypingLeads }
 {}
 
-/// Where a short kill is offered, a move and the erasure of the row's end lead to the line without
-/// its end.
+/// Where it takes a line's end away by a move and the erasure of the row's end, that leads to the
+/// line without it.
 pub fn short_kills()
     ensures { KillingLeads }
 {}

@@ -9,7 +9,6 @@ pub mod measuring;
 pub mod reading;
 pub mod renderer;
 
-pub use line_buffer::{short_insertion, short_kill};
 pub use measuring::measure;
 pub use reading::reader::KeyReader;
 pub use renderer::ScreenRenderer;

@@ -1,9 +1,8 @@
 //! Where the drawing of a text ends.
 
 ghost use Rattle.std.specs.Prelude.{◌≡◌, ◌≤◌, ◌<◌, ◌+◌, ◌==◌, ◌∷◌, [], true, length, map, take, chars, encode_utf8, IsCharBoundary};
-ghost use Rattle.std.specs.List.{list_all};
 ghost use Rattle.unicode_segmentation.specs.Grapheme.{graphemes};
-ghost use Rattle.line_screen.specs.Chain.{is_simple};
+ghost use Rattle.line_buffer.specs.Printable.{is_plain};
 ghost use Rattle.line_screen.specs.Display.{right};
 ghost use Rattle.line_screen.specs.Drawing.{drawn_item, row_items, next_items, text_items, next_row, fit, leave, place_after};
 ghost use Rattle.line_screen.specs.Drawing.DrawnItem.{Letter, NewRow};
@@ -44,7 +43,7 @@ pub(crate) fn measure_on(
 ) -> Position
     requires low { 2 ≤ columns }
     requires high { columns ≤ 1000 }
-    requires plain { list_all is_simple text.now ≡ true }
+    requires plain { is_plain text.now ≡ true }
     requires known { IsCharBoundary text.now known }
     requires place { IsCharBoundary text.now place }
     requires at { at ≡ measure_of mode columns (take known text.now) from }

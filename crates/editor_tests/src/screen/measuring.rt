@@ -1,7 +1,7 @@
-//! Where texts end, and where a byte or an erasure is drawing enough.
+//! Where texts end.
 
 use line_buffer::{GraphemeClusterMode, Position};
-use line_screen::{measure, short_insertion, short_kill};
+use line_screen::measure;
 use stand_ins::rows::{Player, rows_hold};
 use stand_ins::tables::{meant, word_and_rest};
 use std::alloc::{AllocError, Global};
@@ -38,30 +38,19 @@ fn position_of(word: &str) -> Position {
     }
 }
 
-fn position_told(alloc: Global, place: Option<Position>) -> Result<String, AllocError> {
-    match place {
-        Some(Position { row, col }) => format!(in alloc; "{row}:{col}"),
-        None => String::from_str(alloc, "none"),
-    }
+fn position_told(alloc: Global, place: Position) -> Result<String, AllocError> {
+    let Position { row, col } = place;
+    format!(in alloc; "{row}:{col}")
 }
 
-/// What the rows of a table ask.
+/// Where a row's text ends.
 #[derive(Drop)]
-enum Ask {
-    End,
-    Insertion,
-    Kill,
-}
+struct Ends;
 
-impl Player for Ask {
+impl Player for Ends {
     fn play(&mut self, alloc: Global, call: &str) -> Result<String, Fail> {
         let (first, rest) = word_and_rest(call);
-        let said = match self {
-            Ask::End => end_measured(alloc, first, rest),
-            Ask::Insertion => after_insertion(alloc, first, rest),
-            Ask::Kill => after_kill(alloc, first, rest),
-        };
-        Ok(said?)
+        Ok(end_measured(alloc, first, rest)?)
     }
 }
 
@@ -73,64 +62,10 @@ fn end_measured(alloc: Global, columns: &str, call: &str) -> Result<String, Allo
     let columns = columns.max(2).min(1000);
     let text = meant(alloc, text)?;
     let end = measure(text.as_str(), position_of(from), columns, mode_of(mode));
-    position_told(alloc, Some(end))
-}
-
-// Where the line ends after a typed character, where its byte is enough.
-fn after_insertion(alloc: Global, end: &str, text: &str) -> Result<String, AllocError> {
-    let text = meant(alloc, text)?;
-    match text.as_str().chars().next() {
-        Some(c) => position_told(alloc, short_insertion(position_of(end), c, 80)),
-        None => String::from_str(alloc, "no character"),
-    }
-}
-
-// Where the cursor goes after a kill, where an erasure is enough.
-fn after_kill(alloc: Global, end: &str, text: &str) -> Result<String, AllocError> {
-    let text = meant(alloc, text)?;
-    position_told(alloc, short_kill(position_of(end), text.as_str()))
+    position_told(alloc, end)
 }
 
 #[test]
 fn measures(rt: HostRuntime) -> Result<(), Fail> {
-    rows_hold(rt.alloc(), &mut Ask::End, PLACES)
-}
-
-// The end of a line on 80 columns and a character that is typed there; the line's end, where its byte is enough.
-const INSERTIONS: &str = "
-    2:5 x               = 2:6
-    2:5 ␠               = 2:6
-    2:5 ~               = 2:6
-    2:5 ␡               = none
-    2:5 ␉               = none
-    2:5 ␊               = none
-    2:5 \u{E9}          = none
-    2:5 \u{301}         = none
-    2:5 \u{6F22}        = none
-    2:78 x              = 2:79
-    2:79 x              = none
-    2:80 x              = none
-    2:65535 x           = none
-";
-
-// The end of a line and the text that is killed before it; where the cursor goes, where an erasure is enough.
-const KILLS: &str = "
-    2:5 abc             = 2:2
-    2:5 abcde           = 2:0
-    2:5                 = 2:5
-    2:5 abcdef          = none
-    2:5 a\u{E9}         = none
-    2:5 a␊              = none
-";
-
-#[test]
-fn short_insertions_are_printable_ascii_with_room_to_its_right(
-    rt: HostRuntime,
-) -> Result<(), Fail> {
-    rows_hold(rt.alloc(), &mut Ask::Insertion, INSERTIONS)
-}
-
-#[test]
-fn short_kills_are_printable_ascii_in_one_row(rt: HostRuntime) -> Result<(), Fail> {
-    rows_hold(rt.alloc(), &mut Ask::Kill, KILLS)
+    rows_hold(rt.alloc(), &mut Ends, PLACES)
 }

@@ -1,0 +1,31 @@
+//! Printable ASCII.
+
+ghost use Rattle.std.specs.Prelude.{◌≡◌, ◌<◌, true};
+ghost use Rattle.std.specs.List.{list_all};
+ghost use Rattle.line_buffer.specs.Printable.{is_printable};
+
+/// Each character is a printable one of ASCII.
+pub fn is_printable_text(text: &str) -> bool
+    ensures { result ≡ list_all is_printable text.now }
+{
+    are_printable(text.as_bytes())
+}
+
+/// Each byte is a printable character of ASCII.
+pub(crate) fn are_printable(bytes: &[u8]) -> bool
+    ensures { result ≡ list_all is_printable bytes.now }
+{
+    let mut all = true;
+    for byte in bytes {
+        all &= 0x20 <= *byte && *byte < 0x7F;
+    }
+    all
+}
+
+/// A printable character of ASCII.
+pub fn is_printable(c: char) -> bool
+    ensures value { result ≡ is_printable c }
+    ensures ascii { result ≡ true → c < 127 }
+{
+    ' ' <= c && c <= '~'
+}
