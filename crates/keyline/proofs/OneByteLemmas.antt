@@ -1,7 +1,7 @@
 -- The count of one byte.
 use Rattle.std.proofs.Common.{◌≡◌, ℕ, ◌+◌, ◌<◌, not, nat_lt, nat_le, Bool, true, false, List, [], ◌∷◌, ◌++◌, take, Option, Some, None, is_some, encode_utf8, Result, Ok, refl, ap, ◌∙◌, append-nil, arith, if◌then◌else◌}
 use Rattle.std.specs.List.{flat_map}
-use Rattle.std.proofs.lemmas.Bool.{and_parts, and_from, not-true, lt-ltb, ltb-true}
+use Rattle.std.proofs.lemmas.Bool.{and_parts, and_from, not-true, ltb-true}
 use Rattle.std.proofs.lemmas.Str.{encode_ascii}
 use Rattle.line_buffer.specs.Cells.{same_cell}
 use Rattle.line_buffer.specs.Insertions.{insert as insertion}
@@ -106,9 +106,9 @@ typed_bytes : (s : Screen) (l : Layout) (a : Setting) (v : Value) (c : ℕ) → 
     → (let e = insert_char c 1 a v in bytes_for s l e.steps ≡ bytes_for s l (Draws e.value a.marks (Typed a.prompt c e.value.line.text e.value.line.place) ∷ []))
 typed_bytes s l a v c t = sent_short s l a _ _ c (is_some (insertion c 1 v.line).answer) (may_be_typed c 1 v) t.room t.alone t.after refl
 
-short_bytes : (s : Screen) (l : Layout) (v : Value) (m : Option Marks) (prompt : List ℕ) (c : ℕ) (text : List ℕ) (at : ℕ) → is_printable c ≡ true → l.has_info ≡ false → l.cursor.col + 1 < s.columns → bytes_for s l (Draws v m (Typed prompt c text at) ∷ []) ≡ c ∷ []
-short_bytes s l v m prompt c text at printable none room =
-    ap (λ b. flat_map (bytes_of s) ((if b then typed_short l c else full (ruler_of s) m l prompt true text at None).calls ++ [])) (and_from (not l.has_info) (nat_lt (l.cursor.col + 1) s.columns) (ap not none) (lt-ltb (l.cursor.col + 1) s.columns room))
+short_bytes : (s : Screen) (l : Layout) (v : Value) (m : Option Marks) (prompt : List ℕ) (c : ℕ) (text : List ℕ) (at : ℕ) → is_printable c ≡ true → may_type (ruler_of s) l ≡ true → bytes_for s l (Draws v m (Typed prompt c text at) ∷ []) ≡ c ∷ []
+short_bytes s l v m prompt c text at printable may =
+    ap (λ b. flat_map (bytes_of s) ((if b then typed_short l c else full (ruler_of s) m l prompt true text at None).calls ++ [])) may
     ∙ append-nil (encode_utf8 c) ∙ encode_ascii c (small c printable)
 
 turned_steps : (a : Setting) (indent : ℕ) (r : Ring) (v : Value) (c : ℕ) (p : Enacted Cmd) (answer : Result Cmd ReadlineError) → answer ≡ Ok (SelfInsert 1 c) → p.made.value ≡ v
@@ -124,9 +124,9 @@ unasked_bytes s l xs ys none =
 
 pub one_byte : OneByte
 unfolding turn_of
-one_byte n s l a custom indent input r v coming c alone t none room =
+one_byte n s l a custom indent input r v coming c alone t may =
     let p = phrase_enacted n a custom input v coming in
     let e = insert_char c 1 a v in
     ap (bytes_for s l) (turned_steps a indent r v c p p.answer alone.answer alone.value_is)
     ∙ unasked_bytes s l p.made.steps e.steps (alone.unasked s l)
-    ∙ typed_bytes s l a v c t ∙ short_bytes s l e.value a.marks a.prompt c e.value.line.text e.value.line.place (printed v c t.alone) none room
+    ∙ typed_bytes s l a v c t ∙ short_bytes s l e.value a.marks a.prompt c e.value.line.text e.value.line.place (printed v c t.alone) may

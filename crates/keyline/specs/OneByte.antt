@@ -1,5 +1,5 @@
 -- Where a typed character costs its one byte.
-use Rattle.std.specs.Prelude.{◌≡◌, ℕ, ◌+◌, ◌<◌, true, false, List, [], ◌∷◌, is_some, Ok}
+use Rattle.std.specs.Prelude.{◌≡◌, ℕ, true, List, [], ◌∷◌, is_some, Ok}
 use Rattle.line_buffer.specs.Insertions.{insert as insertion}
 use Rattle.line_buffer.specs.declared.layout.Layout.{Layout}
 use Rattle.line_keys.specs.Answers.{Custom}
@@ -9,10 +9,10 @@ use Rattle.line_keys.specs.declared.command.Cmd.TheVariants.{SelfInsert}
 use Rattle.line_record.specs.Ring.{Ring}
 use Rattle.line_editor.specs.Inserting.{is_bare, may_be_typed, insert_char}
 use Rattle.line_editor.specs.Lines.{phrase_enacted, turn_of}
-use Rattle.line_editor.specs.Redraws.{nothing_asked}
+use Rattle.line_editor.specs.Redraws.{nothing_asked, may_type}
 use Rattle.line_editor.specs.Sights.{Sight, sight_all, FitsAll}
 use Rattle.line_editor.specs.Values.{Value, Setting, EditStep}
-use Rattle.line_screen.specs.Calls.{Screen}
+use Rattle.line_screen.specs.Calls.{Screen, ruler_of}
 use Rattle.keyline.specs.Shows.{drawn_by, bytes_for}
 
 -- the layout that is kept tells whether information stands, and whether the session's own prompt
@@ -41,11 +41,10 @@ pub record ReadAlone (n : ℕ) (a : Setting) (custom : Custom) (input : Input) (
   pub unasked : (s : Screen) (l : Layout)
       → drawn_by s l (phrase_enacted n a custom input v coming).made.steps ≡ nothing_asked l
 
--- where no information stands and it doesn't come into the last column, its turn sends its byte
+-- where the layout lets its byte be written alone, its turn sends that byte
 abbrev pub OneByte : Type 0
 OneByte =
     (n : ℕ) (s : Screen) (l : Layout) (a : Setting) (custom : Custom) (indent : ℕ)
     (input : Input) (r : Ring) (v : Value) (coming : Coming) (c : ℕ)
-    → ReadAlone n a custom input v coming c → TypedAtEnd a v c
-    → l.has_info ≡ false → l.cursor.col + 1 < s.columns
+    → ReadAlone n a custom input v coming c → TypedAtEnd a v c → may_type (ruler_of s) l ≡ true
     → bytes_for s l (turn_of n a custom indent input r v coming).made.steps ≡ c ∷ []
