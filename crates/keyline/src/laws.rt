@@ -28,7 +28,8 @@ use line_help::Helper;
 use line_keys::Decides;
 
 /// Over a source that gives what was said, whatever is asked of it, as one over memory does: what a
-/// session draws, writes and saves is that of its keys, and nothing has to be seen of what they gave.
+/// session draws, writes and saves is that of its keys, and nothing has to be seen of what they
+/// gave.
 pub fn always_told<
     S: Source + Drop,
     H: Helper + Drop,
@@ -155,7 +156,8 @@ pub fn paste()
 {}
 
 /// What is sent for fewer keys is a beginning of what is sent for more, and so are the lines: of a
-/// source that fails after its bytes, against one that gives more bytes, in a line and in a session.
+/// source that fails after its bytes, against one that gives more bytes, in a line and in a
+/// session.
 pub fn fewer_keys()
     ensures lines { LinesBegin }
     ensures sessions { SessionsBegin }

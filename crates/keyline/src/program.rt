@@ -51,9 +51,9 @@ pub fn helper_of(options: &Options, words: Option<Vec<String>>) -> Option<EditHe
     })
 }
 
-/// Opens a session by options and runs it. The words, where they are given, complete the word before
-/// the cursor. The history's text is loaded from `history`, and saved to `text` where an entry is
-/// new. A refusal is of a session that was not opened.
+/// Opens a session by options and runs it. The words, where they are given, complete the word
+/// before the cursor. The history's text is loaded from `history`, and saved to `text` where an
+/// entry is new. A refusal is of a session that was not opened.
 pub fn edit<F: Source + Drop, S: Source + Drop, D: Sink + Drop, L: Sink + Drop, T: Sink + Drop>(
     alloc: Global,
     options: &Options,
@@ -95,10 +95,10 @@ pub fn edit<F: Source + Drop, S: Source + Drop, D: Sink + Drop, L: Sink + Drop, 
 /// The same over any reader of keys and any writers, which are flushed at the end, and with a
 /// history's text in memory, before and after.
 ///
-/// It is said of the reader that it gives the bytes of `K`: for all of them that agree with what its
-/// reads gave, its session is that of these bytes, and the writers were handed its display bytes and
-/// its lines. A refusal is of a session that was not opened: the text isn't UTF-8, or memory was
-/// wanting.
+/// It is said of the reader that it gives the bytes of `K`: for all of them that agree with what
+/// its reads gave, its session is that of these bytes, and the writers were handed its display
+/// bytes and its lines. A refusal is of a session that was not opened: the text isn't UTF-8, or
+/// memory was wanting.
 pub fn play<K: Foretold, R: Read + Drop, E: Write + Drop, W: Write + Drop>(
     alloc: Global,
     options: &Options,

@@ -59,8 +59,8 @@ pub struct Unopened<F, S, D, L, T> {
 }
 
 impl<F, S, D, L, T> Unopened<F, S, D, L, T> {
-    // Not inlined, nor are `open` and `run`: where one function moves the devices to several places,
-    // LLVM takes minutes over it.
+    // Not inlined, nor are `open` and `run`: where one function moves the devices to several
+    // places, LLVM takes minutes over it.
     #[inline(never)]
     fn new(why: ReadlineError, history: F, source: S, display: D, lines: L, text: T) -> Self
         ensures { result ≡ record {
@@ -279,8 +279,8 @@ where
         })
     }
 
-    /// Reads the next line, drawn behind this prompt. An accepted line is added to the history where
-    /// the settings say so, written, and handed back.
+    /// Reads the next line, drawn behind this prompt. An accepted line is added to the history
+    /// where the settings say so, written, and handed back.
     ///
     /// After each answer a further line may be asked for: after `Interrupted`, which Ctrl-C gives,
     /// it begins with the ring and the history that were; after `Eof` it ends at once again, unless

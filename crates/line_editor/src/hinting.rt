@@ -7,7 +7,7 @@ use line_config::ReadlineError;
 use line_edits::yank;
 use line_help::{Helper, Hint, History};
 
-#[tactic(auto, using(crate::proofs::StopsLemmas::stops_editing, crate::proofs::StopsLemmas::stops_edited))]
+#[tactic(auto, using(crate::proofs::StopsLemmas::edits_stop))]
 impl<'p, 'h, Out: Renderer, H: Helper + Drop, Hi: History> State<'p, 'h, Out, H, Hi> {
     ghost use Rattle.line_editor.specs.States.{value_of, setting_of, Does};
     ghost use Rattle.line_editor.specs.Drawing.{beeped, refreshed};

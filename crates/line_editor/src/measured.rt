@@ -7,7 +7,8 @@ use crate::state::State;
 use line_buffer::{Movement, Position};
 use line_help::{Helper, History};
 
-/// What is known, if it stands no further than a place: whatever changes behind that place leaves it.
+/// What is known, if it stands no further than a place: whatever changes behind that place leaves
+/// it.
 pub(crate) fn known_within(
     place: usize,
     known: Option<(usize, Position)>,

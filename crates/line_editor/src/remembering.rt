@@ -8,7 +8,7 @@ use line_config::ReadlineError;
 use line_edits::{update, update_grouped};
 use line_help::{Helper, History, SearchDirection};
 
-#[tactic(auto, using(crate::proofs::StopsLemmas::stops_editing, crate::proofs::StopsLemmas::stops_taking, crate::proofs::StopsLemmas::stops_first, crate::proofs::StopsLemmas::stops_edited))]
+#[tactic(auto, using(crate::proofs::StopsLemmas::recalls_stop))]
 impl<'p, 'h, Out: Renderer, H: Helper + Drop, Hi: History> State<'p, 'h, Out, H, Hi> {
     ghost use Rattle.line_editor.specs.States.{setting_of, Does};
     ghost use Rattle.line_editor.specs.Remembering.{saving, restoring, come_back, previous_entry, next_entry, first_entry, last_line, history_step, history_end, entry_shown, recalled_earlier, saving_on_leaving, search_from, history_search};

@@ -7,7 +7,7 @@ use line_config::ReadlineError;
 use line_edits::{edit_word, indent, transpose_chars, transpose_words, undo};
 use line_help::{Helper, History};
 
-#[tactic(auto, using(crate::proofs::StopsLemmas::stops_editing, crate::proofs::StopsLemmas::stops_edited, crate::proofs::StopsLemmas::stops_taken_back))]
+#[tactic(auto, using(crate::proofs::StopsLemmas::undoes_stop))]
 impl<'p, 'h, Out: Renderer, H: Helper + Drop, Hi: History> State<'p, 'h, Out, H, Hi> {
     ghost use Rattle.line_edits.specs.Edits.{undone};
     ghost use Rattle.line_editor.specs.States.{Does};

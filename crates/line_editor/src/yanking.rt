@@ -33,7 +33,7 @@ fn step_back(line: &mut LineBuffer, vi_command: bool)
     }
 }
 
-#[tactic(auto, using(crate::proofs::StopsLemmas::stops_editing, crate::proofs::StopsLemmas::stops_edited))]
+#[tactic(auto, using(crate::proofs::StopsLemmas::edits_stop))]
 impl<'p, 'h, Out: Renderer, H: Helper + Drop, Hi: History> State<'p, 'h, Out, H, Hi> {
     ghost use Rattle.line_editor.specs.States.{Does};
     ghost use Rattle.line_editor.specs.Yanking.{yank_text, pop_text, yank_lent, pop_lent};

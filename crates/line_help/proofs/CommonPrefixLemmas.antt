@@ -98,3 +98,5 @@ itself n = grind arith
 pub long : (front r s : List ℕ) → length front ≤ common_prefix_len nat_eq (front ++ r) (front ++ s)
 long [] r s = omega arith
 long (f ∷ fs) r s = let le = long fs r s in rw (itself f) (omega arith)
+
+pub ruleset prefixes = (of_several, kept_unless_empty)

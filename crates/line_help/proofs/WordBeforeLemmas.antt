@@ -69,3 +69,5 @@ pub cut_here : (text rest : List ℕ) → IsUtf8 text → IsUtf8 rest → take (
 cut_here text rest u v front =
     let long : length rest ≤ length text = omega (arith, length-take (length rest) text, ap length front) in
     IsCharBoundary-from_take text (length rest) u long (rw front v)
+
+pub ruleset text_ends = (last_char, no_char)

@@ -30,7 +30,7 @@ fn common_beginning<'t>(text: &'t str, other: &str) -> &'t str
 
 /// The longest beginning, in whole characters, that all replacements have; none where it is empty,
 /// but for a sole candidate, whose replacement it is.
-#[tactic(auto, using(crate::proofs::CommonPrefixLemmas::of_several, crate::proofs::CommonPrefixLemmas::kept_unless_empty))]
+#[tactic(auto, using(crate::proofs::CommonPrefixLemmas::prefixes))]
 pub fn longest_common_prefix<C: Candidate>(candidates: &[C]) -> Option<&str>
     ensures { option_copied result ≡ longest_common_prefix
         (map (λ c. (C.offers c).replacement) candidates.now) }

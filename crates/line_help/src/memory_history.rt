@@ -91,8 +91,8 @@ impl MemHistory {
             || (self.ignore_dups && self.newest_is(line))
     }
 
-    // Puts a text after the entries, in the memory of the oldest one, which goes. Answers whether it
-    // fits there; where it doesn't all stays.
+    // Puts a text after the entries, in the memory of the oldest one, which goes. Answers whether
+    // it fits there; where it doesn't all stays.
     fn replace_oldest(&mut self, text: &str) -> bool
         ensures replaced { IsTrue result
             → self.new.entries ≡ drop 1 (self.old.entries ++ text.now ∷ []) }
@@ -145,7 +145,8 @@ impl MemHistory {
 
     #[tactic(auto, using(crate::proofs::SearchLemmas::from_steps))]
     fn first_from(&self, anchored: bool, term: &str, start: usize) -> Option<SearchResult<'_>>
-        ensures { Finds (λ entries. first_from (hit_by anchored term.now) start (drop start entries))
+        ensures { Finds
+            (λ entries. first_from (hit_by anchored term.now) start (drop start entries))
             self.now.entries result }
     {
         for idx in start..self.entries.len() {
@@ -160,7 +161,8 @@ impl MemHistory {
     #[tactic(auto, using(crate::proofs::SearchLemmas::back_steps))]
     fn first_back(&self, anchored: bool, term: &str, count: usize) -> Option<SearchResult<'_>>
         requires { count ≤ length self.now.entries }
-        ensures { Finds (λ entries. first_back (hit_by anchored term.now) (reverse (take count entries)))
+        ensures { Finds
+            (λ entries. first_back (hit_by anchored term.now) (reverse (take count entries)))
             self.now.entries result }
     {
         for idx in (0..count).rev() {

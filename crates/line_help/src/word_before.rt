@@ -60,7 +60,7 @@ fn split_last(text: &str) -> Option<(&str, char)>
 }
 
 /// What stands before an escape at the text's end.
-#[tactic(auto, using(crate::proofs::WordBeforeLemmas::last_char, crate::proofs::WordBeforeLemmas::no_char))]
+#[tactic(auto, using(crate::proofs::WordBeforeLemmas::text_ends))]
 fn strip_escape(text: &str, esc_char: Option<char>) -> Option<&str>
     ensures { MatchOption result (is_escaped esc_char (reverse (chars text.now)) ≡ false)
         (λ front. (d : ℕ) × (text.now ≡ front.now ++ encode_utf8 d) × IsUtf8 front.now × IsScalar d
