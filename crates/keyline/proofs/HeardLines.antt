@@ -1,29 +1,26 @@
 -- Lines and sessions over what opens more: the same, or cut at a read that draws nothing more.
-use Rattle.std.proofs.Common.{◌≡◌, ◌⊎◌, inl, inr, ℕ, zero, suc, false, List, [], ◌∷◌, ◌++◌, Option, refl, sym, ap, ◌∙◌, subst, append-nil, append_assoc, Result, Ok, Err}
+use Rattle.std.proofs.Common.{◌≡◌, ◌⊎◌, inl, inr, ℕ, zero, suc, false, List, [], ◌∷◌, ◌++◌, Option, None, refl, sym, ap, ◌∙◌, subst, append-nil, append_assoc, Result, Ok, Err}
 use Rattle.std.specs.Prelude.{OnOk, IfErr, flat_map}
 use Rattle.std.proofs.lemmas.Grind.{flat_map-append}
 use Rattle.line_config.specs.declared.errors.ReadlineError.{ReadlineError}
 use Rattle.line_help.specs.History.{Filed}
-use Rattle.line_keys.specs.Answers.{Custom}
-use Rattle.line_keys.specs.Coming.{Coming, Pressed, Pasted, CutOff, Ends as NoMore, Refused, behind, left_by}
+use Rattle.line_keys.specs.Coming.{Coming, Pressed, Pasted, CutOff, Ends as NoMore, Refused, behind, left}
 use Rattle.line_keys.specs.Coming.LastItem.{End as EndItem, Bad, Failed}
 use Rattle.line_keys.specs.Feeds.{InputItem, Item, Key, Paste, item_at}
-use Rattle.line_keys.specs.InputStates.{new_input}
+use Rattle.line_config.specs.Played.{Played, asked_first, played_on}
 use Rattle.line_config.specs.Scripts.{Ends, Asks}
-use Rattle.line_keys.specs.Phrases.{Input, Steps, steps, Needs, Shows, Reads, Becomes, Refuses}
-use Rattle.line_keys.specs.declared.command.Cmd.{Cmd}
+use Rattle.line_keys.specs.Phrases.{Reads}
 use Rattle.line_record.specs.Ring.{Ring}
-use Rattle.line_editor.specs.Asks.{shown_in, ask_effect}
-use Rattle.line_editor.specs.Commands.{means_of, effect}
-use Rattle.line_editor.specs.Courses.{Turn, Open, breaks_after, steps_in}
-use Rattle.line_editor.specs.Lines.{Enacted, Turned, Told, either_way, stopped, enacted, behind_ask, line_phrase, phrase_enacted, reset_by, turned_by, turn_of, opened_by, after_turn, line_from, line_of}
+use Rattle.line_editor.specs.Courses.{Open, breaks_after, steps_in}
+use Rattle.line_editor.specs.LineScripts.{Begins as BeginsTurn, Keys, Kept, LineAsk, LineScript, answer_at, effect_at, left_at, line_script, played_from, steps_along, reported_from, turns_along}
+use Rattle.line_editor.specs.Lines.{Told}
 use Rattle.line_editor.specs.Redraws.{fresh}
+use Rattle.line_editor.specs.Running.{kept_first}
 use Rattle.line_editor.specs.Sights.{sight_of, info_after}
 use Rattle.line_editor.specs.Steps.{asked}
-use Rattle.line_editor.specs.Values.{Value, Setting, EditStep, Effect, taking}
-use Rattle.line_editor.specs.declared.commands.Status.{Status}
-use Rattle.line_editor.specs.declared.commands.Status.TheVariants.{Proceed, Submit}
+use Rattle.line_editor.specs.Values.{Setting, EditStep}
 use Rattle.line_editor.proofs.StopsLemmas.{asked_both}
+use Rattle.line_editor.proofs.ToldLemmas.{left_along, played_each, steps_both, turns_steps}
 use Rattle.line_screen.specs.Calls.{Screen, bytes_of, ruler_of}
 use Rattle.line_screen.specs.Drawing.{break_if}
 use Rattle.keyline.specs.FewerKeys.{IsBeginning, LinesBegin, SessionsBegin}
@@ -70,123 +67,72 @@ read_alike Paste (CutOff last) c on = tt
 read_alike Paste (NoMore last) c on = tt
 read_alike Paste (Refused why) c on = tt
 
--- ---- a phrase
+-- ---- a script
+
+abbrev Play : Type 0 → Type 0
+Play X = Played LineAsk Kept ReadlineError X
 
 -- it goes alike, or a read cuts the first
-record Same {X : Type 0} (p q : Enacted X) : Type 0 where
+record Same {X : Type 0} (p q : Play X) : Type 0 where
   answer : p.answer ≡ q.answer
-  made : p.made ≡ q.made
-  input : p.input ≡ q.input
-  rest : Opens p.rest q.rest
+  asks : p.asks ≡ q.asks
+  ring : p.rest.ring ≡ q.rest.ring
+  rest : Opens p.rest.coming q.rest.coming
 
-record Ended {X : Type 0} (p q : Enacted X) : Type 0 where
+record Ended {X : Type 0} (p q : Play X) : Type 0 where
   why : ReadlineError
   answer : p.answer ≡ Err why
   unbroken : breaks_after why ≡ false
-  later : List EditStep
-  begins : q.made.steps ≡ p.made.steps ++ later
+  later : List LineAsk
+  begins : q.asks ≡ p.asks ++ later
 
-abbrev Goes : {X : Type 0} → Enacted X → Enacted X → Type 0
+abbrev Goes : {X : Type 0} → Play X → Play X → Type 0
 Goes p q = Same p q ⊎ Ended p q
 
-goes_behind : {X : Type 0} (e : Effect) (p q : Enacted X) → Goes p q → Goes (behind_ask e p) (behind_ask e q)
-goes_behind e p q (inl same) = inl (record {
-  answer = same.answer;
-  made = ap (λ m. record { value = m.value; steps = e.steps ++ m.steps }) same.made;
-  input = same.input;
-  rest = same.rest;
-})
-goes_behind e p q (inr cut) = inr (record {
-  why = cut.why;
-  answer = cut.answer;
-  unbroken = cut.unbroken;
-  later = cut.later;
-  begins = ap (λ r. e.steps ++ r) cut.begins ∙ sym (append_assoc e.steps p.made.steps cut.later);
-})
+goes_first : {X : Type 0} (ask : LineAsk) (p q : Play X) → Goes p q → Goes (asked_first ask p) (asked_first ask q)
+goes_first ask p q (inl same) = inl (record { answer = same.answer; asks = ap (λ asks. ask ∷ asks) same.asks; ring = same.ring; rest = same.rest })
+goes_first ask p q (inr cut) = inr (record { why = cut.why; answer = cut.answer; unbroken = cut.unbroken; later = cut.later; begins = ap (λ asks. ask ∷ asks) cut.begins })
 
-module _ (s : Setting) where
-  module _ {X : Type 0} (item : InputItem) (t : Item item → Steps X) (input : Input) (v : Value) (h c : Coming) (on : Opens h c)
-      (later : (x : Item item) → Opens (behind h) (behind c) → Goes (enacted s (t x) input v (behind h)) (enacted s (t x) input v (behind c))) where
-    abbrev led : Coming → Result (Item item) ReadlineError → Enacted X
-    led c r = either_way (λ x. enacted s (t x) input v (behind c)) (λ e. stopped s (Err e) input v (left_by e)) r
+abbrev over : Kept → Coming → Kept
+over k c = record k { coming = c }
+
+-- an ask that reads nothing
+unheard : {B X : Type 0} (ask : LineAsk) (next : B → Coming → Play X) (k : Kept) (h c : Coming) → Opens h c → ((x : B) → Goes (next x h) (next x c))
+    → (r : Result B ReadlineError) → Goes (played_on (λ x. next x h) ask (over k h) r) (played_on (λ x. next x c) ask (over k c) r)
+unheard ask next k h c on so (Ok x) = goes_first ask (next x h) (next x c) (so x)
+unheard ask next k h c on so (Err e) = inl (record { answer = refl; asks = refl; ring = refl; rest = on })
+
+module _ (s : Setting) (indent : ℕ) where
+  module _ {X : Type 0} (item : InputItem) (t : Item item → LineScript X) (k : Kept) (h c : Coming) (on : Opens h c)
+      (later : (x : Item item) → Opens (behind h) (behind c) → Goes (played_from s indent (t x) (over k (behind h))) (played_from s indent (t x) (over k (behind c)))) where
+    abbrev led : Coming → Result (Item item) ReadlineError → Play X
+    led c r = let rest = over k (left r (behind c)) in played_on (λ x. played_from s indent (t x) rest) (Keys (Reads item)) rest r
 
     read_goes : (r q : Result (Item item) ReadlineError) → OnOk r ((r ≡ q) × Agrees (behind h) (behind c)) → IfErr r (λ e. breaks_after e ≡ false) → Goes (led h r) (led c q)
-    read_goes (Ok x) q alike unbroken = subst (λ y. Goes (led h (Ok x)) (led c y)) alike.0 (later x (alike.1, never_behind h on.1))
-    read_goes (Err e) q alike unbroken = inr (record { why = e; answer = refl; unbroken = unbroken; later = (led c q).made.steps; begins = refl })
+    read_goes (Ok x) q alike unbroken =
+        subst (λ y. Goes (led h (Ok x)) (led c y)) alike.0
+        (goes_first (Keys (Reads item)) (played_from s indent (t x) (over k (behind h))) (played_from s indent (t x) (over k (behind c))) (later x (alike.1, never_behind h on.1)))
+    read_goes (Err e) q alike unbroken =
+        let rest = over k (left q (behind c)) in
+        let first = played_each (λ (p : Play X). IsBeginning (Keys (Reads item) ∷ []) p.asks) (λ x. played_from s indent (t x) rest) (Keys (Reads item)) rest (λ x. (_, refl)) (λ e. ([], refl)) q in
+        inr (record { why = e; answer = refl; unbroken = unbroken; later = first.0; begins = first.1 })
 
-  goes : {X : Type 0} (t : Steps X) (input : Input) (v : Value) (h c : Coming) → Opens h c → Goes (enacted s t input v h) (enacted s t input v c)
-  goes (Ends x) input v h c on = inl (record { answer = refl; made = refl; input = refl; rest = on })
-  goes (Asks Needs t) input v h c on = goes_behind (taking s v) _ _ (goes (t tt) input v h c on)
-  goes (Asks (Shows ask) t) input v h c on =
-      let e = ask_effect ask s v in
-      let next = t (shown_in e.value) in
-      goes_behind e (enacted s next input e.value h) (enacted s next input e.value c) (goes (t (shown_in e.value)) input e.value h c on)
-  goes (Asks (Reads item) t) input v h c on =
-      read_goes item t input v h c on (λ x next. goes (t x) input v (behind h) (behind c) next) (item_at item h) (item_at item c) (read_alike item h c on.0) (refused_unbroken item h on.1)
-  goes (Asks (Becomes kept) t) input v h c on = goes (t tt) kept v h c on
-  goes (Asks (Refuses why) t) input v h c on = inl (record { answer = refl; made = refl; input = refl; rest = on })
+  goes : {X : Type 0} (p : LineScript X) (k : Kept) (h c : Coming) → Opens h c → Goes (played_from s indent p (over k h)) (played_from s indent p (over k c))
+  goes (Ends x) k h c on = inl (record { answer = refl; asks = refl; ring = refl; rest = on })
+  goes (Asks (Keys (Reads item)) t) k h c on =
+      read_goes item t k h c on (λ x next. goes (t x) k (behind h) (behind c) next) (item_at item h) (item_at item c) (read_alike item h c on.0) (refused_unbroken item h on.1)
+  goes (Asks ask t) k h c on =
+      let rest = left_at s indent k ask in
+      unheard ask (λ x c. played_from s indent (t x) (over rest c)) rest h c on (λ x. goes (t x) rest h c on) (answer_at s indent k ask)
 
-phrase_goes : (n : ℕ) (s : Setting) (custom : Custom) (input : Input) (v : Value) (h c : Coming) → Opens h c → Goes (phrase_enacted n s custom input v h) (phrase_enacted n s custom input v c)
-phrase_goes n s custom input v h c on = goes s (steps (line_phrase custom input (shown_in v)) n) input v h c on
-
--- ---- a turn
-
-record SameTurn (t u : Turned) : Type 0 where
-  outcome : t.outcome ≡ u.outcome
-  made : t.made ≡ u.made
-  ring : t.ring ≡ u.ring
-  input : t.input ≡ u.input
-  rest : Opens t.rest u.rest
-
-record StoppedTurn (t u : Turned) : Type 0 where
-  why : ReadlineError
-  outcome : t.outcome ≡ Err why
-  unbroken : breaks_after why ≡ false
-  later : List EditStep
-  begins : u.made.steps ≡ t.made.steps ++ later
-
-abbrev TurnGoes : Turned → Turned → Type 0
-TurnGoes t u = SameTurn t u ⊎ StoppedTurn t u
-
-abbrev enacted_by : {X : Type 0} → Result X ReadlineError → Effect → Input → Coming → Enacted X
-enacted_by answer made input rest = record { answer = answer; made = made; input = input; rest = rest }
-
-module _ (s : Setting) (indent : ℕ) (ring : Ring) where
-  abbrev turned : Result Cmd ReadlineError → Effect → Input → Coming → Turned
-  turned answer made input rest = turned_by s indent ring answer (enacted_by answer made input rest)
-
-  turned_same : (a : Result Cmd ReadlineError) (made : Effect) (input : Input) (r l : Coming) → Opens r l → SameTurn (turned a made input r) (turned a made input l)
-  turned_same (Ok cmd) made input r l on = record { outcome = refl; made = refl; ring = refl; input = refl; rest = on }
-  turned_same (Err e) made input r l on = record { outcome = refl; made = refl; ring = refl; input = refl; rest = on }
-
-  -- a command's steps come after its phrase's
-  turned_steps : (a : Result Cmd ReadlineError) (q : Enacted Cmd) → IsBeginning q.made.steps (turned_by s indent ring a q).made.steps
-  turned_steps (Ok cmd) q = ((effect (means_of q.input indent (reset_by cmd ring)) cmd s q.made.value).steps, refl)
-  turned_steps (Err e) q = ([], sym (append-nil q.made.steps))
-
-  turned_goes : (p q : Enacted Cmd) → Goes p q → TurnGoes (turned_by s indent ring p.answer p) (turned_by s indent ring q.answer q)
-  turned_goes p q (inl same) =
-      let T : Turned → Type 0 = SameTurn (turned_by s indent ring p.answer p) in
-      inl (subst (λ a. T (turned a q.made q.input q.rest)) same.answer
-      (subst (λ m. T (turned p.answer m q.input q.rest)) same.made
-      (subst (λ i. T (turned p.answer p.made i q.rest)) same.input
-      (turned_same p.answer p.made p.input p.rest q.rest same.rest))))
-  turned_goes p q (inr cut) =
-      let more = turned_steps q.answer q in
-      let T : Turned → Type 0 = λ t. StoppedTurn t (turned_by s indent ring q.answer q) in
-      inr (subst (λ a. T (turned_by s indent ring a p)) (sym cut.answer) (record {
-        why = cut.why;
-        outcome = refl;
-        unbroken = cut.unbroken;
-        later = cut.later ++ more.0;
-        begins = more.1 ∙ (ap (λ r. r ++ more.0) cut.begins ∙ append_assoc p.made.steps cut.later more.0);
-      }))
-
-turn_goes : (n : ℕ) (s : Setting) (custom : Custom) (indent : ℕ) (input : Input) (ring : Ring) (v : Value) (h c : Coming) → Opens h c
-    → TurnGoes (turn_of n s custom indent input ring v h) (turn_of n s custom indent input ring v c)
-unfolding turn_of
-turn_goes n s custom indent input ring v h c on =
-    turned_goes s indent ring (phrase_enacted n s custom input v h) (phrase_enacted n s custom input v c) (phrase_goes n s custom input v h c on)
+  -- the turns of asks are the same, whatever comes
+  turns_unheard : (o : Result (List ℕ) ReadlineError) (k : Kept) (h c : Coming) (drawn : List EditStep) (info : Option (List ℕ)) (asks : List LineAsk)
+      → turns_along s indent o (over k h) drawn info asks ≡ turns_along s indent o (over k c) drawn info asks
+  turns_unheard o k h c drawn info [] = refl
+  turns_unheard o k h c drawn info (BeginsTurn ∷ asks) =
+      let stands = info_after drawn info in ap (λ turns. Open drawn (sight_of s k.value stands) ∷ turns) (turns_unheard o k h c [] stands asks)
+  turns_unheard o k h c drawn info (Keys (Reads item) ∷ asks) = turns_unheard o k (left (item_at item h) (behind h)) (left (item_at item c) (behind c)) (drawn ++ []) info asks
+  turns_unheard o k h c drawn info (ask ∷ asks) = turns_unheard o (left_at s indent k ask) h c (drawn ++ (effect_at s indent k ask).steps) info asks
 
 -- ---- a line
 
@@ -206,71 +152,35 @@ record StoppedLine (t u : Told) : Type 0 where
 abbrev LineGoes : Told → Told → Type 0
 LineGoes t u = SameLine t u ⊎ StoppedLine t u
 
-opened_goes : (turn : Turn) (t u : Told) → LineGoes t u → LineGoes (opened_by turn t) (opened_by turn u)
-opened_goes turn t u (inl same) = inl (record { turns = ap (λ turns. turn ∷ turns) same.turns; outcome = same.outcome; ring = same.ring; rest = same.rest })
-opened_goes turn t u (inr cut) = inr (record {
-  why = cut.why;
-  outcome = cut.outcome;
-  unbroken = cut.unbroken;
-  later = cut.later;
-  begins = ap (λ r. steps_in turn ++ r) cut.begins ∙ sym (append_assoc (steps_in turn) (flat_map steps_in t.turns) cut.later);
-})
-
-abbrev turned_as : Result Status ReadlineError → Effect → Ring → Input → Coming → Turned
-turned_as outcome made ring input rest = record { outcome = outcome; made = made; ring = ring; input = input; rest = rest }
-
-module _ (next : Input → Ring → Option (List ℕ) → Value → Coming → Told)
-    (on_next : (input : Input) (ring : Ring) (info : Option (List ℕ)) (v : Value) (h c : Coming) → Opens h c → LineGoes (next input ring info v h) (next input ring info v c))
-    (s : Setting) (info : Option (List ℕ)) where
-  after_same : (o : Result Status ReadlineError) (made : Effect) (ring : Ring) (input : Input) (r l : Coming) → Opens r l
-      → LineGoes (after_turn next s info (turned_as o made ring input r) o) (after_turn next s info (turned_as o made ring input l) o)
-  after_same (Ok Proceed) made ring input r l on =
-      let stands = info_after made.steps info in
-      opened_goes (Open made.steps (sight_of s made.value stands)) (next input ring stands made.value r) (next input ring stands made.value l)
-      (on_next input ring stands made.value r l on)
-  after_same (Ok Submit) made ring input r l on = inl (record { turns = refl; outcome = refl; ring = refl; rest = on })
-  after_same (Err e) made ring input r l on = inl (record { turns = refl; outcome = refl; ring = refl; rest = on })
-
-  -- a turn's steps come first
-  after_steps : (u : Turned) (o : Result Status ReadlineError) → IsBeginning u.made.steps (flat_map steps_in (after_turn next s info u o).turns)
-  after_steps u (Ok Proceed) = (_, refl)
-  after_steps u (Ok Submit) = (_, append_assoc u.made.steps _ [])
-  after_steps u (Err e) = ([], refl)
-
-  after_goes : (t u : Turned) → TurnGoes t u → LineGoes (after_turn next s info t t.outcome) (after_turn next s info u u.outcome)
-  after_goes t u (inl same) =
-      let T : Told → Type 0 = LineGoes (after_turn next s info t t.outcome) in
-      subst (λ o. T (after_turn next s info (turned_as o u.made u.ring u.input u.rest) o)) same.outcome
-      (subst (λ m. T (after_turn next s info (turned_as t.outcome m u.ring u.input u.rest) t.outcome)) same.made
-      (subst (λ r. T (after_turn next s info (turned_as t.outcome t.made r u.input u.rest) t.outcome)) same.ring
-      (subst (λ i. T (after_turn next s info (turned_as t.outcome t.made t.ring i u.rest) t.outcome)) same.input
-      (after_same t.outcome t.made t.ring t.input t.rest u.rest same.rest))))
-  after_goes t u (inr cut) =
-      let more = after_steps u u.outcome in
-      let T : Told → Type 0 = λ told. StoppedLine told (after_turn next s info u u.outcome) in
-      inr (subst (λ o. T (after_turn next s info t o)) (sym cut.outcome) (record {
-        why = cut.why;
-        outcome = refl;
-        unbroken = cut.unbroken;
-        later = cut.later ++ more.0;
-        begins = more.1 ∙ (ap (λ r. r ++ more.0) cut.begins
-            ∙ (append_assoc t.made.steps cut.later more.0 ∙ ap (λ r. r ++ (cut.later ++ more.0)) (sym (append-nil t.made.steps))));
-      }))
-
-from_goes : (n : ℕ) (s : Setting) (custom : Custom) (indent : ℕ) (input : Input) (ring : Ring) (info : Option (List ℕ)) (v : Value) (h c : Coming) → Opens h c
-    → LineGoes (line_from n s custom indent input ring info v h) (line_from n s custom indent input ring info v c)
-unfolding line_from
-from_goes zero s custom indent input ring info v h c on = inl (record { turns = refl; outcome = refl; ring = refl; rest = on })
-from_goes (suc n) s custom indent input ring info v h c on =
-    after_goes (line_from n s custom indent) (from_goes n s custom indent) s info
-    (turn_of (suc n) s custom indent input ring v h) (turn_of (suc n) s custom indent input ring v c) (turn_goes (suc n) s custom indent input ring v h c on)
-
-line_goes : (n : ℕ) (s : Setting) (custom : Custom) (indent : ℕ) (input : Input) (ring : Ring) (h c : Coming) → Opens h c
-    → LineGoes (line_of n s custom indent input ring h) (line_of n s custom indent input ring c)
-unfolding line_of
-line_goes n s custom indent input ring h c on = opened_goes _ _ _ (from_goes n s custom indent input ring _ _ h c on)
-
--- ---- display bytes
+line_goes : (s : Setting) (indent : ℕ) (script : LineScript (List ℕ)) (k : Kept) (h c : Coming) → Opens h c → LineGoes (reported_from s indent script (over k h)) (reported_from s indent script (over k c))
+line_goes s indent script k h c on = by (goes s indent script k h c on)
+  where
+    by : Goes (played_from s indent script (over k h)) (played_from s indent script (over k c)) → LineGoes (reported_from s indent script (over k h)) (reported_from s indent script (over k c))
+    by (inl same) =
+        let p = played_from s indent script (over k h) in
+        let q = played_from s indent script (over k c) in
+        inl (record {
+          turns = turns_unheard s indent p.answer k h c [] None p.asks
+              ∙ ap (λ o. turns_along s indent o (over k c) [] None p.asks) same.answer
+              ∙ ap (turns_along s indent q.answer (over k c) [] None) same.asks;
+          outcome = same.answer;
+          ring = same.ring;
+          rest = same.rest;
+        })
+    by (inr cut) =
+        let p = played_from s indent script (over k h) in
+        let q = played_from s indent script (over k c) in
+        let more = steps_along s indent (left_along s indent (over k c) p.asks) cut.later in
+        inr (record {
+          why = cut.why;
+          outcome = cut.answer;
+          unbroken = cut.unbroken;
+          later = more;
+          begins = turns_steps s indent q.answer (over k c) [] None q.asks
+              ∙ ap (steps_along s indent (over k c)) cut.begins
+              ∙ steps_both s indent (over k c) p.asks cut.later
+              ∙ ap (λ steps. steps ++ more) (sym (turns_steps s indent p.answer (over k c) [] None p.asks) ∙ ap (flat_map steps_in) (sym (turns_unheard s indent p.answer k h c [] None p.asks)));
+        })
 
 abbrev bytes_for : Screen → List EditStep → List ℕ
 bytes_for s xs = flat_map (bytes_of s) (asked (ruler_of s) (fresh s.mode) xs).calls
@@ -315,7 +225,8 @@ abbrev state_at : Ring → Filed → Coming → SessionState
 state_at ring history coming = record { ring = ring; history = history; coming = coming }
 
 in_goes : (n : ℕ) (g : Given) (ring : Ring) (history : Filed) (h c : Coming) → Opens h c → LineGoes (line_in n g (state_at ring history h)) (line_in n g (state_at ring history c))
-in_goes n g ring history h c on = line_goes n (setting_in g history.kept.entries) g.custom g.config.indent_size (new_input g.config.edit_mode) ring h c on
+in_goes n g ring history h c on =
+    let s = setting_in g history.kept.entries in line_goes s g.config.indent_size (line_script n g.custom) (kept_first s g.config ring h) h c on
 
 -- of lines, each on the screen of its number
 record Begins (s : ℕ → Screen) (fewer all : Report) : Type 0 where

@@ -1,5 +1,5 @@
 -- The count of one byte.
-use Rattle.std.proofs.Common.{◌≡◌, ℕ, ◌+◌, ◌<◌, not, nat_lt, nat_le, Bool, true, false, List, [], ◌∷◌, ◌++◌, take, Option, Some, None, is_some, encode_utf8, Result, Ok, refl, ap, ◌∙◌, append-nil, arith, if◌then◌else◌}
+use Rattle.std.proofs.Common.{◌≡◌, ℕ, ◌+◌, ◌<◌, not, nat_lt, nat_le, Bool, true, false, List, [], ◌∷◌, ◌++◌, take, Option, Some, None, is_some, encode_utf8, refl, ap, ◌∙◌, append-nil, arith, if◌then◌else◌}
 use Rattle.std.specs.List.{flat_map}
 use Rattle.std.proofs.lemmas.Bool.{and_parts, and_from, not-true, ltb-true}
 use Rattle.std.proofs.lemmas.Str.{encode_ascii}
@@ -8,24 +8,25 @@ use Rattle.line_buffer.specs.Insertions.{insert as insertion}
 use Rattle.line_buffer.specs.Printable.{is_printable, typed_at_plain_end}
 use Rattle.line_buffer.specs.declared.layout.Layout.{Layout}
 use Rattle.line_buffer.specs.declared.layout.Position.{Position}
-use Rattle.line_config.specs.declared.errors.ReadlineError.{ReadlineError}
+use Rattle.line_keys.specs.Answers.{Custom}
 use Rattle.line_keys.specs.declared.command.Cmd.{Cmd}
 use Rattle.line_keys.specs.declared.command.Cmd.TheVariants.{SelfInsert}
-use Rattle.line_record.specs.Ring.{Ring}
 use Rattle.line_editor.specs.Calls.{Marks}
 use Rattle.line_editor.specs.Drawing.{drawn, asked_anew}
 use Rattle.line_keys.specs.Replies.{Reply, fails}
 use Rattle.line_editor.specs.Inserting.{is_bare, may_be_typed, inserted_shown, insert_char}
-use Rattle.line_editor.specs.Lines.{Enacted, turned_by, phrase_enacted, turn_of}
+use Rattle.line_editor.specs.LineScripts.{Kept, beginning, line_plan, made_from, obeying, phrase_script, played_from, steps_along, turn_script}
 use Rattle.line_editor.specs.Redraws.{Asked, full, nothing_asked, moved_by_call, typed_short, taken_short, may_type, may_take}
 use Rattle.line_editor.specs.Redraws.Redraw.{Drawn, Moved, Typed, Taken, Bared, ToEnd, Beeped, Cleared}
 use Rattle.line_editor.specs.Sights.{Sight, sight, Fits}
 use Rattle.line_editor.specs.Steps.{one}
 use Rattle.line_editor.specs.Values.{Value, Setting, Effect, EditStep, helped, hint_reply, unchanged}
 use Rattle.line_editor.specs.Values.EditStep.{Draws, Helped, Updates, Edits, TakesBack, Takes}
+use Rattle.line_editor.specs.declared.commands.Status.{Status}
 use Rattle.line_editor.proofs.StopsLemmas.{asked_both}
+use Rattle.line_editor.proofs.ToldLemmas.{PlayedOf, follows, joined_on, played_then, rest_along, steps_both}
 use Rattle.line_screen.specs.Calls.{Screen, bytes_of, ruler_of}
-use Rattle.keyline.specs.OneByte.{TellsSight, LayoutsTell, TypedAtEnd, OneByte}
+use Rattle.keyline.specs.OneByte.{TellsSight, LayoutsTell, TypedAtEnd, OneByte, ReadAlone}
 use Rattle.keyline.specs.Shows.{drawn_by, bytes_for}
 
 small : (c : ℕ) → is_printable c ≡ true → c < 128
@@ -111,10 +112,22 @@ short_bytes s l v m prompt c text at printable may =
     ap (λ b. flat_map (bytes_of s) ((if b then typed_short l c else full (ruler_of s) m l prompt true text at None).calls ++ [])) may
     ∙ append-nil (encode_utf8 c) ∙ encode_ascii c (small c printable)
 
-turned_steps : (a : Setting) (indent : ℕ) (r : Ring) (v : Value) (c : ℕ) (p : Enacted Cmd) (answer : Result Cmd ReadlineError) → answer ≡ Ok (SelfInsert 1 c) → p.made.value ≡ v
-    → (turned_by a indent r answer p).made.steps ≡ p.made.steps ++ (insert_char c 1 a v).steps
-turned_steps a indent r v c p answer is same =
-    ap (λ o. (turned_by a indent r o p).made.steps) is ∙ ap (λ (u : Value). p.made.steps ++ (insert_char c 1 a u).steps) same
+turned_steps : (n : ℕ) (a : Setting) (custom : Custom) (indent : ℕ) (k : Kept) (c : ℕ) → (let phrase = phrase_script n custom (beginning k) in ReadAlone a indent k phrase c
+    → (made_from a indent (turn_script n custom) k).steps ≡ (made_from a indent phrase k).steps ++ (insert_char c 1 a k.value).steps)
+unfolding turn_script
+turned_steps n a custom indent k c alone =
+    let phrase = phrase_script n custom (beginning k) in
+    let p = played_from a indent phrase k in
+    let first = steps_along a indent k p.asks in
+    let on : Cmd → Kept → PlayedOf a indent Status = follows (line_plan a indent) obeying in
+    let more = (on (SelfInsert 1 c) p.rest).asks in
+    let all : PlayedOf a indent Status → List EditStep = λ q. steps_along a indent k q.asks in
+    ap all (played_then (line_plan a indent) obeying phrase k)
+    ∙ ap (λ answer. all (joined_on on p.asks p.rest answer)) alone.answer
+    ∙ steps_both a indent k p.asks more
+    ∙ ap (λ l. first ++ steps_along a indent l more) (rest_along a indent phrase k)
+    ∙ ap (λ (v : Value). first ++ ((insert_char c 1 a v).steps ++ [])) alone.value_is
+    ∙ ap (λ steps. first ++ steps) (append-nil (insert_char c 1 a k.value).steps)
 
 -- behind steps that ask nothing
 unasked_bytes : (s : Screen) (l : Layout) (xs ys : List EditStep) → drawn_by s l xs ≡ nothing_asked l → bytes_for s l (xs ++ ys) ≡ bytes_for s l ys
@@ -123,10 +136,9 @@ unasked_bytes s l xs ys none =
     ∙ ap (λ (x : Asked). flat_map (bytes_of s) (x.calls ++ (drawn_by s x.layout ys).calls)) none
 
 pub one_byte : OneByte
-unfolding turn_of
-one_byte n s l a custom indent input r v coming c alone t may =
-    let p = phrase_enacted n a custom input v coming in
-    let e = insert_char c 1 a v in
-    ap (bytes_for s l) (turned_steps a indent r v c p p.answer alone.answer alone.value_is)
-    ∙ unasked_bytes s l p.made.steps e.steps (alone.unasked s l)
-    ∙ typed_bytes s l a v c t ∙ short_bytes s l e.value a.marks a.prompt c e.value.line.text e.value.line.place (printed v c t.alone) may
+one_byte n s l a custom indent k c alone t may =
+    let first = (made_from a indent (phrase_script n custom (beginning k)) k).steps in
+    let e = insert_char c 1 a k.value in
+    ap (bytes_for s l) (turned_steps n a custom indent k c alone)
+    ∙ unasked_bytes s l first e.steps (alone.unasked s l)
+    ∙ typed_bytes s l a k.value c t ∙ short_bytes s l e.value a.marks a.prompt c e.value.line.text e.value.line.place (printed k.value c t.alone) may

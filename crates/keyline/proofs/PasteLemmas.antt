@@ -22,13 +22,15 @@ use Rattle.line_keys.specs.declared.events.Event.TheVariants.{Any}
 use Rattle.line_keys.specs.declared.key.KeyCode.TheVariants.{Char, Enter}
 use Rattle.line_keys.specs.declared.key.KeyEvent.{KeyEvent}
 use Rattle.line_keys.specs.Answers.{Custom, answer_by}
+use Rattle.line_config.specs.Played.{Played, asked_first}
 use Rattle.line_config.specs.Scripts.{Ends, Asks}
+use Rattle.line_config.specs.declared.errors.ReadlineError.{ReadlineError}
 use Rattle.line_keys.specs.Coming.{Coming, Pressed, Pasted, Ends as NoMore, End as AtItsEnd}
 use Rattle.line_keys.specs.Common.{common_deed, command_or, bound_or, decided, terminal_command}
 use Rattle.line_keys.specs.Custom.{Situation, situation, shown_for, or_any, custom_answer}
 use Rattle.line_keys.specs.Emacs.{emacs_deed, emacs_command}
 use Rattle.line_keys.specs.Events.{single}
-use Rattle.line_keys.specs.Feeds.{Paste}
+use Rattle.line_keys.specs.Feeds.{Key, Paste}
 use Rattle.line_keys.specs.InputStates.{new_input}
 use Rattle.line_keys.specs.Keys.{key_with, none}
 use Rattle.line_keys.specs.Phrase.{phrase_from}
@@ -37,17 +39,18 @@ use Rattle.line_keys.specs.Refreshing.{Shown}
 use Rattle.line_keys.specs.Replies.{gives_at_once, taking}
 use Rattle.line_keys.specs.Vi.{with_last, changed, typed, command_table, vi_counted, vi_command, insert_table, vi_insert}
 use Rattle.line_keys.specs.ViTables.{insert_deed, deed_of}
-use Rattle.line_record.specs.Ring.{Ring, new_ring}
+use Rattle.line_record.specs.Ring.{new_ring}
 use Rattle.line_editor.specs.Accepting.{accept_or_insert}
 use Rattle.line_editor.specs.Asks.{shown_in}
 use Rattle.line_editor.specs.Commands.{in_vi_command, means_of}
 use Rattle.line_editor.specs.Drawing.{refreshed}
-use Rattle.line_editor.specs.Lines.{Enacted, Told, Turned, enacted, with_group_begun, phrase_enacted, reset_by, turned_by, turn_of, after_turn, line_begun, line_from, line_of}
+use Rattle.line_editor.specs.LineScripts.{Begins, Keys, Obeys, Kept, LineAsk, beginning, kept, keyed, left_at, line_plan, line_script, obeying, phrase_script, played_from, reported_from, turn_script, turned_on, turns_script}
+use Rattle.line_editor.specs.Lines.{Told, line_begun, reset_by, with_group_begun}
 use Rattle.line_editor.specs.Moving.{cursor_moved_if}
-use Rattle.line_editor.specs.Sights.{info_after}
-use Rattle.line_editor.specs.Values.{Setting, Value, EditStep, empty_at, first_value, unchanged, then_do, at_line}
-use Rattle.line_editor.specs.Values.EditStep.{Takes}
+use Rattle.line_editor.specs.Values.{Setting, Value, empty_at, first_value, unchanged, then_do, at_line}
 use Rattle.line_editor.specs.Yanking.{behind_yank, yanked_by, put as put_yanked, yank_text}
+use Rattle.line_editor.specs.declared.commands.Status.{Status}
+use Rattle.line_editor.proofs.ToldLemmas.{follows, joined, played_then}
 use Rattle.line_screen.specs.KeyGrammar.{coming_of}
 use Rattle.line_screen.specs.Pasting.{paste_start, with_newlines}
 use Rattle.line_screen.proofs.Pasting.{pasted_text_is_before_its_mark}
@@ -71,6 +74,9 @@ unfolding deciding
 by_the_table new s k table n free none =
     ap (λ reply. steps (deciding (bound_or new s (command_or table (terminal_command s.shown k))) reply) n) (unbound_answer s k free)
     ∙ ap (λ command. steps (command_or table command) n) none
+
+abbrev with_rest : Kept → Coming → Kept
+with_rest k c = record k { coming = c }
 
 abbrev input_with : EditMode → InputMode → Cmd → Option CharSearch → Input
 input_with mode input_mode last search = record { mode = mode; input_mode = input_mode; last = last; search = search }
@@ -123,40 +129,49 @@ enters Vi Overwriting custom last search shown n free =
     let input = input_with Vi Overwriting last search in
     by_the_table None (situation custom input shown 0 true) enter (and_then input shown (insert_table custom input shown enter) typed) n free refl
 
--- ---- what the phrases are to the value
+-- ---- the phrases, played
 
-abbrev memory_for : EditMode → Value → List EditStep
-memory_for Emacs v = []
-memory_for Vi v = Takes v ∷ []
+abbrev kept_asks : EditMode → List ℕ → Input → List LineAsk
+kept_asks Emacs text input = []
+kept_asks Vi text input = Keys Needs ∷ Keys (Becomes (with_last (Insert 1 text) input)) ∷ []
 
-abbrev paste_enacted : EditMode → List ℕ → Input → Value → Coming → Enacted Cmd
-paste_enacted mode text input v rest =
-    record { answer = Ok (Insert 1 text); made = record { value = v; steps = memory_for mode v }; input = kept_after mode text input; rest = rest }
+abbrev paste_kept : EditMode → List ℕ → Kept → Coming → Kept
+paste_kept mode text k rest = kept k.value (kept_after mode text k.input) k.ring rest
 
-abbrev enter_enacted : Setting → Input → Value → Coming → Enacted Cmd
-enter_enacted s input v rest = record { answer = Ok (AcceptOrInsertLine true); made = unchanged s v; input = input; rest = rest }
+-- behind its first key
+abbrev paste_played : EditMode → List ℕ → Kept → Coming → Played LineAsk Kept ReadlineError Cmd
+paste_played mode text k rest =
+    record { answer = Ok (Insert 1 text); asks = Keys (Reads Paste) ∷ kept_asks mode text k.input; rest = paste_kept mode text k rest }
+
+abbrev enter_played : Kept → Coming → Played LineAsk Kept ReadlineError Cmd
+enter_played k rest = record { answer = Ok (AcceptOrInsertLine true); asks = []; rest = with_rest k rest }
 
 abbrev grouped : ℕ → Cmd → Input → Shown → Steps Cmd
 grouped n cmd input shown = steps (with_group_begun cmd input shown) n
 
-enacts_keeping : (n : ℕ) (mode : EditMode) (text : List ℕ) (s : Setting) (input : Input) (v : Value) (rest : Coming)
-    → enacted s (after (grouped n) input (shown_in v) (pasting mode input)) input v (Pasted text rest) ≡ paste_enacted mode text input v rest
-unfolding answered
-enacts_keeping n Emacs text s input v rest = refl
-enacts_keeping n Vi text s input v rest = refl
+module _ (s : Setting) (indent : ℕ) (custom : Custom) (free : IsUnbound custom) where
+  abbrev behind_key : ℕ → Kept → Coming → Steps Cmd → Played LineAsk Kept ReadlineError Cmd
+  behind_key n k rest script = asked_first (Keys (Reads Key)) (played_from s indent (keyed (after (grouped n) k.input (shown_in k.value) script)) (with_rest k rest))
 
-enacts_paste : (n : ℕ) (s : Setting) (custom : Custom) (input : Input) (v : Value) (text : List ℕ) (rest : Coming) → IsUnbound custom
-    → phrase_enacted (suc (suc n)) s custom input v (Pressed paste_start (Pasted text rest)) ≡ paste_enacted input.mode text input v rest
-unfolding and_then with_read
-enacts_paste n s custom input v text rest free =
-    ap (λ script. enacted s (after (grouped (suc (suc n))) input (shown_in v) script) input v (Pasted text rest)) (pastes input.mode input.input_mode custom input.last input.search (shown_in v) n free)
-    ∙ enacts_keeping (suc (suc n)) input.mode text s input v rest
+  plays_keeping : (n : ℕ) (mode : EditMode) (text : List ℕ) (k : Kept) (rest : Coming)
+      → behind_key n k (Pasted text rest) (pasting mode k.input) ≡ asked_first (Keys (Reads Key)) (paste_played mode text k rest)
+  unfolding answered
+  plays_keeping n Emacs text k rest = refl
+  plays_keeping n Vi text k rest = refl
 
-enacts_enter : (n : ℕ) (s : Setting) (custom : Custom) (input : Input) (v : Value) (rest : Coming) → IsUnbound custom
-    → phrase_enacted (suc n) s custom input v (Pressed enter rest) ≡ enter_enacted s input v rest
-unfolding and_then with_read answered
-enacts_enter n s custom input v rest free =
-    ap (λ script. enacted s (after (grouped (suc n)) input (shown_in v) script) input v rest) (enters input.mode input.input_mode custom input.last input.search (shown_in v) n free)
+  plays_paste : (n : ℕ) (k : Kept) (text : List ℕ) (rest : Coming)
+      → (let on = with_rest k (Pressed paste_start (Pasted text rest)) in played_from s indent (phrase_script (suc (suc n)) custom (beginning k)) on ≡ asked_first (Keys (Reads Key)) (paste_played k.input.mode text k rest))
+  unfolding and_then with_read
+  plays_paste n k text rest =
+      let input = k.input in
+      ap (behind_key (suc (suc n)) k (Pasted text rest)) (pastes input.mode input.input_mode custom input.last input.search (shown_in k.value) n free)
+      ∙ plays_keeping (suc (suc n)) input.mode text k rest
+
+  plays_enter : (n : ℕ) (k : Kept) (rest : Coming)
+      → (let on = with_rest k (Pressed enter rest) in played_from s indent (phrase_script (suc n) custom (beginning k)) on ≡ asked_first (Keys (Reads Key)) (enter_played k rest))
+  unfolding and_then with_read answered
+  plays_enter n k rest =
+      let input = k.input in ap (behind_key (suc n) k rest) (enters input.mode input.input_mode custom input.last input.search (shown_in k.value) n free)
 
 -- ---- the paste's text is the line's
 
@@ -202,24 +217,6 @@ pasted_text vi text s v empty grows =
     ∙ stepped_if put vi _
     ∙ put_into_empty text v.line empty grows
 
--- ---- the turns
-
-abbrev paste_turn : EditMode → List ℕ → Setting → ℕ → Input → Ring → Value → Coming → Turned
-paste_turn mode text s indent input r v rest = turned_by s indent r (Ok (Insert 1 text)) (paste_enacted mode text input v rest)
-
-abbrev enter_turn : Setting → ℕ → Input → Ring → Value → Coming → Turned
-enter_turn s indent input r v rest = turned_by s indent r (Ok (AcceptOrInsertLine true)) (enter_enacted s input v rest)
-
-turns_by_paste : (n : ℕ) (s : Setting) (custom : Custom) (indent : ℕ) (input : Input) (r : Ring) (v : Value) (text : List ℕ) (rest : Coming) → IsUnbound custom
-    → turn_of (suc (suc n)) s custom indent input r v (Pressed paste_start (Pasted text rest)) ≡ paste_turn input.mode text s indent input r v rest
-unfolding turn_of
-turns_by_paste n s custom indent input r v text rest free = ap (λ (p : Enacted Cmd). turned_by s indent r p.answer p) (enacts_paste n s custom input v text rest free)
-
-turns_by_enter : (n : ℕ) (s : Setting) (custom : Custom) (indent : ℕ) (input : Input) (r : Ring) (v : Value) (rest : Coming) → IsUnbound custom
-    → turn_of (suc n) s custom indent input r v (Pressed enter rest) ≡ enter_turn s indent input r v rest
-unfolding turn_of
-turns_by_enter n s custom indent input r v rest free = ap (λ (p : Enacted Cmd). turned_by s indent r p.answer p) (enacts_enter n s custom input v rest free)
-
 -- ---- the line
 
 abbrev without_hooks : Setting → Setting
@@ -229,31 +226,48 @@ moved_text : (b : Bool) (kind : CmdKind) (l : Line) (s : Setting) (v : Value) �
 moved_text true kind l s v is = is
 moved_text false kind l s v is = refl
 
-enter_accepts : (n : ℕ) (s : Setting) (custom : Custom) (indent : ℕ) (input : Input) (r : Ring) (info : Option (List ℕ)) (v : Value) (rest : Coming) → IsUnbound custom
-    → Accepts (line_from (suc n) (without_hooks s) custom indent input r info v (Pressed enter rest)) v.line.text rest
-unfolding line_from
-enter_accepts n s custom indent input r info v rest free =
-    let bare : Setting = without_hooks s in
-    subst (λ (t : Turned). Accepts (after_turn (line_from n bare custom indent) bare info t t.outcome) v.line.text rest) (sym (turns_by_enter n bare custom indent input r v rest free)) (record {
-      outcome =
-          let w : Value = (accept_or_insert true bare v).value in
-          ap Ok (moved_text (not (w.line.place == length w.line.text)) ForcedRefresh (record w.line { place = length w.line.text }) bare w refl);
-      rest_is = refl;
-    })
+-- the text is accepted, and this is left to come
+abbrev Takes : Played LineAsk Kept ReadlineError (List ℕ) → List ℕ → Coming → Type 0
+Takes p text rest = (p.answer ≡ Ok text) × (p.rest.coming ≡ rest)
 
-paste_accepts : (n : ℕ) (s : Setting) (custom : Custom) (indent : ℕ) (input : Input) (r : Ring) (info : Option (List ℕ)) (v : Value) (text : List ℕ) (rest : Coming) → IsUnbound custom → IsEmptyLine v
-    → Accepts (line_from (suc (suc n)) (without_hooks s) custom indent input r info v (Pressed paste_start (Pasted text (Pressed enter rest)))) text rest
-unfolding line_from
-paste_accepts n s custom indent input r info v text rest free empty =
-    let bare : Setting = without_hooks s in
-    let t : Turned = paste_turn input.mode text bare indent input r v (Pressed enter rest) in
-    let vi : Bool = in_vi_command (means_of (kept_after input.mode text input) indent (reset_by (Insert 1 text) r)) in
-    let typed : t.made.value.line.text ≡ text = pasted_text vi text bare v empty.empty empty.grows in
-    let a = enter_accepts n s custom indent t.input t.ring (info_after t.made.steps info) t.made.value rest free in
-    subst (λ (t : Turned). Accepts (after_turn (line_from (suc n) bare custom indent) bare info t t.outcome) text rest) (sym (turns_by_paste n bare custom indent input r v text (Pressed enter rest) free)) (record {
-      outcome = a.outcome ∙ ap Ok typed;
-      rest_is = a.rest_is;
-    })
+module _ (s : Setting) (indent : ℕ) (custom : Custom) (free : IsUnbound custom) where
+  abbrev bare : Setting
+  bare = without_hooks s
+
+  -- a phrase, its command, and the turns after it
+  abbrev turn_on : Played LineAsk Kept ReadlineError Cmd → Played LineAsk Kept ReadlineError Status
+  turn_on p = asked_first Begins (joined (follows (line_plan bare indent) obeying) p)
+
+  abbrev line_on : ℕ → Played LineAsk Kept ReadlineError Cmd → Played LineAsk Kept ReadlineError (List ℕ)
+  line_on n p = joined (follows (line_plan bare indent) (turned_on (turns_script n custom))) (turn_on p)
+
+  turns_on : (n : ℕ) (k : Kept) → played_from bare indent (turns_script (suc n) custom) k ≡ line_on n (played_from bare indent (phrase_script (suc n) custom (beginning k)) k)
+  unfolding turns_script turn_script
+  turns_on n k =
+      let plan = line_plan bare indent in
+      let next = turned_on (turns_script n custom) in
+      played_then plan next (turn_script (suc n) custom) k
+      ∙ ap (λ t. joined (follows plan next) (asked_first Begins t)) (played_then plan obeying (phrase_script (suc n) custom (beginning k)) k)
+
+  enter_accepts : (n : ℕ) (k : Kept) (rest : Coming) → Takes (played_from bare indent (turns_script (suc n) custom) (with_rest k (Pressed enter rest))) k.value.line.text rest
+  enter_accepts n k rest =
+      let w : Value = (accept_or_insert true bare k.value).value in
+      subst (λ p. Takes p k.value.line.text rest) (sym (turns_on n (with_rest k (Pressed enter rest)) ∙ ap (line_on n) (plays_enter bare indent custom free n k rest))) (
+        ap Ok (moved_text (not (w.line.place == length w.line.text)) ForcedRefresh (record w.line { place = length w.line.text }) bare w refl),
+        refl,
+      )
+
+  paste_accepts : (n : ℕ) (k : Kept) (text : List ℕ) (rest : Coming) → IsEmptyLine k.value
+      → Takes (played_from bare indent (turns_script (suc (suc n)) custom) (with_rest k (Pressed paste_start (Pasted text (Pressed enter rest))))) text rest
+  paste_accepts n k text rest empty =
+      let on = with_rest k (Pressed paste_start (Pasted text (Pressed enter rest))) in
+      let after_paste = left_at bare indent (paste_kept k.input.mode text k (Pressed enter rest)) (Obeys (Insert 1 text)) in
+      let vi : Bool = in_vi_command (means_of (kept_after k.input.mode text k.input) indent (reset_by (Insert 1 text) k.ring)) in
+      let a = enter_accepts n after_paste rest in
+      subst (λ p. Takes p text rest) (sym (turns_on (suc n) on ∙ ap (line_on (suc n)) (plays_paste bare indent custom free n k text (Pressed enter rest)))) (
+        a.0 ∙ ap Ok (pasted_text vi text bare k.value empty.empty empty.grows),
+        a.1,
+      )
 
 -- ---- what the bytes read as
 
@@ -276,19 +290,21 @@ reads_as mode text more last paste =
     ∙ ap (λ t. Pressed paste_start (Pasted t (coming_from mode (0x0D ∷ more) last))) (stays text paste.no_return)
 
 pub pastes_are_accepted : PastesAreAccepted
-pastes_are_accepted n s custom indent input r info v text more last none free empty paste =
-    subst (λ hooks. Accepts (line_from (suc (suc n)) (record s { hooks = hooks }) custom indent input r info v (coming_from input.mode (sent_as_paste text ++ 0x0D ∷ more) last)) text (coming_from input.mode more last)) (sym none)
-    (subst (λ c. Accepts (line_from (suc (suc n)) (without_hooks s) custom indent input r info v c) text (coming_from input.mode more last)) (sym (reads_as input.mode text more last paste))
-    (paste_accepts n s custom indent input r info v text (coming_from input.mode more last) free empty))
+pastes_are_accepted n s custom indent k text more last none free empty paste comes =
+    let left = coming_from k.input.mode more last in
+    let turns = turns_script (suc (suc n)) custom in
+    let taken = subst (λ hooks. Takes (played_from (record s { hooks = hooks }) indent turns k) text left) (sym none)
+    (subst (λ c. Takes (played_from (without_hooks s) indent turns (with_rest k c)) text left) (sym (comes ∙ reads_as k.input.mode text more last paste)) (paste_accepts s indent custom free n k text left empty)) in
+    record { outcome = taken.0; rest_is = taken.1 }
 
 pub pasted_lines_are_accepted : PastedLinesAreAccepted
-unfolding line_of
+unfolding line_script
 pasted_lines_are_accepted n g x text more last none free paste is =
     let s : Setting = setting_in g x.history.kept.entries in
     let e = line_begun s (first_value s) in
-    let a = pastes_are_accepted n s g.custom g.config.indent_size (new_input g.config.edit_mode) x.ring (info_after e.steps None) e.value text more last none free (record { empty = refl; grows = refl }) paste in
-    subst (λ c. Accepts (line_of (suc (suc n)) s g.custom g.config.indent_size (new_input g.config.edit_mode) x.ring c) text (coming_from g.config.edit_mode more last)) (sym is)
-    (record { outcome = a.outcome; rest_is = a.rest_is })
+    let k = kept e.value (new_input g.config.edit_mode) x.ring x.coming in
+    let a = pastes_are_accepted n s g.custom g.config.indent_size k text more last none free (record { empty = refl; grows = refl }) paste is in
+    record { outcome = a.outcome; rest_is = a.rest_is }
 
 -- ---- worked rows
 
@@ -300,21 +316,21 @@ plain_setting = record { prompt = []; column = 0; mode = Unicode; hooks = None; 
 
 pasted_in : InputMode → List ℕ → Told
 pasted_in input_mode text =
-    line_from 2 plain_setting nothing_bound 2 (input_with Vi input_mode Noop None) (new_ring 60) None (empty_at 0)
-    (coming_from Vi (sent_as_paste text ++ 0x0D ∷ codes "b") End)
+    reported_from plain_setting 2 (turns_script 2 nothing_bound)
+    (kept (empty_at 0) (input_with Vi input_mode Noop None) (new_ring 60) (coming_from Vi (sent_as_paste text ++ 0x0D ∷ codes "b") End))
 
-follows : Coming
-follows = Pressed (key_with (Char 0x62) none) (NoMore AtItsEnd)
+later : Coming
+later = Pressed (key_with (Char 0x62) none) (NoMore AtItsEnd)
 
-pasted_row : Accepts (pasted_in Inserting (codes "a")) (codes "a") follows
-unfolding line_from turn_of answered needing with_read from_key asking becoming deciding and_then common_deed insert_deed insert_table vi_insert pasted_in plain_setting follows lib.Utf8.encode
+pasted_row : Accepts (pasted_in Inserting (codes "a")) (codes "a") later
+unfolding turns_script turn_script answered needing with_read from_key asking becoming deciding and_then common_deed insert_deed insert_table vi_insert pasted_in plain_setting later lib.Utf8.encode
 pasted_row = record { outcome = refl; rest_is = refl }
 
-empty_row : Accepts (pasted_in Command []) [] follows
-unfolding line_from turn_of answered needing with_read from_key asking becoming deciding and_then common_deed deed_of command_table vi_counted vi_command pasted_in plain_setting follows lib.Utf8.encode
+empty_row : Accepts (pasted_in Command []) [] later
+unfolding turns_script turn_script answered needing with_read from_key asking becoming deciding and_then common_deed deed_of command_table vi_counted vi_command pasted_in plain_setting later lib.Utf8.encode
 empty_row = record { outcome = refl; rest_is = refl }
 
 -- a CR is a newline
-return_row : Accepts (pasted_in Overwriting (0x0D ∷ [])) (0x0A ∷ []) follows
-unfolding line_from turn_of answered needing with_read from_key asking becoming deciding and_then common_deed insert_deed insert_table vi_insert pasted_in plain_setting follows lib.Utf8.encode
+return_row : Accepts (pasted_in Overwriting (0x0D ∷ [])) (0x0A ∷ []) later
+unfolding turns_script turn_script answered needing with_read from_key asking becoming deciding and_then common_deed insert_deed insert_table vi_insert pasted_in plain_setting later lib.Utf8.encode
 return_row = record { outcome = refl; rest_is = refl }

@@ -1,10 +1,10 @@
 -- What columns matter to, and what a history holds.
 use Rattle.std.proofs.Common.{◌≡◌, ℕ, zero, suc, ◌≤◌, Bool, true, false, List, [], ◌∷◌, ◌++◌, length, refl, sym, ap, ◌∙◌, append_assoc, append-nil, arith, if◌then◌else◌}
-use Rattle.line_editor.specs.Lines.{Told, line_of}
+use Rattle.line_editor.specs.Lines.{Told}
+use Rattle.line_editor.specs.Running.{line_meant}
 use Rattle.line_editor.specs.Values.{Setting}
 use Rattle.line_help.specs.History.{Filed, nothing_filed, ignored, filed_with_all, newest, unsaved_after}
 use Rattle.line_help.proofs.NewestLemmas.{all_new, length-newest, newest_behind}
-use Rattle.line_keys.specs.InputStates.{new_input}
 use Rattle.keyline.specs.SessionLaws.{at_columns, prompt_column, ColumnsAreFree, taken_of, LastAreKept}
 use Rattle.keyline.specs.Sessions.{Given, SessionState, setting_in, line_in, after_line, line_reported, session, session_by}
 
@@ -15,7 +15,7 @@ setting_at g entries column = record (setting_in g entries) { column = column }
 
 line_same : (n : ℕ) (g : Given) (x : SessionState) (columns : ℕ) → prompt_column (at_columns columns g) ≡ prompt_column g → line_in n (at_columns columns g) x ≡ line_in n g x
 unfolding setting_at
-line_same n g x columns e = ap (λ column. line_of n (setting_at g x.history.kept.entries column) g.custom g.config.indent_size (new_input g.config.edit_mode) x.ring x.coming) e
+line_same n g x columns e = ap (λ column. line_meant n (setting_at g x.history.kept.entries column) g.custom g.config x.ring x.coming) e
 
 pub columns_are_free : ColumnsAreFree
 unfolding session_by

@@ -1,7 +1,6 @@
 -- One turn, from any display that shows the value before it.
-use Rattle.std.proofs.Common.{◌≡◌, ℕ, ◌≤◌, List, ◌++◌, Option, subst}
-use Rattle.line_buffer.specs.declared.layout.Layout.{Layout}
-use Rattle.line_editor.specs.Commands.{Means, effect}
+use Rattle.std.proofs.Common.{ℕ, ◌≤◌, List, ◌++◌, Option, subst}
+use Rattle.line_editor.specs.Commands.{effect}
 use Rattle.line_editor.specs.Leads.{CommandLeads, TurnLeads}
 use Rattle.line_editor.specs.Sights.{Sight, Turns, sight_of, info_after}
 use Rattle.line_editor.specs.Values.{Value, Setting, Effect, EditStep}
@@ -31,6 +30,6 @@ commands_show s low high m cmd a v info =
     shown_by s low high a.prompt (sight_of a v info) (sight_behind cmd (sight_of a e.value (info_after e.steps info))) e.steps (command_turns cmd a v info e (commands_lead m cmd a v))
 
 pub turns_show : TurnsShow
-turns_show s low high n a custom indent input r v info c status is =
-    let t : TurnLeads a v info _ = turn_leads n a custom indent input r v info c in
-    shown_by s low high a.prompt (sight_of a v info) _ _ (t.leads status is)
+turns_show s low high n a custom indent k info status is =
+    let t : TurnLeads a k.value info _ _ = turn_leads n a custom indent k info in
+    shown_by s low high a.prompt (sight_of a k.value info) _ _ (t.leads status is)

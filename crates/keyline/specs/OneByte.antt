@@ -3,13 +3,11 @@ use Rattle.std.specs.Prelude.{◌≡◌, ℕ, true, List, [], ◌∷◌, is_some
 use Rattle.line_buffer.specs.Insertions.{insert as insertion}
 use Rattle.line_buffer.specs.declared.layout.Layout.{Layout}
 use Rattle.line_keys.specs.Answers.{Custom}
-use Rattle.line_keys.specs.Coming.{Coming}
-use Rattle.line_keys.specs.Phrases.{Input}
+use Rattle.line_keys.specs.declared.command.Cmd.{Cmd}
 use Rattle.line_keys.specs.declared.command.Cmd.TheVariants.{SelfInsert}
-use Rattle.line_record.specs.Ring.{Ring}
 use Rattle.line_editor.specs.Inserting.{is_bare, may_be_typed, insert_char}
-use Rattle.line_editor.specs.Lines.{phrase_enacted, turn_of}
 use Rattle.line_editor.specs.Redraws.{nothing_asked, may_type}
+use Rattle.line_editor.specs.LineScripts.{Kept, LineScript, beginning, made_from, phrase_script, played_from, turn_script}
 use Rattle.line_editor.specs.Sights.{Sight, sight_all, FitsAll}
 use Rattle.line_editor.specs.Values.{Value, Setting, EditStep}
 use Rattle.line_screen.specs.Calls.{Screen, ruler_of}
@@ -34,17 +32,18 @@ pub record TypedAtEnd (a : Setting) (v : Value) (c : ℕ) : Type 0 where
   pub after : is_bare (insert_char c 1 a v).value ≡ true
 
 -- the tables read it alone, with no count and nothing asked
-pub record ReadAlone (n : ℕ) (a : Setting) (custom : Custom) (input : Input) (v : Value)
-    (coming : Coming) (c : ℕ) : Type 0 where
-  pub answer : (phrase_enacted n a custom input v coming).answer ≡ Ok (SelfInsert 1 c)
-  pub value_is : (phrase_enacted n a custom input v coming).made.value ≡ v
+pub record ReadAlone (a : Setting) (indent : ℕ) (k : Kept) (phrase : LineScript Cmd) (c : ℕ)
+    : Type 0 where
+  pub answer : (played_from a indent phrase k).answer ≡ Ok (SelfInsert 1 c)
+  pub value_is : (made_from a indent phrase k).value ≡ k.value
   pub unasked : (s : Screen) (l : Layout)
-      → drawn_by s l (phrase_enacted n a custom input v coming).made.steps ≡ nothing_asked l
+      → drawn_by s l (made_from a indent phrase k).steps ≡ nothing_asked l
 
 -- where the layout lets its byte be written alone, its turn sends that byte
 abbrev pub OneByte : Type 0
 OneByte =
-    (n : ℕ) (s : Screen) (l : Layout) (a : Setting) (custom : Custom) (indent : ℕ)
-    (input : Input) (r : Ring) (v : Value) (coming : Coming) (c : ℕ)
-    → ReadAlone n a custom input v coming c → TypedAtEnd a v c → may_type (ruler_of s) l ≡ true
-    → bytes_for s l (turn_of n a custom indent input r v coming).made.steps ≡ c ∷ []
+    (n : ℕ) (s : Screen) (l : Layout) (a : Setting) (custom : Custom) (indent : ℕ) (k : Kept)
+    (c : ℕ)
+    → ReadAlone a indent k (phrase_script n custom (beginning k)) c → TypedAtEnd a k.value c
+    → may_type (ruler_of s) l ≡ true
+    → bytes_for s l (made_from a indent (turn_script n custom) k).steps ≡ c ∷ []

@@ -1,13 +1,12 @@
 -- A text that is sent as a paste, and then entered.
-use Rattle.std.specs.Prelude.{◌≡◌, ◌≢◌, ℕ, suc, true, List, [], ◌∷◌, ◌++◌, Option, None, Ok}
+use Rattle.std.specs.Prelude.{◌≡◌, ◌≢◌, ℕ, suc, true, List, [], ◌∷◌, ◌++◌, None, Ok}
 use Rattle.std.specs.Str.{IsUtf8}
 use Rattle.line_config.specs.declared.device.Last.{Last}
 use Rattle.line_keys.specs.declared.events.Event.{Event}
 use Rattle.line_keys.specs.Answers.{Custom}
 use Rattle.line_keys.specs.Coming.{Coming}
-use Rattle.line_keys.specs.Phrases.{Input}
-use Rattle.line_record.specs.Ring.{Ring}
-use Rattle.line_editor.specs.Lines.{Told, line_from}
+use Rattle.line_editor.specs.LineScripts.{Kept, reported_from, turns_script}
+use Rattle.line_editor.specs.Lines.{Told}
 use Rattle.line_editor.specs.Values.{Setting, Value}
 use Rattle.line_screen.specs.KeyGrammar.{marker}
 use Rattle.line_screen.specs.Pasting.{start_marker, HaveNoMarker}
@@ -41,12 +40,12 @@ pub record Accepts (t : Told) (text : List ℕ) (rest : Coming) : Type 0 where
 -- input mode, the ring, the record and the history.
 abbrev pub PastesAreAccepted : Type 0
 PastesAreAccepted =
-    (n : ℕ) (s : Setting) (custom : Custom) (indent : ℕ) (input : Input) (ring : Ring)
-    (info : Option (List ℕ)) (v : Value) (text more : List ℕ) (last : Last)
-    → s.hooks ≡ None → IsUnbound custom → IsEmptyLine v → IsPasteable text
-    → let comes = coming_from input.mode (sent_as_paste text ++ 0x0D ∷ more) last in
-    Accepts (line_from (suc (suc n)) s custom indent input ring info v comes) text
-    (coming_from input.mode more last)
+    (n : ℕ) (s : Setting) (custom : Custom) (indent : ℕ) (k : Kept) (text more : List ℕ)
+    (last : Last)
+    → s.hooks ≡ None → IsUnbound custom → IsEmptyLine k.value → IsPasteable text
+    → k.coming ≡ coming_from k.input.mode (sent_as_paste text ++ 0x0D ∷ more) last
+    → Accepts (reported_from s indent (turns_script (suc (suc n)) custom) k) text
+    (coming_from k.input.mode more last)
 
 -- and so is one that a line of a session begins with
 abbrev pub PastedLinesAreAccepted : Type 0

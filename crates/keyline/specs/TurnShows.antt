@@ -2,16 +2,13 @@
 use Rattle.std.specs.Prelude.{◌≡◌, ℕ, ◌≤◌, List, ◌++◌, Option, Ok}
 use Rattle.line_buffer.specs.declared.layout.Layout.{Layout}
 use Rattle.line_editor.specs.Commands.{Means, effect}
-use Rattle.line_editor.specs.Lines.{turn_of}
+use Rattle.line_editor.specs.LineScripts.{Kept, made_from, played_from, turn_script}
 use Rattle.line_editor.specs.Sights.{Sight, sight_of, ended_sight, info_after}
 use Rattle.line_editor.specs.Values.{Value, Setting, EditStep}
 use Rattle.line_editor.specs.declared.commands.Status.{Status}
 use Rattle.line_keys.specs.Answers.{Custom}
-use Rattle.line_keys.specs.Coming.{Coming}
-use Rattle.line_keys.specs.Phrases.{Input}
 use Rattle.line_keys.specs.declared.command.Cmd.{Cmd}
 use Rattle.line_keys.specs.declared.command.Cmd.TheVariants.{Interrupt}
-use Rattle.line_record.specs.Ring.{Ring}
 use Rattle.line_screen.specs.Calls.{Screen}
 use Rattle.line_screen.specs.Display.{Placed}
 use Rattle.keyline.specs.Shows.{DisplayHolds, LowAll, above_after, top_after, drawn_by, bytes_for}
@@ -43,9 +40,9 @@ CommandsShow =
 abbrev pub TurnsShow : Type 0
 TurnsShow =
     (s : Screen) → 2 ≤ s.columns → s.columns ≤ 1000
-    → (n : ℕ) (a : Setting) (custom : Custom) (indent : ℕ) (input : Input) (r : Ring) (v : Value)
-    (info : Option (List ℕ)) (c : Coming) (status : Status)
-    → let t = turn_of n a custom indent input r v c in
-    t.outcome ≡ Ok status
-    → Lead s (sight_of a v info) t.made.steps
-    (sight_of a t.made.value (info_after t.made.steps info))
+    → (n : ℕ) (a : Setting) (custom : Custom) (indent : ℕ) (k : Kept) (info : Option (List ℕ))
+    (status : Status)
+    → let turn = turn_script n custom in let made = made_from a indent turn k in
+    (played_from a indent turn k).answer ≡ Ok status
+    → Lead s (sight_of a k.value info) made.steps
+    (sight_of a made.value (info_after made.steps info))

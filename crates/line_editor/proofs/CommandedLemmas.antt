@@ -3,7 +3,7 @@ use Rattle.std.proofs.Common.{◌≡◌, inl, inr, ℕ, suc, ◌<◌, le_refl, B
 use Rattle.std.specs.Prelude.{Result, Ok, Err, IfErr, OnOk, IsErrAnd, length, ◌==◌}
 use Rattle.line_config.specs.declared.errors.ReadlineError.{ReadlineError}
 use Rattle.line_config.specs.declared.errors.ReadlineError.TheVariants.{Eof, Interrupted, NotUtf8, PasteOutOfPlace, Reader, Display, Lines, HistoryText, Helper, Handler, Memory}
-use Rattle.line_config.specs.Scripts.{Ends, Asks, Goes, then}
+use Rattle.line_config.specs.Scripts.{Goes, then}
 use Rattle.line_config.proofs.ScriptLaws.{then_goes, then_cut}
 use Rattle.line_help.specs.declared.completion as completions
 use Rattle.line_help.specs.declared.hint as hints
@@ -22,7 +22,7 @@ use Rattle.line_record.specs.Ring.{Ring}
 use Rattle.line_editor.specs.Accepting.{accepts}
 use Rattle.line_editor.specs.Asks.{shown_in}
 use Rattle.line_editor.specs.Commands.{Means, means_of, effect, outcome}
-use Rattle.line_editor.specs.LineScripts.{LineScript, Obeys, Answered, Stage, kept, keyed, turn_script}
+use Rattle.line_editor.specs.LineScripts.{Obeys, Answered, Stage, kept, keyed, obeying, turn_script}
 use Rattle.line_editor.specs.Lines.{line_phrase, reset_by}
 use Rattle.line_editor.specs.States.{value_of, setting_of, display_of, Stays, Reason}
 use Rattle.line_editor.specs.Turning.{Executes, Cause, Takes, stage_of, world_of}
@@ -80,12 +80,8 @@ module _ {Out H Hi K T : Type 0} {renderer : renderers.Renderer.Ghosts Out} {com
     abbrev Turns : Result Status ReadlineError → Stage Out → Type 0
     Turns result y = Goes (world_of indent s) (turn_script n custom) (stage_of s i r c) result y
 
-    -- its command, from the stage after its phrase
-    abbrev commanding : Cmd → LineScript Status
-    commanding cmd = Asks (Obeys cmd) (λ status. Ends status)
-
     turn_begun : (result : Result Status ReadlineError) (y : Stage Out)
-        → Goes (world_of indent s) ((then) (keyed (steps (line_phrase custom i (shown_in (value_of s))) n)) commanding) (stage_of s i r c) result y → Turns result y
+        → Goes (world_of indent s) ((then) (keyed (steps (line_phrase custom i (shown_in (value_of s))) n)) obeying) (stage_of s i r c) result y → Turns result y
     unfolding turn_script
     turn_begun result y goes = inl (record { input = i; shown = shown_in (value_of s) }, stage_of s i r c, (refl, refl, (refl, refl)), goes)
 
@@ -98,14 +94,14 @@ module _ {Out H Hi K T : Type 0} {renderer : renderers.Renderer.Ghosts Out} {com
 
       phrase_stopped : (e : ReadlineError) → Happens display_of b (line_phrase custom i (shown_in (value_of s))) (key_stage s i c) (Err e) (key_stage m i1 c1) → Turns (Err e) (stage_of m i1 r c1)
       phrase_stopped e h = turn_begun (Err e) (stage_of m i1 r c1)
-          (then_cut (world_of indent s) (keyed (steps (line_phrase custom i (shown_in (value_of s))) n)) commanding e (stage_of s i r c) (stage_of m i1 r c1) (phrased (Err e) h).0)
+          (then_cut (world_of indent s) (keyed (steps (line_phrase custom i (shown_in (value_of s))) n)) obeying e (stage_of s i r c) (stage_of m i1 r c1) (phrased (Err e) h).0)
 
       module _ (cmd : Cmd) (t : State Out H Hi K T renderer completer candidate hinter hint highlighter validator history) (ring' : Ring) (stays : Stays s m) where
         abbrev means_here : Means
         means_here = means_of i1 indent (reset_by cmd r)
 
         commanded : (result : Result Status ReadlineError) → Executes means_here cmd m t ring' result
-            → Goes (world_of indent s) (commanding cmd) (stage_of m i1 r c1) result (stage_of t i1 ring' c1)
+            → Goes (world_of indent s) (obeying cmd) (stage_of m i1 r c1) result (stage_of t i1 ring' c1)
         commanded result (inl done) = ended result (
           sym (done.outcome_is ∙ ap (λ a. outcome means_here cmd a (value_of m)) (setting_stays s m stays)),
           ap (λ v. kept v i1 ring' c1) (edit_value s m t stays (effect means_here cmd) (tt {0}) done.does)
@@ -114,7 +110,7 @@ module _ {Out H Hi K T : Type 0} {renderer : renderers.Renderer.Ghosts Out} {com
         )
           where
             ended : (result : Result Status ReadlineError) → Answered renderer.canvas (renderer.canvas.ruler s.out) (setting_of s) indent (stage_of m i1 r c1) (Obeys cmd) result (stage_of t i1 ring' c1)
-                → Goes (world_of indent s) (commanding cmd) (stage_of m i1 r c1) result (stage_of t i1 ring' c1)
+                → Goes (world_of indent s) (obeying cmd) (stage_of m i1 r c1) result (stage_of t i1 ring' c1)
             ended (Ok status) made = inl (status, stage_of t i1 ring' c1, made, (refl, refl))
             ended (Err e) made = inr (e, inl made, refl)
         commanded result (inr (e, is, refused, ring)) = inr (e, inr (inl (edit_stops s m t stays (effect means_here cmd) e refused, (refl, ring))), is)
@@ -125,7 +121,7 @@ module _ {Out H Hi K T : Type 0} {renderer : renderers.Renderer.Ghosts Out} {com
       turn_goes cmd t ring' result h k =
           let first = phrased (Ok cmd) h in
           turn_begun result (stage_of t i1 ring' c1)
-          (then_goes (world_of indent s) (keyed (steps (line_phrase custom i (shown_in (value_of s))) n)) commanding cmd result (stage_of s i r c) (stage_of m i1 r c1) (stage_of t i1 ring' c1) first.0
+          (then_goes (world_of indent s) (keyed (steps (line_phrase custom i (shown_in (value_of s))) n)) obeying cmd result (stage_of s i r c) (stage_of m i1 r c1) (stage_of t i1 ring' c1) first.0
           (commanded cmd t ring' first.1 result k))
 
       turn_stays : (q : Result Cmd ReadlineError) → Happens display_of b (line_phrase custom i (shown_in (value_of s))) (key_stage s i c) q (key_stage m i1 c1) → Stays s m

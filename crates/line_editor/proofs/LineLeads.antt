@@ -1,32 +1,32 @@
 -- What a line wants to be seen leads from turn to turn.
-use Rattle.std.proofs.Common.{◌≡◌, ℕ, zero, suc, Bool, true, false, List, ◌++◌, Option, None, Result, Ok, Err, refl, sym, ap, ◌∙◌, subst, true≢false, if◌then◌else◌}
+use Rattle.std.proofs.Common.{◌≡◌, ℕ, zero, suc, Bool, true, false, List, [], ◌∷◌, ◌++◌, append_assoc, append-nil, Option, None, Result, Ok, Err, refl, sym, ap, ◌∙◌, subst, true≢false, if◌then◌else◌}
 use Rattle.line_config.specs.declared.errors.ReadlineError.{ReadlineError}
 use Rattle.line_keys.specs.Answers.{Custom}
-use Rattle.line_config.specs.Scripts.{Ends, Asks}
-use Rattle.line_keys.specs.Coming.{Coming, behind}
+use Rattle.line_config.specs.Scripts.{Ends, Asks, then}
+use Rattle.line_config.specs.Played.{played_on}
 use Rattle.line_keys.specs.Feeds.{item_at}
 use Rattle.line_keys.specs.Phrase.{phrase}
-use Rattle.line_keys.specs.Phrases.{Input, Steps, steps, answered, asking, Needs, Shows, Reads, Becomes, Refuses, and_then}
+use Rattle.line_keys.specs.Phrases.{Answer, Steps, steps, answered, asking, Needs, Shows, Reads, Becomes, Refuses, and_then}
 use Rattle.line_keys.specs.Refreshing.{Ask}
 use Rattle.line_keys.specs.Refreshing.Ask.{Line, Message, Prompted, DoingInsert, DoneInserting}
 use Rattle.line_keys.specs.Settled.{own_by, Settles}
 use Rattle.line_keys.specs.declared.command.Cmd.{Cmd}
 use Rattle.line_keys.specs.declared.command.Cmd.TheVariants.{Interrupt}
 use Rattle.line_keys.proofs.Settling.{phrase_settles, then_settles}
-use Rattle.line_record.specs.Ring.{Ring}
 use Rattle.line_editor.specs.Accepting.{submitted}
 use Rattle.line_editor.specs.Asks.{shown_in, ask_effect}
-use Rattle.line_editor.specs.Commands.{Means, means_of, effect, outcome}
+use Rattle.line_editor.specs.Commands.{Means, effect, outcome}
 use Rattle.line_editor.specs.Courses.{TurnsLead, EndsLine}
 use Rattle.line_editor.specs.Drawing.{drawn_behind, asked_anew}
-use Rattle.line_editor.specs.Leads.{Leads, CommandLeads, TurnLeads, EachTurnLeads, LinesLead}
-use Rattle.line_editor.specs.Lines.{Enacted, enacted, begins_group, with_group_begun, line_phrase, phrase_enacted, reset_by, Turned, turned_by, turn_of, Told, after_turn, line_from, line_begun, line_of}
+use Rattle.line_editor.specs.Leads.{Leads, CommandLeads, EachTurnLeads, LinesLead}
+use Rattle.line_editor.specs.Lines.{begins_group, with_group_begun, line_phrase, line_begun}
+use Rattle.line_editor.specs.LineScripts.{LineAsk, LineScript, Keys, Obeys, Makes, Kept, kept, keyed, obeying, turn_script, turned_on, turns_script, line_script, means_at, effect_at, answer_at, left_at, line_plan, steps_along, played_from, turns_along}
 use Rattle.line_editor.specs.Sights.{Sight, no_sight, sight_with, sight_of, ended_sight, sight_all, FitsAll, Turns, info_after}
-use Rattle.line_editor.specs.Values.{Value, Setting, Effect, first_value, hint_reply, helped, shown_hint}
+use Rattle.line_editor.specs.Values.{Value, Setting, EditStep, Effect, first_value, taking, hint_reply, helped, shown_hint}
 use Rattle.line_editor.specs.declared.commands.Status.{Status}
 use Rattle.line_editor.specs.declared.commands.Status.TheVariants.{Proceed, Submit}
 use Rattle.line_editor.proofs.CommandsLead.{asks_lead, commands_lead, submitting_leads}
-use Rattle.line_editor.proofs.ToldLemmas.{each_way}
+use Rattle.line_editor.proofs.ToldLemmas.{PlayedOf, played_each, joined_on, follows, played_then}
 use Rattle.line_editor.proofs.LeadLemmas.{fits_both, sight_both, info_both, turns_both, help_info}
 
 -- ---- a phrase
@@ -67,37 +67,8 @@ ask_leads (Prompted prompt) s v info own x h = record {
 ask_leads DoingInsert s v info own x h = record { prompt = h.prompt; is = h.is; ours = h.ours }
 ask_leads DoneInserting s v info own x h = record { prompt = h.prompt; is = h.is; ours = h.ours }
 
-script_fits : {X : Type 0} (s : Setting) (script : Steps X) (input : Input) (v : Value) (c : Coming) (x : Sight) → FitsAll s.prompt x (enacted s script input v c).made.steps
-script_fits s (Ends answer) input v c x = tt
-script_fits s (Asks Needs later) input v c x = (tt, script_fits s (later tt) input v c x)
-script_fits s (Asks (Shows ask) later) input v c x =
-    let e = ask_effect ask s v in
-    fits_both s.prompt x e.steps _ (ask_fits ask s v x) (script_fits s (later (shown_in e.value)) input e.value c (sight_all x e.steps))
-script_fits {X} s (Asks (Reads item) later) input v c x =
-    each_way (λ (p : Enacted X). FitsAll s.prompt x p.made.steps) _ _ (λ y. script_fits s (later y) input v (behind c) x) (λ e. tt) (item_at item c)
-script_fits s (Asks (Becomes kept) later) input v c x = script_fits s (later tt) kept v c x
-script_fits s (Asks (Refuses why) later) input v c x = tt
-
 settled_sight : (s : Setting) (v : Value) (info : Option (List ℕ)) (x : Sight) → Behind s v info true x → x ≡ sight_of s v info
 settled_sight s v info x h = h.is ∙ ap (λ p. sight_with true p v.line.text v.line.place info) (h.ours refl)
-
-script_leads : {X : Type 0} (s : Setting) (own : Bool) (script : Steps X) (input : Input) (v : Value) (c : Coming) (info : Option (List ℕ)) (x : Sight) (answer : X)
-    → Settles own script → Behind s v info own x → (enacted s script input v c).answer ≡ Ok answer
-    → (let e = (enacted s script input v c).made in sight_all x e.steps ≡ sight_of s e.value (info_after e.steps info))
-script_leads s true (Ends y) input v c info x answer settles h is = settled_sight s v info x h
-script_leads s false (Ends y) input v c info x answer settles h is = absurd (true≢false (sym settles))
-script_leads s own (Asks Needs later) input v c info x answer settles h is = script_leads s own (later tt) input v c info x answer (settles tt) h is
-script_leads s own (Asks (Shows ask) later) input v c info x answer settles h is =
-    let e = ask_effect ask s v in
-    let shown = shown_in e.value in
-    let rest = (enacted s (later shown) input e.value c).made in
-    let done = script_leads s (own_by own ask) (later shown) input e.value c (info_after e.steps info) (sight_all x e.steps) answer (settles shown) (ask_leads ask s v info own x h) is in
-    sight_both x e.steps rest.steps ∙ done ∙ ap (sight_of s rest.value) (sym (info_both e.steps rest.steps info))
-script_leads {X} s own (Asks (Reads item) later) input v c info x answer settles h is =
-    each_way (λ (p : Enacted X). p.answer ≡ Ok answer → sight_all x p.made.steps ≡ sight_of s p.made.value (info_after p.made.steps info)) _ _
-    (λ y. script_leads s own (later y) input v (behind c) info x answer (settles y) h) (λ e same. cc) (item_at item c) is
-script_leads s own (Asks (Becomes kept) later) input v c info x answer settles h is = script_leads s own (later tt) kept v c info x answer (settles tt) h is
-script_leads s own (Asks (Refuses why) later) input v c info x answer settles h is = cc
 
 -- a change-to begins a group, which draws nothing
 begun_settles : (cmd : Cmd) (b : Bool) (n : ℕ) → Settles true (steps (if b then asking DoingInsert (λ seen. answered cmd) else answered cmd) n)
@@ -116,69 +87,162 @@ proceeds_leads : (m : Means) (cmd : Cmd) (s : Setting) (v : Value) (e : Effect) 
 proceeds_leads m Interrupt s v e status h is = cc
 proceeds_leads m cmd s v e status h is = h
 
-turned_leads : (s : Setting) (v : Value) (info : Option (List ℕ)) (indent : ℕ) (r : Ring) (p : Enacted Cmd) (answer : Result Cmd ReadlineError) → p.answer ≡ answer
-    → FitsAll s.prompt (sight_of s v info) p.made.steps
-    → ((cmd : Cmd) → p.answer ≡ Ok cmd → sight_all (sight_of s v info) p.made.steps ≡ sight_of s p.made.value (info_after p.made.steps info))
-    → TurnLeads s v info (turned_by s indent r answer p)
-turned_leads s v info indent r p (Err e) is fits leads = record { fits = fits; leads = λ status same. cc }
-turned_leads s v info indent r p (Ok cmd) is fits leads =
-    let ring = reset_by cmd r in
-    let m = means_of p.input indent ring in
-    let w = p.made.value in
-    let x = sight_of s v info in
-    let stands = info_after p.made.steps info in
-    let e = effect m cmd s w in
-    let made = commands_lead m cmd s w in
-    let seen : sight_all x p.made.steps ≡ sight_of s w stands = leads cmd is in
-    let first : Turns s.prompt x p.made.steps (sight_of s w stands) = record { fits = fits; leads = seen } in
-    record {
-      fits = fits_both s.prompt x p.made.steps e.steps fits (subst (λ y. FitsAll s.prompt y e.steps) (sym seen) (command_fits cmd s w e stands made));
-      leads = λ status same.
-          subst (λ i. Turns s.prompt x (p.made.steps ++ e.steps) (sight_of s e.value i)) (sym (info_both p.made.steps e.steps info))
-          (turns_both s.prompt x (sight_of s w stands) (sight_of s e.value (info_after e.steps stands)) p.made.steps e.steps first (proceeds_leads m cmd s w e status made same stands));
-    }
+-- steps may be asked for there, and lead to the value after them where they don't end the session
+record LeadOn (s : Setting) (info : Option (List ℕ)) (x : Sight) (answer : Result Status ReadlineError) (e : Effect) : Type 0 where
+  fits : FitsAll s.prompt x e.steps
+  leads : (status : Status) → answer ≡ Ok status → sight_all x e.steps ≡ sight_of s e.value (info_after e.steps info)
+
+lead_behind : (s : Setting) (info : Option (List ℕ)) (x : Sight) (first : List EditStep) (answer : Result Status ReadlineError) (e : Effect) → FitsAll s.prompt x first
+    → LeadOn s (info_after first info) (sight_all x first) answer e → LeadOn s info x answer (record { value = e.value; steps = first ++ e.steps })
+lead_behind s info x first answer e fits h = record {
+  fits = fits_both s.prompt x first e.steps fits h.fits;
+  leads = λ status is. sight_both x first e.steps ∙ h.leads status is ∙ ap (sight_of s e.value) (sym (info_both first e.steps info));
+}
+
+module _ (s : Setting) (indent : ℕ) where
+  abbrev made_of_play : Kept → PlayedOf s indent Status → Effect
+  made_of_play k p = record { value = p.rest.value; steps = steps_along s indent k p.asks }
+
+  abbrev PlayLeads : Option (List ℕ) → Sight → Kept → PlayedOf s indent Status → Type 0
+  PlayLeads info x k p = LeadOn s info x p.answer (made_of_play k p)
+
+  abbrev on_command : Kept → Cmd → Status → PlayedOf s indent Status
+  on_command k cmd status = record { answer = Ok status; asks = []; rest = left_at s indent k (Obeys cmd) }
+
+  command_leads : (cmd : Cmd) (k : Kept) (info : Option (List ℕ)) → PlayLeads info (sight_of s k.value info) k (played_from s indent (obeying cmd) k)
+  command_leads cmd k info =
+      let m = means_at s indent k cmd in
+      let v = k.value in
+      let e = effect m cmd s v in
+      let made = commands_lead m cmd s v in
+      by (outcome m cmd s v) (subst (λ steps. LeadOn s info (sight_of s v info) (outcome m cmd s v) (record { value = e.value; steps = steps })) (sym (append-nil e.steps)) (record {
+        fits = command_fits cmd s v e info made;
+        leads = λ status is. let t = proceeds_leads m cmd s v e status made is info in t.leads;
+      }))
+    where
+      by : (q : Result Status ReadlineError) → (let e = effect (means_at s indent k cmd) cmd s k.value in LeadOn s info (sight_of s k.value info) q (record { value = e.value; steps = e.steps ++ [] }))
+          → PlayLeads info (sight_of s k.value info) k (played_on (on_command k cmd) (Obeys cmd) (left_at s indent k (Obeys cmd)) q)
+      by (Ok status) h = record { fits = h.fits; leads = h.leads }
+      by (Err e) h = record { fits = h.fits; leads = h.leads }
+
+  -- a phrase, and the command that it gives
+  abbrev spoken : Steps Cmd → LineScript Status
+  spoken script = (then) (keyed script) obeying
+
+  phrase_leads : (own : Bool) (script : Steps Cmd) (k : Kept) (info : Option (List ℕ)) (x : Sight) → Settles own script → Behind s k.value info own x
+      → PlayLeads info x k (played_from s indent (spoken script) k)
+  phrase_leads true (Ends cmd) k info x settles h =
+      subst (λ y. PlayLeads info y k (played_from s indent (obeying cmd) k)) (sym (settled_sight s k.value info x h)) (command_leads cmd k info)
+  phrase_leads false (Ends cmd) k info x settles h = absurd (true≢false (sym settles))
+  phrase_leads own (Asks Needs later) k info x settles h =
+      let p = played_from s indent (spoken (later tt)) k in
+      lead_behind s info x (taking s k.value).steps p.answer (made_of_play k p) (tt, tt) (phrase_leads own (later tt) k info x (settles tt) h)
+  phrase_leads own (Asks (Shows ask) later) k info x settles h =
+      let e = ask_effect ask s k.value in
+      let shown = shown_in e.value in
+      let left = record k { value = e.value } in
+      let p = played_from s indent (spoken (later shown)) left in
+      lead_behind s info x e.steps p.answer (made_of_play left p) (ask_fits ask s k.value x)
+      (phrase_leads (own_by own ask) (later shown) left (info_after e.steps info) (sight_all x e.steps) (settles shown) (ask_leads ask s k.value info own x h))
+  phrase_leads own (Asks (Reads item) later) k info x settles h =
+      let left = left_at s indent k (Keys (Reads item)) in
+      played_each (PlayLeads info x k) (λ y. played_from s indent (spoken (later y)) left) (Keys (Reads item)) left
+      (λ y. let g = phrase_leads own (later y) left info x (settles y) h in record { fits = g.fits; leads = g.leads })
+      (λ e. record { fits = tt; leads = λ status is. cc }) (item_at item k.coming)
+  phrase_leads own (Asks (Becomes input) later) k info x settles h =
+      let g = phrase_leads own (later tt) (record k { input = input }) info x (settles tt) h in record { fits = g.fits; leads = g.leads }
+  phrase_leads own (Asks (Refuses why) later) k info x settles h = record { fits = tt; leads = λ status is. cc }
+
+  abbrev turn_phrase : ℕ → Custom → Kept → Steps Cmd
+  turn_phrase n custom k = steps (line_phrase custom k.input (shown_in k.value)) n
+
+  said_leads : (n : ℕ) (custom : Custom) (k : Kept) (info : Option (List ℕ)) → PlayLeads info (sight_of s k.value info) k (played_from s indent (spoken (turn_phrase n custom k)) k)
+  unfolding and_then
+  said_leads n custom k info =
+      let shown = shown_in k.value in
+      let settles : Settles true (turn_phrase n custom k) = then_settles with_group_begun (λ cmd i w. begun_settles cmd (begins_group cmd)) (phrase custom k.input shown) k.input shown (phrase_settles custom k.input shown) n in
+      phrase_leads true (turn_phrase n custom k) k info (sight_of s k.value info) settles (record { prompt = s.prompt; is = refl; ours = λ e. refl })
 
 pub turn_leads : EachTurnLeads
-unfolding turn_of and_then
-turn_leads n s custom indent input r v info c =
-    let p = phrase_enacted n s custom input v c in
-    let script = steps (line_phrase custom input (shown_in v)) n in
-    let settles : Settles true script = then_settles with_group_begun (λ cmd i w. begun_settles cmd (begins_group cmd)) (phrase custom input (shown_in v)) input (shown_in v) (phrase_settles custom input (shown_in v)) n in
-    let here : Behind s v info true (sight_of s v info) = record { prompt = s.prompt; is = refl; ours = λ e. refl } in
-    turned_leads s v info indent r p p.answer refl (script_fits s script input v c (sight_of s v info)) (λ cmd is. script_leads s true script input v c info (sight_of s v info) cmd settles here is)
+unfolding turn_script
+turn_leads n s custom indent k info =
+    let h = said_leads s indent n custom k info in
+    record { fits = h.fits; leads = λ status is. record { fits = h.fits; leads = h.leads status is } }
 
 -- ---- a line
 
-abbrev Led : Setting → Sight → Told → Type 0
-Led s x t = TurnsLead s.prompt x t.turns × EndsLine t.outcome t.turns
+module _ (s : Setting) (indent : ℕ) where
+  abbrev Along : Kept → List EditStep → Option (List ℕ) → Result (List ℕ) ReadlineError → List LineAsk → PlayedOf s indent Status → Type 0
+  Along k steps info o more p = turns_along s indent o k steps info (p.asks ++ more) ≡ turns_along s indent o p.rest (steps ++ steps_along s indent k p.asks) info more
 
--- what follows on a turn, by its outcome
-after_leads : (next : Input → Ring → Option (List ℕ) → Value → Coming → Told) (s : Setting) (v : Value) (info : Option (List ℕ)) (t : Turned)
-    → ((i : Input) (r : Ring) (told : Option (List ℕ)) (w : Value) (c : Coming) → Led s (sight_of s w told) (next i r told w c))
-    → TurnLeads s v info t → (o : Result Status ReadlineError) → t.outcome ≡ o → Led s (sight_of s v info) (after_turn next s info t o)
-after_leads next s v info t rest h (Ok Proceed) e =
-    let more = rest t.input t.ring (info_after t.made.steps info) t.made.value t.rest in
-    ((h.leads Proceed e, refl, more.0), more.1)
-after_leads next s v info t rest h (Ok Submit) e =
-    let w = t.made.value in
-    let close = submitted s w in
-    let stands = info_after t.made.steps info in
-    let joined = turns_both s.prompt (sight_of s v info) (sight_of s w stands) (ended_sight (sight_of s close.value (info_after close.steps stands))) t.made.steps close.steps (h.leads Submit e) (submitting_leads s w stands) in
-    let turns = subst (λ i. Turns s.prompt (sight_of s v info) (t.made.steps ++ close.steps) (ended_sight (sight_of s close.value i))) (sym (info_both t.made.steps close.steps info)) joined in
-    ((turns, refl, tt), (refl, refl))
-after_leads next s v info t rest h (Err x) e = (h.fits, (refl, refl))
+  -- what is asked for a turn belongs to it
+  phrase_along : (script : Steps Cmd) (k : Kept) (steps : List EditStep) (info : Option (List ℕ)) (o : Result (List ℕ) ReadlineError) (more : List LineAsk)
+      → Along k steps info o more (played_from s indent (spoken s indent script) k)
+  phrase_along (Ends cmd) k steps info o more =
+      let left = left_at s indent k (Obeys cmd) in
+      let alone = ap (λ zs. turns_along s indent o left (steps ++ zs) info more) (sym (append-nil (effect_at s indent k (Obeys cmd)).steps)) in
+      played_each (Along k steps info o more) (on_command s indent k cmd) (Obeys cmd) left (λ status. alone) (λ e. alone) (answer_at s indent k (Obeys cmd))
+  phrase_along (Asks ask later) k steps info o more =
+      let left = left_at s indent k (Keys ask) in
+      let made = (effect_at s indent k (Keys ask)).steps in
+      let next : Answer ask → PlayedOf s indent Status = λ x. played_from s indent (spoken s indent (later x)) left in
+      played_each (Along k steps info o more) next (Keys ask) left
+      (λ x. phrase_along (later x) left (steps ++ made) info o more
+      ∙ ap (λ zs. turns_along s indent o (next x).rest zs info more) (append_assoc steps made (steps_along s indent left (next x).asks)))
+      (λ e. ap (λ zs. turns_along s indent o left (steps ++ zs) info more) (sym (append-nil made))) (answer_at s indent k (Keys ask))
 
-line_leads : (n : ℕ) (s : Setting) (custom : Custom) (indent : ℕ) (input : Input) (r : Ring) (info : Option (List ℕ)) (v : Value) (c : Coming) → Led s (sight_of s v info) (line_from n s custom indent input r info v c)
-unfolding line_from
-line_leads zero s custom indent input r info v c = (tt, refl)
-line_leads (suc n) s custom indent input r info v c =
-    after_leads (line_from n s custom indent) s v info (turn_of (suc n) s custom indent input r v c) (line_leads n s custom indent) (turn_leads (suc n) s custom indent input r v info c) _ refl
+  -- its turns lead on, where these steps of the first have been made
+  abbrev LedFrom : Kept → List EditStep → Option (List ℕ) → Sight → PlayedOf s indent (List ℕ) → Type 0
+  LedFrom k steps info x p = let turns = turns_along s indent p.answer k steps info p.asks in TurnsLead s.prompt x turns × EndsLine p.answer turns
+
+  abbrev LeadsHere : Kept → List EditStep → Option (List ℕ) → Sight → Type 0
+  LeadsHere k steps info x = Turns s.prompt x steps (sight_of s k.value (info_after steps info))
+
+  module _ (n : ℕ) (custom : Custom) (so : (k : Kept) (steps : List EditStep) (info : Option (List ℕ)) (x : Sight) → LeadsHere k steps info x → LedFrom k steps info x (played_from s indent (turns_script n custom) k))
+      (k : Kept) (info : Option (List ℕ)) (script : Steps Cmd) where
+    abbrev said : PlayedOf s indent Status
+    said = played_from s indent (spoken s indent script) k
+
+    abbrev said_steps : List EditStep
+    said_steps = steps_along s indent k said.asks
+
+    abbrev seen : Sight
+    seen = sight_of s k.value info
+
+    -- what follows on a turn, by its outcome
+    after_leads : PlayLeads s indent info seen k said → (q : Result Status ReadlineError) → said.answer ≡ q
+        → LedFrom k [] info seen (joined_on (follows (line_plan s indent) (turned_on (turns_script n custom))) said.asks said.rest q)
+    after_leads h (Ok Proceed) is =
+        let later = played_from s indent (turns_script n custom) said.rest in
+        let led = so said.rest said_steps info seen (record { fits = h.fits; leads = h.leads Proceed is }) in
+        subst (λ turns. TurnsLead s.prompt seen turns × EndsLine later.answer turns) (sym (phrase_along script k [] info later.answer later.asks)) led
+    after_leads h (Ok Submit) is =
+        let w = said.rest.value in
+        let close = submitted s w in
+        let stands = info_after said_steps info in
+        let answer : Result (List ℕ) ReadlineError = Ok close.value.line.text in
+        let both = turns_both s.prompt seen (sight_of s w stands) (ended_sight (sight_of s close.value (info_after close.steps stands))) said_steps close.steps (record { fits = h.fits; leads = h.leads Submit is }) (submitting_leads s w stands) in
+        let turns = subst (λ i. Turns s.prompt seen (said_steps ++ close.steps) (ended_sight (sight_of s close.value i))) (sym (info_both said_steps close.steps info)) both in
+        subst (λ turns. TurnsLead s.prompt seen turns × EndsLine answer turns) (sym (phrase_along script k [] info answer (Makes submitted ∷ []))) ((turns, refl, tt), (refl, refl))
+    after_leads h (Err e) is =
+        let answer : Result (List ℕ) ReadlineError = Err e in
+        subst (λ asks. let turns = turns_along s indent answer k [] info asks in TurnsLead s.prompt seen turns × EndsLine answer turns) (append-nil said.asks)
+        (subst (λ turns. TurnsLead s.prompt seen turns × EndsLine answer turns) (sym (phrase_along script k [] info answer [])) (h.fits, (refl, refl)))
+
+  line_leads : (n : ℕ) (custom : Custom) (k : Kept) (steps : List EditStep) (info : Option (List ℕ)) (x : Sight) → LeadsHere k steps info x → LedFrom k steps info x (played_from s indent (turns_script n custom) k)
+  unfolding turns_script turn_script
+  line_leads zero custom k steps info x h = (fits_both s.prompt x steps [] h.fits tt, (refl, refl))
+  line_leads (suc n) custom k steps info x h =
+      let stands = info_after steps info in
+      let script = turn_phrase s indent (suc n) custom k in
+      let led = after_leads n custom (line_leads n custom) k stands script (said_leads s indent (suc n) custom k stands) _ refl in
+      let rest = subst (LedFrom k [] stands (sight_of s k.value stands)) (sym (played_then (line_plan s indent) (turned_on (turns_script n custom)) (spoken s indent script) k)) led in
+      ((h, refl, rest.0), rest.1)
 
 pub lines_lead : LinesLead
-unfolding line_of
+unfolding line_script
 lines_lead n s custom indent input r c =
     let e = line_begun s (first_value s) in
-    let rest = line_leads n s custom indent input r (info_after e.steps None) e.value c in
     let first = asks_lead Line s (first_value s) no_sight in
     let seen = first.leads ∙ ap (sight_of s e.value) (sym (hint_stands s (first_value s) true s.prompt None)) in
-    ((record { fits = (tt, first.fits); leads = seen }, refl, rest.0), rest.1)
+    line_leads s indent n custom (kept e.value input r c) e.steps None no_sight (record { fits = (tt, first.fits); leads = seen })

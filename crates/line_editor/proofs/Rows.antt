@@ -31,10 +31,11 @@ use Rattle.line_record.specs.Ring.{Ring}
 use Rattle.line_editor.specs.Calls.{Call, Ruler}
 use Rattle.line_editor.specs.Calls.Call.{Draw, Move, Write, Beep}
 use Rattle.line_editor.specs.Courses.{Turn, steps_in}
-use Rattle.line_editor.specs.Lines.{Told, turn_of, line_from, line_of}
+use Rattle.line_editor.specs.LineScripts.{kept, reported_from, turn_script, turns_script, line_script}
+use Rattle.line_editor.specs.Lines.{Told}
 use Rattle.line_editor.specs.Redraws.{fresh}
 use Rattle.line_editor.specs.Steps.{asked}
-use Rattle.line_editor.specs.Values.{Setting, EditStep}
+use Rattle.line_editor.specs.Values.{Setting, EditStep, first_value}
 
 -- ---- a display of eighty columns, and lines after `> `
 
@@ -99,7 +100,9 @@ draw line old = Draw own line (length line) None (Some old) (own_laid (2 + lengt
 -- whatever the ring holds
 module _ (r : Ring) where
   abbrev line : List (List ℕ) → Custom → List KeyEvent → Told
-  line entries custom ks = line_of 12 (with_entries entries) custom 2 emacs r (pressed ks)
+  line entries custom ks =
+      let s = with_entries entries in
+      reported_from s 2 (line_script 12 custom) (kept (first_value s) emacs r (pressed ks))
 
   -- ---- a typed, left, enter
 
@@ -107,11 +110,11 @@ module _ (r : Ring) where
   a_left_enter = line [] nothing_bound (typed 0x61 ∷ key_with Left none ∷ key_with Enter none ∷ [])
 
   a_left_enter_calls : calls a_left_enter ≡ draw [] (fresh Unicode) ∷ Write (codes "a") ∷ Move (at 3) (at 2) ∷ Move (at 2) (at 3) ∷ []
-  unfolding unicode_segmentation line_of line_from turn_of answered following needing with_read from_key asking becoming deciding and_then counting followed emacs_deed common_deed
+  unfolding unicode_segmentation line_script turns_script turn_script answered following needing with_read from_key asking becoming deciding and_then counting followed emacs_deed common_deed
   a_left_enter_calls = refl
 
   a_left_enter_outcome : a_left_enter.outcome ≡ Ok (codes "a")
-  unfolding unicode_segmentation line_of line_from turn_of answered following needing with_read from_key asking becoming deciding and_then counting followed emacs_deed common_deed
+  unfolding unicode_segmentation line_script turns_script turn_script answered following needing with_read from_key asking becoming deciding and_then counting followed emacs_deed common_deed
   a_left_enter_outcome = refl
 
   -- ---- a count of two before x: its prompt, the session's own again, and both characters in one drawing
@@ -120,11 +123,11 @@ module _ (r : Ring) where
   two_x = line [] nothing_bound (key_with (Char 0x32) alt ∷ typed 0x78 ∷ [])
 
   two_x_calls : calls two_x ≡ draw [] (fresh Unicode) ∷ Draw (codes "(arg: 2) ") [] 0 None (Some (own_laid 2)) (laid false 9 9 9) None ∷ draw [] (laid false 9 9 9) ∷ draw (codes "xx") (own_laid 2) ∷ []
-  unfolding unicode_segmentation line_of line_from turn_of answered following needing with_read from_key asking becoming deciding and_then counting followed emacs_deed common_deed digits
+  unfolding unicode_segmentation line_script turns_script turn_script answered following needing with_read from_key asking becoming deciding and_then counting followed emacs_deed common_deed digits
   two_x_calls = refl
 
   two_x_outcome : two_x.outcome ≡ Err Eof
-  unfolding unicode_segmentation line_of line_from turn_of answered following needing with_read from_key asking becoming deciding and_then counting followed emacs_deed common_deed digits
+  unfolding unicode_segmentation line_script turns_script turn_script answered following needing with_read from_key asking becoming deciding and_then counting followed emacs_deed common_deed digits
   two_x_outcome = refl
 
   -- ---- a lone word transposed from its start: the cursor goes after it, by a whole drawing
@@ -133,7 +136,7 @@ module _ (r : Ring) where
   lone_word = line [] nothing_bound (typed 0x77 ∷ key_with (Char 0x41) ctrl ∷ key_with (Char 0x74) alt ∷ [])
 
   lone_word_calls : calls lone_word ≡ draw [] (fresh Unicode) ∷ Write (codes "w") ∷ Move (at 3) (at 2) ∷ draw (codes "w") (laid true 2 2 3) ∷ []
-  unfolding unicode_segmentation line_of line_from turn_of answered following needing with_read from_key asking becoming deciding and_then counting followed emacs_deed common_deed after_words before_words starts_of ends_of
+  unfolding unicode_segmentation line_script turns_script turn_script answered following needing with_read from_key asking becoming deciding and_then counting followed emacs_deed common_deed after_words before_words starts_of ends_of
   lone_word_calls = refl
 
   -- ---- a key bound to a search, in an empty history
@@ -145,7 +148,7 @@ module _ (r : Ring) where
   }
 
   search_calls : calls (line [] ctrl_o (key_with (Char 0x4F) ctrl ∷ [])) ≡ draw [] (fresh Unicode) ∷ Beep ∷ []
-  unfolding unicode_segmentation line_of line_from turn_of answered following needing with_read from_key asking becoming deciding and_then counting followed emacs_deed common_deed
+  unfolding unicode_segmentation line_script turns_script turn_script answered following needing with_read from_key asking becoming deciding and_then counting followed emacs_deed common_deed
   search_calls = refl
 
   -- ---- up three times over two entries, and down twice
@@ -166,9 +169,9 @@ module _ (r : Ring) where
   up_and_down_calls : calls up_and_down
       ≡ draw [] (fresh Unicode) ∷ Write (codes "c") ∷ Write (codes "u") ∷ Write (codes "r")
       ∷ draw (codes "line1") (own_laid 5) ∷ draw (codes "line0") (own_laid 7) ∷ draw (codes "line1") (own_laid 7) ∷ draw (codes "cur") (own_laid 7) ∷ []
-  unfolding unicode_segmentation line_of line_from turn_of answered following needing with_read from_key asking becoming deciding and_then counting followed emacs_deed common_deed line_up line_down behind_newlines
+  unfolding unicode_segmentation line_script turns_script turn_script answered following needing with_read from_key asking becoming deciding and_then counting followed emacs_deed common_deed line_up line_down behind_newlines
   up_and_down_calls = refl
 
   up_and_down_outcome : up_and_down.outcome ≡ Ok (codes "cur")
-  unfolding unicode_segmentation line_of line_from turn_of answered following needing with_read from_key asking becoming deciding and_then counting followed emacs_deed common_deed line_up line_down behind_newlines
+  unfolding unicode_segmentation line_script turns_script turn_script answered following needing with_read from_key asking becoming deciding and_then counting followed emacs_deed common_deed line_up line_down behind_newlines
   up_and_down_outcome = refl

@@ -1,8 +1,8 @@
 -- A line as a list of turns, and a session as the turns of its lines.
-use Rattle.std.specs.Prelude.{◌≡◌, ⊤, ℕ, Bool, true, false, List, [], ◌∷◌, Result, Err, IsOk, IsErrAnd}
+use Rattle.std.specs.Prelude.{◌≡◌, ⊤, ℕ, Bool, true, false, List, [], ◌∷◌, Result, Ok, Err, IsOk, IsErrAnd}
 use Rattle.line_config.specs.declared.errors.ReadlineError.{ReadlineError}
 use Rattle.line_config.specs.declared.errors.ReadlineError.TheVariants.{Eof, Interrupted, Memory}
-use Rattle.line_editor.specs.Sights.{Sight, no_sight, Turns, FitsAll}
+use Rattle.line_editor.specs.Sights.{Sight, no_sight, ended_sight, Turns, FitsAll}
 use Rattle.line_editor.specs.Values.{EditStep}
 
 -- a first drawing, or a phrase and a command that leave the line open, with what is to be seen
@@ -18,6 +18,11 @@ abbrev pub breaks_after : ReadlineError → Bool
 breaks_after Eof = true
 breaks_after Interrupted = true
 breaks_after why = false
+
+-- a line's last turn, by its outcome
+abbrev pub last_turn : Result (List ℕ) ReadlineError → List EditStep → Sight → Turn
+last_turn (Ok text) steps x = Accept steps (ended_sight x)
+last_turn (Err e) steps x = Last steps (breaks_after e)
 
 abbrev pub steps_in : Turn → List EditStep
 steps_in (Open steps value) = steps

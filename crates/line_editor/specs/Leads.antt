@@ -1,5 +1,6 @@
 -- What commands want to be seen leads from the sight of the value before to that of the one after.
-use Rattle.std.specs.Prelude.{◌≡◌, ℕ, false, List, [], ◌∷◌, Option, Ok, IsUtf8, IsCharBoundary}
+use Rattle.std.specs.Prelude.{◌≡◌, ℕ, false, List, [], ◌∷◌, Option, Result, Ok, IsUtf8, IsCharBoundary}
+use Rattle.line_config.specs.declared.errors.ReadlineError.{ReadlineError}
 use Rattle.line_keys.specs.Refreshing.{Ask}
 use Rattle.line_keys.specs.Refreshing.Ask.{Line, Message, Prompted, DoingInsert, DoneInserting}
 use Rattle.line_keys.specs.declared.command.Cmd.{Cmd}
@@ -14,10 +15,10 @@ use Rattle.line_editor.specs.Accepting.{submitted}
 use Rattle.line_editor.specs.Asks.{ask_effect}
 use Rattle.line_editor.specs.Commands.{Means, effect}
 use Rattle.line_editor.specs.Courses.{TurnsLead, EndsLine}
-use Rattle.line_editor.specs.Lines.{Turned, turn_of, line_of}
+use Rattle.line_editor.specs.LineScripts.{Kept, kept, line_script, made_from, played_from, reported_from, turn_script}
 use Rattle.line_editor.specs.Sights.{Sight, no_sight, sight_with, sight_of, ended_sight, info_after, FitsAll, Turns}
 use Rattle.line_editor.specs.Redraws.{Redraw}
-use Rattle.line_editor.specs.Values.{Value, Setting, EditStep, Effect, shown_hint}
+use Rattle.line_editor.specs.Values.{Value, Setting, EditStep, Effect, first_value, shown_hint}
 use Rattle.line_editor.specs.Values.EditStep.{Draws}
 use Rattle.line_editor.specs.declared.commands.Status.{Status}
 
@@ -83,18 +84,19 @@ abbrev pub AsksLead : Type 0
 AsksLead =
     (ask : Ask) (s : Setting) (v : Value) (x : Sight) → AskLeads ask x s (ask_effect ask s v)
 
--- a turn's steps may be asked for where its value is seen; one that doesn't end the session leads to
--- its value after it
-pub record TurnLeads (s : Setting) (v : Value) (info : Option (List ℕ)) (t : Turned) : Type 0 where
-  pub fits : FitsAll s.prompt (sight_of s v info) t.made.steps
-  pub leads : (status : Status) → t.outcome ≡ Ok status
-      → LeadsFrom (sight_of s v info) s t.made (info_after t.made.steps info)
+-- a turn's steps may be asked for where its value is seen; one that doesn't end the session leads
+-- to its value after it
+pub record TurnLeads (s : Setting) (v : Value) (info : Option (List ℕ))
+    (outcome : Result Status ReadlineError) (made : Effect) : Type 0 where
+  pub fits : FitsAll s.prompt (sight_of s v info) made.steps
+  pub leads : (status : Status) → outcome ≡ Ok status
+      → LeadsFrom (sight_of s v info) s made (info_after made.steps info)
 
 abbrev pub EachTurnLeads : Type 0
 EachTurnLeads =
-    (n : ℕ) (s : Setting) (custom : Custom) (indent : ℕ) (input : Input) (r : Ring) (v : Value)
-    (info : Option (List ℕ)) (coming : Coming)
-    → TurnLeads s v info (turn_of n s custom indent input r v coming)
+    (n : ℕ) (s : Setting) (custom : Custom) (indent : ℕ) (k : Kept) (info : Option (List ℕ))
+    → let turn = turn_script n custom in
+    TurnLeads s k.value info (played_from s indent turn k).answer (made_from s indent turn k)
 
 -- whatever comes, a line's turns lead from a display that shows nothing of it, each to what it says
 -- is to be seen; the one that accepts the line leads to the drawing's end
@@ -102,5 +104,6 @@ abbrev pub LinesLead : Type 0
 LinesLead =
     (n : ℕ) (s : Setting) (custom : Custom) (indent : ℕ) (input : Input) (r : Ring)
     (coming : Coming)
-    → let line = line_of n s custom indent input r coming in
+    → let k = kept (first_value s) input r coming in
+    let line = reported_from s indent (line_script n custom) k in
     TurnsLead s.prompt no_sight line.turns × EndsLine line.outcome line.turns

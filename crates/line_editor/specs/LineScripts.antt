@@ -1,7 +1,7 @@
 -- A line as a script: what is asked in order, by whatever comes, and where a fault stops it.
-use Rattle.std.specs.Prelude.{◌≡◌, ◌⊎◌, ℕ, zero, suc, List, [], ◌∷◌, ◌++◌, Result, Ok, Err}
+use Rattle.std.specs.Prelude.{◌≡◌, ◌⊎◌, ℕ, zero, suc, List, [], ◌∷◌, ◌++◌, Option, None, Result, Ok, Err}
 use Rattle.std.specs.List.{FoldsTo}
-use Rattle.line_config.specs.Played.{Plan}
+use Rattle.line_config.specs.Played.{Plan, Played, played}
 use Rattle.line_config.specs.Scripts.{Script, Ends, Asks, World, then}
 use Rattle.line_config.specs.declared.errors.ReadlineError.{ReadlineError}
 use Rattle.line_config.specs.declared.errors.ReadlineError.TheVariants.{Memory}
@@ -16,7 +16,9 @@ use Rattle.line_editor.specs.Accepting.{submitted}
 use Rattle.line_editor.specs.Asks.{shown_in, ask_effect}
 use Rattle.line_editor.specs.Calls.{Canvas, Ruler, MadeIn}
 use Rattle.line_editor.specs.Commands.{Means, means_of, effect, ring_after_command, LeavesRing, outcome}
-use Rattle.line_editor.specs.Lines.{line_phrase, line_begun, reset_by}
+use Rattle.line_editor.specs.Courses.{Turn, Open, last_turn}
+use Rattle.line_editor.specs.Lines.{Told, line_phrase, line_begun, reset_by}
+use Rattle.line_editor.specs.Sights.{sight_of, info_after}
 use Rattle.line_editor.specs.Steps.{asked, Surface, Stops}
 use Rattle.line_editor.specs.Values.{Value, Setting, EditStep, Effect, Transition, unchanged, taking}
 use Rattle.line_editor.specs.declared.commands.Status.{Status}
@@ -52,11 +54,15 @@ abbrev pub keyed : {X : Type 0} → Steps X → LineScript X
 keyed (Ends x) = Ends x
 keyed (Asks ask later) = Asks (Keys ask) (λ x. keyed (later x))
 
+abbrev pub phrase_script : ℕ → Custom → Beginning → LineScript Cmd
+phrase_script n custom at = keyed (steps (line_phrase custom at.input at.shown) n)
+
+abbrev pub obeying : Cmd → LineScript Status
+obeying cmd = Asks (Obeys cmd) (λ status. Ends status)
+
 -- a phrase, and the command that it gives
 unfoldable pub turn_script : ℕ → Custom → LineScript Status
-turn_script n custom =
-    Asks Begins (λ at. then (keyed (steps (line_phrase custom at.input at.shown) n))
-    (λ cmd. Asks (Obeys cmd) (λ status. Ends status)))
+turn_script n custom = Asks Begins (λ at. then (phrase_script n custom at) obeying)
 
 -- an accepted line is closed, and its text is the answer
 abbrev pub turned_on : LineScript (List ℕ) → Status → LineScript (List ℕ)
@@ -84,6 +90,9 @@ abbrev pub kept : Value → Input → Ring → Coming → Kept
 kept value input ring coming =
     record { value = value; input = input; ring = ring; coming = coming }
 
+abbrev pub beginning : Kept → Beginning
+beginning k = record { input = k.input; shown = shown_in k.value }
+
 module _ (s : Setting) (indent : ℕ) where
   -- most commands end a run of kills
   abbrev pub means_at : Kept → Cmd → Means
@@ -99,7 +108,7 @@ module _ (s : Setting) (indent : ℕ) where
 
   -- its answer, or why it is refused: by the input, or by a command that ends the line
   abbrev pub answer_at : Kept → (ask : LineAsk) → Result (LineAnswer ask) ReadlineError
-  answer_at k Begins = Ok (record { input = k.input; shown = shown_in k.value })
+  answer_at k Begins = Ok (beginning k)
   answer_at k (Keys Needs) = Ok tt
   answer_at k (Keys (Shows ask)) = Ok (shown_in (ask_effect ask s k.value).value)
   answer_at k (Keys (Reads item)) = item_at item k.coming
@@ -126,6 +135,36 @@ module _ (s : Setting) (indent : ℕ) where
 
   abbrev pub line_plan : Plan LineAsk LineAnswer Kept ReadlineError
   line_plan = record { answer = answer_at; left = left_at }
+
+  -- ---- what a script comes to, where no fault comes
+
+  abbrev pub played_from : {X : Type 0} → LineScript X → Kept → Played LineAsk Kept ReadlineError X
+  played_from script k = played line_plan script k
+
+  -- what it makes of the value
+  abbrev pub made_from : {X : Type 0} → LineScript X → Kept → Effect
+  made_from script k = let p = played_from script k in
+      record { value = p.rest.value; steps = steps_along k p.asks }
+
+  -- the turns of what is asked, each up to where the next one begins: of the first these steps
+  -- have been made, and this information stood before them
+  abbrev pub turns_along : Result (List ℕ) ReadlineError → Kept → List EditStep
+      → Option (List ℕ) → List LineAsk → List Turn
+  turns_along outcome k steps info [] =
+      last_turn outcome steps (sight_of s k.value (info_after steps info)) ∷ []
+  turns_along outcome k steps info (Begins ∷ asks) = let stands = info_after steps info in
+      Open steps (sight_of s k.value stands) ∷ turns_along outcome k [] stands asks
+  turns_along outcome k steps info (ask ∷ asks) =
+      turns_along outcome (left_at k ask) (steps ++ (effect_at k ask).steps) info asks
+
+  -- and what a line's script comes to
+  abbrev pub reported_from : LineScript (List ℕ) → Kept → Told
+  reported_from script k = let p = played_from script k in record {
+    turns = turns_along p.answer k [] None p.asks;
+    outcome = p.answer;
+    ring = p.rest.ring;
+    rest = p.rest.coming;
+  }
 
 -- ---- and where a fault stops it
 

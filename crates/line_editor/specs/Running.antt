@@ -3,7 +3,7 @@ use Rattle.std.specs.Prelude.{◌≡◌, ⊤, ℕ, ◌<◌, ◌≤◌, Bool, Lis
 use Rattle.line_buffer.specs.Cells.{origin}
 use Rattle.line_buffer.specs.Line.{Line}
 use Rattle.line_buffer.specs.declared.layout.Layout.{Layout}
-use Rattle.line_config.specs.Played.{Played, played}
+use Rattle.line_config.specs.Played.{Played}
 use Rattle.line_config.specs.Scripts.{Goes}
 use Rattle.line_config.specs.declared.config.Config.{Config}
 use Rattle.line_config.specs.declared.errors.ReadlineError.{ReadlineError}
@@ -20,8 +20,8 @@ use Rattle.line_keys.specs.declared.command.CmdKind.{CmdKind}
 use Rattle.line_record.specs.Ring.{Ring}
 use Rattle.line_editor.specs.Calls.{Call, Canvas, Ruler}
 use Rattle.line_editor.specs.Courses.{Turn, steps_in}
-use Rattle.line_editor.specs.LineScripts.{Kept, LineAsk, Stage, kept, line_plan, line_script, line_world, stage, steps_along}
-use Rattle.line_editor.specs.Lines.{Told, line_of}
+use Rattle.line_editor.specs.LineScripts.{Kept, LineAsk, Stage, kept, line_script, line_world, played_from, stage, reported_from}
+use Rattle.line_editor.specs.Lines.{Told}
 use Rattle.line_editor.specs.Redraws.{fresh}
 use Rattle.line_editor.specs.Steps.{asked, surface}
 use Rattle.line_editor.specs.Turning.{cause_of}
@@ -44,15 +44,6 @@ setting_by r prompt helping entries = record {
   entries = entries;
 }
 
--- the line that is meant: from an empty one at the history's end, by what comes
-abbrev pub line_meant : ℕ → Setting → Custom → Config → Ring → Coming → Told
-line_meant n s custom config ring c =
-    line_of n s custom config.indent_size (new_input config.edit_mode) ring c
-
--- the calls of its turns, on a display where nothing is drawn
-abbrev pub line_calls : Ruler → List Turn → List Call
-line_calls r turns = (asked r (fresh r.mode) (flat_map steps_in turns)).calls
-
 -- what goes on as a line begins: nothing is drawn, and nothing typed
 abbrev pub kept_first : Setting → Config → Ring → Coming → Kept
 kept_first s config ring coming =
@@ -66,17 +57,16 @@ stage_first out r s config ring coming =
 abbrev pub line_played : ℕ → Setting → Custom → Config → Ring → Coming
     → Played LineAsk Kept ReadlineError (List ℕ)
 line_played n s custom config ring c =
-    played (line_plan s config.indent_size) (line_script n custom) (kept_first s config ring c)
+    played_from s config.indent_size (line_script n custom) (kept_first s config ring c)
 
--- it comes to the line that is meant
-abbrev pub ScriptsTell : Type 0
-ScriptsTell =
-    (n : ℕ) (s : Setting) (custom : Custom) (config : Config) (ring : Ring) (coming : Coming)
-    → let p = line_played n s custom config ring coming in
-    let line = line_meant n s custom config ring coming in
-    let steps = steps_along s config.indent_size (kept_first s config ring coming) p.asks in
-    (p.answer ≡ line.outcome) × (steps ≡ flat_map steps_in line.turns)
-    × (p.rest.value ≡ line.value) × (p.rest.ring ≡ line.ring) × (p.rest.coming ≡ line.rest)
+-- the line that is meant: from an empty one at the history's end, by what comes
+abbrev pub line_meant : ℕ → Setting → Custom → Config → Ring → Coming → Told
+line_meant n s custom config ring c =
+    reported_from s config.indent_size (line_script n custom) (kept_first s config ring c)
+
+-- the calls of its turns, on a display where nothing is drawn
+abbrev pub line_calls : Ruler → List Turn → List Call
+line_calls r turns = (asked r (fresh r.mode) (flat_map steps_in turns)).calls
 
 -- a helper, if there is one, by what it gives
 abbrev pub helping_by : {H : Type 0} → (H → Answers (Reply (Option Hinted)))

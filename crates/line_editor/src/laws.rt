@@ -2,7 +2,6 @@
 
 ghost use Rattle.line_editor.specs.Leads.{CommandsLead, SubmittingLeads, AsksLead, EachTurnLeads, LinesLead};
 ghost use Rattle.line_editor.specs.Returns.{ComesBack};
-ghost use Rattle.line_editor.specs.Running.{ScriptsTell};
 ghost use Rattle.line_editor.specs.UndoAll.{UndoReaches, UndoesAll};
 
 /// What a command wants to be seen leads from a display that shows the value before to one that
@@ -32,12 +31,6 @@ pub fn turn_leads()
 /// ends the session, is the last.
 pub fn lines_lead()
     ensures { LinesLead }
-{}
-
-/// Played where no fault comes, a line's script comes to the line that is meant: its answer, its
-/// steps in order, its value, the ring and what is left to come.
-pub fn scripts_tell()
-    ensures { ScriptsTell }
 {}
 
 /// Where the history's end is left by a step back or to the first entry, and later its end is come
