@@ -22,7 +22,7 @@ use Rattle.keyline.proofs.ShowCourse.{flat_both, drawings_show}
 
 -- a line that is accepted, and the lines after it
 course_both : (own : List ℕ) (x : Sight) (ts us : List Turn) (text : List ℕ) → TurnsLead own x ts → EndsLine (Ok text) ts → TurnsLead own no_sight us → TurnsLead own x (ts ++ us)
-course_both own x [] us text h end k = cc
+course_both own x [] us text h end k = absurd end
 course_both own x (Open rs y ∷ rest) us text h end k = (h.0, h.1, course_both own y rest us text h.2 end k)
 course_both own x (Accept rs y ∷ rest) us text h end k = (h.0, h.1, subst (λ ts. TurnsLead own no_sight (ts ++ us)) (sym end.1) k)
 course_both own x (Last rs b ∷ rest) us text h end k = elim end.0 [ ]
@@ -41,7 +41,7 @@ module _ (s : Screen) where
 
   accepted_parts : (l : Layout) (ts us : List Turn) (text : List ℕ) → EndsLine (Ok text) ts
       → all_of (parts_of s l (ts ++ us)) ≡ (bytes_for s l (flat_map steps_in ts) ++ row_break) ++ all_of (parts_of s (fresh s.mode) us)
-  accepted_parts l [] us text end = cc
+  accepted_parts l [] us text end = absurd end
   accepted_parts l (Open rs y ∷ rest) us text end =
       let m = (drawn_by s l rs).layout in
       let more = flat_map steps_in rest in
@@ -55,7 +55,7 @@ module _ (s : Screen) where
   accepted_parts l (Last rs b ∷ rest) us text end = elim end.0 [ ]
 
   last_parts : (l : Layout) (ts : List Turn) (e : ReadlineError) → EndsLine (Err e) ts → all_of (parts_of s l ts) ≡ bytes_for s l (flat_map steps_in ts) ++ break_if (breaks (Err e))
-  last_parts l [] e end = ap (λ (o : Result (List ℕ) ReadlineError). break_if (breaks o)) (sym end)
+  last_parts l [] e end = absurd end
   last_parts l (Open rs y ∷ rest) e end =
       let m = (drawn_by s l rs).layout in
       let more = flat_map steps_in rest in

@@ -1,7 +1,7 @@
 -- A line as a list of turns, and a session as the turns of its lines.
 use Rattle.std.specs.Prelude.{◌≡◌, ⊤, ℕ, Bool, true, false, List, [], ◌∷◌, Result, Ok, Err, IsOk, IsErrAnd}
 use Rattle.line_config.specs.declared.errors.ReadlineError.{ReadlineError}
-use Rattle.line_config.specs.declared.errors.ReadlineError.TheVariants.{Eof, Interrupted, Memory}
+use Rattle.line_config.specs.declared.errors.ReadlineError.TheVariants.{Eof, Interrupted}
 use Rattle.line_editor.specs.Sights.{Sight, no_sight, ended_sight, Turns, FitsAll}
 use Rattle.line_editor.specs.Values.{EditStep}
 
@@ -39,10 +39,9 @@ TurnsLead own x (Accept steps y ∷ rest) =
     Turns own x steps y × (y.ended ≡ true) × TurnsLead own no_sight rest
 TurnsLead own x (Last steps breaks ∷ rest) = FitsAll own x steps
 
--- the turn that accepts a line, or in which its session ends, is the line's last; only where the
--- fuel was too small there is none
+-- the turn that accepts a line, or in which its session ends, is the line's last
 abbrev pub EndsLine : Result (List ℕ) ReadlineError → List Turn → Type 0
-EndsLine outcome [] = outcome ≡ Err Memory
+EndsLine outcome [] = ⊥
 EndsLine outcome (Open steps value ∷ rest) = EndsLine outcome rest
 EndsLine outcome (Accept steps value ∷ rest) = IsOk outcome × (rest ≡ [])
 EndsLine outcome (Last steps breaks ∷ rest) =
