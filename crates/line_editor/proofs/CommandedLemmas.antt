@@ -102,11 +102,11 @@ module _ {Out H Hi K T : Type 0} {renderer : renderers.Renderer.Ghosts Out} {com
 
         commanded : (result : Result Status ReadlineError) → Executes means_here cmd m t ring' result
             → Goes (world_of indent s) (obeying cmd) (stage_of m i1 r c1) result (stage_of t i1 ring' c1)
-        commanded result (inl done) = ended result (
-          sym (done.outcome_is ∙ ap (λ a. outcome means_here cmd a (value_of m)) (setting_stays s m stays)),
-          ap (λ v. kept v i1 ring' c1) (edit_value s m t stays (effect means_here cmd) (tt {0}) done.does)
-              ∙ ap (λ k. kept (effect means_here cmd (setting_of s) (value_of m)).value i1 k c1) done.ring_is,
-          edit_drawn s m t stays (effect means_here cmd) (tt {0}) done.does,
+        commanded result (inl (does, outcome_is, ring_is)) = ended result (
+          sym (outcome_is ∙ ap (λ a. outcome means_here cmd a (value_of m)) (setting_stays s m stays)),
+          ap (λ v. kept v i1 ring' c1) (edit_value s m t stays (effect means_here cmd) (tt {0}) does)
+              ∙ ap (λ k. kept (effect means_here cmd (setting_of s) (value_of m)).value i1 k c1) ring_is,
+          edit_drawn s m t stays (effect means_here cmd) (tt {0}) does,
         )
           where
             ended : (result : Result Status ReadlineError) → Answered renderer.canvas (renderer.canvas.ruler s.out) (setting_of s) indent (stage_of m i1 r c1) (Obeys cmd) result (stage_of t i1 ring' c1)
@@ -128,7 +128,7 @@ module _ {Out H Hi K T : Type 0} {renderer : renderers.Renderer.Ghosts Out} {com
       turn_stays q h = (phrased q h).1
 
   executes_stay : (means : Means) (cmd : Cmd) (m t : State Out H Hi K T renderer completer candidate hinter hint highlighter validator history) (ring' : Ring) (result : Result Status ReadlineError) → Executes means cmd m t ring' result → Stays m t
-  executes_stay means cmd m t ring' result (inl done) = done.does.stays
+  executes_stay means cmd m t ring' result (inl (does, outcome_is, ring_is)) = does.stays
   executes_stay means cmd m t ring' result (inr (e, is, refused, ring)) = refused.stays
 
   -- ---- turns
@@ -149,8 +149,8 @@ module _ {Out H Hi K T : Type 0} {renderer : renderers.Renderer.Ghosts Out} {com
 
   executes_cause : (custom : Custom) (m t : State Out H Hi K T renderer completer candidate hinter hint highlighter validator history) (f : KeyFeed) (means : Means) (cmd : Cmd) (ring' : Ring) (result : Result Status ReadlineError)
       → Executes means cmd m t ring' result → IfErr result (λ e. Cause custom t f e)
-  executes_cause custom m t f means cmd ring' result (inl k) =
-      subst (λ x. IfErr x (λ e. Cause custom t f e)) (sym k.outcome_is) (end_cause custom t f means (setting_of m) (value_of m) cmd)
+  executes_cause custom m t f means cmd ring' result (inl (does, outcome_is, ring_is)) =
+      subst (λ x. IfErr x (λ e. Cause custom t f e)) (sym outcome_is) (end_cause custom t f means (setting_of m) (value_of m) cmd)
   executes_cause custom m t f means cmd ring' result (inr (e, is, k, left)) =
       subst (λ x. IfErr x (λ e. Cause custom t f e)) (sym is) (edit_cause custom t f e k.reason)
 

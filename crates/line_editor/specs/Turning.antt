@@ -55,21 +55,16 @@ module _ {Out H Hi K T : Type 0} {renderer : renderers.Ghosts Out}
     {hinter : hinters.Ghosts H T} {hint : hints.Ghosts T}
     {highlighter : highlighters.Ghosts H} {validator : validators.Ghosts H}
     {history : histories.Ghosts Hi} where
-  -- the command was done whole, and ends as it says
-  pub record Done (m : Means) (cmd : Cmd)
-      (s t : State Out H Hi K T renderer completer candidate hinter hint highlighter validator
-      history) (ring : Ring) (result : Result Status ReadlineError) : Type 0 where
-    pub does : Does {A = Unit {0}} (effect m cmd) s t (Ok (tt {0}))
-    pub outcome_is : result ≡ outcome m cmd (setting_of s) (value_of s)
-    pub ring_is : ring ≡ ring_after_command cmd (value_of s) m.ring
-
-  -- done whole, or cut by a fault
+  -- the command was done whole and ends as it says, or a fault stopped it
   abbrev pub Executes : Means → Cmd
       → State Out H Hi K T renderer completer candidate hinter hint highlighter validator history
       → State Out H Hi K T renderer completer candidate hinter hint highlighter validator history
       → Ring → Result Status ReadlineError → Type 0
   Executes m cmd s t ring result =
-      Done m cmd s t ring result ⊎ ((e : ReadlineError) × (result ≡ Err e)
+      (Does {A = Unit {0}} (effect m cmd) s t (Ok (tt {0}))
+      × (result ≡ outcome m cmd (setting_of s) (value_of s))
+      × (ring ≡ ring_after_command cmd (value_of s) m.ring))
+      ⊎ ((e : ReadlineError) × (result ≡ Err e)
       × Does {A = Unit {0}} (effect m cmd) s t (Err e) × LeavesRing cmd (value_of s) m.ring ring e)
 
   abbrev pub Cause : Custom
