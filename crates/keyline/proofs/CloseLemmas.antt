@@ -7,9 +7,8 @@ use Rattle.line_editor.specs.Courses.{breaks_after}
 use Rattle.line_help.specs.History.{Filed}
 use Rattle.line_keys.specs.Coming.{Coming, made_of}
 use Rattle.line_screen.specs.Drawing.{row_break, break_if}
-use Rattle.keyline.specs.Closing.{Closes, CloseReason}
-use Rattle.keyline.specs.Deeds.{Writes}
-use Rattle.keyline.specs.Playing.{Work, IsStopped, work}
+use Rattle.keyline.specs.Playing.{Work, Closes, CloseReason, IsStopped, work}
+use Rattle.keyline.specs.SessionScripts.{Writes}
 use Rattle.keyline.specs.Sessions.{breaks, remembered, line_text}
 
 true_not_false : (b : Bool) → b ≡ true → b ≡ false → ⊥

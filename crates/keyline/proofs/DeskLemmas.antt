@@ -1,40 +1,37 @@
 -- A line at a desk: what `run` gives, and then the line's end.
-use Rattle.std.proofs.Common.{◌≡◌, ℕ, suc, ◌<◌, Bool, true, false, List, inl, inr, ◌⊎◌, refl, sym, ap, ◌∙◌, subst, IsTrue, Option, Result, Ok, Err, IfErr, OnOk, le_refl}
-use Rattle.std.specs.List.{FoldsTo}
+use Rattle.std.proofs.Common.{◌≡◌, ℕ, suc, ◌<◌, Bool, true, false, List, inl, inr, refl, sym, ap, ◌∙◌, subst, IsTrue, Option, Result, Ok, Err, IfErr, OnOk, le_refl}
 use Rattle.std.specs.Prelude.{⊤, string_bytes}
+use Rattle.line_config.specs.Scripts.{World, Goes, then, Ends as Taken}
 use Rattle.line_config.specs.declared.config.Config.{Config}
 use Rattle.line_config.specs.declared.errors.ReadlineError.{ReadlineError}
 use Rattle.line_config.specs.declared.errors.ReadlineError.TheVariants.{Reader, Display, Lines, HistoryText, Helper, Handler, Memory}
+use Rattle.line_config.proofs.ScriptLaws.{then_cut, then_goes}
 use Rattle.line_help.specs.History.{Filed}
 use Rattle.line_keys.specs.Answers.{Custom}
 use Rattle.line_keys.specs.Coming.{Coming, made_of}
 use Rattle.line_keys.specs.Feeds.{KeyFeed}
 use Rattle.line_record.specs.Ring.{Ring}
 use Rattle.line_editor.specs.Courses.{breaks_after}
-use Rattle.line_editor.specs.Calls.{MadeIn}
-use Rattle.line_editor.specs.LineScripts.{Kept, kept, line_script, stage}
-use Rattle.line_editor.specs.Redraws.{fresh}
-use Rattle.line_editor.specs.Running.{Helping, Runs, kept_first, line_played, outcome_of, setting_by, stage_first}
+use Rattle.line_editor.specs.LineScripts.{Kept, Stage, kept, line_script, stage}
+use Rattle.line_editor.specs.Running.{Helping, Runs, outcome_of, setting_by, stage_first}
 use Rattle.line_editor.specs.States.{reason_of}
-use Rattle.line_editor.specs.Steps.{asked, surface}
+use Rattle.line_editor.specs.Steps.{surface}
 use Rattle.line_editor.specs.Turning.{cause_of}
-use Rattle.line_editor.specs.Values.{EditStep, Setting}
+use Rattle.line_editor.specs.Values.{Setting}
 use Rattle.line_editor.specs.declared.ran.Ran.{Ran}
 use Rattle.line_screen.specs.Calls.{canvas_of, screen_of, sink_of, ruler_of}
 use Rattle.line_screen.specs.Reader.{items_of}
 use Rattle.line_screen.specs.declared.reading.reader.KeyReader.{KeyReader}
 use Rattle.line_screen.specs.declared.renderer.ScreenRenderer.{ScreenRenderer}
-use Rattle.line_editor.proofs.ToldLemmas.{CutLine, WholeLine, line_comes, line_went}
 use Rattle.line_screen.proofs.CallLemmas.{goes_stay}
 use Rattle.line_screen.proofs.WaitingLemmas.{reads_find_nothing_waiting}
-use Rattle.keyline.specs.Closing.{Closes, CloseReason}
-use Rattle.keyline.specs.Deeds.{asked_in, close_deeds, in_order, line_deeds}
-use Rattle.keyline.specs.Desks.{LineGoes, TakesLine, DeskReason, feed_of, session_state_of, work_of}
+use Rattle.keyline.specs.Desks.{TakesLine, DeskReason, desk_feed, session_state_of, work_of}
 use Rattle.keyline.specs.Known.{Known, HasPassedOn}
-use Rattle.keyline.specs.Playing.{Work, Comes, SessionReason, session_world, work}
-use Rattle.keyline.specs.Sessions.{Given, given_by, line_in, history_after}
+use Rattle.keyline.specs.Playing.{Work, Closes, CloseReason, ComesTo, SessionReason, session_world, work}
+use Rattle.keyline.specs.SessionScripts.{SessionEvent, SessionScript, close_script, one_line}
+use Rattle.keyline.specs.Sessions.{Given, SessionState, given_of, state_after}
 use Rattle.keyline.specs.declared.desk.Desk.{Desk}
-use Rattle.keyline.proofs.DeedLemmas.{GoesIn, answer_is, close_leaves, done_asks, goes_both, stopped_asks, stopped_so}
+use Rattle.keyline.proofs.EventLemmas.{Went, close_leaves, went}
 
 -- ---- faults
 
@@ -73,6 +70,9 @@ ok_of_cut (Err d) e P is = tt
 
 -- ---- a line at a desk
 
+abbrev answered : {X : Type 0} → X → Result X ReadlineError
+answered x = Ok x
+
 abbrev desk_of : {S H D L : Type 0} → KeyReader S → ScreenRenderer D → Option H → Filed → Ring → L → Desk S H D L
 desk_of reader out helper history ring lines =
     record { reader = reader; out = out; helper = helper; history = history; ring = ring; lines = lines }
@@ -89,32 +89,25 @@ module _ {S H D L K T : Type 0} (k : Known S D L) (helps : Option H → Helping)
   abbrev come : Coming
   come = (items_of k.feed old.reader).coming
 
-  -- the line that was read whole, or that a fault stopped
-  abbrev WentWhole : ℕ → Type 0
-  WentWhole n = WholeLine (canvas_of k.shown k.waits k.show_failed) (ruler_of (screen_of old.out)) setting n custom config old.out ran.out old.ring ring come (items_of k.feed reader).coming (outcome_of ran)
+  abbrev left : Coming
+  left = (items_of k.feed reader).coming
 
-  abbrev WentCut : ℕ → Type 0
-  WentCut n = CutLine (canvas_of k.shown k.waits k.show_failed) (ruler_of (screen_of old.out)) setting n custom config old.out ran.out old.ring ring come (items_of k.feed reader).coming (outcome_of ran)
+  abbrev first : Stage (ScreenRenderer D)
+  first = stage_first old.out (ruler_of (screen_of old.out)) setting config old.ring come
 
-  runs_went : RunsAt → IsTrue (items_of k.feed reader).told → (n : ℕ) → (feed_of k old).bound < n → WentWhole n ⊎ WentCut n
-  runs_went runs t n b =
-      line_went (canvas_of k.shown k.waits k.show_failed) (ruler_of (screen_of old.out)) setting n custom config old.out ran.out old.ring ring come (items_of k.feed reader).coming (outcome_of ran)
-      runs.value runs.input runs.layout (runs.goes t n b)
+  abbrev last : RunsAt → Stage (ScreenRenderer D)
+  last runs = stage (surface ran.out runs.layout) (kept runs.value runs.input ring left)
 
   screen_stays : RunsAt → IsTrue (items_of k.feed reader).told → screen_of ran.out ≡ screen_of old.out
   screen_stays runs t =
-      let n = suc (feed_of k old).bound in
-      let a = setting in
-      goes_stay k.shown k.waits k.show_failed (ruler_of (screen_of old.out)) a config.indent_size (line_script n custom) (stage_first old.out (ruler_of (screen_of old.out)) a config old.ring come)
-      (stage (surface ran.out runs.layout) (kept runs.value runs.input ring (items_of k.feed reader).coming)) (outcome_of ran) (runs.goes t n (le_refl _))
+      let n = suc (desk_feed k old).bound in
+      goes_stay k.shown k.waits k.show_failed (ruler_of (screen_of old.out)) setting config.indent_size (line_script n custom) first (last runs) (outcome_of ran) (runs.goes t n (le_refl _))
 
   -- nothing waits after the line where nothing waited before it
   line_passes : RunsAt → IsTrue (items_of k.feed reader).told → HasPassedOn k (sink_of old.out) → HasPassedOn k (sink_of ran.out)
   line_passes runs t none =
-      let n = suc (feed_of k old).bound in
-      let r = ruler_of (screen_of old.out) in
-      (reads_find_nothing_waiting k.shown k.waits k.show_failed n custom r setting config.indent_size (stage_first old.out r setting config old.ring come)
-      (stage (surface ran.out runs.layout) (kept runs.value runs.input ring (items_of k.feed reader).coming)) (outcome_of ran) none (runs.goes t n (le_refl _))).1
+      let n = suc (desk_feed k old).bound in
+      (reads_find_nothing_waiting k.shown k.waits k.show_failed n custom (ruler_of (screen_of old.out)) setting config.indent_size first (last runs) (outcome_of ran) none (runs.goes t n (le_refl _))).1
 
   module _ (out : ScreenRenderer D) (history : Filed) (lines : L) (result : Result (List ℕ) ReadlineError) where
     abbrev Ends : Result (List ℕ) ReadlineError → Type 0
@@ -125,77 +118,65 @@ module _ {S H D L K T : Type 0} (k : Known S D L) (helps : Option H → Helping)
     new = desk_of reader out ran.helper history ring lines
 
     abbrev given : Given
-    given = given_by config custom prompt (screen_of old.out) (helps old.helper)
+    given = given_of config custom prompt (screen_of old.out) (helps old.helper)
 
     abbrev given' : Given
-    given' = given_by config custom prompt (screen_of out) (helps ran.helper)
-
-    abbrev left : Coming
-    left = (items_of k.feed reader).coming
+    given' = given_of config custom prompt (screen_of out) (helps ran.helper)
 
     abbrev at_end : Work D L
     at_end = work (sink_of ran.out) old.lines old.history left
 
-    abbrev LineGoesBy : ℕ → Type 0
-    LineGoesBy n = let x = session_state_of k old in LineGoes k given (line_in n given x) (line_deeds n given x) old new result
+    abbrev state : SessionState
+    state = session_state_of k old
 
-    -- what was asked of a line that was read whole, and then its end
-    after_whole : (n : ℕ) → WentWhole n → Ends (line_in n given (session_state_of k old)).outcome → LineGoesBy n
-    after_whole n w closes = by (closes.goes left)
+    abbrev world : World SessionEvent (λ event. ⊤) (Work D L) ReadlineError
+    world = session_world k.shown k.written_in config.auto_add_history
+
+    -- what comes after what was asked of the line
+    abbrev next : (Result (List ℕ) ReadlineError × Kept) → SessionScript (Result (List ℕ) ReadlineError × SessionState)
+    next line = then (close_script line.0) (λ outcome. Taken (outcome, state_after config.auto_add_history line.0 line.1.ring line.1.coming state))
+
+    abbrev Lined : ℕ → Type 0
+    Lined n = ComesTo k.shown k.written_in config.auto_add_history (one_line n given state) (work_of k old) (result, session_state_of k new) (work_of k new) result
+
+    lined : (n : ℕ) (runs : RunsAt) → Ends (outcome_of ran)
+        → Went k.shown k.written_in config.auto_add_history old.lines old.history k.waits k.show_failed (screen_of old.out) setting config.indent_size next (λ line. tt) (line_script n custom) first (last runs) (outcome_of ran)
+        → Lined n
+    lined n runs closes (inl goes) = by (closes.goes left)
       where
-        lined : (answer : Result (Result (List ℕ) ReadlineError) ReadlineError) → let t = line_in n given (session_state_of k old) in
-            GoesIn k.shown k.written_in config.auto_add_history (close_deeds t.outcome) t.outcome at_end answer (work_of k new)
-            → GoesIn k.shown k.written_in config.auto_add_history (line_deeds n given (session_state_of k old)) t.outcome (work_of k old) answer (work_of k new)
-        lined answer h =
-            let t = line_in n given (session_state_of k old) in
-            let r = ruler_of (screen_of old.out) in
-            let first = kept_first setting config old.ring come in
-            let p = line_played n setting custom config old.ring come in
-            let comes = (line_comes n setting custom config old.ring come).comes in
-            let asked = done_asks k.shown k.written_in config.auto_add_history old.lines old.history k.waits k.show_failed (screen_of old.out) setting config.indent_size (fresh r.mode) first p.asks old.out ran.out refl
-            (subst (λ (steps : List EditStep). FoldsTo (MadeIn (canvas_of k.shown k.waits k.show_failed)) old.out (asked r (fresh r.mode) steps).calls ran.out) (sym comes.steps_are) w.calls) in
-            let End : Coming → Type 0 = λ c. GoesIn k.shown k.written_in config.auto_add_history (asked_in n given (session_state_of k old)) tt (work_of k old) (Ok tt) (work (sink_of ran.out) old.lines old.history c) in
-            goes_both k.shown k.written_in config.auto_add_history (asked_in n given (session_state_of k old)) (close_deeds t.outcome) tt tt t.outcome answer (work_of k old) at_end (work_of k new)
-            (subst End (ap (λ (z : Kept). z.coming) comes.left_is ∙ sym w.rest_is) asked) h
+        o : Result (List ℕ) ReadlineError
+        o = outcome_of ran
 
-        by : let t = line_in n given (session_state_of k old) in Comes (session_world k.shown k.written_in config.auto_add_history) (in_order (close_deeds t.outcome) t.outcome) at_end result (work_of k new) → LineGoesBy n
+        by : ComesTo k.shown k.written_in config.auto_add_history (close_script o) at_end result (work_of k new) result → Lined n
         by (inl h) =
-            let t = line_in n given (session_state_of k old) in
-            let leaves = close_leaves k.shown k.written_in config.auto_add_history t.outcome result at_end (work_of k new) h in
-            inl (
-              lined (Ok result) h,
-              ap (λ r. record { ring = r; history = history; coming = left }) w.ring_is
-                  ∙ (ap (λ h. record { ring = t.ring; history = h; coming = left }) leaves.0
-                  ∙ ap (λ c'. record { ring = t.ring; history = history_after config.auto_add_history t.outcome old.history; coming = c' }) w.rest_is),
-            )
-        by (inr (why, h, is)) = inr (why, lined (Err why) h, is)
+            let after = state_after config.auto_add_history o ring left state in
+            let leaves = close_leaves k.shown k.written_in config.auto_add_history o result at_end (work_of k new) h in
+            let state_is : after ≡ session_state_of k new = ap (λ (h : Filed). record { ring = ring; history = h; coming = left }) (sym leaves.1) in
+            inl (goes (Ok (result, session_state_of k new)) (work_of k new)
+            (then_goes world (close_script o) (λ outcome. Taken (outcome, after)) result (Ok (result, session_state_of k new)) at_end (work_of k new) (work_of k new) h
+            (ap (λ (x : SessionState). answered (result, x)) (sym state_is), refl)))
+        by (inr (why, h, is)) =
+            inr (why, goes (Err why) (work_of k new) (then_cut world (close_script o) (λ outcome. Taken (outcome, state_after config.auto_add_history o ring left state)) why at_end (work_of k new) h), is)
+    lined n runs closes (inr (e, goes, is, cause)) =
+        let same = (subst Ends is closes).stays (unbroken true ⊤ e cause) in
+        let StopsAt : Work D L → Type 0 = λ after. Goes world (one_line n given state) (work_of k old) (Err e) after in
+        inr (e, subst StopsAt (ap (λ (f : Coming → Work D L). f left) (sym same.0)) goes, same.1)
 
-    -- a fault stopped what was asked of it, and nothing is done at its end
-    after_cut : (n : ℕ) (w : WentCut n) → Ends (Err w.stopped.fault) → LineGoesBy n
-    after_cut n w closes =
-        let x = session_state_of k old in
-        let t = line_in n given x in
-        let cut = w.stopped in
-        let same = closes.stays (unbroken true ⊤ cut.fault w.cause) in
-        let stopped = stopped_asks k.shown k.written_in config.auto_add_history old.lines old.history k.waits k.show_failed (screen_of old.out) setting config.indent_size
-        (line_played n setting custom config old.ring come) (close_deeds t.outcome) tt _ _ (outcome_of ran) refl cut in
-        let StopsAt : Work D L → Type 0 = λ after. GoesIn k.shown k.written_in config.auto_add_history (line_deeds n given x) t.outcome (work_of k old) (Err cut.fault) after in
-        inr (cut.fault, subst StopsAt (ap (λ (f : Coming → Work D L). f left) (sym same.0)) (stopped_so k.shown k.written_in config.auto_add_history (line_deeds n given x) tt t.outcome cut.fault (work_of k old) at_end stopped), same.1)
+    line_goes : RunsAt → Ends (outcome_of ran) → IsTrue (items_of k.feed reader).told → (n : ℕ) → (desk_feed k old).bound < n → Lined n
+    line_goes runs closes t n b = lined n runs closes
+        (went k.shown k.written_in config.auto_add_history old.lines old.history k.waits k.show_failed (screen_of old.out) setting config.indent_size next (λ line. tt)
+        (line_script n custom) first (last runs) (outcome_of ran) refl (runs.goes t n b))
 
-    lined : (n : ℕ) → WentWhole n ⊎ WentCut n → Ends (outcome_of ran) → LineGoesBy n
-    lined n (inl w) closes = after_whole n w (subst Ends w.outcome_is closes)
-    lined n (inr w) closes = after_cut n w (subst Ends w.stopped.result_is closes)
-
-    lined_falls : RunsAt → Comes (session_world k.shown k.written_in config.auto_add_history) (in_order (close_deeds (outcome_of ran)) (outcome_of ran)) at_end result (work_of k new)
-        → OnOk result ((feed_of k new).bound < (feed_of k old).bound)
+    lined_falls : RunsAt → ComesTo k.shown k.written_in config.auto_add_history (close_script (outcome_of ran)) at_end result (work_of k new) result
+        → OnOk result ((desk_feed k new).bound < (desk_feed k old).bound)
     lined_falls runs (inl h) =
-        ok_given ran.outcome string_bytes result _ runs.falls (answer_is k.shown k.written_in config.auto_add_history (close_deeds (outcome_of ran)) (outcome_of ran) result at_end (work_of k new) h)
+        ok_given ran.outcome string_bytes result _ runs.falls (close_leaves k.shown k.written_in config.auto_add_history (outcome_of ran) result at_end (work_of k new) h).0
     lined_falls runs (inr (why, h, is)) = ok_of_cut result why _ is
 
-    lined_given : RunsAt → screen_of out ≡ screen_of ran.out → IsTrue (feed_of k new).told → given' ≡ given
+    lined_given : RunsAt → screen_of out ≡ screen_of ran.out → IsTrue (desk_feed k new).told → given' ≡ given
     lined_given runs screen t =
-        ap (λ s. given_by config custom prompt s (helps ran.helper)) (screen ∙ screen_stays runs t)
-        ∙ ap (λ h. given_by config custom prompt (screen_of old.out) h) (runs.helper_stays t)
+        ap (λ s. given_of config custom prompt s (helps ran.helper)) (screen ∙ screen_stays runs t)
+        ∙ ap (λ h. given_of config custom prompt (screen_of old.out) h) (runs.helper_stays t)
 
     reason_of_close : RunsAt → (e : ReadlineError) → CloseReason (outcome_of ran) (k.show_failed (sink_of ran.out)) (k.show_failed (sink_of out)) (k.write_failed lines) e
         → DeskReason k given new e
@@ -214,7 +195,7 @@ module _ {S H D L K T : Type 0} (k : Known S D L) (helps : Option H → Helping)
     pub takes_line : RunsAt → Ends (outcome_of ran) → screen_of out ≡ screen_of ran.out → (HasPassedOn k (sink_of ran.out) → HasPassedOn k (sink_of out))
         → TakesLine k given given' old new result
     takes_line runs closes screen passes = record {
-      goes = λ t n b. lined n (runs_went runs t n b) closes;
+      goes = λ t n b. line_goes runs closes t n b;
       given = lined_given runs screen;
       custom = refl;
       told = runs.told;

@@ -1,9 +1,9 @@
 pub mod CloseLemmas
 pub mod CuttingLemmas
-pub mod DeedLaw
-pub mod DeedLemmas
 pub mod DeskLemmas
 pub mod EditLemmas
+pub mod EventLaw
+pub mod EventLemmas
 pub mod HeardBytes
 pub mod HeardLines
 pub mod LinesLemmas

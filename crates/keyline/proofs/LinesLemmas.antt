@@ -3,7 +3,7 @@ use Rattle.std.proofs.Common.{◌≡◌, ℕ, suc, ◌<◌, List, Result, Ok, Er
 use Rattle.line_config.specs.declared.errors.ReadlineError.{ReadlineError}
 use Rattle.line_screen.specs.Calls.{sink_of}
 use Rattle.line_screen.specs.declared.renderer.ScreenRenderer.{ScreenRenderer}
-use Rattle.keyline.specs.Desks.{TakesLine, TakesLines, feed_of, session_state_of}
+use Rattle.keyline.specs.Desks.{TakesLine, TakesLines, desk_feed, session_state_of}
 use Rattle.keyline.specs.Known.{Known, HasPassedOn}
 use Rattle.keyline.specs.Playing.{Work, Reads, work}
 use Rattle.keyline.specs.Sessions.{Given, LineGiven, each, for_line}
@@ -18,7 +18,7 @@ along same f = ap f same
 -- lines were taken, and this is handed in for the next one
 pub record Underway {S H D L : Type 0} (k : Known S D L) (g h : Given) (first now : Desk S H D L) : Type 0 where
   pub onward : Onward k g (each g) (each g) first now
-  pub given : IsTrue (feed_of k now).told → h ≡ g
+  pub given : IsTrue (desk_feed k now).told → h ≡ g
   pub custom : h.custom ≡ g.custom
 
 module _ {S H D L : Type 0} (k : Known S D L) where
@@ -41,7 +41,7 @@ module _ {S H D L : Type 0} (k : Known S D L) where
 -- the same where each line is handed its own
 pub record Asking {S H D L : Type 0} (k : Known S D L) (g h : Given) (at at' : ℕ → LineGiven) (first now : Desk S H D L) : Type 0 where
   pub onward : Onward k g at at' first now
-  pub given : IsTrue (feed_of k now).told → (line : LineGiven) → for_line h line ≡ for_line g line
+  pub given : IsTrue (desk_feed k now).told → (line : LineGiven) → for_line h line ≡ for_line g line
   pub custom : h.custom ≡ g.custom
 
 module _ {S H D L : Type 0} (k : Known S D L) where
@@ -61,16 +61,16 @@ module _ {S H D L : Type 0} (k : Known S D L) where
     onward = λ t n b. let so = before.onward t n b in went so.0 so.1 so.2;
   }
     where
-      went : (m : ℕ) → (feed_of k now).bound < m → {Q : Work D L → ReadlineError → Type 0}
+      went : (m : ℕ) → (desk_feed k now).bound < m → {Q : Work D L → ReadlineError → Type 0}
           → ((end : Work D L) (why : ReadlineError) → Onwards k m g at' now end why → Q end why)
-          → (m' : ℕ) × ((feed_of k now).bound < m')
+          → (m' : ℕ) × ((desk_feed k now).bound < m')
           × ((end : Work D L) (why : ReadlineError) → Onwards k m' g at' (redrawn now out) end why → Q end why)
       went m b so = (
         m,
         b,
         λ end why r.
             let P : D → Type 0 = λ display.
-            Reads k.shown k.written_in m g at' (session_state_of k now) (work display now.lines now.history (feed_of k now).coming) end why in
+            Reads k.shown k.written_in m g at' (session_state_of k now) (work display now.lines now.history (desk_feed k now).coming) end why in
             so end why (subst P same r),
       )
 
@@ -80,10 +80,10 @@ module _ {S H D L : Type 0} (k : Known S D L) where
     unfolding redrawn
     onward_here = let P : Desk S H D L → Type 0 = Onward k g at at' first in subst P (sym others) (onward_redrawn g at at' first now now1.out same before.onward)
 
-    told_here : IsTrue (feed_of k now1).told → IsTrue (feed_of k now).told
-    told_here t = let P : Desk S H D L → Type 0 = λ d. IsTrue (feed_of k d).told in subst P others t
+    told_here : IsTrue (desk_feed k now1).told → IsTrue (desk_feed k now).told
+    told_here t = let P : Desk S H D L → Type 0 = λ d. IsTrue (desk_feed k d).told in subst P others t
 
-    given_here : IsTrue (feed_of k now1).told → h1 ≡ for_line g (at' 0)
+    given_here : IsTrue (desk_feed k now1).told → h1 ≡ for_line g (at' 0)
     given_here t = asked ∙ before.given (told_here t) (at' 0)
 
     custom_here : h1.custom ≡ g.custom

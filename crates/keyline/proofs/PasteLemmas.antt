@@ -54,7 +54,7 @@ use Rattle.line_editor.proofs.ToldLemmas.{follows, joined, played_then}
 use Rattle.line_screen.specs.KeyGrammar.{coming_of}
 use Rattle.line_screen.specs.Pasting.{paste_start, with_newlines}
 use Rattle.line_screen.proofs.Pasting.{pasted_text_is_before_its_mark}
-use Rattle.keyline.specs.Edits.{nothing_bound}
+use Rattle.keyline.specs.Program.{nothing_bound}
 use Rattle.keyline.specs.Pasting.{sent_as_paste, IsPasteable, IsUnbound, IsEmptyLine, Accepts, PastesAreAccepted, PastedLinesAreAccepted}
 use Rattle.keyline.specs.Sessions.{coming_from, setting_in}
 

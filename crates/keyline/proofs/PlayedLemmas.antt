@@ -1,8 +1,9 @@
 -- A session by options, over all that is said of its keys.
-use Rattle.std.proofs.Common.{◌≡◌, ℕ, ◌+◌, ◌<◌, ◌^◌, Bool, false, IsTrue, List, [], ◌∷◌, ◌++◌, Option, inl, inr, refl, sym, ap, subst, ◌∙◌, arith}
+use Rattle.std.proofs.Common.{◌≡◌, ℕ, ◌+◌, ◌<◌, ◌^◌, Bool, false, IsTrue, List, [], ◌++◌, Option, inl, inr, refl, sym, ap, subst, ◌∙◌, arith}
 use Rattle.std.specs.Prelude.{IsErr, IsOk, OnOk, Result, Ok, Err, is_err, string_bytes, unwrap_or}
 use Rattle.line_config.specs.Feed.{AlwaysTold, Feed, fresh_feed}
 use Rattle.line_config.specs.Foretold.{left_of}
+use Rattle.line_config.specs.Scripts.{Ends, Asks}
 use Rattle.line_config.specs.Sending.{AppendsSome}
 use Rattle.line_config.specs.declared.device.Last.{Last}
 use Rattle.line_config.specs.declared.device.Last.TheVariants.{End}
@@ -13,20 +14,20 @@ use Rattle.line_help.specs.HistoryText.{text_to_save}
 use Rattle.line_keys.specs.Coming.{Coming}
 use Rattle.line_record.specs.Ring.{Ring, new_ring}
 use Rattle.line_screen.specs.Calls.{Screen}
-use Rattle.line_screen.specs.Reader.{coming_in, kept_of}
+use Rattle.line_screen.specs.Reader.{kept_of}
 use Rattle.line_screen.specs.Unread.{kept_count}
-use Rattle.keyline.specs.Desks.{feed_of, session_state_of, work_of}
+use Rattle.keyline.specs.Desks.{desk_feed, session_state_of, work_of}
 use Rattle.keyline.specs.Known.{Known}
-use Rattle.keyline.specs.Edits.{EditHelper, EditsByOptions, config_of, edit_helping, given_to, nothing_bound}
-use Rattle.keyline.specs.Played.{PlaysBytes, program_given, program_start}
-use Rattle.keyline.specs.Deeds.{SessionDeed, Draws, Helped, Hears, Keeps, Writes, session_deeds}
+use Rattle.keyline.specs.Program.{EditHelper, EditsByOptions, config_of, edit_helping, given_to, nothing_bound, PlaysBytes, program_given, program_start}
 use Rattle.keyline.specs.Playing.{IsDone, IsStopped, Reads, SessionReason, Work, work}
 use Rattle.keyline.specs.Plays.{loaded_from, loads}
-use Rattle.keyline.specs.SessionShows.{Displays}
-use Rattle.keyline.specs.Sessions.{Given, SessionState, given_by, coming_from, each, session_by}
+use Rattle.keyline.specs.SessionScripts.{SessionEvent, SessionScript, Draws, Helped, Hears, Keeps, Writes, session_script}
+use Rattle.keyline.specs.Shows.{Displays}
+use Rattle.keyline.specs.Sessions.{Given, SessionState, given_of, coming_from, each}
 use Rattle.keyline.specs.declared.options.Options.{Options}
 use Rattle.keyline.specs.declared.session.Ended.{Ended}
-use Rattle.keyline.proofs.DeedLemmas.{GoesIn}
+use Rattle.keyline.proofs.EventLemmas.{GoesIn}
+use Rattle.keyline.proofs.PlaysLemmas.{reason_at_end}
 
 below : (most kept bound n : ℕ) → kept ≡ 0 → bound ≡ most + kept → most < n → bound < n
 below most kept bound n none is low = omega arith
@@ -67,20 +68,20 @@ module _ {D L : Type 0} (shown : D → List ℕ) (written_in : L → List ℕ) w
   abbrev in_bytes : Work D L → Work (List ℕ) (List ℕ)
   in_bytes x = work (shown x.display) (written_in x.lines) x.history x.coming
 
-  abbrev DoneInBytes : Bool → Work D L → SessionDeed → Work D L → Type 0
-  DoneInBytes adds x deed y = IsDone (λ (d : List ℕ). d) (λ (l : List ℕ). l) adds (in_bytes x) deed (in_bytes y)
+  abbrev DoneInBytes : Bool → Work D L → SessionEvent → Work D L → Type 0
+  DoneInBytes adds x event y = IsDone (λ (d : List ℕ). d) (λ (l : List ℕ). l) adds (in_bytes x) event (in_bytes y)
 
-  done_in_bytes : (adds : Bool) (x : Work D L) (deed : SessionDeed) (y : Work D L) → IsDone shown written_in adds x deed y → DoneInBytes adds x deed y
+  done_in_bytes : (adds : Bool) (x : Work D L) (event : SessionEvent) (y : Work D L) → IsDone shown written_in adds x event y → DoneInBytes adds x event y
   done_in_bytes adds x (Draws bytes) y (took, same) = (took, ap in_bytes same)
   done_in_bytes adds x (Helped fails) y (answers, same) = (answers, ap in_bytes same)
   done_in_bytes adds x (Hears rest) y same = ap in_bytes same
   done_in_bytes adds x (Keeps line) y same = ap in_bytes same
   done_in_bytes adds x (Writes line) y (took, same) = (took, ap in_bytes same)
 
-  abbrev StoppedInBytes : Bool → Work D L → SessionDeed → ReadlineError → Work D L → Type 0
-  StoppedInBytes adds x deed why y = IsStopped (λ (d : List ℕ). d) (λ (l : List ℕ). l) adds (in_bytes x) deed why (in_bytes y)
+  abbrev StoppedInBytes : Bool → Work D L → SessionEvent → ReadlineError → Work D L → Type 0
+  StoppedInBytes adds x event why y = IsStopped (λ (d : List ℕ). d) (λ (l : List ℕ). l) adds (in_bytes x) event why (in_bytes y)
 
-  stopped_in_bytes : (adds : Bool) (x : Work D L) (deed : SessionDeed) (why : ReadlineError) (y : Work D L) → IsStopped shown written_in adds x deed why y → StoppedInBytes adds x deed why y
+  stopped_in_bytes : (adds : Bool) (x : Work D L) (event : SessionEvent) (why : ReadlineError) (y : Work D L) → IsStopped shown written_in adds x event why y → StoppedInBytes adds x event why y
   stopped_in_bytes adds x (Draws bytes) Display y (took, same) = (took, ap in_bytes same)
   stopped_in_bytes adds x (Draws bytes) Memory y same = ap in_bytes same
   stopped_in_bytes adds x (Helped fails) Helper y (h, same) = (h, ap in_bytes same)
@@ -91,11 +92,11 @@ module _ {D L : Type 0} (shown : D → List ℕ) (written_in : L → List ℕ) w
   stopped_in_bytes adds x (Writes line) Lines y (took, same) = (took, ap in_bytes same)
   stopped_in_bytes adds x _ _ y h = absurd h
 
-  goes_in_bytes : {X : Type 0} (adds : Bool) (deeds : List SessionDeed) (answer : X) (s t : Work D L) (r : Result X ReadlineError) → GoesIn shown written_in adds deeds answer s r t
-      → GoesIn (λ (d : List ℕ). d) (λ (l : List ℕ). l) adds deeds answer (in_bytes s) r (in_bytes t)
-  goes_in_bytes adds [] answer s t r (is, same) = (is, ap in_bytes same)
-  goes_in_bytes adds (deed ∷ deeds) answer s t r (inl (none, u, made, goes)) = inl (none, in_bytes u, done_in_bytes adds s deed u made, goes_in_bytes adds deeds answer u t r goes)
-  goes_in_bytes adds (deed ∷ deeds) answer s t r (inr (why, cut, is)) = inr (why, stopped_in_bytes adds s deed why t cut, is)
+  goes_in_bytes : {X : Type 0} (adds : Bool) (script : SessionScript X) (s t : Work D L) (r : Result X ReadlineError) → GoesIn shown written_in adds script s r t
+      → GoesIn (λ (d : List ℕ). d) (λ (l : List ℕ). l) adds script (in_bytes s) r (in_bytes t)
+  goes_in_bytes adds (Ends answer) s t r (is, same) = (is, ap in_bytes same)
+  goes_in_bytes adds (Asks event later) s t r (inl (none, u, made, goes)) = inl (none, in_bytes u, done_in_bytes adds s event u made, goes_in_bytes adds (later none) u t r goes)
+  goes_in_bytes adds (Asks event later) s t r (inr (why, cut, is)) = inr (why, stopped_in_bytes adds s event why t cut, is)
 
   as_bytes : (n : ℕ) (g : Given) (x : SessionState) (old new : Work D L) (why : ReadlineError) (drawn wrote : List ℕ)
       → shown old.display ≡ [] → drawn ≡ shown new.display → written_in old.lines ≡ [] → wrote ≡ written_in new.lines
@@ -108,9 +109,9 @@ module _ {D L : Type 0} (shown : D → List ℕ) (written_in : L → List ℕ) w
       (subst (λ c. R (shown old.display) (written_in old.lines) c wrote) (sym drawn_is)
       (subst (λ d. R (shown old.display) (written_in old.lines) (shown new.display) d) (sym wrote_is) (both reads))))
     where
-      goes : (result : Result ReadlineError ReadlineError) → GoesIn shown written_in g.config.auto_add_history (session_deeds n g (each g) x) (session_by n g (each g) x).ending old result new
-          → GoesIn (λ (d : List ℕ). d) (λ (l : List ℕ). l) g.config.auto_add_history (session_deeds n g (each g) x) (session_by n g (each g) x).ending (in_bytes old) result (in_bytes new)
-      goes result h = goes_in_bytes g.config.auto_add_history (session_deeds n g (each g) x) (session_by n g (each g) x).ending old new result h
+      goes : (result : Result ReadlineError ReadlineError) → GoesIn shown written_in g.config.auto_add_history (session_script n g (each g) x) old result new
+          → GoesIn (λ (d : List ℕ). d) (λ (l : List ℕ). l) g.config.auto_add_history (session_script n g (each g) x) (in_bytes old) result (in_bytes new)
+      goes result h = goes_in_bytes g.config.auto_add_history (session_script n g (each g) x) old new result h
 
       both : Reads shown written_in n g (each g) x old new why → Reads (λ (d : List ℕ). d) (λ (l : List ℕ). l) n g (each g) x (in_bytes old) (in_bytes new) why
       both (inl h) = inl (goes (Ok why) h)
@@ -128,51 +129,53 @@ module _ {F S D L T : Type 0} (text_of : F → Feed) (k : Known S D L) (held : T
   played options words old bytes last history source display lines text ended display' lines' edits always text_is coming_is last_is bound_is none bare blank drawn_is shows wrote_is writes agrees =
       let desk = edits.desk in
       let opens = edits.opens in
-      let plays = edits.plays in
+      let left_desk = edits.plays.last in
+      let end = edits.plays.finishes in
+      let why = edits.plays.why in
       let g = program_given options words in
       let start = program_start options old bytes last in
       let given_is : given_to options desk ≡ g =
-      ap (λ (s : Screen). given_by (config_of options) nothing_bound (string_bytes options.prompt) s (edit_helping desk.helper)) opens.screen
+      ap (λ (s : Screen). given_of (config_of options) nothing_bound (string_bytes options.prompt) s (edit_helping desk.helper)) opens.screen
       ∙ ap (λ (h : Option EditHelper). (record g { helping = edit_helping h })) opens.helper_is in
-      let coming : (feed_of k desk).coming ≡ coming_from options.mode bytes last =
+      let coming : (desk_feed k desk).coming ≡ coming_from options.mode bytes last =
       opens.coming ∙ (ap (λ bs. coming_from options.mode bs (k.feed source).last) coming_is ∙ ap (λ l. coming_from options.mode bytes l) last_is) in
       let loaded_is = loaded_from (config_of options) (fresh_feed old End) in
       let history_is : desk.history ≡ loaded_is = opens.loaded.history_is always ∙ ap (λ (f : Feed). loaded_from (config_of options) f) text_is in
-      let bound : (feed_of k desk).bound ≡ 2 ^ 63 + kept_count (kept_of desk.reader) =
+      let bound : (desk_feed k desk).bound ≡ 2 ^ 63 + kept_count (kept_of desk.reader) =
       ap (λ (s : S). (k.feed s).bound + kept_count (kept_of desk.reader)) opens.source_is ∙ ap (λ b. b + kept_count (kept_of desk.reader)) bound_is in
-      let left = coming_in k.feed plays.reader in
-      let end : Work D L = work ended.display ended.lines plays.kept left in
+      let left = (desk_feed k left_desk).coming in
       let start_is : session_state_of k desk ≡ start =
-      ap (λ (r : Ring). state_by r desk.history (feed_of k desk).coming) opens.ring
-      ∙ (ap (λ (h : Filed). state_by (new_ring 60) h (feed_of k desk).coming) history_is
+      ap (λ (r : Ring). state_by r desk.history (desk_feed k desk).coming) opens.ring
+      ∙ (ap (λ (h : Filed). state_by (new_ring 60) h (desk_feed k desk).coming) history_is
       ∙ ap (λ (c : Coming). state_by (new_ring 60) loaded_is c) coming) in
       record {
-        kept = plays.kept;
+        kept = left_desk.history;
         left = left;
-        why = plays.why;
-        saved = plays.saved;
+        why = why;
+        saved = end.saved;
         loaded = subst (λ (f : Feed). IsOk (loads (config_of options) f)) text_is (opens.loaded.whole always);
         goes = λ n low.
-            let went = plays.goes agrees n (below (2 ^ 63) (kept_count (kept_of desk.reader)) (feed_of k desk).bound n (ap kept_count opens.kept) bound low) in
+            let went = edits.plays.takes.goes (subst (λ (s : S). IsTrue (k.feed s).told) end.source_is agrees) n (below (2 ^ 63) (kept_count (kept_of desk.reader)) (desk_feed k desk).bound n (ap kept_count opens.kept) bound low) in
             let G : Given → SessionState → Type 0 = λ g x.
-            Reads k.shown k.written_in n g (each g) x (work_of k desk) end plays.why in
+            Reads k.shown k.written_in n g (each g) x (work_of k desk) (work_of k left_desk) why in
             let r = subst (λ (x : SessionState). G g x) start_is (subst (λ (g : Given). G g (session_state_of k desk)) given_is went) in
             let H : Filed → Coming → Type 0 = λ h c.
             Reads (λ (d : List ℕ). d) (λ (l : List ℕ). l) n g (each g) start (work [] [] h c)
-            (work (k.shown display') (k.written_in lines') plays.kept left) plays.why in
-            subst (λ (c : Coming). H loaded_is c) coming (subst (λ (h : Filed). H h (feed_of k desk).coming) history_is
-            (as_bytes k.shown k.written_in n g start (work_of k desk) end plays.why
+            (work (k.shown display') (k.written_in lines') left_desk.history left) why in
+            subst (λ (c : Coming). H loaded_is c) coming (subst (λ (h : Filed). H h (desk_feed k desk).coming) history_is
+            (as_bytes k.shown k.written_in n g start (work_of k desk) (work_of k left_desk) why
             (k.shown display') (k.written_in lines')
-            (ap k.shown opens.display_is ∙ none) drawn_is (ap k.written_in opens.lines_are ∙ bare) wrote_is r));
+            (ap k.shown opens.display_is ∙ none) (drawn_is ∙ ap k.shown end.display_is) (ap k.written_in opens.lines_are ∙ bare) (wrote_is ∙ ap k.written_in end.lines_are) r));
         shows =
             let P : Given → SessionState → Type 0 = λ g x. Displays g x in
             subst (λ (x : SessionState). P g x) start_is (subst (λ (g : Given). P g (session_state_of k desk)) given_is edits.shows);
-        done = λ s. (plays.saves.done s).1 ∙ ap (λ front. front ++ text_to_save plays.kept) blank;
+        done = λ s. (end.saves.done s).1 ∙ ap (λ front. front ++ text_to_save left_desk.history) blank;
         refused = λ s.
-            let r = plays.saves.refused s in
-            (r.1, subst (λ before. AppendsSome before (text_to_save plays.kept) (held ended.text)) blank r.2);
-        ending_is = plays.ending_is;
+            let r = end.saves.refused s in
+            (r.1, subst (λ before. AppendsSome before (text_to_save left_desk.history) (held ended.text)) blank r.2);
+        ending_is = end.ending_is;
         reason = reason_still g (k.feed ended.source).failed (k.show_failed ended.display) (k.show_failed display') (k.write_failed ended.lines) (k.write_failed lines')
-            plays.why shows writes
-            (subst (λ (g : Given). SessionReason g (k.feed ended.source).failed (k.show_failed ended.display) (k.write_failed ended.lines) plays.why) given_is plays.reason);
+            why shows writes
+            (subst (λ (g : Given). SessionReason g (k.feed ended.source).failed (k.show_failed ended.display) (k.write_failed ended.lines) why) given_is
+            (reason_at_end k held failed (given_to options desk) left_desk text why ended end edits.plays.takes.reason));
       }

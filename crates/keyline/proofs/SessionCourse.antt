@@ -13,9 +13,8 @@ use Rattle.line_editor.proofs.StopsLemmas.{asked_both}
 use Rattle.line_keys.specs.InputStates.{new_input}
 use Rattle.line_screen.specs.Calls.{Screen, bytes_of, ruler_of}
 use Rattle.line_screen.specs.Drawing.{row_break, break_if}
-use Rattle.keyline.specs.SessionShows.{parts_of, all_of, SessionsShow}
+use Rattle.keyline.specs.Shows.{parts_of, all_of, SessionsShow, drawn_by, bytes_for}
 use Rattle.keyline.specs.Sessions.{Given, SessionState, Report, setting_in, line_in, after_line, line_reported, session, session_by, turns_of, breaks, line_bytes, display_bytes}
-use Rattle.keyline.specs.Shows.{drawn_by, bytes_for}
 use Rattle.keyline.proofs.ShowCourse.{flat_both, drawings_show}
 
 -- ---- turns

@@ -10,7 +10,7 @@ use Rattle.line_editor.specs.Sights.{sight_as, ended_sight, no_sight}
 use Rattle.line_editor.specs.Values.{EditStep, empty_at}
 use Rattle.line_editor.specs.Values.EditStep.{Draws}
 use Rattle.line_screen.specs.Calls.{Screen}
-use Rattle.keyline.specs.SessionShows.{parts_of}
+use Rattle.keyline.specs.Shows.{parts_of}
 
 own : List ℕ
 own = codes "> "

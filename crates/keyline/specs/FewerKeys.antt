@@ -5,16 +5,11 @@ use Rattle.line_config.specs.declared.device.Last.TheVariants.{Failed}
 use Rattle.line_config.specs.declared.settings.EditMode.{EditMode}
 use Rattle.line_help.specs.History.{Filed}
 use Rattle.line_record.specs.Ring.{Ring}
-use Rattle.keyline.specs.Sessions.{Given, SessionState, coming_from, LineGiven, line_in, line_bytes, session_by, display_bytes, screens_for}
+use Rattle.keyline.specs.Sessions.{Given, LineGiven, line_in, line_bytes, session_by, display_bytes, screens_for, state_over}
 
 -- the one is a beginning of the other
 abbrev pub IsBeginning : {A : Type 0} → List A → List A → Type 0
 IsBeginning {A} xs ys = (later : List A) × (ys ≡ xs ++ later)
-
--- before a line: what comes is what these bytes are, with this after them
-abbrev pub state_over : Ring → Filed → EditMode → List ℕ → Last → SessionState
-state_over ring history mode bytes last =
-    record { ring = ring; history = history; coming = coming_from mode bytes last }
 
 -- of a source that fails after its bytes, against one that gives more of them and then does
 -- whatever it does: a line's display bytes

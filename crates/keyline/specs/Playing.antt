@@ -1,19 +1,21 @@
--- What a session makes of its devices and its history: all that the definition says, or a beginning
--- of it.
-use Rattle.std.specs.Prelude.{◌≡◌, ◌⊎◌, ⊤, ℕ, Bool, true, false, List, [], ◌∷◌, ◌++◌, Result, Ok, Err, IsTrue, IsFalse}
-use Rattle.line_config.specs.Scripts.{Script, World, Goes}
+-- What a session makes of its devices and history: all that its script says, or a beginning of it.
+use Rattle.std.specs.Prelude.{◌≡◌, ◌⊎◌, ⊤, ℕ, Bool, true, false, List, [], ◌∷◌, Result, Ok, Err, IsTrue, IsFalse, IfErr}
+use Rattle.std.specs.List.{flat_map}
+use Rattle.line_config.specs.Played.{Cut}
+use Rattle.line_config.specs.Scripts.{World, Goes}
 use Rattle.line_config.specs.declared.errors.ReadlineError.{ReadlineError}
 use Rattle.line_config.specs.declared.errors.ReadlineError.TheVariants.{Eof, Interrupted, NotUtf8, PasteOutOfPlace, Reader, Display, Lines, HistoryText, Helper, Handler, Memory}
 use Rattle.line_config.specs.Sending.{AppendsSome, Takes, TakesSome}
+use Rattle.line_editor.specs.Courses.{breaks_after}
 use Rattle.line_help.specs.History.{Filed, all_saved}
 use Rattle.line_help.specs.HistoryText.{text_to_save}
 use Rattle.line_keys.specs.Answers.{HandlerFails}
 use Rattle.line_keys.specs.Coming.{Coming, left_by}
-use Rattle.keyline.specs.Deeds.{SessionDeed, Draws, Helped, Hears, Keeps, Writes, bytes_drawn, left_of_deeds, lines_kept, lines_written, session_deeds, session_script}
-use Rattle.keyline.specs.Sessions.{Given, LineGiven, SessionState, Report, remembered, line_text, lines_text, display_bytes, screens_for, session_by}
+use Rattle.keyline.specs.SessionScripts.{SessionEvent, SessionScript, Draws, Helped, Hears, Keeps, Writes, bytes_drawn, close_script, left_to_come, lines_kept, lines_written, session_script, without_fault}
+use Rattle.keyline.specs.Sessions.{Given, LineGiven, SessionState, remembered, line_text, lines_text}
 
 -- why lines are read no further: what was given, or a device that has failed. Where a helper fails
--- the deeds say
+-- the events say
 abbrev pub SessionReason : Given → Bool → Bool → Bool → ReadlineError → Type 0
 SessionReason g source display lines Reader = IsTrue source
 SessionReason g source display lines Display = IsTrue display
@@ -34,10 +36,10 @@ work display lines history coming =
     record { display = display; lines = lines; history = history; coming = coming }
 
 module _ {D L : Type 0} (shown : D → List ℕ) (written_in : L → List ℕ) (adds : Bool) where
-  -- ---- what a deed makes, and where a fault stops it
+  -- ---- what an event makes, and where a fault stops it
 
-  -- a deed that is done
-  abbrev pub IsDone : Work D L → SessionDeed → Work D L → Type 0
+  -- an event that is done
+  abbrev pub IsDone : Work D L → SessionEvent → Work D L → Type 0
   IsDone x (Draws bytes) y =
       Takes shown x.display y.display bytes × (y ≡ record x { display = y.display })
   IsDone x (Helped fails) y = IsFalse fails × (y ≡ x)
@@ -49,7 +51,7 @@ module _ {D L : Type 0} (shown : D → List ℕ) (written_in : L → List ℕ) (
   -- the display or the sink of lines fails, and has taken a beginning of the bytes; the helper
   -- fails; or memory is wanting, and in a paste it may be that every read is refused from there on.
   -- None is taken to write a line, nor to keep one where lines aren't added. No other fault stops
-  abbrev pub IsStopped : Work D L → SessionDeed → ReadlineError → Work D L → Type 0
+  abbrev pub IsStopped : Work D L → SessionEvent → ReadlineError → Work D L → Type 0
   IsStopped x (Draws bytes) Display y =
       TakesSome shown x.display y.display bytes × (y ≡ record x { display = y.display })
   IsStopped x (Draws bytes) Memory y = y ≡ x
@@ -59,40 +61,27 @@ module _ {D L : Type 0} (shown : D → List ℕ) (written_in : L → List ℕ) (
   IsStopped x (Keeps line) Memory y = IsTrue adds × (y ≡ x)
   IsStopped x (Writes line) Lines y =
       TakesSome written_in x.lines y.lines (line_text line) × (y ≡ record x { lines = y.lines })
-  IsStopped x deed why y = ⊥
+  IsStopped x event why y = ⊥
 
-  abbrev pub session_world : World SessionDeed (λ deed. ⊤) (Work D L) ReadlineError
+  abbrev pub session_world : World SessionEvent (λ event. ⊤) (Work D L) ReadlineError
   session_world = record {
-    made = λ x deed none y. IsDone x deed y;
-    cut = λ x deed why y. IsStopped x deed why y;
+    made = λ x event none y. IsDone x event y;
+    cut = λ x event why y. IsStopped x event why y;
   }
 
-  -- ---- what deeds come to
-
   -- all of these were done
-  pub record AreDone (deeds : List SessionDeed) (old new : Work D L) : Type 0 where
-    pub drawn : Takes shown old.display new.display (bytes_drawn deeds)
-    pub wrote : Takes written_in old.lines new.lines (lines_text (lines_written deeds))
-    pub history_is : new.history ≡ remembered adds (lines_kept deeds) old.history
-    pub left_is : new.coming ≡ left_of_deeds old.coming deeds
+  pub record AreDone (events : List SessionEvent) (old new : Work D L) : Type 0 where
+    pub drawn : Takes shown old.display new.display (flat_map bytes_drawn events)
+    pub wrote : Takes written_in old.lines new.lines (lines_text (flat_map lines_written events))
+    pub history_is : new.history ≡ remembered adds (flat_map lines_kept events) old.history
+    pub left_is : new.coming ≡ left_to_come old.coming events
 
-  -- the first of these were done, and a fault stopped the next one
-  pub record AreStopped (deeds : List SessionDeed) (why : ReadlineError) (old new : Work D L)
-      : Type 0 where
-    pub done : List SessionDeed
-    pub deed : SessionDeed
-    pub others : List SessionDeed
-    pub at : Work D L
-    pub first : deeds ≡ done ++ (deed ∷ others)
-    pub are_done : AreDone done old at
-    pub stopped : IsStopped at deed why new
-
--- a script comes to its answer, or to a fault
-abbrev pub Comes : {A D L X : Type 0} {R : A → Type 0} → World A R (Work D L) ReadlineError
-    → Script A R (Result X ReadlineError) → Work D L → Result X ReadlineError → Work D L → Type 0
-Comes w script old result new =
-    Goes w script old (Ok result) new
-    ⊎ ((why : ReadlineError) × Goes w script old (Err why) new × (result ≡ Err why))
+  -- a script comes to this answer, or to a fault, which is the result
+  abbrev pub ComesTo : {X : Type 0} → SessionScript X → Work D L → X → Work D L
+      → Result (List ℕ) ReadlineError → Type 0
+  ComesTo {X} script old answer new result =
+      let goes : Result X ReadlineError → Type 0 = λ came. Goes session_world script old came new in
+      goes (Ok answer) ⊎ ((why : ReadlineError) × goes (Err why) × (result ≡ Err why))
 
 -- ---- a session
 
@@ -106,26 +95,39 @@ module _ {D L : Type 0} (shown : D → List ℕ) (written_in : L → List ℕ) w
       old result new in
       goes (Ok why) ⊎ goes (Err why)
 
-  -- every line was read, drawn, kept and written; the lines end as the definition says, and what is
-  -- left to come is what it leaves
-  pub record Whole (g : Given) (at : ℕ → LineGiven) (report : Report) (old new : Work D L)
-      (why : ReadlineError) : Type 0 where
-    pub why_is : why ≡ report.ending
-    pub rest_is : new.coming ≡ report.rest
-    pub history_is : new.history ≡ remembered g.config.auto_add_history report.accepted old.history
-    pub drawn : Takes shown old.display new.display
-        (display_bytes (screens_for g at) report.told)
-    pub wrote : Takes written_in old.lines new.lines (lines_text report.accepted)
-
-  -- a session that was read is whole, or a fault stopped one of its deeds
+  -- then its events were done, or the first of them were and the fault stopped the next one
   abbrev pub SessionsCome : Type 0
   SessionsCome =
       (n : ℕ) (g : Given) (at : ℕ → LineGiven) (x : SessionState) (old new : Work D L)
-      (why : ReadlineError) → old.coming ≡ x.coming → Reads n g at x old new why
-      → Whole g at (session_by n g at x) old new why
-      ⊎ AreStopped shown written_in g.config.auto_add_history (session_deeds n g at x) why old new
+      (why : ReadlineError) → Reads n g at x old new why →
+      let adds = g.config.auto_add_history in let p = without_fault (session_script n g at x) in
+      ((p.answer ≡ Ok why) × AreDone shown written_in adds p.asks old new)
+      ⊎ ((cut : Cut (session_world shown written_in adds) p why old new)
+      × AreDone shown written_in adds cut.done old cut.at)
 
--- ---- the end
+-- ---- the end of a line
+
+-- why the end of a line is refused: as the line was, or by a device that has failed
+abbrev pub CloseReason : {A : Type 0} → Result A ReadlineError → Bool → Bool → Bool
+    → ReadlineError → Type 0
+CloseReason outcome was_failed display lines e =
+    ((outcome ≡ Err e) × (display ≡ was_failed))
+    ⊎ (((e ≡ Display) × IsTrue display) ⊎ (((e ≡ Lines) × IsTrue lines) ⊎ (e ≡ Memory)))
+
+-- an accepted line is drawn to its end, kept and written; after the endings that say so a new row
+-- is drawn, and after the others nothing is done; whatever comes isn't read
+pub record Closes {D L : Type 0} (shown : D → List ℕ) (show_failed : D → Bool)
+    (written_in : L → List ℕ) (write_failed : L → Bool) (adds : Bool)
+    (outcome : Result (List ℕ) ReadlineError) (old new : Coming → Work D L)
+    (result : Result (List ℕ) ReadlineError) : Type 0 where
+  pub goes : (coming : Coming) → ComesTo shown written_in adds (close_script outcome) (old coming)
+      result (new coming) result
+  pub stays : IfErr outcome (λ e. breaks_after e ≡ false → (new ≡ old) × (result ≡ Err e))
+  pub reason : (coming : Coming) → IfErr result (CloseReason outcome
+      (show_failed (old coming).display) (show_failed (new coming).display)
+      (write_failed (new coming).lines))
+
+-- ---- the end of a session
 
 -- the history was saved, so that nothing in it is new; or the sink of its text has failed, and has
 -- taken a beginning of the text

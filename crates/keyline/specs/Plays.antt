@@ -1,5 +1,5 @@
 -- A session that is opened and run: what it is opened on, and what it gives back.
-use Rattle.std.specs.Prelude.{◌≡◌, ℕ, ◌<◌, Bool, false, List, Option, None, Result, Err, IsOk, IsTrue, string_bytes}
+use Rattle.std.specs.Prelude.{◌≡◌, ℕ, Bool, false, List, Option, None, Result, Err, IsOk, IsTrue, string_bytes}
 use Rattle.line_config.specs.Feed.{AlwaysTold, Feed}
 use Rattle.line_config.specs.declared.config.Config.{Config}
 use Rattle.line_config.specs.declared.errors.ReadlineError.{ReadlineError}
@@ -9,12 +9,11 @@ use Rattle.line_help.specs.HistoryText.{ReadsGood, text_rows, load_answer, load_
 use Rattle.line_record.specs.Ring.{new_ring}
 use Rattle.line_screen.specs.Calls.{screen_of, sink_of}
 use Rattle.line_screen.specs.Reader.{coming_in, kept_of, source_of}
-use Rattle.line_screen.specs.declared.reading.reader.KeyReader.{KeyReader}
-use Rattle.keyline.specs.Desks.{feed_of, session_state_of, work_of}
-use Rattle.keyline.specs.Known.{Known, HasPassedOn}
+use Rattle.keyline.specs.Desks.{TakesLines}
+use Rattle.keyline.specs.Known.{Known}
 use Rattle.keyline.specs.Endings.{ending_of}
-use Rattle.keyline.specs.Playing.{SessionReason, Reads, Saves, ending_after, work}
-use Rattle.keyline.specs.Sessions.{Given, coming_from, each}
+use Rattle.keyline.specs.Playing.{Saves, ending_after}
+use Rattle.keyline.specs.Sessions.{Given, coming_from, each, screen_by}
 use Rattle.keyline.specs.declared.desk.Desk.{Desk}
 use Rattle.keyline.specs.declared.session.Beginning.{Beginning}
 use Rattle.keyline.specs.declared.session.Ended.{Ended}
@@ -53,8 +52,8 @@ pub record Loaded (Told : Type 0) (config : Config) (text : Feed) (history : Fil
   pub history_is : Told → history ≡ loaded_from config text
 
 -- a session's beginning
-pub record Begins (Told : Type 0) (config : Config) (prompt : List ℕ) (text : Feed) (b : Beginning)
-    : Type 0 where
+pub record BeginsSession (Told : Type 0) (config : Config) (prompt : List ℕ) (text : Feed)
+    (b : Beginning) : Type 0 where
   pub history : Loaded Told config text b.history
   pub ring : b.ring ≡ new_ring 60
   pub prompt_is : string_bytes b.prompt ≡ prompt
@@ -82,45 +81,30 @@ pub record Opens {F S H D L : Type 0} (text : F → Feed) (feed : S → Feed) (c
       ≡ coming_from config.edit_mode (feed source).coming (feed source).last
   pub source_is : source_of desk.reader ≡ source
   pub kept : kept_of desk.reader ≡ None
-  pub screen : screen_of desk.out ≡ record {
-    columns = columns;
-    mode = config.grapheme_cluster_mode;
-    bell = config.bell_style;
-  }
+  pub screen : screen_of desk.out ≡ screen_by config columns
   pub display_is : sink_of desk.out ≡ display
   pub helper_is : desk.helper ≡ helper
   pub lines_are : desk.lines ≡ lines
 
 -- ---- running
 
--- THE relation of a session
-pub record Plays {S H D L T : Type 0} (k : Known S D L) (held : T → List ℕ) (failed : T → Bool)
-    (g : Given) (desk : Desk S H D L) (text : T) (ended : Ended S D L T) : Type 0 where
-  -- the history as the lines left it, the reader of the source that is handed back, with the byte
-  -- that it keeps, why there was no further line, and whether the history was saved
-  pub kept : Filed
-  pub reader : KeyReader S
-  pub why : ReadlineError
+-- a session has ended for this reason: its history was saved, and its devices come back
+pub record Finishes {S H D L T : Type 0} (held : T → List ℕ) (failed : T → Bool)
+    (desk : Desk S H D L) (text : T) (why : ReadlineError) (ended : Ended S D L T) : Type 0 where
   pub saved : Bool
-  -- where the source gave what was said, with more fuel than it has keys and pastes
-  pub goes : IsTrue (k.feed ended.source).told → (n : ℕ) → (feed_of k desk).bound < n
-      → Reads k.shown k.written_in n g (each g) (session_state_of k desk) (work_of k desk)
-      (work ended.display ended.lines kept (coming_in k.feed reader)) why
-  -- where nothing waited in the display before, nothing waits in it at the end, if it works
-  pub passes : IsTrue (k.feed ended.source).told → HasPassedOn k (sink_of desk.out)
-      → HasPassedOn k ended.display
-  pub source_is : ended.source ≡ source_of reader
-  pub ahead_is : ended.ahead ≡ kept_of reader
-  pub saves : Saves held failed kept ended.history text ended.text saved
+  pub saves : Saves held failed desk.history ended.history text ended.text saved
   pub ending_is : ended.ending ≡ ending_of (ending_after why saved)
-  pub reason : SessionReason g (k.feed ended.source).failed (k.show_failed ended.display)
-      (k.write_failed ended.lines) why
+  pub source_is : ended.source ≡ source_of desk.reader
+  pub ahead_is : ended.ahead ≡ kept_of desk.reader
+  pub display_is : ended.display ≡ sink_of desk.out
+  pub lines_are : ended.lines ≡ desk.lines
 
--- the same over a source that gives what was said, whatever is asked of it: there is no premise
-pub record AlwaysPlays {S H D L T : Type 0} (k : Known S D L) (held : T → List ℕ)
+-- THE relation of a session: lines until one is refused, and then its end
+pub record PlaysSession {S H D L T : Type 0} (k : Known S D L) (held : T → List ℕ)
     (failed : T → Bool) (g : Given) (desk : Desk S H D L) (text : T) (ended : Ended S D L T)
     : Type 0 where
-  pub plays : Plays k held failed g desk text ended
-  pub goes : (n : ℕ) → (feed_of k desk).bound < n
-      → Reads k.shown k.written_in n g (each g) (session_state_of k desk) (work_of k desk)
-      (work ended.display ended.lines plays.kept (coming_in k.feed plays.reader)) plays.why
+  -- the desk as the lines left it, and why there was no further line
+  pub last : Desk S H D L
+  pub why : ReadlineError
+  pub takes : TakesLines k g (each g) desk last why
+  pub finishes : Finishes held failed last text why ended

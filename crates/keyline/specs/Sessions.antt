@@ -1,5 +1,4 @@
--- A session: lines read one after the other; what is written, kept and drawn of them, and how it
--- ends.
+-- A session: lines one after the other; what is written, kept and drawn of them, and how it ends.
 use Rattle.std.specs.Prelude.{ℕ, zero, suc, Bool, true, if◌then◌else◌, List, [], ◌∷◌, ◌++◌, Result, Ok, Err}
 use Rattle.std.specs.List.{flat_map}
 use Rattle.line_config.specs.declared.config.Config.{Config}
@@ -10,7 +9,7 @@ use Rattle.line_config.specs.declared.settings.EditMode.{EditMode}
 use Rattle.line_help.specs.History.{Filed, filed_with_all}
 use Rattle.line_keys.specs.Answers.{Custom}
 use Rattle.line_keys.specs.Coming.{Coming}
-use Rattle.line_record.specs.Ring.{Ring, new_ring}
+use Rattle.line_record.specs.Ring.{Ring}
 use Rattle.line_editor.specs.Calls.{Call}
 use Rattle.line_editor.specs.Courses.{Turn, breaks_after}
 use Rattle.line_editor.specs.Lines.{Told}
@@ -29,14 +28,18 @@ pub record Given : Type 0 where
   pub screen : Screen
   pub helping : Helping
 
-abbrev pub given_by : Config → Custom → List ℕ → Screen → Helping → Given
-given_by config custom prompt screen helping = record {
+abbrev pub given_of : Config → Custom → List ℕ → Screen → Helping → Given
+given_of config custom prompt screen helping = record {
   config = config;
   custom = custom;
   prompt = prompt;
   screen = screen;
   helping = helping;
 }
+
+abbrev pub screen_by : Config → ℕ → Screen
+screen_by config columns =
+    record { columns = columns; mode = config.grapheme_cluster_mode; bell = config.bell_style }
 
 -- what is handed in for one of its lines: a prompt, and the columns of the screen's rows
 pub record LineGiven : Type 0 where
@@ -61,10 +64,10 @@ pub record SessionState : Type 0 where
 abbrev pub coming_from : EditMode → List ℕ → Last → Coming
 coming_from mode bytes last = coming_of (readings mode (chars_of bytes last))
 
--- a session begins with an empty ring of 60 slots
-abbrev pub at_first : Filed → Coming → SessionState
-at_first history coming =
-    record { ring = new_ring 60; history = history; coming = coming }
+-- before a line: what comes is what these bytes are, with this after them
+abbrev pub state_over : Ring → Filed → EditMode → List ℕ → Last → SessionState
+state_over ring history mode bytes last =
+    record { ring = ring; history = history; coming = coming_from mode bytes last }
 
 -- what is handed in for the next line
 abbrev pub setting_in : Given → List (List ℕ) → Setting
@@ -83,12 +86,13 @@ abbrev pub history_after : Bool → Result (List ℕ) ReadlineError → Filed �
 history_after adds (Ok text) history = remembered adds (text ∷ []) history
 history_after adds (Err e) history = history
 
+abbrev pub state_after : Bool → Result (List ℕ) ReadlineError → Ring → Coming → SessionState
+    → SessionState
+state_after adds outcome ring rest x =
+    record { ring = ring; history = history_after adds outcome x.history; coming = rest }
+
 abbrev pub after_line : Given → Told → SessionState → SessionState
-after_line g t x = record {
-  ring = t.ring;
-  history = history_after g.config.auto_add_history t.outcome x.history;
-  coming = t.rest;
-}
+after_line g t x = state_after g.config.auto_add_history t.outcome t.ring t.rest x
 
 -- all lines, the last one that in which the session ended; the texts of those that were accepted;
 -- the refusal that ended it; and what is left to come
@@ -98,16 +102,9 @@ pub record Report : Type 0 where
   pub ending : ReadlineError
   pub rest : Coming
 
-abbrev pub then_line : Told → List ℕ → Report → Report
-then_line t text r = record {
-  told = t ∷ r.told;
-  accepted = text ∷ r.accepted;
-  ending = r.ending;
-  rest = r.rest;
-}
-
 abbrev pub line_reported : Told → Result (List ℕ) ReadlineError → Report → Report
-line_reported t (Ok text) later = then_line t text later
+line_reported t (Ok text) later =
+    record later { told = t ∷ later.told; accepted = text ∷ later.accepted }
 line_reported t (Err e) later = record { told = t ∷ []; accepted = []; ending = e; rest = t.rest }
 
 -- a session of lines for which this is handed in, by their number

@@ -3,7 +3,7 @@
 ghost use Rattle.std.specs.Prelude.{◌≡◌, ◌≤◌, IfErr, IfOk, None, Some, [], codes, false, string_bytes};
 ghost use Rattle.line_config.specs.Feed.{fresh_feed};
 ghost use Rattle.line_config.specs.declared.device.Last.TheVariants.{End};
-ghost use Rattle.keyline.specs.Edits.{standard_config};
+ghost use Rattle.keyline.specs.Program.{standard_config};
 ghost use Rattle.keyline.specs.Plays.{Opens, Unopens};
 
 use crate::session::{Session, Unopened};

@@ -7,9 +7,8 @@ ghost use Rattle.line_editor.specs.Courses.{breaks_after};
 ghost use Rattle.line_keys.specs.Coming.{made_of};
 ghost use Rattle.line_screen.specs.Calls.{screen_of, sink_of};
 ghost use Rattle.line_screen.specs.Waiting.{NothingWaits};
-ghost use Rattle.keyline.specs.Closing.{Closes};
-ghost use Rattle.keyline.specs.Playing.{work};
-ghost use Rattle.keyline.specs.Sessions.{given_by, line_text, remembered};
+ghost use Rattle.keyline.specs.Playing.{Closes, work};
+ghost use Rattle.keyline.specs.Sessions.{given_of, line_text, remembered};
 
 use crate::boxed::Boxed;
 use line_config::{Config, DeviceFailed, ReadlineError, Sink, Source};
@@ -152,7 +151,7 @@ impl<S: Source + Drop, H: Helper + Drop, D: Sink + Drop, L: Sink + Drop> Desk<S,
     ) -> Lined<S, H, D, L>
         ensures { let custom = custom_of bindings.now B.decides in
             let helps = helping_by H.hint_of H.verdict_of H.completion_of H.update_of H.marks in
-            let given = given_by config.now custom prompt.now in
+            let given = given_of config.now custom prompt.now in
             let known = known_by S.feed D.held D.waits D.has_failed L.held L.has_failed in
             TakesLine known (given (screen_of self.out) (helps self.helper))
             (given (screen_of result.desk.out) (helps result.desk.helper))

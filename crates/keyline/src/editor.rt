@@ -10,7 +10,8 @@ ghost use Rattle.line_editor.specs.Running.{helping_by};
 ghost use Rattle.line_screen.specs.Calls.{screen_of};
 ghost use Rattle.keyline.specs.Endings.{ended_by};
 ghost use Rattle.keyline.specs.Known.{known_by};
-ghost use Rattle.keyline.specs.Sessions.{given_by};
+ghost use Rattle.keyline.specs.Plays.{Finishes};
+ghost use Rattle.keyline.specs.Sessions.{given_of};
 
 use crate::session::{Ended, LineRead, Session};
 use line_config::{ReadlineError, Sink, Source};
@@ -50,7 +51,7 @@ where
     L: Drop,
     T: Drop,
 {
-    ghost use Rattle.keyline.specs.Editors.{Finishes, ReadsLine, with_entry, with_helper};
+    ghost use Rattle.keyline.specs.Editors.{EditorReads, with_entry, with_helper};
 
     /// The lines of this session.
     pub fn new(session: Session<S, H, D, L, T, B>) -> Self
@@ -72,7 +73,7 @@ where
         ensures { let helps =
             helping_by H.hint_of H.verdict_of H.completion_of H.update_of H.marks in
             let known = known_by S.feed D.held D.waits D.has_failed L.held L.has_failed in
-            ReadsLine known self.old self.new (λ s. given_by s.config
+            EditorReads known self.old self.new (λ s. given_of s.config
             (custom_of s.bindings B.decides) prompt.now (screen_of s.desk.out)
             (helps s.desk.helper)) (made_of string_bytes result) }
     {
@@ -132,7 +133,8 @@ where
     /// the history, where an entry is new, and hands back the devices.
     pub fn finish(self) -> Ended<S, D, L, T>
         ensures { let why = option_map_or (λ e. e) self.ended Eof in
-            IfSome self.session.value (λ s. Finishes T.held T.has_failed s why result) }
+            IfSome self.session.value (λ s. Finishes T.held T.has_failed s.desk s.text why
+            result) }
     {
         let LineEditor { session, ended } = self;
         let why = ended.unwrap_or(ReadlineError::Eof);

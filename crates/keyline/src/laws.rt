@@ -1,24 +1,23 @@
 //! Laws of the definitions: each is the contract of a function that does nothing, or what a call
 //! comes to where more is known.
 
-ghost use Rattle.std.specs.Prelude.{string_bytes};
+ghost use Rattle.std.specs.Prelude.{IsTrue, string_bytes};
 ghost use Rattle.line_config.specs.Feed.{AlwaysTold};
 ghost use Rattle.line_keys.specs.Answers.{custom_of};
 ghost use Rattle.line_editor.specs.Running.{helping_by};
 ghost use Rattle.line_screen.specs.Calls.{screen_of};
 ghost use Rattle.keyline.specs.Cutting.{CutsAreFree};
-ghost use Rattle.keyline.specs.Deeds.{DeedsTell};
 ghost use Rattle.keyline.specs.Desks.{TakesLines};
 ghost use Rattle.keyline.specs.FewerKeys.{LinesBegin, SessionsBegin};
 ghost use Rattle.keyline.specs.Known.{known_by};
 ghost use Rattle.keyline.specs.OneByte.{LayoutsTell, OneByte};
 ghost use Rattle.keyline.specs.Pasting.{PastesAreAccepted, PastedLinesAreAccepted};
 ghost use Rattle.keyline.specs.Playing.{SessionsCome};
-ghost use Rattle.keyline.specs.Plays.{AlwaysPlays};
+ghost use Rattle.keyline.specs.Plays.{PlaysSession};
 ghost use Rattle.keyline.specs.SessionLaws.{ColumnsAreFree, LastAreKept};
-ghost use Rattle.keyline.specs.SessionShows.{SessionsShow};
-ghost use Rattle.keyline.specs.Sessions.{given_by};
-ghost use Rattle.keyline.specs.Shows.{DrawingsShow};
+ghost use Rattle.keyline.specs.SessionScripts.{EventsTell, LinesTell};
+ghost use Rattle.keyline.specs.Sessions.{given_of};
+ghost use Rattle.keyline.specs.Shows.{DrawingsShow, SessionsShow};
 ghost use Rattle.keyline.specs.TurnShows.{CommandsShow, TurnsShow};
 
 use crate::prompter::Prompter;
@@ -27,9 +26,9 @@ use line_config::{ReadlineError, Sink, Source};
 use line_help::Helper;
 use line_keys::Decides;
 
-/// Over a source that gives what was said, whatever is asked of it, as one over memory does: what a
-/// session draws, writes and saves is that of its keys, and nothing has to be seen of what they
-/// gave.
+/// Over a source that gives what was said, whatever is asked of it, as one over memory does, the
+/// premise of a session holds: what it draws, writes and saves is that of its keys, and nothing has
+/// to be seen of what they gave.
 pub fn always_told<
     S: Source + Drop,
     H: Helper + Drop,
@@ -39,12 +38,13 @@ pub fn always_told<
     B: Decides,
 >(session: Session<S, H, D, L, T, B>) -> Ended<S, D, L, T>
     requires { AlwaysTold S.feed }
-    ensures { let custom = custom_of session.bindings B.decides in
+    ensures told { IsTrue (S.feed result.source).told }
+    ensures plays { let custom = custom_of session.bindings B.decides in
         let helps = helping_by H.hint_of H.verdict_of H.completion_of H.update_of H.marks in
-        let given = given_by session.config custom (string_bytes session.prompt)
+        let given = given_of session.config custom (string_bytes session.prompt)
         (screen_of session.desk.out) (helps session.desk.helper) in
         let known = known_by S.feed D.held D.waits D.has_failed L.held L.has_failed in
-        AlwaysPlays known T.held T.has_failed given session.desk session.text result }
+        PlaysSession known T.held T.has_failed given session.desk session.text result }
 {
     session.run()
 }
@@ -63,7 +63,7 @@ pub fn lines<
 >(session: Session<S, H, D, L, T, B>, prompter: P) -> (Session<S, H, D, L, T, B>, ReadlineError)
     ensures { let custom = custom_of session.bindings B.decides in
         let helps = helping_by H.hint_of H.verdict_of H.completion_of H.update_of H.marks in
-        let given = given_by session.config custom (string_bytes session.prompt)
+        let given = given_of session.config custom (string_bytes session.prompt)
         (screen_of session.desk.out) (helps session.desk.helper) in
         let known = known_by S.feed D.held D.waits D.has_failed L.held L.has_failed in
         TakesLines known given (P.lines prompter) session.desk result.0.desk result.1 }
@@ -122,15 +122,16 @@ pub fn columns()
     ensures { ColumnsAreFree }
 {}
 
-/// What a session does, deed after deed, comes to its report: the bytes drawn, what is left to
-/// come, the lines kept and the lines written. Any first deeds of it have written the first lines,
-/// and kept those and at most the next one.
-pub fn deeds()
-    ensures { DeedsTell }
+/// What a session does, event after event, comes to its report: its ending, the bytes drawn, what is
+/// left to come, the lines kept and the lines written. Any first events of it have written the first
+/// lines, and kept those and at most the next one. A line's events come to the line that is meant.
+pub fn events()
+    ensures sessions { EventsTell }
+    ensures lines { LinesTell }
 {}
 
-/// A session that goes as its script says has come to all that its report says, or a fault stopped
-/// one of its deeds, with those before it done: what display, sources and sinks have then is known.
+/// A session that goes as its script says has done all its events, or a fault stopped one of them,
+/// with those before it done: what display, sources and sinks have then is known.
 pub fn sessions_come<D: Sink, L: Sink>()
     ensures { SessionsCome D.held L.held }
 {}

@@ -6,8 +6,7 @@ ghost use Rattle.line_config.specs.Feed.{fresh_feed};
 ghost use Rattle.line_config.specs.declared.device.Last.TheVariants.{End};
 ghost use Rattle.line_config.specs.declared.errors.ReadlineError.TheVariants.{Memory};
 ghost use Rattle.keyline.specs.Known.{known_by};
-ghost use Rattle.keyline.specs.Edits.{EditsByOptions, config_of, helper_of, texts_of};
-ghost use Rattle.keyline.specs.Played.{PlaysOver};
+ghost use Rattle.keyline.specs.Program.{EditsByOptions, PlaysOver, config_of, helper_of, word_texts};
 ghost use Rattle.keyline.specs.Plays.{Unopens, loads};
 
 use crate::edit_helper::EditHelper;
@@ -33,7 +32,7 @@ pub fn config_of(options: &Options) -> Config
 
 /// What helps: these words complete, and brackets are validated where the options say so.
 pub fn helper_of(options: &Options, words: Option<Vec<String>>) -> Option<EditHelper>
-    ensures { result ≡ helper_of options.now (texts_of words) }
+    ensures { result ≡ helper_of options.now (word_texts words) }
 {
     if !options.brackets && words.is_none() {
         return None;
@@ -72,7 +71,7 @@ pub fn edit<F: Source + Drop, S: Source + Drop, D: Sink + Drop, L: Sink + Drop, 
     requires text { T.has_failed text ≡ false }
     ensures edits { IfOk result (EditsByOptions F.feed
         (known_by S.feed D.held D.waits D.has_failed L.held L.has_failed) T.held T.has_failed
-        options.now (texts_of words) history source display lines text) }
+        options.now (word_texts words) history source display lines text) }
     ensures refused { IfErr result (Unopens F.feed (config_of options.now) history source display
         lines text) }
 {
@@ -114,7 +113,7 @@ pub fn play<K: Foretold, R: Read + Drop, E: Write + Drop, W: Write + Drop>(
         ⟦<WriteSink<E> as Sink>⟧.has_failed
         ⟦<WriteSink<W> as Sink>⟧.held ⟦<WriteSink<W> as Sink>⟧.has_failed in
         IfOk result (PlaysOver known ⟦<VecSink as Sink>⟧.held ⟦<VecSink as Sink>⟧.has_failed
-        options.now (texts_of words) old.now K.bytes K.last) }
+        options.now (word_texts words) old.now K.bytes K.last) }
     ensures refused { IfErr result (λ why. (why ≡ Memory)
         ⊎ (loads (config_of options.now) (fresh_feed old.now End) ≡ Err why)) }
 {

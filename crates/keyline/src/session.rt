@@ -12,9 +12,9 @@ ghost use Rattle.keyline.specs.Desks.{TakesLine, session_state_of};
 ghost use Rattle.keyline.specs.Endings.{ending_of};
 ghost use Rattle.keyline.specs.Known.{known_by};
 ghost use Rattle.keyline.specs.Playing.{Saves, ending_after};
-ghost use Rattle.keyline.specs.Plays.{Begins, LoadRefused, Loaded, Opens, Plays, Remains, Unopens};
-ghost use Rattle.keyline.specs.SessionShows.{Displays};
-ghost use Rattle.keyline.specs.Sessions.{given_by};
+ghost use Rattle.keyline.specs.Plays.{BeginsSession, LoadRefused, Loaded, Opens, PlaysSession, Remains, Unopens};
+ghost use Rattle.keyline.specs.Shows.{Displays};
+ghost use Rattle.keyline.specs.Sessions.{given_of};
 
 use crate::boxed::Devices;
 use crate::desk::{Desk, Lined};
@@ -158,8 +158,8 @@ fn begin<F: Source>(
     source: &mut F,
 ) -> Result<Beginning, ReadlineError>
     requires { (F.feed source.old).failed ≡ false }
-    ensures ok { IfOk result (Begins (IsTrue (F.feed source.new).told) config.now prompt.now
-        (F.feed source.old)) }
+    ensures ok { IfOk result (BeginsSession (IsTrue (F.feed source.new).told) config.now
+        prompt.now (F.feed source.old)) }
     ensures fault { IfErr result (LoadRefused config.now (F.feed source.old) (F.feed source.new)) }
     ensures remains { Remains (F.feed source.old) (F.feed source.new) }
 {
@@ -289,7 +289,7 @@ where
     pub fn read_line(self, prompt: &str) -> LineRead<S, H, D, L, T, B>
         ensures line { let custom = custom_of self.bindings B.decides in
             let helps = helping_by H.hint_of H.verdict_of H.completion_of H.update_of H.marks in
-            let given = given_by self.config custom prompt.now in
+            let given = given_of self.config custom prompt.now in
             let known = known_by S.feed D.held D.waits D.has_failed L.held L.has_failed in
             let next = result.session.desk in
             TakesLine known (given (screen_of self.desk.out) (helps self.desk.helper))
@@ -393,13 +393,13 @@ where
     pub fn run(self) -> Ended<S, D, L, T>
         ensures plays { let custom = custom_of self.bindings B.decides in
             let helps = helping_by H.hint_of H.verdict_of H.completion_of H.update_of H.marks in
-            let given = given_by self.config custom (string_bytes self.prompt)
+            let given = given_of self.config custom (string_bytes self.prompt)
             (screen_of self.desk.out) (helps self.desk.helper) in
             let known = known_by S.feed D.held D.waits D.has_failed L.held L.has_failed in
-            Plays known T.held T.has_failed given self.desk self.text result }
+            PlaysSession known T.held T.has_failed given self.desk self.text result }
         ensures shows { let custom = custom_of self.bindings B.decides in
             let helps = helping_by H.hint_of H.verdict_of H.completion_of H.update_of H.marks in
-            let given = given_by self.config custom (string_bytes self.prompt)
+            let given = given_of self.config custom (string_bytes self.prompt)
             (screen_of self.desk.out) (helps self.desk.helper) in
             let known = known_by S.feed D.held D.waits D.has_failed L.held L.has_failed in
             Displays given (session_state_of known self.desk) }

@@ -21,10 +21,9 @@ use Rattle.line_screen.specs.Unread.{kept_count}
 use Rattle.line_screen.specs.Drawing.{break_if}
 use Rattle.line_screen.specs.declared.renderer.ScreenRenderer.{ScreenRenderer}
 use Rattle.line_screen.proofs.CallLemmas.{sent_in_all}
-use Rattle.keyline.specs.Edits.{EditHelper, config_of, edit_helping, helper_of, nothing_bound}
+use Rattle.keyline.specs.Program.{EditHelper, config_of, edit_helping, helper_of, nothing_bound}
 use Rattle.keyline.specs.declared.options.Options.{Options}
-use Rattle.keyline.specs.FewerKeys.{state_over}
-use Rattle.keyline.specs.Sessions.{coming_from, Given, SessionState, breaks, given_by, history_after, line_in, setting_in}
+use Rattle.keyline.specs.Sessions.{coming_from, Given, SessionState, breaks, given_of, history_after, line_in, setting_in, state_over}
 use Rattle.keyline_c.specs.Lines.{Ends, IsWant, LeftBy, ReadsLine, given_by_options}
 use Rattle.keyline_c.specs.declared.line.Left.{Left}
 
@@ -41,7 +40,7 @@ wants (Err d) e is want = let same : d ≡ e = cc in subst IsWant (sym same) wan
 module _ {H K T : Type 0} (held waits : VecSink → List ℕ) (failed : VecSink → Bool) (helps : Option H → Helping) (config : Config) (custom : Custom) (prompt : List ℕ) (helper : Option H)
     (old : ScreenRenderer VecSink) (display : VecSink) (ring ring' : Ring) (history history' : Filed) (feed feed' : KeyFeed) (ran : Ran (ScreenRenderer VecSink) H K T) (left : Left) where
   abbrev given : Given
-  given = given_by config custom prompt (screen_of old) (helps helper)
+  given = given_of config custom prompt (screen_of old) (helps helper)
 
   abbrev state : SessionState
   state = record { ring = ring; history = history; coming = feed.coming }
@@ -96,13 +95,13 @@ line_read held waits failed options words keys last config custom prompt helper 
     let adds : config.auto_add_history ≡ true = ap (λ (x : Config). x.auto_add_history) config_is in
     let read = reads_line held waits failed edit_helping config custom prompt helper old display ring ring' history history' feed feed' ran left ends fresh adds a b d e runs told in
     let columns : Config → Screen = λ x. record { columns = options.columns; mode = x.grapheme_cluster_mode; bell = x.bell_style } in
-    let given_is : given_by config custom prompt (screen_of old) (edit_helping helper) ≡ given_by_options options words =
-    ap (λ (x : Screen). given_by config custom prompt x (edit_helping helper)) screen_is
-    ∙ (ap (λ (x : Config). given_by x custom prompt (columns x) (edit_helping helper)) config_is
-    ∙ (ap (λ (x : Custom). given_by (config_of options) x prompt (columns (config_of options)) (edit_helping helper)) custom_is
-    ∙ (ap (λ (x : List ℕ). given_by (config_of options) nothing_bound x (columns (config_of options)) (edit_helping helper)) prompt_is
-    ∙ ap (λ (x : Option EditHelper). given_by (config_of options) nothing_bound (string_bytes options.prompt) (columns (config_of options)) (edit_helping x)) helper_is))) in
+    let given_is : given_of config custom prompt (screen_of old) (edit_helping helper) ≡ given_by_options options words =
+    ap (λ (x : Screen). given_of config custom prompt x (edit_helping helper)) screen_is
+    ∙ (ap (λ (x : Config). given_of x custom prompt (columns x) (edit_helping helper)) config_is
+    ∙ (ap (λ (x : Custom). given_of (config_of options) x prompt (columns (config_of options)) (edit_helping helper)) custom_is
+    ∙ (ap (λ (x : List ℕ). given_of (config_of options) nothing_bound x (columns (config_of options)) (edit_helping helper)) prompt_is
+    ∙ ap (λ (x : Option EditHelper). given_of (config_of options) nothing_bound (string_bytes options.prompt) (columns (config_of options)) (edit_helping x)) helper_is))) in
     let at : Given → Coming → ℕ → Type 0 = λ g c n. ReadsLine held g (record { ring = ring; history = history; coming = c }) n left in
     subst (λ g. at g (coming_from options.mode keys last) (length keys)) given_is
-    (subst (λ c. at (given_by config custom prompt (screen_of old) (edit_helping helper)) c (length keys)) coming_is
-    (subst (λ n. at (given_by config custom prompt (screen_of old) (edit_helping helper)) feed.coming n) bound_is read))
+    (subst (λ c. at (given_of config custom prompt (screen_of old) (edit_helping helper)) c (length keys)) coming_is
+    (subst (λ n. at (given_of config custom prompt (screen_of old) (edit_helping helper)) feed.coming n) bound_is read))

@@ -10,15 +10,15 @@ use Rattle.line_editor.specs.Lines.{Told}
 use Rattle.line_help.specs.History.{Filed}
 use Rattle.line_keys.specs.Coming.{made_of}
 use Rattle.line_screen.specs.Drawing.{break_if}
-use Rattle.keyline.specs.Edits.{config_of, helper_of, edit_helping, nothing_bound}
-use Rattle.keyline.specs.Sessions.{Given, SessionState, breaks, given_by, history_after, line_bytes, line_in}
+use Rattle.keyline.specs.Program.{config_of, helper_of, edit_helping, nothing_bound}
+use Rattle.keyline.specs.Sessions.{Given, SessionState, breaks, given_of, history_after, line_bytes, line_in}
 use Rattle.keyline.specs.declared.options.Options.{Options}
 use Rattle.keyline_c.specs.declared.line.Left.{Left}
 
 -- what is handed in for a line by these options and words
 abbrev pub given_by_options : Options → Option (List (List ℕ)) → Given
 given_by_options options words =
-    given_by (config_of options) nothing_bound (string_bytes options.prompt)
+    given_of (config_of options) nothing_bound (string_bytes options.prompt)
     (record {
       columns = options.columns;
       mode = default_config.grapheme_cluster_mode;

@@ -6,9 +6,8 @@ ghost use Rattle.line_config.specs.Sending.{Takes};
 ghost use Rattle.line_keys.specs.Coming.{made_of};
 ghost use Rattle.line_screen.specs.Calls.{screen_of, sink_of};
 ghost use Rattle.line_screen.specs.Drawing.{row_break};
-ghost use Rattle.keyline.specs.Edits.{texts_of};
-ghost use Rattle.keyline.specs.FewerKeys.{state_over};
-ghost use Rattle.keyline.specs.Sessions.{breaks, history_after};
+ghost use Rattle.keyline.specs.Program.{word_texts};
+ghost use Rattle.keyline.specs.Sessions.{breaks, history_after, state_over};
 ghost use Rattle.keyline_c.specs.Lines.{Ends, IsWant, ReadsLine, given_by_options, last_of};
 
 use keyline::{
@@ -137,7 +136,7 @@ pub(crate) fn read_line<'k>(
     ended: bool,
 ) -> Result<Left, ReadlineError>
     requires { (2 ≤ options.now.columns) × (options.now.columns ≤ 1000) }
-    ensures reads { let given = given_by_options options.now (texts_of words) in
+    ensures reads { let given = given_by_options options.now (word_texts words) in
         let state = state_over ring history options.now.mode keys.entry.now (last_of ended) in
         IfOk result (ReadsLine ⟦<VecSink as Sink>⟧.held given state (length keys.entry.now)) }
     ensures fault { IfErr result IsWant }

@@ -3,8 +3,7 @@
 
 ghost use Rattle.std.specs.Prelude.{◌≤◌, IfOk};
 ghost use Rattle.keyline.specs.Known.{known_by};
-ghost use Rattle.keyline.specs.Edits.{texts_of};
-ghost use Rattle.keyline.specs.Played.{PlaysOver};
+ghost use Rattle.keyline.specs.Program.{PlaysOver, word_texts};
 
 mod files;
 mod history_file;
@@ -107,7 +106,7 @@ fn play<K: Foretold>(
         ⟦<WriteSink<Stderr> as Sink>⟧.has_failed
         ⟦<WriteSink<Stdout> as Sink>⟧.held ⟦<WriteSink<Stdout> as Sink>⟧.has_failed in
         IfOk result (PlaysOver known ⟦<VecSink as Sink>⟧.held ⟦<VecSink as Sink>⟧.has_failed
-        options.now (texts_of words) old.now K.bytes K.last) }
+        options.now (word_texts words) old.now K.bytes K.last) }
 {
     keyline::play::<K, _, _, _>(
         rt.alloc(),

@@ -237,7 +237,7 @@ module _ {R : Type 0} (canvas : Canvas R) (r : Ruler) where
   unread_cause Paste Memory h = tt
   unread_cause _ _ h = absurd h
 
-  stopped_cause : (a : Setting) (indent : ℕ) (ask : LineAsk) (x y : Stage R) (e : ReadlineError) → Stopped canvas r a indent x ask e y → reason_of true ⊤ e
+  pub stopped_cause : (a : Setting) (indent : ℕ) (ask : LineAsk) (x y : Stage R) (e : ReadlineError) → Stopped canvas r a indent x ask e y → reason_of true ⊤ e
   stopped_cause a indent ask x y e (inl (stops, leaves)) = steps_cause (effect_at a indent x.kept ask).steps e y.kept.value x.drawn y.drawn stops
   stopped_cause a indent (Keys (Reads item)) x y e (inr (unread, same)) = unread_cause item e unread
   stopped_cause a indent _ x y e (inr (unread, same)) = absurd unread

@@ -1,4 +1,4 @@
-use Rattle.keyline.proofs.DeedLaw.{sessions_come}
+use Rattle.keyline.proofs.EventLaw.{sessions_come}
 use Rattle.keyline.proofs.laws.sessions_come.Goals as goal
 
 pub returns : goal.returns

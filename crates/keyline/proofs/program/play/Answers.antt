@@ -1,13 +1,13 @@
 -- The session by options, over what is said of its keys, and then its writers flushed.
 use Rattle.std.proofs.Common.{refl, sym, ◌∙◌}
-use Rattle.keyline.specs.Edits.{texts_of}
+use Rattle.keyline.specs.Program.{word_texts}
 use Rattle.keyline.proofs.PlayedLemmas.{fails_still, fresh_coming, fresh_sink, handed_on, played}
 use Rattle.keyline.proofs.program.play.Goals as goal
 
 pub returns-clause-plays : goal.returns-clause-plays
 returns-clause-plays g c = record {
   plays = λ agrees.
-      played _ _ _ _ c.args.options.now (texts_of c.args.words) c.args.old.now g.K.Foretold.bytes g.K.Foretold.last
+      played _ _ _ _ c.args.options.now (word_texts c.args.words) c.args.old.now g.K.Foretold.bytes g.K.Foretold.last
       c.new.result c.foretold-source.result c.new-2.result c.new-3.result c.new-4.result c.in_ok-played.played c.flush.new.self c.flush-2.new.self
       c.in_ok-played.ensures.edits (λ s. refl) c.new.ensures
       (fresh_coming g.K.Foretold.bytes _ _ c.foretold-source.ensures.reader.unread c.foretold-source.ensures.reader.none_given) refl c.foretold-source.ensures.bound

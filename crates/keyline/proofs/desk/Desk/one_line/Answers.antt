@@ -4,9 +4,8 @@ use Rattle.std.specs.Prelude.{string_bytes}
 use Rattle.line_keys.specs.Coming.{made_of}
 use Rattle.line_editor.specs.Running.{helping_by, outcome_of}
 use Rattle.line_screen.specs.Calls.{sink_of}
-use Rattle.keyline.specs.Closing.{Closes}
 use Rattle.keyline.specs.Known.{known_by}
-use Rattle.keyline.specs.Playing.{work}
+use Rattle.keyline.specs.Playing.{Closes, work}
 use Rattle.keyline.proofs.DeskLemmas.{takes_line}
 use Rattle.keyline.proofs.desk.Desk.one_line.Goals as goal
 

@@ -8,9 +8,9 @@ use Rattle.line_screen.specs.Calls.{screen_of}
 use Rattle.line_screen.proofs.CallLemmas.{columns_in}
 use Rattle.keyline.specs.Desks.{TakesLine}
 use Rattle.keyline.specs.Known.{known_by}
-use Rattle.keyline.specs.Sessions.{given_by}
+use Rattle.keyline.specs.Plays.{Finishes}
+use Rattle.keyline.specs.Sessions.{given_of}
 use Rattle.keyline.proofs.LinesLemmas.{along, underway_nowhere, underway_ok, underway_err}
-use Rattle.keyline.proofs.PlaysLemmas.{plays}
 use Rattle.keyline.proofs.SessionCourse.{sessions_show}
 use Rattle.keyline.proofs.session.Session.run.Goals as goal
 
@@ -26,7 +26,7 @@ returns-in-Err g c =
     let next = c.read_line-next.result.session in
     let custom = custom_of now.bindings g.B.Decides.decides in
     let P : List ℕ → Type 0 = λ p.
-    TakesLine k (given_by now.config custom p (screen_of now.desk.out) (helps now.desk.helper)) (given_by now.config custom p (screen_of next.desk.out) (helps next.desk.helper))
+    TakesLine k (given_of now.config custom p (screen_of now.desk.out) (helps now.desk.helper)) (given_of now.config custom p (screen_of next.desk.out) (helps next.desk.helper))
     now.desk next.desk (made_of string_bytes c.read_line-next.result.line) in
     let line = subst P (c.as_str.ensures.value ∙ ap string_bytes c.replace-prompt.ensures.value) c.read_line-next.ensures.line in
     let lines = underway_err k _ _ _ self.desk now.desk next.desk _ c.loop-why.invariant.0 line c.in-Err.why (ap (made_of string_bytes) c.in-Err.is) in
@@ -34,8 +34,20 @@ returns-in-Err g c =
     let columns = columns_in self.desk.out in
     record {
       shows = sessions_show _ _ columns.0 columns.1;
-      plays = plays k g.T.Sink.held g.T.Sink.has_failed _ self.desk next.desk c.in-Err.why self.text next.text c.finish.result text lines c.finish.ensures.saves
-          c.finish.ensures.source c.finish.ensures.ahead c.finish.ensures.display c.finish.ensures.lines;
+      plays = record {
+        last = next.desk;
+        why = c.in-Err.why;
+        takes = lines;
+        finishes = subst (λ text. Finishes g.T.Sink.held g.T.Sink.has_failed next.desk text c.in-Err.why c.finish.result) text (record {
+          saved = c.finish.ensures.saves.0;
+          saves = c.finish.ensures.saves.1;
+          ending_is = c.finish.ensures.saves.2;
+          source_is = c.finish.ensures.source;
+          ahead_is = c.finish.ensures.ahead;
+          display_is = c.finish.ensures.display;
+          lines_are = c.finish.ensures.lines;
+        });
+      };
     }
 
 pub loop-why-preserved-in-Ok : goal.loop-why-preserved-in-Ok
@@ -48,10 +60,10 @@ loop-why-preserved-in-Ok g c =
     let others = c.read_line-next.ensures.others in
     let custom = custom_of now.bindings g.B.Decides.decides in
     let P : List ℕ → Type 0 = λ p.
-    TakesLine k (given_by now.config custom p (screen_of now.desk.out) (helps now.desk.helper)) (given_by now.config custom p (screen_of next.desk.out) (helps next.desk.helper))
+    TakesLine k (given_of now.config custom p (screen_of now.desk.out) (helps now.desk.helper)) (given_of now.config custom p (screen_of next.desk.out) (helps next.desk.helper))
     now.desk next.desk (made_of string_bytes c.read_line-next.result.line) in
     let line = subst P (c.as_str.ensures.value ∙ ap string_bytes c.replace-prompt.ensures.value) c.read_line-next.ensures.line in (
       underway_ok k _ _ _ self.desk now.desk next.desk _ c.loop-why.invariant.0 line _ (ap (made_of string_bytes) c.in-Ok.is) _
-          (along {y = record now { desk = next.desk }} others (λ s. given_by s.config (custom_of s.bindings g.B.Decides.decides) (string_bytes self.prompt) (screen_of next.desk.out) (helps next.desk.helper))),
+          (along {y = record now { desk = next.desk }} others (λ s. given_of s.config (custom_of s.bindings g.B.Decides.decides) (string_bytes self.prompt) (screen_of next.desk.out) (helps next.desk.helper))),
       along {y = record now { desk = next.desk }} others (λ s. s.text) ∙ c.loop-why.invariant.1,
     )

@@ -3,9 +3,9 @@ use Rattle.std.specs.Prelude.{◌≡◌, string_bytes}
 use Rattle.line_editor.specs.Running.{helping_by}
 use Rattle.line_keys.specs.Answers.{custom_of}
 use Rattle.line_screen.specs.Calls.{screen_of}
-use Rattle.keyline.specs.Desks.{feed_of}
+use Rattle.keyline.specs.Desks.{desk_feed}
 use Rattle.keyline.specs.Known.{known_by}
-use Rattle.keyline.specs.Sessions.{given_by}
+use Rattle.keyline.specs.Sessions.{given_of}
 use Rattle.keyline.proofs.LinesLemmas.{Underway}
 use Rattle.keyline.proofs.session.Session.run.Given as goal
 
@@ -16,11 +16,11 @@ invariant-loop-why g l =
     let decides = g.B.Decides.decides in
     let self = l.fn.self in
     Underway k
-    (given_by self.config (custom_of self.bindings decides) (string_bytes self.prompt) (screen_of self.desk.out) (helps self.desk.helper))
-    (given_by l.session.config (custom_of l.session.bindings decides) (string_bytes self.prompt) (screen_of l.session.desk.out) (helps l.session.desk.helper))
+    (given_of self.config (custom_of self.bindings decides) (string_bytes self.prompt) (screen_of self.desk.out) (helps self.desk.helper))
+    (given_of l.session.config (custom_of l.session.bindings decides) (string_bytes self.prompt) (screen_of l.session.desk.out) (helps l.session.desk.helper))
     self.desk l.session.desk
     × (l.session.text ≡ self.text)
 
 abbrev pub decreases-loop-why : goal.decreases-loop-why
 decreases-loop-why g l =
-    (feed_of (known_by g.S.Source.feed g.D.Sink.held g.D.Sink.waits g.D.Sink.has_failed g.L.Sink.held g.L.Sink.has_failed) l.session.desk).bound
+    (desk_feed (known_by g.S.Source.feed g.D.Sink.held g.D.Sink.waits g.D.Sink.has_failed g.L.Sink.held g.L.Sink.has_failed) l.session.desk).bound

@@ -1,0 +1,154 @@
+-- The program's session: by its options, and by bytes alone.
+use Rattle.std.specs.Prelude.{ℕ, Bool, true, false, if◌then◌else◌, List, Option, Some, None, is_some, option_map, ◌||◌, ⊤, map, take, String, string_bytes, ◌≡◌, ◌<◌, ◌^◌, [], IsTrue, IsOk}
+use Rattle.std.specs.Global.{Global, Vec}
+use Rattle.std.specs.Option.{option_map_or}
+use Rattle.line_config.specs.Config.{default_config, timeout_of}
+use Rattle.line_config.specs.Feed.{Feed, fresh_feed}
+use Rattle.line_config.specs.declared.config.Config.{Config}
+use Rattle.line_keys.specs.Replies.{gives, gives_at_once}
+use Rattle.line_help.specs.Completion.{nothing_offered}
+use Rattle.line_help.specs.Validation.{bracket_verdict}
+use Rattle.line_help.specs.WordCompletion.{word_reply}
+use Rattle.line_help.specs.declared.bracket_validator.MatchingBracketValidator.{MatchingBracketValidator}
+use Rattle.line_help.specs.declared.helper_parts.HelperParts.{HelperParts}
+use Rattle.line_help.specs.declared.validate.ValidationResult.TheVariants.{Valid}
+use Rattle.line_keys.specs.Answers.{Custom}
+use Rattle.line_editor.specs.Running.{Helping, helping_by}
+use Rattle.line_screen.specs.Calls.{screen_of}
+use Rattle.keyline.specs.Desks.{session_state_of}
+use Rattle.keyline.specs.Known.{Known}
+use Rattle.keyline.specs.Plays.{Opens, PlaysSession, loaded_from, loads}
+use Rattle.keyline.specs.Shows.{Displays}
+use Rattle.keyline.specs.Sessions.{Given, SessionState, each, given_of, screen_by, state_over}
+use Rattle.keyline.specs.declared.desk.Desk.{Desk}
+use Rattle.keyline.specs.declared.options.Options.{Options}
+use Rattle.keyline.specs.declared.session.Ended.{Ended}
+use Rattle.line_config.specs.Adapters.{gave, met, sent_of, taken}
+use Rattle.line_config.specs.Foretold.{agrees, left_of}
+use Rattle.line_config.specs.Sending.{AppendsSome}
+use Rattle.line_config.specs.declared.adapters.ReadSource.{ReadSource}
+use Rattle.line_config.specs.declared.adapters.WriteSink.{WriteSink}
+use Rattle.line_config.specs.declared.device.Last.{Last}
+use Rattle.line_config.specs.declared.device.Last.TheVariants.{End}
+use Rattle.line_config.specs.declared.errors.ReadlineError.{ReadlineError}
+use Rattle.line_help.specs.History.{Filed}
+use Rattle.line_help.specs.HistoryText.{text_to_save}
+use Rattle.line_keys.specs.Coming.{Coming}
+use Rattle.line_record.specs.Ring.{new_ring}
+use Rattle.keyline.specs.Endings.{ending_of}
+use Rattle.keyline.specs.Playing.{Reads, SessionReason, ending_after, work}
+
+-- where nothing else is said: each accepted line is kept
+abbrev pub standard_config : Config
+standard_config = record default_config { auto_add_history = true }
+
+-- each accepted line is kept
+abbrev pub config_of : Options → Config
+config_of options = record default_config {
+  edit_mode = options.mode;
+  keyseq_timeout = timeout_of options.mode;
+  auto_add_history = true;
+}
+
+-- completes by words and validates brackets, each where it is wanted
+abbrev pub EditHelper : Type 0
+EditHelper = HelperParts (Option (List (List ℕ))) ⊤ ⊤ (Option MatchingBracketValidator)
+
+abbrev pub word_texts : Option (Vec (String Global)) → Option (List (List ℕ))
+word_texts words = option_map (λ ws. map string_bytes ws.items) words
+
+abbrev pub validator_of : Options → Option MatchingBracketValidator
+validator_of options = if options.brackets then Some (record {}) else None
+
+abbrev pub helper_of : Options → Option (List (List ℕ)) → Option EditHelper
+helper_of options words = if options.brackets || is_some words
+    then Some (record {
+      completer = words;
+      hinter = tt;
+      highlighter = tt;
+      validator = validator_of options;
+    })
+    else None
+
+-- what it gives, and it helps with nothing else
+abbrev pub edit_helping : Option EditHelper → Helping
+edit_helping = helping_by (λ helper line pos entries place. gives_at_once None)
+    (λ helper text. option_map_or (λ validator. gives (bracket_verdict text)) helper.validator
+    (gives_at_once (Valid None)))
+    (λ helper line pos entries place. option_map_or (λ words. word_reply words (take pos line))
+    helper.completer (gives_at_once nothing_offered))
+    (λ helper line start elected. option_map_or (λ words. gives (tt {0})) helper.completer
+    (gives (tt {0})))
+    (λ helper line pos kind. false)
+
+abbrev pub nothing_bound : Custom
+nothing_bound = record { answers = λ event. None; begins = λ keys. false }
+
+abbrev pub given_to : {S D L : Type 0} → Options → Desk S EditHelper D L → Given
+given_to options desk = given_of (config_of options) nothing_bound (string_bytes options.prompt)
+    (screen_of desk.out) (edit_helping desk.helper)
+
+-- a session was opened by these options and words, and run
+pub record EditsByOptions {F S D L T : Type 0} (loads : F → Feed) (k : Known S D L)
+    (held : T → List ℕ) (failed : T → Bool) (options : Options) (words : Option (List (List ℕ)))
+    (history : F) (source : S) (display : D) (lines : L) (text : T) (ended : Ended S D L T)
+    : Type 0 where
+  pub desk : Desk S EditHelper D L
+  pub opens : Opens loads k.feed (config_of options) history (helper_of options words) source
+      options.columns display lines desk
+  pub plays : PlaysSession k held failed (given_to options desk) desk text ended
+  pub shows : Displays (given_to options desk) (session_state_of k desk)
+
+-- ---- by bytes alone: those of its keys, those that its devices took, and its ending
+
+-- what these options and words hand in for a session
+abbrev pub program_given : Options → Option (List (List ℕ)) → Given
+program_given options words =
+    let config = config_of options in
+    given_of config nothing_bound (string_bytes options.prompt)
+    (screen_by config options.columns) (edit_helping (helper_of options words))
+
+-- its first line, over this history's text and these keys
+abbrev pub program_start : Options → List ℕ → List ℕ → Last → SessionState
+program_start options old bytes last =
+    state_over (new_ring 60) (loaded_from (config_of options) (fresh_feed old End)) options.mode
+    bytes last
+
+-- THE session of these options and words, of a history's text, and of all these bytes with this
+-- after them: what is drawn, written and saved are its bytes, its lines and its history, or a
+-- beginning of them where a fault cut it
+pub record PlaysBytes {S D L T : Type 0} (known : Known S D L) (held : T → List ℕ)
+    (failed : T → Bool) (options : Options) (words : Option (List (List ℕ))) (old bytes : List ℕ)
+    (last : Last) (ended : Ended S D L T) : Type 0 where
+  -- the history as the lines left it, what is left to come, why there was no further line, and
+  -- whether the history was saved
+  pub kept : Filed
+  pub left : Coming
+  pub why : ReadlineError
+  pub saved : Bool
+  pub loaded : IsOk (loads (config_of options) (fresh_feed old End))
+  pub goes : (n : ℕ) → 2 ^ 63 < n → let g = program_given options words in
+      let start = program_start options old bytes last in
+      Reads (λ drawn. drawn) (λ wrote. wrote) n g (each g) start
+      (work [] [] start.history start.coming)
+      (work (known.shown ended.display) (known.written_in ended.lines) kept left) why
+  pub shows : Displays (program_given options words) (program_start options old bytes last)
+  pub done : saved ≡ true → held ended.text ≡ text_to_save kept
+  pub refused : saved ≡ false → IsTrue (failed ended.text)
+      × AppendsSome [] (text_to_save kept) (held ended.text)
+  pub ending_is : ended.ending ≡ ending_of (ending_after why saved)
+  pub reason : SessionReason (program_given options words) (known.feed ended.source).failed
+      (known.show_failed ended.display) (known.write_failed ended.lines) why
+
+-- THE relation of the program's session, over a reader and two writers: where what the reads gave
+-- agrees with the bytes that are said of them, the session is that of these bytes; and a writer
+-- that hasn't failed was handed all that its sink took
+pub record PlaysOver {R K E W T : Type 0}
+    (known : Known (ReadSource R K) (WriteSink E) (WriteSink W)) (held : T → List ℕ)
+    (failed : T → Bool) (options : Options) (words : Option (List (List ℕ))) (old bytes : List ℕ)
+    (last : Last) (ended : Ended (ReadSource R K) (WriteSink E) (WriteSink W) T) : Type 0 where
+  pub plays : IsTrue (agrees (left_of bytes (gave ended.source)) last (met ended.source))
+      → PlaysBytes known held failed options words old bytes last ended
+  pub drawn : known.show_failed ended.display ≡ false
+      → sent_of ended.display ≡ taken ended.display
+  pub written : known.write_failed ended.lines ≡ false → sent_of ended.lines ≡ taken ended.lines
