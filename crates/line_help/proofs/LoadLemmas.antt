@@ -1,6 +1,6 @@
 -- Loading: one row after the other.
 use Rattle.std.proofs.Common.{◌≡◌, ℕ, ◌<◌, Bool, true, false, List, [], ◌∷◌, ◌++◌, length, refl, sym, ◌∙◌, ap, ap₂, arith, append_assoc, suc}
-use Rattle.std.specs.Prelude.{Result, if◌then◌else◌, ◌&&◌, not, IsUtf8, IfErr, Ok, Err, IsOk, bytes_eq}
+use Rattle.std.specs.Prelude.{Result, if◌then◌else◌, ◌&&◌, not, IsTrue, IsUtf8, IfErr, Ok, Err, IsOk, bytes_eq}
 use Rattle.std.specs.Result.{is_ok, MatchResult, OnOk}
 use Rattle.std.specs.Str.{is_utf8, chars}
 use Rattle.std.proofs.lemmas.Str.{IsUtf8-from_is_utf8, is_utf8-from_IsUtf8, IsUtf8-nil}
@@ -11,7 +11,7 @@ use Rattle.line_config.specs.declared.device.Last.TheVariants.{End, Failed}
 use Rattle.line_config.specs.declared.errors.ReadlineError.{ReadlineError}
 use Rattle.line_config.specs.declared.errors.ReadlineError.TheVariants.{HistoryText, Memory}
 use Rattle.line_help.specs.History.{Filed, all_saved, filed_with, filed_with_all, takes_all, ignored}
-use Rattle.line_help.specs.HistoryText.{LosesRow, after_first, behind_row, behind_rows, text_rows, entries_of, entry_of, texts_behind, good_rows, has_bad_row, header, load_answer, load_leaves, left_at, row_fault, rows_answer, answer_at, texts_of}
+use Rattle.line_help.specs.HistoryText.{GoodUpTo, LosesRow, after_first, behind_row, behind_rows, follows, text_rows, entries_of, entry_of, texts_behind, good_rows, has_bad_row, header, load_answer, load_leaves, left_at, row_fault, rows_answer, answer_at, texts_of}
 use Rattle.line_help.specs.Loading.{LoadsSome, left_by_load}
 
 pub not_utf8 : (bytes : List ℕ) → ¬ (IsUtf8 bytes) → is_utf8 bytes ≡ false
@@ -311,5 +311,50 @@ left_bad_text last text coming row e rows = ap (λ rs. rest_of rs text) rows ∙
 pub left_no_text : (last : Last) (text : List ℕ) → text_rows last text ≡ [] → left_by_load last text ≡ []
 unfolding rest_of
 left_no_text last text rows = ap (λ rs. rest_of rs text) rows
+
+-- where the rows up to there were loaded, the rest of a load says what the whole does
+pub record Underway (escapes whole : Bool) (last : Last) (text coming : List ℕ) (before now : Filed) : Type 0 where
+  pub good : GoodUpTo text coming
+  pub part : Reached escapes last text coming before now
+  pub left : left_by_load last coming ≡ left_by_load last text
+  pub history : filed_with_all now (entries_of escapes (good_rows (text_rows last coming))) ≡ filed_with_all before (entries_of escapes (good_rows (text_rows last text)))
+  pub answer :
+      rows_answer last (text_rows last coming) (whole && takes_all now (entries_of escapes (good_rows (text_rows last coming))))
+      ≡ rows_answer last (text_rows last text) (takes_all before (entries_of escapes (good_rows (text_rows last text))))
+
+pub one_row_on : (escapes whole added : Bool) (last : Last) (text here onward row : List ℕ) (before now after : Filed) → is_utf8 row ≡ true
+    → text_rows last here ≡ row ∷ text_rows last onward → onward ≡ behind_row here → GoodUpTo here onward
+    → after ≡ filed_with_all now (entries_of escapes (row ∷ [])) → added ≡ takes_all now (entries_of escapes (row ∷ []))
+    → Underway escapes whole last text here before now → Underway escapes (whole && added) last text onward before after
+one_row_on escapes whole added last text here onward row before now after utf8 r is good made took so = record {
+  good = λ later g. so.good later (good later g);
+  part = reached_more escapes last text here onward row before now after utf8 r is made so.part;
+  left = sym (left_more_text last here onward row utf8 r is) ∙ so.left;
+  history = rw made (sym (left_more now escapes row (text_rows last onward) utf8) ∙ (rw r at so.history));
+  answer = rw (made, took) (sym (answer_more last whole now escapes row (text_rows last onward) utf8) ∙ (rw r at so.answer));
+}
+
+-- a row that isn't UTF-8 ends the load as the whole text says
+pub record EndsLoad (escapes : Bool) (last : Last) (text coming : List ℕ) (before now : Filed) (result : Result Bool ReadlineError) : Type 0 where
+  pub answer : result ≡ rows_answer last (text_rows last text) (takes_all before (entries_of escapes (good_rows (text_rows last text))))
+  pub history : now ≡ filed_with_all before (entries_of escapes (good_rows (text_rows last text)))
+  pub left : coming ≡ left_by_load last text
+
+bad_if_followed : (good : Bool) → IsTrue (follows (Err (if good then Memory else HistoryText))) → good ≡ false
+bad_if_followed true f = cc
+bad_if_followed false f = refl
+
+pub bad_row_ends : (escapes whole : Bool) (last : Last) (text here onward row : List ℕ) (before now : Filed) (result : Result Bool ReadlineError)
+    → text_rows last here ≡ row ∷ text_rows last onward → onward ≡ behind_row here → result ≡ Err (row_fault row) → IsTrue (follows result)
+    → Underway escapes whole last text here before now → EndsLoad escapes last text onward before now result
+bad_row_ends escapes whole last text here onward row before now result r is e f so =
+    let bad : is_utf8 row ≡ false = bad_if_followed (is_utf8 row) (rw e at f) in
+    let rows = text_rows last onward in
+    let why : row_fault row ≡ HistoryText = rw bad refl in
+    record {
+      answer = e ∙ ap (λ w. Err w) why ∙ sym (answer_bad last row rows _ bad) ∙ (rw r at so.answer);
+      history = sym (left_bad now escapes row rows bad) ∙ (rw r at so.history);
+      left = is ∙ sym (left_bad_text last here onward row bad r) ∙ so.left;
+    }
 
 pub ruleset load_steps = (loaded_answer, loaded_leaves)

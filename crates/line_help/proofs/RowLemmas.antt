@@ -6,10 +6,10 @@ use Rattle.std.specs.Str.{is_utf8}
 use Rattle.std.proofs.lemmas.List.{append-nil}
 use Rattle.std.proofs.lemmas.List.Sums.{position_or_len_is}
 use Rattle.std.proofs.lemmas.List.Folds.{list_any-append}
-use Rattle.std.proofs.lemmas.Bool.{eq-eqb, ne_eqb, or_from, or_parts}
+use Rattle.std.proofs.lemmas.Bool.{eq-eqb, eqb-true, ne_eqb, or_from, or_parts}
 use mathlib.Core.Bool.{cond}
 use Rattle.memchr.specs.Find.{IsFirstByte, is_byte}
-use Rattle.line_config.specs.Feed.{Feed}
+use Rattle.line_config.specs.Feed.{Feed, GivesBytes}
 use Rattle.line_config.specs.declared.device.Last.{Last}
 use Rattle.line_config.specs.declared.device.Last.TheVariants.{End, Failed}
 use Rattle.line_help.specs.HistoryText.{TakesPiece, text_rows, onto, without_return, begins_with_newline, behind_row, EndIsMet, GoodUpTo, LosesRow, ReadsGood}
@@ -47,6 +47,20 @@ no_piece feed row = record {
   row = sym (append-nil row);
   inside = refl;
 }
+
+-- the newline behind the first row of some bytes
+up_to : (xs : List ℕ) (count : ℕ) → count ≡ position_or_len (λ b. b == 10) xs → count < length xs → take (count + 1) xs ≡ take count xs ++ (10 ∷ [])
+up_to [] count e inside = absurd (omega arith)
+up_to (x ∷ xs) count e inside = by_first (x == 10) refl e (up_to xs (position_or_len (λ b. b == 10) xs) refl)
+  where
+    by_first : (b : Bool) → (x == 10) ≡ b → count ≡ cond (not b) (1 + position_or_len (λ b. b == 10) xs) 0
+        → (position_or_len (λ b. b == 10) xs < length xs → take (position_or_len (λ b. b == 10) xs + 1) xs ≡ take (position_or_len (λ b. b == 10) xs) xs ++ (10 ∷ []))
+        → take (count + 1) (x ∷ xs) ≡ take count (x ∷ xs) ++ (10 ∷ [])
+    by_first true here e rest = rw (e, eqb-true x 10 here) refl
+    by_first false here e rest =
+        let more : count ≡ suc (position_or_len (λ b. b == 10) xs) = omega arith in
+        let further : count + 1 ≡ suc (position_or_len (λ b. b == 10) xs + 1) = omega arith in
+        rw (further, more) (ap (λ ys. x ∷ ys) (rest (omega arith)))
 
 pub last_return : (xs : List ℕ) → 0 < length xs → get_or xs (length xs - 1) 0 ≡ 13 → without_return xs ≡ take (length xs - 1) xs
 last_return [] some e = absurd (omega arith)
@@ -194,6 +208,37 @@ piece_lost xs piece coming b none other inside = record {
   split = sym (append_assoc xs (b ∷ piece) coming);
   row = behind_none (xs ++ (b ∷ piece)) (more_free xs (b ∷ piece) none (or_from (b == 10) (has_newline piece) (ne_eqb b 10 other) inside));
 }
+
+-- a row that stands whole in what a source has, and what comes behind its newline
+pub record StandsWhole (here onward row : List ℕ) : Type 0 where
+  pub rows : (last : Last) → text_rows last here ≡ row ∷ text_rows last onward
+  pub behind : onward ≡ behind_row here
+  pub good : is_utf8 row ≡ true → GoodUpTo here onward
+  pub lost : LosesRow here onward
+
+pub stands_whole : (ready here onward row : List ℕ) (count : ℕ) → count ≡ position_or_len (λ b. b == 10) ready → count < length ready
+    → here ≡ take (count + 1) ready ++ onward → row ≡ without_return (take count ready) → StandsWhole here onward row
+stands_whole ready here onward row count e inside split is =
+    let xs = take count ready in
+    let none : has_newline xs ≡ false = ap (λ k. has_newline (take k ready)) e ∙ front_free (λ b. b == 10) ready in
+    let cut : here ≡ xs ++ (10 ∷ onward) =
+    split ∙ ap (λ bytes. bytes ++ onward) (up_to ready count e inside) ∙ append_assoc xs (10 ∷ []) onward in
+    record {
+      rows = λ last. ap (text_rows last) cut ∙ cut_row last xs onward none ∙ ap (λ r. r ∷ text_rows last onward) (sym is);
+      behind = sym (ap behind_row cut ∙ behind_cut xs onward none);
+      good = λ utf8. rw cut (row_reads xs onward none (rw is at utf8));
+      lost = rw cut (row_lost xs onward none);
+    }
+
+-- a source that gives bytes has not met the end
+pub still_met : (met : Bool) (old new : Feed) (bytes : List ℕ) → EndIsMet met old → GivesBytes old new bytes → EndIsMet met new
+still_met met old new bytes ended given is = (
+  given.failed ∙ (ended is).0,
+  λ told.
+      let gives = given.gives told in
+      let end = (ended is).1 gives.0 in
+      (nothing_behind bytes new.coming (sym end.0 ∙ gives.1), given.last ∙ end.1),
+)
 
 pub not_met : (met : Bool) (feed : Feed) → met ≡ false → EndIsMet met feed
 not_met true feed e met = absurd (let k : true ≡ false = e in cc)

@@ -4,7 +4,7 @@ use crate::escapes::{pass_on, put, unescaped_entry, write_row};
 use crate::history::History;
 use crate::history_iter::HistoryIter;
 use crate::memory_history::MemHistory;
-use crate::rows::RowReader;
+use crate::rows::{RowReader, row_end, row_len};
 use crate::search::{SearchDirection, SearchResult};
 use line_config::{Config, ReadlineError, Sink, Source};
 use std::alloc::Global;
@@ -239,7 +239,7 @@ impl<'a> IntoIterator for &'a FileHistory {
 
 // Loading.
 impl FileHistory {
-    ghost use Rattle.std.specs.Prelude.{◌≡◌, ◌≤◌, ◌⊎◌, ◌∷◌, [], true, IsTrue, IfOk, IfErr, OnOk, OnErr, Err, bytes_eq};
+    ghost use Rattle.std.specs.Prelude.{◌≡◌, ◌≤◌, ◌⊎◌, ◌∷◌, [], true, false, IsTrue, IfOk, IfErr, OnOk, OnErr, Err, bytes_eq};
     ghost use Rattle.std.specs.Str.{is_utf8};
     ghost use Rattle.line_config.specs.declared.errors.ReadlineError.TheVariants.{HistoryText, Memory, Reader};
     ghost use Rattle.line_help.specs.History.{filed_with_all, takes_all};
@@ -281,7 +281,8 @@ impl FileHistory {
         Ok(false)
     }
 
-    // Adds the entries of all rows that are to come.
+    // Adds the entries of all rows that are to come. A row that stands whole in what the source has
+    // is lent by it.
     fn load_rows<S: Source>(
         &mut self,
         alloc: Global,
@@ -289,7 +290,8 @@ impl FileHistory {
         rows: &mut RowReader,
         escapes: bool,
     ) -> Result<bool, ReadlineError>
-        requires { EndIsMet rows.old.ended (S.feed source.old) }
+        requires ended { EndIsMet rows.old.ended (S.feed source.old) }
+        requires works { (S.feed source.old).failed ≡ false }
         ensures answer { IsTrue (S.feed source.new).told
             → IsTrue (follows result)
             → let rows = text_rows (S.feed source.old).last (S.feed source.old).coming in
@@ -316,11 +318,23 @@ impl FileHistory {
         ensures keeps { (S.feed source.new).bound ≤ (S.feed source.old).bound }
     {
         let mut whole = true;
-        while rows.read(source)? {
+        loop {
+            let ready = source.buffer();
+            let count = row_len(ready);
+            if count < ready.len() {
+                let row = &ready[..count];
+                let lent = self.add_row(alloc, &row[..row_end(row)], escapes);
+                source.consume(count + 1);
+                let taken = lent?;
+                whole &= taken;
+                continue;
+            }
+            if !rows.read(source)? {
+                return Ok(whole);
+            }
             let added = self.add_row(alloc, &rows.row, escapes)?;
-            whole = whole && added;
+            whole &= added;
         }
-        Ok(whole)
     }
 
     /// Adds the entries of a text, in order, and answers whether the text began with the first row

@@ -1,5 +1,5 @@
 //! Rows of a text that comes from a source.
-ghost use Rattle.std.specs.Prelude.{◌≡◌, ◌<◌, ◌≤◌, ◌==◌, is_err, List, [], true, IsTrue, IfOk, IfErr, IfSome, Ok, Err, None, option_to_list, ◌++◌};
+ghost use Rattle.std.specs.Prelude.{◌≡◌, ◌<◌, ◌≤◌, ◌==◌, is_err, length, take, List, [], true, IsTrue, IfOk, IfErr, IfSome, Ok, Err, None, option_to_list, ◌++◌};
 ghost use Rattle.std.specs.List.{position_or_len};
 ghost use Rattle.line_config.specs.declared.device.Last.TheVariants.{End, Failed};
 ghost use Rattle.line_config.specs.declared.errors.ReadlineError.TheVariants.{Reader};
@@ -9,15 +9,25 @@ use line_config::{ReadlineError, Source};
 use memchr::memchr;
 use std::alloc::{AllocError, Global};
 
-/// Takes the carriage return at the end off, if there is one.
+/// Where a row ends: before the carriage return at its end, if there is one.
 #[tactic(auto, using(crate::proofs::RowLemmas::endings))]
-fn drop_return(row: &mut Vec<u8>)
-    ensures { row.new.items ≡ without_return row.old.items }
+pub(crate) fn row_end(row: &[u8]) -> usize
+    ensures value { take result row.now ≡ without_return row.now }
+    ensures within { result ≤ length row.now }
 {
     let len = row.len();
     if len > 0 && row[len - 1] == b'\r' {
-        row.truncate(len - 1);
+        return len - 1;
     }
+    len
+}
+
+/// Takes the carriage return at the end off, if there is one.
+fn drop_return(row: &mut Vec<u8>)
+    ensures { row.new.items ≡ without_return row.old.items }
+{
+    let end = row_end(row);
+    row.truncate(end);
 }
 
 fn next_byte<S: Source>(source: &mut S) -> Result<Option<u8>, ReadlineError>
@@ -42,7 +52,7 @@ fn next_byte<S: Source>(source: &mut S) -> Result<Option<u8>, ReadlineError>
 
 /// How many bytes stand before the first newline.
 #[tactic(auto, using(crate::proofs::RowLemmas::newline_at))]
-fn row_len(bytes: &[u8]) -> usize
+pub(crate) fn row_len(bytes: &[u8]) -> usize
     ensures { result ≡ position_or_len (λ b. b == 10) bytes.now }
 {
     memchr(b'\n', bytes).unwrap_or(bytes.len())

@@ -1,4 +1,4 @@
-use Rattle.std.proofs.Common.{◌≡◌, ◌≤◌, IsTrue}
+use Rattle.std.proofs.Common.{◌≡◌, ◌≤◌, IsTrue, false}
 use Rattle.std.specs.Prelude.{◌&&◌}
 use Rattle.line_help.specs.History.{filed_with_all, takes_all}
 use Rattle.line_help.specs.HistoryText.{EndIsMet, GoodUpTo, entries_of, good_rows, rows_answer, text_rows}
@@ -6,12 +6,13 @@ use Rattle.line_help.specs.Loading.{left_by_load}
 use Rattle.line_help.proofs.LoadLemmas.{Reached}
 use Rattle.line_help.proofs.file_history.FileHistory.load_rows.Given as goal
 
-abbrev pub invariant-loop-self : goal.invariant-loop-self
-invariant-loop-self g l = record {
+abbrev pub invariant-loop-ready : goal.invariant-loop-ready
+invariant-loop-ready g l = record {
   told : IsTrue (g.S.Source.feed l.source).told → IsTrue (g.S.Source.feed l.fn.source).told;
   last : (g.S.Source.feed l.source).last ≡ (g.S.Source.feed l.fn.source).last;
   bound : (g.S.Source.feed l.source).bound ≤ (g.S.Source.feed l.fn.source).bound;
   ended : EndIsMet l.rows.ended (g.S.Source.feed l.source);
+  works : (g.S.Source.feed l.source).failed ≡ false;
   good : IsTrue (g.S.Source.feed l.source).told → GoodUpTo (g.S.Source.feed l.fn.source).coming (g.S.Source.feed l.source).coming;
   part : IsTrue (g.S.Source.feed l.source).told
       → Reached l.escapes (g.S.Source.feed l.fn.source).last (g.S.Source.feed l.fn.source).coming (g.S.Source.feed l.source).coming l.fn.self l.self;
@@ -27,5 +28,5 @@ invariant-loop-self g l = record {
       (takes_all l.fn.self (entries_of l.escapes (good_rows (text_rows (g.S.Source.feed l.fn.source).last (g.S.Source.feed l.fn.source).coming))));
 }
 
-abbrev pub decreases-loop-self : goal.decreases-loop-self
-decreases-loop-self g l = (g.S.Source.feed l.source).bound
+abbrev pub decreases-loop-ready : goal.decreases-loop-ready
+decreases-loop-ready g l = (g.S.Source.feed l.source).bound
