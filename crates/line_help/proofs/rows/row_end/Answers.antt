@@ -1,4 +1,4 @@
-use Rattle.std.proofs.Common.{◌≡◌, ◌-◌, ◌∙◌, length, sym, arith}
+use Rattle.std.proofs.Common.{◌∙◌, sym, arith}
 use Rattle.std.proofs.Math.Seq.{take-length}
 use Rattle.line_help.proofs.RowLemmas.{last_other, no_return}
 use Rattle.line_help.proofs.rows.row_end.Goals as goal
