@@ -22,7 +22,7 @@ use Rattle.line_buffer.specs.declared.types.Movement.{Movement}
 use Rattle.line_buffer.specs.declared.types.Movement.TheVariants.{WholeLine, BeginningOfLine, EndOfLine, BackwardWord, ForwardWord, ViCharSearch, ViFirstPrint, BackwardChar, ForwardChar, LineUp, LineDown, WholeBuffer, BeginningOfBuffer, EndOfBuffer}
 use Rattle.line_buffer.specs.declared.types.Word.TheVariants.{Big}
 use Rattle.line_edits.specs.Edits.{by, typing, char_typed, putting_behind, killing, range_killed}
-use Rattle.line_edits.specs.Steps.{Steps, answering}
+use Rattle.line_edits.specs.Steps.{answering, WriteSteps}
 use Rattle.line_help.specs.History.{begins_with_space}
 use Rattle.line_keys.specs.Replies.{Reply}
 use Rattle.line_keys.specs.declared.command.CmdKind.{CmdKind}
@@ -76,7 +76,7 @@ either s v false e f h k = k refl
 -- ---- steps before that show nothing
 
 -- an edit of the line
-pub edit_leads : (edit : Steps ⊤) (s : Setting) (v w : Value) (e : Effect) → Leads s v e → Leads s v (record { value = e.value; steps = Edits w edit ∷ e.steps })
+pub edit_leads : (edit : WriteSteps ⊤) (s : Setting) (v w : Value) (e : Effect) → Leads s v e → Leads s v (record { value = e.value; steps = Edits w edit ∷ e.steps })
 edit_leads edit s v w e h info = record { fits = (tt, (h info).fits); leads = (h info).leads }
 
 -- changes taken back
@@ -118,7 +118,7 @@ pub refresh_leads : (s : Setting) (v w : Value) → Leads s v (refreshed s w)
 refresh_leads s v w = help_leads w (hint_reply s w) s v (repainted s (asked_anew s w).value) (λ info. record { fits = ((λ e. refl), tt); leads = refl })
 
 -- behind an edit of the line
-pub redraw_leads : {A : Type 0} (edit : Line → Steps A) (s : Setting) (v w : Value) → Leads s v (then_do (rewriting edit) refreshed s w)
+pub redraw_leads : {A : Type 0} (edit : Line → WriteSteps A) (s : Setting) (v w : Value) → Leads s v (then_do (rewriting edit) refreshed s w)
 redraw_leads edit s v w = edit_leads (answering tt (edit w.line)) s v w (refreshed s (rewritten (by edit) w)) (refresh_leads s v (rewritten (by edit) w))
 
 pub told_leads : (text : Option (List ℕ)) (kind : CmdKind) (s : Setting) (v w : Value) → Leads s v (told text kind s w)
@@ -133,7 +133,7 @@ beep_leads s v w h info = record { fits = (tt, tt); leads = ap (λ (l : Line). s
 pub clear_leads : (s : Setting) (v : Value) → Leads s v (cleared_and_drawn s v)
 clear_leads s v = redrawn_leads Cleared v (hint_reply s v) s v (asked_anew s v).value (λ y. tt)
 
-pub refresh_if_leads : {A : Type 0} (edit : Line → Steps A) (s : Setting) (v : Value) (b : Bool) → (b ≡ false → (rewritten (by edit) v).line ≡ v.line) → Leads s v (then_do (rewriting edit) (refreshed_if b) s v)
+pub refresh_if_leads : {A : Type 0} (edit : Line → WriteSteps A) (s : Setting) (v : Value) (b : Bool) → (b ≡ false → (rewritten (by edit) v).line ≡ v.line) → Leads s v (then_do (rewriting edit) (refreshed_if b) s v)
 refresh_if_leads edit s v b h =
     let w = rewritten (by edit) v in
     edit_leads (answering tt (edit v.line)) s v v (refreshed_if b s w) (either s v b (refreshed s w) (unchanged s w) (λ e. refresh_leads s v w) (λ e. rest_leads s v w (h e)))
@@ -300,7 +300,7 @@ taken_by s v w from upto true e low text place info =
       leads = refl;
     }
 
-killed_by : (edit : Steps ⊤) (s : Setting) (v : Value) (held : List Held) (o : Option Span) → (is_plain v.line.text ≡ true → IfSome o (λ span. Low v.line.text span.from span.upto))
+killed_by : (edit : WriteSteps ⊤) (s : Setting) (v : Value) (held : List Held) (o : Option Span) → (is_plain v.line.text ≡ true → IfSome o (λ span. Low v.line.text span.from span.upto))
     → (let w : Value = record v { line = deletion_line o v.line; held = held } in
     Leads s v (if is_some o then record { value = (show_taken v s w).value; steps = Edits v edit ∷ (show_taken v s w).steps } else unchanged s w))
 killed_by edit s v held None h = rest_leads s v (record v { held = held }) refl

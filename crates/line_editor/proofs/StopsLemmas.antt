@@ -5,7 +5,7 @@ use Rattle.std.specs.List.{FoldsTo}
 use Rattle.line_buffer.specs.declared.layout.Layout.{Layout}
 use Rattle.line_config.specs.declared.errors.ReadlineError.{ReadlineError}
 use Rattle.line_config.specs.declared.errors.ReadlineError.TheVariants.{Display, Helper, Memory}
-use Rattle.line_edits.specs.Steps.{Steps, StopsIn}
+use Rattle.line_edits.specs.Steps.{WriteSteps, StopsIn}
 use Rattle.line_keys.specs.Replies.{Reply, fails}
 use Rattle.line_editor.specs.Calls.{Call, Canvas, Marks, Ruler, MadeIn, RefusedIn, BrokenOff}
 use Rattle.line_editor.specs.Calls.Call.{Help}
@@ -87,7 +87,7 @@ module _ {R : Type 0} (canvas : Canvas R) (r : Ruler) where
       inr (e, (is, subst (λ (a : Asked). BrokenOff canvas a.calls old.out new.out) same broken, layout, value), at)
 
   -- at an edit of the line
-  pub stops_editing : (stands : Value) (edit : Steps ⊤) (more : List EditStep) (old new : Surface R) (fault : ReadlineError) (v : Value)
+  pub stops_editing : (stands : Value) (edit : WriteSteps ⊤) (more : List EditStep) (old new : Surface R) (fault : ReadlineError) (v : Value)
       → fault ≡ Memory → new ≡ old → SameBeside stands v → StopsIn edit (written_of stands) (written_of v) → Stops canvas r (Edits stands edit ∷ more) old fault v new
   unfolding Stops
   stops_editing stands edit more old new fault v is same value left = inr (refusal fault v, (is, same, value, left), refl)
@@ -129,7 +129,7 @@ module _ {R : Type 0} (canvas : Canvas R) (r : Ruler) where
   stops_after step more old between new fault v made h = inl (tt, between, made, h)
 
   -- behind an edit of the line
-  pub stops_edited : {A : Type 0} (stands : Value) (edit : Steps ⊤) (more : List EditStep) (old new : Surface R) (v : Value) (result : Result A ReadlineError)
+  pub stops_edited : {A : Type 0} (stands : Value) (edit : WriteSteps ⊤) (more : List EditStep) (old new : Surface R) (v : Value) (result : Result A ReadlineError)
       → IfErr result (λ fault. Stops canvas r more old fault v new) → IfErr result (λ fault. Stops canvas r (Edits stands edit ∷ more) old fault v new)
   stops_edited stands edit more old new v (Ok x) h = tt
   stops_edited stands edit more old new v (Err fault) h = stops_after (Edits stands edit) more old old new fault v (refl, refl) h

@@ -24,7 +24,7 @@ use Rattle.line_buffer.specs.declared.types.WordAction.TheVariants.{Capitalize, 
 use Rattle.line_buffer.proofs.ReplayedLemmas.{replayed_all-one, replayed_insertion, replayed_replacement, yank_pop_replayed}
 use Rattle.line_buffer.proofs.SpanLemmas.{IsLater, place_forward-later, deletion_replays}
 use Rattle.line_config.specs.Scripts.{Ends}
-use Rattle.line_edits.specs.Steps.{Steps, made, answering}
+use Rattle.line_edits.specs.Steps.{WriteSteps, made, answering}
 use Rattle.line_edits.specs.Edits.{put_behind, text_yanked, updated, popped, deleted, clusters_after, exchanged_for, written_over, overwritten, chars_transposed, transpose_chars_in_group, words_transposed, transpose_words_in_group, word_edited, edit_word_in_group, replacing, replacing_if_any, by}
 use Rattle.line_edits.specs.Written.{Written, group_opened, group_closed}
 use Rattle.line_help.specs.Hints.{Hinted}
@@ -242,7 +242,7 @@ complete_reached (Some reply) s v first ok r =
     elected_reached found.start (elected found v.line) s v first ok
     (λ text is. begun_before found.start v.line (not (is_inside_char v.line.text found.start)) (elected_among (v.line.place - found.start) (map (λ o. o.replacement) found.candidates)) text is) r
 
-made_reached : (first : List ℕ) (b : Bool) (x y : Steps Bool) (w : Written) → Reaches first (made x w).held (made x w).line.text → Reaches first (made y w).held (made y w).line.text
+made_reached : (first : List ℕ) (b : Bool) (x y : WriteSteps Bool) (w : Written) → Reaches first (made x w).held (made x w).line.text → Reaches first (made y w).held (made y w).line.text
     → (let z = made (if b then x else y) w in Reaches first z.held z.line.text)
 made_reached first true x y w h k = h
 made_reached first false x y w h k = k

@@ -3,7 +3,7 @@ use Rattle.std.specs.Prelude.{◌⊎◌, ⊤, ℕ, Bool, true, false, List, [], 
 use Rattle.line_buffer.specs.Line.{Line}
 use Rattle.line_buffer.specs.declared.layout.GraphemeClusterMode.{GraphemeClusterMode}
 use Rattle.line_edits.specs.Edits.{by}
-use Rattle.line_edits.specs.Steps.{Steps, answering}
+use Rattle.line_edits.specs.Steps.{WriteSteps, answering}
 use Rattle.line_edits.specs.Written.{Written, group_opened, group_closed}
 use Rattle.line_help.specs.Completion.{Completion}
 use Rattle.line_help.specs.Hints.{Hinted, Answers}
@@ -82,7 +82,7 @@ pub data EditStep : Type 0 where
   -- the helper is asked for an edit of line and record, and makes it or fails
   Updates : (value : Value) (fails : Bool) → EditStep
   -- this edit of line and record is made, which takes memory
-  Edits : (value : Value) (edit : Steps ⊤) → EditStep
+  Edits : (value : Value) (edit : WriteSteps ⊤) → EditStep
   -- changes are taken back from line and record
   TakesBack : (value : Value) → EditStep
   -- memory is taken for something else
@@ -123,7 +123,7 @@ abbrev pub rewritten : (Written → Written) → Value → Value
 rewritten edit v = record v { line = (edit (written_of v)).line; held = (edit (written_of v)).held }
 
 -- the steps of an edit; nothing is drawn
-abbrev pub rewriting : {A : Type 0} → (Line → Steps A) → Transition
+abbrev pub rewriting : {A : Type 0} → (Line → WriteSteps A) → Transition
 rewriting edit s v = record {
   value = rewritten (by edit) v;
   steps = Edits v (answering tt (edit v.line)) ∷ [];

@@ -9,7 +9,7 @@ use Rattle.line_config.specs.Scripts.{Ends}
 use Rattle.line_record.specs.Items.{Items, ItemsStand}
 use Rattle.line_edits.specs.Edits.{typing, deleting, exchanging, replacing, replacing_if_any, stepping_back}
 use Rattle.line_buffer.specs.Printable.{is_plain}
-use Rattle.line_edits.specs.Steps.{Steps, StopsIn, Edits, made, answer_of, in_turn, answering}
+use Rattle.line_edits.specs.Steps.{StopsIn, Edits, made, answer_of, in_turn, answering, WriteSteps}
 use Rattle.line_edits.specs.Written.{Written, Writes, written}
 use Rattle.line_edits.proofs.StepLemmas.{stops_before, stops_behind, written_is, made_answering, answered_is, edits_refused}
 
@@ -38,7 +38,7 @@ replaced_some c n l {after} {old} {new} {plain} {result} some h =
     subst (λ b. Edits (if b then answering true (replacing c n l) else Ends false) l after old new plain result) (sym some) h
 
 -- and what is answered is that one does
-pub replaced_answered : {E : Type 0} (steps : Steps ⊤) {before after : Line} {old new : Items} {plain : Bool} → Writes {E = E} (made steps) (answer_of steps) before after old new (Ok (tt {0}))
+pub replaced_answered : {E : Type 0} (steps : WriteSteps ⊤) {before after : Line} {old new : Items} {plain : Bool} → Writes {E = E} (made steps) (answer_of steps) before after old new (Ok (tt {0}))
     → plain ≡ is_plain after.text → Edits {E = E} (answering true steps) before after old new plain (Ok true)
 replaced_answered steps {before} {after} {old} {new} h plain = record {
   writes = record {
@@ -51,6 +51,6 @@ replaced_answered steps {before} {after} {old} {new} h plain = record {
   plain_is = plain;
 }
 
-pub replaced_refused : {E : Type 0} (steps : Steps ⊤) {before after : Line} {old new : Items} {plain : Bool} (e : E) (result : Result Bool E) → IsErrAnd result (λ x. x ≡ e)
+pub replaced_refused : {E : Type 0} (steps : WriteSteps ⊤) {before after : Line} {old new : Items} {plain : Bool} (e : E) (result : Result Bool E) → IsErrAnd result (λ x. x ≡ e)
     → ItemsStand new after.text → plain ≡ is_plain after.text → StopsIn steps (written before old) (written after new) → Edits (answering true steps) before after old new plain result
 replaced_refused steps e result is stand plain stops = edits_refused e result is stand (stops_before steps (λ a. Ends true) stops) plain

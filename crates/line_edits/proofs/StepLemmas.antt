@@ -13,23 +13,23 @@ use Rattle.line_record.specs.Items.{Items, ItemsStand, RecordedIn, record_refuse
 use Rattle.line_record.specs.Course.{recorded_all}
 use Rattle.line_record.proofs.RunLemmas.{told_stand, told_held, stopped_stand, part_stopped, recorded_all-nil}
 use Rattle.line_buffer.specs.Printable.{is_plain}
-use Rattle.line_edits.specs.Steps.{Steps, Tells, Leaves, StopsWithin, StopsIn, Rewrites, Edits, stepped, written_world, made, answer_of, doing, answering, grouping}
+use Rattle.line_edits.specs.Steps.{Tells, Leaves, StopsWithin, StopsIn, Rewrites, Edits, written_world, made, answer_of, doing, answering, grouping, WriteSteps, step_made}
 use Rattle.line_edits.specs.Written.{Written, Writes, written}
 
 -- ---- steps
 
-pub goes_made : {A : Type 0} (E : Type 0) (steps : Steps A) (w : Written) → Goes (written_world E) steps w (Ok (answer_of steps)) (made steps w)
+pub goes_made : {A : Type 0} (E : Type 0) (steps : WriteSteps A) (w : Written) → Goes (written_world E) steps w (Ok (answer_of steps)) (made steps w)
 goes_made E (Ends answer) w = (refl, refl)
-goes_made E (Asks step later) w = inl (tt, stepped step w, refl, goes_made E (later tt) (stepped step w))
+goes_made E (Asks step later) w = inl (tt, step_made step w, refl, goes_made E (later tt) (step_made step w))
 
 -- whatever the fault is
-pub goes_refused : {A E F : Type 0} (steps : Steps A) (w v : Written) (e : E) (f : F) → Goes (written_world E) steps w (Err e) v → Goes (written_world F) steps w (Err f) v
+pub goes_refused : {A E F : Type 0} (steps : WriteSteps A) (w v : Written) (e : E) (f : F) → Goes (written_world E) steps w (Err e) v → Goes (written_world F) steps w (Err f) v
 goes_refused (Ends answer) w v e f is = ok_not_err answer e (sym is.0)
 goes_refused (Asks step later) w v e f (inl (x, u, is, goes)) = inl (x, u, is, goes_refused (later x) u v e f goes)
 goes_refused (Asks step later) w v e f (inr (g, cut, is)) = inr (f, cut, refl)
 
 -- steps of which others follow
-module _ {A B : Type 0} (steps : Steps A) (next : A → Steps B) where
+module _ {A B : Type 0} (steps : WriteSteps A) (next : A → WriteSteps B) where
   pub stops_before : {w v : Written} → StopsIn steps w v → StopsIn (then steps next) w v
   stops_before {w} {v} h = record { goes = then_cut (written_world _) steps next tt w v h.goes }
 
@@ -37,30 +37,30 @@ module _ {A B : Type 0} (steps : Steps A) (next : A → Steps B) where
   stops_behind {w} {v} h = record { goes = then_goes (written_world _) steps next (answer_of steps) (Err tt) w (made steps w) v (goes_made _ steps w) h.goes }
 
 -- another answer
-pub made_answering : {A B : Type 0} (answer : B) (steps : Steps A) (w : Written) → made (answering answer steps) w ≡ made steps w
+pub made_answering : {A B : Type 0} (answer : B) (steps : WriteSteps A) (w : Written) → made (answering answer steps) w ≡ made steps w
 made_answering answer (Ends a) w = refl
-made_answering answer (Asks step later) w = made_answering answer (later tt) (stepped step w)
+made_answering answer (Asks step later) w = made_answering answer (later tt) (step_made step w)
 
-pub answered_is : {A B : Type 0} (answer : B) (steps : Steps A) → answer_of (answering answer steps) ≡ answer
+pub answered_is : {A B : Type 0} (answer : B) (steps : WriteSteps A) → answer_of (answering answer steps) ≡ answer
 answered_is answer (Ends a) = refl
 answered_is answer (Asks step later) = answered_is answer (later tt)
 
 -- whatever would have been answered
-pub unanswered : {A B : Type 0} (answer : B) (steps : Steps A) (w v : Written) → StopsIn steps w v → StopsIn (answering answer steps) w v
+pub unanswered : {A B : Type 0} (answer : B) (steps : WriteSteps A) (w v : Written) → StopsIn steps w v → StopsIn (answering answer steps) w v
 unanswered answer steps w v stops = record { goes = then_cut (written_world ⊤) steps (λ a. Ends answer) tt w v stops.goes }
 
-pub left_unanswered : {A B E : Type 0} (result : Result A E) (steps : Steps B) (w v : Written) → OnErr result (StopsIn steps w v) → OnErr result (StopsIn (answering (tt {0}) steps) w v)
+pub left_unanswered : {A B E : Type 0} (result : Result A E) (steps : WriteSteps B) (w v : Written) → OnErr result (StopsIn steps w v) → OnErr result (StopsIn (answering (tt {0}) steps) w v)
 left_unanswered result steps w v = on_err_weaker result (unanswered (tt {0}) steps w v)
 
 -- ---- a call
 
 -- one that was refused has made the first of the steps, and the record stands
-pub rewrites_refused : {A E : Type 0} {steps : Steps A} {before after : Line} {old new : Items} (e : E) (result : Result A E)
+pub rewrites_refused : {A E : Type 0} {steps : WriteSteps A} {before after : Line} {old new : Items} (e : E) (result : Result A E)
     → IsErrAnd result (λ x. x ≡ e) → ItemsStand new after.text → StopsIn steps (written before old) (written after new) → Rewrites steps before after old new result
 rewrites_refused e (Ok a) is stand stops = absurd is
 rewrites_refused e (Err x) is stand stops = record { writes = record { answers = tt; line = tt; held = tt; stand = stand }; left = stops }
 
-pub edits_refused : {A E : Type 0} {steps : Steps A} {before after : Line} {old new : Items} {plain : Bool} (e : E) (result : Result A E)
+pub edits_refused : {A E : Type 0} {steps : WriteSteps A} {before after : Line} {old new : Items} {plain : Bool} (e : E) (result : Result A E)
     → IsErrAnd result (λ x. x ≡ e) → ItemsStand new after.text → StopsIn steps (written before old) (written after new) → plain ≡ is_plain after.text
     → Edits steps before after old new plain result
 edits_refused {A} {E} {steps} {before} {after} {old} {new} e result is stand stops plain = let h = rewrites_refused e result is stand stops in record { writes = h.writes; left = left_unanswered result steps (written before old) (written after new) h.left; plain_is = plain }
@@ -72,7 +72,7 @@ written_is {A} {E} {edit} {answer} {before} {after} {old} {new} h =
     ap (λ l. record { line = l; held = held_on new after.text }) h.line ∙ ap (λ k. record { line = (edit (written before old)).line; held = k }) h.held
 
 -- the cursor was moved before
-pub behind_move : {A E : Type 0} {steps : Steps A} (before : Line) (place : ℕ) {after : Line} {old new : Items} (result : Result A E)
+pub behind_move : {A E : Type 0} {steps : WriteSteps A} (before : Line) (place : ℕ) {after : Line} {old new : Items} (result : Result A E)
     → Rewrites steps (record before { place = place }) after old new result → Rewrites (Asks (Leaves (record before { place = place })) (λ none. steps)) before after old new result
 behind_move before place result h = record {
   writes = record { answers = h.writes.answers; line = h.writes.line; held = h.writes.held; stand = h.writes.stand };
@@ -118,7 +118,7 @@ stopped_rewrites e result is utf8 stand call =
 -- ---- groups
 
 -- the edit was refused behind the mark
-pub stopped_in_group : {A E : Type 0} (steps : Steps A) (line : Line) (old : Items) {mid new : Items} {after : Line} → mid ≡ opened old → (e : E) (result : Result A E) → IsErrAnd result (λ x. x ≡ e) → ItemsStand new after.text
+pub stopped_in_group : {A E : Type 0} (steps : WriteSteps A) (line : Line) (old : Items) {mid new : Items} {after : Line} → mid ≡ opened old → (e : E) (result : Result A E) → IsErrAnd result (λ x. x ≡ e) → ItemsStand new after.text
     → StopsIn steps (written line mid) (written after new) → Rewrites (grouping steps) line after old new result
 stopped_in_group steps line old {mid} {new} {after} marked e result is stand stops =
     rewrites_refused e result is stand (record { goes = inl (tt, written line mid, ap (written line) marked, (stops_before steps _ stops).goes) })

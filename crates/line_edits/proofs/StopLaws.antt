@@ -12,14 +12,14 @@ use Rattle.line_config.specs.Scripts.{Goes}
 use Rattle.line_config.proofs.ScriptLaws.{err_in, ok_not_err, parted}
 use Rattle.line_record.specs.Course.{recorded_all}
 use Rattle.line_edits.specs.Laws.{RefusedChangesLeaveAll, RefusedGroupsStayOpen}
-use Rattle.line_edits.specs.Steps.{Tells, Closes, StopsWithin, StopsIn, written_world, followed, doing, grouping}
+use Rattle.line_edits.specs.Steps.{Tells, Closes, StopsWithin, StopsIn, written_world, after_events, doing, grouping}
 use Rattle.line_edits.specs.Written.{Written, group_opened}
 
-followed-none : (w : Written) → followed [] w ≡ w
+followed-none : (w : Written) → after_events [] w ≡ w
 unfolding carried_all recorded_all
 followed-none w = refl
 
-followed-mark : (w : Written) → followed (StartKilling ∷ []) w ≡ w
+followed-mark : (w : Written) → after_events (StartKilling ∷ []) w ≡ w
 unfolding carried_all recorded_all
 followed-mark w = refl
 
@@ -27,7 +27,7 @@ followed-mark w = refl
 kept_within : (events : List Event) {w v : Written} → length events ≤ 1 → StopsWithin events w v → v ≡ w
 kept_within events {w} {v} few x = by x.done x.split x.left
   where
-    by : (done : List Event) → events ≡ done ++ x.refused ∷ x.never → v ≡ followed done w → v ≡ w
+    by : (done : List Event) → events ≡ done ++ x.refused ∷ x.never → v ≡ after_events done w → v ≡ w
     by [] split left = left ∙ followed-none w
     by (e ∷ es) split left = absurd (omega (arith, few, ap length split, length-append es (x.refused ∷ x.never)))
 
@@ -37,7 +37,7 @@ kill_within : (by_clusters : Bool) (range : Option Span) (l : Line) {w v : Writt
 kill_within true range l x = kept_within (deletion_events range l) (deletion_few range l) x
 kill_within false None l x = no_change x.done x.never x.refused x.split x.change
 kill_within false (Some span) l {w} x =
-    split_between (deletion span.from span.upto span.direction l.text) x.done x.never x.refused x.split x.change (λ one is. x.left ∙ ap (λ es. followed es w) one ∙ followed-mark w)
+    split_between (deletion span.from span.upto span.direction l.text) x.done x.never x.refused x.split x.change (λ one is. x.left ∙ ap (λ es. after_events es w) one ∙ followed-mark w)
 
 -- an edit of one step
 stopped_step : {A : Type 0} {events : List Event} {line : Line} {answer : A} {w v : Written} → StopsIn (doing (Tells events line) answer) w v → StopsWithin events w v

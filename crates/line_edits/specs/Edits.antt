@@ -14,42 +14,42 @@ use Rattle.line_buffer.specs.declared.types.WordAction.{WordAction}
 use Rattle.line_config.specs.Scripts.{Ends, Asks}
 use Rattle.line_record.specs.Held.{line_back}
 use Rattle.line_record.specs.Ring.{Ring, ring_all}
-use Rattle.line_edits.specs.Steps.{Steps, Tells, Leaves, made, doing, telling, in_turn, answering, grouping}
+use Rattle.line_edits.specs.Steps.{WriteSteps, Tells, Leaves, made, doing, telling, in_turn, answering, grouping}
 use Rattle.line_edits.specs.Written.{Written}
 
 -- what an edit of the line makes of line and record
-abbrev pub by : {A : Type 0} → (Line → Steps A) → Written → Written
+abbrev pub by : {A : Type 0} → (Line → WriteSteps A) → Written → Written
 by edit w = made (edit w.line) w
 
 -- ---- texts put in
 
-abbrev pub typing : ℕ → ℕ → Line → Steps (Option Bool)
+abbrev pub typing : ℕ → ℕ → Line → WriteSteps (Option Bool)
 typing c n l = telling (insert c n l)
 
 abbrev pub char_typed : ℕ → ℕ → Written → Written
 char_typed c n = by (typing c n)
 
-abbrev pub yanking : List ℕ → ℕ → Line → Steps (Option Bool)
+abbrev pub yanking : List ℕ → ℕ → Line → WriteSteps (Option Bool)
 yanking text n l = telling (yank text n l)
 
 abbrev pub text_yanked : List ℕ → ℕ → Written → Written
 text_yanked text n = by (yanking text n)
 
 -- a text put at the cursor, which stays before it
-abbrev pub putting_behind : List ℕ → Line → Steps ⊤
+abbrev pub putting_behind : List ℕ → Line → WriteSteps ⊤
 putting_behind text l = doing (Tells (insertion l.place text ∷ []) (put_in l.place text l)) tt
 
 abbrev pub put_behind : List ℕ → Written → Written
 put_behind text = by (putting_behind text)
 
 -- the whole text exchanged
-abbrev pub updating : List ℕ → ℕ → Line → Steps ⊤
+abbrev pub updating : List ℕ → ℕ → Line → WriteSteps ⊤
 updating text place l = telling (update text place l)
 
 abbrev pub updated : List ℕ → ℕ → Written → Written
 updated text place = by (updating text place)
 
-abbrev pub updating_in_group : List ℕ → ℕ → Line → Steps ⊤
+abbrev pub updating_in_group : List ℕ → ℕ → Line → WriteSteps ⊤
 updating_in_group text place l = grouping (updating text place l)
 
 abbrev pub update_in_group : List ℕ → ℕ → Written → Written
@@ -57,13 +57,13 @@ update_in_group text place = by (updating_in_group text place)
 
 -- ---- a yanked text exchanged
 
-abbrev pub popping : ℕ → List ℕ → Line → Steps ⊤
+abbrev pub popping : ℕ → List ℕ → Line → WriteSteps ⊤
 popping size text l = answering tt (telling (yank_pop size text l))
 
 abbrev pub popped : ℕ → List ℕ → Written → Written
 popped size text = by (popping size text)
 
-abbrev pub popping_in_group : ℕ → List ℕ → Line → Steps ⊤
+abbrev pub popping_in_group : ℕ → List ℕ → Line → WriteSteps ⊤
 popping_in_group size text l = grouping (popping size text l)
 
 abbrev pub pop_in_group : ℕ → List ℕ → Written → Written
@@ -71,7 +71,7 @@ pop_in_group size text = by (popping_in_group size text)
 
 -- ---- what is taken out
 
-abbrev pub killing : Movement → Line → Steps Bool
+abbrev pub killing : Movement → Line → WriteSteps Bool
 killing movement l = telling (kill movement l)
 
 abbrev pub range_killed : Movement → Written → Written
@@ -89,7 +89,7 @@ TookOrNot movement l old new =
 -- ---- clusters exchanged for characters
 
 -- n clusters after the cursor taken out
-abbrev pub deleting : ℕ → Line → Steps ⊤
+abbrev pub deleting : ℕ → Line → WriteSteps ⊤
 deleting n l = answering tt (telling (delete n l))
 
 abbrev pub deleted : ℕ → Written → Written
@@ -99,11 +99,11 @@ deleted n = by (deleting n)
 abbrev pub clusters_after : ℕ → Line → ℕ
 clusters_after n l = length (take n (graphemes true (text_after l)))
 
-abbrev pub stepping_back : Line → Steps ⊤
+abbrev pub stepping_back : Line → WriteSteps ⊤
 stepping_back l = doing (Leaves (moved_to (place_backward 1 l) l)) tt
 
 -- n clusters exchanged for a character each, the cursor on the last one
-abbrev pub exchanging : ℕ → ℕ → ℕ → Line → Steps ⊤
+abbrev pub exchanging : ℕ → ℕ → ℕ → Line → WriteSteps ⊤
 exchanging c n count l =
     let bare = (delete n l).line in
     in_turn (deleting n l)
@@ -112,19 +112,19 @@ exchanging c n count l =
 abbrev pub exchanged_for : ℕ → ℕ → ℕ → Written → Written
 exchanged_for c n count = by (exchanging c n count)
 
-abbrev pub replacing : ℕ → ℕ → Line → Steps ⊤
+abbrev pub replacing : ℕ → ℕ → Line → WriteSteps ⊤
 replacing c n l = grouping (exchanging c n (clusters_after n l) l)
 
 abbrev pub chars_replaced : ℕ → ℕ → Written → Written
 chars_replaced c n = by (replacing c n)
 
 -- nothing is done where none stands there
-abbrev pub replacing_if_any : ℕ → ℕ → Line → Steps Bool
+abbrev pub replacing_if_any : ℕ → ℕ → Line → WriteSteps Bool
 replacing_if_any c n l =
     if is_some (place_forward n l) then answering true (replacing c n l) else Ends false
 
 -- a character put in place of what stands up to a place
-abbrev pub putting_over : ℕ → ℕ → Line → Steps ⊤
+abbrev pub putting_over : ℕ → ℕ → Line → WriteSteps ⊤
 putting_over c end l =
     doing (Tells (replacement l.place end (encode_utf8 c) l.text ∷ [])
     (replaced l.place end (encode_utf8 c) l)) tt
@@ -133,14 +133,14 @@ abbrev pub put_over : ℕ → ℕ → Written → Written
 put_over c end = by (putting_over c end)
 
 -- the cluster at the cursor written over, if there is one
-abbrev pub writing_over : ℕ → Option ℕ → Line → Steps Bool
+abbrev pub writing_over : ℕ → Option ℕ → Line → WriteSteps Bool
 writing_over c None l = Ends false
 writing_over c (Some end) l = answering true (putting_over c end l)
 
 abbrev pub written_over : ℕ → Option ℕ → Written → Written
 written_over c end = by (writing_over c end)
 
-abbrev pub overwriting : ℕ → Line → Steps Bool
+abbrev pub overwriting : ℕ → Line → WriteSteps Bool
 overwriting c l = writing_over c (place_forward 1 l) l
 
 abbrev pub overwritten : ℕ → Written → Written
@@ -148,45 +148,45 @@ overwritten c = by (overwriting c)
 
 -- ---- clusters and words
 
-abbrev pub transposing_chars : Line → Steps Bool
+abbrev pub transposing_chars : Line → WriteSteps Bool
 transposing_chars l = telling (transpose_chars l)
 
 abbrev pub chars_transposed : Written → Written
 chars_transposed = by transposing_chars
 
-abbrev pub transposing_chars_in_group : Line → Steps Bool
+abbrev pub transposing_chars_in_group : Line → WriteSteps Bool
 transposing_chars_in_group l = grouping (transposing_chars l)
 
 abbrev pub transpose_chars_in_group : Written → Written
 transpose_chars_in_group = by transposing_chars_in_group
 
 -- the cursor goes behind the earlier word before anything is exchanged
-abbrev pub transposing_words : ℕ → Line → Steps Bool
+abbrev pub transposing_words : ℕ → Line → WriteSteps Bool
 transposing_words n l =
     Asks (Leaves (before_transposed n l)) (λ none. telling (transpose_words n l))
 
 abbrev pub words_transposed : ℕ → Written → Written
 words_transposed n = by (transposing_words n)
 
-abbrev pub transposing_words_in_group : ℕ → Line → Steps Bool
+abbrev pub transposing_words_in_group : ℕ → Line → WriteSteps Bool
 transposing_words_in_group n l = grouping (transposing_words n l)
 
 abbrev pub transpose_words_in_group : ℕ → Written → Written
 transpose_words_in_group n = by (transposing_words_in_group n)
 
-abbrev pub editing_word : WordAction → Line → Steps Bool
+abbrev pub editing_word : WordAction → Line → WriteSteps Bool
 editing_word action l = telling (edit_word action l)
 
 abbrev pub word_edited : WordAction → Written → Written
 word_edited action = by (editing_word action)
 
-abbrev pub editing_word_in_group : WordAction → Line → Steps Bool
+abbrev pub editing_word_in_group : WordAction → Line → WriteSteps Bool
 editing_word_in_group action l = grouping (editing_word action l)
 
 abbrev pub edit_word_in_group : WordAction → Written → Written
 edit_word_in_group action = by (editing_word_in_group action)
 
-abbrev pub indenting : Movement → ℕ → Bool → Line → Steps ⊤
+abbrev pub indenting : Movement → ℕ → Bool → Line → WriteSteps ⊤
 indenting movement amount dedent l = answering tt (telling (indent movement amount dedent l))
 
 abbrev pub indented : Movement → ℕ → Bool → Written → Written

@@ -2,7 +2,7 @@
 use Rattle.std.specs.Prelude.{◌≡◌, ◌⊎◌, ℕ, Bool, List}
 use Rattle.line_buffer.specs.declared.types.Movement.{Movement}
 use Rattle.line_edits.specs.Edits.{typing, yanking, putting_behind, putting_over, killing}
-use Rattle.line_edits.specs.Steps.{Steps, StopsIn, grouping}
+use Rattle.line_edits.specs.Steps.{WriteSteps, StopsIn, grouping}
 use Rattle.line_edits.specs.Written.{Written, group_opened}
 
 -- one change that is refused leaves line and record as they were
@@ -17,5 +17,5 @@ pub record RefusedChangesLeaveAll : Type 0 where
 -- refused
 abbrev pub RefusedGroupsStayOpen : Type 0
 RefusedGroupsStayOpen =
-    (steps : Steps Bool) (w v : Written) → StopsIn (grouping steps) w v
+    (steps : WriteSteps Bool) (w v : Written) → StopsIn (grouping steps) w v
     → (v ≡ w) ⊎ StopsIn steps (group_opened w) v

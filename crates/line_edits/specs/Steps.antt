@@ -10,25 +10,25 @@ use Rattle.line_record.specs.Items.{Items}
 use Rattle.line_buffer.specs.Printable.{is_plain}
 use Rattle.line_edits.specs.Written.{Written, Writes, written, edited, group_opened, group_closed}
 
-pub data Step : Type 0 where
+pub data WriteStep : Type 0 where
   -- line and record follow events together, one after another; the line is left so in the end
-  Tells : (events : List Event) (line : Line) → Step
+  Tells : (events : List Event) (line : Line) → WriteStep
   -- the line is left so: its cursor was moved
-  Leaves : (line : Line) → Step
+  Leaves : (line : Line) → WriteStep
   -- a mark is set
-  Marks : Step
+  Marks : WriteStep
   -- all marks are closed
-  Closes : Step
+  Closes : WriteStep
 
-abbrev pub stepped : Step → Written → Written
-stepped (Tells events line) w = edited events line w
-stepped (Leaves line) w = record { line = line; held = w.held }
-stepped Marks w = group_opened w
-stepped Closes w = group_closed w
+abbrev pub step_made : WriteStep → Written → Written
+step_made (Tells events line) w = edited events line w
+step_made (Leaves line) w = record { line = line; held = w.held }
+step_made Marks w = group_opened w
+step_made Closes w = group_closed w
 
 -- line and record after events
-abbrev pub followed : List Event → Written → Written
-followed events w = edited events (carried_all events w.line) w
+abbrev pub after_events : List Event → Written → Written
+after_events events w = edited events (carried_all events w.line) w
 
 -- one of the events was refused: line and record followed those before it together, and neither that
 -- one nor those after it
@@ -38,10 +38,10 @@ pub record StopsWithin (events : List Event) (w v : Written) : Type 0 where
   pub never : List Event
   pub split : events ≡ done ++ refused ∷ never
   pub change : TellsOfChange refused
-  pub left : v ≡ followed done w
+  pub left : v ≡ after_events done w
 
 -- what a step leaves that is refused; moving the cursor and closing marks never is
-abbrev pub Refused : Step → Written → Written → Type 0
+abbrev pub Refused : WriteStep → Written → Written → Type 0
 Refused (Tells events line) w v = StopsWithin events w v
 Refused (Leaves line) w v = ⊥
 Refused Marks w v = v ≡ w
@@ -49,63 +49,63 @@ Refused Closes w v = ⊥
 
 -- ---- edits
 
-abbrev pub Told : Step → Type 0
-Told step = ⊤
+abbrev pub StepAnswer : WriteStep → Type 0
+StepAnswer step = ⊤
 
-abbrev pub Steps : Type 0 → Type 0
-Steps A = Script Step Told A
+abbrev pub WriteSteps : Type 0 → Type 0
+WriteSteps A = Script WriteStep StepAnswer A
 
-abbrev pub written_world : (E : Type 0) → World Step Told Written E
+abbrev pub written_world : (E : Type 0) → World WriteStep StepAnswer Written E
 written_world E = record {
-  made = λ w step none v. v ≡ stepped step w;
+  made = λ w step none v. v ≡ step_made step w;
   cut = λ w step e v. Refused step w v;
 }
 
 -- what all steps make
-abbrev pub made : {A : Type 0} → Steps A → Written → Written
+abbrev pub made : {A : Type 0} → WriteSteps A → Written → Written
 made (Ends answer) w = w
-made (Asks step later) w = made (later tt) (stepped step w)
+made (Asks step later) w = made (later tt) (step_made step w)
 
-abbrev pub answer_of : {A : Type 0} → Steps A → A
+abbrev pub answer_of : {A : Type 0} → WriteSteps A → A
 answer_of (Ends answer) = answer
 answer_of (Asks step later) = answer_of (later tt)
 
 -- the first steps were made, in order, and the refused one and those after it were not
-pub record StopsIn {A : Type 0} (steps : Steps A) (w v : Written) : Type 0 where
+pub record StopsIn {A : Type 0} (steps : WriteSteps A) (w v : Written) : Type 0 where
   pub goes : Goes (written_world ⊤) steps w (Err tt) v
 
 -- ---- what edits are made of
 
-abbrev pub doing : {A : Type 0} → Step → A → Steps A
+abbrev pub doing : {A : Type 0} → WriteStep → A → WriteSteps A
 doing step answer = Asks step (λ none. Ends answer)
 
 -- an edit of the line, told to the record
-abbrev pub telling : {A : Type 0} → Edit A → Steps A
+abbrev pub telling : {A : Type 0} → Edit A → WriteSteps A
 telling edit = doing (Tells edit.events edit.line) edit.answer
 
 -- one edit after another
-abbrev pub in_turn : {A B : Type 0} → Steps A → Steps B → Steps B
+abbrev pub in_turn : {A B : Type 0} → WriteSteps A → WriteSteps B → WriteSteps B
 in_turn first second = then first (λ a. second)
 
 -- the same edit, and another answer
-abbrev pub answering : {A B : Type 0} → B → Steps A → Steps B
+abbrev pub answering : {A B : Type 0} → B → WriteSteps A → WriteSteps B
 answering answer steps = in_turn steps (Ends answer)
 
 -- undone as one
-abbrev pub grouping : {A : Type 0} → Steps A → Steps A
+abbrev pub grouping : {A : Type 0} → WriteSteps A → WriteSteps A
 grouping steps = Asks Marks (λ none. then steps (λ a. doing Closes a))
 
 -- ---- calls
 
 -- a call that is answered has made all steps of the edit, and answers so; one that is refused has
 -- made the first of them
-pub record Rewrites {A E : Type 0} (steps : Steps A) (before after : Line) (old new : Items)
+pub record Rewrites {A E : Type 0} (steps : WriteSteps A) (before after : Line) (old new : Items)
     (result : Result A E) : Type 0 where
   pub writes : Writes (made steps) (answer_of steps) before after old new result
   pub left : OnErr result (StopsIn steps (written before old) (written after new))
 
 -- the same, whatever the answer, and the mark of a plain text is true of the new one
-pub record Edits {A E : Type 0} (steps : Steps A) (before after : Line) (old new : Items)
+pub record Edits {A E : Type 0} (steps : WriteSteps A) (before after : Line) (old new : Items)
     (plain : Bool) (result : Result A E) : Type 0 where
   pub writes : Writes (made steps) (answer_of steps) before after old new result
   pub left : OnErr result

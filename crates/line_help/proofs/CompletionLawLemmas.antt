@@ -12,7 +12,7 @@ use Rattle.std.proofs.lemmas.Str.{chars-encodes, encodes-chars, scalars-chars, I
 use Rattle.line_buffer.specs.Insertions.{last_cut}
 use Rattle.line_help.specs.CommonPrefix.{common_beginning, common_to_all}
 use Rattle.line_help.proofs.CommonPrefixLemmas.{last_cut_le, last_cut_boundary, last_cut_greatest, alike, long}
-use Rattle.line_help.specs.CompletionLaws.{EscapesComeBack, Begins, CommonBeginningIsLongest}
+use Rattle.line_help.specs.CompletionLaws.{EscapesComeBack, BeginsText, CommonBeginningIsLongest}
 use Rattle.line_help.specs.Quotes.{unescaped, unescaped_chars, escaped_chars, escaped_by}
 use Rattle.line_help.specs.declared.quotes.Quote.TheVariants.{Double, Single, None as Unquoted}
 use Rattle.line_help.proofs.QuoteLemmas.{escaped_one, plain_char}
@@ -61,7 +61,7 @@ escapes_come_back_holds text esc breaks Single u s is not_single = absurd (not_s
 escapes_come_back_holds text esc breaks Unquoted u s is not_single = comes_back text esc breaks u s is
 
 -- what two texts have in common
-begins_on : (a b c : List ℕ) → Begins a b → Begins b c → Begins a c
+begins_on : (a b c : List ℕ) → BeginsText a b → BeginsText b c → BeginsText a c
 begins_on a b c p q = (p.0 ++ q.0, q.1 ∙ ap (λ t. t ++ q.0) p.1 ∙ append_assoc a p.0 q.0)
 
 common_end : (text other : List ℕ) → IsUtf8 text → last_cut text (common_prefix_len nat_eq text other) ≤ common_prefix_len nat_eq text other
@@ -72,19 +72,19 @@ common_is_text text other u =
     let n = common_prefix_len nat_eq text other in
     IsUtf8-take text (last_cut text n) u (last_cut_boundary text n u (common_prefix_len-le nat_eq text other).0)
 
-common_begins : (text other : List ℕ) → Begins (common_beginning text other) text
+common_begins : (text other : List ℕ) → BeginsText (common_beginning text other) text
 common_begins text other =
     let n = last_cut text (common_prefix_len nat_eq text other) in
     (drop n text, sym (take-append-drop n text))
 
-common_begins_other : (text other : List ℕ) → Begins (common_beginning text other) other
+common_begins_other : (text other : List ℕ) → BeginsText (common_beginning text other) other
 common_begins_other text other =
     let m = common_prefix_len nat_eq text other in
     let n = last_cut text m in
     let same : take n text ≡ take n other = alike n text other (last_cut_le text m) in
     (drop n other, sym (take-append-drop n other) ∙ ap (λ t. t ++ drop n other) (sym same))
 
-common_is_longest : (text other front : List ℕ) → IsUtf8 text → IsUtf8 front → Begins front text → Begins front other → Begins front (common_beginning text other)
+common_is_longest : (text other front : List ℕ) → IsUtf8 text → IsUtf8 front → BeginsText front text → BeginsText front other → BeginsText front (common_beginning text other)
 common_is_longest text other front u v a b =
     let m = common_prefix_len nat_eq text other in
     let n = last_cut text m in
@@ -99,18 +99,18 @@ common_is_longest text other front u v a b =
 
 pub common_beginning_is_longest_holds : CommonBeginningIsLongest
 common_beginning_is_longest_holds text [] u =
-    (u, All-cons (Begins text) text [] ([], sym (append-nil text)) (All-nil (Begins text)), λ front v all. All-head (Begins front) text [] all)
+    (u, All-cons (BeginsText text) text [] ([], sym (append-nil text)) (All-nil (BeginsText text)), λ front v all. All-head (BeginsText front) text [] all)
 common_beginning_is_longest_holds text (other ∷ others) u =
     let first = common_beginning text other in
     let left = common_beginning_is_longest_holds first others (common_is_text text other u) in
     let whole = common_to_all first others in
-    let in_first : Begins whole first = All-head (Begins whole) first others left.1 in (
+    let in_first : BeginsText whole first = All-head (BeginsText whole) first others left.1 in (
       left.0,
-      All-cons (Begins whole) text (other ∷ others) (begins_on whole first text in_first (common_begins text other))
-          (All-cons (Begins whole) other others (begins_on whole first other in_first (common_begins_other text other)) (All-tail (Begins whole) first others left.1)),
+      All-cons (BeginsText whole) text (other ∷ others) (begins_on whole first text in_first (common_begins text other))
+          (All-cons (BeginsText whole) other others (begins_on whole first other in_first (common_begins_other text other)) (All-tail (BeginsText whole) first others left.1)),
       λ front v all.
-          let rest = All-tail (Begins front) text (other ∷ others) all in
-          left.2 front v (All-cons (Begins front) first others
-          (common_is_longest text other front u v (All-head (Begins front) text (other ∷ others) all) (All-head (Begins front) other others rest))
-          (All-tail (Begins front) other others rest)),
+          let rest = All-tail (BeginsText front) text (other ∷ others) all in
+          left.2 front v (All-cons (BeginsText front) first others
+          (common_is_longest text other front u v (All-head (BeginsText front) text (other ∷ others) all) (All-head (BeginsText front) other others rest))
+          (All-tail (BeginsText front) other others rest)),
     )

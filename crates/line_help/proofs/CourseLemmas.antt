@@ -5,7 +5,7 @@ use Rattle.std.proofs.Math.Nat.{min-eq_left, min-eq_right}
 use Rattle.std.proofs.lemmas.Bool.Decides.{Decides-eqb}
 use Rattle.std.proofs.lemmas.Grind.{flat_map-append}
 use Rattle.std.proofs.lemmas.List.{append-nil, append_assoc, length-append}
-use Rattle.line_help.specs.Course.{WrittenHistory, Step, Adds, Saves, Appends, Loads, after_step, after_steps, just_saved, CanStep, CanMake}
+use Rattle.line_help.specs.Course.{WrittenHistory, HistoryStep, Adds, Saves, Appends, Loads, after_step, after_steps, just_saved, CanStep, CanMake}
 use Rattle.line_help.specs.History.{Settings, Filed, added, all_saved, filed_with, ignored, newest, nothing_filed}
 use Rattle.line_help.specs.HistoryText.{header, row_of, rows_text, saved_text}
 use Rattle.line_help.specs.Laws.{TextKeepsUp}
@@ -171,13 +171,13 @@ after_loading s now r = record {
   gives = none_behind s r.rows (added_all s [] r.rows);
 }
 
-after_one : (s : Settings) (now : WrittenHistory) (step : Step) → CanStep step now → Stands s now → Stands s (after_step s step now)
+after_one : (s : Settings) (now : WrittenHistory) (step : HistoryStep) → CanStep step now → Stands s now → Stands s (after_step s step now)
 after_one s now (Adds line) can r = after_adding s now line r
 after_one s now Saves can r = after_saving s now can r
 after_one s now Appends can r = after_appending s now can r
 after_one s now Loads can r = after_loading s now r
 
-after_all : (s : Settings) (steps : List Step) (now : WrittenHistory) → CanMake s steps now → Stands s now → Stands s (after_steps s steps now)
+after_all : (s : Settings) (steps : List HistoryStep) (now : WrittenHistory) → CanMake s steps now → Stands s now → Stands s (after_steps s steps now)
 after_all s [] now can r = r
 after_all s (step ∷ steps) now can r = after_all s steps (after_step s step now) can.1 (after_one s now step can.0 r)
 

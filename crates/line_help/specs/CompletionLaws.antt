@@ -14,14 +14,14 @@ EscapesComeBack =
     → unescaped (escaped text (Some esc) breaks quote) (Some esc) ≡ text
 
 -- one text begins another
-abbrev pub Begins : List ℕ → List ℕ → Type 0
-Begins front text = (rest : List ℕ) × (text ≡ front ++ rest)
+abbrev pub BeginsText : List ℕ → List ℕ → Type 0
+BeginsText front text = (rest : List ℕ) × (text ≡ front ++ rest)
 
 -- what texts have in common is a text and begins each of them, and so does each text that begins
 -- them all begin it
 abbrev pub CommonBeginningIsLongest : Type 0
 CommonBeginningIsLongest = (text : List ℕ) (others : List (List ℕ)) → IsUtf8 text →
     IsUtf8 (common_to_all text others)
-    × All (Begins (common_to_all text others)) (text ∷ others)
-    × ((front : List ℕ) → IsUtf8 front → All (Begins front) (text ∷ others)
-    → Begins front (common_to_all text others))
+    × All (BeginsText (common_to_all text others)) (text ∷ others)
+    × ((front : List ℕ) → IsUtf8 front → All (BeginsText front) (text ∷ others)
+    → BeginsText front (common_to_all text others))

@@ -11,18 +11,18 @@ pub record WrittenHistory : Type 0 where
 
 -- a line is added; what is saved takes the place of the text; what is new is appended to the text;
 -- a new history is loaded from it
-pub data Step : Type 0 where
-  Adds : (line : List ℕ) → Step
-  Saves : Step
-  Appends : Step
-  Loads : Step
+pub data HistoryStep : Type 0 where
+  Adds : (line : List ℕ) → HistoryStep
+  Saves : HistoryStep
+  Appends : HistoryStep
+  Loads : HistoryStep
 
 -- nothing is saved where nothing is new: then the text stays
 abbrev pub text_after_save : WrittenHistory → List ℕ
 text_after_save now =
     if now.history.unsaved == 0 then now.text else saved_text now.history.kept.entries
 
-abbrev pub after_step : Settings → Step → WrittenHistory → WrittenHistory
+abbrev pub after_step : Settings → HistoryStep → WrittenHistory → WrittenHistory
 after_step settings (Adds line) now =
     record { text = now.text; history = filed_with now.history line }
 after_step settings Saves now =
@@ -31,7 +31,7 @@ after_step settings Appends now =
     record { text = now.text ++ text_to_append now.history; history = all_saved now.history }
 after_step settings Loads now = record { text = now.text; history = loaded settings now.text }
 
-abbrev pub after_steps : Settings → List Step → WrittenHistory → WrittenHistory
+abbrev pub after_steps : Settings → List HistoryStep → WrittenHistory → WrittenHistory
 after_steps settings [] now = now
 after_steps settings (step ∷ steps) now = after_steps settings steps (after_step settings step now)
 
@@ -45,13 +45,13 @@ just_saved settings lines =
     }
 
 -- what is written can come back
-abbrev pub CanStep : Step → WrittenHistory → Type 0
+abbrev pub CanStep : HistoryStep → WrittenHistory → Type 0
 CanStep (Adds line) now = Unit {0}
 CanStep Saves now = CanComeBack now.history.kept.entries
 CanStep Appends now = CanComeBack now.history.kept.entries
 CanStep Loads now = Unit {0}
 
-abbrev pub CanMake : Settings → List Step → WrittenHistory → Type 0
+abbrev pub CanMake : Settings → List HistoryStep → WrittenHistory → Type 0
 CanMake settings [] now = Unit {0}
 CanMake settings (step ∷ steps) now =
     CanStep step now × CanMake settings steps (after_step settings step now)

@@ -1,7 +1,7 @@
 -- What a saved text gives back; which brackets match, and which texts are valid.
 use Rattle.std.specs.Prelude.{◌≡◌, ◌≢◌, ◌↔◌, ◌⊎◌, ℕ, true, List, [], ◌∷◌, ◌++◌, Some, None}
 use Rattle.line_help.specs.Brackets.{all_kinds, is_opening, is_closing, partner, Balanced}
-use Rattle.line_help.specs.Course.{Step, after_steps, just_saved, CanMake}
+use Rattle.line_help.specs.Course.{HistoryStep, after_steps, just_saved, CanMake}
 use Rattle.line_help.specs.History.{Settings, Filed, newest}
 use Rattle.line_help.specs.HistoryText.{text_to_save, text_to_append}
 use Rattle.line_help.specs.Loaded.{CanComeBack, loaded, history_made_of}
@@ -30,7 +30,7 @@ ReloadAppended =
 -- nothing is new, the text, loaded into a new history, gives the history
 abbrev pub TextKeepsUp : Type 0
 TextKeepsUp =
-    (settings : Settings) (lines : List (List ℕ)) (steps : List Step)
+    (settings : Settings) (lines : List (List ℕ)) (steps : List HistoryStep)
     → let start = just_saved settings lines in
     let now = after_steps settings steps start in
     CanComeBack start.history.kept.entries → CanMake settings steps start → now.history.unsaved ≡ 0
