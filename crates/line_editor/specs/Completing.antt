@@ -5,8 +5,7 @@ use Rattle.line_buffer.specs.Insertions.{is_inside_char}
 use Rattle.line_buffer.specs.Line.{Line, replaced}
 use Rattle.line_buffer.specs.Replay.{replacement}
 use Rattle.line_edits.specs.Written.{Written, edited, in_group}
-use Rattle.line_help.specs.CommonPrefix.{longest_common_prefix}
-use Rattle.line_help.specs.Completion.{Completion, nothing_offered}
+use Rattle.line_help.specs.Completion.{longest_common_prefix, Completion, nothing_offered}
 use Rattle.line_keys.specs.Replies.{Reply, fails}
 use Rattle.line_editor.specs.Drawing.{beeped, refreshed}
 use Rattle.line_editor.specs.Values.EditStep.{Updates}

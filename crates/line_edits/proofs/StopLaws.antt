@@ -11,7 +11,7 @@ use Rattle.line_buffer.proofs.KeptLemmas.{no_change, deletion_few, insert_few, s
 use Rattle.line_config.specs.Scripts.{Goes}
 use Rattle.line_config.proofs.ScriptLaws.{err_in, ok_not_err, parted}
 use Rattle.line_record.specs.Course.{recorded_all}
-use Rattle.line_edits.specs.Laws.{RefusedChangesLeaveAll, RefusedGroupsStayOpen}
+use Rattle.line_edits.specs.Edits.{RefusedChangesLeaveAll, RefusedGroupsStayOpen}
 use Rattle.line_edits.specs.Steps.{Tells, Closes, StopsWithin, StopsIn, written_world, after_events, doing, grouping}
 use Rattle.line_edits.specs.Written.{Written, group_opened}
 

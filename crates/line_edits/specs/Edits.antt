@@ -1,5 +1,5 @@
 -- The steps of each edit of a line and its record, and what they make of both.
-use Rattle.std.specs.Prelude.{◌≡◌, ◌⊎◌, ⊤, ℕ, Bool, true, false, max, if◌then◌else◌, List, [], ◌∷◌, take, drop, length, Option, Some, None, is_some, encode_utf8}
+use Rattle.std.specs.Prelude.{◌≡◌, ◌⊎◌, ⊤, ℕ, Bool, true, false, max, if◌then◌else◌, List, [], ◌∷◌, take, drop, length, Option, Some, None, is_some, encode_utf8, Result, OnErr}
 use Rattle.unicode_segmentation.specs.Grapheme.{graphemes}
 use Rattle.line_buffer.specs.Clusters.{place_forward, place_backward}
 use Rattle.line_buffer.specs.Indent.{indent}
@@ -12,10 +12,12 @@ use Rattle.line_buffer.specs.Transpositions.{transpose_chars, transpose_words, b
 use Rattle.line_buffer.specs.declared.types.Movement.{Movement}
 use Rattle.line_buffer.specs.declared.types.WordAction.{WordAction}
 use Rattle.line_config.specs.Scripts.{Ends, Asks}
-use Rattle.line_record.specs.Held.{line_back}
+use Rattle.line_record.specs.Held.{line_back, has_step}
 use Rattle.line_record.specs.Ring.{Ring, ring_all}
-use Rattle.line_edits.specs.Steps.{WriteSteps, Tells, Leaves, made, doing, telling, in_turn, answering, grouping}
-use Rattle.line_edits.specs.Written.{Written}
+use Rattle.line_edits.specs.Steps.{WriteSteps, Tells, Leaves, made, doing, telling, in_turn, answering, grouping, StopsIn}
+use Rattle.line_edits.specs.Written.{Written, is_plain, Writes, group_opened}
+use Rattle.line_record.specs.Items.{Items, no_items, lines_back, held_on}
+use Rattle.line_record.specs.UndoRedo.{last_changes}
 
 -- what an edit of the line makes of line and record
 abbrev pub by : {A : Type 0} → (Line → WriteSteps A) → Written → Written
@@ -65,9 +67,6 @@ popped size text = by (popping size text)
 
 abbrev pub popping_in_group : ℕ → List ℕ → Line → WriteSteps ⊤
 popping_in_group size text l = grouping (popping size text l)
-
-abbrev pub pop_in_group : ℕ → List ℕ → Written → Written
-pop_in_group size text = by (popping_in_group size text)
 
 -- ---- what is taken out
 
@@ -196,3 +195,35 @@ indented movement amount dedent = by (indenting movement amount dedent)
 
 abbrev pub undone : ℕ → Written → Written
 undone n w = record { line = line_back (max n 1) w.held w.line; held = drop (max n 1) w.held }
+
+-- the newest of the changes were taken back, the first ones that are left were not, and nothing is
+-- recorded any more
+pub record UndoneInPart (n : ℕ) (before after : Line) (old new : Items) : Type 0 where
+  pub left : ℕ
+  pub line : after ≡ lines_back (drop left (last_changes (max n 1) old.done)) before
+  pub forgotten : new ≡ no_items
+
+-- n items are taken back, 0 acting as 1, and the answer is whether a step was among them
+pub record Undoes {E : Type 0} (n : ℕ) (before after : Line) (old new : Items) (plain : Bool)
+    (result : Result Bool E) : Type 0 where
+  pub writes : Writes (undone n) (has_step (max n 1) (held_on old before.text))
+      before after old new result
+  pub left : OnErr result (UndoneInPart n before after old new)
+  pub plain_is : plain ≡ is_plain after.text
+
+-- ---- what a refused edit leaves
+
+-- one change that is refused leaves line and record as they were
+pub record RefusedChangesLeaveAll : Type 0 where
+  pub typed : (c n : ℕ) (w v : Written) → StopsIn (typing c n w.line) w v → v ≡ w
+  pub yanked : (text : List ℕ) (n : ℕ) (w v : Written) → StopsIn (yanking text n w.line) w v → v ≡ w
+  pub put : (text : List ℕ) (w v : Written) → StopsIn (putting_behind text w.line) w v → v ≡ w
+  pub put_over : (c end : ℕ) (w v : Written) → StopsIn (putting_over c end w.line) w v → v ≡ w
+  pub killed : (movement : Movement) (w v : Written) → StopsIn (killing movement w.line) w v → v ≡ w
+
+-- a group that is refused leaves all as it was, or its mark open: then the edit behind the mark was
+-- refused
+abbrev pub RefusedGroupsStayOpen : Type 0
+RefusedGroupsStayOpen =
+    (steps : WriteSteps Bool) (w v : Written) → StopsIn (grouping steps) w v
+    → (v ≡ w) ⊎ StopsIn steps (group_opened w) v

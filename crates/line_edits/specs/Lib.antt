@@ -1,5 +1,3 @@
 pub mod Written
 pub mod Steps
 pub mod Edits
-pub mod Laws
-pub mod Undoing

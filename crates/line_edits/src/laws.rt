@@ -1,5 +1,5 @@
 //! Laws of refused edits, each the contract of a function that does nothing.
-ghost use Rattle.line_edits.specs.Laws.{RefusedChangesLeaveAll, RefusedGroupsStayOpen};
+ghost use Rattle.line_edits.specs.Edits.{RefusedChangesLeaveAll, RefusedGroupsStayOpen};
 
 /// An edit of one change that is refused leaves line and record as they were.
 pub fn refused_changes()

@@ -1,9 +1,8 @@
 //! The whole text exchanged, and what was recorded taken back.
 ghost use Rattle.std.specs.Prelude.{IsCharBoundary};
 ghost use Rattle.line_record.specs.Items.{ItemsStand};
-ghost use Rattle.line_edits.specs.Edits.{updating, updating_in_group};
+ghost use Rattle.line_edits.specs.Edits.{updating, updating_in_group, Undoes};
 ghost use Rattle.line_edits.specs.Steps.{Edits, Rewrites};
-ghost use Rattle.line_edits.specs.Undoing.{Undoes};
 
 use crate::plain::is_plain;
 use line_buffer::{LineBuffer, OutOfMemory, RepeatCount};

@@ -2,7 +2,7 @@
 use Rattle.std.proofs.Common.{◌≡◌, refl, [], ◌∷◌, Some, None, ◌++◌}
 use Rattle.std.specs.Prelude.{codes}
 use lib.Utf8.{encode}
-use Rattle.line_help.specs.Matching.{bracket_to_match, match_of}
+use Rattle.line_help.specs.Brackets.{bracket_to_match, match_of}
 use Rattle.line_help.specs.Highlights.{kept_bracket, with_match_shown}
 use Rattle.line_help.specs.Validation.{bracket_verdict}
 use Rattle.line_help.specs.declared.validate.ValidationResult.TheVariants.{Incomplete, Invalid, Valid}

@@ -7,7 +7,7 @@ use Rattle.std.proofs.lemmas.Bool.Decides.{nat_tests}
 use Rattle.std.proofs.lemmas.Str.{IsCharBoundary-start}
 use Rattle.line_buffer.specs.Insertions.{last_cut, is_inside_char}
 use Rattle.line_buffer.proofs.InsertionLemmas.{is_cut, not_cut}
-use Rattle.line_help.specs.CommonPrefix.{common_to_all, unless_empty, longest_common_prefix}
+use Rattle.line_help.specs.Completion.{common_to_all, unless_empty, longest_common_prefix}
 
 above_or_at : (r n : ℕ) → r ≤ suc n → (r ≡ suc n) ⊎ (r ≤ n)
 above_or_at r n le = grind arith

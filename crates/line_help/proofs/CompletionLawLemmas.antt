@@ -10,9 +10,8 @@ use Rattle.std.proofs.lemmas.List.Elements.{All-nil, All-cons, All-head, All-tai
 use Rattle.std.proofs.lemmas.List.Sums.{common_prefix_len-le}
 use Rattle.std.proofs.lemmas.Str.{chars-encodes, encodes-chars, scalars-chars, IsUtf8-take, IsCharBoundary-from_take}
 use Rattle.line_buffer.specs.Insertions.{last_cut}
-use Rattle.line_help.specs.CommonPrefix.{common_beginning, common_to_all}
+use Rattle.line_help.specs.Completion.{common_beginning, common_to_all, EscapesComeBack, BeginsText, CommonBeginningIsLongest}
 use Rattle.line_help.proofs.CommonPrefixLemmas.{last_cut_le, last_cut_boundary, last_cut_greatest, alike, long}
-use Rattle.line_help.specs.CompletionLaws.{EscapesComeBack, BeginsText, CommonBeginningIsLongest}
 use Rattle.line_help.specs.Quotes.{unescaped, unescaped_chars, escaped_chars, escaped_by}
 use Rattle.line_help.specs.declared.quotes.Quote.TheVariants.{Double, Single, None as Unquoted}
 use Rattle.line_help.proofs.QuoteLemmas.{escaped_one, plain_char}

@@ -4,11 +4,10 @@ use Rattle.std.specs.Prelude.{codes, bytes_eq}
 use Rattle.std.specs.Str.{chars}
 use lib.Utf8.{encode}
 use Rattle.line_buffer.specs.Insertions.{last_cut}
-use Rattle.line_help.specs.CommonPrefix.{longest_common_prefix}
+use Rattle.line_help.specs.Completion.{longest_common_prefix, word_start, is_among, break_characters}
 use Rattle.line_help.specs.FileNames.{Named, path_completion, unsorted_completion}
 use Rattle.line_keys.specs.Replies.{Reply, gives, gives_at_once}
 use Rattle.line_help.specs.Quotes.{escaped, unescaped, unclosed_quote}
-use Rattle.line_help.specs.WordBefore.{word_start, is_among, break_characters}
 use Rattle.line_help.specs.declared.quotes.Quote.TheVariants.{Double, Single, None as Unquoted}
 
 -- `fée`, `fête`

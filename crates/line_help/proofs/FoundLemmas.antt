@@ -7,8 +7,7 @@ use Rattle.std.proofs.lemmas.Bool.Decides.{Decides-eqb, nat_tests}
 use Rattle.std.proofs.lemmas.List.{drop-append-le, drop_at, take_at, take-append-drop, length-take-le, length-reverse, reverse-append, reverse-reverse}
 use Rattle.std.proofs.lemmas.List.Elements.{All-from_recursion, recursion_from_All}
 use Rattle.std.proofs.lemmas.Slice.Eq.{starts_is}
-use Rattle.line_help.specs.Search.{Hit, hit_or, hit_by, first_hit, first_from, first_back, nearest}
-use Rattle.line_help.specs.SearchLaws.{TermAt, HasTerm, IsHit, IsNearest, NearestIsFound}
+use Rattle.line_help.specs.Search.{Hit, hit_or, hit_by, first_hit, first_from, first_back, nearest, TermAt, HasTerm, IsHit, IsNearest, NearestIsFound}
 use Rattle.line_help.specs.declared.search.SearchDirection.{SearchDirection}
 use Rattle.line_help.specs.declared.search.SearchDirection.TheVariants.{Forward, Reverse}
 use Rattle.line_help.proofs.SearchLemmas.{begins_with_itself}

@@ -5,10 +5,9 @@ use Rattle.std.specs.Str.{chars, is_utf8}
 use lib.Utf8.{encode}
 use Rattle.line_config.specs.declared.device.Last.TheVariants.{End, Failed}
 use Rattle.line_config.specs.declared.errors.ReadlineError.TheVariants.{HistoryText, Reader}
-use Rattle.line_help.specs.Course.{Adds, Appends, Loads, after_steps, just_saved}
+use Rattle.line_help.specs.Course.{Adds, Appends, Loads, after_steps, just_saved, loaded}
 use Rattle.line_help.specs.History.{Settings, filed_with_all, takes_all, nothing_filed, entries_kept, ignored, resized}
 use Rattle.line_help.specs.HistoryText.{text_rows, texts_of, has_header, text_to_save, text_to_append, header, load_answer, load_leaves}
-use Rattle.line_help.specs.Loaded.{loaded}
 use Rattle.line_help.specs.Search.{searched}
 use Rattle.line_help.specs.Hints.{history_hint}
 use Rattle.line_help.specs.declared.search.SearchDirection.TheVariants.{Forward, Reverse}

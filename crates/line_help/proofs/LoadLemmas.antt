@@ -11,8 +11,7 @@ use Rattle.line_config.specs.declared.device.Last.TheVariants.{End, Failed}
 use Rattle.line_config.specs.declared.errors.ReadlineError.{ReadlineError}
 use Rattle.line_config.specs.declared.errors.ReadlineError.TheVariants.{HistoryText, Memory}
 use Rattle.line_help.specs.History.{Filed, all_saved, filed_with, filed_with_all, takes_all, ignored}
-use Rattle.line_help.specs.HistoryText.{GoodUpTo, LosesRow, after_first, behind_row, behind_rows, follows, text_rows, entries_of, entry_of, texts_behind, good_rows, has_bad_row, header, load_answer, load_leaves, left_at, row_fault, rows_answer, answer_at, texts_of}
-use Rattle.line_help.specs.Loading.{LoadsSome, left_by_load}
+use Rattle.line_help.specs.HistoryText.{GoodUpTo, LosesRow, after_first, behind_row, behind_rows, follows, text_rows, entries_of, entry_of, good_rows, has_bad_row, header, load_answer, load_leaves, left_at, row_fault, rows_answer, answer_at, texts_of, LoadsSome, left_by_load}
 
 pub not_utf8 : (bytes : List ℕ) → ¬ (IsUtf8 bytes) → is_utf8 bytes ≡ false
 not_utf8 bytes never = by_answer (is_utf8 bytes) refl where
@@ -137,7 +136,7 @@ pub header_row : (row : List ℕ) → bytes_eq row header ≡ true → is_utf8 r
 header_row row e = rw ((bytes_eq-Decides row header).0 e) header_is_utf8
 
 texts_step : (h : Filed) (row : List ℕ) (rows : List (List ℕ)) (escapes : Bool) → bytes_eq row header ≡ escapes
-    → filed_with_all h (texts_behind escapes rows (row ∷ rows)) ≡ filed_with_all (if escapes then h else filed_with_all h (entries_of false (row ∷ []))) (entries_of escapes rows)
+    → filed_with_all h (if escapes then entries_of true rows else entries_of false (row ∷ rows)) ≡ filed_with_all (if escapes then h else filed_with_all h (entries_of false (row ∷ []))) (entries_of escapes rows)
 texts_step h row rows true e = refl
 texts_step h row rows false e = left_step h false row rows
 
@@ -146,7 +145,7 @@ pub loaded_left : (h : Filed) (row : List ℕ) (rows : List (List ℕ)) → is_u
 loaded_left h row rows e = ap (λ rs. filed_with_all h (texts_of rs)) (good_more row rows e) ∙ texts_step h row (good_rows rows) (bytes_eq row header) refl
 
 takes_behind : (h : Filed) (row : List ℕ) (rows : List (List ℕ)) (escapes : Bool)
-    → (escapes && takes_all h (texts_behind escapes rows (row ∷ rows))) ≡ (escapes && takes_all (if escapes then h else filed_with_all h (entries_of false (row ∷ []))) (entries_of escapes rows))
+    → (escapes && takes_all h (if escapes then entries_of true rows else entries_of false (row ∷ rows))) ≡ (escapes && takes_all (if escapes then h else filed_with_all h (entries_of false (row ∷ []))) (entries_of escapes rows))
 takes_behind h row rows true = refl
 takes_behind h row rows false = refl
 

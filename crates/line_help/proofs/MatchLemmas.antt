@@ -2,7 +2,7 @@
 use Rattle.std.proofs.Common.{◌≡◌, ℕ, suc, ◌+◌, ◌-◌, ◌<◌, Bool, true, false, List, [], ◌∷◌, length, drop, take, reverse, refl, ap, Option, Some, None, option_map, slice_index_or, arith}
 use Rattle.std.specs.Prelude.{if◌then◌else◌, ◌==◌, ◌&&◌}
 use Rattle.std.proofs.lemmas.List.{drop_more, take_more, reverse-append}
-use Rattle.line_help.specs.Matching.{unclosed_behind, bytes_between}
+use Rattle.line_help.specs.Brackets.{unclosed_behind, bytes_between}
 
 -- the place where so many bytes stand before it from a place on
 abbrev pub place_behind : ℕ → Option ℕ → Option ℕ

@@ -2,8 +2,7 @@
 use Rattle.std.proofs.Common.{◌≡◌, ◌≢◌, ℕ, ◌+◌, ◌==◌, ◌&&◌, ◌⊎◌, inl, inr, Bool, true, false, List, [], ◌∷◌, ◌++◌, length, Option, Some, None, refl, sym, ap, ◌∙◌, subst, append_assoc, length-append, arith, ne_eqb, true≢false, if◌then◌else◌}
 use Rattle.std.specs.Prelude.{is_some, unwrap_or}
 use Rattle.std.proofs.lemmas.List.{append-nil}
-use Rattle.line_help.specs.Quotes.{closes_quote, escapes_in, escapes_at, opened_at, quote_after, open_behind, unclosed_quote}
-use Rattle.line_help.specs.QuoteGrammar.{Within, nothing_within, byte_within, pair_within, Closed, nothing_closed, byte_closed, pair_closed, between_double, between_single, UpToBackslash, Unclosed, OpensAt, UnclosedQuoteIsOpen}
+use Rattle.line_help.specs.Quotes.{closes_quote, escapes_in, escapes_at, opened_at, quote_after, open_behind, unclosed_quote, Within, nothing_within, byte_within, pair_within, Closed, nothing_closed, byte_closed, pair_closed, between_double, between_single, UpToBackslash, Unclosed, OpensAt, UnclosedQuoteIsOpen}
 use Rattle.line_help.specs.declared.quotes.Quote.{Quote}
 use Rattle.line_help.specs.declared.quotes.Quote.TheVariants.{Double, Single, None as Unquoted}
 use Rattle.line_help.proofs.BalanceLemmas.{eqb_true}

@@ -12,7 +12,7 @@ use Rattle.line_config.specs.declared.device.Last.TheVariants.{End}
 use Rattle.line_help.specs.History.{Settings, Filed, begins_with_space, newest_is, filed_with, filed_with_all, nothing_filed, all_saved, newest}
 use Rattle.line_help.specs.HistoryText.{escaped_entry, escaped_byte, unescaped_row, entry_of, entries_of, row_of, rows_text, text_rows, saved_text, header, without_return, good_rows, has_bad_row, load_leaves, text_to_append}
 use Rattle.line_help.specs.Laws.{Reload, ReloadAppended}
-use Rattle.line_help.specs.Loaded.{ends_in_return, CanComeBack, loaded, history_made_of}
+use Rattle.line_help.specs.Course.{ends_in_return, CanComeBack, loaded, history_made_of}
 use Rattle.line_help.proofs.EscapeLemmas.{plain_byte, no_byte}
 use Rattle.line_help.proofs.LoadLemmas.{loaded_leaves, header_is_utf8}
 use Rattle.line_help.proofs.RowLemmas.{cut_row, has_newline}

@@ -4,7 +4,7 @@ use Rattle.std.specs.List.{filter}
 use Rattle.std.specs.List.Sorted.{IsSortedBy, IsStableBy, ties}
 use Rattle.std.specs.Cmp.{IsStrictWeakOrder}
 use Rattle.std.proofs.lemmas.List.Sorted.{sorted_far}
-use Rattle.line_help.specs.Sorting.{placed_by, sorted_by}
+use Rattle.line_help.specs.FileNames.{placed_by, sorted_by}
 
 -- no element is less than x
 NoneBefore : {X : Type 0} → (X → X → Bool) → X → List X → Type 0

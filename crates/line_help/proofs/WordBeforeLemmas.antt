@@ -6,7 +6,7 @@ use Rattle.std.specs.Char.{IsScalar}
 use Rattle.std.proofs.lemmas.Str.{chars-append, chars-nil, encodes-chars, IsUtf8-append, IsUtf8-encode, length-encode, len_utf8_bounds, IsCharBoundary-from_take}
 use Rattle.std.proofs.lemmas.List.{reverse-append, reverse-reverse, append-nil, length-append, length-take, take-take, take_at}
 use Rattle.line_help.proofs.QuoteLemmas.{chars_step}
-use Rattle.line_help.specs.WordBefore.{is_escape, is_escaped, before_word, word_start}
+use Rattle.line_help.specs.Completion.{is_escape, is_escaped, before_word, word_start}
 
 one_char : (c : ℕ) → IsScalar c → chars (encode_utf8 c) ≡ c ∷ []
 one_char c scalar = ap chars (sym (append-nil (encode_utf8 c))) ∙ chars_step c [] scalar ∙ ap (λ cs. c ∷ cs) chars-nil

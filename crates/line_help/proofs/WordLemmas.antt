@@ -6,8 +6,7 @@ use Rattle.std.proofs.lemmas.Bool.Decides.{nat_tests}
 use Rattle.std.proofs.lemmas.List.Elements.{filter-append}
 use Rattle.line_help.specs.HistoryText.{entries_of}
 use Rattle.std.proofs.lemmas.Simd.{map-map}
-use Rattle.line_help.specs.Completion.{text_offered}
-use Rattle.line_help.specs.WordCompletion.{last_word_start, words_for, word_completion, word_reply}
+use Rattle.line_help.specs.Completion.{text_offered, last_word_start, words_for, word_completion, word_reply}
 
 -- one word more
 words_more : {X : Type 0} (bytes : X → List ℕ) (beginning : List ℕ) (words : List X) (i : ℕ) (word : X) → i < length words → word ≡ get_or words i word

@@ -1,5 +1,5 @@
 -- Brackets: which bytes they are, and which texts of them are balanced.
-use Rattle.std.specs.Prelude.{◌≡◌, ℕ, ◌==◌, ◌&&◌, ◌||◌, Bool, true, false, if◌then◌else◌, List, [], ◌∷◌, ◌++◌}
+use Rattle.std.specs.Prelude.{◌≡◌, ℕ, ◌==◌, ◌&&◌, ◌||◌, Bool, true, false, if◌then◌else◌, List, [], ◌∷◌, ◌++◌, suc, ◌+◌, ◌-◌, not, nat_le, length, take, drop, reverse, Option, Some, None, option_map, slice_get}
 use Rattle.std.specs.List.{list_any}
 
 -- each opening bracket with its closing one: ( ), [ ], { }
@@ -45,3 +45,77 @@ pub data Balanced (kinds : List (ℕ × ℕ)) : List ℕ → Type 0 where
   pair : (opening closing : ℕ) (inner text : List ℕ) → are_kind kinds opening closing ≡ true
       → Balanced kinds inner → Balanced kinds text
       → Balanced kinds (opening ∷ (inner ++ (closing ∷ text)))
+
+-- ---- the bracket at the cursor, and the one that matches it
+
+abbrev pub where_it_is : (ℕ × ℕ → Bool) → Option (ℕ × ℕ) → Option (ℕ × ℕ)
+where_it_is test None = None
+where_it_is test (Some found) = if test found then Some found else None
+
+abbrev pub first_of_two : Option (ℕ × ℕ) → Option (ℕ × ℕ) → Option (ℕ × ℕ)
+first_of_two None other = other
+first_of_two (Some found) other = Some found
+
+-- the bracket that stands at a place, with the place
+abbrev pub bracket_at : List ℕ → ℕ → Option (ℕ × ℕ)
+bracket_at line place =
+    where_it_is (λ found. is_bracket found.0)
+    (option_map (λ byte. (byte, place)) (slice_get line place))
+
+-- the bracket at the cursor, else the one right before it
+abbrev pub bracket_near : List ℕ → ℕ → Option (ℕ × ℕ)
+bracket_near line pos =
+    first_of_two (bracket_at line pos) (if pos == 0 then None else bracket_at line (pos - 1))
+
+-- whether something stands on the side on which the bracket's match would be
+abbrev pub match_has_room : List ℕ → ℕ × ℕ → Bool
+match_has_room line found =
+    if is_closing found.0 then not (found.1 == 0) else not (found.1 == length line - 1)
+
+-- the bracket whose match is to be shown: with the cursor after the line, its last byte where that
+-- closes, and else the bracket near the cursor, if its match has room
+abbrev pub bracket_to_match : List ℕ → ℕ → Option (ℕ × ℕ)
+bracket_to_match line pos =
+    if nat_le (length line) pos then where_it_is (λ found. is_closing found.0)
+    (bracket_at line (length line - 1))
+    else where_it_is (match_has_room line) (bracket_near line pos)
+
+-- how many brackets stand open after a byte, where this many did before it; only those of one kind
+-- count
+abbrev pub unclosed_behind : ℕ → ℕ → ℕ → ℕ → ℕ
+unclosed_behind same other byte unclosed =
+    if byte == other then unclosed - 1 else if byte == same then unclosed + 1 else unclosed
+
+-- how many bytes stand before the bracket `other` with which the bracket `same` before these bytes
+-- is matched
+abbrev pub bytes_between : ℕ → ℕ → ℕ → List ℕ → Option ℕ
+bytes_between same other unclosed [] = None
+bytes_between same other unclosed (byte ∷ bytes) = if (byte == other) && (unclosed == 0) then Some 0
+    else option_map suc (bytes_between same other (unclosed_behind same other byte unclosed) bytes)
+
+-- the place of the match of a bracket at a place: after it for an opening one, before it for a
+-- closing one
+abbrev pub match_place : List ℕ → ℕ → ℕ → Option ℕ
+match_place line pos bracket =
+    if is_opening bracket then option_map (λ n. pos + 1 + n)
+    (bytes_between bracket (partner bracket) 0 (drop (pos + 1) line))
+    else if is_closing bracket then option_map (λ n. length (take pos line) - 1 - n)
+    (bytes_between bracket (partner bracket) 0 (reverse (take pos line)))
+    else None
+
+abbrev pub match_of : List ℕ → ℕ → ℕ → Option (ℕ × ℕ)
+match_of line pos bracket =
+    option_map (λ place. (partner bracket, place)) (match_place line pos bracket)
+
+-- what stands at the two places is a bracket and its match: between them the brackets of their kind
+-- alone are balanced
+abbrev pub MatchesBehind : List ℕ → ℕ → ℕ → ℕ → Type 0
+MatchesBehind line opening pos place =
+    (between : List ℕ) × (after : List ℕ)
+    × (drop (pos + 1) line ≡ between ++ (partner opening ∷ after))
+    × Balanced ((opening, partner opening) ∷ []) between × (place ≡ pos + 1 + length between)
+
+abbrev pub MatchesBefore : List ℕ → ℕ → ℕ → ℕ → Type 0
+MatchesBefore line closing pos place =
+    (before : List ℕ) × (between : List ℕ) × (take pos line ≡ before ++ (partner closing ∷ between))
+    × Balanced ((partner closing, closing) ∷ []) between × (place ≡ length before)

@@ -1,10 +1,18 @@
 -- What a completer answers: where the word starts, and what may stand in its place; and what an
 -- update makes of the line.
-use Rattle.std.specs.Prelude.{◌≡◌, ◌⊎◌, ℕ, List, [], map, Result, OnOk, OnErr}
+use Rattle.std.specs.Prelude.{◌≡◌, ◌⊎◌, ℕ, List, [], map, Result, OnOk, OnErr, ◌==◌, Bool, false, if◌then◌else◌, ◌∷◌, length, reverse, Option, Some, None, encode_utf8_all, take, nat_eq, ◌≢◌, IsTrue, ◌++◌, IsUtf8, All, filter, drop, nat_lt}
 use Rattle.std.specs.Global.{Vec}
 use Rattle.line_buffer.specs.Event.{Event}
 use Rattle.line_buffer.specs.Line.{Line, replaced}
 use Rattle.line_buffer.specs.Replay.{Replays, replacement}
+use Rattle.std.specs.List.{list_any, common_prefix_len, starts_with}
+use Rattle.std.specs.Str.{chars}
+use Rattle.line_buffer.specs.Insertions.{last_cut}
+use Rattle.std.specs.Char.{IsScalar, is_whitespace}
+use Rattle.line_help.specs.Quotes.{unescaped, escaped}
+use Rattle.line_help.specs.declared.quotes.Quote.{Quote}
+use Rattle.line_help.specs.declared.quotes.Quote.TheVariants.{Single}
+use Rattle.line_keys.specs.Replies.{Reply}
 
 -- a candidate: the text that is listed, and the one that is put into the line
 pub record Offered : Type 0 where
@@ -39,3 +47,106 @@ pub record Updates {L A E : Type 0} (takes refuses : L → Event → L → Type 
   pub refused : OnErr result ((listener' ≡ listener)
       ⊎ refuses listener (replacement start line.place elected line.text) listener')
   pub stays : OnErr result (line' ≡ line)
+
+-- ---- the word before a place in a line
+
+-- whether a character is the escape
+abbrev pub is_escape : Option ℕ → ℕ → Bool
+is_escape None c = false
+is_escape (Some esc) c = c == esc
+
+-- the same of the nearest character, where characters are read from the end
+abbrev pub is_escaped : Option ℕ → List ℕ → Bool
+is_escaped esc [] = false
+is_escaped esc (c ∷ cs) = is_escape esc c
+
+-- what stands before the word, both read from the end: the word begins after the nearest break
+-- character that has no escape before it
+abbrev pub before_word : Option ℕ → (ℕ → Bool) → List ℕ → List ℕ
+before_word esc breaks [] = []
+before_word esc breaks (c ∷ []) = if breaks c then c ∷ [] else []
+before_word esc breaks (c ∷ (d ∷ cs)) = if breaks c
+    then (if is_escape esc d then before_word esc breaks cs else c ∷ (d ∷ cs))
+    else before_word esc breaks (d ∷ cs)
+
+-- where the last word of a text begins
+abbrev pub word_start : Option ℕ → (ℕ → Bool) → List ℕ → ℕ
+word_start esc breaks text =
+    length (encode_utf8_all (reverse (before_word esc breaks (reverse (chars text)))))
+
+-- the characters that end a word in a shell: space, tab, newline, " \ ' ` @ $ > < = ; | & { ( and
+-- NUL
+abbrev pub break_characters : List ℕ
+break_characters =
+    32 ∷ 9 ∷ 10 ∷ 34 ∷ 92 ∷ 39 ∷ 96 ∷ 64 ∷ 36 ∷ 62 ∷ 60 ∷ 61 ∷ 59 ∷ 124 ∷ 38 ∷ 123 ∷ 40 ∷ 0 ∷ []
+
+-- those that keep a meaning between double quotes: " $ \ `
+abbrev pub double_quote_characters : List ℕ
+double_quote_characters = 34 ∷ 36 ∷ 92 ∷ 96 ∷ []
+
+abbrev pub is_among : List ℕ → ℕ → Bool
+is_among cs c = list_any (λ d. c == d) cs
+
+-- ---- the longest beginning that texts have in common
+
+-- the longest beginning of a text, in whole characters, that another text has too
+abbrev pub common_beginning : List ℕ → List ℕ → List ℕ
+common_beginning text other = take (last_cut text (common_prefix_len nat_eq text other)) text
+
+abbrev pub common_to_all : List ℕ → List (List ℕ) → List ℕ
+common_to_all text [] = text
+common_to_all text (other ∷ others) = common_to_all (common_beginning text other) others
+
+abbrev pub unless_empty : List ℕ → Option (List ℕ)
+unless_empty [] = None
+unless_empty (b ∷ bs) = Some (b ∷ bs)
+
+-- a sole text is its own longest beginning, also where it is empty
+abbrev pub longest_common_prefix : List (List ℕ) → Option (List ℕ)
+longest_common_prefix [] = None
+longest_common_prefix (text ∷ []) = Some text
+longest_common_prefix (text ∷ (other ∷ others)) = unless_empty (common_to_all text (other ∷ others))
+
+-- ---- laws of completion, in words of their own
+
+-- an escaped text, unescaped, is the text again, where the escape itself is escaped
+abbrev pub EscapesComeBack : Type 0
+EscapesComeBack =
+    (text : List ℕ) (esc : ℕ) (breaks : ℕ → Bool) (quote : Quote) → IsUtf8 text → IsScalar esc
+    → IsTrue (breaks esc) → quote ≢ Single
+    → unescaped (escaped text (Some esc) breaks quote) (Some esc) ≡ text
+
+-- one text begins another
+abbrev pub BeginsText : List ℕ → List ℕ → Type 0
+BeginsText front text = (rest : List ℕ) × (text ≡ front ++ rest)
+
+-- what texts have in common is a text and begins each of them, and so does each text that begins
+-- them all begin it
+abbrev pub CommonBeginningIsLongest : Type 0
+CommonBeginningIsLongest = (text : List ℕ) (others : List (List ℕ)) → IsUtf8 text →
+    IsUtf8 (common_to_all text others)
+    × All (BeginsText (common_to_all text others)) (text ∷ others)
+    × ((front : List ℕ) → IsUtf8 front → All (BeginsText front) (text ∷ others)
+    → BeginsText front (common_to_all text others))
+
+-- ---- by words: those that begin as the last word of a text does, in their order
+
+-- where the last word of a text begins: after its last whitespace
+abbrev pub last_word_start : List ℕ → ℕ
+last_word_start text = word_start None is_whitespace text
+
+abbrev pub words_for : List ℕ → List (List ℕ) → List (List ℕ)
+words_for beginning words = filter (λ word. starts_with nat_eq word beginning) words
+
+-- what is completed for a text
+abbrev pub word_completion : List (List ℕ) → List ℕ → Completion
+word_completion words text = record {
+  start = last_word_start text;
+  candidates = map text_offered (words_for (drop (last_word_start text) text) words);
+}
+
+-- in memory that its candidates take
+abbrev pub word_reply : List (List ℕ) → List ℕ → Reply Completion
+word_reply words text =
+    let found : Completion = word_completion words text in
+    record { answer = Some found; takes = nat_lt 0 (length found.candidates) }

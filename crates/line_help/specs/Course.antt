@@ -1,8 +1,28 @@
 -- A history and its text over a course of steps, under unchanged settings.
-use Rattle.std.specs.Prelude.{◌==◌, ℕ, if◌then◌else◌, List, [], ◌∷◌, ◌++◌}
-use Rattle.line_help.specs.History.{Settings, Filed, filed_with, all_saved}
-use Rattle.line_help.specs.HistoryText.{saved_text, text_to_append}
-use Rattle.line_help.specs.Loaded.{CanComeBack, loaded, history_made_of}
+use Rattle.std.specs.Prelude.{◌==◌, ℕ, if◌then◌else◌, List, [], ◌∷◌, ◌++◌, ◌≡◌, Bool, true, false}
+use Rattle.line_help.specs.History.{Settings, Filed, filed_with, all_saved, filed_with_all, nothing_filed}
+use Rattle.line_help.specs.HistoryText.{saved_text, text_to_append, text_rows, load_leaves}
+use Rattle.std.specs.Str.{is_utf8}
+use Rattle.line_config.specs.declared.device.Last.TheVariants.{End}
+
+abbrev pub ends_in_return : List ℕ → Bool
+ends_in_return [] = false
+ends_in_return (b ∷ []) = b == 13
+ends_in_return (b ∷ (c ∷ bs)) = ends_in_return (c ∷ bs)
+
+-- each entry is UTF-8, as a text is, and none ends in a carriage return
+abbrev pub CanComeBack : List (List ℕ) → Type 0
+CanComeBack [] = Unit {0}
+CanComeBack (entry ∷ entries) =
+    (is_utf8 entry ≡ true) × (ends_in_return entry ≡ false) × CanComeBack entries
+
+-- a new history, after a text was loaded into it
+abbrev pub loaded : Settings → List ℕ → Filed
+loaded settings text = load_leaves End (text_rows End text) (nothing_filed settings)
+
+-- a new history, after these lines were added, and with nothing to save
+abbrev pub history_made_of : Settings → List (List ℕ) → Filed
+history_made_of settings lines = all_saved (filed_with_all (nothing_filed settings) lines)
 
 -- a history, and the text that was written of it
 pub record WrittenHistory : Type 0 where
@@ -18,15 +38,13 @@ pub data HistoryStep : Type 0 where
   Loads : HistoryStep
 
 -- nothing is saved where nothing is new: then the text stays
-abbrev pub text_after_save : WrittenHistory → List ℕ
-text_after_save now =
-    if now.history.unsaved == 0 then now.text else saved_text now.history.kept.entries
-
 abbrev pub after_step : Settings → HistoryStep → WrittenHistory → WrittenHistory
 after_step settings (Adds line) now =
     record { text = now.text; history = filed_with now.history line }
-after_step settings Saves now =
-    record { text = text_after_save now; history = all_saved now.history }
+after_step settings Saves now = record {
+  text = if now.history.unsaved == 0 then now.text else saved_text now.history.kept.entries;
+  history = all_saved now.history;
+}
 after_step settings Appends now =
     record { text = now.text ++ text_to_append now.history; history = all_saved now.history }
 after_step settings Loads now = record { text = now.text; history = loaded settings now.text }
@@ -38,11 +56,8 @@ after_steps settings (step ∷ steps) now = after_steps settings steps (after_st
 -- a history that these lines gave, when all of it was saved
 abbrev pub just_saved : Settings → List (List ℕ) → WrittenHistory
 just_saved settings lines =
-    record {
-      text = saved_text (history_made_of settings lines).kept.entries;
-      history = history_made_of settings
-          lines;
-    }
+    let history : Filed = history_made_of settings lines in
+    record { text = saved_text history.kept.entries; history = history }
 
 -- what is written can come back
 abbrev pub CanStep : HistoryStep → WrittenHistory → Type 0

@@ -1,15 +1,22 @@
 -- Names of files and folders for a path that is being typed.
-use Rattle.std.specs.Prelude.{ℕ, ◌+◌, ◌-◌, ◌==◌, ◌||◌, Bool, true, false, not, List, [], ◌∷◌, ◌++◌, length, take, drop, map, filter, nat_eq, Option, Some, None, is_some, option_map}
+use Rattle.std.specs.Prelude.{ℕ, ◌+◌, ◌-◌, ◌==◌, ◌||◌, Bool, true, false, not, List, [], ◌∷◌, ◌++◌, length, take, drop, map, filter, nat_eq, Option, Some, None, is_some, option_map, if◌then◌else◌}
 use Rattle.std.specs.List.{starts_with, suffix_len}
 use Rattle.std.specs.Ordering.{is_lt, nat_cmp}
 use Rattle.std.specs.Cmp.Lexicographic.{slice_cmp}
-use Rattle.line_help.specs.Completion.{Offered, Completion}
+use Rattle.line_help.specs.Completion.{Offered, Completion, word_start, break_characters, double_quote_characters, is_among}
 use Rattle.line_keys.specs.Replies.{Reply}
-use Rattle.line_help.specs.Sorting.{sorted_by}
 use Rattle.line_help.specs.Quotes.{unescaped, escaped, unclosed_quote, escapes_at}
-use Rattle.line_help.specs.WordBefore.{word_start, break_characters, double_quote_characters, is_among}
 use Rattle.line_help.specs.declared.quotes.Quote.{Quote}
 use Rattle.line_help.specs.declared.quotes.Quote.TheVariants.{Double, Single, None as Unquoted}
+
+-- before the first element that isn't less
+abbrev pub placed_by : {X : Type 0} → (X → X → Bool) → X → List X → List X
+placed_by lt x [] = x ∷ []
+placed_by lt x (y ∷ ys) = if lt y x then y ∷ placed_by lt x ys else x ∷ (y ∷ ys)
+
+abbrev pub sorted_by : {X : Type 0} → (X → X → Bool) → List X → List X
+sorted_by lt [] = []
+sorted_by lt (x ∷ xs) = placed_by lt x (sorted_by lt xs)
 
 -- what a folder holds: a name, and whether a folder bears it
 pub record Named : Type 0 where
@@ -34,14 +41,12 @@ is_special Unquoted c = is_among break_characters c
 
 -- after an open quote the path is the rest; else it is the last word
 abbrev pub quoted : ℕ → Quote → List ℕ → Typed
-quoted start Double text =
-    record { start = start; path = unescaped (drop start text) (Some 92); quote = Double }
-quoted start Single text = record { start = start; path = drop start text; quote = Single }
-quoted start Unquoted text = record { start = start; path = drop start text; quote = Unquoted }
+quoted start Double text = typed_of start (unescaped (drop start text) (Some 92)) Double
+quoted start Single text = typed_of start (drop start text) Single
+quoted start Unquoted text = typed_of start (drop start text) Unquoted
 
 abbrev pub unquoted : ℕ → List ℕ → Typed
-unquoted start text =
-    record { start = start; path = unescaped (drop start text) (Some 92); quote = Unquoted }
+unquoted start text = typed_of start (unescaped (drop start text) (Some 92)) Unquoted
 
 abbrev pub typed_behind : Option (ℕ × Quote) → List ℕ → Typed
 typed_behind None text = unquoted (word_start (Some 92) (is_among break_characters) text) text

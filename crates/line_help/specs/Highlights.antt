@@ -5,7 +5,7 @@ use Rattle.line_config.specs.declared.errors.HookFault.{HookFault}
 use Rattle.line_config.specs.declared.settings.CompletionType.{CompletionType}
 use Rattle.line_keys.specs.declared.command.CmdKind.{CmdKind}
 use Rattle.line_keys.specs.declared.command.CmdKind.TheVariants.{MoveCursor, Other, ForcedRefresh}
-use Rattle.line_help.specs.Matching.{bracket_to_match, match_of}
+use Rattle.line_help.specs.Brackets.{bracket_to_match, match_of}
 use Rattle.line_keys.specs.Replies.{Reply, Replies, gives_at_once}
 
 -- what a parameter of a control sequence is made of: digits and the signs : and ;

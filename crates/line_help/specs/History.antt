@@ -75,17 +75,12 @@ unsaved_after settings entries line unsaved =
     if ignored settings entries line then unsaved
     else min (unsaved + 1) (length (added settings entries line))
 
--- what a line makes of the two histories
-abbrev pub kept_with : Kept → List ℕ → Kept
-kept_with kept line =
-    record { entries = added kept.settings kept.entries line; settings = kept.settings }
-
+-- what a line makes of a history that is saved
 abbrev pub filed_with : Filed → List ℕ → Filed
 filed_with filed line =
-    record {
-      kept = kept_with filed.kept line;
-      unsaved = unsaved_after filed.kept.settings
-          filed.kept.entries line filed.unsaved;
+    let kept : Kept = filed.kept in record {
+      kept = record { entries = added kept.settings kept.entries line; settings = kept.settings };
+      unsaved = unsaved_after kept.settings kept.entries line filed.unsaved;
     }
 
 -- a call makes this of a value, or memory was wanting and the value stays

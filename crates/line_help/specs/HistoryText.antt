@@ -1,5 +1,5 @@
 -- The text of a history: what is saved of a list of entries, and which list a text gives.
-use Rattle.std.specs.Prelude.{◌≡◌, ℕ, zero, suc, ◌==◌, ◌&&◌, Bool, true, false, if◌then◌else◌, List, [], ◌∷◌, ◌++◌, flat_map, bytes_eq, codes, Option, Some, None, option_map, unwrap_or, Result, Ok, Err, IsTrue}
+use Rattle.std.specs.Prelude.{◌≡◌, ℕ, zero, suc, ◌==◌, ◌&&◌, Bool, true, false, if◌then◌else◌, List, [], ◌∷◌, ◌++◌, flat_map, bytes_eq, codes, Option, Some, None, option_map, unwrap_or, Result, Ok, Err, IsTrue, ⊤, IfErr, OnOk, OnErr, ◌⊎◌, ◌≤◌, length}
 use Rattle.std.specs.List.{list_any}
 use Rattle.std.specs.Str.{is_utf8}
 use Rattle.line_config.specs.Feed.{Feed, GivesBytes}
@@ -8,6 +8,7 @@ use Rattle.line_config.specs.declared.device.Last.TheVariants.{End, Failed}
 use Rattle.line_config.specs.declared.errors.ReadlineError.{ReadlineError}
 use Rattle.line_config.specs.declared.errors.ReadlineError.TheVariants.{Reader, HistoryText, Memory}
 use Rattle.line_help.specs.History.{Filed, newest, filed_with_all, takes_all, all_saved}
+use Rattle.line_config.specs.Sending.{Sends}
 
 -- the first row of a saved text: a text without it has no escapes
 abbrev pub header : List ℕ
@@ -106,18 +107,11 @@ abbrev pub after_first : Filed → List ℕ → Filed
 after_first filed row =
     if bytes_eq row header then filed else filed_with_all filed (entries_of false (row ∷ []))
 
-abbrev pub texts_behind : Bool → List (List ℕ) → List (List ℕ) → List (List ℕ)
-texts_behind true rows all = entries_of true rows
-texts_behind false rows all = entries_of false all
-
 -- the texts that loading these rows adds, in order
 abbrev pub texts_of : List (List ℕ) → List (List ℕ)
 texts_of [] = []
-texts_of (row ∷ rows) = texts_behind (bytes_eq row header) rows (row ∷ rows)
-
--- the texts that loading adds of a text that isn't refused
-abbrev pub loaded_texts : Last → List ℕ → List (List ℕ)
-loaded_texts last text = texts_of (good_rows (text_rows last text))
+texts_of (row ∷ rows) =
+    if bytes_eq row header then entries_of true rows else entries_of false (row ∷ rows)
 
 -- bytes of a row were taken that were there, as many as stood before a newline
 pub record TakesPiece (old new : Feed) (before after : List ℕ) : Type 0 where
@@ -191,3 +185,61 @@ abbrev pub without_return : List ℕ → List ℕ
 without_return [] = []
 without_return (b ∷ []) = if b == 13 then [] else b ∷ []
 without_return (b ∷ (c ∷ bs)) = b ∷ without_return (c ∷ bs)
+
+-- ---- what saving and appending do to a history and to the sink of its text
+
+-- a text is sent, and the sink's failure is refused by its own name
+pub record SendsText {D : Type 0} (held : D → List ℕ) (failed : D → Bool) (text : List ℕ)
+    (sink left : D) (result : Result ⊤ ReadlineError) : Type 0 where
+  pub sends : Sends held failed text sink left result
+  pub fault : IfErr result (λ e. e ≡ HistoryText)
+
+-- where an entry is new, a text is sent, and none is new then; where the sink fails the history
+-- stays as it is. Where no entry is new nothing is done, whether the sink has failed or not
+pub record SavesNew {D : Type 0} (held : D → List ℕ) (failed : D → Bool) (text : List ℕ)
+    (before after : Filed) (sink left : D) (result : Result ⊤ ReadlineError) : Type 0 where
+  pub nothing : before.unsaved ≡ 0 → (result ≡ Ok tt) × (left ≡ sink)
+  pub sends : Sends held failed text sink left result
+  pub saved : OnOk result (after ≡ all_saved before)
+  pub kept : OnErr result (after ≡ before)
+  pub fault : IfErr result (λ e. e ≡ HistoryText)
+
+-- ---- what loading does to a history and to the source of its text
+
+-- what a load leaves of a text: nothing, or what stands behind the first row that isn't UTF-8
+abbrev pub left_by_load : Last → List ℕ → List ℕ
+left_by_load last text =
+    let rows = text_rows last text in
+    if has_bad_row rows then behind_rows (suc (length (good_rows rows))) text else []
+
+-- a load that was refused: what these rows give was added, the next one, or as much of it as was
+-- read, is lost, and this is still to come
+pub record LoadsSome (texts : List (List ℕ) → List (List ℕ)) (last : Last) (text coming : List ℕ)
+    (before after : Filed) : Type 0 where
+  pub loaded : List (List ℕ)
+  pub later : List (List ℕ)
+  pub lost : List ℕ
+  pub split : text_rows last text ≡ loaded ++ later
+  pub good : has_bad_row loaded ≡ false
+  pub added : after ≡ filed_with_all before (texts loaded)
+  pub left : behind_rows (length loaded) text ≡ lost ++ coming
+  pub row : behind_row lost ≡ []
+
+-- answer, history and what is left follow from the text, but for want of memory; each refusal says
+-- what of the text was loaded. All this of a source that gave what was said
+pub record Loads (old new : Feed) (before after : Filed) (result : Result Bool ReadlineError)
+    : Type 0 where
+  pub answer : IsTrue new.told → IsTrue (follows result)
+      → result ≡ load_answer old.last (text_rows old.last old.coming) before
+  pub history : IsTrue new.told → IsTrue (follows result)
+      → after ≡ load_leaves old.last (text_rows old.last old.coming) before
+  pub left : IsTrue new.told → IsTrue (follows result)
+      → new.coming ≡ left_by_load old.last old.coming
+  pub part : IsTrue new.told
+      → OnErr result (LoadsSome texts_of old.last old.coming new.coming before after)
+  pub memory : IsTrue new.told → result ≡ Err Memory → ReadsGood old.coming new.coming
+  pub fault : IfErr result (λ e. (e ≡ Memory) ⊎ ((e ≡ HistoryText) ⊎ (e ≡ Reader)))
+  pub failure : new.failed ≡ says_reader result
+  pub told : IsTrue new.told → IsTrue old.told
+  pub last : new.last ≡ old.last
+  pub keeps : new.bound ≤ old.bound

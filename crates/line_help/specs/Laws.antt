@@ -1,11 +1,9 @@
 -- What a saved text gives back; which brackets match, and which texts are valid.
 use Rattle.std.specs.Prelude.{◌≡◌, ◌≢◌, ◌↔◌, ◌⊎◌, ℕ, true, List, [], ◌∷◌, ◌++◌, Some, None}
-use Rattle.line_help.specs.Brackets.{all_kinds, is_opening, is_closing, partner, Balanced}
-use Rattle.line_help.specs.Course.{HistoryStep, after_steps, just_saved, CanMake}
+use Rattle.line_help.specs.Brackets.{all_kinds, is_opening, is_closing, partner, Balanced, match_place, MatchesBehind, MatchesBefore}
+use Rattle.line_help.specs.Course.{HistoryStep, after_steps, just_saved, CanMake, CanComeBack, loaded, history_made_of}
 use Rattle.line_help.specs.History.{Settings, Filed, newest}
 use Rattle.line_help.specs.HistoryText.{text_to_save, text_to_append}
-use Rattle.line_help.specs.Loaded.{CanComeBack, loaded, history_made_of}
-use Rattle.line_help.specs.Matching.{match_place, MatchesBehind, MatchesBefore}
 use Rattle.line_help.specs.Validation.{bracket_verdict, unpaired, not_closed}
 use Rattle.line_help.specs.declared.validate.ValidationResult.TheVariants.{Incomplete, Invalid, Valid}
 

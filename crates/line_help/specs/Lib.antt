@@ -1,7 +1,5 @@
 pub mod Brackets
-pub mod CommonPrefix
 pub mod Completion
-pub mod CompletionLaws
 pub mod Course
 pub mod FileNames
 pub mod History
@@ -10,16 +8,7 @@ pub mod Highlights
 pub mod Hints
 pub mod Iterated
 pub mod Laws
-pub mod Loaded
-pub mod Loading
-pub mod Matching
-pub mod QuoteGrammar
 pub mod Quotes
-pub mod Saving
 pub mod Search
-pub mod SearchLaws
-pub mod Sorting
 pub mod Validation
-pub mod WordBefore
-pub mod WordCompletion
 pub mod WordList

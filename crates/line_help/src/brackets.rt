@@ -1,7 +1,6 @@
 //! Brackets: the one at the cursor, and the one that matches it.
 ghost use Rattle.std.specs.Prelude.{◌≡◌, ◌+◌, ◌-◌, ◌<◌, IfSome, Some, option_map, slice_get, length, take, drop, reverse};
-ghost use Rattle.line_help.specs.Brackets.{is_opening, is_closing, partner};
-ghost use Rattle.line_help.specs.Matching.{bracket_at, bracket_near, bracket_to_match, bytes_between, match_of};
+ghost use Rattle.line_help.specs.Brackets.{is_opening, is_closing, partner, bracket_at, bracket_near, bracket_to_match, bytes_between, match_of};
 
 /// Whether a byte opens brackets.
 pub(crate) fn is_opening(byte: u8) -> bool

@@ -1,7 +1,7 @@
 //! What candidates have in common.
 ghost use Rattle.std.specs.Prelude.{◌≡◌, ◌≤◌, length, map, nat_eq, option_copied};
 ghost use Rattle.std.specs.List.{common_prefix_len};
-ghost use Rattle.line_help.specs.CommonPrefix.{common_beginning, longest_common_prefix};
+ghost use Rattle.line_help.specs.Completion.{common_beginning, longest_common_prefix};
 
 use crate::completion::Candidate;
 

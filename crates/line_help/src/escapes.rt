@@ -1,8 +1,7 @@
 //! Escapes in a saved history: a newline stands as `\n`, a backslash as two.
 ghost use Rattle.std.specs.Prelude.{◌≡◌, ◌==◌, [], IfOk, option_map, unwrap_or, string_bytes};
 ghost use Rattle.std.specs.List.{list_any};
-ghost use Rattle.line_help.specs.HistoryText.{escaped_byte, row_of, unescaped_row, entry_of};
-ghost use Rattle.line_help.specs.Saving.{SendsText};
+ghost use Rattle.line_help.specs.HistoryText.{escaped_byte, row_of, unescaped_row, entry_of, SendsText};
 
 use line_config::{ReadlineError, Sink};
 use std::alloc::{AllocError, Global};

@@ -72,8 +72,7 @@ impl FileHistory {
 // Saving.
 impl FileHistory {
     ghost use Rattle.std.specs.Prelude.{drop};
-    ghost use Rattle.line_help.specs.HistoryText.{rows_text, text_to_save, text_to_append};
-    ghost use Rattle.line_help.specs.Saving.{SavesNew, SendsText};
+    ghost use Rattle.line_help.specs.HistoryText.{rows_text, text_to_save, text_to_append, SavesNew, SendsText};
 
     /// Writes the rows of the entries from the first one on, and passes on what was written.
     fn write_rows<S: Sink>(&self, sink: &mut S, first: usize) -> Result<(), ReadlineError>
@@ -243,8 +242,7 @@ impl FileHistory {
     ghost use Rattle.std.specs.Str.{is_utf8};
     ghost use Rattle.line_config.specs.declared.errors.ReadlineError.TheVariants.{HistoryText, Memory, Reader};
     ghost use Rattle.line_help.specs.History.{filed_with_all, takes_all};
-    ghost use Rattle.line_help.specs.HistoryText.{after_first, entries_of, follows, header, good_rows, row_fault, rows_answer, text_rows, says_reader, EndIsMet, ReadsGood};
-    ghost use Rattle.line_help.specs.Loading.{Loads, LoadsSome, left_by_load};
+    ghost use Rattle.line_help.specs.HistoryText.{after_first, entries_of, follows, header, good_rows, row_fault, rows_answer, text_rows, says_reader, EndIsMet, ReadsGood, Loads, LoadsSome, left_by_load};
 
     // Adds the entry of a row, and answers whether it isn't ignored. An empty row has none.
     fn add_row(&mut self, alloc: Global, row: &[u8], escapes: bool) -> Result<bool, ReadlineError>

@@ -1,8 +1,8 @@
 //! Laws of histories, of brackets and of completion. Each is the contract of a function, which does
 //! nothing.
-ghost use Rattle.line_help.specs.CompletionLaws.{EscapesComeBack, CommonBeginningIsLongest};
-ghost use Rattle.line_help.specs.QuoteGrammar.{UnclosedQuoteIsOpen};
-ghost use Rattle.line_help.specs.SearchLaws.{NearestIsFound};
+ghost use Rattle.line_help.specs.Completion.{EscapesComeBack, CommonBeginningIsLongest};
+ghost use Rattle.line_help.specs.Quotes.{UnclosedQuoteIsOpen};
+ghost use Rattle.line_help.specs.Search.{NearestIsFound};
 ghost use Rattle.line_help.specs.Laws.{Reload, ReloadAppended, TextKeepsUp, OpeningIsMatched, ClosingIsMatched, ValidIsBalanced, IncompleteIsBegun, InvalidIsLost, MessageNames};
 
 /// A saved text that isn't empty, loaded into a new history, gives the entries that adding the

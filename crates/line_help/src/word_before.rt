@@ -3,7 +3,7 @@ ghost use Rattle.std.specs.Prelude.{◌≡◌, ℕ, Bool, List, take, drop, reve
 ghost use Rattle.std.specs.Char.{IsScalar};
 ghost use Rattle.std.specs.Str.{chars};
 ghost use Rattle.line_help.specs.Quotes.{Tells};
-ghost use Rattle.line_help.specs.WordBefore.{is_escape, is_escaped, word_start, break_characters, double_quote_characters, is_among};
+ghost use Rattle.line_help.specs.Completion.{is_escape, is_escaped, word_start, break_characters, double_quote_characters, is_among};
 
 /// Whether a character ends a word in a shell.
 pub(crate) fn ends_word(c: char) -> bool

@@ -2,7 +2,7 @@
 ghost use Rattle.std.specs.Prelude.{◌≡◌, ◌<◌, map, take, length, nat_eq, IfOk, IfErr, string_bytes};
 ghost use Rattle.std.specs.List.{starts_with};
 ghost use Rattle.line_keys.specs.Replies.{gives};
-ghost use Rattle.line_help.specs.WordCompletion.{words_for, word_reply};
+ghost use Rattle.line_help.specs.Completion.{words_for, word_reply};
 
 use crate::completion::{Completer, update_line};
 use crate::context::Context;

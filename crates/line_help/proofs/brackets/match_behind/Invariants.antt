@@ -1,5 +1,5 @@
 use Rattle.std.proofs.Common.{◌≡◌, ◌+◌, ◌≤◌, drop}
-use Rattle.line_help.specs.Matching.{bytes_between}
+use Rattle.line_help.specs.Brackets.{bytes_between}
 use Rattle.line_help.proofs.MatchLemmas.{place_behind}
 use Rattle.line_help.proofs.brackets.match_behind.Given as goal
 

@@ -1,7 +1,7 @@
 use Rattle.std.proofs.Common.{◌≡◌, drop, map}
 use denote.Text.{Utf8}
 use denote.Shadow.{shadow}
-use Rattle.line_help.specs.CommonPrefix.{common_to_all}
+use Rattle.line_help.specs.Completion.{common_to_all}
 use Rattle.line_help.proofs.common_prefix.longest_common_prefix.Given as goal
 
 abbrev pub invariant-loop-other : goal.invariant-loop-other

@@ -1,5 +1,5 @@
 use Rattle.std.proofs.Common.{◌≡◌, ◌∙◌, ◌-◌, ℕ, List, sym, ap, subst, refl, length, take, arith}
-use Rattle.line_help.specs.WordBefore.{word_start}
+use Rattle.line_help.specs.Completion.{word_start}
 use Rattle.std.specs.Prelude.{encode_utf8, IsCharBoundary, slice_range}
 use Rattle.std.proofs.lemmas.Str.{IsCharBoundary-start}
 use Rattle.line_help.proofs.WordBeforeLemmas.{plain_back, escaped_back, break_back, nothing_left, shorter, front_step, cut_here}

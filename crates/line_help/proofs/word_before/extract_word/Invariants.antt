@@ -2,7 +2,7 @@ use Rattle.std.proofs.Common.{◌≡◌, ℕ, Bool, take, length}
 use denote.Text.{Utf8}
 use denote.Shadow.{shadow}
 use Rattle.line_help.specs.Quotes.{Tells}
-use Rattle.line_help.specs.WordBefore.{word_start}
+use Rattle.line_help.specs.Completion.{word_start}
 use Rattle.line_help.proofs.word_before.extract_word.Given as goal
 
 abbrev pub invariant-loop-before : goal.invariant-loop-before

@@ -1,6 +1,6 @@
 use Rattle.std.proofs.Common.{◌≡◌, map, take}
 use Rattle.std.specs.Prelude.{string_bytes}
-use Rattle.line_help.specs.WordCompletion.{words_for}
+use Rattle.line_help.specs.Completion.{words_for}
 use Rattle.line_help.proofs.word_completer.words_for.Given as goal
 
 abbrev pub invariant-loop-word : goal.invariant-loop-word

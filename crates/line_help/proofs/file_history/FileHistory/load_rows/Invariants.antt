@@ -1,8 +1,7 @@
 use Rattle.std.proofs.Common.{◌≡◌, ◌≤◌, IsTrue, false}
 use Rattle.std.specs.Prelude.{◌&&◌}
 use Rattle.line_help.specs.History.{filed_with_all, takes_all}
-use Rattle.line_help.specs.HistoryText.{EndIsMet, GoodUpTo, entries_of, good_rows, rows_answer, text_rows}
-use Rattle.line_help.specs.Loading.{left_by_load}
+use Rattle.line_help.specs.HistoryText.{EndIsMet, GoodUpTo, entries_of, good_rows, rows_answer, text_rows, left_by_load}
 use Rattle.line_help.proofs.LoadLemmas.{Reached}
 use Rattle.line_help.proofs.file_history.FileHistory.load_rows.Given as goal
 

@@ -4,8 +4,7 @@ use Rattle.std.proofs.lemmas.List.{map-id}
 use Rattle.std.specs.Ordering.{is_lt}
 use Rattle.std.proofs.lemmas.List.Sorted.{answers_always}
 use Rattle.line_help.specs.Completion.{Offered, Completion}
-use Rattle.line_help.specs.FileNames.{displayed_before, sorted}
-use Rattle.line_help.specs.Sorting.{sorted_by}
+use Rattle.line_help.specs.FileNames.{displayed_before, sorted, sorted_by}
 use Rattle.line_help.proofs.FileNameLemmas.{display_order}
 use Rattle.line_help.proofs.SortLemmas.{sorted_is}
 use Rattle.line_help.proofs.file_names.FilenameCompleter.complete_path.Goals as goal

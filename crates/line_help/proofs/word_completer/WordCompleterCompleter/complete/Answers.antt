@@ -1,8 +1,7 @@
 use Rattle.std.proofs.Common.{◌≡◌, ◌∙◌, ap, Some, map, rules}
 use Rattle.std.specs.Prelude.{string_bytes, take}
 use Rattle.std.specs.Char.{is_whitespace}
-use Rattle.line_help.specs.Completion.{Completion}
-use Rattle.line_help.specs.WordCompletion.{words_for}
+use Rattle.line_help.specs.Completion.{Completion, words_for}
 use Rattle.line_help.proofs.WordLemmas.{completed}
 use Rattle.line_help.proofs.word_completer.WordCompleterCompleter.complete.Goals as goal
 
