@@ -8,7 +8,7 @@ use Rattle.line_config.specs.declared.config.Config.{Config}
 use Rattle.line_keys.specs.Replies.{gives, gives_at_once}
 use Rattle.line_help.specs.Completion.{nothing_offered}
 use Rattle.line_help.specs.Validation.{bracket_verdict}
-use Rattle.line_help.specs.WordCompletion.{word_reply}
+use Rattle.line_help.specs.Completion.{word_reply}
 use Rattle.line_help.specs.declared.bracket_validator.MatchingBracketValidator.{MatchingBracketValidator}
 use Rattle.line_help.specs.declared.helper_parts.HelperParts.{HelperParts}
 use Rattle.line_help.specs.declared.validate.ValidationResult.TheVariants.{Valid}

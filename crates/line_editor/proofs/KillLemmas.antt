@@ -21,7 +21,6 @@ use Rattle.line_buffer.specs.declared.types.Movement.TheVariants.{WholeLine, Beg
 use Rattle.line_buffer.proofs.RowStartLemmas.{behind-nil}
 use Rattle.line_buffer.proofs.SpanLemmas as spans
 use Rattle.line_buffer.specs.Printable.{is_plain, is_plain_byte}
-use Rattle.line_edits.specs.Written.{is_plain, is_plain_byte}
 
 -- it begins inside the text, or goes up to its end
 abbrev pub Low : List ℕ → ℕ → ℕ → Type 0

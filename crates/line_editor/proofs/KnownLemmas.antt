@@ -17,7 +17,6 @@ use Rattle.line_buffer.specs.Insertions.{no_insertion, has_room, put_at_cursor, 
 use Rattle.line_buffer.specs.Line.{Line}
 use Rattle.line_buffer.specs.Replay.{insertion as told_insertion}
 use Rattle.line_buffer.specs.Printable.{is_plain_byte, is_plain}
-use Rattle.line_edits.specs.Written.{is_plain_byte, is_plain}
 use Rattle.line_editor.specs.Known.{IsKnown, known_within}
 
 -- a beginning of a text is one of another

@@ -23,7 +23,6 @@ use Rattle.line_buffer.specs.declared.types.Movement.TheVariants.{WholeLine, Beg
 use Rattle.line_buffer.specs.declared.types.Word.TheVariants.{Big}
 use Rattle.line_edits.specs.Edits.{by, typing, char_typed, putting_behind, killing, range_killed}
 use Rattle.line_edits.specs.Steps.{answering, WriteSteps}
-use Rattle.line_edits.specs.Written.{is_plain}
 use Rattle.line_help.specs.History.{begins_with_space}
 use Rattle.line_keys.specs.Replies.{Reply}
 use Rattle.line_keys.specs.declared.command.CmdKind.{CmdKind}

@@ -1,7 +1,6 @@
 //! What draws a line.
 ghost use Rattle.std.specs.Prelude.{◌≡◌, true, take, Some, OnErr, IfErr, IsTrue, IsCharBoundary, option_copied, option_map};
 ghost use Rattle.line_buffer.specs.Printable.{is_plain};
-ghost use Rattle.line_edits.specs.Written.{is_plain};
 ghost use Rattle.line_editor.specs.Known.{IsKnown};
 ghost use Rattle.line_config.specs.declared.errors.ReadlineError.TheVariants.{Display};
 ghost use Rattle.line_editor.specs.Calls.{Canvas, Makes, Idles};

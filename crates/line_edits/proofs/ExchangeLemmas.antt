@@ -10,7 +10,7 @@ use Rattle.line_record.specs.Items.{Items, ItemsStand}
 use Rattle.line_edits.specs.Edits.{typing, deleting, exchanging, replacing, replacing_if_any, stepping_back}
 use Rattle.line_buffer.specs.Printable.{is_plain}
 use Rattle.line_edits.specs.Steps.{StopsIn, Edits, made, answer_of, in_turn, answering, WriteSteps}
-use Rattle.line_edits.specs.Written.{Written, Writes, written, is_plain}
+use Rattle.line_edits.specs.Written.{Written, Writes, written}
 use Rattle.line_edits.proofs.StepLemmas.{stops_before, stops_behind, written_is, made_answering, answered_is, edits_refused}
 
 -- the clusters stay where that is refused

@@ -17,7 +17,6 @@ use Rattle.line_buffer.specs.Range.{range_of, deletion_line, kill_line}
 use Rattle.line_buffer.specs.Printable.{is_printable, is_plain, is_plain_byte}
 use Rattle.line_buffer.specs.declared.range.Span.{Span}
 use Rattle.line_buffer.specs.declared.types.Movement.{Movement}
-use Rattle.line_edits.specs.Written.{is_plain, is_plain_byte}
 
 or_true : (a b : Bool) → b ≡ true → (a || b) ≡ true
 or_true true b h = refl

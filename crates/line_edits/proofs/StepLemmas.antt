@@ -14,7 +14,7 @@ use Rattle.line_record.specs.Course.{recorded_all}
 use Rattle.line_record.proofs.RunLemmas.{told_stand, told_held, stopped_stand, part_stopped, recorded_all-nil}
 use Rattle.line_buffer.specs.Printable.{is_plain}
 use Rattle.line_edits.specs.Steps.{Tells, Leaves, StopsWithin, StopsIn, Rewrites, Edits, written_world, made, answer_of, doing, answering, grouping, WriteSteps, step_made}
-use Rattle.line_edits.specs.Written.{Written, Writes, written, is_plain}
+use Rattle.line_edits.specs.Written.{Written, Writes, written}
 
 -- ---- steps
 

@@ -15,7 +15,8 @@ use Rattle.line_config.specs.Scripts.{Ends, Asks}
 use Rattle.line_record.specs.Held.{line_back, has_step}
 use Rattle.line_record.specs.Ring.{Ring, ring_all}
 use Rattle.line_edits.specs.Steps.{WriteSteps, Tells, Leaves, made, doing, telling, in_turn, answering, grouping, StopsIn}
-use Rattle.line_edits.specs.Written.{Written, is_plain, Writes, group_opened}
+use Rattle.line_edits.specs.Written.{Written, Writes, group_opened}
+use Rattle.line_buffer.specs.Printable.{is_plain}
 use Rattle.line_record.specs.Items.{Items, no_items, lines_back, held_on}
 use Rattle.line_record.specs.UndoRedo.{last_changes}
 

@@ -8,7 +8,7 @@ use Rattle.line_buffer.specs.Replay.{TellsOfChange, carried_all}
 use Rattle.line_config.specs.Scripts.{Script, Ends, Asks, World, Goes, then}
 use Rattle.line_record.specs.Items.{Items}
 use Rattle.line_buffer.specs.Printable.{is_plain}
-use Rattle.line_edits.specs.Written.{Written, Writes, written, edited, group_opened, group_closed, is_plain}
+use Rattle.line_edits.specs.Written.{Written, Writes, written, edited, group_opened, group_closed}
 
 pub data WriteStep : Type 0 where
   -- line and record follow events together, one after another; the line is left so in the end

@@ -1,13 +1,11 @@
 -- A line with the record of its texts, and what a call makes of both.
-use Rattle.std.specs.Prelude.{◌≡◌, ◌∷◌, List, Result, IfOk, OnOk, ℕ, Bool, ◌==◌, ◌||◌}
+use Rattle.std.specs.Prelude.{◌≡◌, ◌∷◌, List, Result, IfOk, OnOk}
 use Rattle.line_buffer.specs.Event.{Event}
 use Rattle.line_buffer.specs.Line.{Line}
 use Rattle.line_record.specs.Held.{Held, ended}
 use Rattle.line_record.specs.Held.Held.{Opened}
 use Rattle.line_record.specs.Items.{Items, ItemsStand, held_on}
 use Rattle.line_record.specs.Course.{recorded_all}
-use Rattle.std.specs.List.{list_all}
-use Rattle.line_buffer.specs.Short.{is_printable}
 
 pub record Written : Type 0 where
   pub line : Line
@@ -39,12 +37,3 @@ pub record Writes {A E : Type 0} (edit : Written → Written) (answer : A) (befo
   pub line : OnOk result (after ≡ (edit (written before old)).line)
   pub held : OnOk result (held_on new after.text ≡ (edit (written before old)).held)
   pub stand : ItemsStand new after.text
-
--- ---- lines of printable ASCII
-
--- also a newline
-abbrev pub is_plain_byte : ℕ → Bool
-is_plain_byte byte = (byte == 10) || is_printable byte
-
-abbrev pub is_plain : List ℕ → Bool
-is_plain text = list_all is_plain_byte text

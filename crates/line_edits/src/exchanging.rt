@@ -3,7 +3,6 @@ ghost use Rattle.std.specs.Prelude.{◌≡◌, ◌≤◌, IsCharBoundary, OnErr}
 ghost use Rattle.line_record.specs.Items.{ItemsStand};
 ghost use Rattle.line_edits.specs.Edits.{deleting, clusters_after, exchanging, replacing, replacing_if_any, putting_over, overwriting};
 ghost use Rattle.line_buffer.specs.Printable.{is_plain};
-ghost use Rattle.line_edits.specs.Written.{is_plain};
 ghost use Rattle.line_edits.specs.Steps.{Edits, Rewrites};
 
 use crate::inserting::insert_told;

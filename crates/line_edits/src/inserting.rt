@@ -4,7 +4,6 @@ ghost use Rattle.line_buffer.specs.Insertions.{insert as insertion, yank as yank
 ghost use Rattle.line_record.specs.Items.{ItemsStand};
 ghost use Rattle.line_edits.specs.Edits.{typing, yanking, putting_behind, popping, popping_in_group};
 ghost use Rattle.line_buffer.specs.Printable.{is_plain};
-ghost use Rattle.line_edits.specs.Written.{is_plain};
 ghost use Rattle.line_edits.specs.Steps.{Edits, Rewrites};
 
 use crate::plain::is_plain;

@@ -6,7 +6,6 @@ ghost use Rattle.line_record.specs.Together.{SameNames};
 ghost use Rattle.line_record.specs.Ring.{ring_all};
 ghost use Rattle.line_edits.specs.Edits.{killing, TookOrNot};
 ghost use Rattle.line_buffer.specs.Printable.{is_plain};
-ghost use Rattle.line_edits.specs.Written.{is_plain};
 ghost use Rattle.line_edits.specs.Steps.{Edits, Rewrites};
 
 use crate::plain::is_plain;

@@ -1,7 +1,6 @@
 //! Printable ASCII and newlines.
 ghost use Rattle.std.specs.Prelude.{◌≡◌};
 ghost use Rattle.line_buffer.specs.Printable.{is_plain};
-ghost use Rattle.line_edits.specs.Written.{is_plain};
 
 /// Whether a text is printable ASCII and newlines.
 pub fn is_plain(text: &str) -> bool

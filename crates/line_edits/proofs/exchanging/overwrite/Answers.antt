@@ -1,6 +1,5 @@
 use Rattle.std.proofs.Common.{rules, ◌≡◌, true, sym, ap, ◌∙◌}
 use Rattle.line_buffer.specs.Printable.{is_plain}
-use Rattle.line_edits.specs.Written.{is_plain}
 use Rattle.line_edits.proofs.PlainLemmas.{put_over_plain}
 use Rattle.line_edits.proofs.exchanging.overwrite.Goals as goal
 

@@ -1,6 +1,5 @@
 use Rattle.std.proofs.Common.{◌≡◌, true, sym, ap, ◌∙◌}
 use Rattle.line_buffer.specs.Printable.{is_plain}
-use Rattle.line_edits.specs.Written.{is_plain}
 use Rattle.line_edits.proofs.PlainLemmas.{yanked_plain}
 use Rattle.line_edits.proofs.inserting.yank.Goals as goal
 

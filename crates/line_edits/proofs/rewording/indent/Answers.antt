@@ -1,6 +1,5 @@
 use Rattle.std.proofs.Common.{◌≡◌, true, sym, ◌∙◌}
 use Rattle.line_buffer.specs.Printable.{is_plain}
-use Rattle.line_edits.specs.Written.{is_plain}
 use Rattle.line_edits.proofs.PlainLemmas.{indented_plain, answered_plain}
 use Rattle.line_edits.proofs.rewording.indent.Goals as goal
 
