@@ -151,17 +151,13 @@ tells_line n g x =
     let a = setting_in g x.history.kept.entries in
     let l = fresh s.mode in
     let k = kept_first a g.config x.ring x.coming in
-    let q = line_played n a g.custom g.config x.ring x.coming in
     let t = line_in n g x in
-    let told = (line_comes n a g.custom g.config x.ring x.coming).comes in
-    let C : Result (List ℕ) ReadlineError → Kept → List EditStep → Type 0 = λ o k steps. Comes x.coming (asked_in n g x) (o, k) (flat_map (bytes_of s) (drawn_by s l steps).calls) [] k.coming in
-    let asked = subst (λ o. C o q.rest (steps_along a g.config.indent_size k q.asks)) told.answer_is (tells_on s a g.config.indent_size l k (line_script n g.custom)) in
-    let drawn = subst (λ steps. C t.outcome q.rest steps) told.steps_are asked in
-    let L : Kept → Type 0 = λ k. Comes x.coming (one_line n g x) (t.outcome, state_after g.config.auto_add_history t.outcome k.ring k.coming x) (line_bytes s t) (accepted_of t.outcome) k.coming in
-    subst (λ k. L k) told.rest_is
-    (tells_then x.coming (asked_in n g x) (λ line. then (close_script line.0) (λ outcome. Ends (outcome, state_after g.config.auto_add_history line.0 line.1.ring line.1.coming x)))
-    (t.outcome, q.rest) (t.outcome, state_after g.config.auto_add_history t.outcome q.rest.ring q.rest.coming x) (flat_map (bytes_of s) (calls_of s t)) (break_if (breaks t.outcome)) [] (accepted_of t.outcome) q.rest.coming q.rest.coming
-    drawn (tells_close q.rest.coming t.outcome (state_after g.config.auto_add_history t.outcome q.rest.ring q.rest.coming x)))
+    let left = (line_played n a g.custom g.config x.ring x.coming).rest in
+    let y = after_line g t x in
+    let asked = subst (λ (steps : List EditStep). Comes x.coming (asked_in n g x) (t.outcome, left) (flat_map (bytes_of s) (drawn_by s l steps).calls) [] t.rest)
+    (line_comes n a g.custom g.config x.ring x.coming).comes.steps_are (tells_on s a g.config.indent_size l k (line_script n g.custom)) in
+    tells_then x.coming (asked_in n g x) (λ line. then (close_script line.0) (λ outcome. Ends (outcome, state_after g.config.auto_add_history line.0 line.1.ring line.1.coming x)))
+    (t.outcome, left) (t.outcome, y) (flat_map (bytes_of s) (calls_of s t)) (break_if (breaks t.outcome)) [] (accepted_of t.outcome) t.rest t.rest asked (tells_close t.rest t.outcome y)
 
 pub lines_tell : LinesTell
 lines_tell n g x = let line = tells_line n g x in (line.answer_is, line.drawn_is)
