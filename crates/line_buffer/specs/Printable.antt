@@ -17,7 +17,6 @@ is_plain text = list_all is_plain_byte text
 abbrev pub at_plain_end : List ℕ → ℕ → Bool
 at_plain_end text place = (place == length text) && is_plain text
 
--- what of a character's own kind and place its byte alone can show: a printable one, typed at the
--- end of a plain text
+-- a printable character typed at the end of a plain text: one that its byte alone can show
 abbrev pub typed_at_plain_end : ℕ → List ℕ → ℕ → Bool
 typed_at_plain_end c text place = is_printable c && at_plain_end text place
