@@ -8,8 +8,7 @@ use borrow.Rule.Slice.PartMut.{post_of}
 use Rattle.line_buffer.specs.Line.{Line}
 use Rattle.line_record.specs.Edit.{Edit, StandsAt, exchanged_at}
 use Rattle.line_record.specs.Gap.{seamed, detached, taking_over}
-use Rattle.line_record.specs.Items.{Items, taken_back_in, made_anew_in, lines_back, lines_ahead}
-use Rattle.line_record.specs.UndoRedo.{UndoesItems, RedoesItem, last_changes}
+use Rattle.line_record.specs.Items.{Items, taken_back_in, made_anew_in, lines_back, lines_ahead, UndoesItems, RedoesItem, last_changes}
 use Rattle.line_record.proofs.Exchange.{exchanged}
 
 -- a list whose second part was turned round, as a vector sees it

@@ -11,10 +11,9 @@ use Rattle.line_buffer.specs.Event.Event.{StartKilling, StopKilling, Delete, Ins
 use Rattle.line_buffer.specs.declared.types.Mode.{Mode}
 use Rattle.line_record.specs.declared.kill_ring.Action.{Action}
 use Rattle.line_record.specs.declared.kill_ring.Action.TheVariants.{Other, Kill, Yank}
-use Rattle.line_record.specs.Kills.{RingCall, Kills, no_kills, run_with, kill_taken, kills_heard, kills_after, all_kills_after, ring_after, ring_after_all}
-use Rattle.line_record.specs.Kills.RingCall.{Taken, Heard, Ended, Lent}
+use Rattle.line_record.specs.Ring.{RingCall, Kills, no_kills, run_with, kill_taken, kills_heard, kills_after, all_kills_after, ring_after, ring_after_all, Ring, new_ring, joined_text, slot_after, put_text, killed, killed_after, killed_anew, mode_of, yanked, ring_step}
+use Rattle.line_record.specs.Ring.RingCall.{Taken, Heard, Ended, Lent}
 use Rattle.line_record.specs.Laws.{RingHoldsTheLastRuns}
-use Rattle.line_record.specs.Ring.{Ring, new_ring, joined_text, slot_after, put_text, killed, killed_after, killed_anew, mode_of, yanked, ring_step}
 use Rattle.line_record.proofs.RingLemmas.{put_there}
 
 -- the slots from the present one back, and round to the one after it, are the first of the runs

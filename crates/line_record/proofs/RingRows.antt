@@ -5,9 +5,8 @@ use Rattle.line_buffer.specs.declared.types.Mode.TheVariants.{Append, Prepend}
 use Rattle.line_record.specs.declared.kill_ring.Action.TheVariants.{Other}
 use Rattle.line_buffer.specs.Event.Event.{StartKilling, StopKilling, Delete, InsertChar}
 use Rattle.line_buffer.specs.declared.types.Direction.TheVariants.{Forward, Backward}
-use Rattle.line_record.specs.Kills.{RingCall, no_kills, all_kills_after, ring_after_all, newest_first}
-use Rattle.line_record.specs.Kills.RingCall.{Taken, Heard, Ended, Lent}
-use Rattle.line_record.specs.Ring.{Ring, new_ring, killed, yanked, turned, exchanged}
+use Rattle.line_record.specs.Ring.{RingCall, no_kills, all_kills_after, ring_after_all, newest_first, Ring, new_ring, killed, yanked, turned, exchanged}
+use Rattle.line_record.specs.Ring.RingCall.{Taken, Heard, Ended, Lent}
 
 abbrev ended_run : Ring → Ring
 ended_run r = record r { last = Other }

@@ -11,8 +11,7 @@ use Rattle.line_record.specs.Held.Held.{Opened}
 use Rattle.line_record.specs.Items.{Item, Items, ItemsStand, held_on, after_item}
 use Rattle.line_record.specs.Course.{RecordCall, Course, begun_with, after_call, after_calls, IsAmong}
 use Rattle.line_record.specs.Course.RecordCall.{Told, Begun, Ended, TakenBack}
-use Rattle.line_record.specs.Kills.{RingCall, no_kills, all_kills_after, ring_after_all, newest_first}
-use Rattle.line_record.specs.Ring.{Ring, IsRing, new_ring, ring_all}
+use Rattle.line_record.specs.Ring.{RingCall, no_kills, all_kills_after, ring_after_all, newest_first, Ring, IsRing, new_ring, ring_all}
 
 -- whatever was done to a line with a new record, an undo leaves a text that the line had before
 abbrev pub UndoLeavesAnEarlierText : Type 0

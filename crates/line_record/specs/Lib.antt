@@ -3,11 +3,9 @@ pub mod Edit
 pub mod Gap
 pub mod Held
 pub mod Items
-pub mod Kills
 pub mod Laws
 pub mod Logged
 pub mod Ring
 pub mod RingLends
 pub mod Steps
 pub mod Together
-pub mod UndoRedo

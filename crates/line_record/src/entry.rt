@@ -140,7 +140,7 @@ impl Entry {
 ghost use Rattle.std.specs.Prelude.{◌≡◌, ◌+◌, ◌==◌, All};
 ghost use Rattle.line_record.specs.Edit.{AllStandIn, AllFitIn};
 ghost use Rattle.line_record.specs.Logged.{edits_in, Spelt};
-ghost use Rattle.line_record.specs.UndoRedo.{TakesBack, MakesAnew};
+ghost use Rattle.line_record.specs.Items.{TakesBack, MakesAnew};
 
 /// A place stands so many bytes after another.
 fn follows(place: usize, before: usize, length: usize) -> bool

@@ -33,7 +33,7 @@ impl Log {
     ghost use Rattle.line_record.specs.Held.{inserted_by};
     ghost use Rattle.line_record.specs.Logged.{edit_from, grown, joined_at};
     ghost use Rattle.line_record.specs.Steps.{event_of};
-    ghost use Rattle.line_record.specs.UndoRedo.{TakesBack, MakesAnew};
+    ghost use Rattle.line_record.specs.Items.{TakesBack, MakesAnew};
 
     pub fn new(alloc: Global) -> Self
         ensures { result ≡ [] }

@@ -52,10 +52,9 @@ impl Steps {
     ghost use Rattle.std.specs.Prelude.{◌≡◌, ◌+◌, ◌<◌, ◌≤◌, ◌++◌, true, [], ◌∷◌, length, take, drop, reverse, slice_get, slice_index_or, IfOk, OnOk, OnErr, Some, is_some, option_map, option_copied};
     ghost use Rattle.line_record.specs.Edit.{AllStandIn, AllFitIn};
     ghost use Rattle.line_record.specs.Held.{change_of};
-    ghost use Rattle.line_record.specs.Items.{changes_of, is_step_item, gathered, group_of, noted_if};
+    ghost use Rattle.line_record.specs.Items.{changes_of, is_step_item, gathered, group_of, noted_if, TakesBack, MakesAnew};
     ghost use Rattle.line_record.specs.Items.Item.{Open, Lone};
     ghost use Rattle.line_record.specs.Steps.{JoinedIn, event_of, is_open, joined_items, item_inserted};
-    ghost use Rattle.line_record.specs.UndoRedo.{TakesBack, MakesAnew};
 
     pub fn new(alloc: Global) -> Self
         ensures { result ≡ [] }

@@ -12,8 +12,7 @@ const FEW: usize = 8;
 impl Changeset {
     ghost use Rattle.std.specs.Prelude.{◌≡◌, ◌+◌, ◌++◌, ℕ, true, max, take, drop, IfOk, OnOk, OnErr, IsUtf8};
     ghost use Rattle.line_record.specs.Held.{line_back, has_step, ahead_back, line_ahead, has_step_ahead, held_ahead};
-    ghost use Rattle.line_record.specs.Items.{no_items, undo_one, lines_back, lines_ahead, nearest_changes, nearest_is_change, ItemsStand, DoneStand, UndoneFit, held_on, ahead_on};
-    ghost use Rattle.line_record.specs.UndoRedo.{TakesBack, UndoesItems, RedoesItem, last_changes};
+    ghost use Rattle.line_record.specs.Items.{no_items, undo_one, lines_back, lines_ahead, nearest_changes, nearest_is_change, ItemsStand, DoneStand, UndoneFit, held_on, ahead_on, TakesBack, UndoesItems, RedoesItem, last_changes};
 
     /// Takes the last `n` items back: steps, and open marks. 0 acts as 1. Answers whether a step
     /// was among them. The cursor goes to the place of the oldest of their changes, after what was

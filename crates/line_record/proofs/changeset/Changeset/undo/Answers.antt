@@ -1,6 +1,5 @@
 use Rattle.std.proofs.Common.{◌≡◌, subst, drop}
-use Rattle.line_record.specs.Items.{lines_back}
-use Rattle.line_record.specs.UndoRedo.{last_changes}
+use Rattle.line_record.specs.Items.{lines_back, last_changes}
 use Rattle.line_record.proofs.UndoLemmas.{UndoneAs, undone_as}
 use Rattle.line_record.proofs.changeset.Changeset.undo.Goals as goal
 

@@ -2,7 +2,7 @@ use Rattle.std.proofs.Common.{ℕ, List, string_bytes, sym, subst}
 use Rattle.std.specs.Prelude.{All, slice_range}
 use Rattle.line_record.specs.declared.entry.Entry.{Entry}
 use Rattle.line_record.specs.Edit.{Edit, AllStandIn}
-use Rattle.line_record.specs.UndoRedo.{TakesBack}
+use Rattle.line_record.specs.Items.{TakesBack}
 use Rattle.line_record.specs.Logged.{Spelt}
 use Rattle.line_record.proofs.LogLemmas.{range_spelt, range_seen}
 use Rattle.line_record.proofs.log.Log.take_back.Goals as goal

@@ -1,6 +1,6 @@
 use Rattle.std.proofs.Common.{List, sym, subst}
 use Rattle.line_record.specs.Edit.{Edit, AllFitIn}
-use Rattle.line_record.specs.UndoRedo.{MakesAnew}
+use Rattle.line_record.specs.Items.{MakesAnew}
 use Rattle.line_record.proofs.StepsLemmas.{step_at}
 use Rattle.line_record.proofs.steps.Steps.make_anew.Goals as goal
 

@@ -1,6 +1,6 @@
 use Rattle.std.proofs.Common.{List, sym, subst}
 use Rattle.line_record.specs.Edit.{Edit, AllStandIn}
-use Rattle.line_record.specs.UndoRedo.{TakesBack}
+use Rattle.line_record.specs.Items.{TakesBack}
 use Rattle.line_record.proofs.StepsLemmas.{step_at}
 use Rattle.line_record.proofs.steps.Steps.take_back.Goals as goal
 
