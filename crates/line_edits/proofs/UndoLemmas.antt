@@ -1,8 +1,7 @@
 -- What a refused undo leaves.
 use Rattle.std.specs.Prelude.{◌≡◌, ℕ, max, drop, Result, Ok, Err, OnErr}
 use Rattle.line_buffer.specs.Line.{Line}
-use Rattle.line_record.specs.Items.{Items, no_items, lines_back}
-use Rattle.line_record.specs.UndoRedo.{last_changes}
+use Rattle.line_record.specs.Items.{Items, no_items, lines_back, last_changes}
 use Rattle.line_edits.specs.Edits.{UndoneInPart}
 
 pub undone_in_part : {A E : Type 0} (n : ℕ) (before after : Line) (old new : Items) (result : Result A E) → OnErr result (new ≡ no_items)
