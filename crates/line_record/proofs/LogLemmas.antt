@@ -10,12 +10,12 @@ use Rattle.line_buffer.specs.Event.{Event}
 use Rattle.line_record.specs.declared.entry.Entry.{Entry}
 use Rattle.line_record.specs.declared.entry.Kind.{Kind}
 use Rattle.line_record.specs.declared.entry.Kind.TheVariants.{Insertion, Deletion, Replacement}
-use Rattle.line_record.specs.Edit.{Edit, AllFitIn}
+use Rattle.line_record.specs.Edit.{Edit, removed_of, added_of, AllFitIn}
 use Rattle.line_record.specs.Held.{joined_to}
 use Rattle.line_buffer.specs.Line.{Line}
 use Rattle.line_record.specs.Items.{lines_ahead}
 use Rattle.line_record.proofs.StepLemmas.{ahead_turn, AheadTurn}
-use Rattle.line_record.specs.Logged.{Adjoin, place_of_span, edit_from, edit_in, edits_in, Spelt, IsLog, grown_old, grown, joined_at, removed_told, added_told}
+use Rattle.line_record.specs.Logged.{Adjoin, place_of_span, edit_from, edit_in, edits_in, Spelt, IsLog, grown_old, grown, joined_at, change_told}
 use Rattle.line_record.proofs.SpanLemmas.{take_lower, slice_same, adjoin_cut, adjoin_at, place_le, place_fits, adjoin_push, adjoin_kept, views_kept}
 
 abbrev from_of : Entry → ℕ
@@ -288,11 +288,11 @@ pub record Read (e : Event) (text : List ℕ) (entries : List Entry) (edits : Li
   pub here : EntryAt text entries n x
   pub view : edits_in text entries ≡ edits
   pub inside : n < length edits
-  pub joins : joined_to e (edit_in text x) ≡ option_map (λ j. grown j.0 j.1 (removed_told e) (added_told e) (edit_in text x)) o
+  pub joins : joined_to e (edit_in text x) ≡ option_map (λ j. grown j.0 j.1 (removed_of (change_told e)) (added_of (change_told e)) (edit_in text x)) o
 
 pub read : (e : Event) (text : List ℕ) (entries : List Entry) (edits : List Edit) (n : ℕ) (x : Entry) (o : Option (ℕ × Bool)) → IsLog text entries → edits_in text entries ≡ edits → n < length edits
     → x ≡ get_or entries n x
-    → ((r a : List ℕ) → length a ≡ x.end - x.middle → joined_to e (edit_from x.kind x.at r a) ≡ option_map (λ j. grown j.0 j.1 (removed_told e) (added_told e) (edit_from x.kind x.at r a)) o)
+    → ((r a : List ℕ) → length a ≡ x.end - x.middle → joined_to e (edit_from x.kind x.at r a) ≡ option_map (λ j. grown j.0 j.1 (removed_of (change_told e)) (added_of (change_told e)) (edit_from x.kind x.at r a)) o)
     → Read e text entries edits n x o
 read e text entries edits n x o h view inside is joins =
     let here = entry_at text entries n x h (entries_inside text entries edits n view inside) is in
@@ -304,25 +304,25 @@ read e text entries edits n x o h view inside is joins =
     }
 
 pub was_read : (e : Event) (text : List ℕ) (entries : List Entry) (edits : List Edit) (n : ℕ) (x : Entry) (o : Option (ℕ × Bool)) → Read e text entries edits n x o
-    → joined_at e n edits ≡ option_map (λ j. take n edits ++ (grown j.0 j.1 (removed_told e) (added_told e) (edit_in text x) ∷ [])) o
+    → joined_at e n edits ≡ option_map (λ j. take n edits ++ (grown j.0 j.1 (removed_of (change_told e)) (added_of (change_told e)) (edit_in text x) ∷ [])) o
 was_read e text entries edits n x o r =
     let d = edit_in text x in
     joined_at_is e n edits d r.inside
     ∙ ap (λ y. option_map (λ j. take n edits ++ (j ∷ [])) (joined_to e y)) (ap (λ es. get_or es n d) (sym r.view) ∙ r.here.edit d)
-    ∙ ap (option_map (λ j. take n edits ++ (j ∷ []))) r.joins ∙ mapped_twice (λ (j : ℕ × Bool). grown j.0 j.1 (removed_told e) (added_told e) d) (λ j. take n edits ++ (j ∷ [])) o
+    ∙ ap (option_map (λ j. take n edits ++ (j ∷ []))) r.joins ∙ mapped_twice (λ (j : ℕ × Bool). grown j.0 j.1 (removed_of (change_told e)) (added_of (change_told e)) d) (λ j. take n edits ++ (j ∷ [])) o
 
 pub join_none : (e : Event) (text : List ℕ) (entries : List Entry) (edits : List Edit) (n : ℕ) (x : Entry) (o : Option (ℕ × Bool)) → Read e text entries edits n x o → o ≡ None → joined_at e n edits ≡ None
-join_none e text entries edits n x o r is = was_read e text entries edits n x o r ∙ ap (option_map (λ j. take n edits ++ (grown j.0 j.1 (removed_told e) (added_told e) (edit_in text x) ∷ []))) is
+join_none e text entries edits n x o r is = was_read e text entries edits n x o r ∙ ap (option_map (λ j. take n edits ++ (grown j.0 j.1 (removed_of (change_told e)) (added_of (change_told e)) (edit_in text x) ∷ []))) is
 
 pub join_made : (e : Event) (text : List ℕ) (entries : List Entry) (edits after : List Edit) (n : ℕ) (x : Entry) (o : Option (ℕ × Bool)) (at : ℕ) (before : Bool) (removed added : List ℕ)
     → Read e text entries edits n x o → o ≡ Some (at, before) → ((d : Edit) → after ≡ take n edits ++ (grown at before removed added (get_or edits n d) ∷ []))
-    → removed ≡ removed_told e → added ≡ added_told e → joined_at e n edits ≡ Some after
+    → removed ≡ removed_of (change_told e) → added ≡ added_of (change_told e) → joined_at e n edits ≡ Some after
 join_made e text entries edits after n x o at before removed added r is new re ad =
     let d = edit_in text x in
     let now : get_or edits n d ≡ d = ap (λ es. get_or es n d) (sym r.view) ∙ r.here.edit d in
-    was_read e text entries edits n x o r ∙ ap (option_map (λ j. take n edits ++ (grown j.0 j.1 (removed_told e) (added_told e) d ∷ []))) is
+    was_read e text entries edits n x o r ∙ ap (option_map (λ j. take n edits ++ (grown j.0 j.1 (removed_of (change_told e)) (added_of (change_told e)) d ∷ []))) is
     ∙ sym (ap Some (new d ∙ ap (λ y. take n edits ++ (grown at before removed added y ∷ [])) now ∙ ap (λ t. take n edits ++ (grown at before t added d ∷ [])) re
-    ∙ ap (λ t. take n edits ++ (grown at before (removed_told e) t d ∷ [])) ad))
+    ∙ ap (λ t. take n edits ++ (grown at before (removed_of (change_told e)) t d ∷ [])) ad))
 
 pub entry_seen : (text : List ℕ) (entries : List Entry) (edits : List Edit) (n : ℕ) (x : Entry) → IsLog text entries → edits_in text entries ≡ edits → n < length edits → x ≡ get_or entries n x
     → EntryAt text entries n x

@@ -46,24 +46,13 @@ pub record Spelt (text : List ℕ) (x : Entry) : Type 0 where
 abbrev pub IsLog : List ℕ → List Entry → Type 0
 IsLog text entries = Adjoin (λ x. x.start) (λ x. x.end) Spelt text 0 entries (length text)
 
--- the texts that an event tells of: what was taken out, and what was put in
-abbrev pub removed_told : Event → List ℕ
-removed_told (Delete at text direction) = text
-removed_told (Replace at before after) = before
-removed_told e = []
-
-abbrev pub added_told : Event → List ℕ
-added_told (InsertChar at c) = encode_utf8 c
-added_told (InsertStr at text) = text
-added_told (Replace at before after) = after
-added_told e = []
-
-abbrev pub place_told : Event → ℕ
-place_told (InsertChar at c) = at
-place_told (InsertStr at text) = at
-place_told (Replace at before after) = at
-place_told (Delete at text direction) = at
-place_told mark = 0
+-- the change that an event tells of, even where it is empty
+abbrev pub change_told : Event → Edit
+change_told (InsertChar at c) = Inserted at (encode_utf8 c)
+change_told (InsertStr at text) = Inserted at text
+change_told (Delete at text direction) = Deleted at text
+change_told (Replace at before after) = Replaced at before after
+change_told mark = Inserted 0 []
 
 -- a change with more text: the old before or after its own, the new after its own
 abbrev pub grown_old : Bool → List ℕ → List ℕ → List ℕ

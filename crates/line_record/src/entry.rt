@@ -30,7 +30,7 @@ impl Entry {
     ghost use Rattle.line_record.specs.Edit.{removed_of, added_of, StandsIn, FitsIn};
     ghost use Rattle.line_record.specs.Held.{joined_to, inserted_by};
     ghost use Rattle.line_record.specs.Items.{taken_back_in, made_anew_in};
-    ghost use Rattle.line_record.specs.Logged.{edit_from, edit_in, Spelt, removed_told, added_told, grown};
+    ghost use Rattle.line_record.specs.Logged.{edit_from, edit_in, Spelt, change_told, grown};
     ghost use Rattle.line_record.specs.Steps.{event_of};
 
     /// Where more of the old text is put in: before its own, or after it.
@@ -109,8 +109,8 @@ impl Entry {
         requires { self.now.middle ≤ self.now.end }
         ensures { (removed added : List ℕ) → length added ≡ self.now.end - self.now.middle →
             joined_to (event_of report.entry) (edit_from self.now.kind self.now.at removed added)
-            ≡ option_map (λ j. grown j.0 j.1 (removed_told (event_of report.entry))
-            (added_told (event_of report.entry))
+            ≡ option_map (λ j. grown j.0 j.1 (removed_of (change_told (event_of report.entry)))
+            (added_of (change_told (event_of report.entry)))
             (edit_from self.now.kind self.now.at removed added)) result }
     {
         let added = self.end - self.middle;

@@ -29,7 +29,8 @@ pub enum Report<'a> {
 impl<'a> Report<'a> {
     ghost use Rattle.std.specs.Prelude.{◌≡◌, Some, true, not, is_some};
     ghost use Rattle.line_record.specs.Held.{change_of};
-    ghost use Rattle.line_record.specs.Logged.{edit_from, place_told, removed_told, added_told};
+    ghost use Rattle.line_record.specs.Edit.{place_of, removed_of, added_of};
+    ghost use Rattle.line_record.specs.Logged.{edit_from, change_told};
     ghost use Rattle.line_record.specs.Steps.{event_of};
 
     /// Nothing is put in, and nothing taken out.
@@ -46,9 +47,9 @@ impl<'a> Report<'a> {
 
     /// What it does.
     pub fn kind(self) -> Kind
-        ensures { is_some (change_of (event_of self.entry)) ≡ true → change_of (event_of self.entry)
-            ≡ Some (edit_from result (place_told (event_of self.entry))
-            (removed_told (event_of self.entry)) (added_told (event_of self.entry))) }
+        ensures { let told = change_told (event_of self.entry) in
+            is_some (change_of (event_of self.entry)) ≡ true → change_of (event_of self.entry)
+            ≡ Some (edit_from result (place_of told) (removed_of told) (added_of told)) }
     {
         match self {
             Report::Char { .. } | Report::Text { .. } => Kind::Insertion,
@@ -58,7 +59,7 @@ impl<'a> Report<'a> {
     }
 
     pub fn at(self) -> usize
-        ensures { result ≡ place_told (event_of self.entry) }
+        ensures { result ≡ place_of (change_told (event_of self.entry)) }
     {
         match self {
             Report::Char { at, .. } => at,
@@ -70,7 +71,7 @@ impl<'a> Report<'a> {
 
     /// The text that was taken out.
     pub fn removed(self) -> &'a str
-        ensures { result.now ≡ removed_told (event_of self.entry) }
+        ensures { result.now ≡ removed_of (change_told (event_of self.entry)) }
     {
         match self {
             Report::Char { .. } | Report::Text { .. } => "",
@@ -81,7 +82,7 @@ impl<'a> Report<'a> {
 
     /// The text that was put in; `room` is for that of a character.
     pub fn added(self, room: &'a mut [u8; 4]) -> &'a str
-        ensures { result.now ≡ added_told (event_of self.entry) }
+        ensures { result.now ≡ added_of (change_told (event_of self.entry)) }
     {
         match self {
             Report::Char { c, .. } => c.encode_utf8(room),
