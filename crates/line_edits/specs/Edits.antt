@@ -17,8 +17,7 @@ use Rattle.line_record.specs.Ring.{Ring, ring_all}
 use Rattle.line_edits.specs.Steps.{WriteSteps, Tells, Leaves, made, doing, telling, in_turn, answering, grouping, StopsIn}
 use Rattle.line_edits.specs.Written.{Written, Writes, group_opened}
 use Rattle.line_buffer.specs.Printable.{is_plain}
-use Rattle.line_record.specs.Items.{Items, no_items, lines_back, held_on}
-use Rattle.line_record.specs.UndoRedo.{last_changes}
+use Rattle.line_record.specs.Items.{Items, no_items, lines_back, held_on, last_changes}
 
 -- what an edit of the line makes of line and record
 abbrev pub by : {A : Type 0} → (Line → WriteSteps A) → Written → Written
