@@ -6,7 +6,7 @@ use Rattle.line_config.specs.declared.errors.ReadlineError.{ReadlineError}
 use Rattle.line_help.specs.History.{Filed}
 use Rattle.line_keys.specs.Coming.{Coming, Pressed, Pasted, CutOff, Ends as NoMore, Refused, behind, left}
 use Rattle.line_keys.specs.Coming.LastItem.{End as EndItem, Bad, Failed}
-use Rattle.line_keys.specs.Feeds.{InputItem, Item, Key, Paste, item_at}
+use Rattle.line_keys.specs.Feeds.{InputItem, InputOf, Key, Paste, item_at}
 use Rattle.line_config.specs.Played.{Played, asked_first, played_on}
 use Rattle.line_config.specs.Scripts.{Ends, Asks}
 use Rattle.line_keys.specs.Phrases.{Reads}
@@ -103,12 +103,12 @@ unheard ask next k h c on so (Ok x) = goes_first ask (next x h) (next x c) (so x
 unheard ask next k h c on so (Err e) = inl (record { answer = refl; asks = refl; ring = refl; rest = on })
 
 module _ (s : Setting) (indent : ℕ) where
-  module _ {X : Type 0} (item : InputItem) (t : Item item → LineScript X) (k : Kept) (h c : Coming) (on : Opens h c)
-      (later : (x : Item item) → Opens (behind h) (behind c) → Goes (played_from s indent (t x) (over k (behind h))) (played_from s indent (t x) (over k (behind c)))) where
-    abbrev led : Coming → Result (Item item) ReadlineError → Play X
+  module _ {X : Type 0} (item : InputItem) (t : InputOf item → LineScript X) (k : Kept) (h c : Coming) (on : Opens h c)
+      (later : (x : InputOf item) → Opens (behind h) (behind c) → Goes (played_from s indent (t x) (over k (behind h))) (played_from s indent (t x) (over k (behind c)))) where
+    abbrev led : Coming → Result (InputOf item) ReadlineError → Play X
     led c r = let rest = over k (left r (behind c)) in played_on (λ x. played_from s indent (t x) rest) (Keys (Reads item)) rest r
 
-    read_goes : (r q : Result (Item item) ReadlineError) → OnOk r ((r ≡ q) × Agrees (behind h) (behind c)) → IfErr r (λ e. breaks_after e ≡ false) → Goes (led h r) (led c q)
+    read_goes : (r q : Result (InputOf item) ReadlineError) → OnOk r ((r ≡ q) × Agrees (behind h) (behind c)) → IfErr r (λ e. breaks_after e ≡ false) → Goes (led h r) (led c q)
     read_goes (Ok x) q alike unbroken =
         subst (λ y. Goes (led h (Ok x)) (led c y)) alike.0
         (goes_first (Keys (Reads item)) (played_from s indent (t x) (over k (behind h))) (played_from s indent (t x) (over k (behind c))) (later x (alike.1, never_behind h on.1)))

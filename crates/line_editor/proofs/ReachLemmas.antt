@@ -12,25 +12,25 @@ use Rattle.line_buffer.proofs.ReplayedLemmas.{update_replayed, insert_replayed, 
 use Rattle.line_buffer.proofs.SpanLemmas as spans
 use Rattle.line_edits.specs.Edits.{char_typed, text_yanked, updated, range_killed, chars_transposed, indented}
 use Rattle.line_edits.specs.Written.{Written, edited, group_opened, in_group}
-use Rattle.line_record.specs.Edit.{Edit}
+use Rattle.line_record.specs.Change.{Change}
 use Rattle.line_record.specs.Held.{Held, change_of, joined_to, stepped, stepped_on, stepped_if, has_mark, closes, grouped, ended, line_back}
 use Rattle.line_record.specs.Held.Held.{Opened, Stepped}
 use Rattle.line_record.specs.Course.{recorded_all}
 use Rattle.line_record.proofs.GroupLaws.{unchanged}
 use Rattle.line_editor.specs.Leads.{Reaches}
 
-on_reaches : (o : Option Edit) (c d : Edit) (place : ℕ) (first text after earlier : List ℕ) (held : List Held) → Reaches first held earlier
+on_reaches : (o : Option Change) (c d : Change) (place : ℕ) (first text after earlier : List ℕ) (held : List Held) → Reaches first held earlier
     → Reaches first (stepped_on o c text earlier (Stepped earlier place d true) held) after
 on_reaches (Some g) c d place first text after earlier held r = r
 on_reaches None c d place first text after earlier held r = r
 
-step_reaches : (e : Event) (c : Edit) (first text after : List ℕ) (held : List Held) → Reaches first held text → Reaches first (stepped e c text held) after
+step_reaches : (e : Event) (c : Change) (first text after : List ℕ) (held : List Held) → Reaches first held text → Reaches first (stepped e c text held) after
 step_reaches e c first text after [] r = r
 step_reaches e c first text after (Opened earlier ∷ held) r = r
 step_reaches e c first text after (Stepped earlier place d false ∷ held) r = r
 step_reaches e c first text after (Stepped earlier place d true ∷ held) r = on_reaches (joined_to e d) c d place first text after earlier held r
 
-told_reaches : (e : Event) (o : Option Edit) (first text : List ℕ) (held : List Held) → change_of e ≡ o → Reaches first held text → Reaches first (stepped_if e o text held) (replayed e text)
+told_reaches : (e : Event) (o : Option Change) (first text : List ℕ) (held : List Held) → change_of e ≡ o → Reaches first held text → Reaches first (stepped_if e o text held) (replayed e text)
 told_reaches e (Some c) first text held is r = step_reaches e c first text (replayed e text) held r
 told_reaches e None first text held is r = subst (Reaches first held) (sym (unchanged e text is)) r
 
@@ -44,12 +44,12 @@ events_reach (e ∷ es) first text held r = events_reach es first (replayed e te
 record StepFirst (held : List Held) : Type 0 where
   text : List ℕ
   place : ℕ
-  newest : Edit
+  newest : Change
   joinable : Bool
   older : List Held
   are : held ≡ Stepped text place newest joinable ∷ older
 
-step_first : (b : Bool) (text : List ℕ) (place : ℕ) (newest : Edit) (joinable : Bool) (held : List Held) → closes held ≡ b → has_mark held ≡ true → (b ≡ true → StepFirst (ended held))
+step_first : (b : Bool) (text : List ℕ) (place : ℕ) (newest : Change) (joinable : Bool) (held : List Held) → closes held ≡ b → has_mark held ≡ true → (b ≡ true → StepFirst (ended held))
     → StepFirst (ended (Stepped text place newest joinable ∷ held))
 step_first true text place newest joinable held is m below =
     let s = below refl in
@@ -62,13 +62,13 @@ closed_first [] h = cc
 closed_first (Opened text ∷ held) h = closed_first held h
 closed_first (Stepped text place newest joinable ∷ held) h = step_first (closes held) text place newest joinable held refl h (closed_first held)
 
-grouped_reaches : (first earlier text : List ℕ) (newest : Edit) (held : List Held) → StepFirst held → Reaches first held earlier → Reaches first (grouped newest held) text
+grouped_reaches : (first earlier text : List ℕ) (newest : Change) (held : List Held) → StepFirst held → Reaches first held earlier → Reaches first (grouped newest held) text
 grouped_reaches first earlier text newest held s r =
     let k : Reaches first (Stepped s.text s.place s.newest s.joinable ∷ s.older) earlier = subst (λ x. Reaches first x earlier) s.are r in
     let made : Reaches first (Stepped s.text s.place newest false ∷ s.older) text = k in
     subst (λ x. Reaches first (grouped newest x) text) (sym s.are) made
 
-step_ended : (a b : Bool) (first text earlier : List ℕ) (place : ℕ) (newest : Edit) (joinable : Bool) (held : List Held) → closes held ≡ a
+step_ended : (a b : Bool) (first text earlier : List ℕ) (place : ℕ) (newest : Change) (joinable : Bool) (held : List Held) → closes held ≡ a
     → Reaches first (ended held) earlier → Reaches first held earlier
     → Reaches first (if a then grouped newest (ended held) else if b then Stepped earlier place newest false ∷ ended held else Stepped earlier place newest joinable ∷ held) text
 step_ended true b first text earlier place newest joinable held is below whole = grouped_reaches first earlier text newest (ended held) (closed_first held is) below

@@ -17,7 +17,7 @@ use Rattle.line_keys.specs.Common.{common_command_rows, common_reading_rows, com
 use Rattle.line_keys.specs.Emacs.{typed_rows, emacs_command_rows, emacs_reading_rows, emacs_deed}
 use Rattle.line_keys.specs.Refreshing.{Shown}
 use Rattle.line_keys.specs.Tables.{Row, has_key, first_row, look}
-use Rattle.line_keys.specs.ViMotions.{motion_rows, change_rows}
+use Rattle.line_keys.specs.ViMotions.{motion_rows, change_motion_rows}
 use Rattle.line_keys.specs.ViTables.{vi_move_rows, vi_edit_rows, vi_turn_rows, vi_reading_rows, deed_of}
 
 or_by : {X : Type 0} (b : Bool) (x : X) (o p : Option X) → (if b then Some x else option_or o p) ≡ option_or (if b then Some x else o) p
@@ -99,10 +99,10 @@ module _ (n : ℕ) (k : KeyEvent) where
       (in_rest n true k vi_edit_rows (vi_turn_rows ++ vi_reading_rows) o nor
       (in_rest n true k vi_turn_rows vi_reading_rows o neither is))
 
-  pub change_first : (motion : MotionKey) → Some motion ≡ look n true k change_rows
-      → Some motion ≡ option_or (look n true k change_rows) (look n true k motion_rows)
+  pub change_first : (motion : MotionKey) → Some motion ≡ look n true k change_motion_rows
+      → Some motion ≡ option_or (look n true k change_motion_rows) (look n true k motion_rows)
   change_first motion is = ap (λ o. option_or o (look n true k motion_rows)) is
 
-  pub motion_then : (o : Option MotionKey) → None ≡ look n true k change_rows → o ≡ look n true k motion_rows
-      → o ≡ option_or (look n true k change_rows) (look n true k motion_rows)
+  pub motion_then : (o : Option MotionKey) → None ≡ look n true k change_motion_rows → o ≡ look n true k motion_rows
+      → o ≡ option_or (look n true k change_motion_rows) (look n true k motion_rows)
   motion_then o none is = is ∙ ap (λ p. option_or p (look n true k motion_rows)) none

@@ -12,7 +12,7 @@ use Rattle.line_keys.specs.Coming.{Coming, behind, left, key_at, paste_at, from_
 use Rattle.line_keys.specs.Commands.{holds_text, Copied}
 use Rattle.line_keys.specs.Custom.{Situation, custom_answer, or_any, shown_for}
 use Rattle.line_keys.specs.Events.{single}
-use Rattle.line_keys.specs.Feeds.{IsReaderRefusal, KeyFeed, InputItem, Item, Key, Paste, item_at, ReadAs, ReadsBy}
+use Rattle.line_keys.specs.Feeds.{IsReaderRefusal, KeyFeed, InputItem, InputOf, Key, Paste, item_at, ReadAs, ReadsBy}
 use Rattle.line_keys.specs.Refreshing.{Shown, Ask, KnownDisplay, Draws, IsDrawFault}
 use Rattle.line_keys.specs.Handling.{Meaning}
 use Rattle.line_keys.specs.Phrases.{Input, KeyAsk, Answer, Steps, Part, Needs, Shows, Reads, Becomes, Refuses, Upto, steps, answered, needs_if, needing, granted, with_read, with_key, with_paste, from_key, asking, becoming, decided_by, deciding, kept_by, shown_by, after, and_then}
@@ -221,22 +221,22 @@ silent_follows d custom s w i i' f f' r quiet = record {
 
 -- ---- reads
 
-module _ {S Y : Type 0} (d : KnownDisplay S) (item : InputItem) (next : Item item → Part Y) where
+module _ {S Y : Type 0} (d : KnownDisplay S) (item : InputItem) (next : InputOf item → Part Y) where
   stops_by : (b : ℕ) (w : S) (i : Input) (c c' : Coming) (e : ReadlineError) → ReadAs item (item_at item c) (behind c) (Err e) c' → (n : ℕ) → b < n
       → Goes_by d (steps (with_read item next) n) (stage w i c) (Err e) (stage w i c')
   unfolding with_read
   stops_by b w i c c' e read zero more = absurd (nothing_under more)
   stops_by b w i c c' e (inl is) (suc n) more =
-      inr (e, (inl (sym is.0), ap (stage w i) (is.1 ∙ ap (λ (q : Result (Item item) ReadlineError). left q (behind c)) (sym is.0))), refl)
+      inr (e, (inl (sym is.0), ap (stage w i) (is.1 ∙ ap (λ (q : Result (InputOf item) ReadlineError). left q (behind c)) (sym is.0))), refl)
   stops_by b w i c c' e (inr (f, fault, is, left)) (suc n) more = inr (f, (inr fault, ap (stage w i) left), err_same e f is)
 
-  on_by : (b b1 : ℕ) (w : S) (i : Input) (c c1 : Coming) (t : Stage S) (x : Item item) (r : Result Y ReadlineError)
+  on_by : (b b1 : ℕ) (w : S) (i : Input) (c c1 : Coming) (t : Stage S) (x : InputOf item) (r : Result Y ReadlineError)
       → ReadAs item (item_at item c) (behind c) (Ok x) c1 → b1 < b → ((n : ℕ) → b1 < n → Goes_by d (steps (next x) n) (stage w i c1) r t) → (n : ℕ) → b < n
       → Goes_by d (steps (with_read item next) n) (stage w i c) r t
   unfolding with_read
   on_by b b1 w i c c1 t x r read falls later zero more = absurd (nothing_under more)
   on_by b b1 w i c c1 t x r (inl is) falls later (suc n) more =
-      inl (x, stage w i c1, (sym is.0, ap (stage w i) (is.1 ∙ ap (λ (q : Result (Item item) ReadlineError). left q (behind c)) (sym is.0))), later n (lt_under falls more))
+      inl (x, stage w i c1, (sym is.0, ap (stage w i) (is.1 ∙ ap (λ (q : Result (InputOf item) ReadlineError). left q (behind c)) (sym is.0))), later n (lt_under falls more))
   on_by b b1 w i c c1 t x r (inr (f, fault, is, left)) falls later (suc n) more = ok_not_err x f is
 
   pub read_stops : (custom : Custom) (w : S) (i : Input) (f f' : KeyFeed) (e : ReadlineError) → ReadsBy item (item_at item) f f' (Err e) → Follows d custom (with_read item next) w i w i f f' (Err e)
@@ -249,7 +249,7 @@ module _ {S Y : Type 0} (d : KnownDisplay S) (item : InputItem) (next : Item ite
     reason = reader_because d custom w f' e reads.refused reads.reason;
   }
 
-  pub read_follows : (custom : Custom) (x : Item item) (w w' : S) (i i' : Input) (f f1 f2 : KeyFeed) (r : Result Y ReadlineError) → ReadsBy item (item_at item) f f1 (Ok x)
+  pub read_follows : (custom : Custom) (x : InputOf item) (w w' : S) (i i' : Input) (f f1 f2 : KeyFeed) (r : Result Y ReadlineError) → ReadsBy item (item_at item) f f1 (Ok x)
       → Follows d custom (next x) w i w' i' f1 f2 r → Follows d custom (with_read item next) w i w' i' f f2 r
   unfolding Happens
   read_follows custom x w w' i i' f f1 f2 r first second = record {

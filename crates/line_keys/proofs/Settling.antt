@@ -26,7 +26,7 @@ use Rattle.line_keys.specs.declared.keymap.custom.Followed.TheVariants.{Bound, U
 use Rattle.line_keys.specs.Custom.{Situation, following, following_upto, followed, bound_by, sequence_answer}
 use Rattle.line_keys.specs.Custom.{situation, custom_answer}
 use Rattle.line_keys.specs.Emacs.{after_first_key, emacs_command, emacs_counted, emacs_decided, emacs_deed, emacs_done, emacs_phrase, move_to_char, second_command}
-use Rattle.line_keys.specs.Feeds.{InputItem, Item, Key, Paste}
+use Rattle.line_keys.specs.Feeds.{InputItem, InputOf, Key, Paste}
 use Rattle.line_config.specs.Scripts.{Ends, Asks}
 use Rattle.line_keys.specs.Phrase.{phrase, phrase_from}
 use Rattle.line_keys.specs.Phrases.{Input, Steps, Part, steps, answered, needs_if, needing, with_read, from_key, asking, becoming, decided_by, replied, deciding, kept_by, shown_by, after, and_then}
@@ -66,7 +66,7 @@ answered_settles : {X : Type 0} (x : X) → Settled (answered x)
 unfolding answered
 answered_settles x n = refl
 
-read_settles : {Y : Type 0} (item : InputItem) (next : Item item → Part Y) → ((x : Item item) → Settled (next x)) → Settled (with_read item next)
+read_settles : {Y : Type 0} (item : InputItem) (next : InputOf item → Part Y) → ((x : InputOf item) → Settled (next x)) → Settled (with_read item next)
 unfolding with_read
 read_settles item next h zero = λ none. absurd none
 read_settles item next h (suc n) = λ x. h x n

@@ -28,12 +28,12 @@ pub data InputItem : Type 0 where
   Key : InputItem
   Paste : InputItem
 
-abbrev pub Item : InputItem → Type 0
-Item Key = KeyEvent
-Item Paste = List ℕ
+abbrev pub InputOf : InputItem → Type 0
+InputOf Key = KeyEvent
+InputOf Paste = List ℕ
 
 -- the answer where it is asked for
-abbrev pub item_at : (item : InputItem) → Coming → Result (Item item) ReadlineError
+abbrev pub item_at : (item : InputItem) → Coming → Result (InputOf item) ReadlineError
 item_at Key = key_at
 item_at Paste = paste_at
 

@@ -10,7 +10,7 @@ use Rattle.line_keys.specs.declared.command.Cmd.{Cmd}
 use Rattle.line_keys.specs.declared.command.InputMode.{InputMode}
 use Rattle.line_keys.specs.declared.key.KeyEvent.{KeyEvent}
 use Rattle.line_keys.specs.Commands.{holds_text}
-use Rattle.line_keys.specs.Feeds.{InputItem, Item, Key, Paste}
+use Rattle.line_keys.specs.Feeds.{InputItem, InputOf, Key, Paste}
 use Rattle.line_keys.specs.Refreshing.{Shown, Ask}
 use Rattle.line_keys.specs.Replies.{Reply}
 
@@ -40,7 +40,7 @@ pub data KeyAsk : Type 0 where
 abbrev pub Answer : KeyAsk → Type 0
 Answer Needs = ⊤
 Answer (Shows ask) = Shown
-Answer (Reads item) = Item item
+Answer (Reads item) = InputOf item
 Answer (Becomes input) = ⊤
 Answer (Refuses why) = ⊥
 
@@ -75,11 +75,11 @@ needing takes next = Upto (λ n. needs_if takes (steps next n))
 abbrev pub granted : Cmd → Part Cmd
 granted cmd = needing (holds_text cmd) (answered cmd)
 
-abbrev pub reading_upto : {Y : Type 0} → (item : InputItem) → (Item item → Part Y) → ℕ → Steps Y
+abbrev pub reading_upto : {Y : Type 0} → (item : InputItem) → (InputOf item → Part Y) → ℕ → Steps Y
 reading_upto item next zero = refused Memory
 reading_upto item next (suc n) = Asks (Reads item) (λ x. steps (next x) n)
 
-unfoldable pub with_read : {Y : Type 0} → (item : InputItem) → (Item item → Part Y) → Part Y
+unfoldable pub with_read : {Y : Type 0} → (item : InputItem) → (InputOf item → Part Y) → Part Y
 with_read item next = Upto (reading_upto item next)
 
 -- one key is read

@@ -47,15 +47,15 @@ motion_rows =
     ∷ []
 
 -- a change takes no blanks after a word
-abbrev pub change_rows : List (Row Motion)
-change_rows =
+abbrev pub change_motion_rows : List (Row Motion)
+change_motion_rows =
     char (codes "w") none (by_count (λ n. Go (ForwardWord n AfterEnd Vi)))
     ∷ char (codes "W") none (by_count (λ n. Go (ForwardWord n AfterEnd Big)))
     ∷ []
 
 unfoldable pub motion_of : Bool → ℕ → KeyEvent → Option Motion
 motion_of changing n k =
-    if changing then option_or (look n true k change_rows) (look n true k motion_rows)
+    if changing then option_or (look n true k change_motion_rows) (look n true k motion_rows)
     else look n true k motion_rows
 
 -- a key that is no motion gives none, and so does a search where none is kept

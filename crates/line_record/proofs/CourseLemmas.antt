@@ -4,7 +4,7 @@ use Rattle.std.specs.Prelude.{if◌then◌else◌}
 use Rattle.line_buffer.specs.Event.{Event}
 use Rattle.line_buffer.specs.Event.Event.{StartKilling, StopKilling, Delete, InsertChar, InsertStr, Replace}
 use Rattle.line_buffer.specs.Replay.{replayed}
-use Rattle.line_record.specs.Edit.{Edit}
+use Rattle.line_record.specs.Change.{Change}
 use Rattle.line_record.specs.Held.{Held, Undone, text_of, stepped, stepped_on, stepped_if, recorded_in, change_of, joined_to, ended, closes, has_mark, grouped, text_back, ahead_back, held_ahead}
 use Rattle.line_record.specs.Held.Held.{Opened, Stepped}
 use Rattle.line_record.specs.Items.{ahead_after}
@@ -31,20 +31,20 @@ ahead_more [] seen t h = tt
 ahead_more (u ∷ ahead) seen t h = (inr h.0, inr h.1, ahead_more ahead seen t h.2)
 
 -- a step that is recorded
-stepped_on_seen : (o : Option Edit) (c : Edit) (text earlier : List ℕ) (newest : Held) (held : List Held) (seen : List (List ℕ)) → IsAmong text seen → IsAmong earlier seen
+stepped_on_seen : (o : Option Change) (c : Change) (text earlier : List ℕ) (newest : Held) (held : List Held) (seen : List (List ℕ)) → IsAmong text seen → IsAmong earlier seen
     → IsAmong (text_of newest) seen → HeldSeen held seen → HeldSeen (stepped_on o c text earlier newest held) seen
 unfolding HeldSeen
 stepped_on_seen (Some joined) c text earlier newest held seen t e n h = (e, h)
 stepped_on_seen None c text earlier newest held seen t e n h = (t, (n, h))
 
-stepped_seen : (e : Event) (c : Edit) (text : List ℕ) (held : List Held) (seen : List (List ℕ)) → IsAmong text seen → HeldSeen held seen → HeldSeen (stepped e c text held) seen
+stepped_seen : (e : Event) (c : Change) (text : List ℕ) (held : List Held) (seen : List (List ℕ)) → IsAmong text seen → HeldSeen held seen → HeldSeen (stepped e c text held) seen
 unfolding HeldSeen
 stepped_seen e c text [] seen t h = (t, tt)
 stepped_seen e c text (Opened earlier ∷ held) seen t h = (t, h)
 stepped_seen e c text (Stepped earlier place d false ∷ held) seen t h = (t, h)
 stepped_seen e c text (Stepped earlier place d true ∷ held) seen t h = stepped_on_seen (joined_to e d) c text earlier (Stepped earlier place d true) held seen t h.0 h.0 h.1
 
-stepped_if_seen : (e : Event) (o : Option Edit) (text : List ℕ) (held : List Held) (seen : List (List ℕ)) → IsAmong text seen → HeldSeen held seen → HeldSeen (stepped_if e o text held) seen
+stepped_if_seen : (e : Event) (o : Option Change) (text : List ℕ) (held : List Held) (seen : List (List ℕ)) → IsAmong text seen → HeldSeen held seen → HeldSeen (stepped_if e o text held) seen
 stepped_if_seen e None text held seen t h = h
 stepped_if_seen e (Some c) text held seen t h = stepped_seen e c text held seen t h
 
@@ -58,7 +58,7 @@ ahead_after_seen (InsertStr at text) ahead seen h = tt
 ahead_after_seen (Replace at before after) ahead seen h = tt
 
 -- a group that is closed
-grouped_seen : (c : Edit) (held : List Held) (seen : List (List ℕ)) → HeldSeen held seen → HeldSeen (grouped c held) seen
+grouped_seen : (c : Change) (held : List Held) (seen : List (List ℕ)) → HeldSeen held seen → HeldSeen (grouped c held) seen
 unfolding HeldSeen
 grouped_seen c [] seen h = tt
 grouped_seen c (Opened text ∷ held) seen h = h

@@ -4,7 +4,7 @@ use Rattle.std.proofs.Math.Seq.{take-length}
 use Rattle.std.specs.Prelude.{nat_lt, if◌then◌else◌, unwrap_or, slice_get, is_some, min}
 use Rattle.std.proofs.lemmas.Bool.Decides.{nat_tests}
 use Rattle.std.proofs.lemmas.List.{take-append-drop, take-take, take_at, drop_at, take_min, drop_all, length-reverse, length-drop, length-take-le, reverse-append, reverse-reverse}
-use Rattle.line_record.specs.Edit.{Edit}
+use Rattle.line_record.specs.Change.{Change}
 use Rattle.line_record.specs.Items.{Item, Items, done_held, DoneStand, gathered, group_of, EndedBy, truncated}
 use Rattle.line_record.specs.Items.Item.{Open, Lone, Group}
 use Rattle.line_record.specs.Steps.{record_of, oldest_mark, IsRecord, mark_within}
@@ -183,7 +183,7 @@ closed_marks items new n i closed h answer left text =
       stand = λ k. subst (λ xs. DoneStand xs text) (sym after) (e.stand k);
     }
 
-group_unmarked : (group : List Edit) (older : List Item) → oldest_mark older ≡ None → oldest_mark (group_of group older) ≡ None
+group_unmarked : (group : List Change) (older : List Item) → oldest_mark older ≡ None → oldest_mark (group_of group older) ≡ None
 group_unmarked [] older h = h
 group_unmarked (c ∷ cs) older h = h
 

@@ -2,7 +2,7 @@
 use Rattle.std.proofs.Common.{◌≡◌, ℕ, ◌||◌, Bool, true, false, List, [], ◌∷◌, ◌++◌, reverse, refl, sym, ap, subst, ◌∙◌, None, append_assoc}
 use Rattle.std.specs.Prelude.{if◌then◌else◌, is_some, slice_get}
 use Rattle.std.proofs.lemmas.List.{append-nil, reverse-append}
-use Rattle.line_record.specs.Edit.{Edit, newest_of, all_taken_back, AllStandIn, undo_place, taken_back, StandsIn}
+use Rattle.line_record.specs.Change.{Change, newest_of, all_taken_back, AllStandIn, undo_place, taken_back, StandsIn}
 use Rattle.line_record.specs.Held.{Held, has_mark, closes, grouped, ended}
 use Rattle.line_record.specs.Held.Held.{Stepped}
 use Rattle.line_record.specs.Items.{Item, changes_of, before_item, done_held, DoneStand, gathered, group_of, EndedBy}
@@ -14,24 +14,24 @@ has_open [] = false
 has_open (x ∷ items) = is_open x || has_open items
 
 -- the changes of items, the newest item first, in the order in which they were made
-pub gather : List Item → List Edit
+pub gather : List Item → List Change
 gather [] = []
 gather (x ∷ items) = gather items ++ changes_of x
 
-all_taken_back-append : (cs ds : List Edit) (text : List ℕ) → all_taken_back (cs ++ ds) text ≡ all_taken_back cs (all_taken_back ds text)
+all_taken_back-append : (cs ds : List Change) (text : List ℕ) → all_taken_back (cs ++ ds) text ≡ all_taken_back cs (all_taken_back ds text)
 all_taken_back-append [] ds text = refl
 all_taken_back-append (c ∷ cs) ds text = ap (taken_back c) (all_taken_back-append cs ds text)
 
-AllStandIn-append : (cs ds : List Edit) (text : List ℕ) → AllStandIn cs (all_taken_back ds text) → AllStandIn ds text → AllStandIn (cs ++ ds) text
+AllStandIn-append : (cs ds : List Change) (text : List ℕ) → AllStandIn cs (all_taken_back ds text) → AllStandIn ds text → AllStandIn (cs ++ ds) text
 AllStandIn-append [] ds text h k = k
 AllStandIn-append (c ∷ cs) ds text h k = (subst (StandsIn c) (sym (all_taken_back-append cs ds text)) h.0, AllStandIn-append cs ds text h.1 k)
 
-newest_of-append : (g c : Edit) (gs cs : List Edit) → newest_of g (gs ++ (c ∷ cs)) ≡ newest_of c cs
+newest_of-append : (g c : Change) (gs cs : List Change) → newest_of g (gs ++ (c ∷ cs)) ≡ newest_of c cs
 newest_of-append g c [] cs = refl
 newest_of-append g c (h ∷ gs) cs = newest_of-append h c gs cs
 
 -- what closing a group leaves
-pub record EndedAs (items : List Item) (group : List Edit) (after : List Item) (text : List ℕ) : Type 0 where
+pub record EndedAs (items : List Item) (group : List Change) (after : List Item) (text : List ℕ) : Type 0 where
   pub held : done_held after text ≡ ended (done_held items text)
   pub closes : is_some (slice_get group 0) ≡ closes (done_held items text)
   pub stand : DoneStand items text → DoneStand after text
@@ -50,11 +50,11 @@ marked (Lone c ∷ newer) older text = marked newer older (before_item (Lone c) 
 marked (Group c cs ∷ newer) older text = marked newer older (before_item (Group c cs) text)
 
 -- a step ends by what is held below it
-ended_step : Bool → Bool → List ℕ → ℕ → Edit → Bool → List Held → List Held → List Held
+ended_step : Bool → Bool → List ℕ → ℕ → Change → Bool → List Held → List Held → List Held
 ended_step a b text place newest joinable held below =
     if a then grouped newest below else if b then Stepped text place newest false ∷ below else Stepped text place newest joinable ∷ held
 
-ended_step_is : (text : List ℕ) (place : ℕ) (newest : Edit) (joinable : Bool) (held below : List Held) (a b : Bool) → closes held ≡ a → has_mark held ≡ b → ended held ≡ below
+ended_step_is : (text : List ℕ) (place : ℕ) (newest : Change) (joinable : Bool) (held below : List Held) (a b : Bool) → closes held ≡ a → has_mark held ≡ b → ended held ≡ below
     → ended (Stepped text place newest joinable ∷ held) ≡ ended_step a b text place newest joinable held below
 unfolding ended_step
 ended_step_is text place newest joinable held below a b x y z =
@@ -84,7 +84,7 @@ pub unmarked : (items : List Item) (text : List ℕ) → has_open items ≡ fals
 unmarked items text h = record { held = sym (free_ended items text h); closes = sym (free_closes items text h); stand = λ k. k }
 
 -- one more step of the group, on the changes that were gathered below it
-closing_step : (c : Edit) (cs group : List Edit) (joinable : Bool) (rest older : List Item) (text : List ℕ) → has_mark (done_held rest (all_taken_back (c ∷ cs) text)) ≡ true
+closing_step : (c : Change) (cs group : List Change) (joinable : Bool) (rest older : List Item) (text : List ℕ) → has_mark (done_held rest (all_taken_back (c ∷ cs) text)) ≡ true
     → EndedAs rest group (group_of group older) (all_taken_back (c ∷ cs) text)
     → done_held (group_of (group ++ (c ∷ cs)) older) text
     ≡ ended (Stepped (all_taken_back (c ∷ cs) text) (undo_place c) (newest_of c cs) joinable ∷ done_held rest (all_taken_back (c ∷ cs) text))
@@ -99,7 +99,7 @@ closing_step c cs (g ∷ gs) joinable rest older text m e =
     ∙ ap (λ n. Stepped (taken_back g (all_taken_back gs t)) (undo_place g) n false ∷ done_held older (taken_back g (all_taken_back gs t))) (newest_of-append g c gs cs)
     ∙ sym (ended_step_is t (undo_place c) (newest_of c cs) joinable (done_held rest t) _ true true (sym e.closes) m (sym e.held))
 
-closing_stand : (c : Edit) (cs group : List Edit) (rest older : List Item) (text : List ℕ) → EndedAs rest group (group_of group older) (all_taken_back (c ∷ cs) text)
+closing_stand : (c : Change) (cs group : List Change) (rest older : List Item) (text : List ℕ) → EndedAs rest group (group_of group older) (all_taken_back (c ∷ cs) text)
     → AllStandIn (c ∷ cs) text → DoneStand rest (all_taken_back (c ∷ cs) text) → DoneStand (group_of (group ++ (c ∷ cs)) older) text
 closing_stand c cs [] rest older text e h k = (h, e.stand k)
 closing_stand c cs (g ∷ gs) rest older text e h k =
@@ -144,7 +144,7 @@ unfolding gather
 gather-reverse [] = refl
 gather-reverse (x ∷ items) = ap gather (reverse-append (x ∷ []) items) ∙ gather-push (reverse items) x ∙ ap (λ cs. changes_of x ++ cs) (gather-reverse items)
 
-pub changes_of-item_from : (closed : Bool) (cs : List Edit) → changes_of (item_from closed cs) ≡ cs
+pub changes_of-item_from : (closed : Bool) (cs : List Change) → changes_of (item_from closed cs) ≡ cs
 changes_of-item_from true [] = refl
 changes_of-item_from false [] = refl
 changes_of-item_from true (c ∷ []) = refl
@@ -152,12 +152,12 @@ changes_of-item_from false (c ∷ []) = refl
 changes_of-item_from true (c ∷ (d ∷ cs)) = refl
 changes_of-item_from false (c ∷ (d ∷ cs)) = refl
 
-item_from_closed : (c : Edit) (cs : List Edit) → item_from true (c ∷ cs) ≡ Group c cs
+item_from_closed : (c : Change) (cs : List Change) → item_from true (c ∷ cs) ≡ Group c cs
 item_from_closed c [] = refl
 item_from_closed c (d ∷ cs) = refl
 
 -- the group after what was there
-pub group_pushed : (cs : List Edit) (older : List Item) → is_some (slice_get cs 0) ≡ true → item_from true cs ∷ older ≡ group_of cs older
+pub group_pushed : (cs : List Change) (older : List Item) → is_some (slice_get cs 0) ≡ true → item_from true cs ∷ older ≡ group_of cs older
 group_pushed [] older h = cc
 group_pushed (c ∷ cs) older h = ap (λ x. x ∷ older) (item_from_closed c cs)
 

@@ -6,7 +6,7 @@ use Rattle.std.proofs.lemmas.List.{append-nil, drop_all, take_all, take_at, take
 use Rattle.std.proofs.lemmas.Str.{IsUtf8-drop, IsCharBoundary-at_seam}
 use borrow.Rule.Slice.PartMut.{post_of}
 use Rattle.line_buffer.specs.Line.{Line}
-use Rattle.line_record.specs.Edit.{Edit, StandsAt, exchanged_at}
+use Rattle.line_record.specs.Change.{Change, StandsAt, exchanged_at}
 use Rattle.line_record.specs.Gap.{seamed, detached, taking_over}
 use Rattle.line_record.specs.Items.{Items, taken_back_in, made_anew_in, lines_back, lines_ahead, UndoesItems, RedoesItem, last_changes}
 use Rattle.line_record.proofs.Exchange.{exchanged}
@@ -68,18 +68,18 @@ seam_moved upto text front after before behind =
     ap (λ l. l ++ reverse after) before ∙ ap (λ l. take upto text ++ l) behind ∙ take-append-drop upto text
 
 -- a line that takes over what was made of its text and cursor alone
-back_over : (cs : List Edit) (l m : Line) → lines_back cs (taking_over l m) ≡ taking_over l (lines_back cs m)
+back_over : (cs : List Change) (l m : Line) → lines_back cs (taking_over l m) ≡ taking_over l (lines_back cs m)
 back_over [] l m = refl
 back_over (c ∷ cs) l m = ap (taken_back_in c) (back_over cs l m)
 
-ahead_over : (cs : List Edit) (l m : Line) → lines_ahead cs (taking_over l m) ≡ taking_over l (lines_ahead cs m)
+ahead_over : (cs : List Change) (l m : Line) → lines_ahead cs (taking_over l m) ≡ taking_over l (lines_ahead cs m)
 ahead_over [] l m = refl
 ahead_over (c ∷ cs) l m = ahead_over cs l (made_anew_in c m)
 
-pub back_apart : (cs : List Edit) (l : Line) → taking_over l (lines_back cs (detached l)) ≡ lines_back cs l
+pub back_apart : (cs : List Change) (l : Line) → taking_over l (lines_back cs (detached l)) ≡ lines_back cs l
 back_apart cs l = sym (back_over cs l (detached l))
 
-pub ahead_apart : (cs : List Edit) (l : Line) → taking_over l (lines_ahead cs (detached l)) ≡ lines_ahead cs l
+pub ahead_apart : (cs : List Change) (l : Line) → taking_over l (lines_ahead cs (detached l)) ≡ lines_ahead cs l
 ahead_apart cs l = sym (ahead_over cs l (detached l))
 
 -- a refusal that leaves the line as it was: none of the changes is taken back

@@ -7,7 +7,7 @@ use Rattle.std.proofs.lemmas.Bool.{eqb-true}
 use Rattle.line_buffer.specs.Event.{Event}
 use Rattle.line_buffer.specs.Event.Event.{StartKilling, StopKilling, Delete, InsertChar, InsertStr, Replace}
 use Rattle.line_buffer.specs.Replay.{replayed}
-use Rattle.line_record.specs.Edit.{Edit}
+use Rattle.line_record.specs.Change.{Change}
 use Rattle.line_record.specs.Held.{Held, change_of, joined_to, step_of, stepped, stepped_on, stepped_if, recorded_in, has_mark, closes, ended, text_back}
 use Rattle.line_record.specs.Held.Held.{Opened, Stepped}
 use Rattle.line_record.specs.Course.{RecordCall, Course, after_call, after_calls}
@@ -58,13 +58,13 @@ unchanged (Replace at removed added) text h =
     let b = both_hold _ _ (none_if _ _ h) in
     nothing_swapped text at removed added (empty_text removed b.0) (empty_text added b.1)
 
-joined_inside : (o : Option Edit) (c d : Edit) (place : ℕ) (begun_on text after earlier : List ℕ) (newer older : List Held) → text_begun newer earlier ≡ begun_on
+joined_inside : (o : Option Change) (c d : Change) (place : ℕ) (begun_on text after earlier : List ℕ) (newer older : List Held) → text_begun newer earlier ≡ begun_on
     → Inside begun_on older (stepped_on o c text earlier (Stepped earlier place d true) (newer ++ (Opened begun_on ∷ older))) after
 unfolding text_begun
 joined_inside (Some g) c d place begun_on text after earlier newer older h = record { newer = step_of g earlier ∷ newer; are = refl; begun = h }
 joined_inside None c d place begun_on text after earlier newer older h = record { newer = step_of c text ∷ (Stepped earlier place d true ∷ newer); are = refl; begun = h }
 
-stepped_inside : (e : Event) (c : Edit) (begun_on text after : List ℕ) (newer older : List Held) → text_begun newer text ≡ begun_on
+stepped_inside : (e : Event) (c : Change) (begun_on text after : List ℕ) (newer older : List Held) → text_begun newer text ≡ begun_on
     → Inside begun_on older (stepped e c text (newer ++ (Opened begun_on ∷ older))) after
 unfolding text_begun
 stepped_inside e c begun_on text after [] older h = record { newer = step_of c text ∷ []; are = refl; begun = h }
@@ -72,7 +72,7 @@ stepped_inside e c begun_on text after (Opened x ∷ newer) older h = record { n
 stepped_inside e c begun_on text after (Stepped x place d false ∷ newer) older h = record { newer = step_of c text ∷ (Stepped x place d false ∷ newer); are = refl; begun = h }
 stepped_inside e c begun_on text after (Stepped x place d true ∷ newer) older h = joined_inside (joined_to e d) c d place begun_on text after x newer older h
 
-told_inside : (e : Event) (o : Option Edit) (begun_on text : List ℕ) (newer older : List Held) → change_of e ≡ o → text_begun newer text ≡ begun_on
+told_inside : (e : Event) (o : Option Change) (begun_on text : List ℕ) (newer older : List Held) → change_of e ≡ o → text_begun newer text ≡ begun_on
     → Inside begun_on older (stepped_if e o text (newer ++ (Opened begun_on ∷ older))) (replayed e text)
 told_inside e (Some c) begun_on text newer older is h = stepped_inside e c begun_on text (replayed e text) newer older h
 told_inside e None begun_on text newer older is h = record { newer = newer; are = refl; begun = ap (text_begun newer) (unchanged e text is) ∙ h }
@@ -116,10 +116,10 @@ no_step (Stepped x place newest joinable ∷ newer) older begun_on m h =
 
 record OneStep (text : List ℕ) (older held : List Held) : Type 0 where
   place : ℕ
-  newest : Edit
+  newest : Change
   are : ended held ≡ Stepped text place newest false ∷ older
 
-step_closed : (b : Bool) (newer older : List Held) (begun_on x : List ℕ) (place : ℕ) (newest : Edit) (joinable : Bool) → has_mark older ≡ false
+step_closed : (b : Bool) (newer older : List Held) (begun_on x : List ℕ) (place : ℕ) (newest : Change) (joinable : Bool) → has_mark older ≡ false
     → closes (newer ++ (Opened begun_on ∷ older)) ≡ b → (b ≡ true → OneStep (text_begun newer x) older (newer ++ (Opened begun_on ∷ older)))
     → OneStep (text_begun newer x) older (Stepped x place newest joinable ∷ (newer ++ (Opened begun_on ∷ older)))
 step_closed true newer older begun_on x place newest joinable m h below =

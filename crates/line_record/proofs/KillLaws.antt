@@ -21,7 +21,7 @@ use Rattle.line_buffer.specs.Replay.{insertion}
 use Rattle.line_buffer.proofs.InsertionLemmas.{one_insertion}
 use Rattle.line_record.specs.declared.kill_ring.Action.{Action}
 use Rattle.line_record.specs.declared.kill_ring.Action.TheVariants.{Other, Kill, Yank}
-use Rattle.line_record.specs.Edit.{StandsAt, exchanged_at}
+use Rattle.line_record.specs.Change.{StandsAt, exchanged_at}
 use Rattle.line_record.specs.Laws.{is_directed, AllDirected, line_killed, ring_killed, some_taken, KillsComeBack}
 use Rattle.line_record.specs.Ring.{Ring, IsRing, joined_text, slot_after, put_text, killed, killed_after, killed_anew, mode_of, ring_all}
 use Rattle.line_record.proofs.DirectedLemmas.{Onward, Back, IsDirected, directed}

@@ -10,7 +10,7 @@ use Rattle.line_buffer.specs.Event.{Event}
 use Rattle.line_record.specs.declared.entry.Entry.{Entry}
 use Rattle.line_record.specs.declared.entry.Kind.{Kind}
 use Rattle.line_record.specs.declared.entry.Kind.TheVariants.{Insertion, Deletion, Replacement}
-use Rattle.line_record.specs.Edit.{Edit, removed_of, added_of, AllFitIn}
+use Rattle.line_record.specs.Change.{Change, removed_of, added_of, AllFitIn}
 use Rattle.line_record.specs.Held.{joined_to}
 use Rattle.line_buffer.specs.Line.{Line}
 use Rattle.line_record.specs.Items.{lines_ahead}
@@ -119,7 +119,7 @@ placed text front removed added x whole start middle end f r a =
     }
 
 -- one more by the texts that are put in after the first n
-pub record Put (text : List ℕ) (entries : List Entry) (n : ℕ) (edit : Edit) (after : List ℕ) (entries_after : List Entry) : Type 0 where
+pub record Put (text : List ℕ) (entries : List Entry) (n : ℕ) (edit : Change) (after : List ℕ) (entries_after : List Entry) : Type 0 where
   pub log : IsLog after entries_after
   pub edits : edits_in after entries_after ≡ take n (edits_in text entries) ++ (edit ∷ [])
 
@@ -148,7 +148,7 @@ place_is text seen entries n place count is same long =
 pub record EntryAt (text : List ℕ) (entries : List Entry) (n : ℕ) (x : Entry) : Type 0 where
   pub spelt : Spelt text x
   pub place : x.start ≡ place_of_span from_of entries n (length text)
-  pub edit : (d : Edit) → get_or (edits_in text entries) n d ≡ edit_in text x
+  pub edit : (d : Change) → get_or (edits_in text entries) n d ≡ edit_in text x
 
 pub entry_at : (text : List ℕ) (entries : List Entry) (n : ℕ) (x : Entry) → IsLog text entries → n < length entries → x ≡ get_or entries n x → EntryAt text entries n x
 entry_at text entries n x h inside is =
@@ -245,7 +245,7 @@ mapped_twice f g None = refl
 mapped_twice f g (Some x) = refl
 
 -- a join by its index
-pub joined_at_is : (e : Event) (n : ℕ) (edits : List Edit) (d : Edit) → n < length edits → joined_at e n edits ≡ option_map (λ j. take n edits ++ (j ∷ [])) (joined_to e (get_or edits n d))
+pub joined_at_is : (e : Event) (n : ℕ) (edits : List Change) (d : Change) → n < length edits → joined_at e n edits ≡ option_map (λ j. take n edits ++ (j ∷ [])) (joined_to e (get_or edits n d))
 joined_at_is e n [] d h = absurd (omega (arith, h))
 joined_at_is e zero (c ∷ edits) d h = refl
 joined_at_is e (suc n) (c ∷ edits) d h = ap (option_map (λ es. c ∷ es)) (joined_at_is e n edits d (omega (arith, h))) ∙ mapped_twice (λ j. take n edits ++ (j ∷ [])) (λ es. c ∷ es) (joined_to e (get_or edits n d))
@@ -269,28 +269,28 @@ pub range_edits : (text : List ℕ) (entries : List Entry) (first last : ℕ) �
 range_edits text entries first last =
     sym (take-map (edit_in text) (last - first) (drop first entries)) ∙ ap (take (last - first)) (sym (drop-map (edit_in text) first entries))
 
-pub range_seen : (text seen_text : List ℕ) (entries seen : List Entry) (edits : List Edit) (first last : ℕ) → seen_text ≡ text → seen ≡ entries → edits_in text entries ≡ edits
+pub range_seen : (text seen_text : List ℕ) (entries seen : List Entry) (edits : List Change) (first last : ℕ) → seen_text ≡ text → seen ≡ entries → edits_in text entries ≡ edits
     → edits_in seen_text (slice_range seen first last) ≡ slice_range edits first last
 range_seen text seen_text entries seen edits first last t e is =
     ap (λ (u : List ℕ). edits_in u (slice_range seen first last)) t ∙ ap (λ (es : List Entry). edits_in text (slice_range es first last)) e
-    ∙ range_edits text entries first last ∙ ap (λ (es : List Edit). slice_range es first last) is
+    ∙ range_edits text entries first last ∙ ap (λ (es : List Change). slice_range es first last) is
 
-pub entries_inside : (text : List ℕ) (entries : List Entry) (edits : List Edit) (n : ℕ) → edits_in text entries ≡ edits → n < length edits → n < length entries
+pub entries_inside : (text : List ℕ) (entries : List Entry) (edits : List Change) (n : ℕ) → edits_in text entries ≡ edits → n < length edits → n < length entries
 entries_inside text entries edits n is h = omega (arith, h, ap length is, length-map entries (edit_in text))
 
 -- a turn of making anew, where the change is read from its list
-pub ahead_entry : {A : Type 0} (f : A → Edit) (xs : List A) (i : ℕ) (d : A) (first l : Line) → i < length xs → l ≡ lines_ahead (take i (map f xs)) first → AllFitIn (drop i (map f xs)) l.text
+pub ahead_entry : {A : Type 0} (f : A → Change) (xs : List A) (i : ℕ) (d : A) (first l : Line) → i < length xs → l ≡ lines_ahead (take i (map f xs)) first → AllFitIn (drop i (map f xs)) l.text
     → AheadTurn f xs i (get_or xs i d) first l
 ahead_entry f xs i d first l inside line fit = ahead_turn f xs i (get_or xs i d) first l inside (get_or_default xs i d (get_or xs i d) inside) line fit
 
 -- a join, as it was found
-pub record Read (e : Event) (text : List ℕ) (entries : List Entry) (edits : List Edit) (n : ℕ) (x : Entry) (o : Option (ℕ × Bool)) : Type 0 where
+pub record Read (e : Event) (text : List ℕ) (entries : List Entry) (edits : List Change) (n : ℕ) (x : Entry) (o : Option (ℕ × Bool)) : Type 0 where
   pub here : EntryAt text entries n x
   pub view : edits_in text entries ≡ edits
   pub inside : n < length edits
   pub joins : joined_to e (edit_in text x) ≡ option_map (λ j. grown j.0 j.1 (removed_of (change_told e)) (added_of (change_told e)) (edit_in text x)) o
 
-pub read : (e : Event) (text : List ℕ) (entries : List Entry) (edits : List Edit) (n : ℕ) (x : Entry) (o : Option (ℕ × Bool)) → IsLog text entries → edits_in text entries ≡ edits → n < length edits
+pub read : (e : Event) (text : List ℕ) (entries : List Entry) (edits : List Change) (n : ℕ) (x : Entry) (o : Option (ℕ × Bool)) → IsLog text entries → edits_in text entries ≡ edits → n < length edits
     → x ≡ get_or entries n x
     → ((r a : List ℕ) → length a ≡ x.end - x.middle → joined_to e (edit_from x.kind x.at r a) ≡ option_map (λ j. grown j.0 j.1 (removed_of (change_told e)) (added_of (change_told e)) (edit_from x.kind x.at r a)) o)
     → Read e text entries edits n x o
@@ -303,7 +303,7 @@ read e text entries edits n x o h view inside is joins =
       joins = joins (slice_range text x.start x.middle) (slice_range text x.middle x.end) (length-slice_range text x.middle x.end here.spelt.inside);
     }
 
-pub was_read : (e : Event) (text : List ℕ) (entries : List Entry) (edits : List Edit) (n : ℕ) (x : Entry) (o : Option (ℕ × Bool)) → Read e text entries edits n x o
+pub was_read : (e : Event) (text : List ℕ) (entries : List Entry) (edits : List Change) (n : ℕ) (x : Entry) (o : Option (ℕ × Bool)) → Read e text entries edits n x o
     → joined_at e n edits ≡ option_map (λ j. take n edits ++ (grown j.0 j.1 (removed_of (change_told e)) (added_of (change_told e)) (edit_in text x) ∷ [])) o
 was_read e text entries edits n x o r =
     let d = edit_in text x in
@@ -311,11 +311,11 @@ was_read e text entries edits n x o r =
     ∙ ap (λ y. option_map (λ j. take n edits ++ (j ∷ [])) (joined_to e y)) (ap (λ es. get_or es n d) (sym r.view) ∙ r.here.edit d)
     ∙ ap (option_map (λ j. take n edits ++ (j ∷ []))) r.joins ∙ mapped_twice (λ (j : ℕ × Bool). grown j.0 j.1 (removed_of (change_told e)) (added_of (change_told e)) d) (λ j. take n edits ++ (j ∷ [])) o
 
-pub join_none : (e : Event) (text : List ℕ) (entries : List Entry) (edits : List Edit) (n : ℕ) (x : Entry) (o : Option (ℕ × Bool)) → Read e text entries edits n x o → o ≡ None → joined_at e n edits ≡ None
+pub join_none : (e : Event) (text : List ℕ) (entries : List Entry) (edits : List Change) (n : ℕ) (x : Entry) (o : Option (ℕ × Bool)) → Read e text entries edits n x o → o ≡ None → joined_at e n edits ≡ None
 join_none e text entries edits n x o r is = was_read e text entries edits n x o r ∙ ap (option_map (λ j. take n edits ++ (grown j.0 j.1 (removed_of (change_told e)) (added_of (change_told e)) (edit_in text x) ∷ []))) is
 
-pub join_made : (e : Event) (text : List ℕ) (entries : List Entry) (edits after : List Edit) (n : ℕ) (x : Entry) (o : Option (ℕ × Bool)) (at : ℕ) (before : Bool) (removed added : List ℕ)
-    → Read e text entries edits n x o → o ≡ Some (at, before) → ((d : Edit) → after ≡ take n edits ++ (grown at before removed added (get_or edits n d) ∷ []))
+pub join_made : (e : Event) (text : List ℕ) (entries : List Entry) (edits after : List Change) (n : ℕ) (x : Entry) (o : Option (ℕ × Bool)) (at : ℕ) (before : Bool) (removed added : List ℕ)
+    → Read e text entries edits n x o → o ≡ Some (at, before) → ((d : Change) → after ≡ take n edits ++ (grown at before removed added (get_or edits n d) ∷ []))
     → removed ≡ removed_of (change_told e) → added ≡ added_of (change_told e) → joined_at e n edits ≡ Some after
 join_made e text entries edits after n x o at before removed added r is new re ad =
     let d = edit_in text x in
@@ -324,7 +324,7 @@ join_made e text entries edits after n x o at before removed added r is new re a
     ∙ sym (ap Some (new d ∙ ap (λ y. take n edits ++ (grown at before removed added y ∷ [])) now ∙ ap (λ t. take n edits ++ (grown at before t added d ∷ [])) re
     ∙ ap (λ t. take n edits ++ (grown at before (removed_of (change_told e)) t d ∷ [])) ad))
 
-pub entry_seen : (text : List ℕ) (entries : List Entry) (edits : List Edit) (n : ℕ) (x : Entry) → IsLog text entries → edits_in text entries ≡ edits → n < length edits → x ≡ get_or entries n x
+pub entry_seen : (text : List ℕ) (entries : List Entry) (edits : List Change) (n : ℕ) (x : Entry) → IsLog text entries → edits_in text entries ≡ edits → n < length edits → x ≡ get_or entries n x
     → EntryAt text entries n x
 entry_seen text entries edits n x h view inside is = entry_at text entries n x h (entries_inside text entries edits n view inside) is
 

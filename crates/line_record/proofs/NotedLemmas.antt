@@ -7,8 +7,8 @@ use Rattle.line_buffer.specs.Event.{Event}
 use Rattle.line_buffer.specs.Event.Event.{StartKilling, StopKilling, Delete, InsertChar, InsertStr, Replace}
 use Rattle.line_buffer.specs.Replay.{Swaps}
 use Rattle.line_buffer.specs.declared.types.Direction.{Direction}
-use Rattle.line_record.specs.Edit.{Edit, place_of, removed_of, added_of, taken_back, exchanged_at, StandsAt, StandsIn}
-use Rattle.line_record.specs.Edit.Edit.{Inserted, Deleted, Replaced}
+use Rattle.line_record.specs.Change.{Change, place_of, removed_of, added_of, taken_back, exchanged_at, StandsAt, StandsIn}
+use Rattle.line_record.specs.Change.Change.{Inserted, Deleted, Replaced}
 use Rattle.line_record.specs.Held.{Held, step_of, stepped, stepped_on, stepped_if, recorded_in, change_of, joined_to, is_one_alphanumeric}
 use Rattle.line_record.specs.Items.{Item, Items, done_held, DoneStand, ItemsStand, held_on, ahead_on, noted, noted_on, noted_if, told_of, ahead_after, Recorded, RecordedIn}
 use Rattle.line_record.specs.Items.Item.{Open, Lone, Group}
@@ -18,7 +18,7 @@ use Rattle.line_record.specs.declared.report.Report.TheVariants as told
 use Rattle.line_record.proofs.Exchange.{exchanged, Joined, joined_right, joined_left}
 
 -- the text before it was changed stands after the change
-pub record Follows (c : Edit) (before after : List ℕ) : Type 0 where
+pub record Follows (c : Change) (before after : List ℕ) : Type 0 where
   pub stand : StandsIn c after
   pub back : taken_back c after ≡ before
 
@@ -26,7 +26,7 @@ pub record Noted (items : List Item) (texts : List Held) (after : List ℕ) : Ty
   pub stand : DoneStand items after
   pub held : done_held items after ≡ texts
 
-noted_new : (c : Edit) (items : List Item) (before after : List ℕ) → Follows c before after → DoneStand items before
+noted_new : (c : Change) (items : List Item) (before after : List ℕ) → Follows c before after → DoneStand items before
     → Noted (Lone c ∷ items) (step_of c before ∷ done_held items before) after
 noted_new c items before after f s = record {
   stand = ((f.stand, tt), subst (DoneStand items) (sym f.back) s);
@@ -35,16 +35,16 @@ noted_new c items before after f s = record {
 
 -- what joins a change d leaves the text before d
 Joins : Event → List ℕ → List ℕ → Type 0
-Joins e before after = (d g : Edit) → joined_to e d ≡ Some g → StandsIn d before → Follows g (taken_back d before) after
+Joins e before after = (d g : Change) → joined_to e d ≡ Some g → StandsIn d before → Follows g (taken_back d before) after
 
-noted_joined : (e : Event) (c d : Edit) (items : List Item) (before after : List ℕ) (o : Option Edit) → joined_to e d ≡ o → Follows c before after → Joins e before after
+noted_joined : (e : Event) (c d : Change) (items : List Item) (before after : List ℕ) (o : Option Change) → joined_to e d ≡ o → Follows c before after → Joins e before after
     → DoneStand (Lone d ∷ items) before
     → Noted (noted_on o c d items) (stepped_on o c before (taken_back d before) (step_of d (taken_back d before)) (done_held items (taken_back d before))) after
 unfolding Joins
 noted_joined e c d items before after (Some g) is f j s = noted_new g items (taken_back d before) after (j d g is s.0.0) s.1
 noted_joined e c d items before after None is f j s = noted_new c (Lone d ∷ items) before after f s
 
-noted_step : (e : Event) (c : Edit) (items : List Item) (before after : List ℕ) → Follows c before after → Joins e before after → DoneStand items before
+noted_step : (e : Event) (c : Change) (items : List Item) (before after : List ℕ) → Follows c before after → Joins e before after → DoneStand items before
     → Noted (noted e c items) (stepped e c before (done_held items before)) after
 noted_step e c [] before after f j s = noted_new c [] before after f s
 noted_step e c (Open ∷ items) before after f j s = noted_new c (Open ∷ items) before after f s
@@ -52,7 +52,7 @@ noted_step e c (Group d ds ∷ items) before after f j s = noted_new c (Group d 
 noted_step e c (Lone d ∷ items) before after f j s = noted_joined e c d items before after (joined_to e d) refl f j s
 
 -- a change that an event tells of
-follows : (c : Edit) (before after : List ℕ) → StandsAt (place_of c) (removed_of c) (added_of c) before → IsUtf8 before
+follows : (c : Change) (before after : List ℕ) → StandsAt (place_of c) (removed_of c) (added_of c) before → IsUtf8 before
     → after ≡ exchanged_at (place_of c) (removed_of c) (added_of c) before → Follows c before after
 follows c before after s u e =
     let x = exchanged (place_of c) (removed_of c) (added_of c) before s u in
@@ -73,7 +73,7 @@ some_if : {A : Type 0} (b : Bool) (x g : A) → (if b then Some x else None) ≡
 some_if true x g e = (refl, cc)
 some_if false x g e = cc
 
-from_joined : {at : ℕ} {was now before longer : List ℕ} (g : Edit) (after : List ℕ) → Joined at was now (removed_of g) (added_of g) before longer (place_of g)
+from_joined : {at : ℕ} {was now before longer : List ℕ} (g : Change) (after : List ℕ) → Joined at was now (removed_of g) (added_of g) before longer (place_of g)
     → after ≡ longer → Follows g (exchanged_at at now was before) after
 from_joined g after j e = record {
   stand = subst (StandsIn g) (sym e) j.stand;
@@ -117,14 +117,14 @@ deletion_behind at place removed deleted before after u w s i =
     from_joined (Deleted at (removed ++ deleted)) after (joined_left at place deleted removed before s u (stands_from_swaps w) i) w.becomes
 
 -- the choice that a deletion makes of what it joins
-chosen_deletion : (a b : Bool) (at place : ℕ) (removed deleted : List ℕ) (g : Edit) (P : Edit → Type 0) → (at == place) ≡ a → (at + length removed == place) ≡ b
+chosen_deletion : (a b : Bool) (at place : ℕ) (removed deleted : List ℕ) (g : Change) (P : Change → Type 0) → (at == place) ≡ a → (at + length removed == place) ≡ b
     → (at ≡ place → P (Deleted place (deleted ++ removed))) → (at + length removed ≡ place → P (Deleted at (removed ++ deleted)))
     → (if a then Some (Deleted place (deleted ++ removed)) else if b then Some (Deleted at (removed ++ deleted)) else None) ≡ Some g → P g
 chosen_deletion true b at place removed deleted g P x y p q e = subst P (let i : Deleted place (deleted ++ removed) ≡ g = cc in i) (p (eqb-true at place x))
 chosen_deletion false true at place removed deleted g P x y p q e = subst P (let i : Deleted at (removed ++ deleted) ≡ g = cc in i) (q (eqb-true (at + length removed) place y))
 chosen_deletion false false at place removed deleted g P x y p q e = cc
 
-tested_deletion : (t : Bool) (x : Option Edit) (g : Edit) → (if not t then None else x) ≡ Some g → x ≡ Some g
+tested_deletion : (t : Bool) (x : Option Change) (g : Change) → (if not t then None else x) ≡ Some g → x ≡ Some g
 tested_deletion true x g e = e
 tested_deletion false x g e = cc
 
@@ -144,11 +144,11 @@ joins_text at text before after d g e s = cc
 
 -- the event's change, if it tells of one, follows the text before it and joins as it should; where it tells of none, the
 -- text stays
-Changes : Event → List ℕ → List ℕ → Option Edit → Type 0
+Changes : Event → List ℕ → List ℕ → Option Change → Type 0
 Changes e before after None = after ≡ before
 Changes e before after (Some c) = Follows c before after × Joins e before after
 
-noted_any : (e : Event) (o : Option Edit) (items : List Item) (before after : List ℕ) → Changes e before after o → DoneStand items before
+noted_any : (e : Event) (o : Option Change) (items : List Item) (before after : List ℕ) → Changes e before after o → DoneStand items before
     → Noted (noted_if e o items) (stepped_if e o before (done_held items before)) after
 unfolding Changes
 noted_any e None items before after h s = record { stand = subst (DoneStand items) (sym h) s; held = ap (done_held items) h }
@@ -158,7 +158,7 @@ recorded_told : (e : Event) (s : Items) (before after : List ℕ) → Noted (not
     → Recorded e before after s (told_of e s)
 recorded_told e s before after n a = record { stand = (n.stand, tt); held = n.held; ahead = sym a }
 
-swapped : (c : Edit) (before after : List ℕ) → IsUtf8 before → Swaps (place_of c) (removed_of c) (added_of c) before after → Follows c before after
+swapped : (c : Change) (before after : List ℕ) → IsUtf8 before → Swaps (place_of c) (removed_of c) (added_of c) before after → Follows c before after
 swapped c before after u w = follows c before after (stands_from_swaps w) u w.becomes
 
 no_length : {A : Type 0} (xs : List A) → (length xs == 0) ≡ true → xs ≡ []

@@ -6,7 +6,7 @@ use Rattle.line_buffer.specs.Event.{Event}
 use Rattle.line_buffer.specs.Event.Event.{Delete, InsertChar, InsertStr, Replace}
 use Rattle.line_buffer.specs.Line.{Line}
 use Rattle.line_buffer.specs.declared.types.Direction.TheVariants.{Forward, Backward}
-use Rattle.line_record.specs.Edit.Edit.{Inserted, Deleted, Replaced}
+use Rattle.line_record.specs.Change.Change.{Inserted, Deleted, Replaced}
 use Rattle.line_record.specs.Held.{Held, line_back, ahead_back, line_ahead, ended, closes, last_inserted}
 use Rattle.line_record.specs.Held.Held.{Opened, Stepped}
 use Rattle.line_record.specs.Course.{recorded_all}

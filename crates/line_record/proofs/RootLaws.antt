@@ -4,7 +4,7 @@ use Rattle.std.specs.Prelude.{if◌then◌else◌}
 use Rattle.line_buffer.specs.Event.{Event}
 use Rattle.line_buffer.specs.Event.Event.{StartKilling, StopKilling, Delete, InsertChar, InsertStr, Replace}
 use Rattle.line_buffer.specs.Replay.{replayed}
-use Rattle.line_record.specs.Edit.{Edit}
+use Rattle.line_record.specs.Change.{Change}
 use Rattle.line_record.specs.Held.{Held, Undone, text_of, change_of, joined_to, stepped, stepped_on, stepped_if, has_mark, closes, grouped, ended, text_back, ahead_back, held_ahead}
 use Rattle.line_record.specs.Held.Held.{Opened, Stepped}
 use Rattle.line_record.specs.Items.{ahead_after}
@@ -41,20 +41,20 @@ record HeldRooted (first : List ℕ) (held : List Held) (text : List ℕ) : Type
   begun : root held text ≡ first
   marks : MarksSit held text
 
-stepped_on_rooted : (o : Option Edit) (c d : Edit) (place : ℕ) (first text after earlier : List ℕ) (held : List Held) → HeldRooted first (Stepped earlier place d true ∷ held) text
+stepped_on_rooted : (o : Option Change) (c d : Change) (place : ℕ) (first text after earlier : List ℕ) (held : List Held) → HeldRooted first (Stepped earlier place d true ∷ held) text
     → HeldRooted first (stepped_on o c text earlier (Stepped earlier place d true) held) after
 unfolding MarkSits MarksSit
 stepped_on_rooted (Some g) c d place first text after earlier held h = record { begun = h.begun; marks = h.marks }
 stepped_on_rooted None c d place first text after earlier held h = record { begun = h.begun; marks = (tt, h.marks) }
 
-stepped_rooted : (e : Event) (c : Edit) (first text after : List ℕ) (held : List Held) → HeldRooted first held text → HeldRooted first (stepped e c text held) after
+stepped_rooted : (e : Event) (c : Change) (first text after : List ℕ) (held : List Held) → HeldRooted first held text → HeldRooted first (stepped e c text held) after
 unfolding MarkSits MarksSit
 stepped_rooted e c first text after [] h = record { begun = h.begun; marks = (tt, h.marks) }
 stepped_rooted e c first text after (Opened earlier ∷ held) h = record { begun = h.begun; marks = (tt, h.marks) }
 stepped_rooted e c first text after (Stepped earlier place d false ∷ held) h = record { begun = h.begun; marks = (tt, h.marks) }
 stepped_rooted e c first text after (Stepped earlier place d true ∷ held) h = stepped_on_rooted (joined_to e d) c d place first text after earlier held h
 
-told_rooted : (e : Event) (o : Option Edit) (first text : List ℕ) (held : List Held) → change_of e ≡ o → HeldRooted first held text → HeldRooted first (stepped_if e o text held) (replayed e text)
+told_rooted : (e : Event) (o : Option Change) (first text : List ℕ) (held : List Held) → change_of e ≡ o → HeldRooted first held text → HeldRooted first (stepped_if e o text held) (replayed e text)
 told_rooted e (Some c) first text held is h = stepped_rooted e c first text (replayed e text) held h
 told_rooted e None first text held is h = subst (HeldRooted first held) (sym (unchanged e text is)) h
 
@@ -71,12 +71,12 @@ ahead_told (Replace at removed added) ahead text h = tt
 record StepFirst (held : List Held) : Type 0 where
   text : List ℕ
   place : ℕ
-  newest : Edit
+  newest : Change
   joinable : Bool
   older : List Held
   are : held ≡ Stepped text place newest joinable ∷ older
 
-step_first : (b : Bool) (text : List ℕ) (place : ℕ) (newest : Edit) (joinable : Bool) (held : List Held) → closes held ≡ b → has_mark held ≡ true → (b ≡ true → StepFirst (ended held))
+step_first : (b : Bool) (text : List ℕ) (place : ℕ) (newest : Change) (joinable : Bool) (held : List Held) → closes held ≡ b → has_mark held ≡ true → (b ≡ true → StepFirst (ended held))
     → StepFirst (ended (Stepped text place newest joinable ∷ held))
 step_first true text place newest joinable held is m below =
     let s = below refl in
@@ -89,14 +89,14 @@ closed_first [] h = cc
 closed_first (Opened text ∷ held) h = closed_first held h
 closed_first (Stepped text place newest joinable ∷ held) h = step_first (closes held) text place newest joinable held refl h (closed_first held)
 
-grouped_rooted : (first earlier text : List ℕ) (newest : Edit) (held : List Held) → StepFirst held → HeldRooted first held earlier → HeldRooted first (grouped newest held) text
+grouped_rooted : (first earlier text : List ℕ) (newest : Change) (held : List Held) → StepFirst held → HeldRooted first held earlier → HeldRooted first (grouped newest held) text
 unfolding MarkSits MarksSit
 grouped_rooted first earlier text newest held s h =
     let k : HeldRooted first (Stepped s.text s.place s.newest s.joinable ∷ s.older) earlier = subst (λ x. HeldRooted first x earlier) s.are h in
     let made : HeldRooted first (Stepped s.text s.place newest false ∷ s.older) text = record { begun = k.begun; marks = (tt, k.marks.1) } in
     subst (λ x. HeldRooted first (grouped newest x) text) (sym s.are) made
 
-step_ended : (a b : Bool) (first text earlier : List ℕ) (place : ℕ) (newest : Edit) (joinable : Bool) (held : List Held) → closes held ≡ a
+step_ended : (a b : Bool) (first text earlier : List ℕ) (place : ℕ) (newest : Change) (joinable : Bool) (held : List Held) → closes held ≡ a
     → HeldRooted first (ended held) earlier → HeldRooted first held earlier
     → HeldRooted first (if a then grouped newest (ended held) else if b then Stepped earlier place newest false ∷ ended held else Stepped earlier place newest joinable ∷ held) text
 unfolding MarkSits MarksSit

@@ -3,38 +3,38 @@ use Rattle.std.proofs.Common.{◌≡◌, ℕ, zero, suc, ◌+◌, ◌<◌, List,
 use Rattle.std.proofs.Math.Seq.{take-append_seam, drop-append_seam, take-suc}
 use Rattle.std.proofs.lemmas.List.{take-append-drop, drop-map, map-append, length-map, get_or-map}
 use Rattle.line_buffer.specs.Line.{Line}
-use Rattle.line_record.specs.Edit.{Edit, all_taken_back, all_made_anew, AllStandIn, AllFitIn, StandsIn, FitsIn}
+use Rattle.line_record.specs.Change.{Change, all_taken_back, all_made_anew, AllStandIn, AllFitIn, StandsIn, FitsIn}
 use Rattle.line_record.specs.Items.{lines_back, lines_ahead, taken_back_in, made_anew_in}
 
-pub lines_back_text : (cs : List Edit) (l : Line) → (lines_back cs l).text ≡ all_taken_back cs l.text
+pub lines_back_text : (cs : List Change) (l : Line) → (lines_back cs l).text ≡ all_taken_back cs l.text
 lines_back_text [] l = refl
 lines_back_text (c ∷ cs) l = ap (λ t. (taken_back_in c (record l { text = t })).text) (lines_back_text cs l)
 
-pub lines_ahead_text : (cs : List Edit) (l : Line) → (lines_ahead cs l).text ≡ all_made_anew cs l.text
+pub lines_ahead_text : (cs : List Change) (l : Line) → (lines_ahead cs l).text ≡ all_made_anew cs l.text
 lines_ahead_text [] l = refl
 lines_ahead_text (c ∷ cs) l = lines_ahead_text cs (made_anew_in c l)
 
 -- of a line but for its place
-pub lines_back_but_place : (cs : List Edit) (l : Line) (p : ℕ) → record (lines_back cs l) { place = p } ≡ record l { text = all_taken_back cs l.text; place = p }
+pub lines_back_but_place : (cs : List Change) (l : Line) (p : ℕ) → record (lines_back cs l) { place = p } ≡ record l { text = all_taken_back cs l.text; place = p }
 lines_back_but_place [] l p = refl
 lines_back_but_place (c ∷ cs) l p = ap (λ m. record (taken_back_in c m) { place = p }) (lines_back_but_place cs l p)
 
-pub AllStandIn-drop : (n : ℕ) (cs : List Edit) (text : List ℕ) → AllStandIn cs text → AllStandIn (drop n cs) text
+pub AllStandIn-drop : (n : ℕ) (cs : List Change) (text : List ℕ) → AllStandIn cs text → AllStandIn (drop n cs) text
 AllStandIn-drop zero cs text h = h
 AllStandIn-drop (suc n) [] text h = h
 AllStandIn-drop (suc n) (c ∷ cs) text h = AllStandIn-drop n cs text h.1
 
-pub lines_ahead-append : (cs ds : List Edit) (l : Line) → lines_ahead (cs ++ ds) l ≡ lines_ahead ds (lines_ahead cs l)
+pub lines_ahead-append : (cs ds : List Change) (l : Line) → lines_ahead (cs ++ ds) l ≡ lines_ahead ds (lines_ahead cs l)
 lines_ahead-append [] ds l = refl
 lines_ahead-append (c ∷ cs) ds l = lines_ahead-append cs ds (made_anew_in c l)
 
 -- the newest of the changes that are left is taken back
-pub record BackTurn {A : Type 0} (f : A → Edit) (xs earlier : List A) (x : A) (first l : Line) : Type 0 where
+pub record BackTurn {A : Type 0} (f : A → Change) (xs earlier : List A) (x : A) (first l : Line) : Type 0 where
   pub stands : StandsIn (f x) l.text
   pub left : earlier ≡ take (length earlier) xs
   pub line : taken_back_in (f x) l ≡ lines_back (drop (length earlier) (map f xs)) first
 
-pub back_turn : {A : Type 0} (f : A → Edit) (xs left earlier : List A) (x : A) (first l : Line) → left ≡ take (length left) xs → left ≡ earlier ++ (x ∷ [])
+pub back_turn : {A : Type 0} (f : A → Change) (xs left earlier : List A) (x : A) (first l : Line) → left ≡ take (length left) xs → left ≡ earlier ++ (x ∷ [])
     → l ≡ lines_back (drop (length left) (map f xs)) first → AllStandIn (map f xs) first.text → BackTurn f xs earlier x first l
 back_turn f xs left earlier x first l is cases line stand =
     let rest = drop (length left) xs in
@@ -53,12 +53,12 @@ back_turn f xs left earlier x first l is cases line stand =
     }
 
 -- the oldest of the changes that are left is made anew
-pub record AheadTurn {A : Type 0} (f : A → Edit) (xs : List A) (i : ℕ) (x : A) (first l : Line) : Type 0 where
+pub record AheadTurn {A : Type 0} (f : A → Change) (xs : List A) (i : ℕ) (x : A) (first l : Line) : Type 0 where
   pub fits : FitsIn (f x) l.text
   pub line : made_anew_in (f x) l ≡ lines_ahead (take (i + 1) (map f xs)) first
   pub fit : (after : Line) → after ≡ made_anew_in (f x) l → AllFitIn (drop (i + 1) (map f xs)) after.text
 
-pub ahead_turn : {A : Type 0} (f : A → Edit) (xs : List A) (i : ℕ) (x : A) (first l : Line) → i < length xs → x ≡ get_or xs i x
+pub ahead_turn : {A : Type 0} (f : A → Change) (xs : List A) (i : ℕ) (x : A) (first l : Line) → i < length xs → x ≡ get_or xs i x
     → l ≡ lines_ahead (take i (map f xs)) first → AllFitIn (drop i (map f xs)) l.text → AheadTurn f xs i x first l
 ahead_turn f xs i x first l inside is line fit =
     let within : i < length (map f xs) = omega (arith, length-map xs f) in

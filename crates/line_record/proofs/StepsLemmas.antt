@@ -5,9 +5,9 @@ use Rattle.std.specs.Prelude.{slice_range, is_some, slice_get, option_map, ⊤, 
 use Rattle.std.proofs.lemmas.Bool.Decides.{nat_tests}
 use Rattle.std.proofs.lemmas.List.{take-take, take_at, drop_at, take-map, drop-map, get_or-map, get_or-take, get_or-drop, length-map, length-append, length-take, length-drop, length-take-le, map_push, reverse-append, take_more, take_more_set, drop-drop}
 use Rattle.line_record.specs.declared.steps.Step.{Step}
-use Rattle.line_record.specs.Edit.{Edit}
+use Rattle.line_record.specs.Change.{Change}
 use Rattle.line_buffer.specs.Event.{Event}
-use Rattle.line_record.specs.Edit.Edit.{Inserted}
+use Rattle.line_record.specs.Change.Change.{Inserted}
 use Rattle.line_record.specs.Held.{joined_to, inserted_by}
 use Rattle.line_record.specs.Logged.{joined_at, Adjoin, place_of_span}
 use Rattle.line_record.specs.Items.{Item, changes_of, gathered, group_of}
@@ -24,18 +24,18 @@ first_of s = s.first
 abbrev last_of : Step → ℕ
 last_of s = s.last
 
-abbrev Any : List Edit → Step → Type 0
+abbrev Any : List Change → Step → Type 0
 Any edits s = ⊤
 
-item_kept : (s : Step) (xs ys : List Edit) → s.first ≤ s.last → take s.last xs ≡ take s.last ys → Any xs s → item_in ys s ≡ item_in xs s
+item_kept : (s : Step) (xs ys : List Change) → s.first ≤ s.last → take s.last xs ≡ take s.last ys → Any xs s → item_in ys s ≡ item_in xs s
 item_kept s xs ys le e h = ap (item_from s.closed) (sym (slice_same s.first s.last xs ys le e))
 
 -- the first n steps, over any changes that begin as theirs do
-pub record KeptSteps (edits : List Edit) (steps : List Step) (n : ℕ) (after : List Edit) : Type 0 where
+pub record KeptSteps (edits : List Change) (steps : List Step) (n : ℕ) (after : List Change) : Type 0 where
   pub laid : Adjoin first_of last_of Any after 0 (take n steps) (place_of_span first_of steps n (length edits))
   pub items : items_in after (take n steps) ≡ take n (items_in edits steps)
 
-pub steps_kept : (edits after : List Edit) (steps : List Step) (n place : ℕ) → AreSteps edits steps → place ≡ place_of_span first_of steps n (length edits) → take place edits ≡ take place after
+pub steps_kept : (edits after : List Change) (steps : List Step) (n place : ℕ) → AreSteps edits steps → place ≡ place_of_span first_of steps n (length edits) → take place edits ≡ take place after
     → KeptSteps edits steps n after
 steps_kept edits after steps n place h is e =
     let p = place_of_span first_of steps n (length edits) in
@@ -46,21 +46,21 @@ steps_kept edits after steps n place h is e =
       items = views_kept first_of last_of Any item_in item_kept edits after (take n steps) 0 p cut same ∙ sym (take-map (item_in edits) n steps);
     }
 
-pub step_place_inside : (edits : List Edit) (steps : List Step) (n : ℕ) → AreSteps edits steps → place_of_span first_of steps n (length edits) ≤ length edits
+pub step_place_inside : (edits : List Change) (steps : List Step) (n : ℕ) → AreSteps edits steps → place_of_span first_of steps n (length edits) ≤ length edits
 step_place_inside edits steps n h = place_le first_of last_of Any n edits steps 0 (length edits) h
 
 -- the place by what the code reads
-pub step_place_is : (edits : List Edit) (seen steps : List Step) (n place count : ℕ) → place ≡ place_of_span first_of seen n count → seen ≡ steps → count ≡ length edits
+pub step_place_is : (edits : List Change) (seen steps : List Step) (n place count : ℕ) → place ≡ place_of_span first_of seen n count → seen ≡ steps → count ≡ length edits
     → place ≡ place_of_span first_of steps n (length edits)
 step_place_is edits seen steps n place count is same long =
     is ∙ ap (λ ss. place_of_span first_of ss n count) same ∙ ap (place_of_span first_of steps n) long
 
 -- cut off
-pub record CutSteps (edits : List Edit) (steps : List Step) (n : ℕ) (after : List Edit) (left : List Step) : Type 0 where
+pub record CutSteps (edits : List Change) (steps : List Step) (n : ℕ) (after : List Change) (left : List Step) : Type 0 where
   pub are : AreSteps after left
   pub items : items_in after left ≡ take n (items_in edits steps)
 
-pub steps_cut : (edits after : List Edit) (steps left : List Step) (n place : ℕ) → AreSteps edits steps → place ≡ place_of_span first_of steps n (length edits) → after ≡ take place edits → left ≡ take n steps
+pub steps_cut : (edits after : List Change) (steps left : List Step) (n place : ℕ) → AreSteps edits steps → place ≡ place_of_span first_of steps n (length edits) → after ≡ take place edits → left ≡ take n steps
     → CutSteps edits steps n after left
 steps_cut edits after steps left n place h is cut kept =
     let inside : place ≤ length edits = omega (arith, is, step_place_inside edits steps n h) in
@@ -73,11 +73,11 @@ steps_cut edits after steps left n place h is cut kept =
     }
 
 -- one more
-pub record PushedStep (edits : List Edit) (steps : List Step) (n : ℕ) (item : Item) (after : List Edit) (new : List Step) : Type 0 where
+pub record PushedStep (edits : List Change) (steps : List Step) (n : ℕ) (item : Item) (after : List Change) (new : List Step) : Type 0 where
   pub are : AreSteps after new
   pub items : items_in after new ≡ take n (items_in edits steps) ++ (item ∷ [])
 
-pub step_pushed : (edits after : List Edit) (steps new : List Step) (n : ℕ) (s : Step) (item : Item) → AreSteps edits steps → s.first ≡ place_of_span first_of steps n (length edits)
+pub step_pushed : (edits after : List Change) (steps new : List Step) (n : ℕ) (s : Step) (item : Item) → AreSteps edits steps → s.first ≡ place_of_span first_of steps n (length edits)
     → take s.first edits ≡ take s.first after → s.first ≤ s.last → s.last ≡ length after → item_in after s ≡ item → new ≡ take n steps ++ (s ∷ []) → PushedStep edits steps n item after new
 step_pushed edits after steps new n s item h is same order end meant pushed =
     let k = steps_kept edits after steps n s.first h is same in
@@ -94,7 +94,7 @@ no_slice xs i =
     ap (λ k. take k (drop i xs)) n
 
 -- an open mark
-pub mark_pushed : (edits after : List Edit) (steps new : List Step) (n place : ℕ) → AreSteps edits steps → place ≡ place_of_span first_of steps n (length edits) → after ≡ take place edits
+pub mark_pushed : (edits after : List Change) (steps new : List Step) (n place : ℕ) → AreSteps edits steps → place ≡ place_of_span first_of steps n (length edits) → after ≡ take place edits
     → new ≡ take n steps ++ ((record { closed = false; first = place; last = place }) ∷ []) → PushedStep edits steps n Open after new
 mark_pushed edits after steps new n place h is cut pushed =
     let inside : place ≤ length edits = omega (arith, is, step_place_inside edits steps n h) in
@@ -107,7 +107,7 @@ one_slice xs front x i j is count next =
     ap (λ k. take k (drop i xs)) n ∙ ap (take 1) (ap (drop i) is ∙ drop_at front (x ∷ []) i count)
 
 -- a lone change
-pub lone_pushed : (edits after : List Edit) (steps new : List Step) (n place last : ℕ) (e : Edit) → AreSteps edits steps → place ≡ place_of_span first_of steps n (length edits) → after ≡ take place edits ++ (e ∷ [])
+pub lone_pushed : (edits after : List Change) (steps new : List Step) (n place last : ℕ) (e : Change) → AreSteps edits steps → place ≡ place_of_span first_of steps n (length edits) → after ≡ take place edits ++ (e ∷ [])
     → last ≡ length after → new ≡ take n steps ++ ((record { closed = false; first = place; last = last }) ∷ []) → PushedStep edits steps n (Lone e) after new
 lone_pushed edits after steps new n place last e h is put end pushed =
     let inside : place ≤ length edits = omega (arith, is, step_place_inside edits steps n h) in
@@ -118,7 +118,7 @@ lone_pushed edits after steps new n place last e h is put end pushed =
     (ap (item_from false) (one_slice after (take place edits) e place last put count long)) pushed
 
 -- the step of an index
-pub record StepAt (edits : List Edit) (steps : List Step) (items : List Item) (n : ℕ) (s : Step) : Type 0 where
+pub record StepAt (edits : List Change) (steps : List Step) (items : List Item) (n : ℕ) (s : Step) : Type 0 where
   pub order : s.first ≤ s.last
   pub inside : s.last ≤ length edits
   pub place : s.first ≡ place_of_span first_of steps n (length edits)
@@ -127,7 +127,7 @@ pub record StepAt (edits : List Edit) (steps : List Step) (items : List Item) (n
   pub changes : changes_of (get_or items n Open) ≡ slice_range edits s.first s.last
   pub within : n < length steps
 
-pub step_at : (edits : List Edit) (steps : List Step) (items : List Item) (n : ℕ) (s : Step) → AreSteps edits steps → items_in edits steps ≡ items → n < length items → s ≡ get_or steps n s
+pub step_at : (edits : List Change) (steps : List Step) (items : List Item) (n : ℕ) (s : Step) → AreSteps edits steps → items_in edits steps ≡ items → n < length items → s ≡ get_or steps n s
     → StepAt edits steps items n s
 step_at edits steps items n s h view inside is =
     let within : n < length steps = omega (arith, inside, ap length view, length-map steps (item_in edits)) in
@@ -152,7 +152,7 @@ slice_split xs i j k le more =
     ∙ ap (λ ys. slice_range xs i j ++ take (k - j) ys) (drop-drop (j - i) i xs ∙ ap (λ n. drop n xs) b))
 
 -- the changes of steps that adjoin
-pub gathered_spans : (edits : List Edit) (steps : List Step) (from to : ℕ) → Adjoin first_of last_of Any edits from steps to → gathered (items_in edits steps) ≡ slice_range edits from to
+pub gathered_spans : (edits : List Change) (steps : List Step) (from to : ℕ) → Adjoin first_of last_of Any edits from steps to → gathered (items_in edits steps) ≡ slice_range edits from to
 gathered_spans edits [] from to h = sym (ap (slice_range edits from) (sym h) ∙ no_slice edits from)
 gathered_spans edits (s ∷ steps) from to h =
     ap (λ cs. cs ++ gathered (items_in edits steps)) (changes_of-item_from s.closed (slice_range edits s.first s.last) ∙ ap (λ k. slice_range edits k s.last) h.0)
@@ -168,7 +168,7 @@ suc_zero n = grind (arith, nat_tests)
 suc_one : (n : ℕ) → (suc (suc n) == 1) ≡ false
 suc_one n = grind (arith, nat_tests)
 
-is_open-item_from : (closed : Bool) (cs : List Edit) → is_open (item_from closed cs) ≡ (length cs == 0)
+is_open-item_from : (closed : Bool) (cs : List Change) → is_open (item_from closed cs) ≡ (length cs == 0)
 is_open-item_from true [] = refl
 is_open-item_from false [] = refl
 is_open-item_from true (c ∷ []) = suc_zero 0
@@ -179,13 +179,13 @@ is_open-item_from false (c ∷ (d ∷ cs)) = suc_zero (suc (length cs))
 same_zero : (i j : ℕ) → i ≤ j → (i == j) ≡ (j - i == 0)
 same_zero i j le = grind (arith, nat_tests)
 
-pub marks : (edits : List Edit) (steps : List Step) (items : List Item) (n : ℕ) (s : Step) → StepAt edits steps items n s → (s.first == s.last) ≡ is_open (get_or items n Open)
+pub marks : (edits : List Change) (steps : List Step) (items : List Item) (n : ℕ) (s : Step) → StepAt edits steps items n s → (s.first == s.last) ≡ is_open (get_or items n Open)
 marks edits steps items n s h =
     same_zero s.first s.last h.order ∙ ap (λ k. k == 0) (sym (slice_length edits s.first s.last h.inside))
     ∙ sym (ap is_open h.item ∙ is_open-item_from s.closed (slice_range edits s.first s.last))
 
 -- the text that a step's newest change put in
-pub step_inserted : (edits : List Edit) (steps : List Step) (items : List Item) (n : ℕ) (s : Step) (d : Edit) → StepAt edits steps items n s → s.first < s.last
+pub step_inserted : (edits : List Change) (steps : List Step) (items : List Item) (n : ℕ) (s : Step) (d : Change) → StepAt edits steps items n s → s.first < s.last
     → item_inserted (get_or items n Open) ≡ inserted_by (get_or edits (s.last - 1) d)
 step_inserted edits steps items n s d h some =
     let cs = slice_range edits s.first s.last in
@@ -199,7 +199,7 @@ step_inserted edits steps items n s d h some =
 pub newest_item : (items : List Item) (n : ℕ) → n < length items → reverse (take (n + 1) items) ≡ get_or items n Open ∷ reverse (take n items)
 newest_item items n h = ap reverse (take_more items n Open h) ∙ reverse-append (take n items) (get_or items n Open ∷ [])
 
-not_lone : (e : Event) (closed : Bool) (cs : List Edit) → (not closed && (length cs == 1)) ≡ false → joined_item e (item_from closed cs) ≡ None
+not_lone : (e : Event) (closed : Bool) (cs : List Change) → (not closed && (length cs == 1)) ≡ false → joined_item e (item_from closed cs) ≡ None
 not_lone e true [] h = refl
 not_lone e false [] h = refl
 not_lone e true (c ∷ []) h = refl
@@ -207,7 +207,7 @@ not_lone e false (c ∷ []) h = cc
 not_lone e true (c ∷ (d ∷ cs)) h = refl
 not_lone e false (c ∷ (d ∷ cs)) h = refl
 
-is_lone : (closed : Bool) (cs : List Edit) (d : Edit) → (not closed && (length cs == 1)) ≡ true → item_from closed cs ≡ Lone (get_or cs 0 d)
+is_lone : (closed : Bool) (cs : List Change) (d : Change) → (not closed && (length cs == 1)) ≡ true → item_from closed cs ≡ Lone (get_or cs 0 d)
 is_lone true cs d h = cc
 is_lone false [] d h = cc
 is_lone false (c ∷ []) d h = refl
@@ -217,11 +217,11 @@ lone_count : (closed : Bool) (n : ℕ) → (not closed && (n == 1)) ≡ true →
 lone_count true n h = cc
 lone_count false n h = eqb-true n 1 h
 
-lone_from : (closed : Bool) (n : ℕ) (j : Edit) → (not closed && (n == 1)) ≡ true → item_from closed (j ∷ []) ≡ Lone j
+lone_from : (closed : Bool) (n : ℕ) (j : Change) → (not closed && (n == 1)) ≡ true → item_from closed (j ∷ []) ≡ Lone j
 lone_from true n j h = cc
 lone_from false n j h = refl
 
-pub joins_none : (e : Event) (edits : List Edit) (steps : List Step) (items : List Item) (n : ℕ) (s : Step) → StepAt edits steps items n s → n < length items
+pub joins_none : (e : Event) (edits : List Change) (steps : List Step) (items : List Item) (n : ℕ) (s : Step) → StepAt edits steps items n s → n < length items
     → (not s.closed && (s.last - s.first == 1)) ≡ false → joined_items e (reverse (take (n + 1) items)) ≡ None
 joins_none e edits steps items n s h inside lone =
     ap (joined_items e) (newest_item items n inside)
@@ -229,7 +229,7 @@ joins_none e edits steps items n s h inside lone =
     ∙ not_lone e s.closed (slice_range edits s.first s.last) (ap (λ k. not s.closed && (k == 1)) (slice_length edits s.first s.last h.inside) ∙ lone))
 
 -- a lone step is joined as its change is
-joins_lone : (e : Event) (edits : List Edit) (steps : List Step) (items : List Item) (n : ℕ) (s : Step) (d : Edit) → StepAt edits steps items n s → n < length items
+joins_lone : (e : Event) (edits : List Change) (steps : List Step) (items : List Item) (n : ℕ) (s : Step) (d : Change) → StepAt edits steps items n s → n < length items
     → (not s.closed && (s.last - s.first == 1)) ≡ true
     → joined_items e (reverse (take (n + 1) items)) ≡ option_map (λ j. Lone j ∷ reverse (take n items)) (joined_to e (get_or edits s.first d))
 joins_lone e edits steps items n s d h inside lone =
@@ -244,20 +244,20 @@ joins_lone e edits steps items n s d h inside lone =
     ∙ ap (λ x. option_map (λ y. y ∷ reverse (take n items)) (joined_item e x)) (h.item ∙ is_lone s.closed cs d here ∙ ap Lone read)
     ∙ mapped_twice Lone (λ y. y ∷ reverse (take n items)) (joined_to e (get_or edits s.first d))
 
-no_join : (J : Option (List Edit)) (f : Edit → List Edit) (g : Edit → List Item) (o : Option Edit) → J ≡ option_map f o → false ≡ is_some J → (J ≡ None) × (option_map g o ≡ None)
+no_join : (J : Option (List Change)) (f : Change → List Change) (g : Change → List Item) (o : Option Change) → J ≡ option_map f o → false ≡ is_some J → (J ≡ None) × (option_map g o ≡ None)
 no_join J f g None e h = (e, refl)
 no_join J f g (Some j) e h = cc
 
-a_join : (J : Option (List Edit)) (f : Edit → List Edit) (g : Edit → List Item) (o : Option Edit) → J ≡ option_map f o → true ≡ is_some J
-    → (j : Edit) × (J ≡ Some (f j)) × (option_map g o ≡ Some (g j))
+a_join : (J : Option (List Change)) (f : Change → List Change) (g : Change → List Item) (o : Option Change) → J ≡ option_map f o → true ≡ is_some J
+    → (j : Change) × (J ≡ Some (f j)) × (option_map g o ≡ Some (g j))
 a_join J f g None e h = cc
 a_join J f g (Some j) e h = (j, e, refl)
 
-pub record LeftAlone (e : Event) (edits after : List Edit) (items : List Item) (n : ℕ) : Type 0 where
+pub record LeftAlone (e : Event) (edits after : List Change) (items : List Item) (n : ℕ) : Type 0 where
   pub same : after ≡ edits
   pub none : joined_items e (reverse (take (n + 1) items)) ≡ None
 
-pub left_alone : (e : Event) (edits after : List Edit) (steps : List Step) (items : List Item) (n : ℕ) (s : Step) → StepAt edits steps items n s → n < length items
+pub left_alone : (e : Event) (edits after : List Change) (steps : List Step) (items : List Item) (n : ℕ) (s : Step) → StepAt edits steps items n s → n < length items
     → (not s.closed && (s.last - s.first == 1)) ≡ true → false ≡ is_some (joined_at e s.first edits) → after ≡ unwrap_or (joined_at e s.first edits) edits → LeftAlone e edits after items n
 left_alone e edits after steps items n s h inside lone answer value =
     let d = Inserted 0 [] in
@@ -266,11 +266,11 @@ left_alone e edits after steps items n s h inside lone answer value =
     (joined_at_is e s.first edits d (omega (arith, one, h.inside))) answer in
     record { same = value ∙ ap (λ o. unwrap_or o edits) j.0; none = joins_lone e edits steps items n s d h inside lone ∙ j.1 }
 
-pub record JoinedOn (e : Event) (edits after : List Edit) (steps left : List Step) (items : List Item) (n : ℕ) : Type 0 where
+pub record JoinedOn (e : Event) (edits after : List Change) (steps left : List Step) (items : List Item) (n : ℕ) : Type 0 where
   pub are : AreSteps after left
   pub joined : joined_items e (reverse (take (n + 1) items)) ≡ Some (reverse (items_in after left))
 
-pub joined_on : (e : Event) (edits after : List Edit) (steps left : List Step) (items : List Item) (n : ℕ) (s : Step) → AreSteps edits steps → items_in edits steps ≡ items → StepAt edits steps items n s
+pub joined_on : (e : Event) (edits after : List Change) (steps left : List Step) (items : List Item) (n : ℕ) (s : Step) → AreSteps edits steps → items_in edits steps ≡ items → StepAt edits steps items n s
     → s ≡ get_or steps n s → n < length items → (not s.closed && (s.last - s.first == 1)) ≡ true → true ≡ is_some (joined_at e s.first edits)
     → after ≡ unwrap_or (joined_at e s.first edits) edits → left ≡ take (n + 1) steps → JoinedOn e edits after steps left items n
 joined_on e edits after steps left items n s are view h is inside lone answer value cut =
@@ -292,12 +292,12 @@ joined_on e edits after steps left items n s are view h is inside lone answer va
     }
 
 -- the steps from an index on as one
-pub record ClosedFrom (edits : List Edit) (steps : List Step) (items : List Item) (n index : ℕ) (a b : Step) : Type 0 where
+pub record ClosedFrom (edits : List Change) (steps : List Step) (items : List Item) (n index : ℕ) (a b : Step) : Type 0 where
   pub group : gathered (drop index (take n items)) ≡ slice_range edits a.first b.last
   pub order : a.first ≤ b.last
   pub end : b.last ≡ place_of_span first_of steps n (length edits)
 
-pub closed_from : (edits : List Edit) (steps : List Step) (items : List Item) (n index last : ℕ) (a b : Step) → AreSteps edits steps → items_in edits steps ≡ items → StepAt edits steps items index a
+pub closed_from : (edits : List Change) (steps : List Step) (items : List Item) (n index last : ℕ) (a b : Step) → AreSteps edits steps → items_in edits steps ≡ items → StepAt edits steps items index a
     → StepAt edits steps items last b → suc last ≡ n → index < n → a ≡ get_or steps index a → ClosedFrom edits steps items n index a b
 closed_from edits steps items n index last a b are view ha hb next order is =
     let end : b.last ≡ place_of_span first_of steps n (length edits) = hb.next ∙ ap (λ k. place_of_span first_of steps k (length edits)) next in
@@ -316,19 +316,19 @@ closed_from edits steps items n index last a b are view ha hb next order is =
       end = end;
     }
 
-pub group_none : (edits : List Edit) (group : List Edit) (i j : ℕ) → group ≡ slice_range edits i j → i ≡ j → group ≡ []
+pub group_none : (edits : List Change) (group : List Change) (i j : ℕ) → group ≡ slice_range edits i j → i ≡ j → group ≡ []
 group_none edits group i j is e = is ∙ ap (slice_range edits i) (sym e) ∙ no_slice edits i
 
 some_items : {A : Type 0} (xs : List A) → 0 < length xs → is_some (slice_get xs 0) ≡ true
 some_items [] h = absurd (omega (arith, h))
 some_items (x ∷ xs) h = refl
 
-pub group_some : (edits : List Edit) (group : List Edit) (i j : ℕ) → group ≡ slice_range edits i j → i < j → j ≤ length edits → is_some (slice_get group 0) ≡ true
+pub group_some : (edits : List Change) (group : List Change) (i j : ℕ) → group ≡ slice_range edits i j → i < j → j ≤ length edits → is_some (slice_get group 0) ≡ true
 group_some edits group i j is less inside =
     ap (λ cs. is_some (slice_get cs 0)) is ∙ some_items (slice_range edits i j) (omega (arith, slice_length edits i j inside, less))
 
 -- the group put in their place
-pub group_pushed_on : (edits after : List Edit) (steps new : List Step) (items : List Item) (n index : ℕ) (a b : Step) → AreSteps edits steps → items_in edits steps ≡ items → StepAt edits steps items index a
+pub group_pushed_on : (edits after : List Change) (steps new : List Step) (items : List Item) (n index : ℕ) (a b : Step) → AreSteps edits steps → items_in edits steps ≡ items → StepAt edits steps items index a
     → ClosedFrom edits steps items n index a b → a.first < b.last → b.last ≤ length edits → after ≡ take b.last edits
     → new ≡ take index steps ++ ((record { closed = true; first = a.first; last = b.last }) ∷ [])
     → AreSteps after new × (reverse (items_in after new) ≡ group_of (gathered (drop index (take n items))) (reverse (take index items)))
@@ -344,14 +344,14 @@ group_pushed_on edits after steps new items n index a b are view ha h less insid
           ∙ sym (ap (λ g. group_of g (reverse (take index items))) h.group),
     )
 
-pub group_gone : (edits after : List Edit) (steps left : List Step) (items : List Item) (n index : ℕ) (a b : Step) → AreSteps edits steps → items_in edits steps ≡ items → StepAt edits steps items index a
+pub group_gone : (edits after : List Change) (steps left : List Step) (items : List Item) (n index : ℕ) (a b : Step) → AreSteps edits steps → items_in edits steps ≡ items → StepAt edits steps items index a
     → ClosedFrom edits steps items n index a b → a.first ≡ b.last → after ≡ take b.last edits → left ≡ take index steps
     → AreSteps after left × (reverse (items_in after left) ≡ group_of (gathered (drop index (take n items))) (reverse (take index items)))
 group_gone edits after steps left items n index a b are view ha h same cut kept =
     let p = steps_cut edits after steps left index a.first are ha.place (cut ∙ ap (λ k. take k edits) (sym same)) kept in
     (p.are, ap reverse (p.items ∙ ap (take index) view) ∙ sym (ap (λ g. group_of g (reverse (take index items))) (group_none edits _ a.first b.last h.group same)))
 
-pub lone_inside : (edits : List Edit) (steps : List Step) (items : List Item) (n : ℕ) (s : Step) → StepAt edits steps items n s → (not s.closed && (s.last - s.first == 1)) ≡ true → s.first < length edits
+pub lone_inside : (edits : List Change) (steps : List Step) (items : List Item) (n : ℕ) (s : Step) → StepAt edits steps items n s → (not s.closed && (s.last - s.first == 1)) ≡ true → s.first < length edits
 lone_inside edits steps items n s h lone =
     let one : s.last - s.first ≡ 1 = lone_count s.closed (s.last - s.first) lone in
     omega (arith, one, h.inside)

@@ -2,7 +2,7 @@
 use Rattle.std.proofs.Common.{◌≡◌, ℕ, zero, suc, ◌-◌, ◌<◌, Bool, true, false, List, [], ◌∷◌, ◌++◌, length, take, drop, map, reverse, refl, sym, ap, subst, ◌∙◌, arith, get_or}
 use Rattle.std.proofs.Math.Seq.{take-suc, take-length, drop-append_seam}
 use Rattle.std.proofs.lemmas.List.{take-append-drop, length-map, map-append, map_push, length-reverse, reverse-append, length-drop}
-use Rattle.line_record.specs.Edit.{Edit, newest_of}
+use Rattle.line_record.specs.Change.{Change, newest_of}
 use Rattle.line_record.specs.Held.{text_of, text_back, text_kept, first_held, inserted_by}
 use Rattle.line_record.specs.Items.{Item, before_item, holding, done_held, DoneStand, Items, ItemsStand, held_on, truncated}
 use Rattle.line_record.specs.Items.Item.{Open, Lone, Group}
@@ -56,12 +56,12 @@ DoneStand-drop (suc k) [] text h = h
 DoneStand-drop (suc k) (x ∷ items) text h =
     subst (λ t. DoneStand (drop k items) (text_back k (done_held items (before_item x text)) t)) (sym (text_of-holding x (before_item x text))) (DoneStand-drop k items (before_item x text) h.1)
 
-newest_of-push : (c d : Edit) (cs : List Edit) → newest_of c (cs ++ (d ∷ [])) ≡ d
+newest_of-push : (c d : Change) (cs : List Change) → newest_of c (cs ++ (d ∷ [])) ≡ d
 newest_of-push c d [] = refl
 newest_of-push c d (e ∷ cs) = newest_of-push e d cs
 
 -- the newest change says what an item put in
-pub inserted_last : (closed : Bool) (cs : List Edit) (d : Edit) → item_inserted (item_from closed (cs ++ (d ∷ []))) ≡ inserted_by d
+pub inserted_last : (closed : Bool) (cs : List Change) (d : Change) → item_inserted (item_from closed (cs ++ (d ∷ []))) ≡ inserted_by d
 inserted_last true [] d = refl
 inserted_last false [] d = refl
 inserted_last true (c ∷ []) d = refl

@@ -7,7 +7,7 @@ use Rattle.std.proofs.Math.Nat.{sub-zero}
 use Rattle.std.proofs.Math.Bool.{or_assoc}
 use Rattle.std.specs.Prelude.{IsErrAnd, IsUtf8}
 use Rattle.line_buffer.specs.Line.{Line}
-use Rattle.line_record.specs.Edit.{Edit, place_of, removed_of, added_of, taken_back, made_anew, redo_place, StandsIn, all_taken_back, all_made_anew, AllStandIn, AllFitIn, newest_of}
+use Rattle.line_record.specs.Change.{Change, place_of, removed_of, added_of, taken_back, made_anew, redo_place, StandsIn, all_taken_back, all_made_anew, AllStandIn, AllFitIn, newest_of}
 use Rattle.line_record.specs.Held.{Held, is_step, undone_line, line_back, has_step, ahead_back, remade_line, line_ahead, has_step_ahead, held_ahead}
 use Rattle.line_record.specs.Items.{Item, Items, changes_of, before_item, after_item, holding, done_held, undone_ahead, DoneStand, UndoneFit, ItemsStand, held_on, ahead_on, taken_back_in, made_anew_in, lines_back, lines_ahead, nearest_changes, undo_one, redo_one, is_step_item, nearest_is_change, UndoesItems, last_changes}
 use Rattle.line_record.specs.Items.Item.{Open, Lone, Group}
@@ -44,7 +44,7 @@ undo_many_is (suc n) (x ∷ items) undone =
     undo_many_is n items (x ∷ undone) ∙ ap (λ (xs : List Item). let s : Items = record { done = drop n items; undone = xs } in s)
     (sym (ap (λ xs. xs ++ undone) (reverse-append (x ∷ []) (take n items)) ∙ append_assoc (reverse (take n items)) (x ∷ []) undone))
 
-lines_back-append : (cs ds : List Edit) (l : Line) → lines_back (cs ++ ds) l ≡ lines_back cs (lines_back ds l)
+lines_back-append : (cs ds : List Change) (l : Line) → lines_back (cs ++ ds) l ≡ lines_back cs (lines_back ds l)
 lines_back-append [] ds l = refl
 lines_back-append (c ∷ cs) ds l = ap (taken_back_in c) (lines_back-append cs ds l)
 
@@ -60,8 +60,8 @@ many_change_is (suc n) (x ∷ items) = ap (λ b. is_step_item x || b) (many_chan
 
 -- the changes that a part leaves, and those that it takes back
 record PartOf (n k j : ℕ) (items : List Item) (l : Line) : Type 0 where
-  left : List Edit
-  back : List Edit
+  left : List Change
+  back : List Change
   split : last_changes n items ≡ left ++ back
   line : part_back k j items l ≡ lines_back back l
 
@@ -92,12 +92,12 @@ part_is n k j items l less =
     (length p.left, p.line ∙ sym (ap (λ cs. lines_back cs l) (ap (drop (length p.left)) p.split ∙ drop-append_seam p.left p.back)))
 
 -- changes that were taken back can be made anew
-pub record TakenBack (cs : List Edit) (text : List ℕ) : Type 0 where
+pub record TakenBack (cs : List Change) (text : List ℕ) : Type 0 where
   pub utf8 : IsUtf8 (all_taken_back cs text)
   pub fit : AllFitIn cs (all_taken_back cs text)
   pub back : all_made_anew cs (all_taken_back cs text) ≡ text
 
-pub was_taken_back : (cs : List Edit) (text : List ℕ) → AllStandIn cs text → IsUtf8 text → TakenBack cs text
+pub was_taken_back : (cs : List Change) (text : List ℕ) → AllStandIn cs text → IsUtf8 text → TakenBack cs text
 was_taken_back [] text h u = record { utf8 = u; fit = tt; back = refl }
 was_taken_back (c ∷ cs) text h u =
     let below = was_taken_back cs text h.1 u in
@@ -109,11 +109,11 @@ was_taken_back (c ∷ cs) text h u =
     }
 
 -- changes that were made anew can be taken back
-record MadeAnew (cs : List Edit) (text : List ℕ) : Type 0 where
+record MadeAnew (cs : List Change) (text : List ℕ) : Type 0 where
   stand : AllStandIn cs (all_made_anew cs text)
   back : all_taken_back cs (all_made_anew cs text) ≡ text
 
-was_made_anew : (cs : List Edit) (text : List ℕ) → AllFitIn cs text → IsUtf8 text → MadeAnew cs text
+was_made_anew : (cs : List Change) (text : List ℕ) → AllFitIn cs text → IsUtf8 text → MadeAnew cs text
 was_made_anew [] text h u = record { stand = tt; back = refl }
 was_made_anew (c ∷ cs) text h u =
     let x = exchanged (place_of c) (removed_of c) (added_of c) text h.0 u in
@@ -128,7 +128,7 @@ item_back Open l = refl
 item_back (Lone c) l = refl
 item_back (Group c cs) l = ap (taken_back_in c) (lines_back_but_place cs l 0)
 
-group_ahead : (c : Edit) (cs : List Edit) (l : Line) → lines_ahead (c ∷ cs) l ≡ record l { text = all_made_anew (c ∷ cs) l.text; place = redo_place (newest_of c cs) }
+group_ahead : (c : Change) (cs : List Change) (l : Line) → lines_ahead (c ∷ cs) l ≡ record l { text = all_made_anew (c ∷ cs) l.text; place = redo_place (newest_of c cs) }
 group_ahead c [] l = refl
 group_ahead c (d ∷ cs) l = group_ahead d cs (made_anew_in c l)
 

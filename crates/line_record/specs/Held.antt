@@ -6,14 +6,14 @@ use Rattle.line_buffer.specs.Event.{Event}
 use Rattle.line_buffer.specs.Event.Event.{Delete, InsertChar, InsertStr, Replace}
 use Rattle.line_buffer.specs.Line.{Line}
 use Rattle.line_buffer.specs.Words.{is_alphanumeric_cluster}
-use Rattle.line_record.specs.Edit.{Edit, undo_place, redo_place}
-use Rattle.line_record.specs.Edit.Edit.{Inserted, Deleted, Replaced}
+use Rattle.line_record.specs.Change.{Change, undo_place, redo_place}
+use Rattle.line_record.specs.Change.Change.{Inserted, Deleted, Replaced}
 
 -- an open mark keeps the text that it was set at; a step keeps the text before it, the place that
 -- undoing it gives, its newest change, and whether a change may join that one
 pub data Held : Type 0 where
   Opened : (text : List ℕ) → Held
-  Stepped : (text : List ℕ) (place : ℕ) (newest : Edit) (joinable : Bool) → Held
+  Stepped : (text : List ℕ) (place : ℕ) (newest : Change) (joinable : Bool) → Held
 
 abbrev pub text_of : Held → List ℕ
 text_of (Opened text) = text
@@ -24,7 +24,7 @@ abbrev pub is_one_alphanumeric : List ℕ → Bool
 is_one_alphanumeric text = (length (graphemes true text) == 1) && is_alphanumeric_cluster text
 
 -- the change that an event tells of; an empty one is none
-abbrev pub change_of : Event → Option Edit
+abbrev pub change_of : Event → Option Change
 change_of (Delete at text direction) = if length text == 0 then None else Some (Deleted at text)
 change_of (InsertChar at c) = Some (Inserted at (encode_utf8 c))
 change_of (InsertStr at text) = if length text == 0 then None else Some (Inserted at text)
@@ -33,14 +33,14 @@ change_of (Replace at before after) =
 change_of mark = None
 
 -- an alphanumeric character typed right after an insertion
-abbrev pub joined_char : ℕ → ℕ → Edit → Option Edit
+abbrev pub joined_char : ℕ → ℕ → Change → Option Change
 joined_char at c (Inserted place text) =
     if is_alphanumeric c && (at == place + length text)
     then Some (Inserted place (text ++ encode_utf8 c)) else None
 joined_char at c other = None
 
 -- an alphanumeric cluster deleted right after a deletion, or right before it
-abbrev pub joined_deletion : ℕ → List ℕ → Edit → Option Edit
+abbrev pub joined_deletion : ℕ → List ℕ → Change → Option Change
 joined_deletion at text (Deleted place deleted) =
     if not (is_one_alphanumeric text) then None
     else if at == place then Some (Deleted place (deleted ++ text))
@@ -49,28 +49,28 @@ joined_deletion at text (Deleted place deleted) =
 joined_deletion at text other = None
 
 -- a replacement right after another
-abbrev pub joined_replacement : ℕ → List ℕ → List ℕ → Edit → Option Edit
+abbrev pub joined_replacement : ℕ → List ℕ → List ℕ → Change → Option Change
 joined_replacement at before after (Replaced place was is) =
     if at == place + length is then Some (Replaced place (was ++ before) (is ++ after)) else None
 joined_replacement at before after other = None
 
 -- the change that an event makes with the one right before it, if it joins that one
-abbrev pub joined_to : Event → Edit → Option Edit
+abbrev pub joined_to : Event → Change → Option Change
 joined_to (Delete at text direction) d = joined_deletion at text d
 joined_to (InsertChar at c) d = joined_char at c d
 joined_to (Replace at before after) d = joined_replacement at before after d
 joined_to e d = None
 
 -- a step of one change
-abbrev pub step_of : Edit → List ℕ → Held
+abbrev pub step_of : Change → List ℕ → Held
 step_of c text = Stepped text (undo_place c) c true
 
 -- a change that joins adds no step and leaves the step's text
-abbrev pub stepped_on : Option Edit → Edit → List ℕ → List ℕ → Held → List Held → List Held
+abbrev pub stepped_on : Option Change → Change → List ℕ → List ℕ → Held → List Held → List Held
 stepped_on (Some joined) c text earlier newest held = step_of joined earlier ∷ held
 stepped_on None c text earlier newest held = step_of c text ∷ (newest ∷ held)
 
-abbrev pub stepped : Event → Edit → List ℕ → List Held → List Held
+abbrev pub stepped : Event → Change → List ℕ → List Held → List Held
 stepped e c text (Stepped earlier place d true ∷ held) =
     stepped_on (joined_to e d) c text earlier (Stepped earlier place d true) held
 stepped e c text (Stepped earlier place d false ∷ held) =
@@ -78,7 +78,7 @@ stepped e c text (Stepped earlier place d false ∷ held) =
 stepped e c text (Opened earlier ∷ held) = step_of c text ∷ (Opened earlier ∷ held)
 stepped e c text [] = step_of c text ∷ []
 
-abbrev pub stepped_if : Event → Option Edit → List ℕ → List Held → List Held
+abbrev pub stepped_if : Event → Option Change → List ℕ → List Held → List Held
 stepped_if e None text held = held
 stepped_if e (Some c) text held = stepped e c text held
 
@@ -99,7 +99,7 @@ closes (Opened text ∷ held) = closes held
 closes (Stepped text place newest joinable ∷ held) = has_mark held
 
 -- a newer change taken into the step that closes a group
-abbrev pub grouped : Edit → List Held → List Held
+abbrev pub grouped : Change → List Held → List Held
 grouped c [] = []
 grouped c (Opened text ∷ held) = Opened text ∷ held
 grouped c (Stepped text place newest joinable ∷ held) = Stepped text place c false ∷ held
@@ -178,7 +178,7 @@ held_ahead [] held = held
 held_ahead (u ∷ ahead) held = u.held ∷ held
 
 -- the text that was put in last, if the newest item put one in
-abbrev pub inserted_by : Edit → Option (List ℕ)
+abbrev pub inserted_by : Change → Option (List ℕ)
 inserted_by (Inserted at text) = Some text
 inserted_by (Deleted at text) = None
 inserted_by (Replaced at before after) = Some after

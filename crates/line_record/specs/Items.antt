@@ -5,7 +5,7 @@ use Rattle.line_buffer.specs.Event.{Event}
 use Rattle.line_buffer.specs.Event.Event.{StartKilling, StopKilling}
 use Rattle.line_buffer.specs.Line.{Line}
 use Rattle.line_buffer.specs.Replay.{Replays}
-use Rattle.line_record.specs.Edit.{Edit, undo_place, redo_place, taken_back, made_anew, all_taken_back, AllStandIn, all_made_anew, AllFitIn, newest_of, StandsAt}
+use Rattle.line_record.specs.Change.{Change, undo_place, redo_place, taken_back, made_anew, all_taken_back, AllStandIn, all_made_anew, AllFitIn, newest_of, StandsAt}
 use Rattle.line_record.specs.Held.{Held, Undone, step_of, change_of, joined_to, recorded_in, ended, closes}
 use Rattle.line_record.specs.Held.Held.{Opened, Stepped}
 use Rattle.std.specs.Coded.{Unit-prop, ×_prop}
@@ -16,8 +16,8 @@ use Rattle.std.specs.List.{list_any}
 -- newer ones in order
 pub data Item : Type 0 where
   Open : Item
-  Lone : (change : Edit) → Item
-  Group : (oldest : Edit) (newer : List Edit) → Item
+  Lone : (change : Change) → Item
+  Group : (oldest : Change) (newer : List Change) → Item
 
 pub record Items : Type 0 where
   pub done : List Item
@@ -26,7 +26,7 @@ pub record Items : Type 0 where
 abbrev pub no_items : Items
 no_items = record { done = []; undone = [] }
 
-abbrev pub changes_of : Item → List Edit
+abbrev pub changes_of : Item → List Change
 changes_of Open = []
 changes_of (Lone c) = c ∷ []
 changes_of (Group c cs) = c ∷ cs
@@ -38,19 +38,19 @@ abbrev pub after_item : Item → List ℕ → List ℕ
 after_item x text = all_made_anew (changes_of x) text
 
 -- the line with a change taken back, the cursor at the change's place
-abbrev pub taken_back_in : Edit → Line → Line
+abbrev pub taken_back_in : Change → Line → Line
 taken_back_in c l = record l { text = taken_back c l.text; place = undo_place c }
 
-abbrev pub made_anew_in : Edit → Line → Line
+abbrev pub made_anew_in : Change → Line → Line
 made_anew_in c l = record l { text = made_anew c l.text; place = redo_place c }
 
 -- the line with several changes taken back, the newest first
-abbrev pub lines_back : List Edit → Line → Line
+abbrev pub lines_back : List Change → Line → Line
 lines_back [] l = l
 lines_back (c ∷ cs) l = taken_back_in c (lines_back cs l)
 
 -- the line with several changes made anew, the oldest first
-abbrev pub lines_ahead : List Edit → Line → Line
+abbrev pub lines_ahead : List Change → Line → Line
 lines_ahead [] l = l
 lines_ahead (c ∷ cs) l = lines_ahead cs (made_anew_in c l)
 
@@ -95,12 +95,12 @@ abbrev pub opened : Items → Items
 opened s = record { done = Open ∷ s.done; undone = [] }
 
 -- the changes of several items, the oldest item first
-abbrev pub gathered : List Item → List Edit
+abbrev pub gathered : List Item → List Change
 gathered [] = []
 gathered (x ∷ items) = changes_of x ++ gathered items
 
 -- changes as a closed group after older items
-abbrev pub group_of : List Edit → List Item → List Item
+abbrev pub group_of : List Change → List Item → List Item
 group_of [] older = older
 group_of (c ∷ cs) older = Group c cs ∷ older
 
@@ -129,7 +129,7 @@ is_step_item Open = false
 is_step_item x = true
 
 -- the changes of the nearest item, if there is one
-abbrev pub nearest_changes : List Item → List Edit
+abbrev pub nearest_changes : List Item → List Change
 nearest_changes [] = []
 nearest_changes (x ∷ items) = changes_of x
 
@@ -139,15 +139,15 @@ nearest_is_change [] = None
 nearest_is_change (x ∷ items) = Some (is_step_item x)
 
 -- a change noted after the items done
-abbrev pub noted_on : Option Edit → Edit → Edit → List Item → List Item
+abbrev pub noted_on : Option Change → Change → Change → List Item → List Item
 noted_on (Some joined) c d items = Lone joined ∷ items
 noted_on None c d items = Lone c ∷ (Lone d ∷ items)
 
-abbrev pub noted : Event → Edit → List Item → List Item
+abbrev pub noted : Event → Change → List Item → List Item
 noted e c (Lone d ∷ items) = noted_on (joined_to e d) c d items
 noted e c items = Lone c ∷ items
 
-abbrev pub noted_if : Event → Option Edit → List Item → List Item
+abbrev pub noted_if : Event → Option Change → List Item → List Item
 noted_if e None items = items
 noted_if e (Some c) items = noted e c items
 
@@ -178,12 +178,12 @@ pub record RecordedIn (s : Items) (e : Event) (t : Items) : Type 0 where
 StandsAt-prop : (at : ℕ) (from to text : List ℕ) → IsProp (StandsAt at from to text)
 StandsAt-prop at from to text = Prim.hlevel props
 
-AllStandIn-prop : (cs : List Edit) (text : List ℕ) → IsProp (AllStandIn cs text)
+AllStandIn-prop : (cs : List Change) (text : List ℕ) → IsProp (AllStandIn cs text)
 AllStandIn-prop [] text = Unit-prop
 AllStandIn-prop (c ∷ cs) text =
     ×_prop (StandsAt-prop _ _ _ (all_taken_back cs text)) (AllStandIn-prop cs text)
 
-AllFitIn-prop : (cs : List Edit) (text : List ℕ) → IsProp (AllFitIn cs text)
+AllFitIn-prop : (cs : List Change) (text : List ℕ) → IsProp (AllFitIn cs text)
 AllFitIn-prop [] text = Unit-prop
 AllFitIn-prop (c ∷ cs) text =
     ×_prop (StandsAt-prop _ _ _ text) (AllFitIn-prop cs (made_anew c text))
@@ -202,19 +202,19 @@ pub ItemsStand-prop : (s : Items) (text : List ℕ) → IsProp (ItemsStand s tex
 ItemsStand-prop s text = ×_prop (DoneStand-prop s.done text) (UndoneFit-prop s.undone text)
 
 -- changes are taken back, the newest first; a refusal leaves the newest of them taken back
-pub record TakesBack {A E : Type 0} (changes : List Edit) (before after : Line)
+pub record TakesBack {A E : Type 0} (changes : List Change) (before after : Line)
     (result : Result A E) : Type 0 where
   pub line : OnOk result (after ≡ lines_back changes before)
   pub part : OnErr result ((j : ℕ) × (after ≡ lines_back (drop j changes) before))
 
 -- changes are made anew, the oldest first; a refusal leaves the oldest of them made
-pub record MakesAnew {A E : Type 0} (changes : List Edit) (before after : Line)
+pub record MakesAnew {A E : Type 0} (changes : List Change) (before after : Line)
     (result : Result A E) : Type 0 where
   pub line : OnOk result (after ≡ lines_ahead changes before)
   pub part : OnErr result ((j : ℕ) × (after ≡ lines_ahead (take j changes) before))
 
 -- the changes of the last n items, in the order in which they were made
-abbrev pub last_changes : ℕ → List Item → List Edit
+abbrev pub last_changes : ℕ → List Item → List Change
 last_changes zero items = []
 last_changes (suc n) [] = []
 last_changes (suc n) (x ∷ items) = last_changes n items ++ changes_of x

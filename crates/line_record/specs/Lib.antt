@@ -1,5 +1,5 @@
+pub mod Change
 pub mod Course
-pub mod Edit
 pub mod Gap
 pub mod Held
 pub mod Items

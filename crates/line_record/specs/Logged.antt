@@ -2,8 +2,8 @@
 use Rattle.std.specs.Prelude.{◌≤◌, ℕ, zero, suc, Bool, if◌then◌else◌, List, [], ◌∷◌, ◌++◌, map, take, length, slice_range, encode_utf8, Option, None, option_map, IsUtf8, ◌≡◌, slice_get, unwrap_or}
 use Rattle.line_buffer.specs.Event.{Event}
 use Rattle.line_buffer.specs.Event.Event.{Delete, InsertChar, InsertStr, Replace}
-use Rattle.line_record.specs.Edit.{Edit}
-use Rattle.line_record.specs.Edit.Edit.{Inserted, Deleted, Replaced}
+use Rattle.line_record.specs.Change.{Change}
+use Rattle.line_record.specs.Change.Change.{Inserted, Deleted, Replaced}
 use Rattle.line_record.specs.Held.{joined_to}
 use Rattle.line_record.specs.declared.entry.Entry.{Entry}
 use Rattle.line_record.specs.declared.entry.Kind.{Kind}
@@ -21,16 +21,16 @@ abbrev pub place_of_span : {S : Type 0} → (S → ℕ) → List S → ℕ → �
 place_of_span first spans n to = unwrap_or (option_map first (slice_get spans n)) to
 
 -- a change by its kind, the text that stood at its place, and the one that has stood there since
-abbrev pub edit_from : Kind → ℕ → List ℕ → List ℕ → Edit
+abbrev pub edit_from : Kind → ℕ → List ℕ → List ℕ → Change
 edit_from Insertion at removed added = Inserted at added
 edit_from Deletion at removed added = Deleted at removed
 edit_from Replacement at removed added = Replaced at removed added
 
-abbrev pub edit_in : List ℕ → Entry → Edit
+abbrev pub edit_in : List ℕ → Entry → Change
 edit_in text x =
     edit_from x.kind x.at (slice_range text x.start x.middle) (slice_range text x.middle x.end)
 
-abbrev pub edits_in : List ℕ → List Entry → List Edit
+abbrev pub edits_in : List ℕ → List Entry → List Change
 edits_in text entries = map (edit_in text) entries
 
 -- the old text stands before the new one, and each begins and ends between characters
@@ -47,7 +47,7 @@ abbrev pub IsLog : List ℕ → List Entry → Type 0
 IsLog text entries = Adjoin (λ x. x.start) (λ x. x.end) Spelt text 0 entries (length text)
 
 -- the change that an event tells of, even where it is empty
-abbrev pub change_told : Event → Edit
+abbrev pub change_told : Event → Change
 change_told (InsertChar at c) = Inserted at (encode_utf8 c)
 change_told (InsertStr at text) = Inserted at text
 change_told (Delete at text direction) = Deleted at text
@@ -58,14 +58,14 @@ change_told mark = Inserted 0 []
 abbrev pub grown_old : Bool → List ℕ → List ℕ → List ℕ
 grown_old before removed text = if before then removed ++ text else text ++ removed
 
-abbrev pub grown : ℕ → Bool → List ℕ → List ℕ → Edit → Edit
+abbrev pub grown : ℕ → Bool → List ℕ → List ℕ → Change → Change
 grown at before removed added (Inserted place text) = Inserted at (text ++ added)
 grown at before removed added (Deleted place text) = Deleted at (grown_old before removed text)
 grown at before removed added (Replaced place was is) =
     Replaced at (grown_old before removed was) (is ++ added)
 
 -- the changes up to that of an index, which an event joins, if it does
-abbrev pub joined_at : Event → ℕ → List Edit → Option (List Edit)
+abbrev pub joined_at : Event → ℕ → List Change → Option (List Change)
 joined_at e n [] = None
 joined_at e zero (d ∷ edits) = option_map (λ j. j ∷ []) (joined_to e d)
 joined_at e (suc n) (d ∷ edits) = option_map (λ es. d ∷ es) (joined_at e n edits)

@@ -1,6 +1,6 @@
 -- What the steps over a log stand for.
 use Rattle.std.specs.Prelude.{◌≡◌, ◌≤◌, ℕ, Bool, true, false, if◌then◌else◌, nat_lt, List, [], ◌∷◌, map, reverse, length, take, drop, slice_range, Option, Some, None, unwrap_or, ⊤, option_map}
-use Rattle.line_record.specs.Edit.{Edit, newest_of}
+use Rattle.line_record.specs.Change.{Change, newest_of}
 use Rattle.line_record.specs.Items.{Item, Items}
 use Rattle.line_record.specs.Items.Item.{Open, Lone, Group}
 use Rattle.line_record.specs.Logged.{Adjoin}
@@ -12,7 +12,7 @@ use Rattle.line_record.specs.declared.report.Report.{Report}
 use Rattle.line_record.specs.declared.report.Report.TheVariants as told
 
 -- a step without changes is an open mark, and a closed step of one change is a group
-abbrev pub item_from : Bool → List Edit → Item
+abbrev pub item_from : Bool → List Change → Item
 item_from closed [] = Open
 item_from false (c ∷ []) = Lone c
 item_from true (c ∷ []) = Group c []
@@ -44,14 +44,14 @@ abbrev pub is_open : Item → Bool
 is_open Open = true
 is_open x = false
 
-abbrev pub item_in : List Edit → Step → Item
+abbrev pub item_in : List Change → Step → Item
 item_in edits s = item_from s.closed (slice_range edits s.first s.last)
 
-abbrev pub items_in : List Edit → List Step → List Item
+abbrev pub items_in : List Change → List Step → List Item
 items_in edits steps = map (item_in edits) steps
 
 -- the steps' changes adjoin in their order and are all that there are
-abbrev pub AreSteps : List Edit → List Step → Type 0
+abbrev pub AreSteps : List Change → List Step → Type 0
 AreSteps edits steps =
     Adjoin (λ s. s.first) (λ s. s.last) (λ edits s. ⊤) edits 0 steps (length edits)
 

@@ -7,7 +7,7 @@ use std::alloc::Global;
 pub trait EditedLine {
     ghost use Rattle.std.specs.Prelude.{◌≡◌, ◌+◌, length, OnOk, OnErr};
     ghost use Rattle.line_buffer.specs.Line.{Line};
-    ghost use Rattle.line_record.specs.Edit.{StandsAt, exchanged_at};
+    ghost use Rattle.line_record.specs.Change.{StandsAt, exchanged_at};
 
     ghost value: { Self → Line };
 

@@ -27,7 +27,7 @@ pub struct Entry {
 
 impl Entry {
     ghost use Rattle.std.specs.Prelude.{◌≡◌, ◌≤◌, ◌-◌, ℕ, List, length, OnOk, OnErr, option_copied, option_map, if◌then◌else◌};
-    ghost use Rattle.line_record.specs.Edit.{removed_of, added_of, StandsIn, FitsIn};
+    ghost use Rattle.line_record.specs.Change.{removed_of, added_of, StandsIn, FitsIn};
     ghost use Rattle.line_record.specs.Held.{joined_to, inserted_by};
     ghost use Rattle.line_record.specs.Items.{taken_back_in, made_anew_in};
     ghost use Rattle.line_record.specs.Logged.{edit_from, edit_in, Spelt, change_told, grown};
@@ -138,7 +138,7 @@ impl Entry {
 }
 
 ghost use Rattle.std.specs.Prelude.{◌≡◌, ◌+◌, ◌==◌, All};
-ghost use Rattle.line_record.specs.Edit.{AllStandIn, AllFitIn};
+ghost use Rattle.line_record.specs.Change.{AllStandIn, AllFitIn};
 ghost use Rattle.line_record.specs.Logged.{edits_in, Spelt};
 ghost use Rattle.line_record.specs.Items.{TakesBack, MakesAnew};
 

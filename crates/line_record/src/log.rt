@@ -16,9 +16,9 @@ pub struct Log {
 
 impl Model for Log {
     ghost use Rattle.std.specs.Prelude.{List, string_bytes};
-    ghost use Rattle.line_record.specs.Edit.{Edit};
+    ghost use Rattle.line_record.specs.Change.{Change};
 
-    ghost Value = { List Edit };
+    ghost Value = { List Change };
 
     ghost use Rattle.line_record.specs.Logged.{edits_in, IsLog};
 
@@ -29,7 +29,7 @@ impl Model for Log {
 
 impl Log {
     ghost use Rattle.std.specs.Prelude.{◌≡◌, ◌<◌, ◌≤◌, ◌++◌, [], ◌∷◌, length, take, slice_range, slice_index_or, IfOk, OnOk, OnErr, is_some, unwrap_or, option_copied};
-    ghost use Rattle.line_record.specs.Edit.{Edit, AllStandIn, AllFitIn};
+    ghost use Rattle.line_record.specs.Change.{Change, AllStandIn, AllFitIn};
     ghost use Rattle.line_record.specs.Held.{inserted_by};
     ghost use Rattle.line_record.specs.Logged.{edit_from, grown, joined_at};
     ghost use Rattle.line_record.specs.Steps.{event_of};
@@ -133,7 +133,7 @@ impl Log {
         added: &str,
     ) -> Result<(), OutOfMemory>
         requires { index < length self.old }
-        ensures ok { OnOk result ((d : Edit) → self.new ≡ take index self.old
+        ensures ok { OnOk result ((d : Change) → self.new ≡ take index self.old
             ++ grown at before removed.now added.now (slice_index_or self.old index d) ∷ []) }
         ensures kept { OnErr result (self.new ≡ self.old) }
     {
@@ -159,7 +159,7 @@ impl Log {
     /// The text that a change put in, if it is no deletion.
     pub fn inserted(&self, index: usize) -> Option<&str>
         requires { index < length self.now }
-        ensures { (d : Edit) → option_copied result
+        ensures { (d : Change) → option_copied result
             ≡ inserted_by (slice_index_or self.now index d) }
     {
         self.entries[index].inserted(&self.text)

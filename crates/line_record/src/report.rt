@@ -29,7 +29,7 @@ pub enum Report<'a> {
 impl<'a> Report<'a> {
     ghost use Rattle.std.specs.Prelude.{◌≡◌, Some, true, not, is_some};
     ghost use Rattle.line_record.specs.Held.{change_of};
-    ghost use Rattle.line_record.specs.Edit.{place_of, removed_of, added_of};
+    ghost use Rattle.line_record.specs.Change.{place_of, removed_of, added_of};
     ghost use Rattle.line_record.specs.Logged.{edit_from, change_told};
     ghost use Rattle.line_record.specs.Steps.{event_of};
 

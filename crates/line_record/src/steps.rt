@@ -50,7 +50,7 @@ impl Model for Steps {
 
 impl Steps {
     ghost use Rattle.std.specs.Prelude.{◌≡◌, ◌+◌, ◌<◌, ◌≤◌, ◌++◌, true, [], ◌∷◌, length, take, drop, reverse, slice_get, slice_index_or, IfOk, OnOk, OnErr, Some, is_some, option_map, option_copied};
-    ghost use Rattle.line_record.specs.Edit.{AllStandIn, AllFitIn};
+    ghost use Rattle.line_record.specs.Change.{AllStandIn, AllFitIn};
     ghost use Rattle.line_record.specs.Held.{change_of};
     ghost use Rattle.line_record.specs.Items.{changes_of, is_step_item, gathered, group_of, noted_if, TakesBack, MakesAnew};
     ghost use Rattle.line_record.specs.Items.Item.{Open, Lone};

@@ -2,7 +2,7 @@
 
 ghost use Rattle.std.specs.Prelude.{◌≡◌, true};
 ghost use Rattle.line_keys.specs.Tables.{look};
-ghost use Rattle.line_keys.specs.ViMotions.{motion_rows, change_rows, motion_of};
+ghost use Rattle.line_keys.specs.ViMotions.{motion_rows, change_motion_rows, motion_of};
 ghost use Rattle.line_keys.specs.ViSearches.{opposite_of, searching};
 
 use crate::flags::Modifiers;
@@ -113,7 +113,7 @@ fn motion_row(key: KeyEvent, n: RepeatCount) -> Option<Motion>
 
 // The rows of motions of a change, which takes no blanks after a word.
 fn change_row(key: KeyEvent, n: RepeatCount) -> Option<Motion>
-    ensures { result ≡ look n true key change_rows }
+    ensures { result ≡ look n true key change_motion_rows }
 {
     match key {
         KeyEvent(KeyCode::Char('w'), Modifiers::NONE) => {

@@ -1,5 +1,5 @@
 use Rattle.std.proofs.Common.{◌≡◌, take, drop}
-use Rattle.line_record.specs.Edit.{AllFitIn}
+use Rattle.line_record.specs.Change.{AllFitIn}
 use Rattle.line_record.specs.Items.{lines_ahead}
 use Rattle.line_record.specs.Logged.{edits_in}
 use Rattle.line_record.proofs.entry.make_anew.Given as goal

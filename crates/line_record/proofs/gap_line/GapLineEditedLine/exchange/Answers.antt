@@ -1,7 +1,7 @@
 use Rattle.std.proofs.Common.{rules, sym, subst, ◌≡◌, ◌+◌, ◌∙◌, ap, ◌++◌, take, length, List, ℕ}
 use Rattle.std.specs.Prelude.{IsUtf8, IsCharBoundary}
 use Rattle.line_buffer.specs.Line.{Line}
-use Rattle.line_record.specs.Edit.{StandsAt}
+use Rattle.line_record.specs.Change.{StandsAt}
 use Rattle.line_record.specs.Gap.{seamed}
 use Rattle.line_record.proofs.GapLemmas.{Seam, seam_exchanged, seam_moved}
 use Rattle.line_record.proofs.gap_line.GapLineEditedLine.exchange.Goals as goal

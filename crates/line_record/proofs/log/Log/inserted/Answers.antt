@@ -1,5 +1,5 @@
 use Rattle.std.proofs.Common.{List, ℕ, string_bytes, sym, ap, subst, ◌∙◌, get_or}
-use Rattle.line_record.specs.Edit.{Edit}
+use Rattle.line_record.specs.Change.{Change}
 use Rattle.line_record.specs.Held.{inserted_by}
 use Rattle.line_record.specs.Logged.{edit_in, Spelt}
 use Rattle.line_record.proofs.LogLemmas.{entry_at, entries_inside, EntryAt}
@@ -14,4 +14,4 @@ inserted-requires c = subst (λ (t : List ℕ). Spelt t c.index.result.now) (sym
 pub returns : goal.returns
 returns c = λ d.
     c.inserted.ensures ∙ ap (λ (t : List ℕ). inserted_by (edit_in t c.index.result.now)) c.deref.ensures ∙ sym (ap inserted_by ((here c.before).edit d))
-    ∙ ap (λ (es : List Edit). inserted_by (get_or es c.args.index d)) c.self.view_is
+    ∙ ap (λ (es : List Change). inserted_by (get_or es c.args.index d)) c.self.view_is

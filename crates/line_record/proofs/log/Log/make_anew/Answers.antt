@@ -1,7 +1,7 @@
 use Rattle.std.proofs.Common.{ℕ, List, string_bytes, sym, subst}
 use Rattle.std.specs.Prelude.{All, slice_range}
 use Rattle.line_record.specs.declared.entry.Entry.{Entry}
-use Rattle.line_record.specs.Edit.{Edit, AllFitIn}
+use Rattle.line_record.specs.Change.{Change, AllFitIn}
 use Rattle.line_record.specs.Items.{MakesAnew}
 use Rattle.line_record.specs.Logged.{Spelt}
 use Rattle.line_record.proofs.LogLemmas.{range_spelt, range_seen}
@@ -14,8 +14,8 @@ make_anew-requires-clause-spelt g c =
     (range_spelt (string_bytes c.self.inside.text) c.self.inside.entries.items c.args.first c.args.last c.self.invariant))
 
 pub make_anew-requires-clause-fit : goal.make_anew-requires-clause-fit
-make_anew-requires-clause-fit g c = subst (λ (es : List Edit). AllFitIn es (g.L.EditedLine.value c.args.line.now).text) (sym (range_seen _ _ _ _ _ c.args.first c.args.last c.deref.ensures c.deref-2.ensures.value c.self.view_is)) c.requires.fit
+make_anew-requires-clause-fit g c = subst (λ (es : List Change). AllFitIn es (g.L.EditedLine.value c.args.line.now).text) (sym (range_seen _ _ _ _ _ c.args.first c.args.last c.deref.ensures c.deref-2.ensures.value c.self.view_is)) c.requires.fit
 
 pub returns : goal.returns
-returns g c = subst (λ (es : List Edit). MakesAnew es (g.L.EditedLine.value c.args.line.now) (g.L.EditedLine.value c.make_anew.new.line) c.make_anew.result)
+returns g c = subst (λ (es : List Change). MakesAnew es (g.L.EditedLine.value c.args.line.now) (g.L.EditedLine.value c.make_anew.new.line) c.make_anew.result)
     (range_seen _ _ _ _ _ c.args.first c.args.last c.deref.ensures c.deref-2.ensures.value c.self.view_is) c.make_anew.ensures

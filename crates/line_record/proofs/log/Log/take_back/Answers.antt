@@ -1,7 +1,7 @@
 use Rattle.std.proofs.Common.{ℕ, List, string_bytes, sym, subst}
 use Rattle.std.specs.Prelude.{All, slice_range}
 use Rattle.line_record.specs.declared.entry.Entry.{Entry}
-use Rattle.line_record.specs.Edit.{Edit, AllStandIn}
+use Rattle.line_record.specs.Change.{Change, AllStandIn}
 use Rattle.line_record.specs.Items.{TakesBack}
 use Rattle.line_record.specs.Logged.{Spelt}
 use Rattle.line_record.proofs.LogLemmas.{range_spelt, range_seen}
@@ -14,8 +14,8 @@ take_back-requires-clause-spelt g c =
     (range_spelt (string_bytes c.self.inside.text) c.self.inside.entries.items c.args.first c.args.last c.self.invariant))
 
 pub take_back-requires-clause-stand : goal.take_back-requires-clause-stand
-take_back-requires-clause-stand g c = subst (λ (es : List Edit). AllStandIn es (g.L.EditedLine.value c.args.line.now).text) (sym (range_seen _ _ _ _ _ c.args.first c.args.last c.deref.ensures c.deref-2.ensures.value c.self.view_is)) c.requires.stand
+take_back-requires-clause-stand g c = subst (λ (es : List Change). AllStandIn es (g.L.EditedLine.value c.args.line.now).text) (sym (range_seen _ _ _ _ _ c.args.first c.args.last c.deref.ensures c.deref-2.ensures.value c.self.view_is)) c.requires.stand
 
 pub returns : goal.returns
-returns g c = subst (λ (es : List Edit). TakesBack es (g.L.EditedLine.value c.args.line.now) (g.L.EditedLine.value c.take_back.new.line) c.take_back.result)
+returns g c = subst (λ (es : List Change). TakesBack es (g.L.EditedLine.value c.args.line.now) (g.L.EditedLine.value c.take_back.new.line) c.take_back.result)
     (range_seen _ _ _ _ _ c.args.first c.args.last c.deref.ensures c.deref-2.ensures.value c.self.view_is) c.take_back.ensures

@@ -1,7 +1,7 @@
 use Rattle.std.proofs.Common.{take, ap, ◌∙◌, sym, ◌≡◌, ◌++◌, ◌∷◌, [], false, Some, ℕ, List}
 use Rattle.std.specs.Prelude.{option_map}
 use Rattle.line_record.specs.Items.Item.{Lone}
-use Rattle.line_record.specs.Edit.{place_of, removed_of, added_of}
+use Rattle.line_record.specs.Change.{place_of, removed_of, added_of}
 use Rattle.line_record.specs.Logged.{edit_from, change_told}
 use Rattle.line_record.specs.Steps.{event_of}
 use Rattle.line_record.specs.declared.steps.Step.{Step}

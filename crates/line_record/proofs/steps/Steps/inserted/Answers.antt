@@ -1,5 +1,5 @@
 use Rattle.std.proofs.Common.{[], sym, ◌∙◌, arith}
-use Rattle.line_record.specs.Edit.Edit.{Inserted}
+use Rattle.line_record.specs.Change.Change.{Inserted}
 use Rattle.line_record.proofs.StepsLemmas.{step_at, step_inserted, less}
 use Rattle.line_record.proofs.steps.Steps.inserted.Goals as goal
 

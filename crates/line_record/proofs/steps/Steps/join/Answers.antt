@@ -1,6 +1,6 @@
 use Rattle.std.proofs.Common.{sym, ap, subst, ◌∙◌, refl}
 use Rattle.std.specs.Prelude.{is_some, Option, List}
-use Rattle.line_record.specs.Edit.{Edit}
+use Rattle.line_record.specs.Change.{Change}
 use Rattle.line_record.specs.Items.{Item}
 use Rattle.line_record.specs.Steps.{JoinedIn, items_in, event_of}
 use Rattle.line_record.proofs.StepsLemmas.{step_at, joins_none, left_alone, joined_on, JoinedOn, lone_inside}
@@ -34,7 +34,7 @@ returns-then-not-branch-clause-value c =
     let l = (left_alone (event_of c.args.report) c.self.inside.log c.join.new.self c.self.inside.steps.items c.args.self.now c.args.index c.index.result.now (step_at c.self.inside.log c.self.inside.steps.items c.args.self.now c.args.index c.index.result.now c.self.invariant c.self.view_is c.requires c.index.ensures) c.requires
     (sym c.is_lone.ensures ∙ c.if-not-is_lone.false) (sym c.if-not-branch.true ∙ c.in_ok-join.ensures.answer) c.in_ok-join.ensures.value) in
     subst (λ (o : Option (List Item)). JoinedIn o c.args.self.now (items_in c.join.new.self c.self.inside.steps.items)) (sym l.none)
-    (ap (λ (es : List Edit). items_in es c.self.inside.steps.items) l.same ∙ c.self.view_is)
+    (ap (λ (es : List Change). items_in es c.self.inside.steps.items) l.same ∙ c.self.view_is)
 
 joined : (c : goal.After-truncate) → JoinedOn (event_of c.args.report) c.self.inside.log c.join.new.self c.self.inside.steps.items c.truncate.new.self.items c.args.self.now c.args.index
 joined c =

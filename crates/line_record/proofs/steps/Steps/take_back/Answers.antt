@@ -1,5 +1,5 @@
 use Rattle.std.proofs.Common.{List, sym, subst}
-use Rattle.line_record.specs.Edit.{Edit, AllStandIn}
+use Rattle.line_record.specs.Change.{Change, AllStandIn}
 use Rattle.line_record.specs.Items.{TakesBack}
 use Rattle.line_record.proofs.StepsLemmas.{step_at}
 use Rattle.line_record.proofs.steps.Steps.take_back.Goals as goal
@@ -12,9 +12,9 @@ take_back-requires-clause-inside g c = (step_at c.self.inside.log c.self.inside.
 
 pub take_back-requires-clause-stand : goal.take_back-requires-clause-stand
 take_back-requires-clause-stand g c =
-    subst (λ (es : List Edit). AllStandIn es (g.L.EditedLine.value c.args.line.now).text)
+    subst (λ (es : List Change). AllStandIn es (g.L.EditedLine.value c.args.line.now).text)
     (step_at c.self.inside.log c.self.inside.steps.items c.args.self.now c.args.index c.index-step.result.now c.self.invariant c.self.view_is c.requires.inside c.index-step.ensures).changes c.requires.stand
 
 pub returns : goal.returns
-returns g c = subst (λ (es : List Edit). TakesBack es (g.L.EditedLine.value c.args.line.now) (g.L.EditedLine.value c.take_back.new.line) c.take_back.result)
+returns g c = subst (λ (es : List Change). TakesBack es (g.L.EditedLine.value c.args.line.now) (g.L.EditedLine.value c.take_back.new.line) c.take_back.result)
     (sym (step_at c.self.inside.log c.self.inside.steps.items c.args.self.now c.args.index c.index-step.result.now c.self.invariant c.self.view_is c.requires.inside c.index-step.ensures).changes) c.take_back.ensures

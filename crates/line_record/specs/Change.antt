@@ -2,24 +2,24 @@
 use Rattle.std.specs.Prelude.{◌≡◌, ℕ, ◌+◌, List, [], ◌∷◌, length, slice_range, IsUtf8, IsCharBoundary}
 use Rattle.std.specs.List.{replace_range}
 
-pub data Edit : Type 0 where
-  Inserted : (at : ℕ) (text : List ℕ) → Edit
-  Deleted : (at : ℕ) (text : List ℕ) → Edit
-  Replaced : (at : ℕ) (before after : List ℕ) → Edit
+pub data Change : Type 0 where
+  Inserted : (at : ℕ) (text : List ℕ) → Change
+  Deleted : (at : ℕ) (text : List ℕ) → Change
+  Replaced : (at : ℕ) (before after : List ℕ) → Change
 
-abbrev pub place_of : Edit → ℕ
+abbrev pub place_of : Change → ℕ
 place_of (Inserted at text) = at
 place_of (Deleted at text) = at
 place_of (Replaced at before after) = at
 
 -- what stood there
-abbrev pub removed_of : Edit → List ℕ
+abbrev pub removed_of : Change → List ℕ
 removed_of (Inserted at text) = []
 removed_of (Deleted at text) = text
 removed_of (Replaced at before after) = before
 
 -- what has stood there since
-abbrev pub added_of : Edit → List ℕ
+abbrev pub added_of : Change → List ℕ
 added_of (Inserted at text) = text
 added_of (Deleted at text) = []
 added_of (Replaced at before after) = after
@@ -28,18 +28,18 @@ added_of (Replaced at before after) = after
 abbrev pub exchanged_at : ℕ → List ℕ → List ℕ → List ℕ → List ℕ
 exchanged_at at from to text = replace_range text at (at + length from) to
 
-abbrev pub taken_back : Edit → List ℕ → List ℕ
+abbrev pub taken_back : Change → List ℕ → List ℕ
 taken_back c text = exchanged_at (place_of c) (added_of c) (removed_of c) text
 
-abbrev pub made_anew : Edit → List ℕ → List ℕ
+abbrev pub made_anew : Change → List ℕ → List ℕ
 made_anew c text = exchanged_at (place_of c) (removed_of c) (added_of c) text
 
 -- the cursor after the text that was put back, or at the place of an insertion
-abbrev pub undo_place : Edit → ℕ
+abbrev pub undo_place : Change → ℕ
 undo_place c = place_of c + length (removed_of c)
 
 -- the cursor after the text that was put in anew, or at the place of a deletion
-abbrev pub redo_place : Edit → ℕ
+abbrev pub redo_place : Change → ℕ
 redo_place c = place_of c + length (added_of c)
 
 -- a text stands at a place, between characters, and another may take its place
@@ -50,32 +50,32 @@ pub record StandsAt (at : ℕ) (from to text : List ℕ) : Type 0 where
   pub utf8 : IsUtf8 to
 
 -- the change can be taken back from the text
-abbrev pub StandsIn : Edit → List ℕ → Type 0
+abbrev pub StandsIn : Change → List ℕ → Type 0
 StandsIn c text = StandsAt (place_of c) (added_of c) (removed_of c) text
 
 -- the change can be made anew on the text
-abbrev pub FitsIn : Edit → List ℕ → Type 0
+abbrev pub FitsIn : Change → List ℕ → Type 0
 FitsIn c text = StandsAt (place_of c) (removed_of c) (added_of c) text
 
 -- the text before several changes, the first of which was made first
-abbrev pub all_taken_back : List Edit → List ℕ → List ℕ
+abbrev pub all_taken_back : List Change → List ℕ → List ℕ
 all_taken_back [] text = text
 all_taken_back (c ∷ cs) text = taken_back c (all_taken_back cs text)
 
-abbrev pub AllStandIn : List Edit → List ℕ → Type 0
+abbrev pub AllStandIn : List Change → List ℕ → Type 0
 AllStandIn [] text = Unit {0}
 AllStandIn (c ∷ cs) text = StandsIn c (all_taken_back cs text) × AllStandIn cs text
 
 -- the text after several changes
-abbrev pub all_made_anew : List Edit → List ℕ → List ℕ
+abbrev pub all_made_anew : List Change → List ℕ → List ℕ
 all_made_anew [] text = text
 all_made_anew (c ∷ cs) text = all_made_anew cs (made_anew c text)
 
-abbrev pub AllFitIn : List Edit → List ℕ → Type 0
+abbrev pub AllFitIn : List Change → List ℕ → Type 0
 AllFitIn [] text = Unit {0}
 AllFitIn (c ∷ cs) text = FitsIn c text × AllFitIn cs (made_anew c text)
 
 -- the newest of several changes
-abbrev pub newest_of : Edit → List Edit → Edit
+abbrev pub newest_of : Change → List Change → Change
 newest_of c [] = c
 newest_of c (d ∷ cs) = newest_of d cs
